@@ -1,0 +1,2 @@
+//! Flag tables, searching, cutting and printing of command line arguments.
+#![tactic(auto)]

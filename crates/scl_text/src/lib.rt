@@ -1,0 +1,2 @@
+//! Paths, languages, records, views of files, and the texts of response files.
+#![tactic(auto)]
