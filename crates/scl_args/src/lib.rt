@@ -1,2 +1,25 @@
 //! Flag tables, searching, cutting and printing of command line arguments.
 #![tactic(auto)]
+
+mod argument;
+mod error;
+mod iter;
+mod memory;
+mod piece;
+mod rows;
+mod search;
+mod spell;
+mod table;
+mod value;
+mod words;
+
+pub use argument::{
+    ArgDisposition, ArgInfo, ArgRow, Argument, Delimiter, NormalizedDisposition,
+};
+pub use error::{ArgParseError, ArgParseResult};
+pub use iter::ArgsIter;
+pub use memory::Mem;
+pub use rows::{FlagTable, Probes, RowStore, RowTable, SearchableArgInfo, looks};
+pub use spell::Iter;
+pub use value::{ArgumentValue, ExactArg, IntoArg, PathArg};
+pub use words::{CutWords, cut_options, cut_words};

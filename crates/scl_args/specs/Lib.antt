@@ -1,0 +1,13 @@
+pub mod Common
+pub mod Cuts
+pub mod Each
+pub mod Iter
+pub mod Probes
+pub mod Relation
+pub mod Row
+pub mod Runs
+pub mod Seen
+pub mod Spell
+pub mod State
+pub mod Tables
+pub mod Words

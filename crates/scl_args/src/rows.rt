@@ -1,0 +1,170 @@
+ghost use Rattle.std.specs.Prelude.{◌≡◌, ℕ, ◌+◌, ◌-◌, ◌<◌, ◌≤◌, ◌^◌, List, map, length, is_some, IsTrue, IfSome, OnSome, ◌↔◌, slice_index_or};
+ghost use Rattle.scl_args.specs.Row.{Row, row_of, row_at};
+ghost use Rattle.scl_args.specs.Tables.{is_table, owner_in};
+ghost use Rattle.scl_args.specs.Probes.{looks_in, CountsUpTo, Rises};
+
+use crate::argument::{ArgInfo, ArgRow};
+use crate::value::ArgumentValue;
+use std::cmp::Ordering;
+use std::marker::Model;
+
+/// A count of looks at rows. It stays at its greatest value, and only this module makes one.
+#[derive(Drop)]
+pub struct Probes {
+    looks: u64,
+}
+
+impl Model for Probes {
+    ghost use Rattle.std.specs.Prelude.{ℕ};
+
+    ghost Value = { ℕ };
+
+    ghost view = { λ p. p.looks };
+}
+
+impl Probes {
+    fn new() -> Probes
+        ensures { result ≡ 0 }
+    {
+        Probes { looks: 0 }
+    }
+}
+
+/// Rows that are read one at a time, each read being counted.
+#[derive(Drop)]
+pub struct RowStore<'a, K> {
+    rows: &'a [ArgRow<K>],
+}
+
+impl<'a, K> Model for RowStore<'a, K> {
+    ghost use Rattle.std.specs.Prelude.{List, map};
+    ghost use Rattle.scl_args.specs.Row.{Row, row_of};
+
+    ghost Value = { List (Row K) };
+
+    ghost view = { λ s. map row_of s.rows.now };
+}
+
+impl<'a, K> RowStore<'a, K> {
+    /// How many rows there are.
+    pub fn len(&self) -> usize
+        ensures { result ≡ length self.now }
+    {
+        self.rows.len()
+    }
+
+    /// Whether there are no rows.
+    pub fn is_empty(&self) -> bool
+        ensures { IsTrue result ↔ (length self.now ≡ 0) }
+    {
+        self.rows.is_empty()
+    }
+
+    /// Reads a row, and counts it.
+    pub fn look(&self, index: usize, probes: &mut Probes) -> &'a ArgRow<K>
+        requires { index < length self.now }
+        ensures row { (other : Row K) → slice_index_or self.now index other ≡ row_of result.now }
+        ensures count { CountsUpTo probes.old probes.new 1 }
+        ensures rises { Rises probes.old probes.new }
+    {
+        probes.looks = probes.looks.saturating_add(1);
+        let rows = self.rows;
+        &rows[index]
+    }
+}
+
+/// Rows whose flags rise strictly by bytes and whose delimiters are below 128, with kinds of type `K`
+/// (docs/RULES.md, Rows and tables).
+#[derive(Drop)]
+pub struct RowTable<'a, K> {
+    store: RowStore<'a, K>,
+}
+
+impl<'a, K> Model for RowTable<'a, K> {
+    ghost use Rattle.std.specs.Prelude.{List, IsTrue};
+    ghost use Rattle.scl_args.specs.Row.{Row};
+    ghost use Rattle.scl_args.specs.Tables.{is_table};
+
+    ghost Value = { List (Row K) };
+
+    ghost view = { λ t. t.store };
+
+    ghost invariant = { λ t. IsTrue (is_table t.store) };
+}
+
+/// A table for values of type `T`.
+pub type FlagTable<'a, T> = RowTable<'a, <T as ArgumentValue>::Kind>;
+
+fn is_table<K>(rows: &[ArgRow<K>]) -> bool
+    ensures { result ≡ is_table (map row_of rows.now) }
+{
+    for i in 0..rows.len() {
+        if !rows[i].has_ascii_delimiter() {
+            return false;
+        }
+        if i + 1 < rows.len()
+            && rows[i].flag().as_bytes().cmp(rows[i + 1].flag().as_bytes()) != Ordering::Less
+        {
+            return false;
+        }
+    }
+    true
+}
+
+impl<'a, K> RowTable<'a, K> {
+    /// The table of the rows, or `None` where their flags do not rise strictly by bytes or a delimiter is 128 or more.
+    pub fn new(rows: &'a [ArgRow<K>]) -> Option<RowTable<'a, K>>
+        ensures valid { is_some result ≡ is_table (map row_of rows.now) }
+        ensures rows { IfSome result (λ table. table ≡ map row_of rows.now) }
+    {
+        if is_table(rows) {
+            Some(RowTable {
+                store: RowStore { rows },
+            })
+        } else {
+            None
+        }
+    }
+
+    pub(crate) fn store(&self) -> &RowStore<'a, K>
+        ensures same { result.now ≡ self.now }
+        ensures valid { IsTrue (is_table self.now) }
+    {
+        &self.store
+    }
+}
+
+/// What a word is looked up in: a table, or several (docs/RULES.md, Owners).
+pub trait SearchableArgInfo<T: ArgumentValue> {
+    ghost tables: { Self → List (List (Row T.Kind)) };
+
+    /// The row with the longest flag among those that fit the key, by looks that are counted.
+    fn search_counted(&self, key: &[u8], probes: &mut Probes) -> Option<&ArgInfo<T>>
+        ensures owner { row_at result ≡ owner_in (tables self.now) key.now }
+        ensures count { CountsUpTo probes.old probes.new (looks_in (tables self.now) key.now) }
+        ensures rises { OnSome result (Rises probes.old probes.new) };
+
+    /// The row with the longest flag among those that fit the key, and at one length the last table's.
+    final fn search(&self, key: &[u8]) -> Option<&ArgInfo<T>>
+        ensures { row_at result ≡ owner_in (tables self.now) key.now }
+    {
+        let mut probes = Probes::new();
+        self.search_counted(key, &mut probes)
+    }
+
+    /// Whether the tables are valid, which all that can be made are.
+    final fn check(&self) -> bool
+        ensures { IsTrue result }
+    {
+        true
+    }
+}
+
+/// How many looks a search for the key makes.
+pub fn looks<T: ArgumentValue, S: SearchableArgInfo<T>>(table: &S, key: &[u8]) -> u64
+    ensures bound { result ≤ looks_in (S.tables table.now) key.now }
+{
+    let mut probes = Probes::new();
+    let _row = table.search_counted(key, &mut probes);
+    probes.looks
+}

@@ -1,0 +1,126 @@
+ghost use Rattle.std.specs.Prelude.{◌≡◌, ◌++◌, ◌≤◌, length, drop, IfOk};
+ghost use Rattle.scl_args.specs.declared.argument.NormalizedDisposition.{NormalizedDisposition};
+ghost use Rattle.std.specs.Iterator.{item_count};
+ghost use Rattle.scl_args.specs.Seen.{seen};
+ghost use Rattle.scl_args.specs.Spell.{normal, normal_how, delimited, spelled, YieldsWords};
+
+use crate::argument::{ArgDisposition, Argument, Delimiter, NormalizedDisposition};
+use crate::value::ArgumentValue;
+use crate::memory::Mem;
+use std::alloc::Global;
+
+impl ArgDisposition {
+    fn normalize(self, side: NormalizedDisposition) -> ArgDisposition
+        ensures { result ≡ normal_how side self }
+    {
+        match self {
+            ArgDisposition::CanBeConcatenated(delimiter)
+            | ArgDisposition::CanBeSeparated(delimiter) => match side {
+                NormalizedDisposition::Separated => ArgDisposition::Separated,
+                NormalizedDisposition::Concatenated => ArgDisposition::Concatenated(delimiter),
+            },
+            other => other,
+        }
+    }
+}
+
+impl<T: ArgumentValue> Argument<T> {
+    /// Puts a value that may stand either way on the side.
+    pub fn normalize(self, side: NormalizedDisposition) -> Argument<T>
+        ensures normal { result ≡ normal side self }
+        ensures again { (other : NormalizedDisposition) → normal other result ≡ result }
+    {
+        match self {
+            Argument::WithValue(flag, value, disposition) => {
+                Argument::WithValue(flag, value, disposition.normalize(side))
+            }
+            other => other,
+        }
+    }
+
+    /// The words of the option.
+    pub fn iter_os_strings(&self, alloc: Global) -> Iter<'_, T>
+        ensures argument { result.argument.now ≡ self.now }
+        ensures start { result.given ≡ 0 }
+    {
+        Iter {
+            alloc,
+            argument: self,
+            given: 0,
+        }
+    }
+}
+
+/// An option's words.
+#[derive(Drop)]
+pub struct Iter<'a, T> {
+    alloc: Global,
+    argument: &'a Argument<T>,
+    given: usize,
+}
+
+fn joined(
+    alloc: Global,
+    flag: &str,
+    delimiter: Delimiter,
+    value: &[u8],
+) -> Mem<Vec<u8>>
+    ensures { IfOk result (λ word. word.items ≡ flag.now ++ delimited delimiter value.now) }
+{
+    let mut word = Vec::from_slice(alloc, flag.as_bytes())?;
+    if !value.is_empty() {
+        if let Some(byte) = delimiter {
+            word.push(byte)?;
+        }
+        word.extend_from_slice(value)?;
+    }
+    Ok(word)
+}
+
+fn joined_value<T: ArgumentValue>(
+    alloc: Global,
+    flag: &str,
+    delimiter: Delimiter,
+    value: &T,
+) -> Mem<Vec<u8>>
+    ensures { IfOk result (λ word. word.items ≡ flag.now ++ delimited delimiter (T.word_of value.now)) }
+{
+    let value = value.into_arg_os_string(alloc)?;
+    joined(alloc, flag, delimiter, value.as_slice())
+}
+
+impl<'a, T: ArgumentValue> Iterator for Iter<'a, T> {
+    type Item = Mem<Vec<u8>>;
+
+    ghost next_gives = { YieldsWords (λ s. drop s.given (spelled (seen T.kind_of T.word_of s.argument.now))) };
+
+    ghost remaining = { item_count (λ s. drop s.given (spelled (seen T.kind_of T.word_of s.argument.now))) };
+
+    fn next(&mut self) -> Option<Mem<Vec<u8>>> {
+        let argument: &Argument<T> = self.argument;
+        let word = match (argument, self.given) {
+            (Argument::Raw(word) | Argument::UnknownFlag(word), 0) => Vec::from_slice(
+                self.alloc,
+                word.as_slice(),
+            ),
+            (Argument::Flag(flag, _), 0) => Vec::from_slice(self.alloc, flag.as_bytes()),
+            (Argument::WithValue(flag, value, disposition), given) => match (*disposition, given) {
+                (ArgDisposition::Separated | ArgDisposition::CanBeConcatenated(_), 0) => {
+                    Vec::from_slice(self.alloc, flag.as_bytes())
+                }
+                (ArgDisposition::Separated | ArgDisposition::CanBeConcatenated(_), 1) => {
+                    value.into_arg_os_string(self.alloc)
+                }
+                (
+                    ArgDisposition::CanBeSeparated(delimiter)
+                    | ArgDisposition::Concatenated(delimiter),
+                    0,
+                ) => { joined_value(self.alloc, flag, delimiter, value) }
+                _ => return None,
+            },
+            _ => return None,
+        };
+        self.given = if word.is_ok() { self.given + 1 } else { 2 };
+        Some(word)
+    }
+}

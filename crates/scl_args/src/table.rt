@@ -1,0 +1,43 @@
+ghost use Rattle.std.specs.Prelude.{[], ◌∷◌, ◌++◌};
+
+use crate::argument::ArgInfo;
+use crate::rows::{Probes, RowTable, SearchableArgInfo};
+use crate::search::longest_fit;
+use crate::value::ArgumentValue;
+
+impl<'a, T: ArgumentValue> SearchableArgInfo<T> for RowTable<'a, T::Kind> {
+    ghost tables = { λ table. table ∷ [] };
+
+    fn search_counted(&self, key: &[u8], probes: &mut Probes) -> Option<&ArgInfo<T>> {
+        longest_fit(self.store(), key, probes)
+    }
+}
+
+impl<'a, T: ArgumentValue, S: SearchableArgInfo<T>> SearchableArgInfo<T> for &'a S {
+    ghost tables = { λ table. S.tables table.now };
+
+    fn search_counted(&self, key: &[u8], probes: &mut Probes) -> Option<&ArgInfo<T>> {
+        (**self).search_counted(key, probes)
+    }
+}
+
+impl<T: ArgumentValue, A: SearchableArgInfo<T>, B: SearchableArgInfo<T>> SearchableArgInfo<T> for (A, B) {
+    ghost tables = { λ pair. A.tables pair.0 ++ B.tables pair.1 };
+
+    #[tactic(auto, using(crate::proofs::TablesLemmas::owner_in_append, crate::proofs::TablesLemmas::looks_in_append))]
+    fn search_counted(&self, key: &[u8], probes: &mut Probes) -> Option<&ArgInfo<T>> {
+        let first = self.0.search_counted(key, probes);
+        let second = self.1.search_counted(key, probes);
+        match (first, second) {
+            (Some(first), Some(second)) => {
+                if second.flag().len() < first.flag().len() {
+                    Some(first)
+                } else {
+                    Some(second)
+                }
+            }
+            (None, other) => other,
+            (other, None) => other,
+        }
+    }
+}

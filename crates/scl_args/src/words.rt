@@ -1,0 +1,96 @@
+ghost use Rattle.std.specs.Prelude.{◌≡◌, IfOk, IsTrue, map, length, false, Some};
+ghost use Rattle.std.specs.Vec.Iter.{into_iter_items, into_iter_len};
+ghost use Rattle.scl_args.specs.Tables.{owner_in, tables_hold_values};
+ghost use Rattle.scl_args.specs.Cuts.{cut, is_dangling};
+ghost use Rattle.scl_args.specs.Seen.{seen, shown};
+ghost use Rattle.scl_args.specs.Iter.{AreItemsOf};
+ghost use Rattle.scl_args.specs.Runs.{items_of, dangles_by};
+ghost use Rattle.scl_args.specs.Words.{words_of};
+
+use crate::argument::Argument;
+use crate::error::ArgParseError;
+use crate::iter::ArgsIter;
+use crate::memory::Mem;
+use crate::rows::SearchableArgInfo;
+use crate::value::{ArgumentValue, ExactArg};
+use std::alloc::{AllocError, Global};
+use std::vec::IntoIter;
+
+fn cutter<T: ArgumentValue, S: SearchableArgInfo<T> + Drop>(
+    alloc: Global,
+    words: Vec<Vec<u8>>,
+    arg_info: S,
+    double_dashes: bool,
+) -> ArgsIter<IntoIter<Vec<u8>>, T, S>
+    ensures words { into_iter_items result.arguments ≡ words.items }
+    ensures count { into_iter_len result.arguments ≡ length words.items }
+    ensures arg_info { result.arg_info ≡ arg_info }
+    ensures state { (result.double_dashes ≡ double_dashes) × (result.only_raw ≡ false) × (result.ended ≡ false) }
+{
+    let arguments = ArgsIter::new(alloc, words.into_iter(), arg_info);
+    if double_dashes {
+        arguments.with_double_dashes()
+    } else {
+        arguments
+    }
+}
+
+/// Cuts all the words, and gives the options with the error that ended them, if there is one.
+pub fn cut_words<T: ArgumentValue, S: SearchableArgInfo<T> + Drop>(
+    alloc: Global,
+    words: Vec<Vec<u8>>,
+    arg_info: S,
+    double_dashes: bool,
+) -> Mem<(Vec<Argument<T>>, Option<ArgParseError>)>
+    ensures { IfOk result (λ r. AreItemsOf T.make_gives (cut (owner_in (S.tables arg_info)) double_dashes (words_of words.items)) (items_of r.0.items r.1)) }
+{
+    let mut options = Vec::with_capacity(alloc, words.len())?;
+    let mut arguments = cutter(alloc, words, arg_info, double_dashes);
+    while let Some(item) = arguments.next() {
+        match item {
+            Ok(option) => options.push(option)?,
+            Err(error) => return Ok((options, Some(error))),
+        }
+    }
+    Ok((options, None))
+}
+
+/// Whether cutting ended because the last flag lacks its value.
+fn dangles_by(end: Option<ArgParseError>) -> Mem<bool>
+    ensures { IfOk result (λ dangles. dangles_by end ≡ Some dangles) }
+{
+    match end {
+        None => Ok(false),
+        Some(ArgParseError::Memory) => Err(AllocError),
+        Some(_) => Ok(true),
+    }
+}
+
+/// What words are cut into: the options, and whether the last flag lacks its value.
+#[derive(Debug, PartialEq, Eq, Drop)]
+pub struct CutWords<T> {
+    /// The options in order.
+    pub options: Vec<Argument<T>>,
+    /// Whether a last flag was left without its value.
+    pub is_dangling: bool,
+}
+
+/// Cuts all the words by tables whose value rows have kinds that hold values.
+pub fn cut_options<T: ExactArg, S: SearchableArgInfo<T> + Drop>(
+    alloc: Global,
+    words: Vec<Vec<u8>>,
+    arg_info: S,
+    double_dashes: bool,
+) -> Mem<CutWords<T>>
+    requires { IsTrue (tables_hold_values T.holds_value (S.tables arg_info)) }
+    ensures options { IfOk result (λ r. map (seen T.kind_of T.word_of) r.options.items
+        ≡ map shown (cut (owner_in (S.tables arg_info)) double_dashes (words_of words.items)).options) }
+    ensures end { IfOk result (λ r. r.is_dangling ≡ is_dangling (cut (owner_in (S.tables arg_info)) double_dashes (words_of words.items)).end) }
+{
+    let (options, end) = cut_words(alloc, words, arg_info, double_dashes)?;
+    let is_dangling = dangles_by(end)?;
+    Ok(CutWords {
+        options,
+        is_dangling,
+    })
+}
