@@ -2,6 +2,7 @@ pub mod BitsLemmas
 pub mod CutsLemmas
 pub mod HoldsLemmas
 pub mod IterLemmas
+pub mod OptionLaws
 pub mod OrderLemmas
 pub mod RelationLaws
 pub mod TablesLemmas

@@ -2,6 +2,7 @@ pub mod Common
 pub mod Cuts
 pub mod Each
 pub mod Iter
+pub mod Options
 pub mod Probes
 pub mod Relation
 pub mod Row

@@ -25,12 +25,26 @@ normal s (argument.UnknownFlag w) = argument.UnknownFlag w
 normal s (argument.Flag name value) = argument.Flag name value
 normal s (argument.WithValue name value d) = argument.WithValue name value (normal_how s d)
 
--- the same, of an option as a reader sees it
-abbrev pub normal_seen : {K : Type 0} → NormalizedDisposition → Seen K → Seen K
-normal_seen s (Raw w) = Raw w
-normal_seen s (Unknown w) = Unknown w
-normal_seen s (Known f k v None) = Known f k v None
-normal_seen s (Known f k v (Some d)) = Known f k v (Some (normal_how s d))
+-- the flag of an option that has one
+abbrev pub flag_at : {T : Type 0} → Argument T → Option (List ℕ)
+flag_at (argument.Raw w) = None
+flag_at (argument.UnknownFlag w) = None
+flag_at (argument.Flag name value) = Some name.now
+flag_at (argument.WithValue name value d) = Some name.now
+
+-- what an option with a flag means
+abbrev pub data_at : {T : Type 0} → Argument T → Option T
+data_at (argument.Raw w) = None
+data_at (argument.UnknownFlag w) = None
+data_at (argument.Flag name value) = Some value
+data_at (argument.WithValue name value d) = Some value
+
+-- the word of an option without a flag, or the flag
+abbrev pub head_of : {T : Type 0} → Argument T → List ℕ
+head_of (argument.Raw w) = w.items
+head_of (argument.UnknownFlag w) = w.items
+head_of (argument.Flag name value) = name.now
+head_of (argument.WithValue name value d) = name.now
 
 -- the delimiter before the value, if there is a value
 abbrev pub delimited : Option ℕ → List ℕ → List ℕ

@@ -34,11 +34,8 @@ impl<I, T, S> Model for ArgsIter<I, T, S> {
     ghost view = { λ s. record { arguments = s.arguments; arg_info = s.arg_info; double_dashes = s.double_dashes; only_raw = s.only_raw; ended = s.ended } };
 }
 
-impl<
-    I: Iterator<Item = Vec<u8>> + Drop,
-    T: ArgumentValue,
-    S: SearchableArgInfo<T> + Drop,
-> Iterator for ArgsIter<I, T, S> {
+impl<I: Iterator<Item = Vec<u8>> + Drop, T: ArgumentValue, S: SearchableArgInfo<T> + Drop> Iterator
+    for ArgsIter<I, T, S> {
     type Item = ArgParseResult<Argument<T>>;
 
     ghost can_next = { λ s. OnFalse s.ended (I.can_next s.arguments) };
@@ -72,11 +69,11 @@ impl<
     }
 }
 
-impl<
-    I: Iterator<Item = Vec<u8>> + Drop,
-    T: ArgumentValue,
-    S: SearchableArgInfo<T> + Drop,
-> ArgsIter<I, T, S> {
+impl<I: Iterator<Item = Vec<u8>> + Drop, T: ArgumentValue, S: SearchableArgInfo<T> + Drop> ArgsIter<
+    I,
+    T,
+    S,
+> {
     /// Cuts these words by the rows of a table, or of several. The words' iterator has to end.
     pub fn new(alloc: Global, arguments: I, arg_info: S) -> ArgsIter<I, T, S>
         ensures arguments { result.arguments ≡ arguments }

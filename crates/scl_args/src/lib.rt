@@ -4,6 +4,7 @@
 mod argument;
 mod error;
 mod iter;
+mod lists;
 mod memory;
 mod piece;
 mod rows;
@@ -13,11 +14,10 @@ mod table;
 mod value;
 mod words;
 
-pub use argument::{
-    ArgDisposition, ArgInfo, ArgRow, Argument, Delimiter, NormalizedDisposition,
-};
+pub use argument::{ArgDisposition, ArgInfo, ArgRow, Argument, Delimiter, NormalizedDisposition};
 pub use error::{ArgParseError, ArgParseResult};
 pub use iter::ArgsIter;
+pub use lists::{push_spelled, side_of_flag};
 pub use memory::Mem;
 pub use rows::{FlagTable, Probes, RowStore, RowTable, SearchableArgInfo, looks};
 pub use spell::Iter;

@@ -1,13 +1,15 @@
 ghost use Rattle.std.specs.Prelude.{◌≡◌, ◌++◌, ◌≤◌, length, drop, IfOk};
 ghost use Rattle.scl_args.specs.declared.argument.NormalizedDisposition.{NormalizedDisposition};
 ghost use Rattle.std.specs.Iterator.{item_count};
+ghost use Rattle.std.specs.Option.{option_map};
 ghost use Rattle.scl_args.specs.Seen.{seen};
-ghost use Rattle.scl_args.specs.Spell.{normal, normal_how, delimited, spelled, YieldsWords};
+ghost use Rattle.scl_args.specs.Spell.{normal, normal_how, delimited, spelled, flag_at, data_at, head_of, YieldsWords};
 
 use crate::argument::{ArgDisposition, Argument, Delimiter, NormalizedDisposition};
-use crate::value::ArgumentValue;
 use crate::memory::Mem;
+use crate::value::ArgumentValue;
 use std::alloc::Global;
+use std::marker::Model;
 
 impl ArgDisposition {
     fn normalize(self, side: NormalizedDisposition) -> ArgDisposition
@@ -38,10 +40,9 @@ impl<T: ArgumentValue> Argument<T> {
         }
     }
 
-    /// The words of the option.
+    /// The words of the option, one or two.
     pub fn iter_os_strings(&self, alloc: Global) -> Iter<'_, T>
-        ensures argument { result.argument.now ≡ self.now }
-        ensures start { result.given ≡ 0 }
+        ensures { result ≡ spelled (seen T.kind_of T.word_of self.now) }
     {
         Iter {
             alloc,
@@ -49,22 +50,61 @@ impl<T: ArgumentValue> Argument<T> {
             given: 0,
         }
     }
+
+    /// The word of an option without a flag, else the flag.
+    pub fn to_os_string(&self, alloc: Global) -> Mem<Vec<u8>>
+        ensures { IfOk result (λ word. word.items ≡ head_of self.now) }
+    {
+        match self {
+            Argument::Raw(word) | Argument::UnknownFlag(word) => Vec::from_slice(alloc, word),
+            Argument::Flag(flag, _) | Argument::WithValue(flag, _, _) => {
+                Vec::from_slice(alloc, flag.as_bytes())
+            }
+        }
+    }
+}
+
+impl<T> Argument<T> {
+    /// The flag, where the option has one.
+    pub fn flag_str(&self) -> Option<&'static str>
+        ensures { option_map (λ flag. flag.now) result ≡ flag_at self.now }
+    {
+        match self {
+            Argument::Raw(_) | Argument::UnknownFlag(_) => None,
+            Argument::Flag(flag, _) | Argument::WithValue(flag, _, _) => Some(flag),
+        }
+    }
+
+    /// What the option means, where it has a flag.
+    pub fn get_data(&self) -> Option<&T>
+        ensures { option_map (λ value. value.now) result ≡ data_at self.now }
+    {
+        match self {
+            Argument::Raw(_) | Argument::UnknownFlag(_) => None,
+            Argument::Flag(_, data) | Argument::WithValue(_, data, _) => Some(data),
+        }
+    }
 }
 
 /// An option's words.
 #[derive(Drop)]
-pub struct Iter<'a, T> {
+pub struct Iter<'a, T: ArgumentValue> {
     alloc: Global,
     argument: &'a Argument<T>,
     given: usize,
 }
 
-fn joined(
-    alloc: Global,
-    flag: &str,
-    delimiter: Delimiter,
-    value: &[u8],
-) -> Mem<Vec<u8>>
+impl<'a, T: ArgumentValue> Model for Iter<'a, T> {
+    ghost use Rattle.std.specs.Prelude.{ℕ, List, drop};
+    ghost use Rattle.scl_args.specs.Seen.{seen};
+    ghost use Rattle.scl_args.specs.Spell.{spelled};
+
+    ghost Value = { List (List ℕ) };
+
+    ghost view = { λ s. drop s.given (spelled (seen T.kind_of T.word_of s.argument.now)) };
+}
+
+fn joined(alloc: Global, flag: &str, delimiter: Delimiter, value: &[u8]) -> Mem<Vec<u8>>
     ensures { IfOk result (λ word. word.items ≡ flag.now ++ delimited delimiter value.now) }
 {
     let mut word = Vec::from_slice(alloc, flag.as_bytes())?;
@@ -92,9 +132,9 @@ fn joined_value<T: ArgumentValue>(
 impl<'a, T: ArgumentValue> Iterator for Iter<'a, T> {
     type Item = Mem<Vec<u8>>;
 
-    ghost next_gives = { YieldsWords (λ s. drop s.given (spelled (seen T.kind_of T.word_of s.argument.now))) };
+    ghost next_gives = { YieldsWords (λ s. s) };
 
-    ghost remaining = { item_count (λ s. drop s.given (spelled (seen T.kind_of T.word_of s.argument.now))) };
+    ghost remaining = { item_count (λ s. s) };
 
     fn next(&mut self) -> Option<Mem<Vec<u8>>> {
         let argument: &Argument<T> = self.argument;

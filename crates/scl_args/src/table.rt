@@ -21,7 +21,8 @@ impl<'a, T: ArgumentValue, S: SearchableArgInfo<T>> SearchableArgInfo<T> for &'a
     }
 }
 
-impl<T: ArgumentValue, A: SearchableArgInfo<T>, B: SearchableArgInfo<T>> SearchableArgInfo<T> for (A, B) {
+impl<T: ArgumentValue, A: SearchableArgInfo<T>, B: SearchableArgInfo<T>> SearchableArgInfo<T>
+    for (A, B) {
     ghost tables = { λ pair. A.tables pair.0 ++ B.tables pair.1 };
 
     #[tactic(auto, using(crate::proofs::TablesLemmas::owner_in_append, crate::proofs::TablesLemmas::looks_in_append))]

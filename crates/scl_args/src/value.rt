@@ -1,4 +1,4 @@
-ghost use Rattle.std.specs.Prelude.{◌≡◌, ℕ, List, [], IfOk, IsOkAnd, Result, Ok, Bool, true, ◌⊎◌};
+ghost use Rattle.std.specs.Prelude.{◌≡◌, ℕ, List, [], IfOk, IsOkAnd, Result, Ok, Bool, true, false, ◌⊎◌};
 
 use crate::error::{ArgParseError, ArgParseResult};
 use crate::memory::Mem;
@@ -7,6 +7,8 @@ use std::alloc::Global;
 /// A value that prints one word.
 pub trait IntoArg {
     ghost word_of: { Self → List ℕ };
+
+    ghost is_path: { Self → Bool };
 
     fn into_arg_os_string(&self, alloc: Global) -> Mem<Vec<u8>>
         ensures { IfOk result (λ printed. printed.items ≡ word_of self.now) };
@@ -43,6 +45,8 @@ pub trait ExactArg: ArgumentValue {
 impl IntoArg for Vec<u8> {
     ghost word_of = { λ word. word.items };
 
+    ghost is_path = { λ _. false };
+
     fn into_arg_os_string(&self, alloc: Global) -> Mem<Vec<u8>> {
         Vec::from_slice(alloc, self.as_slice())
     }
@@ -54,6 +58,8 @@ pub struct PathArg(pub Vec<u8>);
 
 impl IntoArg for PathArg {
     ghost word_of = { λ path. path.0.items };
+
+    ghost is_path = { λ _. true };
 
     fn into_arg_os_string(&self, alloc: Global) -> Mem<Vec<u8>> {
         Vec::from_slice(alloc, self.0.as_slice())

@@ -1,0 +1,97 @@
+-- What definitions say of a finished list of options: filters, last ones, lists of words, a first verdict.
+use Rattle.std.specs.Prelude.{ℕ, Bool, true, false, not, List, [], ◌∷◌, map, filter, length, nat_eq, Option, None, Some, Result, Ok, Err, if◌then◌else◌}
+use Rattle.std.specs.List.{flat_map, list_any}
+use Rattle.scl_args.specs.declared.argument.ArgDisposition.{ArgDisposition}
+use Rattle.scl_args.specs.declared.argument.NormalizedDisposition.{NormalizedDisposition}
+use Rattle.scl_args.specs.declared.argument.NormalizedDisposition.TheVariants as side
+use Rattle.scl_args.specs.Seen.{Seen, Raw, Unknown, Known}
+use Rattle.scl_args.specs.Spell.{normal_how, spelled}
+
+-- ---- one option
+
+abbrev pub is_raw : {K : Type 0} → Seen K → Bool
+is_raw (Raw w) = true
+is_raw (Unknown w) = false
+is_raw (Known f k v h) = false
+
+abbrev pub is_unknown : {K : Type 0} → Seen K → Bool
+is_unknown (Raw w) = false
+is_unknown (Unknown w) = true
+is_unknown (Known f k v h) = false
+
+-- whether the option is one of a kind that passes the test
+abbrev pub is_of : {K : Type 0} → (K → Bool) → Seen K → Bool
+is_of p (Raw w) = false
+is_of p (Unknown w) = false
+is_of p (Known f k v h) = p k
+
+-- the flag, or nothing
+abbrev pub flag_of : {K : Type 0} → Seen K → List ℕ
+flag_of (Raw w) = []
+flag_of (Unknown w) = []
+flag_of (Known f k v h) = f
+
+-- the word of an option that is none, the value of a known one
+abbrev pub text_of : {K : Type 0} → Seen K → List ℕ
+text_of (Raw w) = w
+text_of (Unknown w) = w
+text_of (Known f k v h) = v
+
+-- the option with its value on the side of its flag, where it may stand either way
+abbrev pub normal_on : {K : Type 0} → (List ℕ → NormalizedDisposition) → Seen K → Seen K
+normal_on to (Raw w) = Raw w
+normal_on to (Unknown w) = Unknown w
+normal_on to (Known f k v None) = Known f k v None
+normal_on to (Known f k v (Some d)) = Known f k v (Some (normal_how (to f) d))
+
+-- a flag of two bytes together with its value, any other apart
+abbrev pub side_of_flag : List ℕ → NormalizedDisposition
+side_of_flag flag = if nat_eq (length flag) 2 then side.Concatenated else side.Separated
+
+-- the words of an option on the side of its flag
+abbrev pub spelled_on : {K : Type 0} → (List ℕ → NormalizedDisposition) → Seen K → List (List ℕ)
+spelled_on to o = spelled (normal_on to o)
+
+-- ---- all options
+
+abbrev pub or_else : {A : Type 0} → Option A → Option A → Option A
+or_else None other = other
+or_else (Some x) other = Some x
+
+abbrev pub last : {A : Type 0} → List A → Option A
+last [] = None
+last (x ∷ xs) = or_else (last xs) (Some x)
+
+-- of the options that pass the test, the last
+abbrev pub last_by : {K : Type 0} → (Seen K → Bool) → List (Seen K) → Option (Seen K)
+last_by p os = last (filter p os)
+
+-- the texts of the options that pass the test, in order
+abbrev pub texts : {K : Type 0} → (Seen K → Bool) → List (Seen K) → List (List ℕ)
+texts p os = map text_of (filter p os)
+
+-- the words of the options that pass the test, in order, each on the side of its flag
+abbrev pub list : {K : Type 0} → (List ℕ → NormalizedDisposition) → (Seen K → Bool) → List (Seen K) → List (List ℕ)
+list to p os = flat_map (spelled_on to) (filter p os)
+
+-- the first verdict in order, of those that options say by themselves
+abbrev pub first_verdict : {K V : Type 0} → (Seen K → Option V) → List (Seen K) → Option V
+first_verdict verdict [] = None
+first_verdict verdict (o ∷ os) = or_else (verdict o) (first_verdict verdict os)
+
+-- ---- tests in their order
+
+infixl 10 ◌>>=◌
+abbrev pub ◌>>=◌ : {A B V : Type 0} → Result A V → (A → Result B V) → Result B V
+(Ok x) >>= f = f x
+(Err v) >>= f = Err v
+
+-- the value, or the verdict where there is none
+abbrev pub wanted : {A V : Type 0} → Option A → V → Result A V
+wanted None v = Err v
+wanted (Some x) v = Ok x
+
+-- goes on where nothing is said against it
+abbrev pub unless : {A V : Type 0} → Option V → Result A V → Result A V
+unless None rest = rest
+unless (Some v) rest = Err v
