@@ -1,0 +1,5 @@
+pub mod Commands
+pub mod Languages
+pub mod Outputs
+pub mod Records
+pub mod Words
