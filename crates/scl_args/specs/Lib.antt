@@ -1,6 +1,7 @@
 pub mod Common
 pub mod Cuts
 pub mod Each
+pub mod Gather
 pub mod Iter
 pub mod Options
 pub mod Probes

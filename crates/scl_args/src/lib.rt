@@ -3,6 +3,7 @@
 
 mod argument;
 mod error;
+mod gather;
 mod iter;
 mod lists;
 mod memory;
@@ -16,6 +17,7 @@ mod words;
 
 pub use argument::{ArgDisposition, ArgInfo, ArgRow, Argument, Delimiter, NormalizedDisposition};
 pub use error::{ArgParseError, ArgParseResult};
+pub use gather::{Gather, gather_all};
 pub use iter::ArgsIter;
 pub use lists::{push_spelled, side_of_flag};
 pub use memory::Mem;

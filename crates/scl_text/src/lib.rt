@@ -4,3 +4,4 @@
 pub mod language;
 pub mod memory;
 pub mod records;
+pub mod refusal;
