@@ -1,0 +1,5 @@
+//! Diab.
+
+mod args;
+
+pub use args::{ARGS, ArgData, Kind, table};

@@ -1,0 +1,8 @@
+//! The command lines of the compilers Diab and TaskingVX.
+#![tactic(auto)]
+
+pub mod diab;
+
+mod pass;
+mod place;
+mod values;

@@ -1,0 +1,77 @@
+ghost use Rattle.std.specs.Prelude.{◌≡◌, ◌∷◌, [], OnOk};
+ghost use Rattle.scl_args.specs.Seen.{seen};
+ghost use Rattle.scl_small.specs.Readings.{summary, joined, nothing};
+ghost use Rattle.scl_small.specs.Gathers.{summary_of};
+
+use crate::place::{Place, Placed, place_of, text_of};
+use scl_args::{Argument, Gather, Mem, push_spelled};
+use scl_text::refusal::Refusal;
+use std::alloc::Global;
+
+/// What the options so far amount to.
+#[derive(Debug, Drop)]
+pub(crate) struct Gathered {
+    pub compilation_flag: Option<&'static str>,
+    pub inputs: Vec<Vec<u8>>,
+    pub output: Option<Vec<u8>>,
+    pub depfile: Option<Vec<u8>>,
+    pub dependency_args: Vec<Vec<u8>>,
+    pub preprocessor_args: Vec<Vec<u8>>,
+    pub common_args: Vec<Vec<u8>>,
+}
+
+impl Gathered {
+    pub fn new(alloc: Global) -> Gathered
+        ensures { summary_of result ≡ nothing }
+    {
+        Gathered {
+            compilation_flag: None,
+            inputs: Vec::new(alloc),
+            output: None,
+            depfile: None,
+            dependency_args: Vec::new(alloc),
+            preprocessor_args: Vec::new(alloc),
+            common_args: Vec::new(alloc),
+        }
+    }
+
+    /// Puts an option where it goes.
+    #[tactic(auto, using(crate::proofs::PlaceLemmas::flag_of_compile_flag))]
+    fn put<T: Placed>(&mut self, alloc: Global, option: Argument<T>) -> Mem<()>
+        ensures { OnOk result (summary_of self.new ≡ joined (summary_of self.old) (summary T.place (seen T.kind_of T.word_of option ∷ []))) }
+    {
+        match place_of(&option) {
+            Place::Input => self.inputs.push(Vec::from_slice(alloc, text_of(&option))?)?,
+            Place::CompileFlag => self.compilation_flag = option.flag_str(),
+            Place::Output => self.output = Some(Vec::from_slice(alloc, text_of(&option))?),
+            Place::DepFile => self.depfile = Some(Vec::from_slice(alloc, text_of(&option))?),
+            Place::Common => push_spelled(alloc, &mut self.common_args, option)?,
+            Place::Preprocessor => push_spelled(alloc, &mut self.preprocessor_args, option)?,
+            Place::Dependency => push_spelled(alloc, &mut self.dependency_args, option)?,
+            Place::TooHard | Place::NotCompilation => {}
+        }
+        Ok(())
+    }
+}
+
+impl<T: Placed> Gather<T> for Gathered {
+    ghost use Rattle.std.specs.Option.{option_map};
+    ghost use Rattle.scl_text.specs.Refusals.{verdict_of};
+    ghost use Rattle.scl_small.specs.Readings.{summary};
+    ghost use Rattle.scl_small.specs.Gathers.{summary_of};
+
+    type Refusal = Refusal;
+
+    ghost has_seen = { λ gathered options. summary_of gathered ≡ summary T.place options };
+
+    ghost says = { λ before option said. option_map verdict_of said ≡ T.verdict option };
+
+    fn judge(&self, _alloc: Global, option: &Argument<T>) -> Mem<Option<Refusal>> {
+        Ok(T::judge(option))
+    }
+
+    #[tactic(auto, using(crate::proofs::SummaryLemmas::summary_more))]
+    fn take(&mut self, alloc: Global, option: Argument<T>) -> Mem<()> {
+        self.put(alloc, option)
+    }
+}
