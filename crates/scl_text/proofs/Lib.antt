@@ -1,2 +1,9 @@
 pub mod PathLemmas
+pub mod SamePath
 pub mod ViewLemmas
+pub mod FilesLemmas
+pub mod TextLemmas
+pub mod OpenLemmas
+pub mod ExpandLemmas
+pub mod StepLemmas
+pub mod ChainLemmas

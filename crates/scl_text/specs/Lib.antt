@@ -5,3 +5,8 @@ pub mod MsvcText
 pub mod DiabText
 pub mod Decoding
 pub mod Views
+pub mod ResponseFiles
+pub mod Expand
+pub mod Left
+pub mod Chain
+pub mod Remaining

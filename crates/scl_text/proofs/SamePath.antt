@@ -1,0 +1,26 @@
+-- Paths with the same components.
+use Rattle.std.proofs.Common.{◌≡◌, ℕ, ◌==◌, ◌&&◌, Bool, true, false, List, refl}
+use Rattle.std.proofs.lemmas.Bool.{eqb-true, false≢true}
+use Rattle.std.specs.Str.{bytes_eq}
+use Rattle.std.specs.Cmp.Lexicographic.{pointwise}
+use lib.Pointwise.{pointwise_decides, bytes_decides}
+use Rattle.scl_text.specs.Paths.{start, names, same_path}
+
+both_true : (a b : Bool) → (a && b) ≡ true → (a ≡ true) × (b ≡ true)
+both_true true b h = (refl, h)
+both_true false b h = absurd (false≢true h)
+
+paths_equal : (a b : List ℕ) → same_path a b ≡ true → (start a ≡ start b) × (names a ≡ names b)
+unfolding same_path
+paths_equal a b h =
+    let parts = both_true (start a == start b) (pointwise bytes_eq (names a) (names b)) h in
+    (eqb-true (start a) (start b) parts.0, (pointwise_decides bytes_decides (names a) (names b)).0 parts.1)
+
+pub same_path-left : (a b c : List ℕ) → same_path a b ≡ true → same_path b c ≡ same_path a c
+unfolding same_path
+same_path-left a b c h = let e = paths_equal a b h in rw (e.0, e.1) refl
+
+pub same_path-right : (a b c : List ℕ) → same_path b c ≡ true → same_path a b ≡ same_path a c
+unfolding same_path
+same_path-right a b c h = let e = paths_equal b c h in rw (e.0, e.1) refl
+

@@ -1,0 +1,53 @@
+ghost use Rattle.std.specs.Prelude.{◌≡◌, ℕ, length, map, false, true, IfOk, [], ◌∷◌};
+ghost use Rattle.std.specs.Vec.Iter.{into_iter_items, into_iter_len};
+
+use crate::view::View;
+use std::alloc::Global;
+use std::vec::IntoIter;
+
+/// Whose response files are put in place (docs/RULES.md, Expansion).
+#[derive(Clone, Copy, Debug, PartialEq, Eq)]
+pub enum ExpansionKind {
+    /// `@name`, GNU text, expanded again.
+    Gnu,
+    /// `@name`, MSVC text, never expanded again.
+    Msvc,
+    /// `-@name`, Diab text, expanded again.
+    Diab,
+}
+
+/// A file that is open, and its words that are left.
+#[derive(Drop)]
+struct OpenFile {
+    path: Vec<u8>,
+    words: IntoIter<Vec<u8>>,
+    ghost counted: { into_iter_len words ≡ length (into_iter_items words) },
+}
+
+/// An expansion that has begun: the files that are open, the last opened last, and the given
+/// words that are left.
+#[derive(Drop)]
+struct Expansion<'a> {
+    alloc: Global,
+    kind: ExpansionKind,
+    directory: &'a [u8],
+    view: &'a View,
+    words: &'a [Vec<u8>],
+    open_files: Vec<OpenFile>,
+}
+
+#[derive(Drop)]
+enum Step {
+    Word(Vec<u8>),
+    Again,
+    End,
+    Failed,
+}
+
+mod advance;
+mod collected;
+mod items;
+mod response_file;
+
+pub use collected::expand_all;
+pub use items::{ExpandAtArgs, GnuExpand, MsvcExpand};

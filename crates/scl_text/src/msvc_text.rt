@@ -1,0 +1,15 @@
+ghost use Rattle.std.specs.Prelude.{◌≡◌, IfOk};
+ghost use Rattle.std.specs.Str.{chars};
+ghost use Rattle.scl_text.specs.Words.{words_of};
+ghost use Rattle.scl_text.specs.MsvcText.{msvc_arguments};
+
+use crate::memory::Mem;
+use std::alloc::Global;
+
+/// Stands in.
+#[tactic(auto, unfolding(crate::specs::MsvcText::msvc_arguments))]
+pub fn msvc_words(alloc: Global, text: &str) -> Mem<Vec<Vec<u8>>>
+    ensures { IfOk result (λ arguments. words_of arguments.items ≡ msvc_arguments (chars text.now)) }
+{
+    Ok(Vec::new(alloc))
+}
