@@ -28,7 +28,7 @@ flat_map-self : (f : List ℕ → List (List ℕ)) (words : List (List ℕ)) →
 flat_map-self f [] h = refl
 flat_map-self f (w ∷ ws) h = rw (h w, flat_map-self f ws h) refl
 
-in_place-same : (word : List ℕ) (f g : Level → List (List ℕ)) (o : Option Level) → ((file : Level) → o ≡ Some file → f file ≡ g file) → in_place word f o ≡ in_place word g o
+pub in_place-same : (word : List ℕ) (f g : Level → List (List ℕ)) (o : Option Level) → ((file : Level) → o ≡ Some file → f file ≡ g file) → in_place word f o ≡ in_place word g o
 in_place-same word f g None h = refl
 in_place-same word f g (Some file) h = h file refl
 
@@ -60,3 +60,7 @@ unfolding expand
 expand-nil kind directory [] = refl
 expand-nil kind directory (f ∷ fs) = refl
 
+
+pub expand-no_files : (kind : ExpansionKind) (directory : List ℕ) (words : List (List ℕ)) → expand kind directory [] words ≡ words
+unfolding expand
+expand-no_files kind directory words = refl

@@ -7,3 +7,4 @@ pub mod OpenLemmas
 pub mod ExpandLemmas
 pub mod StepLemmas
 pub mod ChainLemmas
+pub mod ExpandLaws

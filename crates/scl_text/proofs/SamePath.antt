@@ -1,5 +1,5 @@
 -- Paths with the same components.
-use Rattle.std.proofs.Common.{◌≡◌, ℕ, ◌==◌, ◌&&◌, Bool, true, false, List, refl}
+use Rattle.std.proofs.Common.{◌≡◌, ℕ, ◌==◌, ◌&&◌, Bool, true, false, List, refl, eq-eqb}
 use Rattle.std.proofs.lemmas.Bool.{eqb-true, false≢true}
 use Rattle.std.specs.Str.{bytes_eq}
 use Rattle.std.specs.Cmp.Lexicographic.{pointwise}
@@ -24,3 +24,6 @@ pub same_path-right : (a b c : List ℕ) → same_path b c ≡ true → same_pat
 unfolding same_path
 same_path-right a b c h = let e = paths_equal b c h in rw (e.0, e.1) refl
 
+pub same_path-same : (a : List ℕ) → same_path a a ≡ true
+unfolding same_path
+same_path-same a = rw (eq-eqb (start a) (start a) refl, (pointwise_decides bytes_decides (names a) (names a)).1 refl) refl

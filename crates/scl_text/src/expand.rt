@@ -47,7 +47,9 @@ enum Step {
 mod advance;
 mod collected;
 mod items;
+mod laws;
 mod response_file;
 
 pub use collected::expand_all;
 pub use items::{ExpandAtArgs, GnuExpand, MsvcExpand};
+pub use laws::{expands_word_by_word, hides_open_file, keeps_plain_words, keeps_word_of_absent_file, keeps_word_of_unreadable_file, keeps_words_of_msvc_file, opens_each_file_once};
