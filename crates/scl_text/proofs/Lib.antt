@@ -8,3 +8,5 @@ pub mod ExpandLemmas
 pub mod StepLemmas
 pub mod ChainLemmas
 pub mod ExpandLaws
+pub mod PathHashLemmas
+pub mod PathMapLemmas

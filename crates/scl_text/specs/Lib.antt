@@ -10,3 +10,5 @@ pub mod Expand
 pub mod Left
 pub mod Chain
 pub mod Remaining
+pub mod PathMaps
+pub mod PathEntries

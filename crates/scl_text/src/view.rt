@@ -9,6 +9,9 @@ use crate::path::same_path;
 use std::alloc::Global;
 use std::marker::Model;
 
+mod path_hash;
+mod path_map;
+
 #[derive(Drop)]
 struct File {
     path: Vec<u8>,
