@@ -1,5 +1,6 @@
 -- What a view holds: files, directories and other paths that exist, all by paths that are compared by their components.
-use Rattle.std.specs.Prelude.{◌≡◌, ℕ, Bool, true, false, cond, ◌||◌, List, [], ◌∷◌, Option, None, Some, is_some}
+use Rattle.std.specs.Prelude.{◌≡◌, ℕ, Bool, true, false, cond, ◌||◌, List, [], ◌∷◌, Option, None, Some, is_some, Vec}
+use Rattle.std.specs.declared.alloc.Global.{Global}
 use Rattle.scl_text.specs.Paths.{same_path}
 
 pub record File : Type 0 where
@@ -37,3 +38,10 @@ exists path view = is_some (bytes_at path view.files) || (is_directory path view
 abbrev pub without : List ℕ → List File → List File
 without path [] = []
 without path (file ∷ files) = cond (same_path file.path path) (without path files) (file ∷ without path files)
+
+-- what an entry of a path and its value is
+abbrev pub file_of : List ℕ × Vec ℕ Global → File
+file_of entry = record { path = entry.0; bytes = entry.1.items }
+
+abbrev pub path_of : {T : Type 0} → List ℕ × T → List ℕ
+path_of entry = entry.0

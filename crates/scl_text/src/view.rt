@@ -1,57 +1,40 @@
 ghost use Rattle.std.specs.Prelude.{List, OnOk, OnErr, if◌then◌else◌, Some, ◌≡◌, ℕ, ◌∷◌, ◌||◌, true};
 ghost use Rattle.std.specs.Option.{option_copied};
 ghost use Rattle.scl_text.specs.Paths.{same_path};
-ghost use Rattle.scl_text.specs.Words.{words_of};
 ghost use Rattle.scl_text.specs.Views.{empty_view, bytes_at, is_among, is_directory, exists};
 
 use crate::memory::Mem;
-use crate::path::same_path;
 use std::alloc::Global;
 use std::marker::Model;
 
 mod path_hash;
 mod path_map;
 
-#[derive(Drop)]
-struct File {
-    path: Vec<u8>,
-    bytes: Vec<u8>,
-}
+use path_map::PathMap;
 
 /// The files, directories and other paths that a command line may ask for, and whether the
 /// compiler makes code for several architectures. Paths are compared by their components
 /// (docs/RULES.md, View).
 #[derive(Drop)]
 pub struct View {
-    files: Vec<File>,
-    directories: Vec<Vec<u8>>,
-    existing: Vec<Vec<u8>>,
+    files: PathMap<Vec<u8>>,
+    directories: PathMap<()>,
+    existing: PathMap<()>,
     multiarch: bool,
 }
 
 impl Model for View {
+    ghost use Rattle.scl_text.specs.Views.{Viewed, file_of, path_of};
+
     ghost use Rattle.std.specs.Prelude.{map};
-    ghost use Rattle.scl_text.specs.Words.{words_of};
-    ghost use Rattle.scl_text.specs.Views.{Viewed};
 
     ghost Value = { Viewed };
 
     ghost view = { λ v. record {
-        files = map (λ f. record { path = f.path.items; bytes = f.bytes.items }) v.files.items;
-        directories = words_of v.directories.items;
-        existing = words_of v.existing.items;
+        files = map file_of v.files;
+        directories = map path_of v.directories;
+        existing = map path_of v.existing;
         is_multiarch = v.multiarch } };
-}
-
-fn is_among(paths: &[Vec<u8>], path: &[u8]) -> bool
-    ensures { result ≡ is_among path.now (words_of paths.now) }
-{
-    for other in paths {
-        if same_path(other, path) {
-            return true;
-        }
-    }
-    false
 }
 
 impl View {
@@ -60,9 +43,9 @@ impl View {
         ensures { result ≡ empty_view }
     {
         View {
-            files: Vec::new(alloc),
-            directories: Vec::new(alloc),
-            existing: Vec::new(alloc),
+            files: PathMap::new(alloc),
+            directories: PathMap::new(alloc),
+            existing: PathMap::new(alloc),
             multiarch: false,
         }
     }
@@ -74,8 +57,7 @@ impl View {
         ensures found { OnOk result ((other : List ℕ) → bytes_at other self.new.files ≡ (if same_path path.items other then Some bytes.items else bytes_at other self.old.files)) }
         ensures err { OnErr result (self.new ≡ self.old) }
     {
-        self.files.insert(0, File { path, bytes })?;
-        Ok(())
+        self.files.add(path, bytes)
     }
 
     /// Adds a directory. Where memory is refused the view is as it was (docs/RULES.md, View).
@@ -84,8 +66,7 @@ impl View {
         ensures found { OnOk result ((other : List ℕ) → is_directory other self.new ≡ (if same_path path.items other then true else is_directory other self.old)) }
         ensures err { OnErr result (self.new ≡ self.old) }
     {
-        self.directories.insert(0, path)?;
-        Ok(())
+        self.directories.add(path, ())
     }
 
     /// Adds a path that exists. Where memory is refused the view is as it was (docs/RULES.md,
@@ -95,8 +76,7 @@ impl View {
         ensures found { OnOk result ((other : List ℕ) → exists other self.new ≡ (if same_path path.items other then true else exists other self.old)) }
         ensures err { OnErr result (self.new ≡ self.old) }
     {
-        self.existing.insert(0, path)?;
-        Ok(())
+        self.existing.add(path, ())
     }
 
     /// Says whether the compiler makes code for several architectures (docs/RULES.md, View).
@@ -110,19 +90,23 @@ impl View {
     pub fn file(&self, path: &[u8]) -> Option<&[u8]>
         ensures { option_copied result ≡ bytes_at path.now self.now.files }
     {
-        for file in &self.files {
-            if same_path(&file.path, path) {
-                return Some(&file.bytes);
-            }
+        match self.files.get(path) {
+            Some(bytes) => Some(bytes),
+            None => None,
         }
-        None
     }
 
     /// Whether there is a directory at the path (docs/RULES.md, View).
     pub fn is_dir(&self, path: &[u8]) -> bool
         ensures { result ≡ is_directory path.now self.now }
     {
-        is_among(&self.directories, path)
+        self.directories.contains(path)
+    }
+
+    fn was_added(&self, path: &[u8]) -> bool
+        ensures { result ≡ is_among path.now self.now.existing }
+    {
+        self.existing.contains(path)
     }
 
     /// Whether there is a file or a directory at the path, or it was added as existing
@@ -130,7 +114,7 @@ impl View {
     pub fn exists(&self, path: &[u8]) -> bool
         ensures { result ≡ exists path.now self.now }
     {
-        self.file(path).is_some() || self.is_dir(path) || is_among(&self.existing, path)
+        self.file(path).is_some() || self.is_dir(path) || self.was_added(path)
     }
 
     /// Whether the compiler makes code for several architectures (docs/RULES.md, View).

@@ -1,4 +1,4 @@
-ghost use Rattle.std.specs.Prelude.{OnOk, OnErr, ◌≡◌, ◌∷◌, [], List, ℕ};
+ghost use Rattle.std.specs.Prelude.{OnOk, OnErr, ◌≡◌, ◌∷◌, [], is_some, List, ℕ};
 ghost use Rattle.std.specs.Option.{option_copied};
 ghost use Rattle.scl_text.specs.PathMaps.{value_at};
 
@@ -60,6 +60,13 @@ impl<T> PathMap<T> {
             place = entry.older;
         }
         None
+    }
+
+    /// Whether a value was added at the path.
+    pub(super) fn contains(&self, path: &[u8]) -> bool
+        ensures { result ≡ is_some (value_at path.now self.now) }
+    {
+        self.get(path).is_some()
     }
 
     pub(super) fn add(&mut self, path: Vec<u8>, value: T) -> Mem<()>
