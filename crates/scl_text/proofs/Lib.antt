@@ -1,0 +1,4 @@
+pub mod GnuLemmas
+pub mod GnuLaws
+pub mod MsvcLemmas
+pub mod MsvcLaws

@@ -1,0 +1,6 @@
+pub mod Words
+pub mod Left
+pub mod GnuText
+pub mod GnuReader
+pub mod MsvcText
+pub mod MsvcReader
