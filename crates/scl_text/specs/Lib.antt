@@ -4,3 +4,6 @@ pub mod GnuText
 pub mod GnuReader
 pub mod MsvcText
 pub mod MsvcReader
+pub mod DiabText
+pub mod Decoding
+pub mod Orders
