@@ -1,16 +1,15 @@
 -- Files behind their marks.
-use Rattle.std.proofs.Common.{◌≡◌, ℕ, ◌+◌, ◌-◌, ◌*◌, ◌/◌, ◌%◌, ◌<◌, ◌≤◌, ◌⊎◌, inl, inr, ⊎_elim, ◌&&◌, Bool, true, false, not, is_some, unwrap_or, cond, List, [], ◌∷◌, ◌++◌, map, get_or, Option, Some, None, encode_utf8_all, refl, sym, ap, ◌∙◌, append_assoc, arith}
+use Rattle.std.proofs.Common.{◌≡◌, ℕ, ◌+◌, ◌-◌, ◌*◌, ◌/◌, ◌%◌, ◌<◌, ◌≤◌, ◌⊎◌, inl, inr, ⊎_elim, ◌&&◌, Bool, true, false, not, is_some, unwrap_or, List, [], ◌∷◌, ◌++◌, map, get_or, Option, Some, encode_utf8_all, refl, ap, ◌∙◌, arith}
 use Rattle.std.proofs.lemmas.Bool.{false≢true, cases_lt}
 use Rattle.std.proofs.lemmas.Str.{utf16_chars-nil, utf16_chars_lone, utf16_chars_pair}
 use Rattle.std.proofs.Math.Utf8.{scalar, scalars, scalar_cases}
 use Rattle.std.proofs.str.Utf16.{IsPair}
 use Rattle.std.specs.Char.Escape.{encode_utf16}
-use Rattle.std.specs.Char.Utf16.{utf16_chars, lone_unit_char, surrogate_pair_char, has_unpaired_surrogate, utf16_lossy_chars}
+use Rattle.std.specs.Char.Utf16.{utf16_chars, lone_unit_char, surrogate_pair_char}
 use Rattle.std.specs.List.{flat_map, list_any}
-use Rattle.std.specs.Option.{option_map, option_and_then}
-use Rattle.std.specs.Str.{IsUtf8}
+use Rattle.std.specs.Option.{option_map}
 use borrow.Author.Tests.{lt-ltb, le-ltb, lt-leb, le-leb}
-use Rattle.scl_text.specs.Decoding.{ByteOrder, little_end_first, big_end_first, unit_of, units, units_text, utf16_text, utf8_text, unit_bytes, utf16_file, decoded, Utf8FilesAreReadBack, Utf16FilesAreReadBack}
+use Rattle.scl_text.specs.Decoding.{ByteOrder, little_end_first, big_end_first, units, units_text, utf16_text, unit_bytes, utf16_file, decoded, Utf8FilesAreReadBack, Utf16FilesAreReadBack}
 use Rattle.scl_text.proofs.DecodeLemmas.{utf8-yes}
 
 pub utf8_files_are_read_back : Utf8FilesAreReadBack

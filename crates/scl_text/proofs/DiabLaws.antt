@@ -1,11 +1,11 @@
 -- The law of Diab texts.
-use Rattle.std.proofs.Common.{◌≡◌, ℕ, ◌||◌, ◌&&◌, Bool, true, false, not, cond, List, [], ◌∷◌, ◌++◌, map, Option, Some, None, encode_utf8_all, refl, sym, ap, ◌∙◌}
+use Rattle.std.proofs.Common.{◌≡◌, ℕ, ◌||◌, ◌&&◌, Bool, true, false, not, List, [], ◌∷◌, ◌++◌, map, Some, encode_utf8_all, refl, sym, ap, ◌∙◌}
 use Rattle.std.proofs.lemmas.List.{append-nil}
 use Rattle.std.proofs.lemmas.Bool.{false≢true}
-use Rattle.std.specs.List.{list_all, list_any, join_with_byte, slice_split}
+use Rattle.std.specs.List.{list_all, list_any, join_with_byte}
 use Rattle.std.specs.Str.{NonePass}
-use Rattle.scl_text.specs.DiabText.{is_white_space, is_quote, diab_words, diab_arguments, is_diab_word, PlainWordsAreReadBack}
-use Rattle.scl_text.proofs.DiabLemmas.{words-gap, words-word, EndsWord, nothing, white, arguments-plain}
+use Rattle.scl_text.specs.DiabText.{is_white_space, is_quote, diab_words, is_diab_word, PlainWordsAreReadBack}
+use Rattle.scl_text.proofs.DiabLemmas.{words-gap, words-word, nothing, white, arguments-plain}
 
 and_left : (a b : Bool) → (a && b) ≡ true → a ≡ true
 and_left true b h = refl

@@ -1,13 +1,12 @@
 -- A Diab text, word by word.
-use Rattle.std.proofs.Common.{◌≡◌, ℕ, ◌<◌, Bool, true, false, not, cond, List, [], ◌∷◌, ◌++◌, map, Option, Some, None, length, encode_utf8, encode_utf8_all, refl, sym, ap, subst, ◌∙◌, append_assoc, arith, rules}
+use Rattle.std.proofs.Common.{◌≡◌, ℕ, ◌<◌, Bool, true, false, not, List, [], ◌∷◌, ◌++◌, map, Some, None, length, encode_utf8, encode_utf8_all, refl, sym, ap, subst, ◌∙◌, append_assoc, arith}
 use Rattle.std.proofs.lemmas.List.{append-nil}
 use Rattle.std.proofs.lemmas.Bool.{false≢true}
 use Rattle.std.proofs.lemmas.Str.{chars_past_char, IsUtf8-past_char, chars-nil}
 use Rattle.std.proofs.lemmas.List.Splits.{slice_split-cons_yes, slice_split-cons_no}
 use Rattle.std.specs.Char.{is_whitespace, is_not_whitespace}
-use Rattle.std.specs.List.{slice_split, filter, list_any}
+use Rattle.std.specs.List.{slice_split, list_any}
 use Rattle.std.specs.Str.{chars, IsUtf8, NonePass, NoCharPasses, EmptyOrStartsWithPassing}
-use Rattle.scl_text.specs.GnuText.{is_not_empty}
 use Rattle.scl_text.specs.DiabText.{is_white_space, is_quote, diab_words, diab_arguments}
 
 pub words-gap : (c : ℕ) (cs : List ℕ) → is_white_space c ≡ true → diab_words (c ∷ cs) ≡ diab_words cs

@@ -1,14 +1,14 @@
 -- The laws of GNU texts.
-use Rattle.std.proofs.Common.{◌≡◌, ◌≢◌, ℕ, ◌<◌, ◌==◌, ◌||◌, Bool, true, false, cond, List, [], ◌∷◌, ◌++◌, map, length, encode_utf8, encode_utf8_all, refl, sym, ap, subst, ◌∙◌, append_assoc, arith, rules, inl, inr, length-append}
+use Rattle.std.proofs.Common.{◌≡◌, ℕ, ◌<◌, ◌==◌, ◌||◌, Bool, true, false, List, [], ◌∷◌, ◌++◌, map, length, encode_utf8, encode_utf8_all, refl, sym, ap, subst, ◌∙◌, append_assoc, arith, inl, inr, length-append}
 use Rattle.std.proofs.lemmas.List.{append-nil}
 use Rattle.std.proofs.lemmas.Bool.{eqb-true, false≢true}
 use Rattle.std.proofs.lemmas.Str.{length-encode, len_utf8_bounds}
 use Rattle.std.specs.List.{list_all, join_with_byte}
-use Rattle.scl_text.specs.GnuText.{is_gnu_separator, Piece, gap, stands, Inside, nothing, one, pair, HasNone, none, more, ArePieces, end, separator, plain, escaped, lone, single, open_single, double, open_double, lone_inside, outside, in_single, in_double, behind_backslash, pieces_from, pieces, keep, joined, gnu_arguments, is_not_empty, in_single_quotes, gnu_quoted, gnu_escaped, TextsHavePieces, TextsHaveNoOtherPieces, GivesNoEmptyArgument, IsReadBack}
+use Rattle.scl_text.specs.GnuText.{is_gnu_separator, Piece, gap, stands, Inside, nothing, one, pair, HasNone, more, ArePieces, end, separator, plain, escaped, lone, single, open_single, double, open_double, lone_inside, outside, in_single, in_double, pieces_from, pieces, keep, joined, gnu_arguments, is_not_empty, in_single_quotes, gnu_quoted, gnu_escaped, TextsHavePieces, TextsHaveNoOtherPieces, GivesNoEmptyArgument, IsReadBack}
 use Rattle.scl_text.specs.GnuReader.{mark_of, mode_after}
 use Rattle.scl_text.specs.declared.gnu_text.Mode.TheVariants as mode
 use Rattle.scl_text.specs.declared.gnu_text.Mark.TheVariants as mark
-use Rattle.scl_text.proofs.GnuLemmas.{read_from, bool_cases, differs, apart, Test, are_pieces, gnu_arguments-read}
+use Rattle.scl_text.proofs.GnuLemmas.{read_from, bool_cases, differs, Test, are_pieces, gnu_arguments-read}
 
 -- ---- no other pieces
 

@@ -1,10 +1,10 @@
 -- Reading a GNU text by characters gives the arguments of its pieces.
-use Rattle.std.proofs.Common.{◌≡◌, ◌≢◌, ℕ, ◌==◌, ◌||◌, Bool, true, false, cond, List, [], ◌∷◌, ◌++◌, encode_utf8, encode_utf8_all, refl, sym, ap, subst, ◌∙◌, append_assoc, arith, rules, length, ◌⊎◌, inl, inr}
+use Rattle.std.proofs.Common.{◌≡◌, ◌≢◌, ℕ, ◌==◌, Bool, true, false, List, [], ◌∷◌, ◌++◌, encode_utf8, encode_utf8_all, refl, sym, ap, subst, ◌∙◌, append_assoc, arith, length, ◌⊎◌, inl, inr}
 use Rattle.std.proofs.lemmas.List.{append-nil}
 use Rattle.std.proofs.lemmas.Bool.{eqb-true}
 use Rattle.std.proofs.lemmas.Str.{chars_past_char, IsUtf8-past_char, chars-nil}
 use Rattle.std.specs.Str.{chars, IsUtf8}
-use Rattle.scl_text.specs.GnuText.{is_gnu_separator, Piece, gap, stands, Inside, nothing, one, pair, HasNone, none, more, ArePieces, end, separator, plain, escaped, lone, single, open_single, double, open_double, lone_inside, At, outside, behind_backslash, in_single, in_double, in_double_behind_backslash, pieces_from, pieces, keep, joined, gnu_arguments}
+use Rattle.scl_text.specs.GnuText.{is_gnu_separator, Piece, Inside, nothing, one, pair, HasNone, none, more, ArePieces, end, separator, plain, escaped, lone, single, open_single, double, open_double, lone_inside, At, outside, behind_backslash, in_single, in_double, in_double_behind_backslash, pieces_from, pieces, keep, joined, gnu_arguments}
 use Rattle.scl_text.specs.GnuReader.{mark_of, mode_after}
 use Rattle.scl_text.specs.declared.gnu_text.Mode.{Mode}
 use Rattle.scl_text.specs.declared.gnu_text.Mode.TheVariants as mode

@@ -1,12 +1,12 @@
 -- The laws of MSVC texts.
-use Rattle.std.proofs.Common.{◌≡◌, ◌≢◌, ◌↔◌, ℕ, zero, suc, ◌+◌, ◌*◌, ◌/◌, ◌%◌, ◌<◌, ◌==◌, ◌||◌, ◌&&◌, not, Bool, true, false, cond, List, [], ◌∷◌, ◌++◌, map, length, replicate, encode_utf8, encode_utf8_all, refl, sym, ap, subst, ◌∙◌, append_assoc, arith, rules, ◌⊎◌, inl, inr, length-append, lit<}
+use Rattle.std.proofs.Common.{◌≡◌, ◌↔◌, ℕ, ◌+◌, ◌/◌, ◌%◌, ◌<◌, ◌==◌, ◌&&◌, not, Bool, true, false, cond, List, [], ◌∷◌, ◌++◌, map, length, encode_utf8, encode_utf8_all, refl, sym, ap, subst, ◌∙◌, append_assoc, arith, ◌⊎◌, inl, inr, length-append, lit<}
 use Rattle.std.proofs.lemmas.List.{append-nil, replicate-append-replicate}
 use Rattle.std.proofs.lemmas.Bool.{eqb-true, false≢true}
 use Rattle.std.proofs.lemmas.Grind.{flat_map-append}
 use Rattle.std.proofs.lemmas.Str.{length-encode, len_utf8_bounds, encode_ascii}
 use Rattle.std.proofs.lemmas.List.Folds.{list_all-append}
 use Rattle.std.specs.List.{list_all, join_with_byte}
-use Rattle.scl_text.specs.MsvcText.{is_msvc_separator, is_even, leads_to_quote, meaning, Place, split, means, keep_stretch, stretches, place_meaning, stretch_meaning, msvc_stretches, msvc_arguments, is_toggle, EachStretch, OnlyQuotesGiveEmptyArguments, leads_to_quote_or_end, in_double_quotes, msvc_quoted, QuotedWordsAreReadBack}
+use Rattle.scl_text.specs.MsvcText.{is_msvc_separator, is_even, leads_to_quote, Place, split, means, keep_stretch, stretches, place_meaning, stretch_meaning, is_toggle, EachStretch, OnlyQuotesGiveEmptyArguments, leads_to_quote_or_end, in_double_quotes, msvc_quoted, QuotedWordsAreReadBack}
 use Rattle.scl_text.specs.MsvcReader.{slashes, read_on}
 use Rattle.scl_text.proofs.MsvcLemmas.{places_on, msvc_stretches-on, msvc_arguments-read, bool_cases}
 

@@ -1,19 +1,17 @@
 -- Reading an MSVC text from the front gives what its places mean.
-use Rattle.std.proofs.Common.{◌≡◌, ◌≢◌, ℕ, zero, suc, ◌+◌, ◌/◌, ◌%◌, ◌<◌, ◌==◌, ◌||◌, ◌&&◌, not, Bool, true, false, cond, List, [], ◌∷◌, ◌++◌, length, drop, get_or, replicate, map, encode_utf8, Option, Some, None, refl, sym, ap, subst, ◌∙◌, append_assoc, add-one, arith, rules}
+use Rattle.std.proofs.Common.{◌≡◌, ◌≢◌, ℕ, zero, suc, ◌+◌, ◌/◌, ◌%◌, ◌<◌, ◌==◌, ◌&&◌, not, Bool, true, false, cond, List, [], ◌∷◌, ◌++◌, length, drop, get_or, map, encode_utf8, Option, Some, None, refl, sym, ap, subst, ◌∙◌, append_assoc, add-one, arith}
 use Rattle.std.proofs.lemmas.List.{append-nil, replicate-append-replicate}
 use Rattle.std.proofs.Common.{◌⊎◌, inl, inr}
 use Rattle.std.proofs.lemmas.Bool.{false≢true}
 use Rattle.std.proofs.lemmas.Bool.{eqb-true}
-use Rattle.std.proofs.lemmas.Grind.{common_steps}
 use Rattle.std.proofs.Common.{length-append}
 use Rattle.std.proofs.lemmas.Str.{chars_past_char, chars-nil, length-encode, len_utf8_bounds}
 use Rattle.std.specs.Str.{chars, IsUtf8}
 use Rattle.std.specs.String.{string_bytes}
-use Rattle.std.specs.List.{flat_map}
 use Rattle.std.proofs.lemmas.Grind.{flat_map-append}
 use Rattle.scl_text.specs.MsvcReader.{reads, TakesChar, slashes, read_on}
 use Rattle.scl_text.specs.declared.msvc_text.Reader.{Reader}
-use Rattle.scl_text.specs.MsvcText.{is_msvc_separator, is_even, slashes_before, toggles, is_inside, splits, leads_to_quote, meaning, Place, split, means, place, places, keep_stretch, stretches, place_meaning, stretch_meaning, msvc_stretches, msvc_arguments}
+use Rattle.scl_text.specs.MsvcText.{is_msvc_separator, is_even, slashes_before, is_inside, leads_to_quote, meaning, Place, split, means, places, keep_stretch, stretches, place_meaning, stretch_meaning, msvc_stretches, msvc_arguments}
 
 -- the places, with what is known of the characters before them
 abbrev pub places_on : ℕ → Bool → List ℕ → List Place

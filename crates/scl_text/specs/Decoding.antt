@@ -1,5 +1,5 @@
 -- The text of a file's bytes, in UTF-8.
-use Rattle.std.specs.Prelude.{◌≡◌, ℕ, ◌+◌, ◌-◌, ◌*◌, ◌/◌, ◌%◌, ◌&&◌, nat_lt, nat_le, nat_eq, Bool, true, false, cond, List, [], ◌∷◌, ◌++◌, drop, map, Option, None, Some, encode_utf8_all, slice_index}
+use Rattle.std.specs.Prelude.{◌≡◌, ℕ, ◌+◌, ◌-◌, ◌*◌, ◌/◌, ◌%◌, ◌&&◌, nat_lt, nat_le, nat_eq, true, cond, List, [], ◌∷◌, ◌++◌, drop, map, Option, None, Some, encode_utf8_all, slice_index}
 use Rattle.std.specs.Option.{option_map, option_and_then}
 use Rattle.std.specs.Str.{is_utf8, all_scalars}
 use Rattle.std.specs.List.{starts_with, flat_map}

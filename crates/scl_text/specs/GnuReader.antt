@@ -1,6 +1,6 @@
 -- What `split_gnu_response_file_args` makes of one character.
-use Rattle.std.specs.Prelude.{ℕ, ◌==◌, ◌||◌, Bool, cond, List, [], ◌∷◌, ◌++◌, encode_utf8}
-use Rattle.scl_text.specs.GnuText.{is_gnu_separator, keep}
+use Rattle.std.specs.Prelude.{ℕ, ◌==◌, ◌||◌, cond}
+use Rattle.scl_text.specs.GnuText.{is_gnu_separator}
 use Rattle.scl_text.specs.declared.gnu_text.Mode.{Mode}
 use Rattle.scl_text.specs.declared.gnu_text.Mode.TheVariants as mode
 use Rattle.scl_text.specs.declared.gnu_text.Mark.{Mark}

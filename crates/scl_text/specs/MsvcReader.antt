@@ -1,5 +1,5 @@
 -- What `SplitMsvcResponseFileArgs` makes of one character.
-use Rattle.std.specs.Prelude.{◌≡◌, ℕ, ◌+◌, ◌/◌, ◌==◌, ◌||◌, ◌&&◌, not, Bool, true, false, cond, List, [], ◌∷◌, ◌++◌, replicate, encode_utf8}
+use Rattle.std.specs.Prelude.{◌≡◌, ℕ, ◌+◌, ◌/◌, ◌==◌, ◌&&◌, not, Bool, true, false, cond, List, [], ◌∷◌, ◌++◌, replicate, encode_utf8}
 use Rattle.std.specs.String.{string_bytes}
 use Rattle.scl_text.specs.MsvcText.{is_msvc_separator, is_even}
 use Rattle.scl_text.specs.declared.msvc_text.Reader.{Reader}

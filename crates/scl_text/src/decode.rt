@@ -113,3 +113,6 @@ pub fn marked_files_are_read_back()
     ensures utf8 { Utf8FilesAreReadBack }
     ensures utf16 { Utf16FilesAreReadBack }
 {}
+
+#[cfg(test)]
+mod tests;

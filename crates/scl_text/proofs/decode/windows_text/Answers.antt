@@ -1,4 +1,4 @@
-use Rattle.std.proofs.Common.{◌≡◌, ◌<◌, length, arith, sym, ◌∙◌}
+use Rattle.std.proofs.Common.{sym, ◌∙◌}
 use Rattle.scl_text.proofs.DecodeLemmas.{windows-more}
 use Rattle.scl_text.proofs.decode.windows_text.Goals as goal
 

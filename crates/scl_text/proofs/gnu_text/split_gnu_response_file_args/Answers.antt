@@ -1,9 +1,5 @@
-use Rattle.std.proofs.Common.{◌≡◌, ℕ, List, [], ◌++◌, ◌∷◌, map, arith, refl, sym, ◌∙◌}
-use Rattle.std.proofs.lemmas.List.{append-nil}
-use Rattle.std.proofs.lemmas.Grind.{common_steps}
-use Rattle.std.specs.Str.{chars}
+use Rattle.std.proofs.Common.{sym, ◌∙◌}
 use Rattle.std.specs.String.{string_bytes}
-use Rattle.scl_text.specs.declared.gnu_text.Mode.TheVariants as mode
 use Rattle.scl_text.proofs.GnuLemmas.{step-separates, step-vanishes, step-stands, step-end, gnu_arguments-read, joined-pieces}
 use Rattle.scl_text.proofs.gnu_text.split_gnu_response_file_args.Goals as goal
 

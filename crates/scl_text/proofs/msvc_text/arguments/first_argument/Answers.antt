@@ -1,4 +1,4 @@
-use Rattle.std.proofs.Common.{◌≡◌, ℕ, ◌+◌, List, [], ◌++◌, ◌∷◌, length, true, false, arith, refl, sym, ◌∙◌}
+use Rattle.std.proofs.Common.{◌≡◌, length, arith, sym}
 use Rattle.std.specs.Str.{chars}
 use Rattle.std.proofs.lemmas.Str.{IsUtf8-past_char}
 use Rattle.scl_text.proofs.MsvcLemmas.{char_taken, shorter, text_over, nothing_left, msvc_arguments-read}
