@@ -52,4 +52,8 @@ mod response_file;
 
 pub use collected::expand_all;
 pub use items::{ExpandAtArgs, GnuExpand, MsvcExpand};
-pub use laws::{expands_word_by_word, hides_open_file, keeps_plain_words, keeps_word_of_absent_file, keeps_word_of_unreadable_file, keeps_words_of_msvc_file, opens_each_file_once};
+pub use laws::{
+    absent_files_leave_their_words, each_file_is_open_once, open_files_are_absent_inside,
+    plain_words_stand, unreadable_files_leave_their_words, words_are_expanded_one_by_one,
+    words_of_msvc_files_stand,
+};

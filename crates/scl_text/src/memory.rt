@@ -1,4 +1,4 @@
 use std::alloc::AllocError;
 
-/// What a call that takes memory gives, or that a growth was refused.
+/// A value, or the refusal of the memory that it needed.
 pub type Mem<T> = Result<T, AllocError>;

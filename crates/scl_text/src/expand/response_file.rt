@@ -42,7 +42,7 @@ pub(super) fn named(
     }
 }
 
-#[tactic(auto, using(crate::proofs::TextLemmas::argument_rules))]
+#[tactic(auto, using(crate::proofs::ResponseFileLemmas::argument_rules))]
 fn gnu_arguments(alloc: Global, bytes: &[u8]) -> Mem<Option<Vec<Vec<u8>>>>
     ensures { IfOk result (λ words. option_map (λ w. words_of w.items) words ≡ arguments ExpansionKind.Gnu bytes.now) }
 {
@@ -62,7 +62,7 @@ fn msvc_arguments(alloc: Global, bytes: &[u8]) -> Mem<Option<Vec<Vec<u8>>>>
     }
 }
 
-#[tactic(auto, using(crate::proofs::TextLemmas::argument_rules))]
+#[tactic(auto, using(crate::proofs::ResponseFileLemmas::argument_rules))]
 fn diab_arguments(alloc: Global, bytes: &[u8]) -> Mem<Option<Vec<Vec<u8>>>>
     ensures { IfOk result (λ words. option_map (λ w. words_of w.items) words ≡ arguments ExpansionKind.Diab bytes.now) }
 {
