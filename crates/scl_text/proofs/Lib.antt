@@ -1,3 +1,5 @@
+pub mod ArchLemmas
+pub mod OutputLemmas
 pub mod GnuLemmas
 pub mod GnuLaws
 pub mod MsvcLemmas

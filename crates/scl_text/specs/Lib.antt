@@ -1,5 +1,9 @@
 pub mod Words
 pub mod Left
+pub mod Commands
+pub mod Languages
+pub mod Outputs
+pub mod Records
 pub mod GnuText
 pub mod GnuReader
 pub mod MsvcText

@@ -1,14 +1,18 @@
 //! Paths, languages, records, views of files, and the texts of response files.
 #![tactic(auto)]
 
+pub mod command;
 mod decode;
 mod diab_text;
-mod expand;
+pub mod expand;
 mod gnu_text;
-mod memory;
+pub mod language;
+pub mod memory;
 mod msvc_text;
-mod path;
-mod view;
+pub mod outputs;
+pub mod path;
+pub mod records;
+pub mod view;
 
 pub use decode::{from_local_codepage, marked_files_are_read_back, read_text};
 pub use diab_text::{diab_words_are_read_back, split_diab};
@@ -27,5 +31,4 @@ pub use msvc_text::{
     SplitMsvcResponseFileArgs, msvc_quoted_words_are_read_back, msvc_words,
     only_quotes_give_empty_msvc_arguments,
 };
-pub use path::{file_name, join, same_path};
 pub use view::View;

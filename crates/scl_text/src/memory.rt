@@ -1,4 +1,6 @@
+//! Answers of calls that need memory.
+
 use std::alloc::AllocError;
 
-/// A value, or the refusal of the memory that it needed.
+/// What a call gives that needs memory: the value, or the refusal of memory as itself.
 pub type Mem<T> = Result<T, AllocError>;

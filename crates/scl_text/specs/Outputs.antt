@@ -1,0 +1,16 @@
+-- The outputs of a compilation, in the order of their names.
+use Rattle.std.specs.Prelude.{ℕ, List, [], ◌∷◌, Option, Some, None, if◌then◌else◌}
+use Rattle.std.specs.Str.{bytes_eq}
+use Rattle.std.specs.Ordering.{nat_cmp, match_ordering}
+use Rattle.std.specs.Cmp.Lexicographic.{slice_cmp}
+use Rattle.scl_text.specs.Records.{Artifact}
+
+-- the outputs with one more, at its place; one of the same name gives way
+abbrev pub put_output : List Artifact → Artifact → List Artifact
+put_output [] a = a ∷ []
+put_output (b ∷ bs) a = match_ordering (slice_cmp nat_cmp a.name b.name) (a ∷ b ∷ bs) (record { name = b.name; path = a.path; optional = a.optional } ∷ bs) (b ∷ put_output bs a)
+
+-- the path of the output of this name
+abbrev pub path_at : List Artifact → List ℕ → Option (List ℕ)
+path_at [] name = None
+path_at (a ∷ rest) name = if bytes_eq name a.name then Some a.path else path_at rest name

@@ -1,0 +1,160 @@
+//! What a parser reads from a command line, and what a builder makes of it.
+ghost use Rattle.std.specs.Prelude.{◌≡◌};
+ghost use Rattle.scl_text.specs.Records.{bare_record, parsed_of};
+
+mod archs;
+
+use crate::language::Language;
+use std::alloc::{AllocError, AllocFailed, Global};
+use std::collections::BTreeMap;
+use thiserror::Error;
+
+/// Whether diagnostics are coloured: never, always, or as the compiler chooses.
+#[derive(Debug, Clone, Copy, PartialEq, Eq)]
+pub enum ColorMode {
+    Off,
+    On,
+    Auto,
+}
+
+/// Whether the outcome of a command may be kept in the cache.
+#[derive(Debug, Clone, Copy, PartialEq, Eq)]
+pub enum Cacheable {
+    Yes,
+    No,
+}
+
+/// The compilers whose command lines are read.
+#[derive(Debug, Clone, Copy, PartialEq, Eq)]
+pub enum CCompilerKind {
+    Gcc,
+    Clang,
+    Diab,
+    Msvc,
+    TaskingVX,
+}
+
+/// A file that a compilation makes: its path in bytes, and whether it may be missing.
+#[derive(Debug, PartialEq, Eq, Drop)]
+pub struct ArtifactDescriptor {
+    pub path: Vec<u8>,
+    pub optional: bool,
+}
+
+/// The outcome of reading a command line: what was read; or that it can't be cached, with a reason and
+/// a text beside it; or that it is no compilation (docs/RULES.md, Records).
+#[derive(Debug, PartialEq, Eq, Drop)]
+pub enum CompilerArguments<T> {
+    Ok(T),
+    CannotCache(&'static str, Option<String>),
+    NotCompilation,
+}
+
+/// A command line as it was read; paths and words are bytes (docs/RULES.md, Records).
+#[derive(Debug, PartialEq, Eq, Drop)]
+pub struct ParsedArguments {
+    pub input: Vec<u8>,
+    pub double_dash_input: bool,
+    pub language: Language,
+    pub compilation_flag: Vec<u8>,
+    pub depfile: Option<Vec<u8>>,
+    pub outputs: BTreeMap<String, ArtifactDescriptor>,
+    pub dependency_args: Vec<Vec<u8>>,
+    pub preprocessor_args: Vec<Vec<u8>>,
+    pub common_args: Vec<Vec<u8>>,
+    pub arch_args: Vec<Vec<u8>>,
+    pub unhashed_args: Vec<Vec<u8>>,
+    pub extra_dist_files: Vec<Vec<u8>>,
+    pub extra_hash_files: Vec<Vec<u8>>,
+    pub uses_external_assembler: bool,
+    pub msvc_show_includes: bool,
+    pub msvc_explicit_language: bool,
+    pub profile_generate: bool,
+    pub color_mode: ColorMode,
+    pub suppress_rewrite_includes_only: bool,
+    pub too_hard_for_preprocessor_cache_mode: Option<Vec<u8>>,
+}
+
+impl ParsedArguments {
+    /// A record of an input, its language and the compile flag, in which all else is empty, no or `Auto`.
+    pub fn bare(
+        alloc: Global,
+        input: Vec<u8>,
+        language: Language,
+        compilation_flag: Vec<u8>,
+    ) -> ParsedArguments
+        ensures { parsed_of result ≡ bare_record input.items language compilation_flag.items }
+    {
+        ParsedArguments {
+            input,
+            double_dash_input: false,
+            language,
+            compilation_flag,
+            depfile: None,
+            outputs: BTreeMap::new(alloc),
+            dependency_args: Vec::new(alloc),
+            preprocessor_args: Vec::new(alloc),
+            common_args: Vec::new(alloc),
+            arch_args: Vec::new(alloc),
+            unhashed_args: Vec::new(alloc),
+            extra_dist_files: Vec::new(alloc),
+            extra_hash_files: Vec::new(alloc),
+            uses_external_assembler: false,
+            msvc_show_includes: false,
+            msvc_explicit_language: false,
+            profile_generate: false,
+            color_mode: ColorMode::Auto,
+            suppress_rewrite_includes_only: false,
+            too_hard_for_preprocessor_cache_mode: None,
+        }
+    }
+}
+
+/// A command to run: program, words, environment and directory in bytes; `share_jobserver` is no.
+#[derive(Debug, PartialEq, Eq, Drop)]
+pub struct SingleCompileCommand {
+    pub executable: Vec<u8>,
+    pub arguments: Vec<Vec<u8>>,
+    pub env_vars: Vec<(Vec<u8>, Vec<u8>)>,
+    pub cwd: Vec<u8>,
+    pub share_jobserver: bool,
+}
+
+/// What a run of the preprocessor gave: its status, of which 0 alone is success, and both outputs in bytes.
+#[derive(Debug, PartialEq, Eq, Drop)]
+pub struct PassOutput {
+    pub status: i32,
+    pub stdout: Vec<u8>,
+    pub stderr: Vec<u8>,
+}
+
+/// Why there is no command: the record has no output `obj`, or memory was refused.
+#[derive(Debug, PartialEq, Eq, Drop, Error)]
+pub enum CommandError {
+    #[error("Missing object file output")]
+    MissingObj,
+    #[error("out of memory")]
+    Memory,
+}
+
+impl From<AllocError> for CommandError {
+    ghost use Rattle.std.specs.Prelude.{◌≡◌};
+    ghost use Rattle.scl_text.specs.declared.records.CommandError.TheVariants.{Memory};
+
+    ghost from_gives = { λ _ e. e ≡ Memory };
+
+    fn from(_: AllocError) -> CommandError {
+        CommandError::Memory
+    }
+}
+
+impl<T: Drop> From<AllocFailed<T>> for CommandError {
+    ghost use Rattle.std.specs.Prelude.{◌≡◌};
+    ghost use Rattle.scl_text.specs.declared.records.CommandError.TheVariants.{Memory};
+
+    ghost from_gives = { λ _ e. e ≡ Memory };
+
+    fn from(_: AllocFailed<T>) -> CommandError {
+        CommandError::Memory
+    }
+}
