@@ -1,0 +1,27 @@
+ghost use Rattle.std.specs.Prelude.{◌≡◌, IfOk};
+ghost use Rattle.scl_text.specs.Words.{words_of};
+ghost use Rattle.scl_text.specs.Expand.{expand};
+
+use super::ExpansionKind;
+use super::items::Expand;
+use crate::memory::Mem;
+use crate::view::View;
+use std::alloc::Global;
+
+/// All the words with response files put in place, as the iterator of the kind gives them
+/// (docs/RULES.md, Expansion).
+pub fn expand_all(
+    alloc: Global,
+    kind: ExpansionKind,
+    cwd: &[u8],
+    words: &[Vec<u8>],
+    view: &View,
+) -> Mem<Vec<Vec<u8>>>
+    ensures { IfOk result (λ v. words_of v.items ≡ expand kind cwd.now view.now.files (words_of words.now)) }
+{
+    let mut all = Vec::new(alloc);
+    for word in Expand::new(alloc, kind, cwd, words, view) {
+        all.push(word?)?;
+    }
+    Ok(all)
+}
