@@ -1,5 +1,5 @@
-ghost use Rattle.std.specs.Prelude.{◌≡◌, ◌∷◌, [], OnOk};
-ghost use Rattle.scl_args.specs.Seen.{seen};
+ghost use Rattle.std.specs.Prelude.{◌≡◌, ◌∷◌, ◌++◌, [], List, OnOk};
+ghost use Rattle.scl_args.specs.Seen.{Seen, seen};
 ghost use Rattle.scl_small.specs.Readings.{summary, joined, nothing};
 ghost use Rattle.scl_small.specs.Gathers.{summary_of};
 
@@ -71,7 +71,10 @@ impl<T: Placed> Gather<T> for Gathered {
     }
 
     #[tactic(auto, using(crate::proofs::SummaryLemmas::summary_more))]
-    fn take(&mut self, alloc: Global, option: Argument<T>) -> Mem<()> {
+    fn take(&mut self, alloc: Global, option: Argument<T>) -> Mem<()>
+        ensures { OnOk result ((before : List (Seen T.Kind)) → summary_of self.old ≡ summary T.place before
+            → summary_of self.new ≡ summary T.place (before ++ seen T.kind_of T.word_of option ∷ [])) }
+    {
         self.put(alloc, option)
     }
 }
