@@ -5,4 +5,5 @@ pub mod diab;
 
 mod pass;
 mod place;
+mod reading;
 mod values;

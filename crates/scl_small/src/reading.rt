@@ -7,9 +7,10 @@ ghost use Rattle.scl_small.specs.Readings.{reads};
 
 use crate::pass::Gathered;
 use crate::place::Placed;
-use scl_args::{CutWords, SearchableArgInfo, cut_options, gather_all};
+use scl_args::{ArgParseError, CutWords, SearchableArgInfo, cut_options, gather_all};
 use scl_text::Mem;
 use scl_text::records::{CompilerArguments, ParsedArguments};
+use scl_text::refusal::argument_parse;
 use std::alloc::Global;
 
 /// What the words say, cut by the tables.
@@ -30,7 +31,7 @@ pub(crate) fn read<T: Placed, S: SearchableArgInfo<T> + Drop>(
         Err(refusal) => return Ok(refusal.into_answer()),
     };
     if is_dangling {
-        return Ok(dangling_end(alloc)?.into_answer());
+        return Ok(argument_parse(alloc, &ArgParseError::UnexpectedEndOfArgs)?.into_answer());
     }
     T::test(alloc, gathered)
 }
