@@ -19,3 +19,4 @@ pub mod ResponseFiles
 pub mod Expand
 pub mod ExpansionLaws
 pub mod Remaining
+pub mod Compilers

@@ -2,6 +2,7 @@
 #![tactic(auto)]
 
 pub mod command;
+pub mod compiler;
 mod decode;
 mod diab_text;
 pub mod expand;
@@ -14,6 +15,7 @@ pub mod path;
 pub mod records;
 pub mod view;
 
+pub use compiler::CCompilerImpl;
 pub use decode::{from_local_codepage, marked_files_are_read_back, read_text};
 pub use diab_text::{diab_words_are_read_back, split_diab};
 pub use expand::{
