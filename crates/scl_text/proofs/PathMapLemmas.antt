@@ -117,7 +117,7 @@ module _ {T : Type 0} (path : List ℕ) (entries : List (Entry T)) where
   found zero h = refl
   found (suc n) h =
       elim (slice_get entries n) as (λ o. slice_get entries n ≡ o → GoesOn path entries (suc n) (onto o (shown_up_to entries n)) (this_or (path_hash path) n o (newest_up_to (path_hash path) entries n))) [
-        | None ↦ λ e. carried n (suc n) _ _ (newest_up_to (path_hash path) entries n) (omega arith) refl (found n (omega arith))
+        | None ↦ λ e. carried n (suc n) (shown_up_to entries n) (shown_up_to entries n) (newest_up_to (path_hash path) entries n) (omega arith) refl (found n (omega arith))
         | Some entry ↦ λ e. one_more n entry (newest_up_to (path_hash path) entries n) (omega arith) e (found n (omega arith))
       ] refl
 

@@ -1,4 +1,5 @@
 pub mod Commands
+pub mod Compilers
 pub mod Decoding
 pub mod DiabText
 pub mod Expand

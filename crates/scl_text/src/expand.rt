@@ -50,7 +50,7 @@ mod items;
 mod laws;
 mod response_file;
 
-pub use collected::expand_all;
+pub use collected::{expand_all, expanded};
 pub use items::{ExpandAtArgs, GnuExpand, MsvcExpand};
 pub use laws::{
     absent_files_leave_their_words, each_file_is_open_once, open_files_are_absent_inside,

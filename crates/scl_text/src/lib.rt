@@ -2,6 +2,7 @@
 #![tactic(auto)]
 
 pub mod command;
+pub mod compiler;
 mod decode;
 mod diab_text;
 pub mod expand;
@@ -15,11 +16,12 @@ pub mod records;
 pub mod refusal;
 pub mod view;
 
+pub use compiler::CCompilerImpl;
 pub use decode::{from_local_codepage, marked_files_are_read_back, read_text};
 pub use diab_text::{diab_words_are_read_back, split_diab};
 pub use expand::{
     ExpandAtArgs, ExpansionKind, GnuExpand, MsvcExpand, absent_files_leave_their_words,
-    each_file_is_open_once, expand_all, open_files_are_absent_inside, plain_words_stand,
+    each_file_is_open_once, expand_all, expanded, open_files_are_absent_inside, plain_words_stand,
     unreadable_files_leave_their_words, words_are_expanded_one_by_one,
     words_of_msvc_files_stand,
 };
