@@ -12,7 +12,7 @@ summary_of g = record {
     inputs = words_of g.inputs.items;
     output = path_of g.output;
     depfile = path_of g.depfile;
-    dependency_args = words_of g.dependency_args.items;
-    preprocessor_args = words_of g.preprocessor_args.items;
-    common_args = words_of g.common_args.items;
+    dependency_args = words_of g.lists.dependency.items;
+    preprocessor_args = words_of g.lists.preprocessor.items;
+    common_args = words_of g.lists.common.items;
   }

@@ -3,6 +3,7 @@
 
 pub mod diab;
 
+mod finish;
 mod pass;
 mod place;
 mod reading;

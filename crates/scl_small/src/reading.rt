@@ -5,9 +5,9 @@ ghost use Rattle.scl_args.specs.Words.{words_of};
 ghost use Rattle.scl_text.specs.Records.{outcome_of};
 ghost use Rattle.scl_small.specs.Readings.{reads};
 
-use crate::pass::Gathered;
+use crate::pass::gather;
 use crate::place::Placed;
-use scl_args::{ArgParseError, CutWords, SearchableArgInfo, cut_options, gather_all};
+use scl_args::{ArgParseError, CutWords, SearchableArgInfo, cut_options};
 use scl_text::Mem;
 use scl_text::records::{CompilerArguments, ParsedArguments};
 use scl_text::refusal::argument_parse;
@@ -26,7 +26,7 @@ pub(crate) fn read<T: Placed, S: SearchableArgInfo<T> + Drop>(
         options,
         is_dangling,
     } = cut_options(alloc, words, arg_info, false)?;
-    let gathered = match gather_all(alloc, Gathered::new(alloc), options)? {
+    let gathered = match gather(alloc, options)? {
         Ok(gathered) => gathered,
         Err(refusal) => return Ok(refusal.into_answer()),
     };
