@@ -1,3 +1,4 @@
+pub mod DiabReading
 pub mod DiabTable
 pub mod DiabValues
 pub mod Gathers

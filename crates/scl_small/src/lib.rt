@@ -7,4 +7,5 @@ mod finish;
 mod pass;
 mod place;
 mod reading;
+mod rules;
 mod values;

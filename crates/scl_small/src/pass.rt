@@ -6,6 +6,7 @@ ghost use Rattle.scl_small.specs.Readings.{summary, joined, nothing};
 ghost use Rattle.scl_small.specs.Gathers.{summary_of};
 
 use crate::place::{Place, Placed, place_of, text_of};
+use crate::rules::Rules;
 use scl_args::{Argument, Gather, Mem, gather_all, push_spelled};
 use scl_text::refusal::Refusal;
 use std::alloc::Global;
@@ -64,7 +65,7 @@ impl Gathered {
     }
 }
 
-impl<T: Placed> Gather<T> for Gathered {
+impl<T: Rules> Gather<T> for Gathered {
     ghost use Rattle.std.specs.Option.{option_map};
     ghost use Rattle.scl_text.specs.Refusals.{verdict_of};
     ghost use Rattle.scl_small.specs.Readings.{summary};
@@ -89,7 +90,7 @@ impl<T: Placed> Gather<T> for Gathered {
 }
 
 /// Gathers all options, or gives the refusal of the first that is refused.
-pub(crate) fn gather<T: Placed>(
+pub(crate) fn gather<T: Rules>(
     alloc: Global,
     options: Vec<Argument<T>>,
 ) -> Mem<Result<Gathered, Refusal>>

@@ -1,20 +1,13 @@
-ghost use Rattle.std.specs.Prelude.{◌≡◌, IfOk, Option, Result};
+ghost use Rattle.std.specs.Prelude.{◌≡◌};
 ghost use Rattle.std.specs.Option.{option_map};
-ghost use Rattle.scl_args.specs.Seen.{Seen, seen};
+ghost use Rattle.scl_args.specs.Seen.{seen};
 ghost use Rattle.scl_args.specs.Options.{text_of};
-ghost use Rattle.scl_text.specs.Records.{Parsed, Verdict, outcome_of};
 ghost use Rattle.scl_text.specs.Refusals.{verdict_of};
 ghost use Rattle.scl_small.specs.Places.{place_of, refused_at};
-ghost use Rattle.scl_small.specs.Readings.{Summary};
-ghost use Rattle.scl_small.specs.Gathers.{summary_of};
 ghost use Rattle.scl_small.specs.declared.place.Place.{Place};
 
-use crate::pass::Gathered;
 use scl_args::{Argument, ExactArg};
-use scl_text::Mem;
-use scl_text::records::{CompilerArguments, ParsedArguments};
 use scl_text::refusal::Refusal;
-use std::alloc::Global;
 
 /// Where an option goes, or how it ends the reading (docs/RULES.md, Diab and TaskingVX).
 #[derive(Clone, Copy, Debug, PartialEq, Eq)]
@@ -43,23 +36,11 @@ pub(crate) enum Place {
 pub(crate) trait Placed: ExactArg {
     ghost place: { Self.Kind → Place };
 
-    ghost verdict: { Seen Self.Kind → Option Verdict };
-
-    ghost tested: { Summary → Result Parsed Verdict };
-
     fn place(&self) -> Place
         ensures { result ≡ place (Self.kind_of self.now) };
 
     fn word(&self) -> &[u8]
         ensures { result.now ≡ Self.word_of self.now };
-
-    /// What is said against an option.
-    fn judge(option: &Argument<Self>) -> Option<Refusal>
-        ensures { option_map verdict_of result ≡ verdict (seen Self.kind_of Self.word_of option.now) };
-
-    /// The fixed tests of what all options amount to, and the record.
-    fn test(alloc: Global, gathered: Gathered) -> Mem<CompilerArguments<ParsedArguments>>
-        ensures { IfOk result (λ answer. outcome_of answer ≡ tested (summary_of gathered)) };
 }
 
 /// Where an option goes.

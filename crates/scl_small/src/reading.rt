@@ -6,7 +6,7 @@ ghost use Rattle.scl_text.specs.Records.{outcome_of};
 ghost use Rattle.scl_small.specs.Readings.{reads};
 
 use crate::pass::gather;
-use crate::place::Placed;
+use crate::rules::Rules;
 use scl_args::{ArgParseError, CutWords, SearchableArgInfo, cut_options};
 use scl_text::Mem;
 use scl_text::records::{CompilerArguments, ParsedArguments};
@@ -14,7 +14,7 @@ use scl_text::refusal::argument_parse;
 use std::alloc::Global;
 
 /// What the words say, cut by the tables.
-pub(crate) fn read<T: Placed, S: SearchableArgInfo<T> + Drop>(
+pub(crate) fn read<T: Rules, S: SearchableArgInfo<T> + Drop>(
     alloc: Global,
     words: Vec<Vec<u8>>,
     arg_info: S,

@@ -10,4 +10,4 @@ use Rattle.scl_small.proofs.pass.gather.Goals as goal
 pub returns : goal.returns
 returns g c =
     let options = map (seen g.T.ArgumentValue.kind_of g.T.IntoArg.word_of) c.args.options.items in
-    gathered verdict_of g.T.Placed.verdict (λ (all : Gathered). summary_of all ≡ summary g.T.Placed.place options) options c.gather_all.result c.gather_all.ensures
+    gathered verdict_of g.T.Rules.verdict (λ (all : Gathered). summary_of all ≡ summary g.T.Placed.place options) options c.gather_all.result c.gather_all.ensures
