@@ -1,8 +1,8 @@
 -- Options that go to a place by their kind have a flag.
-use Rattle.std.proofs.Common.{◌≡◌, ℕ, List, Option, None, Some, refl}
+use Rattle.std.proofs.Common.{◌≡◌, ℕ, List, Some, refl}
 use Rattle.scl_args.specs.declared.argument.Argument.{Argument}
 use Rattle.scl_args.specs.declared.argument.Argument.TheVariants as argument
-use Rattle.scl_args.specs.Seen.{Seen, seen}
+use Rattle.scl_args.specs.Seen.{seen}
 use Rattle.scl_args.specs.Spell.{flag_at}
 use Rattle.scl_args.specs.Options.{flag_of}
 use Rattle.scl_small.specs.Places.{place_of}

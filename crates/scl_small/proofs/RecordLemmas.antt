@@ -23,4 +23,4 @@ record_is s flag flag' input input2 input3 object language p b depfile outputs m
     ∙ ap (λ r. filled r depfile outputs s.dependency_args s.preprocessor_args s.common_args) (bare ∙ ap (bare_record input language) same_flag)
     ∙ ap (λ d. filled (bare_record input language flag) d outputs s.dependency_args s.preprocessor_args s.common_args) (dep ∙ ap (dependency_path s.depfile) same3)
     ∙ ap (λ o. filled (bare_record input language flag) (dependency_path s.depfile input) o s.dependency_args s.preprocessor_args s.common_args)
-        (out ∙ ap (λ path. artifact (codes "obj") path false ∷ []) (there ∙ ap (object_path s.output) same2))
+    (out ∙ ap (λ path. artifact (codes "obj") path false ∷ []) (there ∙ ap (object_path s.output) same2))

@@ -1,11 +1,10 @@
 -- What a command line says to Diab.
 use Rattle.std.specs.Prelude.{ℕ, Bool, false, ◌==◌, List, [], ◌∷◌, Option, None, Some, Result, codes, if◌then◌else◌}
-use Rattle.scl_args.specs.declared.argument.ArgDisposition.{ArgDisposition}
 use Rattle.scl_args.specs.declared.argument.ArgDisposition.TheVariants as how
 use Rattle.scl_args.specs.Row.{Row}
 use Rattle.scl_args.specs.Cuts.{cut}
 use Rattle.scl_args.specs.Seen.{Seen, Raw, Unknown, Known}
-use Rattle.scl_args.specs.Options.{or_else, wanted, ◌>>=◌}
+use Rattle.scl_args.specs.Options.{wanted, ◌>>=◌}
 use Rattle.scl_text.specs.Records.{Parsed, Verdict, CannotCache, NotCompilation}
 use Rattle.scl_text.specs.Expand.{expand}
 use Rattle.scl_text.specs.Views.{File}

@@ -1,5 +1,5 @@
 -- Diab's table.
-use Rattle.std.specs.Prelude.{ℕ, List, [], ◌∷◌, Option, None, Some, codes}
+use Rattle.std.specs.Prelude.{ℕ, List, [], ◌∷◌, None, Some, codes}
 use Rattle.scl_args.specs.Row.{Row, Shape, bare, apart, joined, either}
 use Rattle.scl_small.specs.declared.diab.args.Kind.{Kind}
 use Rattle.scl_small.specs.declared.diab.args.Kind.TheVariants as kinds

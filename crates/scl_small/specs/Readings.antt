@@ -26,26 +26,26 @@ pub record Summary : Type 0 where
 -- the summary of no options
 abbrev pub nothing : Summary
 nothing = record {
-    compilation_flag = None;
-    inputs = [];
-    output = None;
-    depfile = None;
-    dependency_args = [];
-    preprocessor_args = [];
-    common_args = [];
-  }
+  compilation_flag = None;
+  inputs = [];
+  output = None;
+  depfile = None;
+  dependency_args = [];
+  preprocessor_args = [];
+  common_args = [];
+}
 
 -- the summary of the options of two lists, one after the other
 abbrev pub joined : Summary → Summary → Summary
 joined a b = record {
-    compilation_flag = or_else b.compilation_flag a.compilation_flag;
-    inputs = a.inputs ++ b.inputs;
-    output = or_else b.output a.output;
-    depfile = or_else b.depfile a.depfile;
-    dependency_args = a.dependency_args ++ b.dependency_args;
-    preprocessor_args = a.preprocessor_args ++ b.preprocessor_args;
-    common_args = a.common_args ++ b.common_args;
-  }
+  compilation_flag = or_else b.compilation_flag a.compilation_flag;
+  inputs = a.inputs ++ b.inputs;
+  output = or_else b.output a.output;
+  depfile = or_else b.depfile a.depfile;
+  dependency_args = a.dependency_args ++ b.dependency_args;
+  preprocessor_args = a.preprocessor_args ++ b.preprocessor_args;
+  common_args = a.common_args ++ b.common_args;
+}
 
 module _ {K : Type 0} (place : K → Place) where
   -- the text of the last option that goes to the place
@@ -58,14 +58,14 @@ module _ {K : Type 0} (place : K → Place) where
 
   abbrev pub summary : List (Seen K) → Summary
   summary os = record {
-      compilation_flag = option_map flag_of (last_by (goes_to place places.CompileFlag) os);
-      inputs = texts (goes_to place places.Input) os;
-      output = last_text places.Output os;
-      depfile = last_text places.DepFile os;
-      dependency_args = list_at places.Dependency os;
-      preprocessor_args = list_at places.Preprocessor os;
-      common_args = list_at places.Common os;
-    }
+    compilation_flag = option_map flag_of (last_by (goes_to place places.CompileFlag) os);
+    inputs = texts (goes_to place places.Input) os;
+    output = last_text places.Output os;
+    depfile = last_text places.DepFile os;
+    dependency_args = list_at places.Dependency os;
+    preprocessor_args = list_at places.Preprocessor os;
+    common_args = list_at places.Common os;
+  }
 
   -- the first verdict in option order, else the dangling end, else the fixed tests
   abbrev pub reads : (Seen K → Option Verdict) → (Summary → Result Parsed Verdict) → Cutting K → Result Parsed Verdict
@@ -88,20 +88,20 @@ dependency_path (Some (byte ∷ path)) input = Some (byte ∷ path)
 -- the record with these files and lists
 abbrev pub filled : Parsed → Option (List ℕ) → List Artifact → List (List ℕ) → List (List ℕ) → List (List ℕ) → Parsed
 filled p depfile outputs dependency preprocessor common = record p {
-    depfile = depfile;
-    outputs = outputs;
-    dependency_args = dependency;
-    preprocessor_args = preprocessor;
-    common_args = common;
-  }
+  depfile = depfile;
+  outputs = outputs;
+  dependency_args = dependency;
+  preprocessor_args = preprocessor;
+  common_args = common;
+}
 
 -- the record of a compilation with the flag, of an input in the language
 abbrev pub record_of : Summary → List ℕ → List ℕ → Language → Parsed
 record_of s flag input language =
     filled (bare_record input language flag)
-      (dependency_path s.depfile input)
-      (artifact (codes "obj") (object_path s.output input) false ∷ [])
-      s.dependency_args s.preprocessor_args s.common_args
+    (dependency_path s.depfile input)
+    (artifact (codes "obj") (object_path s.output input) false ∷ [])
+    s.dependency_args s.preprocessor_args s.common_args
 
 -- the record of a compilation with the flag, where there is one input in a known language
 abbrev pub recorded : Summary → List ℕ → Result Parsed Verdict

@@ -25,11 +25,7 @@ fn object_path(alloc: Global, output: Option<Vec<u8>>, input: &[u8]) -> Mem<Vec<
 }
 
 /// The path of the dependency file, if there is one; an empty one is the input with extension `d`.
-fn dependency_path(
-    alloc: Global,
-    depfile: Option<Vec<u8>>,
-    input: &[u8],
-) -> Mem<Option<Vec<u8>>>
+fn dependency_path(alloc: Global, depfile: Option<Vec<u8>>, input: &[u8]) -> Mem<Option<Vec<u8>>>
     ensures { IfOk result (λ path. path_of path ≡ dependency_path (path_of depfile) input.now) }
 {
     match depfile {

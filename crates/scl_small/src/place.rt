@@ -70,7 +70,9 @@ pub(crate) fn refused_by_place<T: Placed>(option: &Argument<T>) -> Option<Refusa
     ensures { option_map verdict_of result ≡ refused_at T.place (seen T.kind_of T.word_of option.now) }
 {
     match place_of(option) {
-        Place::TooHard => option.flag_str().map(|flag| Refusal::CannotCache(flag, None)),
+        Place::TooHard => option
+            .flag_str()
+            .map(|flag| Refusal::CannotCache(flag, None)),
         Place::NotCompilation => Some(Refusal::NotCompilation),
         _ => None,
     }
