@@ -5,5 +5,6 @@ pub mod IterLemmas
 pub mod OptionLaws
 pub mod OrderLemmas
 pub mod RelationLaws
+pub mod SplitLemmas
 pub mod TablesLemmas
 pub mod WordsLemmas
