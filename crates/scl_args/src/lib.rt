@@ -26,6 +26,6 @@ pub use memory::Mem;
 pub use rows::{FlagTable, Probes, RowStore, RowTable, SearchableArgInfo, looks};
 pub use spell::Iter;
 pub use split::split_os_string_arg;
-pub use strings::{IterStrings, spells_words};
+pub use strings::{IterStrings, prints_one_word_or_two};
 pub use value::{ArgumentValue, ExactArg, FromArg, IntoArg, PathArg};
 pub use words::{CutWords, cut_options, cut_words};

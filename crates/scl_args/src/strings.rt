@@ -1,16 +1,19 @@
-ghost use Rattle.std.specs.Prelude.{◌≡◌, ◌++◌, ◌≤◌, ◌<◌, length, map, true, MatchResult};
+ghost use Rattle.std.specs.Prelude.{◌≡◌, ◌++◌, ◌≤◌, ◌<◌, ℕ, length, map, true, List, MatchResult, Result, String, Vec};
+ghost use Rattle.std.specs.declared.alloc.AllocError.{AllocError};
+ghost use Rattle.std.specs.declared.alloc.Global.{Global};
 ghost use Rattle.std.specs.String.{string_bytes};
 ghost use Rattle.std.specs.Fn.{CalledAt};
-ghost use Rattle.std.specs.Iterator.{item_count};
+ghost use Rattle.std.specs.Iterator.{item_count, Drains};
+ghost use Rattle.scl_args.specs.declared.error.ArgToStringError.{ArgToStringError};
 ghost use Rattle.scl_args.specs.Tables.{is_ascii_or_none};
 ghost use Rattle.scl_args.specs.Seen.{seen};
-ghost use Rattle.scl_args.specs.Spell.{delimited, spelled};
+ghost use Rattle.scl_args.specs.Spell.{delimited, spelled, YieldsWords};
 ghost use Rattle.scl_args.specs.Texts.{bare_text, IsWord, IsWantOfMemory, Prints, PrintsNext, printer, items_shown, word_shown, is_delimited_by_ascii};
 
 use crate::argument::{ArgDisposition, Argument, Delimiter};
 use crate::error::{ArgToStringError, ArgToStringResult};
 use crate::value::{ArgumentValue, text_of_word};
-use std::alloc::Global;
+use std::alloc::{AllocError, Global};
 use std::marker::Model;
 
 impl<T: ArgumentValue> Argument<T> {
@@ -22,7 +25,8 @@ impl<T: ArgumentValue> Argument<T> {
         f: F,
     ) -> IterStrings<'_, T, F>
         requires { is_delimited_by_ascii self.now ≡ true }
-        ensures { result ≡ printer f (seen T.is_path T.word_of self.now) }
+        ensures texts { result ≡ printer f (seen T.is_path T.word_of self.now) }
+        ensures few { (items : List (Result (String Global) ArgToStringError)) → Drains (PrintsNext (CalledAt F.FnMut)) result items → length items ≤ 2 }
     {
         IterStrings {
             alloc,
@@ -134,11 +138,11 @@ impl<'a, T: ArgumentValue, F: FnMut(&[u8]) -> Option<String> + Drop> Iterator
     }
 }
 
-/// An option has one word or two, and its texts are its words, where each path's text is its word.
-pub fn spells_words<T: ArgumentValue>(option: &Argument<T>)
+/// An option prints one word or two, and they are its texts where each path's text is its word (docs/RULES.md, Texts).
+pub fn prints_one_word_or_two<T: ArgumentValue>(option: &Argument<T>)
+    ensures few { (items : List (Result (Vec ℕ Global) AllocError)) → Drains (YieldsWords (λ words. words)) (spelled (seen T.kind_of T.word_of option.now)) items
+        → (0 < length items) × (length items ≤ 2) }
     ensures same { map word_shown (items_shown (seen T.is_path T.word_of option.now)) ≡ spelled (seen T.kind_of T.word_of option.now) }
-    ensures some { 0 < length (spelled (seen T.kind_of T.word_of option.now)) }
-    ensures few { length (spelled (seen T.kind_of T.word_of option.now)) ≤ 2 }
 {
     let _ = option;
 }
