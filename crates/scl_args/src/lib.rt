@@ -23,7 +23,7 @@ pub use gather::{Gather, gather_all};
 pub use iter::ArgsIter;
 pub use lists::{push_spelled, side_of_flag};
 pub use memory::Mem;
-pub use rows::{FlagTable, Probes, RowStore, RowTable, SearchableArgInfo, looks};
+pub use rows::{FlagTable, Probes, RowStore, SearchableArgInfo, looks};
 pub use spell::Iter;
 pub use split::split_os_string_arg;
 pub use strings::{IterStrings, prints_one_word_or_two};
