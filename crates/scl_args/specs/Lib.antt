@@ -12,4 +12,5 @@ pub mod Seen
 pub mod Spell
 pub mod State
 pub mod Tables
+pub mod Texts
 pub mod Words
