@@ -1,2 +1,6 @@
 //! Flag tables, searching, cutting and printing of command line arguments.
 #![tactic(auto)]
+
+mod counted;
+
+pub use counted::Counted;
