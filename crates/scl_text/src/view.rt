@@ -1,0 +1,139 @@
+ghost use Rattle.std.specs.Prelude.{List, OnOk, OnErr, if◌then◌else◌, Some, ◌≡◌, ℕ, ◌∷◌, ◌||◌, true};
+ghost use Rattle.std.specs.Option.{option_copied};
+ghost use Rattle.scl_text.specs.Paths.{same_path};
+ghost use Rattle.scl_text.specs.Words.{words_of};
+ghost use Rattle.scl_text.specs.Views.{empty_view, bytes_at, is_among, is_directory, exists};
+
+use crate::memory::Mem;
+use crate::path::same_path;
+use std::alloc::Global;
+use std::marker::Model;
+
+#[derive(Drop)]
+struct File {
+    path: Vec<u8>,
+    bytes: Vec<u8>,
+}
+
+/// The files, directories and other paths that a command line may ask for, and whether the
+/// compiler makes code for several architectures. Paths are compared by their components
+/// (docs/RULES.md, View).
+#[derive(Drop)]
+pub struct View {
+    files: Vec<File>,
+    directories: Vec<Vec<u8>>,
+    existing: Vec<Vec<u8>>,
+    multiarch: bool,
+}
+
+impl Model for View {
+    ghost use Rattle.std.specs.Prelude.{map};
+    ghost use Rattle.scl_text.specs.Words.{words_of};
+    ghost use Rattle.scl_text.specs.Views.{Viewed};
+
+    ghost Value = { Viewed };
+
+    ghost view = { λ v. record {
+        files = map (λ f. record { path = f.path.items; bytes = f.bytes.items }) v.files.items;
+        directories = words_of v.directories.items;
+        existing = words_of v.existing.items;
+        is_multiarch = v.multiarch } };
+}
+
+fn is_among(paths: &[Vec<u8>], path: &[u8]) -> bool
+    ensures { result ≡ is_among path.now (words_of paths.now) }
+{
+    for other in paths {
+        if same_path(other, path) {
+            return true;
+        }
+    }
+    false
+}
+
+impl View {
+    /// A view of nothing, for one architecture (docs/RULES.md, View).
+    pub fn new(alloc: Global) -> View
+        ensures { result ≡ empty_view }
+    {
+        View {
+            files: Vec::new(alloc),
+            directories: Vec::new(alloc),
+            existing: Vec::new(alloc),
+            multiarch: false,
+        }
+    }
+
+    /// Adds a file, in place of an earlier one at the path. Where memory is refused the view is
+    /// as it was (docs/RULES.md, View).
+    pub fn add_file(&mut self, path: Vec<u8>, bytes: Vec<u8>) -> Mem<()>
+        ensures ok { OnOk result (self.new ≡ record self.old { files = record { path = path.items; bytes = bytes.items } ∷ self.old.files }) }
+        ensures found { OnOk result ((other : List ℕ) → bytes_at other self.new.files ≡ (if same_path path.items other then Some bytes.items else bytes_at other self.old.files)) }
+        ensures err { OnErr result (self.new ≡ self.old) }
+    {
+        self.files.insert(0, File { path, bytes })?;
+        Ok(())
+    }
+
+    /// Adds a directory. Where memory is refused the view is as it was (docs/RULES.md, View).
+    pub fn add_dir(&mut self, path: Vec<u8>) -> Mem<()>
+        ensures ok { OnOk result (self.new ≡ record self.old { directories = path.items ∷ self.old.directories }) }
+        ensures found { OnOk result ((other : List ℕ) → is_directory other self.new ≡ (if same_path path.items other then true else is_directory other self.old)) }
+        ensures err { OnErr result (self.new ≡ self.old) }
+    {
+        self.directories.insert(0, path)?;
+        Ok(())
+    }
+
+    /// Adds a path that exists. Where memory is refused the view is as it was (docs/RULES.md,
+    /// View).
+    pub fn add_existing(&mut self, path: Vec<u8>) -> Mem<()>
+        ensures ok { OnOk result (self.new ≡ record self.old { existing = path.items ∷ self.old.existing }) }
+        ensures found { OnOk result ((other : List ℕ) → exists other self.new ≡ (if same_path path.items other then true else exists other self.old)) }
+        ensures err { OnErr result (self.new ≡ self.old) }
+    {
+        self.existing.insert(0, path)?;
+        Ok(())
+    }
+
+    /// Says whether the compiler makes code for several architectures (docs/RULES.md, View).
+    pub fn set_multiarch(&mut self, multiarch: bool)
+        ensures { self.new ≡ record self.old { is_multiarch = multiarch } }
+    {
+        self.multiarch = multiarch;
+    }
+
+    /// The bytes of the file at the path, if there is one (docs/RULES.md, View).
+    pub fn file(&self, path: &[u8]) -> Option<&[u8]>
+        ensures { option_copied result ≡ bytes_at path.now self.now.files }
+    {
+        for file in &self.files {
+            if same_path(&file.path, path) {
+                return Some(&file.bytes);
+            }
+        }
+        None
+    }
+
+    /// Whether there is a directory at the path (docs/RULES.md, View).
+    pub fn is_dir(&self, path: &[u8]) -> bool
+        ensures { result ≡ is_directory path.now self.now }
+    {
+        is_among(&self.directories, path)
+    }
+
+    /// Whether there is a file or a directory at the path, or it was added as existing
+    /// (docs/RULES.md, View).
+    pub fn exists(&self, path: &[u8]) -> bool
+        ensures { result ≡ exists path.now self.now }
+    {
+        self.file(path).is_some() || self.is_dir(path) || is_among(&self.existing, path)
+    }
+
+    /// Whether the compiler makes code for several architectures (docs/RULES.md, View).
+    pub fn multiarch(&self) -> bool
+        ensures { result ≡ self.now.is_multiarch }
+    {
+        self.multiarch
+    }
+}
