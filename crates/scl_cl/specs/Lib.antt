@@ -1,0 +1,8 @@
+pub mod Lines
+pub mod Fields
+pub mod Compilers
+pub mod Sayings
+pub mod LinesRead
+pub mod Requests
+pub mod Drafts
+pub mod Answers
