@@ -1,2 +1,3 @@
 pub mod CutLaws
 pub mod FieldLaws
+pub mod RequestLaws

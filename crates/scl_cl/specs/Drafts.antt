@@ -7,26 +7,9 @@ use Rattle.scl_text.specs.Views.{Viewed}
 use Rattle.scl_text.specs.Words.{words_of}
 use Rattle.scl_cl.specs.declared.compiler.Compiler.{Compiler}
 use Rattle.scl_cl.specs.declared.draft.Draft.{Draft}
+use Rattle.scl_cl.specs.declared.draft.Request as code
 use Rattle.scl_cl.specs.Sayings.{Said}
-use Rattle.scl_cl.specs.Requests.{compiler_in, directory_in, word_in, variable_in, file_in, viewed_directory_in, path_in, is_multiarch, view_of}
-
--- what lines name, in their order
-pub record Gathered : Type 0 where
-  pub compilers : List Compiler
-  pub directories : List (List ℕ)
-  pub words : List (List ℕ)
-  pub environment : List (List ℕ × List ℕ)
-  pub view : Viewed
-
--- what these lines name
-abbrev pub gathered : List Said → Gathered
-gathered all = record {
-    compilers = flat_map compiler_in all;
-    directories = flat_map directory_in all;
-    words = flat_map word_in all;
-    environment = flat_map variable_in all;
-    view = view_of all;
-  }
+use Rattle.scl_cl.specs.Requests.{compiler_in, directory_in, word_in, variable_in, file_in, viewed_directory_in, path_in, is_multiarch, Gathered, Request}
 
 -- with one more line
 abbrev pub with_line : Gathered → Said → Gathered
@@ -54,4 +37,14 @@ kept_by draft = record {
     words = words_of draft.words.items;
     environment = pairs_of draft.environment.items;
     view = draft.view;
+  }
+
+-- what a finished request asks for
+abbrev pub asked_by : code.Request → Request
+asked_by request = record {
+    compiler = request.compiler;
+    directory = request.directory.items;
+    words = words_of request.words.items;
+    environment = pairs_of request.environment.items;
+    view = request.view;
   }

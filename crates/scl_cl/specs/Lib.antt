@@ -6,3 +6,6 @@ pub mod LinesRead
 pub mod Requests
 pub mod Drafts
 pub mod Answers
+pub mod AnswersGiven
+pub mod Transfers
+pub mod Runs

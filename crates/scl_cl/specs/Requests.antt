@@ -56,50 +56,62 @@ view_of all = record {
     is_multiarch = list_any is_multiarch all;
   }
 
--- the directory that lines name, or the empty path
-abbrev pub directory_of : List (List ℕ) → List ℕ
-directory_of [] = []
-directory_of (directory ∷ _) = directory
+-- what lines name, in their order
+pub record Gathered : Type 0 where
+  pub compilers : List Compiler
+  pub directories : List (List ℕ)
+  pub words : List (List ℕ)
+  pub environment : List (List ℕ × List ℕ)
+  pub view : Viewed
 
-abbrev pub request_for : List Said → Compiler → Request
-request_for all compiler = record {
-    compiler = compiler;
-    directory = directory_of (flat_map directory_in all);
+abbrev pub gathered : List Said → Gathered
+gathered all = record {
+    compilers = flat_map compiler_in all;
+    directories = flat_map directory_in all;
     words = flat_map word_in all;
     environment = flat_map variable_in all;
     view = view_of all;
   }
 
--- the request that lines make, if one of them names a compiler
-abbrev pub request_of : List Said → Option Request
-request_of all = for_first (flat_map compiler_in all) where
-  for_first : List Compiler → Option Request
-  for_first [] = None
-  for_first (compiler ∷ _) = Some (request_for all compiler)
+-- the first, or the empty path
+abbrev pub directory_of : List (List ℕ) → List ℕ
+directory_of [] = []
+directory_of (directory ∷ _) = directory
 
-abbrev pub is_some_list : {A : Type 0} → List A → Bool
-is_some_list [] = false
-is_some_list (_ ∷ _) = true
+abbrev pub request_for : List Compiler → Gathered → Option Request
+request_for [] g = None
+request_for (compiler ∷ _) g = Some (record {
+    compiler = compiler;
+    directory = directory_of g.directories;
+    words = g.words;
+    environment = g.environment;
+    view = g.view;
+  })
 
--- whether a line breaks a rule behind lines that name these compilers and directories: it says nothing, or names what stands once again
-abbrev pub breaks_behind : List Compiler → List (List ℕ) → Option Said → Bool
-breaks_behind compilers directories None = true
-breaks_behind compilers directories (Some (Names _)) = is_some_list compilers
-breaks_behind compilers directories (Some (StandsIn _)) = is_some_list directories
-breaks_behind compilers directories (Some _) = false
+-- the request that what lines name makes, if they name a compiler
+abbrev pub request_of : Gathered → Option Request
+request_of g = request_for g.compilers g
 
--- whether a line breaks a rule behind lines that said this
-abbrev pub breaks : List Said → Option Said → Bool
-breaks earlier line = breaks_behind (flat_map compiler_in earlier) (flat_map directory_in earlier) line
+abbrev pub is_given : {A : Type 0} → List A → Bool
+is_given [] = false
+is_given (_ ∷ _) = true
 
--- the number of the first line that breaks a rule; the first of these has the number n and stands behind lines that said this
+-- whether a line breaks a rule behind lines that name this: it says nothing, or names again what stands once
+abbrev pub breaks : Gathered → Option Said → Bool
+breaks g None = true
+breaks g (Some (Names _)) = is_given g.compilers
+breaks g (Some (StandsIn _)) = is_given g.directories
+breaks g (Some _) = false
+
+-- the number of the first line that breaks a rule; the first of these has the number n and stands behind lines that say this
 abbrev pub first_broken : ℕ → List Said → List (List ℕ) → Option ℕ
 first_broken n earlier [] = None
-first_broken n earlier (line ∷ lines) = if breaks earlier (said line) then Some n else first_broken (n + 1) (earlier ++ option_to_list (said line)) lines
+first_broken n earlier (line ∷ lines) = if breaks (gathered earlier) (said line) then Some n else first_broken (n + 1) (earlier ++ option_to_list (said line)) lines
 
--- the request of the lines, or the number of the bad line: the first that breaks a rule, else the one behind the last where no line names a compiler
+abbrev pub request_unless : Option ℕ → List (List ℕ) → Result Request ℕ
+request_unless (Some n) lines = Err n
+request_unless None lines = ok_or (request_of (gathered (filter_map said lines))) (length lines + 1)
+
+-- the request of the lines, or the number of the bad line: the first that breaks a rule, or else, where none names a compiler, the one behind the last
 abbrev pub request_in : List (List ℕ) → Result Request ℕ
-request_in lines = unless_broken (first_broken 1 [] lines) where
-  unless_broken : Option ℕ → Result Request ℕ
-  unless_broken (Some n) = Err n
-  unless_broken None = ok_or (request_of (filter_map said lines)) (length lines + 1)
+request_in lines = request_unless (first_broken 1 [] lines) lines

@@ -1,14 +1,25 @@
 //! A request while its lines are read.
 ghost use Rattle.std.specs.Prelude.{◌≡◌, OnOk, false, Some, []};
 ghost use Rattle.std.specs.Option.{option_map};
-ghost use Rattle.scl_cl.specs.Requests.{breaks_behind};
-ghost use Rattle.scl_cl.specs.Drafts.{gathered, with_line, kept_by};
+ghost use Rattle.scl_cl.specs.Requests.{breaks, gathered, request_of};
+ghost use Rattle.scl_cl.specs.Drafts.{with_line, kept_by, asked_by};
 ghost use Rattle.scl_cl.specs.LinesRead.{said_by};
 
 use crate::compiler::Compiler;
 use crate::line::Line;
 use scl_text::{Mem, View};
 use std::alloc::Global;
+
+/// What is asked for: a compiler, the directory that it stands in, its words, its environment,
+/// and the files that it may see (docs/RULES.md, Requests).
+#[derive(Drop)]
+pub struct Request {
+    pub compiler: Compiler,
+    pub directory: Vec<u8>,
+    pub words: Vec<Vec<u8>>,
+    pub environment: Vec<(Vec<u8>, Vec<u8>)>,
+    pub view: View,
+}
 
 /// What the lines so far make of a request.
 #[derive(Drop)]
@@ -36,7 +47,7 @@ impl Draft {
 
     /// Whether the line says again what stands once.
     pub fn refuses(&self, line: &Line) -> bool
-        ensures { result ≡ breaks_behind (kept_by self.now).compilers (kept_by self.now).directories (Some (said_by line.now)) }
+        ensures { result ≡ breaks (kept_by self.now) (Some (said_by line.now)) }
     {
         match line {
             Line::Compiler(_) => self.compiler.is_some(),
@@ -47,7 +58,7 @@ impl Draft {
 
     /// Takes what the line says.
     pub fn take(&mut self, line: Line) -> Mem<()>
-        requires { breaks_behind (kept_by self.old).compilers (kept_by self.old).directories (Some (said_by line)) ≡ false }
+        requires { breaks (kept_by self.old) (Some (said_by line)) ≡ false }
         ensures { OnOk result (kept_by self.new ≡ with_line (kept_by self.old) (said_by line)) }
     {
         match line {
@@ -62,5 +73,18 @@ impl Draft {
             Line::Multiarch => self.view.set_multiarch(true),
         }
         Ok(())
+    }
+
+    /// The request, if a line named a compiler.
+    pub fn finish(self, alloc: Global) -> Option<Request>
+        ensures { option_map asked_by result ≡ request_of (kept_by self) }
+    {
+        Some(Request {
+            compiler: self.compiler?,
+            directory: self.directory.unwrap_or(Vec::new(alloc)),
+            words: self.words,
+            environment: self.environment,
+            view: self.view,
+        })
     }
 }

@@ -8,7 +8,7 @@ use scl_text::Mem;
 use std::alloc::Global;
 
 /// Whether the byte stands for itself.
-fn is_plain(byte: u8) -> bool
+pub fn is_plain(byte: u8) -> bool
     ensures { result ≡ is_plain byte }
 {
     0x21 <= byte && byte <= 0x7e && byte != b'\\'

@@ -1,9 +1,16 @@
 //! The request's grammar, the answer's text, and the program over any reader and writer.
 #![tactic(auto)]
 
-pub mod compiler;
-pub mod cut;
-pub mod draft;
-pub mod field;
-pub mod keyword;
-pub mod line;
+mod answer;
+mod compile;
+mod compiler;
+mod cut;
+mod draft;
+mod field;
+mod keyword;
+mod line;
+mod request;
+mod program;
+mod transfer;
+
+pub use program::{Outcome, run};
