@@ -26,6 +26,13 @@ cut_at-other m (x ∷ xs) b h k =
     elim (nat_eq x m) as (λ v. cond v (parts [] xs) (with_first x (cut_at m xs)) ≡ None → cond v (parts [] (xs ++ b ∷ [])) (with_first x (cut_at m (xs ++ b ∷ []))) ≡ None)
       [ true ↦ λ e. cc | false ↦ λ e. ap (with_first x) (cut_at-other m xs b (none_first x _ e) k) ] h
 
+-- bytes without a mark behind bytes without one
+pub cut_at-append : (m : ℕ) (xs ys : List ℕ) → cut_at m xs ≡ None → cut_at m ys ≡ None → cut_at m (xs ++ ys) ≡ None
+cut_at-append m [] ys h k = k
+cut_at-append m (x ∷ xs) ys h k =
+    elim (nat_eq x m) as (λ v. cond v (parts [] xs) (with_first x (cut_at m xs)) ≡ None → cond v (parts [] (xs ++ ys)) (with_first x (cut_at m (xs ++ ys))) ≡ None)
+      [ true ↦ λ e. cc | false ↦ λ e. ap (with_first x) (cut_at-append m xs ys (none_first x _ e) k) ] h
+
 -- the mark at a place before which there is none
 pub cut_at-place : (m : ℕ) (bs : List ℕ) (i : ℕ) → i < length bs → get_or bs i 0 ≡ m → cut_at m (take i bs) ≡ None → cut_at m bs ≡ parts (take i bs) (take (length bs - (i + 1)) (drop (i + 1) bs))
 cut_at-place m bs i h e k =

@@ -9,19 +9,21 @@ pub data Answer : Type 0 where
   cannot_cache : (reason : List ℕ) → Answer
   not_compilation : Answer
 
+-- a text and its LF
 abbrev pub line : List ℕ → List ℕ
 line text = text ++ 10 ∷ []
 
+-- the line of a word
 abbrev pub arg_line : List ℕ → List ℕ
 arg_line word = codes "arg " ++ line (escaped word)
 
-abbrev pub cacheable_line : Bool → List ℕ
-cacheable_line true = line (codes "cacheable yes")
-cacheable_line false = line (codes "cacheable no")
+abbrev pub cacheable_text : Bool → List ℕ
+cacheable_text true = codes "cacheable yes"
+cacheable_text false = codes "cacheable no"
 
 -- the text of an answer, by lines with LF; a reason is not escaped
 abbrev pub text_of : Answer → List ℕ
-text_of (compiled words is_cacheable) = line (codes "ok") ++ flat_map arg_line words ++ cacheable_line is_cacheable
+text_of (compiled words is_cacheable) = line (codes "ok") ++ flat_map arg_line words ++ line (cacheable_text is_cacheable)
 text_of (cannot_cache reason) = codes "cannot-cache " ++ line reason
 text_of not_compilation = line (codes "not-compilation")
 

@@ -36,12 +36,13 @@ abbrev pub both : Option (List ℕ) → Option (List ℕ) → Option (List ℕ �
 both (Some a) (Some b) = Some (a, b)
 both _ _ = None
 
+abbrev pub fields_of : Option (List ℕ × List ℕ) → Option (List ℕ × List ℕ)
+fields_of None = None
+fields_of (Some parts) = both (field_of parts.0) (field_of parts.1)
+
 -- two fields with a tab between them
 abbrev pub two_fields : List ℕ → Option (List ℕ × List ℕ)
-two_fields text = two_parts (cut_at 9 text) where
-  two_parts : Option (List ℕ × List ℕ) → Option (List ℕ × List ℕ)
-  two_parts None = None
-  two_parts (Some parts) = both (field_of parts.0) (field_of parts.1)
+two_fields text = fields_of (cut_at 9 text)
 
 -- a hexadecimal digit of a number below sixteen, a letter in lower case
 abbrev pub digit_of : ℕ → ℕ

@@ -8,4 +8,5 @@ pub mod Drafts
 pub mod Answers
 pub mod AnswersGiven
 pub mod Transfers
+pub mod Written
 pub mod Runs

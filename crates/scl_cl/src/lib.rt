@@ -8,6 +8,7 @@ mod cut;
 mod draft;
 mod field;
 mod keyword;
+pub mod laws;
 mod line;
 mod request;
 mod program;
