@@ -39,12 +39,12 @@ impl<D> Counted<D> {
     {
         self.failed
     }
-}
 
-fn one_more(count: u64) -> u64
-    ensures { result ≡ one_more count }
-{
-    count.saturating_add(1)
+    fn count_failure(&mut self)
+        ensures { self.new ≡ record self.old { failed = one_more self.old.failed } }
+    {
+        self.failed = self.failed.saturating_add(1);
+    }
 }
 
 impl<D: Read> Read for Counted<D> {
@@ -57,7 +57,7 @@ impl<D: Read> Read for Counted<D> {
     {
         let result = self.device.read(buf);
         if result.is_err() {
-            self.failed = one_more(self.failed);
+            self.count_failure();
         }
         result
     }
@@ -77,7 +77,7 @@ impl<D: Write> Write for Counted<D> {
             Err(_) => true,
         };
         if has_failed {
-            self.failed = one_more(self.failed);
+            self.count_failure();
         }
         result
     }
@@ -89,3 +89,6 @@ impl<D: Write> Write for Counted<D> {
         self.device.flush()
     }
 }
+
+#[cfg(test)]
+mod tests;

@@ -15,3 +15,6 @@ mod program;
 mod transfer;
 
 pub use program::{Outcome, run};
+
+#[cfg(test)]
+mod tests;
