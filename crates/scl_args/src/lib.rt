@@ -2,6 +2,7 @@
 #![tactic(auto)]
 
 mod argument;
+mod counted;
 mod error;
 mod gather;
 mod iter;
@@ -18,6 +19,7 @@ mod value;
 mod words;
 
 pub use argument::{ArgDisposition, ArgInfo, ArgRow, Argument, Delimiter, NormalizedDisposition};
+pub use counted::Counted;
 pub use error::{ArgParseError, ArgParseResult, ArgToStringError, ArgToStringResult};
 pub use gather::{Gather, gather_all};
 pub use iter::ArgsIter;
