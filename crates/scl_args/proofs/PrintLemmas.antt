@@ -1,5 +1,5 @@
 -- How many words and texts an option prints.
-use Rattle.std.proofs.Common.{◌≡◌, ℕ, ◌+◌, ◌<◌, ◌≤◌, Bool, List, [], ◌∷◌, length, Option, None, Some, Result, Ok, Err, String, Vec, ap, arith}
+use Rattle.std.proofs.Common.{ℕ, ◌<◌, ◌≤◌, Bool, List, [], ◌∷◌, length, Option, None, Some, Result, Ok, Err, String, Vec, ap, arith}
 use Rattle.std.specs.Iterator.{Drains, Yields}
 use Rattle.std.specs.declared.alloc.AllocError.{AllocError}
 use Rattle.std.specs.declared.alloc.Global.{Global}

@@ -1,5 +1,5 @@
 -- Options as texts: what a value and an option print, and how a text is split.
-use Rattle.std.specs.Prelude.{◌≡◌, ℕ, Bool, true, false, cond, List, [], ◌∷◌, ◌++◌, length, drop, nat_eq, is_ok, Option, None, Some, Result, MatchOption, MatchResult, ◌⊎◌, if◌then◌else◌, String}
+use Rattle.std.specs.Prelude.{◌≡◌, ℕ, Bool, true, false, cond, List, [], ◌∷◌, ◌++◌, length, drop, nat_eq, is_ok, Option, None, Some, Result, MatchResult, ◌⊎◌, if◌then◌else◌, String}
 use Rattle.std.specs.Str.{IsUtf8}
 use Rattle.std.specs.List.{starts_with}
 use Rattle.std.specs.Option.{option_map}

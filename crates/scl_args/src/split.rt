@@ -22,3 +22,6 @@ pub fn split_os_string_arg(
         None => Ok((text, None)),
     }
 }
+
+#[cfg(test)]
+mod tests;

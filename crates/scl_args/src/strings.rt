@@ -112,10 +112,9 @@ impl<'a, T: ArgumentValue, F: FnMut(&[u8]) -> Option<String> + Drop> Iterator
     fn next(&mut self) -> Option<ArgToStringResult> {
         let argument: &Argument<T> = self.argument;
         let text = match (argument, self.given) {
-            (Argument::Raw(word) | Argument::UnknownFlag(word), 0) => text_of_word(
-                self.alloc,
-                word.as_slice(),
-            ),
+            (Argument::Raw(word) | Argument::UnknownFlag(word), 0) => {
+                text_of_word(self.alloc, word)
+            }
             (Argument::Flag(flag, _), 0) => text_of_flag(self.alloc, flag),
             (Argument::WithValue(flag, value, disposition), given) => match (*disposition, given) {
                 (ArgDisposition::Separated | ArgDisposition::CanBeConcatenated(_), 0) => {
@@ -146,3 +145,6 @@ pub fn prints_one_word_or_two<T: ArgumentValue>(option: &Argument<T>)
 {
     let _ = option;
 }
+
+#[cfg(test)]
+mod tests;

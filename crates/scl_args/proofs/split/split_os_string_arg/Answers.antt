@@ -1,5 +1,5 @@
 -- The parts are those of the search in the text, whose bytes are the word's.
-use Rattle.std.proofs.Common.{◌≡◌, sym, ap, subst, ◌∙◌, ℕ, List, Some}
+use Rattle.std.proofs.Common.{sym, ap, subst, ◌∙◌, ℕ, List, Some}
 use Rattle.std.specs.Str.{IsUtf8}
 use Rattle.std.proofs.lemmas.Str.{IsUtf8-string_bytes}
 use Rattle.scl_args.specs.Texts.{before_text, after_text}
