@@ -5,6 +5,8 @@ pub mod HoldsLemmas
 pub mod IterLemmas
 pub mod OptionLaws
 pub mod OrderLemmas
+pub mod PrintLemmas
 pub mod RelationLaws
+pub mod SplitLemmas
 pub mod TablesLemmas
 pub mod WordsLemmas

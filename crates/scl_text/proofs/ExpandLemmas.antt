@@ -60,7 +60,6 @@ unfolding expand
 expand-nil kind directory [] = refl
 expand-nil kind directory (f ∷ fs) = refl
 
-
 pub expand-no_files : (kind : ExpansionKind) (directory : List ℕ) (words : List (List ℕ)) → expand kind directory [] words ≡ words
 unfolding expand
 expand-no_files kind directory words = refl

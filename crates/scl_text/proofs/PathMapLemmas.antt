@@ -62,14 +62,14 @@ module _ {T : Type 0} (entries : List (Entry T)) (entry : Entry T) (newest after
       → ((hash : ℕ) → get nat_cmp after hash ≡ cond (is_eq (nat_cmp (path_hash entry.path.items) hash)) (Some (length entries)) (get nat_cmp newest hash)) → IsLinked (entries ++ entry ∷ []) after
   linked-push linked leads put =
       let older : (k : ℕ) (other : Entry T) → slice_get (entries ++ entry ∷ []) k ≡ Some other → other.older ≡ newest_up_to (path_hash other.path.items) (entries ++ entry ∷ []) k
-          = λ k other h.
-          let lt = slice_get_within (entries ++ entry ∷ []) k other h in
-          elim (cases_lt k (length entries)) as (λ _. other.older ≡ newest_up_to (path_hash other.path.items) (entries ++ entry ∷ []) k) [
-            | inl below ↦ older-before k other linked below h
-            | inr above ↦ older-last k other leads (omega (arith, lt, length-push entries entry)) h
-          ] in
+      = λ k other h.
+      let lt = slice_get_within (entries ++ entry ∷ []) k other h in
+      elim (cases_lt k (length entries)) as (λ _. other.older ≡ newest_up_to (path_hash other.path.items) (entries ++ entry ∷ []) k) [
+        | inl below ↦ older-before k other linked below h
+        | inr above ↦ older-last k other leads (omega (arith, lt, length-push entries entry)) h
+      ] in
       let first : (hash : ℕ) → get nat_cmp after hash ≡ newest_up_to hash (entries ++ entry ∷ []) (length (entries ++ entry ∷ []))
-          = λ hash. put hash ∙ rw (is_eq-nat_cmp (path_hash entry.path.items) hash, linked.first hash) (sym (newest-push entries entry hash)) in
+      = λ hash. put hash ∙ rw (is_eq-nat_cmp (path_hash entry.path.items) hash, linked.first hash) (sym (newest-push entries entry hash)) in
       record { older = older; first = first }
 
 -- ---- a look-up
@@ -107,7 +107,7 @@ module _ {T : Type 0} (path : List ℕ) (entries : List (Entry T)) where
       elim (path_hash entry.path.items == path_hash path) as (λ b. (path_hash entry.path.items == path_hash path) ≡ b → GoesOn path entries (suc n) ((entry.path.items, entry.value) ∷ shown_up_to entries n) (cond b (Some n) rest)) [
         | true ↦ λ e.
             let hash : (other : Entry T) → slice_get entries n ≡ Some other → path_hash other.path.items ≡ path_hash path
-                = λ other h. let same : entry ≡ other = cc in rw (← same) (eqb-true (path_hash entry.path.items) (path_hash path) e) in
+            = λ other h. let same : entry ≡ other = cc in rw (← same) (eqb-true (path_hash entry.path.items) (path_hash path) e) in
             let here : IsPlace path entries n = record { inside = lt; hash = hash } in
             (here, omega arith, rw is refl)
         | false ↦ λ e. carried n (suc n) (shown_up_to entries n) ((entry.path.items, entry.value) ∷ shown_up_to entries n) rest (omega arith) (rw (apart_by_hash entry.path.items path e) refl) g

@@ -133,4 +133,3 @@ module _ (kind : ExpansionKind) (directory : List ℕ) (files : List File) where
 
 pub steps_by : (a b : List (List ℕ)) (n m : ℕ) (r : Step) (t : Expansion) → a ≡ b → n ≡ m → StepsFrom b m r t → StepsFrom a n r t
 steps_by a b n m r t e f h = rw (e, f) h
-

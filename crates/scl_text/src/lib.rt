@@ -22,8 +22,7 @@ pub use diab_text::{diab_words_are_read_back, split_diab};
 pub use expand::{
     ExpandAtArgs, ExpansionKind, GnuExpand, MsvcExpand, absent_files_leave_their_words,
     each_file_is_open_once, expand_all, expanded, open_files_are_absent_inside, plain_words_stand,
-    unreadable_files_leave_their_words, words_are_expanded_one_by_one,
-    words_of_msvc_files_stand,
+    unreadable_files_leave_their_words, words_are_expanded_one_by_one, words_of_msvc_files_stand,
 };
 pub use gnu_text::{
     gnu_arguments_are_nonempty, gnu_escaped_words_are_read_back, gnu_quoted_words_are_read_back,

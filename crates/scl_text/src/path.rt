@@ -246,3 +246,6 @@ pub fn same_path(a: &[u8], b: &[u8]) -> bool
     }
     others.next().is_none()
 }
+
+#[cfg(test)]
+mod tests;

@@ -25,16 +25,16 @@ pub struct View {
 
 impl Model for View {
     ghost use Rattle.scl_text.specs.Views.{Viewed, file_of, path_of};
-
     ghost use Rattle.std.specs.Prelude.{map};
 
     ghost Value = { Viewed };
 
     ghost view = { λ v. record {
-        files = map file_of v.files;
-        directories = map path_of v.directories;
-        existing = map path_of v.existing;
-        is_multiarch = v.multiarch } };
+      files = map file_of v.files;
+      directories = map path_of v.directories;
+      existing = map path_of v.existing;
+      is_multiarch = v.multiarch;
+    } };
 }
 
 impl View {
@@ -124,3 +124,6 @@ impl View {
         self.multiarch
     }
 }
+
+#[cfg(test)]
+mod tests;

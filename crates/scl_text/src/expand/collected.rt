@@ -34,9 +34,7 @@ pub fn expand_all(
 fn names_files(kind: ExpansionKind, words: &[Vec<u8>]) -> bool
     ensures { result ≡ list_any (λ word. is_some (file_name_in kind word.items)) words.now }
 {
-    words
-        .iter()
-        .any(|word| file_name_in(kind, word).is_some())
+    words.iter().any(|word| file_name_in(kind, word).is_some())
 }
 
 /// The same words as those of `expand_all`, borrowed where no word names a file, which takes no

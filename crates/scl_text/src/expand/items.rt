@@ -95,12 +95,7 @@ impl<'a> Model for GnuExpand<'a> {
 
 impl<'a> GnuExpand<'a> {
     /// An expansion that has not begun; it takes no memory yet (docs/RULES.md, Expansion).
-    pub fn new(
-        alloc: Global,
-        cwd: &'a [u8],
-        words: &'a [Vec<u8>],
-        view: &'a View,
-    ) -> GnuExpand<'a>
+    pub fn new(alloc: Global, cwd: &'a [u8], words: &'a [Vec<u8>], view: &'a View) -> GnuExpand<'a>
         ensures { result ≡ record { words = expand ExpansionKind.Gnu cwd.now view.now.files (words_of words.now); ended = false } }
     {
         GnuExpand {
@@ -138,12 +133,7 @@ impl<'a> Model for MsvcExpand<'a> {
 
 impl<'a> MsvcExpand<'a> {
     /// An expansion that has not begun; it takes no memory yet (docs/RULES.md, Expansion).
-    pub fn new(
-        alloc: Global,
-        cwd: &'a [u8],
-        words: &'a [Vec<u8>],
-        view: &'a View,
-    ) -> MsvcExpand<'a>
+    pub fn new(alloc: Global, cwd: &'a [u8], words: &'a [Vec<u8>], view: &'a View) -> MsvcExpand<'a>
         ensures { result ≡ record { words = expand ExpansionKind.Msvc cwd.now view.now.files (words_of words.now); ended = false } }
     {
         MsvcExpand {

@@ -1,5 +1,4 @@
 use Rattle.std.proofs.Common.{◌≡◌, Some, None, refl}
-
 use Rattle.scl_text.specs.PathMaps.{value_at}
 use Rattle.scl_text.proofs.ViewLemmas.{bytes_at_lem}
 use Rattle.scl_text.proofs.view.View.file.Goals as goal

@@ -11,7 +11,7 @@ pub loop-place-init : goal.loop-place-init
 loop-place-init g c =
     let hash : c.path_hash.result ≡ path_hash c.args.path.now = c.path_hash.ensures in
     let place : c.copied-place.result ≡ newest_up_to (path_hash c.args.path.now) c.self.inside.entries.items (length c.self.inside.entries.items)
-        = c.copied-place.ensures ∙ c.get.ensures.value ∙ c.self.invariant.first c.path_hash.result ∙ rw hash refl in
+    = c.copied-place.ensures ∙ c.get.ensures.value ∙ c.self.invariant.first c.path_hash.result ∙ rw hash refl in
     rw place (found c.args.path.now c.self.inside.entries.items (length c.self.inside.entries.items) (omega arith))
 
 pub returns-then-same_path : goal.returns-then-same_path
