@@ -5,7 +5,7 @@ ghost use Rattle.scl_gnu.specs.GccRows.{gcc_rows};
 use super::data::{ArgData, Kind};
 use scl_args::ArgDisposition::{CanBeSeparated, Concatenated, Separated};
 use scl_args::ArgRow::{Flag, TakeArg};
-use scl_args::{ArgInfo, FlagTable, RowTable};
+use scl_args::{ArgInfo, FlagTable};
 
 /// The flag of an option that names an architecture.
 pub const ARCH_FLAG: &str = "-arch";
@@ -104,5 +104,5 @@ pub static ARGS: [ArgInfo<ArgData>; 86] = [
 pub fn table() -> FlagTable<'static, ArgData>
     ensures { result ≡ gcc_rows }
 {
-    RowTable::new(&ARGS).unwrap()
+    FlagTable::new(&ARGS).unwrap()
 }
