@@ -1,40 +1,92 @@
 -- The languages of source files, by extension and by the texts of `-x`.
-use Rattle.std.specs.Prelude.{ℕ, Bool, true, false, List, [], ◌∷◌, Option, Some, None, codes, find}
-use Rattle.std.specs.List.{list_any}
+use Rattle.std.specs.Prelude.{ℕ, Bool, true, false, List, [], ◌∷◌, Option, Some, None, codes, map, if◌then◌else◌}
+use Rattle.std.specs.Borrow.{Bor}
+use Prim.Native.String.{String}
 use Rattle.std.specs.Str.{bytes_eq}
-use Rattle.std.specs.Option.{option_map, option_and_then}
+use Rattle.std.specs.Option.{option_and_then}
 use Rattle.scl_text.specs.declared.language.Language.{Language}
 use Rattle.scl_text.specs.declared.language.Language.TheVariants as languages
+use Rattle.scl_text.specs.Paths.{extension}
 
--- a language and the texts that stand for it
-pub record TextsRow : Type 0 where
-  pub texts : List (List ℕ)
+-- a text and the language that it names
+pub record Named : Type 0 where
+  pub text : List ℕ
   pub language : Language
 
--- the language in whose row the text stands
-abbrev pub language_in : List TextsRow → List ℕ → Option Language
-language_in [] text = None
-language_in (row ∷ rows) text = elim (list_any (bytes_eq text) row.texts) [ true ↦ Some row.language | false ↦ language_in rows text ]
+abbrev pub named : String → Language → Named
+named text language = record { text = codes text; language = language }
 
--- a language and the extensions of its files, between spaces
-abbrev pub extensions : List TextsRow
+abbrev pub rows_of : List (Bor (List ℕ) × Language) → List Named
+rows_of rows = map (λ row. record { text = row.0.now; language = row.1 }) rows
+
+-- the language that the text names in a table
+abbrev pub language_named : List Named → List ℕ → Option Language
+language_named [] text = None
+language_named (row ∷ rows) text = if bytes_eq row.text text then Some row.language else language_named rows text
+
+-- the extensions of files and their languages
+abbrev pub extensions : List Named
 extensions =
-    record { texts = codes "s" ∷ []; language = languages.Assembler }
-    ∷ record { texts = codes "S" ∷ codes "sx" ∷ []; language = languages.AssemblerToPreprocess }
-    ∷ record { texts = codes "c" ∷ []; language = languages.C }
-    ∷ record { texts = codes "h" ∷ []; language = languages.GenericHeader }
-    ∷ record { texts = codes "C" ∷ codes "cc" ∷ codes "cp" ∷ codes "cpp" ∷ codes "CPP" ∷ codes "cxx" ∷ codes "c++" ∷ []; language = languages.Cxx }
-    ∷ record { texts = codes "H" ∷ codes "hh" ∷ codes "hp" ∷ codes "hpp" ∷ codes "HPP" ∷ codes "hxx" ∷ codes "h++" ∷ codes "tcc" ∷ []; language = languages.CxxHeader }
-    ∷ record { texts = codes "cppm" ∷ codes "ccm" ∷ codes "cxxm" ∷ codes "c++m" ∷ []; language = languages.CxxModule }
-    ∷ record { texts = codes "m" ∷ []; language = languages.ObjectiveC }
-    ∷ record { texts = codes "M" ∷ codes "mm" ∷ []; language = languages.ObjectiveCxx }
-    ∷ record { texts = codes "cu" ∷ []; language = languages.Cuda }
-    ∷ record { texts = codes "rs" ∷ []; language = languages.Rust }
-    ∷ record { texts = codes "hip" ∷ []; language = languages.Hip }
+    named "s" languages.Assembler
+    ∷ named "S" languages.AssemblerToPreprocess
+    ∷ named "sx" languages.AssemblerToPreprocess
+    ∷ named "c" languages.C
+    ∷ named "h" languages.GenericHeader
+    ∷ named "C" languages.Cxx
+    ∷ named "cc" languages.Cxx
+    ∷ named "cp" languages.Cxx
+    ∷ named "cpp" languages.Cxx
+    ∷ named "CPP" languages.Cxx
+    ∷ named "cxx" languages.Cxx
+    ∷ named "c++" languages.Cxx
+    ∷ named "H" languages.CxxHeader
+    ∷ named "hh" languages.CxxHeader
+    ∷ named "hp" languages.CxxHeader
+    ∷ named "hpp" languages.CxxHeader
+    ∷ named "HPP" languages.CxxHeader
+    ∷ named "hxx" languages.CxxHeader
+    ∷ named "h++" languages.CxxHeader
+    ∷ named "tcc" languages.CxxHeader
+    ∷ named "cppm" languages.CxxModule
+    ∷ named "ccm" languages.CxxModule
+    ∷ named "cxxm" languages.CxxModule
+    ∷ named "c++m" languages.CxxModule
+    ∷ named "m" languages.ObjectiveC
+    ∷ named "M" languages.ObjectiveCxx
+    ∷ named "mm" languages.ObjectiveCxx
+    ∷ named "cu" languages.Cuda
+    ∷ named "rs" languages.Rust
+    ∷ named "hip" languages.Hip
     ∷ []
 
 abbrev pub language_of_extension : List ℕ → Option Language
-language_of_extension extension = language_in extensions extension
+language_of_extension extension = language_named extensions extension
+
+abbrev pub language_of_file_name : List ℕ → Option Language
+language_of_file_name path = option_and_then language_of_extension (extension path)
+
+-- the texts that are read behind -x
+abbrev pub read_texts : List Named
+read_texts =
+    named "assembler" languages.Assembler
+    ∷ named "assembler-with-cpp" languages.AssemblerToPreprocess
+    ∷ named "c" languages.C
+    ∷ named "c-header" languages.CHeader
+    ∷ named "c++" languages.Cxx
+    ∷ named "c++-header" languages.CxxHeader
+    ∷ named "c++-module" languages.CxxModule
+    ∷ named "objective-c" languages.ObjectiveC
+    ∷ named "objective-c-header" languages.ObjectiveCHeader
+    ∷ named "objective-c++" languages.ObjectiveCxx
+    ∷ named "objective-c++-header" languages.ObjectiveCxxHeader
+    ∷ named "cu" languages.Cuda
+    ∷ named "cuda" languages.Cuda
+    ∷ named "rs" languages.Rust
+    ∷ named "hip" languages.Hip
+    ∷ []
+
+abbrev pub language_of_gcc_text : List ℕ → Option Language
+language_of_gcc_text text = language_named read_texts text
 
 -- the text that gcc's -x takes
 abbrev pub gcc_text : Language → Option (List ℕ)

@@ -1,5 +1,6 @@
 pub mod Commands
 pub mod Languages
+pub mod Paths
 pub mod Outputs
 pub mod Records
 pub mod Refusals

@@ -1,5 +1,6 @@
 -- The outputs of a compilation, in the order of their names.
-use Rattle.std.specs.Prelude.{ℕ, Bool, List, [], ◌∷◌, Option, Some, None}
+use Rattle.std.specs.Prelude.{ℕ, List, [], ◌∷◌, Option, Some, None, if◌then◌else◌}
+use Rattle.std.specs.Str.{bytes_eq}
 use Rattle.std.specs.Ordering.{nat_cmp, match_ordering}
 use Rattle.std.specs.Cmp.Lexicographic.{slice_cmp}
 use Rattle.scl_text.specs.Records.{Artifact}
@@ -12,4 +13,4 @@ put_output (b ∷ bs) a = match_ordering (slice_cmp nat_cmp a.name b.name) (a �
 -- the path of the output of this name
 abbrev pub path_at : List Artifact → List ℕ → Option (List ℕ)
 path_at [] name = None
-path_at (a ∷ rest) name = match_ordering (slice_cmp nat_cmp name a.name) None (Some a.path) (path_at rest name)
+path_at (a ∷ rest) name = if bytes_eq name a.name then Some a.path else path_at rest name

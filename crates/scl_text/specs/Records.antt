@@ -1,5 +1,5 @@
 -- The records as contracts see them, apart from how the code keeps them.
-use Rattle.std.specs.Prelude.{ℕ, Bool, true, false, not, List, [], ◌∷◌, Option, Some, None, map, filter, Result, Ok, Err, string_bytes, String, Vec}
+use Rattle.std.specs.Prelude.{ℕ, Bool, false, not, List, [], ◌∷◌, Option, None, map, filter, Result, Ok, Err, string_bytes, String, Vec}
 use Rattle.std.specs.Option.{option_map}
 use Rattle.std.specs.Str.{bytes_eq}
 use Rattle.std.specs.BTreeMap.{BTreeMap}
@@ -18,6 +18,9 @@ pub record Artifact : Type 0 where
   pub name : List ℕ
   pub path : List ℕ
   pub optional : Bool
+
+abbrev pub artifact : List ℕ → List ℕ → Bool → Artifact
+artifact name path optional = record { name = name; path = path; optional = optional }
 
 -- a command line as it was read; the outputs stand in the order of their names
 pub record Parsed : Type 0 where
@@ -45,27 +48,27 @@ pub record Parsed : Type 0 where
 -- a record in which all but the input, its language and the compile flag is empty, no or `Auto`
 abbrev pub bare_record : List ℕ → Language → List ℕ → Parsed
 bare_record input language compilation_flag = record {
-    input = input;
-    double_dash_input = false;
-    language = language;
-    compilation_flag = compilation_flag;
-    depfile = None;
-    outputs = [];
-    dependency_args = [];
-    preprocessor_args = [];
-    common_args = [];
-    arch_args = [];
-    unhashed_args = [];
-    extra_dist_files = [];
-    extra_hash_files = [];
-    uses_external_assembler = false;
-    msvc_show_includes = false;
-    msvc_explicit_language = false;
-    profile_generate = false;
-    color_mode = colors.Auto;
-    suppress_rewrite_includes_only = false;
-    too_hard_for_preprocessor_cache_mode = None;
-  }
+  input = input;
+  double_dash_input = false;
+  language = language;
+  compilation_flag = compilation_flag;
+  depfile = None;
+  outputs = [];
+  dependency_args = [];
+  preprocessor_args = [];
+  common_args = [];
+  arch_args = [];
+  unhashed_args = [];
+  extra_dist_files = [];
+  extra_hash_files = [];
+  uses_external_assembler = false;
+  msvc_show_includes = false;
+  msvc_explicit_language = false;
+  profile_generate = false;
+  color_mode = colors.Auto;
+  suppress_rewrite_includes_only = false;
+  too_hard_for_preprocessor_cache_mode = None;
+}
 
 -- why a command line is not read: it can't be cached, for this reason, or it is no compilation
 pub data Verdict : Type 0 where
@@ -77,7 +80,7 @@ abbrev pub path_of : Option (Vec ℕ Global) → Option (List ℕ)
 path_of path = option_map (λ bytes. bytes.items) path
 
 abbrev pub artifact_of : (String Global × ArtifactDescriptor) → Artifact
-artifact_of entry = record { name = string_bytes entry.0; path = entry.1.path.items; optional = entry.1.optional }
+artifact_of entry = artifact (string_bytes entry.0) entry.1.path.items entry.1.optional
 
 -- the outputs in a map, in the order of their names
 abbrev pub artifacts : BTreeMap (String Global) ArtifactDescriptor → List Artifact
@@ -86,27 +89,27 @@ artifacts outputs = map artifact_of outputs.entries
 -- what the code's record holds
 abbrev pub parsed_of : ParsedArguments → Parsed
 parsed_of p = record {
-    input = p.input.items;
-    double_dash_input = p.double_dash_input;
-    language = p.language;
-    compilation_flag = p.compilation_flag.items;
-    depfile = path_of p.depfile;
-    outputs = artifacts p.outputs;
-    dependency_args = words_of p.dependency_args.items;
-    preprocessor_args = words_of p.preprocessor_args.items;
-    common_args = words_of p.common_args.items;
-    arch_args = words_of p.arch_args.items;
-    unhashed_args = words_of p.unhashed_args.items;
-    extra_dist_files = words_of p.extra_dist_files.items;
-    extra_hash_files = words_of p.extra_hash_files.items;
-    uses_external_assembler = p.uses_external_assembler;
-    msvc_show_includes = p.msvc_show_includes;
-    msvc_explicit_language = p.msvc_explicit_language;
-    profile_generate = p.profile_generate;
-    color_mode = p.color_mode;
-    suppress_rewrite_includes_only = p.suppress_rewrite_includes_only;
-    too_hard_for_preprocessor_cache_mode = path_of p.too_hard_for_preprocessor_cache_mode;
-  }
+  input = p.input.items;
+  double_dash_input = p.double_dash_input;
+  language = p.language;
+  compilation_flag = p.compilation_flag.items;
+  depfile = path_of p.depfile;
+  outputs = artifacts p.outputs;
+  dependency_args = words_of p.dependency_args.items;
+  preprocessor_args = words_of p.preprocessor_args.items;
+  common_args = words_of p.common_args.items;
+  arch_args = words_of p.arch_args.items;
+  unhashed_args = words_of p.unhashed_args.items;
+  extra_dist_files = words_of p.extra_dist_files.items;
+  extra_hash_files = words_of p.extra_hash_files.items;
+  uses_external_assembler = p.uses_external_assembler;
+  msvc_show_includes = p.msvc_show_includes;
+  msvc_explicit_language = p.msvc_explicit_language;
+  profile_generate = p.profile_generate;
+  color_mode = p.color_mode;
+  suppress_rewrite_includes_only = p.suppress_rewrite_includes_only;
+  too_hard_for_preprocessor_cache_mode = path_of p.too_hard_for_preprocessor_cache_mode;
+}
 
 -- the outcome that an answer stands for; the text beside a reason is left out
 abbrev pub outcome_of : CompilerArguments ParsedArguments → Result Parsed Verdict

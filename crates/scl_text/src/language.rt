@@ -1,7 +1,9 @@
 //! The languages of source files, by extension and by the texts of `-x`.
-ghost use Rattle.std.specs.Prelude.{◌≡◌, Option};
+ghost use Rattle.std.specs.Prelude.{◌≡◌, IfSome, Some};
 ghost use Rattle.std.specs.Option.{option_copied};
-ghost use Rattle.scl_text.specs.Languages.{clang_text, gcc_text, language_of_extension, needs_c_preprocessing};
+ghost use Rattle.scl_text.specs.Languages.{clang_text, gcc_text, language_of_file_name, language_of_gcc_text, language_named, rows_of, needs_c_preprocessing};
+
+use crate::path::extension;
 
 /// A language of source files (docs/RULES.md, Languages).
 #[derive(Debug, Clone, Copy, PartialEq, Eq)]
@@ -23,28 +25,84 @@ pub enum Language {
     Hip,
 }
 
-impl Language {
-    /// The language of files with this extension, to the letter (docs/RULES.md, Languages).
-    pub fn from_extension(extension: &[u8]) -> Option<Language>
-        ensures { result ≡ language_of_extension extension.now }
-    {
-        match extension {
-            b"s" => Some(Language::Assembler),
-            b"S" | b"sx" => Some(Language::AssemblerToPreprocess),
-            b"c" => Some(Language::C),
-            b"h" => Some(Language::GenericHeader),
-            b"C" | b"cc" | b"cp" | b"cpp" | b"CPP" | b"cxx" | b"c++" => Some(Language::Cxx),
-            b"H" | b"hh" | b"hp" | b"hpp" | b"HPP" | b"hxx" | b"h++" | b"tcc" => {
-                Some(Language::CxxHeader)
-            }
-            b"cppm" | b"ccm" | b"cxxm" | b"c++m" => Some(Language::CxxModule),
-            b"m" => Some(Language::ObjectiveC),
-            b"M" | b"mm" => Some(Language::ObjectiveCxx),
-            b"cu" => Some(Language::Cuda),
-            b"rs" => Some(Language::Rust),
-            b"hip" => Some(Language::Hip),
-            _ => None,
+/// The extensions of files and their languages.
+static EXTENSIONS: [(&'static str, Language); 30] = [
+    ("s", Language::Assembler),
+    ("S", Language::AssemblerToPreprocess),
+    ("sx", Language::AssemblerToPreprocess),
+    ("c", Language::C),
+    ("h", Language::GenericHeader),
+    ("C", Language::Cxx),
+    ("cc", Language::Cxx),
+    ("cp", Language::Cxx),
+    ("cpp", Language::Cxx),
+    ("CPP", Language::Cxx),
+    ("cxx", Language::Cxx),
+    ("c++", Language::Cxx),
+    ("H", Language::CxxHeader),
+    ("hh", Language::CxxHeader),
+    ("hp", Language::CxxHeader),
+    ("hpp", Language::CxxHeader),
+    ("HPP", Language::CxxHeader),
+    ("hxx", Language::CxxHeader),
+    ("h++", Language::CxxHeader),
+    ("tcc", Language::CxxHeader),
+    ("cppm", Language::CxxModule),
+    ("ccm", Language::CxxModule),
+    ("cxxm", Language::CxxModule),
+    ("c++m", Language::CxxModule),
+    ("m", Language::ObjectiveC),
+    ("M", Language::ObjectiveCxx),
+    ("mm", Language::ObjectiveCxx),
+    ("cu", Language::Cuda),
+    ("rs", Language::Rust),
+    ("hip", Language::Hip),
+];
+
+/// The texts that are read behind `-x`.
+static READ_TEXTS: [(&'static str, Language); 15] = [
+    ("assembler", Language::Assembler),
+    ("assembler-with-cpp", Language::AssemblerToPreprocess),
+    ("c", Language::C),
+    ("c-header", Language::CHeader),
+    ("c++", Language::Cxx),
+    ("c++-header", Language::CxxHeader),
+    ("c++-module", Language::CxxModule),
+    ("objective-c", Language::ObjectiveC),
+    ("objective-c-header", Language::ObjectiveCHeader),
+    ("objective-c++", Language::ObjectiveCxx),
+    ("objective-c++-header", Language::ObjectiveCxxHeader),
+    ("cu", Language::Cuda),
+    ("cuda", Language::Cuda),
+    ("rs", Language::Rust),
+    ("hip", Language::Hip),
+];
+
+fn language_named(rows: &[(&'static str, Language)], text: &[u8]) -> Option<Language>
+    ensures { result ≡ language_named (rows_of rows.now) text.now }
+{
+    for (name, language) in rows {
+        if name.as_bytes() == text {
+            return Some(*language);
         }
+    }
+    None
+}
+
+impl Language {
+    /// The language of a file, by the extension of its name (docs/RULES.md, Languages).
+    pub fn from_file_name(path: &[u8]) -> Option<Language>
+        ensures { result ≡ language_of_file_name path.now }
+    {
+        language_named(&EXTENSIONS, extension(path)?)
+    }
+
+    /// The language that a text behind `-x` names: a text that gcc or clang is given, or `rs`
+    /// (docs/RULES.md, Languages).
+    pub fn from_gcc_arg(text: &[u8]) -> Option<Language>
+        ensures { result ≡ language_of_gcc_text text.now }
+    {
+        language_named(&READ_TEXTS, text)
     }
 
     /// The text that gcc's `-x` takes for the language, if there is one (docs/RULES.md, Languages).
@@ -87,3 +145,9 @@ impl Language {
         !matches!(self, Language::Assembler | Language::Rust)
     }
 }
+
+/// Every text that gcc or clang is given for a language is read back as that language.
+pub fn texts_are_read_back(_language: Language)
+    ensures gcc { IfSome (gcc_text _language) (λ text. language_of_gcc_text text ≡ Some _language) }
+    ensures clang { IfSome (clang_text _language) (λ text. language_of_gcc_text text ≡ Some _language) }
+{}

@@ -1,0 +1,3 @@
+pub mod ArchLemmas
+pub mod OutputLemmas
+pub mod PathLemmas

@@ -1,0 +1,58 @@
+//! What every builder of a command uses: words put behind words, copies, and the command of its parts.
+ghost use Rattle.std.specs.Prelude.{◌≡◌, ◌++◌, ◌∷◌, [], OnOk, IfOk};
+ghost use Rattle.scl_text.specs.Words.{words_of};
+ghost use Rattle.scl_text.specs.Commands.{Builds, pairs_of};
+
+use crate::memory::Mem;
+use crate::records::SingleCompileCommand;
+use std::alloc::Global;
+
+/// Puts a copy of a word behind those of a list.
+pub fn push_word(alloc: Global, list: &mut Vec<Vec<u8>>, word: &[u8]) -> Mem<()>
+    ensures { OnOk result (words_of list.new.items ≡ words_of list.old.items ++ word.now ∷ []) }
+{
+    list.push(Vec::from_slice(alloc, word)?)?;
+    Ok(())
+}
+
+/// Puts copies of words behind those of a list.
+pub fn push_words(alloc: Global, list: &mut Vec<Vec<u8>>, words: &[Vec<u8>]) -> Mem<()>
+    ensures { OnOk result (words_of list.new.items ≡ words_of list.old.items ++ words_of words.now) }
+{
+    for word in words {
+        push_word(alloc, list, word)?;
+    }
+    Ok(())
+}
+
+/// Copies of pairs of a key and a value.
+pub fn copied_pairs(alloc: Global, pairs: &[(Vec<u8>, Vec<u8>)]) -> Mem<Vec<(Vec<u8>, Vec<u8>)>>
+    ensures { IfOk result (λ copies. pairs_of copies.items ≡ pairs_of pairs.now) }
+{
+    let mut copies = Vec::new(alloc);
+    for (key, value) in pairs {
+        let key = Vec::from_slice(alloc, key)?;
+        let value = Vec::from_slice(alloc, value)?;
+        copies.push((key, value))?;
+    }
+    Ok(copies)
+}
+
+/// The command of a program, its words, its environment and its directory, without a job server.
+pub fn single_command(
+    alloc: Global,
+    executable: &[u8],
+    arguments: Vec<Vec<u8>>,
+    env_vars: Vec<(Vec<u8>, Vec<u8>)>,
+    cwd: &[u8],
+) -> Mem<SingleCompileCommand>
+    ensures { IfOk result (λ command. Builds command executable.now (words_of arguments.items) (pairs_of env_vars.items) cwd.now) }
+{
+    Ok(SingleCompileCommand {
+        executable: Vec::from_slice(alloc, executable)?,
+        arguments,
+        env_vars,
+        cwd: Vec::from_slice(alloc, cwd)?,
+        share_jobserver: false,
+    })
+}
