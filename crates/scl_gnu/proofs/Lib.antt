@@ -1,0 +1,2 @@
+pub mod PassLaws
+pub mod SummaryLaws
