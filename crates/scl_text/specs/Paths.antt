@@ -1,6 +1,6 @@
 -- Paths by their components. A path is its bytes.
-use Rattle.std.specs.Prelude.{ℕ, ◌==◌, ◌&&◌, ◌||◌, not, Bool, true, false, List, [], ◌∷◌, ◌++◌, length, take, drop, map, Option, None, Some, codes, if◌then◌else◌, is_some}
-use Rattle.std.specs.List.{slice_split, before_first, before_last, after_last}
+use Rattle.std.specs.Prelude.{ℕ, ◌==◌, ◌&&◌, ◌||◌, not, Bool, true, false, List, [], ◌∷◌, ◌++◌, length, take, drop, map, Option, None, Some, codes, nat_eq, if◌then◌else◌, is_some}
+use Rattle.std.specs.List.{slice_split, starts_with, ends_with, before_first, before_last, after_last}
 use Rattle.std.specs.Option.{option_map, option_and_then}
 use Rattle.std.specs.Str.{bytes_eq}
 use Rattle.std.specs.Cmp.Lexicographic.{pointwise}
@@ -12,13 +12,10 @@ abbrev pub is_dot : ℕ → Bool
 is_dot byte = byte == 46
 
 abbrev pub begins_with_slash : List ℕ → Bool
-begins_with_slash [] = false
-begins_with_slash (byte ∷ bytes) = is_slash byte
+begins_with_slash path = starts_with nat_eq path (codes "/")
 
 abbrev pub ends_with_slash : List ℕ → Bool
-ends_with_slash [] = false
-ends_with_slash (byte ∷ []) = is_slash byte
-ends_with_slash (byte ∷ (other ∷ bytes)) = ends_with_slash (other ∷ bytes)
+ends_with_slash path = ends_with nat_eq path (codes "/")
 
 -- a part between slashes that is a name: neither empty nor `.`
 abbrev pub is_name : List ℕ → Bool
@@ -55,13 +52,16 @@ places path = places_after [] (slice_split is_slash path)
 unfoldable pub places_from : List ℕ → ℕ → List Place
 places_from path at = places_after (take at path) (slice_split is_slash (drop at path))
 
+abbrev pub names_of : List Place → List (List ℕ)
+names_of found = map (λ place. place.name) found
+
 -- the components of a path
 pub record Components : Type 0 where
   pub start : List ℕ
   pub names : List (List ℕ)
 
 abbrev pub components : List ℕ → Components
-components path = record { start = start path; names = map (λ place. place.name) (places path) }
+components path = record { start = start path; names = names_of (places path) }
 
 -- the components are the same
 abbrev pub same_components : Components → Components → Bool

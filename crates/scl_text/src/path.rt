@@ -3,7 +3,10 @@ ghost use Rattle.std.specs.Prelude.{◌≡◌, ◌∷◌, ◌++◌, ◌+◌, [],
 ghost use Rattle.std.specs.List.{before_first, suffix_len};
 ghost use Rattle.std.specs.Option.{option_copied, option_map};
 ghost use Rattle.std.specs.Iterator.{YieldsFirstBy, item_count};
-ghost use Rattle.scl_text.specs.Paths.{placed, places, places_from, start, last_place, file_place, stem_of_name, extension, file_name, is_name, is_slash, is_dot, extension_of_name};
+ghost use Rattle.scl_text.specs.Paths.{placed, places, places_from, start, last_place, file_place, stem_of_name, extension, join, with_extension, parent, with_file_name, same_path, file_name, is_name, is_slash, is_dot, extension_of_name};
+
+use crate::memory::Mem;
+use std::alloc::Global;
 
 /// The position of the first slash.
 fn slash_at(path: &[u8]) -> Option<usize>
@@ -95,13 +98,16 @@ impl<'a> Iterator for Places<'a> {
     }
 }
 
+/// How a path starts: with the root, with a first part `.`, or with neither.
 fn start(path: &[u8]) -> &[u8]
     ensures { result.now ≡ start path.now }
 {
-    match path {
-        [b'/', ..] => b"/",
-        [b'.'] | [b'.', b'/', ..] => b".",
-        _ => &[],
+    if path.starts_with(b"/") {
+        b"/"
+    } else if first_part(path) == b".".as_slice() {
+        b"."
+    } else {
+        &[]
     }
 }
 
@@ -163,4 +169,80 @@ pub fn extension(path: &[u8]) -> Option<&[u8]>
     ensures { option_copied result ≡ extension path.now }
 {
     stem_and_extension(file_name(path)?).1
+}
+
+/// The second path, which stands in the directory of the first: the second alone where it begins with
+/// `/` or the first is empty, and else both with a `/` between them, unless the first ends in one
+/// (docs/RULES.md, Paths).
+pub fn join(alloc: Global, directory: &[u8], path: &[u8]) -> Mem<Vec<u8>>
+    ensures { IfOk result (λ joined. joined.items ≡ join directory.now path.now) }
+{
+    if path.starts_with(b"/") || directory.is_empty() {
+        return Vec::from_slice(alloc, path);
+    }
+    let mut joined = Vec::from_slice(alloc, directory)?;
+    if !directory.ends_with(b"/") {
+        joined.push(b'/')?;
+    }
+    joined.extend_from_slice(path)?;
+    Ok(joined)
+}
+
+/// The path cut at the end of its file name's stem, a dot and the extension, in bytes; a path without
+/// a file name stays as it is (docs/RULES.md, Paths).
+pub fn with_extension(alloc: Global, path: &[u8], extension: &[u8]) -> Mem<Vec<u8>>
+    ensures { IfOk result (λ whole. whole.items ≡ with_extension path.now extension.now) }
+{
+    let Some(place) = file_place(path) else {
+        return Vec::from_slice(alloc, path);
+    };
+    let (stem, _) = stem_and_extension(place.name);
+    let mut whole = Vec::from_slice(alloc, place.before)?;
+    whole.extend_from_slice(stem)?;
+    whole.push(b'.')?;
+    whole.extend_from_slice(extension)?;
+    Ok(whole)
+}
+
+/// The path through the component before its last name.
+fn parent(path: &[u8]) -> &[u8]
+    ensures { result.now ≡ parent path.now }
+{
+    let mut parent = start(path);
+    let mut through = start(path);
+    for place in Places::new(path) {
+        parent = through;
+        through = place.through;
+    }
+    parent
+}
+
+/// The path without its file name and the slashes and `.` parts before that, with a name joined on; to
+/// a path without a file name it is joined as it is (docs/RULES.md, Paths).
+pub fn with_file_name(alloc: Global, path: &[u8], name: &[u8]) -> Mem<Vec<u8>>
+    ensures { IfOk result (λ whole. whole.items ≡ with_file_name path.now name.now) }
+{
+    match file_place(path) {
+        Some(_) => join(alloc, parent(path), name),
+        None => join(alloc, path, name),
+    }
+}
+
+/// Whether two paths have the same components: they start alike and have the same names
+/// (docs/RULES.md, Paths).
+#[tactic(auto)]
+pub fn same_path(a: &[u8], b: &[u8]) -> bool
+    ensures { result ≡ same_path a.now b.now }
+{
+    if start(a) != start(b) {
+        return false;
+    }
+    let mut others = Places::new(b);
+    for place in Places::new(a) {
+        match others.next() {
+            Some(other) if place.name == other.name => {}
+            _ => return false,
+        }
+    }
+    others.next().is_none()
 }

@@ -1,0 +1,135 @@
+-- The steps of an expansion.
+use Rattle.std.proofs.Common.{◌≡◌, ℕ, zero, suc, ◌+◌, ◌<◌, ◌≤◌, Bool, true, false, cond, List, [], ◌∷◌, ◌++◌, length, map, get_or, Option, None, Some, refl, sym, ap, ◌∙◌, append_assoc, arith}
+use Rattle.std.proofs.lemmas.List.{append-nil}
+use Rattle.std.proofs.lemmas.List.Recursion.{found_at, found_nowhere}
+use Rattle.std.specs.List.{flat_map}
+use Rattle.std.specs.Option.{option_and_then, is_some}
+use Rattle.scl_text.specs.Paths.{same_path}
+use Rattle.scl_text.specs.Views.{File, bytes_at, without}
+use Rattle.scl_text.specs.ResponseFiles.{named, arguments, files_inside}
+use Rattle.scl_text.specs.Expand.{Level, level_at, opened, in_place, expand_within, expand}
+use Rattle.scl_text.specs.declared.expand.OpenFile.{OpenFile}
+use Rattle.scl_text.specs.declared.expand.Step.{Step}
+use Rattle.scl_text.specs.declared.expand.Expansion.{Expansion}
+use Rattle.scl_text.specs.Remaining.{StepsFrom, level_of, hides, is_shut, closed, left_open, left, total, cost, steps_within, steps, steps_open, steps_left}
+use Rattle.scl_text.specs.declared.expand.ExpansionKind.{ExpansionKind}
+use Rattle.scl_text.specs.declared.expand.ExpansionKind.TheVariants as kinds
+use Rattle.scl_text.proofs.OpenLemmas.{opened-none, opened-less}
+use Rattle.scl_text.proofs.ExpandLemmas.{no_files, expand-cons, expand-nil}
+
+total-same : (f g : List ℕ → ℕ) (words : List (List ℕ)) → ((word : List ℕ) → f word ≡ g word) → total f words ≡ total g words
+total-same f g [] h = refl
+total-same f g (w ∷ ws) h = rw (h w, total-same f g ws h) refl
+
+total-length : (f : List ℕ → ℕ) (words : List (List ℕ)) → ((word : List ℕ) → f word ≡ 1) → total f words ≡ length words
+total-length f [] h = refl
+total-length f (w ∷ ws) h = rw (h w, total-length f ws h) (omega arith)
+
+cost-same : (f g : Level → ℕ) (o : Option Level) → ((file : Level) → o ≡ Some file → f file ≡ g file) → cost f o ≡ cost g o
+cost-same f g None h = refl
+cost-same f g (Some file) h = ap (λ n. 2 + n) (h file refl)
+
+steps-no_files : (n : ℕ) (kind : ExpansionKind) (directory : List ℕ) (words : List (List ℕ)) → steps_within n kind directory [] words ≡ length words
+steps-no_files zero kind directory words = refl
+steps-no_files (suc n) kind directory words = total-length _ words (λ word. rw (opened-none kind directory word) refl)
+
+steps-stable : (n m : ℕ) (kind : ExpansionKind) (directory : List ℕ) (files : List File) (words : List (List ℕ)) → length files ≤ n → length files ≤ m → steps_within n kind directory files words ≡ steps_within m kind directory files words
+steps-stable zero m kind directory files words h k = rw (no_files files h) (sym (steps-no_files m kind directory words))
+steps-stable (suc n) zero kind directory files words h k = rw (no_files files k) (steps-no_files (suc n) kind directory words)
+steps-stable (suc n) (suc m) kind directory files words h k =
+    total-same _ _ words (λ word. cost-same _ _ (opened kind directory files word)
+    (λ file e. let less = opened-less kind directory files word file e in steps-stable n m kind directory (files_inside kind file.path files) file.words (omega (arith, less)) (omega (arith, less))))
+
+pub steps-cons : (kind : ExpansionKind) (directory : List ℕ) (files : List File) (word : List ℕ) (words : List (List ℕ))
+    → steps kind directory files (word ∷ words) ≡ cost (λ file. steps kind directory (files_inside kind file.path files) file.words) (opened kind directory files word) + steps kind directory files words
+unfolding steps
+steps-cons kind directory files word words =
+    elim files as (λ fs. steps_within (length fs) kind directory fs (word ∷ words) ≡ cost (λ file. steps_within (length (files_inside kind file.path fs)) kind directory (files_inside kind file.path fs) file.words) (opened kind directory fs word) + steps_within (length fs) kind directory fs words) [
+      | [] ↦ rw (opened-none kind directory word) (omega arith)
+      | f ∷ fs ↦ ap (λ n. n + steps_within (length (f ∷ fs)) kind directory (f ∷ fs) words)
+          (cost-same _ _ (opened kind directory (f ∷ fs) word)
+          (λ file e. let less = opened-less kind directory (f ∷ fs) word file e in steps-stable (length fs) _ kind directory (files_inside kind file.path (f ∷ fs)) file.words (omega (arith, less)) (omega arith)))
+    ]
+
+-- ---- a stack of open files
+
+pub left_open-push : (kind : ExpansionKind) (directory : List ℕ) (files : List File) (levels : List Level) (level : Level)
+    → left_open kind directory files (levels ++ level ∷ []) ≡ expand kind directory (closed kind files (levels ++ level ∷ [])) level.words ++ left_open kind directory files levels
+left_open-push kind directory files [] level = sym (append-nil _)
+left_open-push kind directory files (x ∷ xs) level =
+    rw (left_open-push kind directory (files_inside kind x.path files) xs level, append_assoc) refl
+
+pub closed-push : (kind : ExpansionKind) (files : List File) (levels : List Level) (level : Level) → closed kind files (levels ++ level ∷ []) ≡ files_inside kind level.path (closed kind files levels)
+closed-push kind files [] level = refl
+closed-push kind files (x ∷ xs) level = closed-push kind (files_inside kind x.path files) xs level
+
+pub steps_open-push : (kind : ExpansionKind) (directory : List ℕ) (files : List File) (levels : List Level) (level : Level)
+    → steps_open kind directory files (levels ++ level ∷ []) ≡ 1 + steps kind directory (closed kind files (levels ++ level ∷ [])) level.words + steps_open kind directory files levels
+steps_open-push kind directory files [] level = omega arith
+steps_open-push kind directory files (x ∷ xs) level = rw (steps_open-push kind directory (files_inside kind x.path files) xs level) (omega arith)
+
+-- ---- one step
+
+module _ (kind : ExpansionKind) (directory : List ℕ) (files : List File) where
+  abbrev From : List (List ℕ) → List ℕ → List File → List (List ℕ)
+  From rest word closed = in_place word (λ file. expand kind directory (files_inside kind file.path closed) file.words) (opened kind directory closed word) ++ rest
+
+  abbrev CostFrom : ℕ → List ℕ → List File → ℕ
+  CostFrom rest word closed = cost (λ file. steps kind directory (files_inside kind file.path closed) file.words) (opened kind directory closed word) + rest
+
+  pub left-word : (levels : List Level) (words : List (List ℕ)) (word : List ℕ) → opened kind directory (closed kind files levels) word ≡ None
+      → From (left kind directory files levels words) word (closed kind files levels) ≡ word ∷ left kind directory files levels words
+  left-word levels words word e = rw e refl
+
+  pub steps-word : (levels : List Level) (words : List (List ℕ)) (word : List ℕ) → opened kind directory (closed kind files levels) word ≡ None
+      → CostFrom (steps_left kind directory files levels words) word (closed kind files levels) ≡ 1 + steps_left kind directory files levels words
+  steps-word levels words word e = rw e refl
+
+  pub left-opened : (levels : List Level) (words : List (List ℕ)) (word : List ℕ) (level : Level) → opened kind directory (closed kind files levels) word ≡ Some level
+      → From (left kind directory files levels words) word (closed kind files levels) ≡ left kind directory files (levels ++ level ∷ []) words
+  left-opened levels words word level e = rw (e, left_open-push kind directory files levels level, closed-push kind files levels level, append_assoc) refl
+
+  pub steps-opened : (levels : List Level) (words : List (List ℕ)) (word : List ℕ) (level : Level) → opened kind directory (closed kind files levels) word ≡ Some level
+      → CostFrom (steps_left kind directory files levels words) word (closed kind files levels) ≡ 1 + steps_left kind directory files (levels ++ level ∷ []) words
+  steps-opened levels words word level e = rw (e, steps_open-push kind directory files levels level, closed-push kind files levels level) (omega arith)
+
+  pub left-first : (words : List (List ℕ)) (word : List ℕ) → left kind directory files [] (word ∷ words) ≡ From (left kind directory files [] words) word files
+  left-first words word = expand-cons kind directory files word words
+
+  pub steps-first : (words : List (List ℕ)) (word : List ℕ) → steps_left kind directory files [] (word ∷ words) ≡ CostFrom (steps_left kind directory files [] words) word files
+  steps-first words word = let e = steps-cons kind directory files word words in omega arith
+
+  pub left-next : (levels : List Level) (words : List (List ℕ)) (path : List ℕ) (word : List ℕ) (others : List (List ℕ))
+      → left kind directory files (levels ++ record { path = path; words = word ∷ others } ∷ []) words
+      ≡ From (left kind directory files (levels ++ record { path = path; words = others } ∷ []) words) word (closed kind files (levels ++ record { path = path; words = others } ∷ []))
+  left-next levels words path word others =
+      rw (
+        left_open-push kind directory files levels (record { path = path; words = word ∷ others }),
+        left_open-push kind directory files levels (record { path = path; words = others }),
+        closed-push kind files levels (record { path = path; words = word ∷ others }),
+        closed-push kind files levels (record { path = path; words = others }),
+        expand-cons kind directory (files_inside kind path (closed kind files levels)) word others,
+      ) (simp append_assoc)
+
+  pub steps-next : (levels : List Level) (words : List (List ℕ)) (path : List ℕ) (word : List ℕ) (others : List (List ℕ))
+      → steps_left kind directory files (levels ++ record { path = path; words = word ∷ others } ∷ []) words
+      ≡ CostFrom (steps_left kind directory files (levels ++ record { path = path; words = others } ∷ []) words) word (closed kind files (levels ++ record { path = path; words = others } ∷ []))
+  steps-next levels words path word others =
+      rw (
+        steps_open-push kind directory files levels (record { path = path; words = word ∷ others }),
+        steps_open-push kind directory files levels (record { path = path; words = others }),
+        closed-push kind files levels (record { path = path; words = word ∷ others }),
+        closed-push kind files levels (record { path = path; words = others }),
+        steps-cons kind directory (files_inside kind path (closed kind files levels)) word others,
+      ) (omega arith)
+
+  pub left-close : (levels : List Level) (words : List (List ℕ)) (path : List ℕ)
+      → left kind directory files (levels ++ record { path = path; words = [] } ∷ []) words ≡ left kind directory files levels words
+  left-close levels words path = rw (left_open-push kind directory files levels (record { path = path; words = [] }), expand-nil kind directory (closed kind files (levels ++ record { path = path; words = [] } ∷ []))) refl
+
+  pub steps-close : (levels : List Level) (words : List (List ℕ)) (path : List ℕ)
+      → steps_left kind directory files levels words < steps_left kind directory files (levels ++ record { path = path; words = [] } ∷ []) words
+  steps-close levels words path = rw (steps_open-push kind directory files levels (record { path = path; words = [] })) (omega arith)
+
+pub steps_by : (a b : List (List ℕ)) (n m : ℕ) (r : Step) (t : Expansion) → a ≡ b → n ≡ m → StepsFrom b m r t → StepsFrom a n r t
+steps_by a b n m r t e f h = rw (e, f) h

@@ -1,0 +1,83 @@
+//! What every compiler answers.
+use crate::memory::Mem;
+use crate::records::{
+    CCompilerKind, Cacheable, CommandError, CompilerArguments, ParsedArguments,
+    SingleCompileCommand,
+};
+use crate::view::View;
+use std::alloc::Global;
+
+/// A compiler whose command lines are read and built. The ghost members are its own definitions:
+/// the outcome of a command line, the words of a record's command (none where the record has no
+/// output `obj`), the environment that the command gets, and whether its outcome may be kept
+/// (docs/RULES.md, Compilers).
+pub trait CCompilerImpl {
+    ghost use Rattle.std.specs.Prelude.{◌≡◌, ◌↔◌, ℕ, Bool, List, Option, None, Result, IfOk};
+    ghost use Rattle.std.specs.Option.{option_map};
+    ghost use Rattle.std.specs.String.{string_bytes};
+    ghost use Rattle.scl_text.specs.Words.{words_of};
+    ghost use Rattle.scl_text.specs.Views.{Viewed};
+    ghost use Rattle.scl_text.specs.Commands.{pairs_of};
+    ghost use Rattle.scl_text.specs.Compilers.{IsAnswer};
+    ghost use Rattle.scl_text.specs.Records.{Parsed, Verdict, parsed_of, outcome_of};
+    ghost use Rattle.scl_text.specs.declared.records.CCompilerKind.{CCompilerKind};
+    ghost use Rattle.scl_text.specs.declared.records.Cacheable.{Cacheable};
+
+    ghost kind_of: { Self → CCompilerKind };
+
+    ghost plusplus_of: { Self → Bool };
+
+    ghost version_of: { Self → Option (List ℕ) };
+
+    ghost digest_of: { Self → Option (List ℕ) };
+
+    ghost reading: { Self → List (List ℕ) → List ℕ → List (List ℕ × List ℕ) → Viewed → Result Parsed Verdict };
+
+    ghost command: { Self → Parsed → Option (List (List ℕ)) };
+
+    ghost environment: { Self → List (List ℕ × List ℕ) → List (List ℕ × List ℕ) };
+
+    ghost cacheable: { Self → Parsed → List ℕ → Viewed → Cacheable };
+
+    /// Which compiler it is (docs/RULES.md, Compilers).
+    fn kind(&self) -> CCompilerKind
+        ensures { result ≡ kind_of self.now };
+
+    /// Whether it is the C++ driver (docs/RULES.md, Compilers).
+    fn plusplus(&self) -> bool
+        ensures { result ≡ plusplus_of self.now };
+
+    /// A copy of its version, if it is known (docs/RULES.md, Compilers).
+    fn version(&self, alloc: Global) -> Mem<Option<String>>
+        ensures { IfOk result (λ version. option_map string_bytes version ≡ version_of self.now) };
+
+    /// What the words of a command line say; the directory and the view answer what they ask of
+    /// files (docs/RULES.md, Compilers).
+    fn parse_arguments(
+        &self,
+        alloc: Global,
+        arguments: &[Vec<u8>],
+        cwd: &[u8],
+        env_vars: &[(Vec<u8>, Vec<u8>)],
+        view: &View,
+    ) -> Mem<CompilerArguments<ParsedArguments>>
+        ensures { IfOk result (λ answer. outcome_of answer ≡ reading self.now (words_of arguments.now) cwd.now (pairs_of env_vars.now) view.now) };
+
+    /// The command of a record, and whether its outcome may be kept; `MissingObj` exactly where
+    /// the record has no output `obj` (docs/RULES.md, Compilers).
+    fn generate_compile_commands(
+        &self,
+        alloc: Global,
+        executable: &[u8],
+        parsed: &ParsedArguments,
+        cwd: &[u8],
+        env_vars: &[(Vec<u8>, Vec<u8>)],
+        view: &View,
+    ) -> Result<(SingleCompileCommand, Cacheable), CommandError>
+        ensures command { IfOk result (λ answer. IsAnswer answer.0 answer.1 (command self.now (parsed_of parsed.now)) executable.now (environment self.now (pairs_of env_vars.now)) cwd.now (cacheable self.now (parsed_of parsed.now) cwd.now view.now)) }
+        ensures missing { (result ≡ Err CommandError.MissingObj) ↔ (command self.now (parsed_of parsed.now) ≡ None) };
+
+    /// A copy of the assembler's digest, if it is known (docs/RULES.md, Compilers).
+    fn assembler_digest(&self, alloc: Global) -> Mem<Option<String>>
+        ensures { IfOk result (λ digest. option_map string_bytes digest ≡ digest_of self.now) };
+}

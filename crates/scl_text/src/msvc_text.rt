@@ -1,0 +1,51 @@
+ghost use Rattle.std.specs.Prelude.{◌≡◌, ℕ, ◌+◌, ◌≤◌, List, ◌++◌, OnOk};
+ghost use Rattle.std.specs.String.{string_bytes};
+ghost use Rattle.scl_text.specs.MsvcText.{is_msvc_separator, OnlyQuotesGiveEmptyArguments, QuotedWordsAreReadBack};
+ghost use Rattle.scl_text.specs.MsvcReader.{slashes};
+
+use crate::memory::Mem;
+
+/// An argument so far, the backslashes behind it, and whether a quote is open.
+#[derive(Drop)]
+pub(crate) struct Reader {
+    argument: String,
+    begun: bool,
+    slashes: usize,
+    inside: bool,
+}
+
+fn is_msvc_separator(c: char) -> bool
+    ensures { result ≡ is_msvc_separator c }
+{
+    matches!(c, ' ' | '\t' | '\n' | '\r')
+}
+
+fn push_slashes(argument: &mut String, count: usize) -> Mem<()>
+    ensures { OnOk result (string_bytes argument.new ≡ string_bytes argument.old ++ slashes count) }
+{
+    for _ in 0..count {
+        argument.push('\\')?;
+    }
+    Ok(())
+}
+
+/// An MSVC text gives an empty argument exactly where a stretch is toggling quotes alone, as `""`.
+/// (docs/RULES.md, MSVC text)
+#[tactic(auto, using(crate::proofs::MsvcLaws::only_quotes_give_empty_arguments))]
+pub fn only_quotes_give_empty_msvc_arguments()
+    ensures { OnlyQuotesGiveEmptyArguments }
+{}
+
+/// Words that MSVC's own tools quote, with a space between each two, are the arguments of their text.
+/// (docs/RULES.md, MSVC text)
+#[tactic(auto, using(crate::proofs::MsvcLaws::quoted_words_are_read_back))]
+pub fn msvc_quoted_words_are_read_back()
+    ensures { QuotedWordsAreReadBack }
+{}
+
+mod arguments;
+
+pub use arguments::{SplitMsvcResponseFileArgs, msvc_words};
+
+#[cfg(test)]
+mod tests;
