@@ -1,2 +1,3 @@
+pub mod OutputLaws
 pub mod PassLaws
 pub mod SummaryLaws

@@ -2,12 +2,14 @@
 
 mod args;
 mod data;
+mod finish;
 mod hashed;
 mod inputs;
 mod judge;
 mod lasts;
 mod lists;
 mod marks;
+mod outputs;
 mod pass;
 mod place;
 mod reason;
