@@ -77,9 +77,12 @@ added_dependency false has_path flag target object = []
 
 -- ---- files on whose contents the outcome depends
 
+abbrev pub is_equals : ℕ → Bool
+is_equals byte = byte == 61
+
 -- what stands behind the first =, else all of it
 abbrev pub module_file_path : List ℕ → List ℕ
-module_file_path text = unwrap_or (option_map (λ at. drop (at + 1) text) (position (λ byte. byte == 61) text)) text
+module_file_path text = unwrap_or (option_map (λ at. drop (at + 1) text) (position is_equals text)) text
 
 abbrev pub profile_in : Bool → List ℕ → List ℕ
 profile_in true path = join path (codes "default.profdata")

@@ -1,8 +1,10 @@
 //! The command lines of Gcc.
 
+mod added;
 mod args;
 mod data;
 mod finish;
+mod hash_paths;
 mod hashed;
 mod inputs;
 mod judge;
@@ -13,6 +15,8 @@ mod outputs;
 mod pass;
 mod place;
 mod reason;
+mod record;
 
 pub use args::{ARCH_FLAG, ARGS, table};
 pub use data::{ArgData, Kind};
+pub use hash_paths::{module_file_path, resolve_profile_use_path};

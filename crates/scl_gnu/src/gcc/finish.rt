@@ -18,7 +18,7 @@ use scl_text::refusal::Refusal;
 use std::alloc::Global;
 
 /// What the tests find.
-#[derive(Debug, PartialEq, Eq, Drop)]
+#[derive(Drop)]
 pub(crate) struct Finding {
     pub(crate) compile_flag: &'static str,
     pub(crate) input: Vec<u8>,

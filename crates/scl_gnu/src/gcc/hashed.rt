@@ -12,7 +12,7 @@ use scl_args::{Argument, Mem};
 use std::alloc::Global;
 
 /// How an option names a file on whose contents the outcome depends (docs/RULES.md, Gcc).
-#[derive(Debug, Clone, Copy, PartialEq, Eq)]
+#[derive(Clone, Copy)]
 pub enum HashRole {
     /// By its path.
     File,
@@ -23,7 +23,7 @@ pub enum HashRole {
 }
 
 /// A file that an option names, and how.
-#[derive(Debug, PartialEq, Eq, Drop)]
+#[derive(Drop)]
 pub(crate) struct HashFile {
     pub(crate) role: HashRole,
     pub(crate) text: Vec<u8>,

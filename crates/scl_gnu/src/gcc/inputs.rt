@@ -11,7 +11,7 @@ use scl_args::{Argument, Mem};
 use std::alloc::Global;
 
 /// The inputs, and whether `--` stands before the first.
-#[derive(Debug, PartialEq, Eq, Drop)]
+#[derive(Drop)]
 pub(crate) struct InputWords {
     pub(crate) files: Vec<Vec<u8>>,
     pub(crate) behind_dashes: bool,

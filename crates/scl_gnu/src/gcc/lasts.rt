@@ -15,7 +15,7 @@ use scl_text::records::ColorMode;
 use std::alloc::Global;
 
 /// What the last options of their kinds say.
-#[derive(Debug, PartialEq, Eq, Drop)]
+#[derive(Drop)]
 pub(crate) struct LastOptions {
     pub(crate) compile_flag: Option<&'static str>,
     pub(crate) output: Option<Vec<u8>>,

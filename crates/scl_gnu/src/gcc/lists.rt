@@ -11,7 +11,7 @@ use scl_args::{Argument, Mem, push_spelled};
 use std::alloc::Global;
 
 /// The words of the lists of a command.
-#[derive(Debug, PartialEq, Eq, Drop)]
+#[derive(Drop)]
 pub(crate) struct WordLists {
     pub(crate) common: Vec<Vec<u8>>,
     pub(crate) unhashed: Vec<Vec<u8>>,

@@ -9,7 +9,7 @@ use super::data::ArgData;
 use scl_args::Argument;
 
 /// Whether options of some kinds stand on a command line.
-#[derive(Debug, Clone, Copy, PartialEq, Eq)]
+#[derive(Drop)]
 pub(crate) struct OptionMarks {
     pub(crate) split_dwarf: bool,
     pub(crate) notes: bool,

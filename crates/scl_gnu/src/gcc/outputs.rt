@@ -16,7 +16,7 @@ use std::alloc::Global;
 use std::collections::BTreeMap;
 
 /// Where a compilation puts what it makes.
-#[derive(Debug, PartialEq, Eq, Drop)]
+#[derive(Drop)]
 pub(crate) struct OutputFiles {
     pub(crate) depfile: Option<Vec<u8>>,
     pub(crate) diagnostics: Option<Vec<u8>>,

@@ -21,7 +21,7 @@ use scl_text::refusal::Refusal;
 use std::alloc::Global;
 
 /// What the options so far amount to.
-#[derive(Debug, PartialEq, Eq, Drop)]
+#[derive(Drop)]
 pub(crate) struct Gathered {
     pub(crate) lists: WordLists,
     pub(crate) lasts: LastOptions,

@@ -9,7 +9,7 @@ use scl_args::Argument;
 
 /// Where the words of an option go: to a list of the command, or nowhere; or the option is refused
 /// (docs/RULES.md, Gcc).
-#[derive(Debug, Clone, Copy, PartialEq, Eq)]
+#[derive(Clone, Copy)]
 pub enum Place {
     Common,
     Unhashed,
