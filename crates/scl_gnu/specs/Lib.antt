@@ -6,6 +6,7 @@ pub mod Gathered
 pub mod Kinds
 pub mod Passes
 pub mod Places
+pub mod Readings
 pub mod Recordings
 pub mod Summaries
 pub mod Verdicts
