@@ -1,7 +1,10 @@
 -- The answer to a request, and its text.
-use Rattle.std.specs.Prelude.{ℕ, Bool, true, false, List, [], ◌∷◌, ◌++◌, codes, if◌then◌else◌}
+use Rattle.std.specs.Prelude.{ℕ, Bool, true, false, List, [], ◌∷◌, ◌++◌, codes, Option, None, Some, Result, Ok, Err}
 use Rattle.std.specs.List.{flat_map}
 use Rattle.scl_cl.specs.Fields.{escaped}
+use Rattle.scl_text.specs.Records.{Parsed, Verdict, CannotCache, NotCompilation}
+use Rattle.scl_text.specs.declared.records.Cacheable.{Cacheable}
+use Rattle.scl_text.specs.declared.records.Cacheable.TheVariants as cacheable
 use Rattle.scl_cl.specs.Requests.{Request}
 
 pub data Answer : Type 0 where
@@ -26,6 +29,22 @@ abbrev pub text_of : Answer → List ℕ
 text_of (compiled words is_cacheable) = line (codes "ok") ++ flat_map arg_line words ++ line (cacheable_text is_cacheable)
 text_of (cannot_cache reason) = codes "cannot-cache " ++ line reason
 text_of not_compilation = line (codes "not-compilation")
+
+-- whether the outcome may be kept
+abbrev pub is_kept : Cacheable → Bool
+is_kept cacheable.Yes = true
+is_kept cacheable.No = false
+
+-- the answer of a record: its command's words; no parser gives a record without output `obj`, and one would be refused
+abbrev pub answer_with : Option (List (List ℕ)) → Cacheable → Answer
+answer_with None kept = cannot_cache (codes "Missing object file output")
+answer_with (Some words) kept = compiled words (is_kept kept)
+
+-- the answer of a reading, by the words of what was read and by whether its outcome may be kept
+abbrev pub answer_from : (Parsed → Option (List (List ℕ))) → (Parsed → Cacheable) → Result Parsed Verdict → Answer
+answer_from command kept (Ok parsed) = answer_with (command parsed) (kept parsed)
+answer_from command kept (Err (CannotCache reason)) = cannot_cache reason
+answer_from command kept (Err NotCompilation) = not_compilation
 
 -- the answer to a request
 abbrev pub answer_to : Request → Answer
