@@ -10,8 +10,8 @@ mod field;
 mod keyword;
 pub mod laws;
 mod line;
-mod request;
 mod program;
+mod request;
 mod transfer;
 
 pub use program::{Outcome, run};
