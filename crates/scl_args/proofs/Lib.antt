@@ -7,3 +7,7 @@ pub mod OrderLemmas
 pub mod RelationLaws
 pub mod TablesLemmas
 pub mod WordsLemmas
+pub mod FitLaws
+pub mod OwnerLaws
+pub mod PrefixLemmas
+pub mod PrintLaws

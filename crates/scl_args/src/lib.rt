@@ -5,6 +5,7 @@ mod argument;
 mod error;
 mod gather;
 mod iter;
+pub mod laws;
 mod lists;
 mod memory;
 mod piece;
