@@ -1,5 +1,6 @@
 pub mod BitsLemmas
 pub mod CutsLemmas
+pub mod GatherLaws
 pub mod HoldsLemmas
 pub mod IterLemmas
 pub mod OptionLaws

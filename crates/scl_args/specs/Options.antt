@@ -1,5 +1,5 @@
 -- What definitions say of a finished list of options: filters, last ones, lists of words, a first verdict.
-use Rattle.std.specs.Prelude.{ℕ, Bool, true, false, not, List, [], ◌∷◌, map, filter, length, nat_eq, Option, None, Some, Result, Ok, Err, if◌then◌else◌}
+use Rattle.std.specs.Prelude.{ℕ, Bool, true, false, not, List, [], ◌∷◌, ◌++◌, map, filter, length, nat_eq, Option, None, Some, Result, Ok, Err, if◌then◌else◌}
 use Rattle.std.specs.List.{flat_map, list_any}
 use Rattle.scl_args.specs.declared.argument.ArgDisposition.{ArgDisposition}
 use Rattle.scl_args.specs.declared.argument.NormalizedDisposition.{NormalizedDisposition}
@@ -78,6 +78,11 @@ list to p os = flat_map (spelled_on to) (filter p os)
 abbrev pub first_verdict : {K V : Type 0} → (Seen K → Option V) → List (Seen K) → Option V
 first_verdict verdict [] = None
 first_verdict verdict (o ∷ os) = or_else (verdict o) (first_verdict verdict os)
+
+-- the first verdict in order, where an option is judged after those before it
+abbrev pub first_verdict_after : {K V : Type 0} → (List (Seen K) → Seen K → Option V) → List (Seen K) → List (Seen K) → Option V
+first_verdict_after verdict before [] = None
+first_verdict_after verdict before (o ∷ os) = or_else (verdict before o) (first_verdict_after verdict (before ++ o ∷ []) os)
 
 -- ---- tests in their order
 

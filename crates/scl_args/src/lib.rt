@@ -22,7 +22,7 @@ pub use gather::{Gather, gather_all};
 pub use iter::ArgsIter;
 pub use lists::{push_spelled, side_of_flag};
 pub use memory::Mem;
-pub use rows::{FlagTable, Probes, RowStore, RowTable, SearchableArgInfo, looks};
+pub use rows::{FlagTable, Probes, RowStore, SearchableArgInfo, looks};
 pub use spell::Iter;
 pub use value::{ArgumentValue, ExactArg, IntoArg, PathArg};
 pub use words::{CutWords, cut_options, cut_words};

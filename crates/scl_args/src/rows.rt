@@ -73,27 +73,24 @@ impl<'a, K> RowStore<'a, K> {
     }
 }
 
-/// Rows whose flags rise strictly by bytes and whose delimiters are below 128, with kinds of type `K`
+/// Rows whose flags rise strictly by bytes and whose delimiters are below 128, for values of type `T`
 /// (docs/RULES.md, Rows and tables).
 #[derive(Drop)]
-pub struct RowTable<'a, K> {
-    store: RowStore<'a, K>,
+pub struct FlagTable<'a, T: ArgumentValue> {
+    store: RowStore<'a, T::Kind>,
 }
 
-impl<'a, K> Model for RowTable<'a, K> {
+impl<'a, T: ArgumentValue> Model for FlagTable<'a, T> {
     ghost use Rattle.std.specs.Prelude.{List, IsTrue};
     ghost use Rattle.scl_args.specs.Row.{Row};
     ghost use Rattle.scl_args.specs.Tables.{is_table};
 
-    ghost Value = { List (Row K) };
+    ghost Value = { List (Row T.Kind) };
 
     ghost view = { λ t. t.store };
 
     ghost invariant = { λ t. IsTrue (is_table t.store) };
 }
-
-/// A table for values of type `T`.
-pub type FlagTable<'a, T> = RowTable<'a, <T as ArgumentValue>::Kind>;
 
 fn is_table<K>(rows: &[ArgRow<K>]) -> bool
     ensures { result ≡ is_table (map row_of rows.now) }
@@ -111,14 +108,14 @@ fn is_table<K>(rows: &[ArgRow<K>]) -> bool
     true
 }
 
-impl<'a, K> RowTable<'a, K> {
+impl<'a, T: ArgumentValue> FlagTable<'a, T> {
     /// The table of the rows, or `None` where their flags do not rise strictly by bytes or a delimiter is 128 or more.
-    pub fn new(rows: &'a [ArgRow<K>]) -> Option<RowTable<'a, K>>
+    pub fn new(rows: &'a [ArgInfo<T>]) -> Option<FlagTable<'a, T>>
         ensures valid { is_some result ≡ is_table (map row_of rows.now) }
         ensures rows { IfSome result (λ table. table ≡ map row_of rows.now) }
     {
         if is_table(rows) {
-            Some(RowTable {
+            Some(FlagTable {
                 store: RowStore { rows },
             })
         } else {
@@ -126,7 +123,7 @@ impl<'a, K> RowTable<'a, K> {
         }
     }
 
-    pub(crate) fn store(&self) -> &RowStore<'a, K>
+    pub(crate) fn store(&self) -> &RowStore<'a, T::Kind>
         ensures same { result.now ≡ self.now }
         ensures valid { IsTrue (is_table self.now) }
     {

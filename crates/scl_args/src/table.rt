@@ -1,11 +1,11 @@
 ghost use Rattle.std.specs.Prelude.{[], ◌∷◌, ◌++◌};
 
 use crate::argument::ArgInfo;
-use crate::rows::{Probes, RowTable, SearchableArgInfo};
+use crate::rows::{FlagTable, Probes, SearchableArgInfo};
 use crate::search::longest_fit;
 use crate::value::ArgumentValue;
 
-impl<'a, T: ArgumentValue> SearchableArgInfo<T> for RowTable<'a, T::Kind> {
+impl<'a, T: ArgumentValue> SearchableArgInfo<T> for FlagTable<'a, T> {
     ghost tables = { λ table. table ∷ [] };
 
     fn search_counted(&self, key: &[u8], probes: &mut Probes) -> Option<&ArgInfo<T>> {
