@@ -50,15 +50,15 @@ first_or x rows word None f h = record {
 }
 first_or x rows word (Some y) f h = elim (nat_lt (length y.flag) (length x.flag)) as (λ t. nat_lt (length y.flag) (length x.flag) ≡ t → LongestIfAny (x ∷ rows) word (cond t (Some x) (Some y))) [
   | true ↦ λ e. record {
-      is_row = inl refl;
-      fits_word = f;
-      none_longer = no_longer-later x rows word (length x.flag) (λ _. omega arith) (λ other i t. let most = h.none_longer other i t in let less : length y.flag < length x.flag = grind (arith, nat_tests) in omega arith);
-    }
+    is_row = inl refl;
+    fits_word = f;
+    none_longer = no_longer-later x rows word (length x.flag) (λ _. omega arith) (λ other i t. let most = h.none_longer other i t in let less : length y.flag < length x.flag = grind (arith, nat_tests) in omega arith);
+  }
   | false ↦ λ e. record {
-      is_row = inr h.is_row;
-      fits_word = h.fits_word;
-      none_longer = no_longer-later x rows word (length y.flag) (λ _. grind (arith, nat_tests)) h.none_longer;
-    }
+    is_row = inr h.is_row;
+    fits_word = h.fits_word;
+    none_longer = no_longer-later x rows word (length y.flag) (λ _. grind (arith, nat_tests)) h.none_longer;
+  }
 ] refl
 
 pub owner-longest : {K : Type 0} (rows : List (Row K)) (word : List ℕ) → LongestIfAny rows word (owner rows word)

@@ -13,6 +13,8 @@ mod rows;
 mod search;
 mod spell;
 mod table;
+#[cfg(test)]
+mod tests;
 mod value;
 mod words;
 

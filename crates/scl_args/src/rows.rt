@@ -160,6 +160,7 @@ pub trait SearchableArgInfo<T: ArgumentValue> {
 /// How many looks a search for the key makes.
 pub fn looks<T: ArgumentValue, S: SearchableArgInfo<T>>(table: &S, key: &[u8]) -> u64
     ensures bound { result ≤ looks_in (S.tables table.now) key.now }
+    ensures some { OnSome (owner_in (S.tables table.now) key.now) (0 < result) }
 {
     let mut probes = Probes::new();
     let _row = table.search_counted(key, &mut probes);
