@@ -1,5 +1,5 @@
 //! What follows from the definitions that the other contracts cite. Each law is the contract of a function that does nothing.
-ghost use Rattle.scl_args.specs.Laws.{FlagsRise, OwnerIsLongestFit, FitsAreUnique, LongestFitOwns, LastFitOwns, OwnerIsOfAllRows, LastTableWins, CountsDigits, LooksAddUp, CutsByCases, PrintsWhatWasCut, PrintsOneOrTwo, StaysOnItsSide};
+ghost use Rattle.scl_args.specs.Laws.{FlagsRise, OwnerIsLongestFit, FitsAreUnique, LongestFitOwns, LastFitOwns, OwnerIsOfAllRows, LastTableWins, CountsDigits, LooksAddUp, CutsByCases, PrintsWhatWasCut, PrintsOneOrTwo, StaysOnItsSide, PrintsAgain, OptionsCame, NextFlagSuffices};
 
 /// The flags of a table rise strictly by bytes (docs/RULES.md, Rows and tables).
 pub fn flags_rise<K>()
@@ -66,4 +66,20 @@ pub fn prints_one_or_two<K>()
 /// Moving an option to a side a second time, to either side, changes nothing (docs/RULES.md, Printing).
 pub fn stays_on_its_side<K>()
     ensures { StaysOnItsSide K }
+{}
+
+/// Each option that words are cut into came from a word of its row, or of none (docs/RULES.md, Cutting again).
+pub fn options_came<K>()
+    ensures { OptionsCame K }
+{}
+
+/// In a table, no flag goes on after a flag where the next greater one does not (docs/RULES.md, Cutting again).
+pub fn next_flag_suffices<K>()
+    ensures { NextFlagSuffices K }
+{}
+
+/// By tables that pass two checks, a list of options that words were cut into, printed, is cut into those options again,
+/// whatever words follow (docs/RULES.md, Cutting again).
+pub fn prints_again<K>()
+    ensures { PrintsAgain K }
 {}
