@@ -5,6 +5,14 @@ use Rattle.scl_cl.specs.Fields.{escaped}
 use Rattle.scl_text.specs.Records.{Parsed, Verdict, CannotCache, NotCompilation}
 use Rattle.scl_text.specs.declared.records.Cacheable.{Cacheable}
 use Rattle.scl_text.specs.declared.records.Cacheable.TheVariants as cacheable
+use Rattle.scl_args.specs.Tables.{owner_in}
+use Rattle.scl_small.specs.Command.{command}
+use Rattle.scl_small.specs.DiabReading as diab
+use Rattle.scl_small.specs.DiabTable as diab_table
+use Rattle.scl_small.specs.TaskingReading as tasking
+use Rattle.scl_small.specs.TaskingTable as tasking_table
+use Rattle.scl_cl.specs.declared.compiler.Compiler.{Compiler}
+use Rattle.scl_cl.specs.declared.compiler.Compiler.TheVariants as compilers
 use Rattle.scl_cl.specs.Requests.{Request}
 
 pub data Answer : Type 0 where
@@ -46,6 +54,21 @@ answer_from command kept (Ok parsed) = answer_with (command parsed) (kept parsed
 answer_from command kept (Err (CannotCache reason)) = cannot_cache reason
 answer_from command kept (Err NotCompilation) = not_compilation
 
+-- the answer of Diab
+abbrev pub diab_answer : Request → Answer
+diab_answer request =
+    answer_from command (λ parsed. cacheable.Yes) (diab.expanded_reading (owner_in (diab_table.rows ∷ [])) request.directory request.view.files request.words)
+
+-- the answer of TaskingVX
+abbrev pub tasking_answer : Request → Answer
+tasking_answer request = answer_from command (λ parsed. cacheable.Yes) (tasking.reading (owner_in (tasking_table.rows ∷ [])) request.words)
+
+-- the answer of a compiler; those that no request may name compile nothing
+abbrev pub answer_by : Compiler → Request → Answer
+answer_by compilers.Diab request = diab_answer request
+answer_by compilers.Tasking request = tasking_answer request
+answer_by _ request = not_compilation
+
 -- the answer to a request
 abbrev pub answer_to : Request → Answer
-answer_to request = not_compilation
+answer_to request = answer_by request.compiler request

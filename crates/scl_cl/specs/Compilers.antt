@@ -17,9 +17,7 @@ name_of Tasking = codes "tasking"
 -- the compilers that requests may name
 abbrev pub served : List Compiler
 served =
-    Gcc
-    ∷ Gxx
-    ∷ Diab
+    Diab
     ∷ Tasking
     ∷ []
 

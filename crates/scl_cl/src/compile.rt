@@ -8,7 +8,10 @@ ghost use Rattle.scl_cl.specs.Answers.{answer_to, answer_from, answer_with};
 ghost use Rattle.scl_cl.specs.AnswersGiven.{answer_of};
 
 use crate::answer::Answer;
+use crate::compiler::Compiler;
 use crate::draft::Request;
+use scl_small::diab::Diab;
+use scl_small::tasking_vx::TaskingVX;
 use scl_text::records::{Cacheable, CommandError, CompilerArguments, ParsedArguments};
 use scl_text::{CCompilerImpl, Mem};
 use std::alloc::{AllocError, Global};
@@ -61,9 +64,12 @@ fn answer_by<C: CCompilerImpl>(alloc: Global, compiler: &C, request: &Request) -
 }
 
 /// The answer to a request.
-pub fn answer_request(_alloc: Global, request: Request) -> Mem<Answer>
+pub fn answer_request(alloc: Global, request: Request) -> Mem<Answer>
     ensures { IfOk result (λ answer. answer_of answer ≡ answer_to (asked_by request)) }
 {
-    drop(request);
-    Ok(Answer::NotCompilation)
+    match request.compiler {
+        Compiler::Diab => answer_by(alloc, &Diab { version: None }, &request),
+        Compiler::Tasking => answer_by(alloc, &TaskingVX, &request),
+        _ => Ok(Answer::NotCompilation),
+    }
 }

@@ -16,9 +16,7 @@ pub enum Compiler {
 }
 
 /// The compilers that requests may name: a new one is one line here and one in its definition.
-static SERVED: [Compiler; 4] = [
-    Compiler::Gcc,
-    Compiler::Gxx,
+static SERVED: [Compiler; 2] = [
     Compiler::Diab,
     Compiler::Tasking,
 ];

@@ -1,4 +1,6 @@
 //! What the contracts do not say: rows worked by hand, and devices that fail.
+mod rows;
+
 use crate::answer::{Answer, answer_text};
 use crate::compiler::Compiler;
 use crate::request::read_request;
