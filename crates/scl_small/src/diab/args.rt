@@ -9,7 +9,8 @@ use crate::values::without_value;
 use scl_args::ArgDisposition::{CanBeSeparated, Concatenated, Separated};
 use scl_args::ArgRow::{Flag, TakeArg};
 use scl_args::{
-    ArgInfo, ArgParseResult, ArgumentValue, ExactArg, FlagTable, IntoArg, Mem, PathArg,
+    ArgInfo, ArgParseResult, ArgToStringResult, ArgumentValue, ExactArg, FlagTable, IntoArg, Mem,
+    PathArg,
 };
 use std::alloc::Global;
 
@@ -69,6 +70,24 @@ impl IntoArg for ArgData {
 
     fn into_arg_os_string(&self, alloc: Global) -> Mem<Vec<u8>> {
         Vec::from_slice(alloc, self.word())
+    }
+
+    fn into_arg_string<F: FnMut(&[u8]) -> Option<String>>(
+        &self,
+        alloc: Global,
+        f: &mut F,
+    ) -> ArgToStringResult {
+        match self {
+            ArgData::TooHardFlag | ArgData::DoCompilation | ArgData::DepArgumentFlag =>
+                ().into_arg_string(alloc, f),
+            ArgData::TooHard(word)
+            | ArgData::PassThrough(word)
+            | ArgData::PreprocessorArgument(word)
+            | ArgData::DepArgument(word) => word.into_arg_string(alloc, f),
+            ArgData::Output(path)
+            | ArgData::PreprocessorArgumentPath(path)
+            | ArgData::DepArgumentPath(path) => path.into_arg_string(alloc, f),
+        }
     }
 }
 
