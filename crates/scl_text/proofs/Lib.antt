@@ -1,3 +1,4 @@
 pub mod ArchLemmas
 pub mod OutputLemmas
+pub mod PathLaws
 pub mod PathLemmas
