@@ -21,11 +21,11 @@ abbrev pub AllParts : List (List ℕ) → Type 0
 AllParts [] = Unit {0}
 AllParts (part ∷ parts) = (is_one_part part ≡ true) × AllParts parts
 
-both : (a b : Bool) → (a && b) ≡ true → (a ≡ true) × (b ≡ true)
+pub both : (a b : Bool) → (a && b) ≡ true → (a ≡ true) × (b ≡ true)
 both true b h = (refl, h)
 both false b h = absurd (false≢true h)
 
-negated : (a : Bool) → not a ≡ true → a ≡ false
+pub negated : (a : Bool) → not a ≡ true → a ≡ false
 negated true h = absurd (false≢true h)
 negated false h = refl
 

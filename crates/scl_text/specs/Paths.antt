@@ -127,3 +127,11 @@ is_one_part part = list_all (λ byte. not (is_slash byte)) part
 -- a plain name of a file: one part, neither empty nor `.` nor `..`
 abbrev pub is_file_name : List ℕ → Bool
 is_file_name name = is_one_part name && (is_name name && not (bytes_eq name (codes "..")))
+
+-- a plain extension: bytes, none of which is a slash or a dot
+abbrev pub is_plain_extension : List ℕ → Bool
+is_plain_extension extension = not (length extension == 0) && (is_one_part extension && list_all (λ byte. not (is_dot byte)) extension)
+
+-- a file name with this extension in place of its own
+abbrev pub extended_name : List ℕ → List ℕ → List ℕ
+extended_name name extension = stem_of_name name ++ codes "." ++ extension
