@@ -2,26 +2,35 @@
 #![tactic(auto)]
 
 mod argument;
+mod counted;
 mod error;
 mod gather;
 mod iter;
+pub mod laws;
 mod lists;
 mod memory;
 mod piece;
 mod rows;
 mod search;
 mod spell;
+mod split;
+mod strings;
 mod table;
+#[cfg(test)]
+mod tests;
 mod value;
 mod words;
 
 pub use argument::{ArgDisposition, ArgInfo, ArgRow, Argument, Delimiter, NormalizedDisposition};
-pub use error::{ArgParseError, ArgParseResult};
+pub use counted::Counted;
+pub use error::{ArgParseError, ArgParseResult, ArgToStringError, ArgToStringResult};
 pub use gather::{Gather, gather_all};
 pub use iter::ArgsIter;
 pub use lists::{push_spelled, side_of_flag};
 pub use memory::Mem;
 pub use rows::{FlagTable, Probes, RowStore, SearchableArgInfo, looks};
 pub use spell::Iter;
-pub use value::{ArgumentValue, ExactArg, IntoArg, PathArg};
+pub use split::split_os_string_arg;
+pub use strings::{IterStrings, prints_one_word_or_two};
+pub use value::{ArgumentValue, ExactArg, FromArg, IntoArg, PathArg};
 pub use words::{CutWords, cut_options, cut_words};

@@ -12,10 +12,10 @@ ghost use Rattle.scl_gnu.specs.Recordings.{is_clang};
 
 use super::data::ArgData;
 use super::pass::{Gathered, gather};
-use super::reason::argument_parse;
 use super::record::is_clang;
-use scl_args::{CutWords, Mem, SearchableArgInfo, cut_options};
+use scl_args::{ArgParseError, CutWords, Mem, SearchableArgInfo, cut_options};
 use scl_text::records::{CCompilerKind, CompilerArguments, ParsedArguments};
+use scl_text::refusal::argument_parse;
 use scl_text::view::View;
 use scl_text::{ExpansionKind, expand_all};
 use std::alloc::Global;
@@ -59,7 +59,8 @@ fn read(
         Err(refusal) => return Ok(refusal.into_answer()),
     };
     if cut.is_dangling {
-        return Ok(argument_parse(alloc)?.into_answer());
+        let refusal = argument_parse(alloc, &ArgParseError::UnexpectedEndOfArgs)?;
+        return Ok(refusal.into_answer());
     }
     gathered.into_answer(alloc, kind, plusplus, cwd, view)
 }

@@ -1,10 +1,6 @@
 //! The texts beside a reason.
-ghost use Rattle.std.specs.Prelude.{◌≡◌, IfOk, codes};
-ghost use Rattle.scl_text.specs.Records.{CannotCache};
-ghost use Rattle.scl_text.specs.Refusals.{verdict_of};
 
-use scl_args::{ArgParseError, Mem};
-use scl_text::refusal::Refusal;
+use scl_args::Mem;
 use std::alloc::Global;
 use std::fmt;
 
@@ -42,12 +38,4 @@ pub(crate) fn quoted_list(alloc: Global, words: &[Vec<u8>]) -> Mem<String> {
     }
     text.push(']')?;
     Ok(text)
-}
-
-/// The refusal of words whose last flag lacks its value.
-pub(crate) fn argument_parse(alloc: Global) -> Mem<Refusal>
-    ensures { IfOk result (λ refusal. verdict_of refusal ≡ CannotCache (codes "argument parse")) }
-{
-    let text = ArgParseError::UnexpectedEndOfArgs.to_string(alloc)?;
-    Ok(Refusal::CannotCache("argument parse", Some(text)))
 }

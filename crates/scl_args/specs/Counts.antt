@@ -1,0 +1,25 @@
+-- A device, and how many of its calls failed.
+use Rattle.std.specs.Prelude.{ℕ, ◌+◌, ◌-◌, ◌^◌, ◌<◌, ◌≤◌, min, Result, Ok, Err, nat_eq, not, ◌&&◌, if◌then◌else◌, ◌⊎◌}
+
+-- the device, and the count of its calls that failed
+pub record Counting (D : Type 0) : Type 0 where
+  pub device : D
+  pub failed : ℕ
+
+-- one more, up to the greatest value that the count can have
+abbrev pub one_more : ℕ → ℕ
+one_more n = min (n + 1) (2 ^ 64 - 1)
+
+-- the count after a read that gave this
+abbrev pub read_failures : {E : Type 0} → Result ℕ E → ℕ → ℕ
+read_failures (Ok n) failed = failed
+read_failures (Err e) failed = one_more failed
+
+-- the count after a write of so many bytes that gave this: taking none of some bytes is a failure
+abbrev pub write_failures : {E : Type 0} → Result ℕ E → ℕ → ℕ → ℕ
+write_failures (Ok n) len failed = if nat_eq n 0 && not (nat_eq len 0) then one_more failed else failed
+write_failures (Err e) len failed = one_more failed
+
+-- a call failed between the two counts, or the count was at its greatest value and one may have
+abbrev pub HasFailed : ℕ → ℕ → Type 0
+HasFailed before after = (before < after) ⊎ (2 ^ 64 - 1 ≤ before)

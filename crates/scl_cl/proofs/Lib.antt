@@ -1,0 +1,5 @@
+pub mod CutLaws
+pub mod FieldLaws
+pub mod RequestLaws
+pub mod WrittenLaws
+pub mod BadLineLaws

@@ -1,0 +1,116 @@
+-- A request read line by line.
+use Rattle.std.proofs.Common.{◌≡◌, ℕ, ◌+◌, ◌-◌, ◌<◌, ◌≤◌, Bool, true, false, ◌||◌, cond, List, [], ◌∷◌, ◌++◌, reverse, length, Option, Some, None, Result, Ok, Err, refl, ap, sym, ◌∙◌, arith, append-nil, append_assoc}
+use Rattle.std.specs.List.{flat_map, filter_map, list_any, cons_option}
+use Rattle.std.specs.Option.{option_to_list, ok_or}
+use Rattle.std.proofs.lemmas.Grind.{flat_map-append}
+use Rattle.std.proofs.lemmas.List.{reverse-append}
+use Rattle.scl_text.specs.Views.{Viewed}
+use Rattle.scl_cl.specs.Lines.{lines_of}
+use Rattle.scl_cl.specs.Sayings.{Said, Blank, Names, StandsIn, HasWord, HasFile, HasDirectory, HasPath, HasVariable, IsMultiarch, said}
+use Rattle.scl_cl.specs.Requests.{Request, Gathered, gathered, breaks, first_broken, request_in, request_of, request_unless, compiler_in, directory_in, word_in, variable_in, file_in, viewed_directory_in, path_in, is_multiarch}
+use Rattle.scl_cl.specs.Drafts.{with_line}
+
+or-comm : (a b : Bool) → a || b ≡ b || a
+or-comm true true = refl
+or-comm true false = refl
+or-comm false true = refl
+or-comm false false = refl
+
+or-assoc : (a b c : Bool) → (a || b) || c ≡ a || (b || c)
+or-assoc true b c = refl
+or-assoc false b c = refl
+
+any_more : (p : Said → Bool) (xs : List Said) (y : Said) → list_any p (xs ++ y ∷ []) ≡ p y || list_any p xs
+any_more p [] y = refl
+any_more p (x ∷ xs) y =
+    ap (λ b. p x || b) (any_more p xs y) ∙ sym (or-assoc (p x) (p y) (list_any p xs)) ∙ ap (λ b. b || list_any p xs) (or-comm (p x) (p y)) ∙ or-assoc (p y) (p x) (list_any p xs)
+
+flat_more : {A : Type 0} (f : Said → List A) (xs : List Said) (y : Said) → flat_map f (xs ++ y ∷ []) ≡ flat_map f xs ++ f y
+flat_more f xs y = flat_map-append f xs (y ∷ []) ∙ ap (λ zs. flat_map f xs ++ zs) (append-nil (f y))
+
+-- one line's part of a list is the same turned round
+file_in-turned : (y : Said) → reverse (file_in y) ≡ file_in y
+file_in-turned Blank = refl
+file_in-turned (Names _) = refl
+file_in-turned (StandsIn _) = refl
+file_in-turned (HasWord _) = refl
+file_in-turned (HasFile _ _) = refl
+file_in-turned (HasDirectory _) = refl
+file_in-turned (HasPath _) = refl
+file_in-turned (HasVariable _ _) = refl
+file_in-turned IsMultiarch = refl
+
+viewed_directory_in-turned : (y : Said) → reverse (viewed_directory_in y) ≡ viewed_directory_in y
+viewed_directory_in-turned Blank = refl
+viewed_directory_in-turned (Names _) = refl
+viewed_directory_in-turned (StandsIn _) = refl
+viewed_directory_in-turned (HasWord _) = refl
+viewed_directory_in-turned (HasFile _ _) = refl
+viewed_directory_in-turned (HasDirectory _) = refl
+viewed_directory_in-turned (HasPath _) = refl
+viewed_directory_in-turned (HasVariable _ _) = refl
+viewed_directory_in-turned IsMultiarch = refl
+
+path_in-turned : (y : Said) → reverse (path_in y) ≡ path_in y
+path_in-turned Blank = refl
+path_in-turned (Names _) = refl
+path_in-turned (StandsIn _) = refl
+path_in-turned (HasWord _) = refl
+path_in-turned (HasFile _ _) = refl
+path_in-turned (HasDirectory _) = refl
+path_in-turned (HasPath _) = refl
+path_in-turned (HasVariable _ _) = refl
+path_in-turned IsMultiarch = refl
+
+-- one more line adds what it names
+pub gathered-more : (before : List Said) (line : Said) → with_line (gathered before) line ≡ gathered (before ++ line ∷ [])
+gathered-more before line = simp (flat_more, reverse-append, file_in-turned, viewed_directory_in-turned, path_in-turned, any_more)
+
+-- Of all bytes these are left behind lines that kept this; the next line has this number.
+pub record Passed (all left : List ℕ) (number : ℕ) (kept : Gathered) : Type 0 where
+  pub before : List Said
+  pub kept_is : kept ≡ gathered before
+  pub told : first_broken number before (lines_of left) ≡ first_broken 1 [] (lines_of all)
+  pub whole : before ++ filter_map said (lines_of left) ≡ filter_map said (lines_of all)
+  pub numbered : number + length (lines_of left) ≡ length (lines_of all) + 1
+  pub counted : number + length left ≤ length all + 1
+
+pub starts : (all : List ℕ) (kept : Gathered) → kept ≡ gathered [] → Passed all all 1 kept
+starts all kept k = record { before = []; kept_is = k; told = refl; whole = refl; numbered = omega arith; counted = omega arith }
+
+-- a line was taken
+pub goes_on : (all left rest line : List ℕ) (number : ℕ) (kept kept' : Gathered) (s : Said) → Passed all left number kept → lines_of left ≡ line ∷ lines_of rest → length rest < length left
+    → said line ≡ Some s → breaks kept (Some s) ≡ false → kept' ≡ with_line kept s → Passed all rest (number + 1) kept'
+goes_on all left rest line number kept kept' s p cut shorter says keeps takes =
+    let holds : breaks (gathered p.before) (said line) ≡ false = ap (λ g. breaks g (said line)) (sym p.kept_is) ∙ ap (breaks kept) says ∙ keeps in
+    record {
+      before = p.before ++ s ∷ [];
+      kept_is = takes ∙ ap (λ g. with_line g s) p.kept_is ∙ gathered-more p.before s;
+      told =
+          ap (λ o. first_broken (number + 1) (p.before ++ option_to_list o) (lines_of rest)) (sym says)
+          ∙ ap (λ b. cond b (Some number) (first_broken (number + 1) (p.before ++ option_to_list (said line)) (lines_of rest))) (sym holds)
+          ∙ ap (first_broken number p.before) (sym cut) ∙ p.told;
+      whole =
+          append_assoc p.before (s ∷ []) (filter_map said (lines_of rest))
+          ∙ ap (λ o. p.before ++ cons_option o (filter_map said (lines_of rest))) (sym says)
+          ∙ ap (λ ls. p.before ++ filter_map said ls) (sym cut) ∙ p.whole;
+      numbered = omega (arith, p.numbered, ap length cut);
+      counted = omega (arith, p.counted);
+    }
+
+-- a line that breaks a rule
+pub is_bad : (all left rest line : List ℕ) (number : ℕ) (kept : Gathered) → Passed all left number kept → lines_of left ≡ line ∷ lines_of rest → breaks kept (said line) ≡ true → request_in (lines_of all) ≡ Err number
+is_bad all left rest line number kept p cut h =
+    let found : first_broken 1 [] (lines_of all) ≡ Some number =
+    sym p.told ∙ ap (first_broken number p.before) cut
+    ∙ ap (λ b. cond b (Some number) (first_broken (number + 1) (p.before ++ option_to_list (said line)) (lines_of rest))) (ap (λ g. breaks g (said line)) (sym p.kept_is) ∙ h) in
+    ap (λ o. request_unless o (lines_of all)) found
+
+-- the end, behind lines none of which breaks a rule
+pub at_end : (all left : List ℕ) (number : ℕ) (kept : Gathered) → Passed all left number kept → left ≡ [] → request_in (lines_of all) ≡ ok_or (request_of kept) number
+at_end all left number kept p e =
+    let none : first_broken 1 [] (lines_of all) ≡ None = sym p.told ∙ ap (λ bs. first_broken number p.before (lines_of bs)) e in
+    let named : gathered (filter_map said (lines_of all)) ≡ kept =
+    ap gathered (sym p.whole ∙ ap (λ bs. p.before ++ filter_map said (lines_of bs)) e ∙ append-nil p.before) ∙ sym p.kept_is in
+    let last : length (lines_of all) + 1 ≡ number = omega (arith, p.numbered, ap (λ bs. length (lines_of bs)) e) in
+    ap (λ o. request_unless o (lines_of all)) none ∙ ap (λ g. ok_or (request_of g) (length (lines_of all) + 1)) named ∙ ap (λ n. ok_or (request_of kept) n) last

@@ -1,0 +1,57 @@
+-- Fields of a request's lines, and the bytes that they stand for.
+use Rattle.std.specs.Prelude.{ℕ, ◌+◌, ◌-◌, ◌*◌, ◌/◌, ◌%◌, ◌<◌, ◌≡◌, Bool, true, false, not, ◌&&◌, List, [], ◌∷◌, ◌++◌, Option, Some, None, ◌==◌, nat_le, nat_lt, if◌then◌else◌, All}
+use Rattle.std.specs.List.{flat_map}
+use Rattle.scl_cl.specs.Lines.{cut_at}
+
+-- a byte from 21 to 7E, hexadecimal, other than a backslash: it stands for itself
+abbrev pub is_plain : ℕ → Bool
+is_plain b = nat_le 0x21 b && nat_le b 0x7e && not (b == 0x5c)
+
+-- the value of a hexadecimal digit, a letter in lower case
+abbrev pub digit_value : ℕ → Option ℕ
+digit_value c =
+    if nat_le 0x30 c && nat_le c 0x39 then Some (c - 0x30)
+    else (if nat_le 0x61 c && nat_le c 0x66 then Some (c - 0x57) else None)
+
+abbrev pub pair_value : Option ℕ → Option ℕ → Option ℕ
+pair_value (Some high) (Some low) = Some (16 * high + low)
+pair_value _ _ = None
+
+-- the byte of a backslash, an x and two digits: its value is sixteen times the first and the second
+abbrev pub escaped_byte : ℕ → ℕ → ℕ → ℕ → Option ℕ
+escaped_byte slash x high low = if slash == 0x5c && x == 0x78 then pair_value (digit_value high) (digit_value low) else None
+
+abbrev pub before : Option ℕ → Option (List ℕ) → Option (List ℕ)
+before (Some b) (Some bs) = Some (b ∷ bs)
+before _ _ = None
+
+-- the bytes that a field's text stands for
+abbrev pub field_of : List ℕ → Option (List ℕ)
+field_of [] = Some []
+field_of (b ∷ (x ∷ (h ∷ (l ∷ rest)))) =
+    if is_plain b then before (Some b) (field_of (x ∷ (h ∷ (l ∷ rest)))) else before (escaped_byte b x h l) (field_of rest)
+field_of (b ∷ rest) = if is_plain b then before (Some b) (field_of rest) else None
+
+abbrev pub both : Option (List ℕ) → Option (List ℕ) → Option (List ℕ × List ℕ)
+both (Some a) (Some b) = Some (a, b)
+both _ _ = None
+
+abbrev pub fields_of : Option (List ℕ × List ℕ) → Option (List ℕ × List ℕ)
+fields_of None = None
+fields_of (Some parts) = both (field_of parts.0) (field_of parts.1)
+
+-- two fields with a tab between them
+abbrev pub two_fields : List ℕ → Option (List ℕ × List ℕ)
+two_fields text = fields_of (cut_at 9 text)
+
+-- a hexadecimal digit of a number below sixteen, a letter in lower case
+abbrev pub digit_of : ℕ → ℕ
+digit_of n = if nat_lt n 10 then 0x30 + n else 0x57 + n
+
+-- a byte as a field writes it
+abbrev pub escape : ℕ → List ℕ
+escape b = if is_plain b then b ∷ [] else 0x5c ∷ 0x78 ∷ digit_of (b / 16) ∷ digit_of (b % 16) ∷ []
+
+-- a byte string as a field writes it
+abbrev pub escaped : List ℕ → List ℕ
+escaped bytes = flat_map escape bytes

@@ -1,0 +1,12 @@
+pub mod Lines
+pub mod Fields
+pub mod Compilers
+pub mod Sayings
+pub mod LinesRead
+pub mod Requests
+pub mod Drafts
+pub mod Answers
+pub mod AnswersGiven
+pub mod Transfers
+pub mod Written
+pub mod Runs

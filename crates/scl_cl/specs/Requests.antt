@@ -1,0 +1,117 @@
+-- The request that lines make, or the number of the first line that breaks a rule.
+use Rattle.std.specs.Prelude.{ℕ, ◌+◌, ◌<◌, ◌≤◌, ◌≡◌, Bool, true, false, List, [], ◌∷◌, ◌++◌, reverse, length, Option, Some, None, Result, Ok, Err, if◌then◌else◌, take}
+use Rattle.std.specs.List.{flat_map, filter_map, list_any}
+use Rattle.std.specs.Option.{option_map, option_to_list, ok_or}
+use Rattle.scl_text.specs.Views.{Viewed, File}
+use Rattle.scl_cl.specs.declared.compiler.Compiler.{Compiler}
+use Rattle.scl_cl.specs.Lines.{lines_of}
+use Rattle.scl_cl.specs.Sayings.{Said, Blank, Names, StandsIn, HasWord, HasFile, HasDirectory, HasPath, HasVariable, IsMultiarch, said}
+
+-- what a request asks for
+pub record Request : Type 0 where
+  pub compiler : Compiler
+  pub directory : List ℕ
+  pub words : List (List ℕ)
+  pub environment : List (List ℕ × List ℕ)
+  pub view : Viewed
+
+abbrev pub compiler_in : Said → List Compiler
+compiler_in (Names compiler) = compiler ∷ []
+compiler_in _ = []
+
+abbrev pub directory_in : Said → List (List ℕ)
+directory_in (StandsIn directory) = directory ∷ []
+directory_in _ = []
+
+abbrev pub word_in : Said → List (List ℕ)
+word_in (HasWord word) = word ∷ []
+word_in _ = []
+
+abbrev pub variable_in : Said → List (List ℕ × List ℕ)
+variable_in (HasVariable key value) = (key, value) ∷ []
+variable_in _ = []
+
+abbrev pub file_in : Said → List File
+file_in (HasFile path bytes) = record { path = path; bytes = bytes } ∷ []
+file_in _ = []
+
+abbrev pub viewed_directory_in : Said → List (List ℕ)
+viewed_directory_in (HasDirectory path) = path ∷ []
+viewed_directory_in _ = []
+
+abbrev pub path_in : Said → List (List ℕ)
+path_in (HasPath path) = path ∷ []
+path_in _ = []
+
+abbrev pub is_multiarch : Said → Bool
+is_multiarch IsMultiarch = true
+is_multiarch _ = false
+
+-- the view of the files, directories and paths that lines name
+abbrev pub view_of : List Said → Viewed
+view_of all = record {
+  files = reverse (flat_map file_in all);
+  directories = reverse (flat_map viewed_directory_in all);
+  existing = reverse (flat_map path_in all);
+  is_multiarch = list_any is_multiarch all;
+}
+
+-- what lines name, in their order
+pub record Gathered : Type 0 where
+  pub compilers : List Compiler
+  pub directories : List (List ℕ)
+  pub words : List (List ℕ)
+  pub environment : List (List ℕ × List ℕ)
+  pub view : Viewed
+
+abbrev pub gathered : List Said → Gathered
+gathered all = record {
+  compilers = flat_map compiler_in all;
+  directories = flat_map directory_in all;
+  words = flat_map word_in all;
+  environment = flat_map variable_in all;
+  view = view_of all;
+}
+
+-- the first, or the empty path
+abbrev pub directory_of : List (List ℕ) → List ℕ
+directory_of [] = []
+directory_of (directory ∷ _) = directory
+
+abbrev pub request_for : List Compiler → Gathered → Option Request
+request_for [] g = None
+request_for (compiler ∷ _) g = Some (record {
+  compiler = compiler;
+  directory = directory_of g.directories;
+  words = g.words;
+  environment = g.environment;
+  view = g.view;
+})
+
+-- the request that what lines name makes, if they name a compiler
+abbrev pub request_of : Gathered → Option Request
+request_of g = request_for g.compilers g
+
+abbrev pub is_given : {A : Type 0} → List A → Bool
+is_given [] = false
+is_given (_ ∷ _) = true
+
+-- whether a line breaks a rule behind lines that name this: it says nothing, or names again what stands once
+abbrev pub breaks : Gathered → Option Said → Bool
+breaks g None = true
+breaks g (Some (Names _)) = is_given g.compilers
+breaks g (Some (StandsIn _)) = is_given g.directories
+breaks g (Some _) = false
+
+-- the number of the first line that breaks a rule; the first of these has the number n and stands behind lines that say this
+abbrev pub first_broken : ℕ → List Said → List (List ℕ) → Option ℕ
+first_broken n earlier [] = None
+first_broken n earlier (line ∷ lines) = if breaks (gathered earlier) (said line) then Some n else first_broken (n + 1) (earlier ++ option_to_list (said line)) lines
+
+abbrev pub request_unless : Option ℕ → List (List ℕ) → Result Request ℕ
+request_unless (Some n) lines = Err n
+request_unless None lines = ok_or (request_of (gathered (filter_map said lines))) (length lines + 1)
+
+-- the request of the lines, or the number of the bad line: the first that breaks a rule, or else, where none names a compiler, the one behind the last
+abbrev pub request_in : List (List ℕ) → Result Request ℕ
+request_in lines = request_unless (first_broken 1 [] lines) lines

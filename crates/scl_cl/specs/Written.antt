@@ -1,0 +1,91 @@
+-- Requests and answers as they are written.
+use Rattle.std.specs.Prelude.{ℕ, ◌<◌, ◌≤◌, ◌≡◌, Bool, true, false, List, [], ◌∷◌, ◌++◌, map, codes, Option, Some, None, MatchOption, length, take, slice_index_or, ◌+◌}
+use Rattle.std.specs.List.{flat_map, filter_map}
+use Rattle.scl_cl.specs.declared.compiler.Compiler.{Compiler}
+use Rattle.scl_cl.specs.Lines.{cut_at, lines_of}
+use Rattle.scl_cl.specs.Fields.{field_of, escaped}
+use Rattle.scl_cl.specs.Compilers.{name_of, served, compiler_named}
+use Rattle.scl_cl.specs.Sayings.{Said, Blank, Names, StandsIn, HasWord, HasFile, HasDirectory, HasPath, HasVariable, IsMultiarch, said, keywords, keyword_named}
+use Rattle.scl_cl.specs.Sayings as sayings
+use Rattle.scl_cl.specs.Requests.{gathered, breaks, first_broken}
+use Rattle.scl_cl.specs.Answers.{compiled, text_of, cacheable_text, line}
+
+abbrev pub AreBytes : List ℕ → Type 0
+AreBytes [] = Unit {0}
+AreBytes (b ∷ bs) = (b < 256) × AreBytes bs
+
+abbrev pub AreAllBytes : List (List ℕ) → Type 0
+AreAllBytes [] = Unit {0}
+AreAllBytes (word ∷ words) = AreBytes word × AreAllBytes words
+
+-- each byte is from 21 to 7E, hexadecimal: none is a space, a tab or an LF
+abbrev pub ArePrintable : List ℕ → Type 0
+ArePrintable [] = Unit {0}
+ArePrintable (b ∷ bs) = ((0x21 ≤ b) × (b ≤ 0x7e)) × ArePrintable bs
+
+-- what is said can be written: its byte strings are bytes, its compiler is served
+abbrev pub CanBeWritten : Said → Type 0
+CanBeWritten Blank = Unit {0}
+CanBeWritten (Names compiler) = compiler_named (name_of compiler) ≡ Some compiler
+CanBeWritten (StandsIn directory) = AreBytes directory
+CanBeWritten (HasWord word) = AreBytes word
+CanBeWritten (HasFile path bytes) = AreBytes path × AreBytes bytes
+CanBeWritten (HasDirectory path) = AreBytes path
+CanBeWritten (HasPath path) = AreBytes path
+CanBeWritten (HasVariable key value) = AreBytes key × AreBytes value
+CanBeWritten IsMultiarch = Unit {0}
+
+abbrev pub AllCanBeWritten : List Said → Type 0
+AllCanBeWritten [] = Unit {0}
+AllCanBeWritten (s ∷ ss) = CanBeWritten s × AllCanBeWritten ss
+
+-- the line that says this
+abbrev pub written : Said → List ℕ
+written Blank = []
+written (Names compiler) = codes "compiler " ++ name_of compiler
+written (StandsIn directory) = codes "cwd " ++ escaped directory
+written (HasWord word) = codes "word " ++ escaped word
+written (HasFile path bytes) = codes "file " ++ escaped path ++ 9 ∷ escaped bytes
+written (HasDirectory path) = codes "dir " ++ escaped path
+written (HasPath path) = codes "exists " ++ escaped path
+written (HasVariable key value) = codes "env " ++ escaped key ++ 9 ∷ escaped value
+written IsMultiarch = codes "multiarch"
+
+-- A field that is written is read back.
+abbrev pub FieldReadsBack : Type 0
+FieldReadsBack = (bytes : List ℕ) → AreBytes bytes → field_of (escaped bytes) ≡ Some bytes
+
+-- A field that is written is printable.
+abbrev pub FieldIsPrintable : Type 0
+FieldIsPrintable = (bytes : List ℕ) → AreBytes bytes → ArePrintable (escaped bytes)
+
+-- A line that is written says what was to be said.
+abbrev pub LineReadsBack : Type 0
+LineReadsBack = (s : Said) → CanBeWritten s → said (written s) ≡ Some s
+
+-- The lines of a request that is written say what was to be said.
+abbrev pub RequestReadsBack : Type 0
+RequestReadsBack = (all : List Said) → AllCanBeWritten all → filter_map said (lines_of (flat_map (λ s. line (written s)) all)) ≡ all
+
+-- A line ends at the first LF; bytes without one are one line.
+abbrev pub LinesEndAtFeeds : Type 0
+LinesEndAtFeeds = (line rest : List ℕ) → cut_at 10 line ≡ None → lines_of (line ++ 10 ∷ rest) ≡ line ∷ lines_of rest
+
+-- The lines of the text of a command are `ok`, one line for each word, and whether it can be cached.
+abbrev pub AnswerHasLines : Type 0
+AnswerHasLines = (words : List (List ℕ)) (is_cacheable : Bool) → AreAllBytes words
+    → lines_of (text_of (compiled words is_cacheable)) ≡ (codes "ok" ∷ map (λ word. codes "arg " ++ escaped word) words) ++ cacheable_text is_cacheable ∷ []
+
+-- The k-th line breaks a rule behind those before it.
+abbrev pub breaks_at : List (List ℕ) → ℕ → Bool
+breaks_at lines k = breaks (gathered (filter_map said (take k lines))) (said (slice_index_or lines k []))
+
+-- The bad line breaks a rule and none before it does; where there is none, no line does.
+abbrev pub BadLineIsFirst : Type 0
+BadLineIsFirst = (lines : List (List ℕ)) → MatchOption (first_broken 1 [] lines)
+    ((k : ℕ) → k < length lines → breaks_at lines k ≡ false)
+    (λ n. (k : ℕ) × (n ≡ k + 1) × (k < length lines) × (breaks_at lines k ≡ true) × ((j : ℕ) → j < k → breaks_at lines j ≡ false))
+
+-- Each served name names its compiler, and each keyword's text the keyword.
+abbrev pub NamesReadBack : Type 0
+NamesReadBack = (map (λ compiler. compiler_named (name_of compiler)) served ≡ map Some served) × (map (λ keyword. keyword_named (sayings.text_of keyword)) keywords ≡ map Some keywords)

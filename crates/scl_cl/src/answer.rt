@@ -1,0 +1,118 @@
+//! Answers and their texts.
+ghost use Rattle.std.specs.Prelude.{◌≡◌, ◌++◌, ◌<◌, OnOk, IfOk};
+ghost use Rattle.std.specs.List.{flat_map};
+ghost use Rattle.scl_text.specs.Words.{words_of};
+ghost use Rattle.scl_cl.specs.Fields.{digit_of, escape, escaped};
+ghost use Rattle.scl_cl.specs.Answers.{compiled, cannot_cache, arg_line, text_of};
+ghost use Rattle.scl_cl.specs.AnswersGiven.{answer_of};
+
+use crate::field::is_plain;
+use scl_text::Mem;
+use std::alloc::Global;
+
+/// What a request is answered.
+#[derive(Drop)]
+pub enum Answer {
+    /// The words of the compile command, and whether its outcome can be cached.
+    Compiled {
+        words: Vec<Vec<u8>>,
+        is_cacheable: bool,
+    },
+    /// Why the outcome of the command line cannot be cached.
+    CannotCache(&'static str),
+    /// The command line compiles nothing.
+    NotCompilation,
+}
+
+/// The hexadecimal digit of a number below sixteen.
+fn digit_of(number: u8) -> u8
+    requires { number < 16 }
+    ensures { result ≡ digit_of number }
+{
+    if number < 10 {
+        b'0' + number
+    } else {
+        b'a' + (number - 10)
+    }
+}
+
+/// Appends a byte as a field writes it.
+fn push_escape(text: &mut Vec<u8>, byte: u8) -> Mem<()>
+    ensures { OnOk result (text.new.items ≡ text.old.items ++ escape byte) }
+{
+    if is_plain(byte) {
+        text.push(byte)?;
+        return Ok(());
+    }
+    text.extend_from_slice(&[b'\\', b'x', digit_of(byte / 16), digit_of(byte % 16)])?;
+    Ok(())
+}
+
+/// Appends a byte string as a field writes it.
+fn push_escaped(text: &mut Vec<u8>, word: &[u8]) -> Mem<()>
+    ensures { OnOk result (text.new.items ≡ text.old.items ++ escaped word.now) }
+{
+    for byte in word {
+        push_escape(text, *byte)?;
+    }
+    Ok(())
+}
+
+/// Appends the line of a word.
+fn push_arg(text: &mut Vec<u8>, word: &[u8]) -> Mem<()>
+    ensures { OnOk result (text.new.items ≡ text.old.items ++ arg_line word.now) }
+{
+    text.extend_from_slice(b"arg ")?;
+    push_escaped(text, word)?;
+    text.push(b'\n')?;
+    Ok(())
+}
+
+/// Appends the lines of all words.
+fn push_args(text: &mut Vec<u8>, words: &[Vec<u8>]) -> Mem<()>
+    ensures { OnOk result (text.new.items ≡ text.old.items ++ flat_map arg_line (words_of words.now)) }
+{
+    for word in words {
+        push_arg(text, word)?;
+    }
+    Ok(())
+}
+
+/// The text of a command.
+fn compiled_text(alloc: Global, words: &[Vec<u8>], is_cacheable: bool) -> Mem<Vec<u8>>
+    ensures { IfOk result (λ text. text.items ≡ text_of (compiled (words_of words.now) is_cacheable)) }
+{
+    let mut text = Vec::from_slice(alloc, b"ok\n")?;
+    push_args(&mut text, words)?;
+    let last = if is_cacheable {
+        b"cacheable yes\n".as_slice()
+    } else {
+        b"cacheable no\n".as_slice()
+    };
+    text.extend_from_slice(last)?;
+    Ok(text)
+}
+
+/// The text of a reason.
+fn reason_text(alloc: Global, reason: &str) -> Mem<Vec<u8>>
+    ensures { IfOk result (λ text. text.items ≡ text_of (cannot_cache reason.now)) }
+{
+    let mut text = Vec::from_slice(alloc, b"cannot-cache ")?;
+    text.extend_from_slice(reason.as_bytes())?;
+    text.push(b'\n')?;
+    Ok(text)
+}
+
+/// The text of an answer.
+pub fn answer_text(alloc: Global, answer: &Answer) -> Mem<Vec<u8>>
+    ensures { IfOk result (λ text. text.items ≡ text_of (answer_of answer.now)) }
+{
+    match answer {
+        Answer::Compiled {
+            words,
+            is_cacheable,
+        } => compiled_text(alloc, words, *is_cacheable),
+        Answer::CannotCache(reason) => reason_text(alloc, reason),
+        Answer::NotCompilation => Vec::from_slice(alloc, b"not-compilation\n"),
+    }
+}

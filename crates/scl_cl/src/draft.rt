@@ -1,0 +1,90 @@
+//! A request while its lines are read.
+ghost use Rattle.std.specs.Prelude.{◌≡◌, OnOk, false, Some, []};
+ghost use Rattle.std.specs.Option.{option_map};
+ghost use Rattle.scl_cl.specs.Requests.{breaks, gathered, request_of};
+ghost use Rattle.scl_cl.specs.Drafts.{with_line, kept_by, asked_by};
+ghost use Rattle.scl_cl.specs.LinesRead.{said_by};
+
+use crate::compiler::Compiler;
+use crate::line::Line;
+use scl_text::{Mem, View};
+use std::alloc::Global;
+
+/// What is asked for: a compiler, the directory that it stands in, its words, its environment,
+/// and the files that it may see (docs/RULES.md, Requests).
+#[derive(Drop)]
+pub struct Request {
+    pub compiler: Compiler,
+    pub directory: Vec<u8>,
+    pub words: Vec<Vec<u8>>,
+    pub environment: Vec<(Vec<u8>, Vec<u8>)>,
+    pub view: View,
+}
+
+/// What the lines so far make of a request.
+#[derive(Drop)]
+pub struct Draft {
+    pub compiler: Option<Compiler>,
+    pub directory: Option<Vec<u8>>,
+    pub words: Vec<Vec<u8>>,
+    pub environment: Vec<(Vec<u8>, Vec<u8>)>,
+    pub view: View,
+}
+
+impl Draft {
+    /// A draft without any line.
+    pub fn new(alloc: Global) -> Draft
+        ensures { kept_by result ≡ gathered [] }
+    {
+        Draft {
+            compiler: None,
+            directory: None,
+            words: Vec::new(alloc),
+            environment: Vec::new(alloc),
+            view: View::new(alloc),
+        }
+    }
+
+    /// Whether the line says again what stands once.
+    pub fn refuses(&self, line: &Line) -> bool
+        ensures { result ≡ breaks (kept_by self.now) (Some (said_by line.now)) }
+    {
+        match line {
+            Line::Compiler(_) => self.compiler.is_some(),
+            Line::Directory(_) => self.directory.is_some(),
+            _ => false,
+        }
+    }
+
+    /// Takes what the line says.
+    pub fn take(&mut self, line: Line) -> Mem<()>
+        requires { breaks (kept_by self.old) (Some (said_by line)) ≡ false }
+        ensures { OnOk result (kept_by self.new ≡ with_line (kept_by self.old) (said_by line)) }
+    {
+        match line {
+            Line::Blank => {}
+            Line::Compiler(compiler) => self.compiler = Some(compiler),
+            Line::Directory(path) => self.directory = Some(path),
+            Line::Word(word) => self.words.push(word)?,
+            Line::File(path, bytes) => self.view.add_file(path, bytes)?,
+            Line::ViewedDirectory(path) => self.view.add_dir(path)?,
+            Line::Existing(path) => self.view.add_existing(path)?,
+            Line::Variable(key, value) => self.environment.push((key, value))?,
+            Line::Multiarch => self.view.set_multiarch(true),
+        }
+        Ok(())
+    }
+
+    /// The request, if a line named a compiler.
+    pub fn finish(self, alloc: Global) -> Option<Request>
+        ensures { option_map asked_by result ≡ request_of (kept_by self) }
+    {
+        Some(Request {
+            compiler: self.compiler?,
+            directory: self.directory.unwrap_or(Vec::new(alloc)),
+            words: self.words,
+            environment: self.environment,
+            view: self.view,
+        })
+    }
+}

@@ -1,0 +1,87 @@
+//! The program, over a reader and a writer.
+ghost use Rattle.std.specs.Prelude.{◌≡◌, ◌^◌, ◌≤◌, ◌⊎◌, ℕ, List, length, take, IfOk, IfSome, MatchResult, Ok, Err};
+ghost use Rattle.std.specs.Io.KnownBytes.{Appends};
+ghost use Rattle.scl_args.specs.Counts.{HasFailed};
+ghost use Rattle.scl_cl.specs.Transfers.{Gave};
+ghost use Rattle.scl_cl.specs.Drafts.{asked_by};
+ghost use Rattle.scl_cl.specs.Answers.{answer_to, text_of};
+ghost use Rattle.scl_cl.specs.Runs.{answer, IsSilent};
+
+use crate::answer::answer_text;
+use crate::compile::answer_request;
+use crate::draft::Request;
+use crate::request::read_request;
+use crate::transfer::{ReadError, read_all, write_whole};
+use scl_args::Counted;
+use scl_text::Mem;
+use std::alloc::Global;
+use std::io::{Read, Write};
+
+/// How a run ended (docs/RULES.md, Outcomes).
+#[derive(Debug, Clone, Copy, PartialEq, Eq)]
+pub enum Outcome {
+    /// The answer was written whole.
+    Answered,
+    /// The line of this number, the first being 1, breaks a rule; nothing was written.
+    BadLine(u64),
+    /// Memory was refused; nothing was written.
+    OutOfMemory,
+    /// The reader failed, or gave bytes by 2^40 reads; nothing was written.
+    ReadFailed,
+    /// The writer failed; a beginning of the answer was written.
+    WriteFailed,
+}
+
+/// The text of the answer to a request.
+fn text_for(alloc: Global, request: Request) -> Mem<Vec<u8>>
+    ensures { IfOk result (λ text. text.items ≡ text_of (answer_to (asked_by request))) }
+{
+    let answer = answer_request(alloc, request)?;
+    answer_text(alloc, &answer)
+}
+
+/// The text of the answer to the request that the bytes make, or the number of their bad line.
+fn answer(alloc: Global, bytes: Vec<u8>) -> Mem<Result<Vec<u8>, u64>>
+    ensures { IfOk result (λ answered. MatchResult answered (λ text. answer bytes.items ≡ Ok text.items) (λ number. answer bytes.items ≡ Err number)) }
+{
+    let read = read_request(alloc, &bytes)?;
+    drop(bytes);
+    match read {
+        Ok(request) => Ok(Ok(text_for(alloc, request)?)),
+        Err(number) => Ok(Err(number)),
+    }
+}
+
+/// Reads the request to its end, and writes the answer (docs/RULES.md, Outcomes).
+pub fn run<R: Read, W: Write>(
+    alloc: Global,
+    reader: &mut Counted<R>,
+    writer: &mut Counted<W>,
+) -> Outcome
+    // What is answered is the answer to all that the reader had, and it is written whole.
+    ensures answered { result ≡ Outcome.Answered → IfSome (R.remaining reader.old.device) (λ bytes.
+        (text : List ℕ) × (answer bytes ≡ Ok text) × Appends (W.contents writer.old.device) (W.contents writer.new.device) text) }
+    ensures bad_line { (n : ℕ) → result ≡ Outcome.BadLine n → IfSome (R.remaining reader.old.device) (λ bytes. answer bytes ≡ Err n) }
+    ensures read_failed { result ≡ Outcome.ReadFailed → HasFailed reader.old.failed reader.new.failed
+        ⊎ Gave (R.remaining reader.old.device) (R.remaining reader.new.device) (2 ^ 40) }
+    // A beginning of the answer was written, and the writer failed.
+    ensures write_failed { result ≡ Outcome.WriteFailed → IfSome (R.remaining reader.old.device) (λ bytes.
+        (text : List ℕ) × (n : ℕ) × (answer bytes ≡ Ok text) × (n ≤ length text) × Appends (W.contents writer.old.device) (W.contents writer.new.device) (take n text)) }
+    ensures writer_failed { result ≡ Outcome.WriteFailed → HasFailed writer.old.failed writer.new.failed }
+    // Nothing was written.
+    ensures untouched { IsSilent result → writer.new ≡ writer.old }
+{
+    let bytes = match read_all(alloc, reader) {
+        Ok(bytes) => bytes,
+        Err(ReadError::Memory) => return Outcome::OutOfMemory,
+        Err(ReadError::Device) => return Outcome::ReadFailed,
+    };
+    match answer(alloc, bytes) {
+        Err(_) => Outcome::OutOfMemory,
+        Ok(Err(number)) => Outcome::BadLine(number),
+        Ok(Ok(text)) => match write_whole(writer, &text) {
+            Ok(()) => Outcome::Answered,
+            Err(_) => Outcome::WriteFailed,
+        },
+    }
+}

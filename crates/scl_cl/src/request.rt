@@ -1,0 +1,37 @@
+//! Reading a request from its bytes.
+ghost use Rattle.std.specs.Prelude.{◌≡◌, IfOk, MatchResult, Ok, Err};
+ghost use Rattle.scl_cl.specs.Lines.{lines_of};
+ghost use Rattle.scl_cl.specs.Requests.{request_in};
+ghost use Rattle.scl_cl.specs.Drafts.{asked_by};
+
+use crate::cut::next_line;
+use crate::draft::{Draft, Request};
+use crate::line::read_line;
+use scl_text::Mem;
+use std::alloc::Global;
+
+/// The request that the bytes make, or the number of their bad line.
+pub fn read_request(alloc: Global, bytes: &[u8]) -> Mem<Result<Request, u64>>
+    ensures { IfOk result (λ read. MatchResult read
+        (λ request. request_in (lines_of bytes.now) ≡ Ok (asked_by request))
+        (λ number. request_in (lines_of bytes.now) ≡ Err number)) }
+{
+    let mut draft = Draft::new(alloc);
+    let mut number = 1;
+    let mut left = bytes;
+    while let Some((line, rest)) = next_line(left) {
+        let Some(said) = read_line(alloc, line)? else {
+            return Ok(Err(number));
+        };
+        if draft.refuses(&said) {
+            return Ok(Err(number));
+        }
+        draft.take(said)?;
+        number += 1;
+        left = rest;
+    }
+    match draft.finish(alloc) {
+        Some(request) => Ok(Ok(request)),
+        None => Ok(Err(number)),
+    }
+}

@@ -1,0 +1,83 @@
+//! Reading all there is, and writing a whole text.
+ghost use Rattle.std.specs.Prelude.{◌<◌, length};
+ghost use Rattle.scl_cl.specs.Transfers.{ReadEnds, WriteEnds};
+
+use scl_args::Counted;
+use std::alloc::{AllocError, Global};
+use std::io::{Read, Write};
+
+/// How many reads are made at most.
+const READS: u64 = 1 << 40;
+
+/// How many bytes a read asks for.
+const BLOCK: usize = 1 << 16;
+
+/// Why not all was read.
+#[derive(Debug, Drop)]
+pub enum ReadError {
+    /// Memory was refused.
+    Memory,
+    /// The reader failed, or its end was not met.
+    Device,
+}
+
+impl From<AllocError> for ReadError {
+    ghost use Rattle.std.specs.Prelude.{◌≡◌};
+    ghost use Rattle.scl_cl.specs.declared.transfer.ReadError.TheVariants.{Memory};
+
+    ghost from_gives = { λ _ e. e ≡ Memory };
+
+    fn from(_: AllocError) -> ReadError {
+        ReadError::Memory
+    }
+}
+
+/// Reads to the end, block by block.
+fn read_blocks<R: Read>(
+    alloc: Global,
+    reader: &mut Counted<R>,
+    block: &mut [u8],
+) -> Result<Vec<u8>, ReadError>
+    requires { 0 < length block.old }
+    ensures { ReadEnds (R.remaining reader.old.device) (R.remaining reader.new.device) reader.old.failed reader.new.failed result }
+{
+    let mut bytes = Vec::new(alloc);
+    for _turn in 0..READS {
+        let taken = match reader.read(block) {
+            Ok(taken) => taken,
+            Err(_) => return Err(ReadError::Device),
+        };
+        if taken == 0 {
+            return Ok(bytes);
+        }
+        bytes.extend_from_slice(&block[..taken])?;
+    }
+    Err(ReadError::Device)
+}
+
+/// Reads to the end.
+pub fn read_all<R: Read>(alloc: Global, reader: &mut Counted<R>) -> Result<Vec<u8>, ReadError>
+    ensures { ReadEnds (R.remaining reader.old.device) (R.remaining reader.new.device) reader.old.failed reader.new.failed result }
+{
+    let mut block = vec![in alloc; 0u8; BLOCK]?;
+    read_blocks(alloc, reader, &mut block)
+}
+
+/// Writes a whole text, or tells how much of it went out.
+pub fn write_whole<W: Write>(writer: &mut Counted<W>, text: &[u8]) -> Result<(), u64>
+    ensures { WriteEnds (W.contents writer.old.device) (W.contents writer.new.device) writer.old.failed writer.new.failed text.now result }
+{
+    let mut written = 0;
+    while written < text.len() {
+        let (_, rest) = text.split_at(written);
+        let taken = match writer.write(rest) {
+            Ok(taken) => taken,
+            Err(_) => return Err(written as u64),
+        };
+        if taken == 0 {
+            return Err(written as u64);
+        }
+        written += taken;
+    }
+    Ok(())
+}

@@ -1,0 +1,4 @@
+pub mod GatherLemmas
+pub mod PlaceLemmas
+pub mod RecordLemmas
+pub mod SummaryLemmas

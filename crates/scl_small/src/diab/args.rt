@@ -1,0 +1,181 @@
+ghost use Rattle.std.specs.Prelude.{◌≡◌};
+ghost use Rattle.std.specs.Option.{option_map};
+ghost use Rattle.scl_args.specs.Seen.{seen};
+ghost use Rattle.scl_text.specs.Refusals.{verdict_of};
+ghost use Rattle.scl_small.specs.DiabValues.{word_of};
+ghost use Rattle.scl_small.specs.DiabTable.{rows};
+
+use crate::values::without_value;
+use scl_args::ArgDisposition::{CanBeSeparated, Concatenated, Separated};
+use scl_args::ArgRow::{Flag, TakeArg};
+use scl_args::{
+    ArgInfo, ArgParseResult, ArgToStringResult, ArgumentValue, ExactArg, FlagTable, IntoArg, Mem,
+    PathArg,
+};
+use std::alloc::Global;
+
+/// What Diab's options mean, without their values (docs/RULES.md, Diab and TaskingVX).
+#[derive(Clone, Copy, Debug, PartialEq, Eq)]
+pub enum Kind {
+    TooHardFlag,
+    TooHard,
+    DoCompilation,
+    Output,
+    PassThrough,
+    PreprocessorArgument,
+    PreprocessorArgumentPath,
+    DepArgumentFlag,
+    DepArgument,
+    DepArgumentPath,
+}
+
+/// What Diab's options mean, with their values (docs/RULES.md, Diab and TaskingVX).
+#[derive(Debug, PartialEq, Eq, Drop)]
+pub enum ArgData {
+    TooHardFlag,
+    TooHard(Vec<u8>),
+    DoCompilation,
+    Output(PathArg),
+    PassThrough(Vec<u8>),
+    PreprocessorArgument(Vec<u8>),
+    PreprocessorArgumentPath(PathArg),
+    DepArgumentFlag,
+    DepArgument(Vec<u8>),
+    DepArgumentPath(PathArg),
+}
+
+impl ArgData {
+    pub(crate) fn word(&self) -> &[u8]
+        ensures { result.now ≡ word_of self.now }
+    {
+        match self {
+            ArgData::TooHardFlag | ArgData::DoCompilation | ArgData::DepArgumentFlag => &[],
+            ArgData::TooHard(word)
+            | ArgData::PassThrough(word)
+            | ArgData::PreprocessorArgument(word)
+            | ArgData::DepArgument(word) => word,
+            ArgData::Output(path)
+            | ArgData::PreprocessorArgumentPath(path)
+            | ArgData::DepArgumentPath(path) => &path.0,
+        }
+    }
+}
+
+impl IntoArg for ArgData {
+    ghost use Rattle.scl_small.specs.DiabValues.{word_of, is_path};
+
+    ghost word_of = { word_of };
+
+    ghost is_path = { is_path };
+
+    fn into_arg_os_string(&self, alloc: Global) -> Mem<Vec<u8>> {
+        Vec::from_slice(alloc, self.word())
+    }
+
+    fn into_arg_string<F: FnMut(&[u8]) -> Option<String>>(
+        &self,
+        alloc: Global,
+        f: &mut F,
+    ) -> ArgToStringResult {
+        match self {
+            ArgData::TooHardFlag | ArgData::DoCompilation | ArgData::DepArgumentFlag =>
+                ().into_arg_string(alloc, f),
+            ArgData::TooHard(word)
+            | ArgData::PassThrough(word)
+            | ArgData::PreprocessorArgument(word)
+            | ArgData::DepArgument(word) => word.into_arg_string(alloc, f),
+            ArgData::Output(path)
+            | ArgData::PreprocessorArgumentPath(path)
+            | ArgData::DepArgumentPath(path) => path.into_arg_string(alloc, f),
+        }
+    }
+}
+
+impl ArgumentValue for ArgData {
+    ghost use Rattle.scl_small.specs.Values.{MakesOf};
+    ghost use Rattle.scl_small.specs.DiabValues.{word_of, kind_of, holds_value};
+
+    type Kind = Kind;
+
+    ghost make_gives = { MakesOf kind_of word_of holds_value };
+
+    ghost holds_value = { holds_value };
+
+    ghost kind_of = { kind_of };
+
+    fn make(_alloc: Global, kind: Kind, word: Vec<u8>) -> ArgParseResult<ArgData> {
+        match kind {
+            Kind::TooHardFlag => without_value(ArgData::TooHardFlag, word),
+            Kind::TooHard => Ok(ArgData::TooHard(word)),
+            Kind::DoCompilation => without_value(ArgData::DoCompilation, word),
+            Kind::Output => Ok(ArgData::Output(PathArg(word))),
+            Kind::PassThrough => Ok(ArgData::PassThrough(word)),
+            Kind::PreprocessorArgument => Ok(ArgData::PreprocessorArgument(word)),
+            Kind::PreprocessorArgumentPath => {
+                Ok(ArgData::PreprocessorArgumentPath(PathArg(word)))
+            }
+            Kind::DepArgumentFlag => without_value(ArgData::DepArgumentFlag, word),
+            Kind::DepArgument => Ok(ArgData::DepArgument(word)),
+            Kind::DepArgumentPath => Ok(ArgData::DepArgumentPath(PathArg(word))),
+        }
+    }
+}
+
+impl ExactArg for ArgData {
+    ghost use Rattle.scl_small.specs.DiabValues.{word_of, kind_of, holds_value};
+    ghost use Rattle.scl_small.specs.Values.{exact, keeps};
+
+    ghost exact = { exact kind_of word_of holds_value };
+
+    ghost keeps = { keeps kind_of word_of holds_value };
+}
+
+/// Diab's flags, in rising order by bytes (docs/RULES.md, Diab and TaskingVX).
+pub static ARGS: [ArgInfo<ArgData>; 23] = [
+    Flag("-", Kind::TooHardFlag),
+    Flag("-##", Kind::TooHardFlag),
+    Flag("-###", Kind::TooHardFlag),
+    TakeArg("-@", Kind::TooHard, Concatenated(None)),
+    TakeArg("-D", Kind::PreprocessorArgument, CanBeSeparated(None)),
+    Flag("-E", Kind::TooHardFlag),
+    TakeArg("-I", Kind::PreprocessorArgumentPath, CanBeSeparated(None)),
+    TakeArg("-L", Kind::PassThrough, Separated),
+    Flag("-P", Kind::TooHardFlag),
+    Flag("-S", Kind::TooHardFlag),
+    TakeArg("-U", Kind::PreprocessorArgument, CanBeSeparated(None)),
+    Flag("-V", Kind::TooHardFlag),
+    Flag("-VV", Kind::TooHardFlag),
+    TakeArg("-W", Kind::PassThrough, Separated),
+    Flag("-Xmake-dependency", Kind::DepArgumentFlag),
+    Flag(
+        "-Xmake-dependency-canonicalize-path-off",
+        Kind::DepArgumentFlag,
+    ),
+    TakeArg(
+        "-Xmake-dependency-savefile",
+        Kind::DepArgumentPath,
+        Concatenated(Some(b'=')),
+    ),
+    TakeArg(
+        "-Xmake-dependency-target",
+        Kind::DepArgument,
+        Concatenated(Some(b'=')),
+    ),
+    Flag("-c", Kind::DoCompilation),
+    TakeArg(
+        "-include",
+        Kind::PreprocessorArgumentPath,
+        CanBeSeparated(None),
+    ),
+    TakeArg("-l", Kind::PassThrough, Separated),
+    TakeArg("-o", Kind::Output, Separated),
+    TakeArg("-t", Kind::PassThrough, Separated),
+];
+
+/// Diab's table.
+#[tactic(auto, unfolding(crate::specs::DiabTable::rows))]
+pub fn table() -> FlagTable<'static, ArgData>
+    ensures { result ≡ rows }
+{
+    FlagTable::new(&ARGS).unwrap()
+}

@@ -1,0 +1,85 @@
+use super::args::table;
+use super::{generate_compile_commands, parse_arguments};
+use scl_text::records::{
+    CCompilerKind, Cacheable, CommandError, CompilerArguments, ParsedArguments,
+    SingleCompileCommand,
+};
+use scl_text::{CCompilerImpl, Mem, View};
+use std::alloc::Global;
+
+/// Diab, and its version, if that is known (docs/RULES.md, Diab and TaskingVX).
+#[derive(Debug, Drop)]
+pub struct Diab {
+    pub version: Option<String>,
+}
+
+impl CCompilerImpl for Diab {
+    ghost use Rattle.std.specs.Prelude.{false, None, [], ◌∷◌};
+    ghost use Rattle.std.specs.Option.{option_map};
+    ghost use Rattle.std.specs.String.{string_bytes};
+    ghost use Rattle.scl_args.specs.Tables.{owner_in};
+    ghost use Rattle.scl_small.specs.DiabTable.{rows};
+    ghost use Rattle.scl_small.specs.DiabReading.{expanded_reading};
+    ghost use Rattle.scl_small.specs.Command.{command};
+    ghost use Rattle.scl_text.specs.declared.records.CCompilerKind.TheVariants as kinds;
+    ghost use Rattle.scl_text.specs.declared.records.Cacheable.TheVariants as answers;
+
+    ghost kind_of = { λ _. kinds.Diab };
+
+    ghost plusplus_of = { λ _. false };
+
+    ghost version_of = { λ diab. option_map string_bytes diab.version };
+
+    ghost digest_of = { λ _. None };
+
+    ghost reading = { λ _ words cwd env_vars view. expanded_reading (owner_in (rows ∷ [])) cwd view.files words };
+
+    ghost command = { λ _. command };
+
+    ghost environment = { λ _ env_vars. env_vars };
+
+    ghost cacheable = { λ _ parsed cwd view. answers.Yes };
+
+    fn kind(&self) -> CCompilerKind {
+        CCompilerKind::Diab
+    }
+
+    fn plusplus(&self) -> bool {
+        false
+    }
+
+    fn version(&self, alloc: Global) -> Mem<Option<String>> {
+        match &self.version {
+            Some(version) => Ok(Some(String::from_str(alloc, version)?)),
+            None => Ok(None),
+        }
+    }
+
+    #[tactic(auto, unfolding(crate::specs::DiabTable::rows))]
+    fn parse_arguments(
+        &self,
+        alloc: Global,
+        arguments: &[Vec<u8>],
+        cwd: &[u8],
+        _env_vars: &[(Vec<u8>, Vec<u8>)],
+        view: &View,
+    ) -> Mem<CompilerArguments<ParsedArguments>> {
+        parse_arguments(alloc, arguments, cwd, table(), view)
+    }
+
+    fn generate_compile_commands(
+        &self,
+        alloc: Global,
+        executable: &[u8],
+        parsed: &ParsedArguments,
+        cwd: &[u8],
+        env_vars: &[(Vec<u8>, Vec<u8>)],
+        view: &View,
+    ) -> Result<(SingleCompileCommand, Cacheable), CommandError> {
+        generate_compile_commands(alloc, executable, parsed, cwd, env_vars, view)
+    }
+
+    fn assembler_digest(&self, _alloc: Global) -> Mem<Option<String>> {
+        Ok(None)
+    }
+}

@@ -1,0 +1,12 @@
+//! The command lines of the compilers Diab and TaskingVX.
+#![tactic(auto)]
+
+mod command;
+pub mod diab;
+mod finish;
+mod pass;
+mod place;
+mod reading;
+mod rules;
+pub mod tasking_vx;
+mod values;

@@ -1,0 +1,182 @@
+ghost use Rattle.std.specs.Prelude.{◌≡◌};
+ghost use Rattle.std.specs.Option.{option_map};
+ghost use Rattle.scl_args.specs.Seen.{seen};
+ghost use Rattle.scl_text.specs.Refusals.{verdict_of};
+ghost use Rattle.scl_small.specs.TaskingValues.{word_of};
+ghost use Rattle.scl_small.specs.TaskingTable.{rows};
+
+use crate::values::without_value;
+use scl_args::ArgDisposition::{CanBeSeparated, Concatenated, Separated};
+use scl_args::ArgRow::{Flag, TakeArg};
+use scl_args::{
+    ArgInfo, ArgParseResult, ArgToStringResult, ArgumentValue, ExactArg, FlagTable, IntoArg, Mem,
+    PathArg,
+};
+use std::alloc::Global;
+
+/// What TaskingVX's options mean, without their values (docs/RULES.md, Diab and TaskingVX).
+#[derive(Clone, Copy, Debug, PartialEq, Eq)]
+pub enum Kind {
+    TooHardFlag,
+    TooHard,
+    NotCompilationFlag,
+    NotCompilation,
+    DoCompilation,
+    Output,
+    PassThrough,
+    PreprocessorArgument,
+    PreprocessorArgumentPath,
+    DepFile,
+}
+
+/// What TaskingVX's options mean, with their values (docs/RULES.md, Diab and TaskingVX).
+#[derive(Debug, PartialEq, Eq, Drop)]
+pub enum ArgData {
+    TooHardFlag,
+    TooHard(Vec<u8>),
+    NotCompilationFlag,
+    NotCompilation(Vec<u8>),
+    DoCompilation,
+    Output(PathArg),
+    PassThrough(Vec<u8>),
+    PreprocessorArgument(Vec<u8>),
+    PreprocessorArgumentPath(PathArg),
+    DepFile(PathArg),
+}
+
+impl ArgData {
+    pub(crate) fn word(&self) -> &[u8]
+        ensures { result.now ≡ word_of self.now }
+    {
+        match self {
+            ArgData::TooHardFlag | ArgData::NotCompilationFlag | ArgData::DoCompilation => &[],
+            ArgData::TooHard(word)
+            | ArgData::NotCompilation(word)
+            | ArgData::PassThrough(word)
+            | ArgData::PreprocessorArgument(word) => word,
+            ArgData::Output(path)
+            | ArgData::PreprocessorArgumentPath(path)
+            | ArgData::DepFile(path) => &path.0,
+        }
+    }
+}
+
+impl IntoArg for ArgData {
+    ghost use Rattle.scl_small.specs.TaskingValues.{word_of, is_path};
+
+    ghost word_of = { word_of };
+
+    ghost is_path = { is_path };
+
+    fn into_arg_os_string(&self, alloc: Global) -> Mem<Vec<u8>> {
+        Vec::from_slice(alloc, self.word())
+    }
+
+    fn into_arg_string<F: FnMut(&[u8]) -> Option<String>>(
+        &self,
+        alloc: Global,
+        f: &mut F,
+    ) -> ArgToStringResult {
+        match self {
+            ArgData::TooHardFlag | ArgData::NotCompilationFlag | ArgData::DoCompilation =>
+                ().into_arg_string(alloc, f),
+            ArgData::TooHard(word)
+            | ArgData::NotCompilation(word)
+            | ArgData::PassThrough(word)
+            | ArgData::PreprocessorArgument(word) => word.into_arg_string(alloc, f),
+            ArgData::Output(path)
+            | ArgData::PreprocessorArgumentPath(path)
+            | ArgData::DepFile(path) => path.into_arg_string(alloc, f),
+        }
+    }
+}
+
+impl ArgumentValue for ArgData {
+    ghost use Rattle.scl_small.specs.Values.{MakesOf};
+    ghost use Rattle.scl_small.specs.TaskingValues.{word_of, kind_of, holds_value};
+
+    type Kind = Kind;
+
+    ghost make_gives = { MakesOf kind_of word_of holds_value };
+
+    ghost holds_value = { holds_value };
+
+    ghost kind_of = { kind_of };
+
+    fn make(_alloc: Global, kind: Kind, word: Vec<u8>) -> ArgParseResult<ArgData> {
+        match kind {
+            Kind::TooHardFlag => without_value(ArgData::TooHardFlag, word),
+            Kind::TooHard => Ok(ArgData::TooHard(word)),
+            Kind::NotCompilationFlag => without_value(ArgData::NotCompilationFlag, word),
+            Kind::NotCompilation => Ok(ArgData::NotCompilation(word)),
+            Kind::DoCompilation => without_value(ArgData::DoCompilation, word),
+            Kind::Output => Ok(ArgData::Output(PathArg(word))),
+            Kind::PassThrough => Ok(ArgData::PassThrough(word)),
+            Kind::PreprocessorArgument => Ok(ArgData::PreprocessorArgument(word)),
+            Kind::PreprocessorArgumentPath => Ok(ArgData::PreprocessorArgumentPath(PathArg(word))),
+            Kind::DepFile => Ok(ArgData::DepFile(PathArg(word))),
+        }
+    }
+}
+
+impl ExactArg for ArgData {
+    ghost use Rattle.scl_small.specs.TaskingValues.{word_of, kind_of, holds_value};
+    ghost use Rattle.scl_small.specs.Values.{exact, keeps};
+
+    ghost exact = { exact kind_of word_of holds_value };
+
+    ghost keeps = { keeps kind_of word_of holds_value };
+}
+
+/// TaskingVX's flags, in rising order by bytes (docs/RULES.md, Diab and TaskingVX).
+pub static ARGS: [ArgInfo<ArgData>; 25] = [
+    TakeArg(
+        "--define",
+        Kind::PreprocessorArgument,
+        Concatenated(Some(b'=')),
+    ),
+    TakeArg("--dep-file", Kind::DepFile, Concatenated(Some(b'='))),
+    Flag("--dry-run", Kind::TooHardFlag),
+    TakeArg("--help", Kind::NotCompilation, Concatenated(Some(b'='))),
+    TakeArg(
+        "--include-directory",
+        Kind::PreprocessorArgumentPath,
+        Concatenated(Some(b'=')),
+    ),
+    TakeArg(
+        "--include-file",
+        Kind::PreprocessorArgumentPath,
+        Concatenated(Some(b'=')),
+    ),
+    TakeArg(
+        "--library-directory",
+        Kind::PassThrough,
+        Concatenated(Some(b'=')),
+    ),
+    TakeArg("--mil-split", Kind::TooHard, Concatenated(Some(b'='))),
+    TakeArg("--option-file", Kind::TooHard, Concatenated(Some(b'='))),
+    TakeArg("--output", Kind::Output, Concatenated(Some(b'='))),
+    TakeArg("--preprocess", Kind::TooHard, Concatenated(Some(b'='))),
+    TakeArg("--undefine", Kind::PreprocessorArgument, Separated),
+    Flag("--version", Kind::NotCompilationFlag),
+    Flag("-?", Kind::NotCompilationFlag),
+    TakeArg("-D", Kind::PreprocessorArgument, CanBeSeparated(None)),
+    Flag("-E", Kind::TooHardFlag),
+    TakeArg("-H", Kind::PreprocessorArgumentPath, CanBeSeparated(None)),
+    TakeArg("-I", Kind::PreprocessorArgumentPath, CanBeSeparated(None)),
+    TakeArg("-L", Kind::PassThrough, CanBeSeparated(None)),
+    TakeArg("-U", Kind::PreprocessorArgument, CanBeSeparated(None)),
+    Flag("-V", Kind::NotCompilationFlag),
+    Flag("-c", Kind::DoCompilation),
+    TakeArg("-f", Kind::TooHard, Separated),
+    Flag("-n", Kind::TooHardFlag),
+    TakeArg("-o", Kind::Output, Separated),
+];
+
+/// TaskingVX's table.
+#[tactic(auto, unfolding(crate::specs::TaskingTable::rows))]
+pub fn table() -> FlagTable<'static, ArgData>
+    ensures { result ≡ rows }
+{
+    FlagTable::new(&ARGS).unwrap()
+}

@@ -1,0 +1,78 @@
+use super::args::table;
+use super::{generate_compile_commands, parse_arguments};
+use scl_text::records::{
+    CCompilerKind, Cacheable, CommandError, CompilerArguments, ParsedArguments,
+    SingleCompileCommand,
+};
+use scl_text::{CCompilerImpl, Mem, View};
+use std::alloc::Global;
+
+/// TaskingVX (docs/RULES.md, Diab and TaskingVX).
+#[derive(Clone, Copy, Debug)]
+pub struct TaskingVX;
+
+impl CCompilerImpl for TaskingVX {
+    ghost use Rattle.std.specs.Prelude.{false, None, [], ◌∷◌};
+    ghost use Rattle.scl_args.specs.Tables.{owner_in};
+    ghost use Rattle.scl_small.specs.TaskingTable.{rows};
+    ghost use Rattle.scl_small.specs.TaskingReading.{reading};
+    ghost use Rattle.scl_small.specs.Command.{command};
+    ghost use Rattle.scl_text.specs.declared.records.CCompilerKind.TheVariants as kinds;
+    ghost use Rattle.scl_text.specs.declared.records.Cacheable.TheVariants as answers;
+
+    ghost kind_of = { λ _. kinds.TaskingVX };
+
+    ghost plusplus_of = { λ _. false };
+
+    ghost version_of = { λ _. None };
+
+    ghost digest_of = { λ _. None };
+
+    ghost reading = { λ _ words cwd env_vars view. reading (owner_in (rows ∷ [])) words };
+
+    ghost command = { λ _. command };
+
+    ghost environment = { λ _ env_vars. env_vars };
+
+    ghost cacheable = { λ _ parsed cwd view. answers.Yes };
+
+    fn kind(&self) -> CCompilerKind {
+        CCompilerKind::TaskingVX
+    }
+
+    fn plusplus(&self) -> bool {
+        false
+    }
+
+    fn version(&self, _alloc: Global) -> Mem<Option<String>> {
+        Ok(None)
+    }
+
+    #[tactic(auto, unfolding(crate::specs::TaskingTable::rows))]
+    fn parse_arguments(
+        &self,
+        alloc: Global,
+        arguments: &[Vec<u8>],
+        cwd: &[u8],
+        _env_vars: &[(Vec<u8>, Vec<u8>)],
+        view: &View,
+    ) -> Mem<CompilerArguments<ParsedArguments>> {
+        parse_arguments(alloc, arguments, cwd, table(), view)
+    }
+
+    fn generate_compile_commands(
+        &self,
+        alloc: Global,
+        executable: &[u8],
+        parsed: &ParsedArguments,
+        cwd: &[u8],
+        env_vars: &[(Vec<u8>, Vec<u8>)],
+        view: &View,
+    ) -> Result<(SingleCompileCommand, Cacheable), CommandError> {
+        generate_compile_commands(alloc, executable, parsed, cwd, env_vars, view)
+    }
+
+    fn assembler_digest(&self, _alloc: Global) -> Mem<Option<String>> {
+        Ok(None)
+    }
+}
