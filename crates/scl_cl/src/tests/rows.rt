@@ -17,10 +17,7 @@ fn diab_answers_its_worked_rows(rt: HostRuntime) {
             b"compiler diab\nword -c\nword foo.cxx\nword -fabc\nword -I\nword include\nword -o\nword foo.o\nword -include\nword file\n",
             b"ok\narg -c\narg foo.cxx\narg -o\narg foo.o\narg -Iinclude\narg -include\narg file\narg -fabc\ncacheable yes\n",
         ),
-        (
-            b"compiler diab\nword -@@foo\n",
-            b"cannot-cache -@\n",
-        ),
+        (b"compiler diab\nword -@@foo\n", b"cannot-cache -@\n"),
         (
             b"compiler diab\nword -c\nword src/a.c\n",
             b"ok\narg -c\narg src/a.c\narg -o\narg src/a.o\ncacheable yes\n",
@@ -33,14 +30,8 @@ fn diab_answers_its_worked_rows(rt: HostRuntime) {
             b"compiler diab\nword -c\nword a.xyz\n",
             b"cannot-cache unknown source language\n",
         ),
-        (
-            b"compiler diab",
-            b"not-compilation\n",
-        ),
-        (
-            b"compiler diab\n",
-            b"not-compilation\n",
-        ),
+        (b"compiler diab", b"not-compilation\n"),
+        (b"compiler diab\n", b"not-compilation\n"),
         (
             b"compiler diab\nword -c\nword a.c\nword -L\nword @x\n",
             b"cannot-cache @\n",
