@@ -22,10 +22,10 @@ bytes_of word = word.items
 
 abbrev pub paths_of : OutputFiles → OutputPaths
 paths_of o = record {
-    depfile = path_of o.depfile;
-    diagnostics = path_of o.diagnostics;
-    dwo = path_of o.dwo;
-    gcno = path_of o.gcno;
-    module_path = path_of o.module_path;
-    object = o.object.items;
-  }
+  depfile = path_of o.depfile;
+  diagnostics = path_of o.diagnostics;
+  dwo = path_of o.dwo;
+  gcno = path_of o.gcno;
+  module_path = path_of o.module_path;
+  object = o.object.items;
+}

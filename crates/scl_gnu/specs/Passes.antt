@@ -17,12 +17,12 @@ gathered multiarch os = unless (first_verdict_after (verdict multiarch) [] os) (
 
 abbrev pub summary_of : Gathered → Summary
 summary_of g = record {
-    lists = lists_of g.lists;
-    lasts = lasts_of g.lasts;
-    marks = marks_of g.marks;
-    inputs = inputs_of g.inputs;
-    hashed = hashed_of g.hashed.items;
-  }
+  lists = lists_of g.lists;
+  lasts = lasts_of g.lasts;
+  marks = marks_of g.marks;
+  inputs = inputs_of g.inputs;
+  hashed = hashed_of g.hashed.items;
+}
 
 abbrev pub gathered_of : Result Gathered Refusal → Result Summary Verdict
 gathered_of (Ok g) = Ok (summary_of g)

@@ -37,13 +37,13 @@ pub record OutputPaths : Type 0 where
 
 abbrev pub output_paths : Summary → Found → OutputPaths
 output_paths s f = record {
-    depfile = unless_absent (needs_c_preprocessing f.language) s.lasts.dep_path;
-    diagnostics = s.lasts.diagnostics;
-    dwo = only_if s.marks.split_dwarf (with_extension f.object (codes "dwo"));
-    gcno = only_if s.marks.notes (with_extension f.object (codes "gcno"));
-    module_path = f.module_path;
-    object = f.object;
-  }
+  depfile = unless_absent (needs_c_preprocessing f.language) s.lasts.dep_path;
+  diagnostics = s.lasts.diagnostics;
+  dwo = only_if s.marks.split_dwarf (with_extension f.object (codes "dwo"));
+  gcno = only_if s.marks.notes (with_extension f.object (codes "gcno"));
+  module_path = f.module_path;
+  object = f.object;
+}
 
 abbrev pub output_at : List ℕ → Bool → Option (List ℕ) → List Artifact
 output_at name optional path = option_to_list (option_map (λ p. artifact name p optional) path)
@@ -117,24 +117,24 @@ has_extensions (Some text) = starts_with nat_eq text (codes "gnu")
 
 abbrev pub record_of : CCompilerKind → List ℕ → Viewed → Summary → Found → Parsed
 record_of kind directory view s f = record {
-    input = f.input;
-    double_dash_input = s.inputs.behind_dashes;
-    language = f.language;
-    compilation_flag = f.compile_flag;
-    depfile = None;
-    outputs = outputs (output_paths s f);
-    dependency_args = s.lists.dependency ++ added_dependency (needs_c_preprocessing f.language && s.marks.dep_target_needed) (is_some s.lasts.dep_path) s.lasts.dep_flag s.lasts.dep_target f.object;
-    preprocessor_args = s.lists.preprocessor;
-    common_args = s.lists.common ++ added_common s.marks.split_dwarf f.object;
-    arch_args = s.lists.arch;
-    unhashed_args = s.lists.unhashed;
-    extra_dist_files = [];
-    extra_hash_files = map (hash_path directory view) s.hashed;
-    uses_external_assembler = unwrap_or s.lasts.external_assembler (not (is_clang kind));
-    msvc_show_includes = false;
-    msvc_explicit_language = false;
-    profile_generate = s.marks.profile;
-    color_mode = unwrap_or s.lasts.color colors.Auto;
-    suppress_rewrite_includes_only = is_gcc kind && (s.marks.pedantic && has_extensions s.lasts.standard);
-    too_hard_for_preprocessor_cache_mode = s.lasts.too_hard;
-  }
+  input = f.input;
+  double_dash_input = s.inputs.behind_dashes;
+  language = f.language;
+  compilation_flag = f.compile_flag;
+  depfile = None;
+  outputs = outputs (output_paths s f);
+  dependency_args = s.lists.dependency ++ added_dependency (needs_c_preprocessing f.language && s.marks.dep_target_needed) (is_some s.lasts.dep_path) s.lasts.dep_flag s.lasts.dep_target f.object;
+  preprocessor_args = s.lists.preprocessor;
+  common_args = s.lists.common ++ added_common s.marks.split_dwarf f.object;
+  arch_args = s.lists.arch;
+  unhashed_args = s.lists.unhashed;
+  extra_dist_files = [];
+  extra_hash_files = map (hash_path directory view) s.hashed;
+  uses_external_assembler = unwrap_or s.lasts.external_assembler (not (is_clang kind));
+  msvc_show_includes = false;
+  msvc_explicit_language = false;
+  profile_generate = s.marks.profile;
+  color_mode = unwrap_or s.lasts.color colors.Auto;
+  suppress_rewrite_includes_only = is_gcc kind && (s.marks.pedantic && has_extensions s.lasts.standard);
+  too_hard_for_preprocessor_cache_mode = s.lasts.too_hard;
+}

@@ -21,22 +21,22 @@ pub record Lists : Type 0 where
 
 abbrev pub lists : List (Seen Kind) → Lists
 lists os = record {
-    common = words_at places.Common os;
-    unhashed = words_at places.Unhashed os;
-    arch = words_at places.Arch os;
-    preprocessor = words_at places.Preprocessor os;
-    dependency = words_at places.Dependency os;
-  }
+  common = words_at places.Common os;
+  unhashed = words_at places.Unhashed os;
+  arch = words_at places.Arch os;
+  preprocessor = words_at places.Preprocessor os;
+  dependency = words_at places.Dependency os;
+}
 
 -- the words of two runs of options, one after the other
 abbrev pub lists_joined : Lists → Lists → Lists
 lists_joined a b = record {
-    common = a.common ++ b.common;
-    unhashed = a.unhashed ++ b.unhashed;
-    arch = a.arch ++ b.arch;
-    preprocessor = a.preprocessor ++ b.preprocessor;
-    dependency = a.dependency ++ b.dependency;
-  }
+  common = a.common ++ b.common;
+  unhashed = a.unhashed ++ b.unhashed;
+  arch = a.arch ++ b.arch;
+  preprocessor = a.preprocessor ++ b.preprocessor;
+  dependency = a.dependency ++ b.dependency;
+}
 
 -- ---- the last ones
 
@@ -57,37 +57,37 @@ pub record Lasts : Type 0 where
 
 abbrev pub lasts : List (Seen Kind) → Lasts
 lasts os = record {
-    compile_flag = last_flag is_compile_flag os;
-    output = last_text is_output os;
-    language = last_text is_language os;
-    arch = last_text is_arch os;
-    standard = last_text is_standard os;
-    dep_flag = last_flag is_dep_target os;
-    dep_target = last_text is_dep_target os;
-    dep_path = last_text is_dep_path os;
-    diagnostics = last_text is_diagnostics os;
-    module_output = last_text is_module_output os;
-    color = option_map color_of (last_by (is_of is_color) os);
-    external_assembler = option_map assembler_of (last_by (is_of chooses_assembler) os);
-    too_hard = option_map flag_of (last_by is_too_hard os);
-  }
+  compile_flag = last_flag is_compile_flag os;
+  output = last_text is_output os;
+  language = last_text is_language os;
+  arch = last_text is_arch os;
+  standard = last_text is_standard os;
+  dep_flag = last_flag is_dep_target os;
+  dep_target = last_text is_dep_target os;
+  dep_path = last_text is_dep_path os;
+  diagnostics = last_text is_diagnostics os;
+  module_output = last_text is_module_output os;
+  color = option_map color_of (last_by (is_of is_color) os);
+  external_assembler = option_map assembler_of (last_by (is_of chooses_assembler) os);
+  too_hard = option_map flag_of (last_by is_too_hard os);
+}
 
 abbrev pub lasts_joined : Lasts → Lasts → Lasts
 lasts_joined a b = record {
-    compile_flag = or_else b.compile_flag a.compile_flag;
-    output = or_else b.output a.output;
-    language = or_else b.language a.language;
-    arch = or_else b.arch a.arch;
-    standard = or_else b.standard a.standard;
-    dep_flag = or_else b.dep_flag a.dep_flag;
-    dep_target = or_else b.dep_target a.dep_target;
-    dep_path = or_else b.dep_path a.dep_path;
-    diagnostics = or_else b.diagnostics a.diagnostics;
-    module_output = or_else b.module_output a.module_output;
-    color = or_else b.color a.color;
-    external_assembler = or_else b.external_assembler a.external_assembler;
-    too_hard = or_else b.too_hard a.too_hard;
-  }
+  compile_flag = or_else b.compile_flag a.compile_flag;
+  output = or_else b.output a.output;
+  language = or_else b.language a.language;
+  arch = or_else b.arch a.arch;
+  standard = or_else b.standard a.standard;
+  dep_flag = or_else b.dep_flag a.dep_flag;
+  dep_target = or_else b.dep_target a.dep_target;
+  dep_path = or_else b.dep_path a.dep_path;
+  diagnostics = or_else b.diagnostics a.diagnostics;
+  module_output = or_else b.module_output a.module_output;
+  color = or_else b.color a.color;
+  external_assembler = or_else b.external_assembler a.external_assembler;
+  too_hard = or_else b.too_hard a.too_hard;
+}
 
 -- ---- whether some stand
 
@@ -101,23 +101,23 @@ pub record Marks : Type 0 where
 
 abbrev pub marks : List (Seen Kind) → Marks
 marks os = record {
-    split_dwarf = any splits_dwarf os;
-    notes = any makes_notes os;
-    profile = any generates_profile os;
-    dep_target_needed = any needs_dep_target os;
-    pedantic = any is_pedantic os;
-    module_only = any is_module_only os;
-  }
+  split_dwarf = any splits_dwarf os;
+  notes = any makes_notes os;
+  profile = any generates_profile os;
+  dep_target_needed = any needs_dep_target os;
+  pedantic = any is_pedantic os;
+  module_only = any is_module_only os;
+}
 
 abbrev pub marks_joined : Marks → Marks → Marks
 marks_joined a b = record {
-    split_dwarf = b.split_dwarf || a.split_dwarf;
-    notes = b.notes || a.notes;
-    profile = b.profile || a.profile;
-    dep_target_needed = b.dep_target_needed || a.dep_target_needed;
-    pedantic = b.pedantic || a.pedantic;
-    module_only = b.module_only || a.module_only;
-  }
+  split_dwarf = b.split_dwarf || a.split_dwarf;
+  notes = b.notes || a.notes;
+  profile = b.profile || a.profile;
+  dep_target_needed = b.dep_target_needed || a.dep_target_needed;
+  pedantic = b.pedantic || a.pedantic;
+  module_only = b.module_only || a.module_only;
+}
 
 -- ---- the inputs
 
@@ -159,9 +159,9 @@ summary os = record { lists = lists os; lasts = lasts os; marks = marks os; inpu
 
 abbrev pub joined : Summary → Summary → Summary
 joined a b = record {
-    lists = lists_joined a.lists b.lists;
-    lasts = lasts_joined a.lasts b.lasts;
-    marks = marks_joined a.marks b.marks;
-    inputs = inputs_joined a.inputs b.inputs;
-    hashed = a.hashed ++ b.hashed;
-  }
+  lists = lists_joined a.lists b.lists;
+  lasts = lasts_joined a.lasts b.lasts;
+  marks = marks_joined a.marks b.marks;
+  inputs = inputs_joined a.inputs b.inputs;
+  hashed = a.hashed ++ b.hashed;
+}

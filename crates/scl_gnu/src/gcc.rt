@@ -26,3 +26,6 @@ pub use compiler::Gcc;
 pub use data::{ArgData, Kind};
 pub use hash_paths::{module_file_path, resolve_profile_use_path};
 pub use parse::parse_arguments;
+
+#[cfg(test)]
+mod tests;

@@ -2,7 +2,10 @@
 ghost use Rattle.std.specs.Prelude.{◌≡◌};
 ghost use Rattle.scl_gnu.specs.Data.{kind_of, word_of, MakesFlag};
 
-use scl_args::{ArgParseError, ArgParseResult, ArgumentValue, ExactArg, IntoArg, Mem, PathArg};
+use scl_args::{
+    ArgParseError, ArgParseResult, ArgToStringResult, ArgumentValue, ExactArg, IntoArg, Mem,
+    PathArg,
+};
 use std::alloc::Global;
 
 /// What an option of Gcc or Clang means, apart from its value (docs/RULES.md, Gcc).
@@ -182,6 +185,50 @@ impl IntoArg for ArgData {
 
     fn into_arg_os_string(&self, alloc: Global) -> Mem<Vec<u8>> {
         Vec::from_slice(alloc, self.word())
+    }
+
+    fn into_arg_string<F: FnMut(&[u8]) -> Option<String>>(
+        &self,
+        alloc: Global,
+        f: &mut F,
+    ) -> ArgToStringResult {
+        match self {
+            ArgData::TooHardFlag
+            | ArgData::DiagnosticsColorFlag
+            | ArgData::NoDiagnosticsColorFlag
+            | ArgData::Coverage
+            | ArgData::TestCoverage
+            | ArgData::NeedDepTarget
+            | ArgData::DoCompilation
+            | ArgData::SplitDwarf
+            | ArgData::PassThroughFlag
+            | ArgData::PreprocessorArgumentFlag
+            | ArgData::ProfileGenerate
+            | ArgData::UnhashedFlag
+            | ArgData::PedanticFlag
+            | ArgData::ModuleOnlyFlag
+            | ArgData::IntegratedAs
+            | ArgData::NoIntegratedAs => ().into_arg_string(alloc, f),
+            ArgData::DepArgumentPath(path)
+            | ArgData::ExtraHashFile(path)
+            | ArgData::Output(path)
+            | ArgData::PassThroughPath(path)
+            | ArgData::PreprocessorArgumentPath(path)
+            | ArgData::ClangProfileUse(path)
+            | ArgData::SerializeDiagnostics(path) => path.into_arg_string(alloc, f),
+            ArgData::TooHard(word)
+            | ArgData::DiagnosticsColor(word)
+            | ArgData::Arch(word)
+            | ArgData::DepTarget(word)
+            | ArgData::ExtraHashFileClangModuleFile(word)
+            | ArgData::Language(word)
+            | ArgData::PassThrough(word)
+            | ArgData::PreprocessorArgument(word)
+            | ArgData::Unhashed(word)
+            | ArgData::Standard(word)
+            | ArgData::XClang(word)
+            | ArgData::ClangModuleOutput(word) => word.into_arg_string(alloc, f),
+        }
     }
 }
 

@@ -121,7 +121,11 @@ impl Gathered {
         if self.marks.module_only {
             return Ok(Ok(None));
         }
-        let text = self.lasts.module_output.as_ref().map(|text| text.as_slice());
+        let text = self
+            .lasts
+            .module_output
+            .as_ref()
+            .map(|text| text.as_slice());
         module_path_of(alloc, text, input, object)
     }
 

@@ -60,13 +60,7 @@ pub fn resolve_profile_use_path(
     profile_in(alloc, is_directory, path)
 }
 
-fn path_as(
-    alloc: Global,
-    role: HashRole,
-    text: &[u8],
-    cwd: &[u8],
-    view: &View,
-) -> Mem<Vec<u8>>
+fn path_as(alloc: Global, role: HashRole, text: &[u8], cwd: &[u8], view: &View) -> Mem<Vec<u8>>
     ensures { IfOk result (λ path. path.items ≡ hash_path_as role text.now cwd.now view.now) }
 {
     match role {

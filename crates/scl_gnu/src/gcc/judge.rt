@@ -51,10 +51,7 @@ fn judged_module_output(alloc: Global, value: &[u8]) -> Mem<Option<Refusal>>
         None | Some(b'=') => Ok(None),
         Some(_) => {
             let text = quoted(alloc, value)?;
-            Ok(Some(Refusal::CannotCache(
-                "unknown module output format",
-                Some(text),
-            )))
+            Ok(Some(Refusal::CannotCache("unknown module output format", Some(text))))
         }
     }
 }

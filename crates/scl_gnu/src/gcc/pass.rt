@@ -68,7 +68,12 @@ impl<const MULTIARCH: bool> Gather<ArgData> for Pass<MULTIARCH> {
     ghost says = { λ before option said. option_map verdict_of said ≡ verdict MULTIARCH before option };
 
     fn judge(&self, alloc: Global, option: &Argument<ArgData>) -> Mem<Option<Refusal>> {
-        let arch = self.gathered.lasts.arch.as_ref().map(|name| name.as_slice());
+        let arch = self
+            .gathered
+            .lasts
+            .arch
+            .as_ref()
+            .map(|name| name.as_slice());
         judged(alloc, MULTIARCH, arch, option)
     }
 

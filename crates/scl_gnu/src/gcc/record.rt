@@ -82,7 +82,10 @@ impl Gathered {
             mut dependency,
         } = lists;
         add_split_dwarf(alloc, &mut common, marks.split_dwarf, &found.object)?;
-        let is_needed = both(found.language.needs_c_preprocessing(), marks.dep_target_needed);
+        let is_needed = both(
+            found.language.needs_c_preprocessing(),
+            marks.dep_target_needed,
+        );
         add_dependency(alloc, &mut dependency, is_needed, &lasts, &found.object)?;
         let is_suppressed = both(
             is_gcc(kind),
