@@ -1,0 +1,61 @@
+//! Splits and decodes a text of a given size: `text_bench KIND KIB`. It prints how many words or bytes came out, and
+//! on standard error the processor time that this took.
+#![tactic(auto)]
+
+use scl_text::{msvc_words, read_text, split_diab, split_gnu_response_file_args};
+use std::alloc::{AllocError, Global};
+use std::time::CpuClock;
+use std::{env, io, str};
+
+fn line_of(kind: &str) -> &'static [u8] {
+    match kind {
+        "gnu" => b"-DNAME='a b' \"x\\\"y\" \\ z -Iinclude/folder\n",
+        "gnu-one-word" => b"-DNAME='a b'\"x\\\"y\"\\ z-Iinclude/folder",
+        "msvc" => b"/DNAME=\"a b\" \"x\\\\\" a\\\"b /Iinclude\\folder\r\n",
+        "msvc-backslashes" => b"\\\\\\\\\\\\\\\\",
+        "diab" => b"-DNAME=a -Xflag -Iinclude/folder\n",
+        "utf16" => b"a\x00b\x00",
+        _ => b"caf\xE9 \x93a\x94\r\n",
+    }
+}
+
+fn text_of(alloc: Global, kind: &str, len: usize) -> Result<Vec<u8>, AllocError> {
+    let line = line_of(kind);
+    let mut text = Vec::new(alloc);
+    if kind == "utf16" {
+        text.extend_from_slice(b"\xFF\xFE")?;
+    }
+    for _ in 0..len.checked_div(line.len()).unwrap_or(0) {
+        text.extend_from_slice(line)?;
+    }
+    Ok(text)
+}
+
+fn count_of(alloc: Global, kind: &str, bytes: &[u8]) -> Result<usize, AllocError> {
+    if kind == "utf16" || kind == "windows-1252" {
+        return Ok(read_text(alloc, bytes)?.map_or(0, |text| text.len()));
+    }
+    let Ok(text) = str::from_utf8(bytes) else {
+        return Ok(0);
+    };
+    match kind {
+        "gnu" | "gnu-one-word" => Ok(split_gnu_response_file_args(alloc, text)?.len()),
+        "diab" => Ok(split_diab(alloc, text)?.map_or(0, |words| words.len())),
+        _ => Ok(msvc_words(alloc, text)?.len()),
+    }
+}
+
+fn main(rt: HostRuntime) -> io::Result<()> {
+    let mut words = env::args(&rt)?.skip(1);
+    let kind = words.next();
+    let kind = kind.as_ref().map_or("gnu", |word| word.as_str());
+    let kib = words.next().and_then(|word| word.parse::<usize>().ok());
+    let text = text_of(rt.alloc(), kind, kib.unwrap_or(1).saturating_mul(1024))?;
+    let begin = rt.process_cpu_time()?;
+    let count = count_of(rt.alloc(), kind, &text)?;
+    let took = rt.process_cpu_time()?.saturating_sub(begin);
+    let millis = took.as_millis();
+    eprintln!(rt; "{millis} ms")?;
+    let len = text.len();
+    println!(rt; "{kind}: {count} from {len} bytes")
+}
