@@ -1,4 +1,5 @@
 pub mod ArchLemmas
+pub mod ExtensionLaws
 pub mod OutputLemmas
 pub mod GnuLemmas
 pub mod GnuLaws
@@ -8,6 +9,7 @@ pub mod DiabLemmas
 pub mod DiabLaws
 pub mod DecodeLemmas
 pub mod DecodeLaws
+pub mod PathLaws
 pub mod PathLemmas
 pub mod SamePath
 pub mod PathHashLemmas

@@ -155,6 +155,9 @@ impl<T: Drop> From<AllocFailed<T>> for CommandError {
     ghost from_gives = { λ _ e. e ≡ Memory };
 
     fn from(_: AllocFailed<T>) -> CommandError {
-        CommandError::Memory
+        CommandError::from(AllocError)
     }
 }
+
+#[cfg(test)]
+mod tests;
