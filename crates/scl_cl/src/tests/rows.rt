@@ -17,10 +17,7 @@ fn diab_answers_its_worked_rows(rt: HostRuntime) {
             b"compiler diab\nword -c\nword foo.cxx\nword -fabc\nword -I\nword include\nword -o\nword foo.o\nword -include\nword file\n",
             b"ok\narg -c\narg foo.cxx\narg -o\narg foo.o\narg -Iinclude\narg -include\narg file\narg -fabc\ncacheable yes\n",
         ),
-        (
-            b"compiler diab\nword -@@foo\n",
-            b"cannot-cache -@\n",
-        ),
+        (b"compiler diab\nword -@@foo\n", b"cannot-cache -@\n"),
         (
             b"compiler diab\nword -c\nword src/a.c\n",
             b"ok\narg -c\narg src/a.c\narg -o\narg src/a.o\ncacheable yes\n",
@@ -33,14 +30,8 @@ fn diab_answers_its_worked_rows(rt: HostRuntime) {
             b"compiler diab\nword -c\nword a.xyz\n",
             b"cannot-cache unknown source language\n",
         ),
-        (
-            b"compiler diab",
-            b"not-compilation\n",
-        ),
-        (
-            b"compiler diab\n",
-            b"not-compilation\n",
-        ),
+        (b"compiler diab", b"not-compilation\n"),
+        (b"compiler diab\n", b"not-compilation\n"),
         (
             b"compiler diab\nword -c\nword a.c\nword -L\nword @x\n",
             b"cannot-cache @\n",
@@ -144,10 +135,7 @@ fn gcc_answers_its_worked_rows_first(rt: HostRuntime) {
             b"compiler gcc\nword -o\nword foo.o\nword foo.c\n",
             b"not-compilation\n",
         ),
-        (
-            b"compiler gcc\n",
-            b"not-compilation\n",
-        ),
+        (b"compiler gcc\n", b"not-compilation\n"),
         (
             b"compiler gcc\nword -c\nword a.c\nword b.c\n",
             b"cannot-cache multiple input files\n",
@@ -269,9 +257,7 @@ fn gcc_answers_its_worked_rows_second(rt: HostRuntime) {
 
 #[test]
 fn bad_lines_are_told_by_the_worked_rows_of_gcc(rt: HostRuntime) {
-    let rows: [(&[u8], u64); 1] = [
-        (b"compiler gcc\nword a b\n", 2),
-    ];
+    let rows: [(&[u8], u64); 1] = [(b"compiler gcc\nword a b\n", 2)];
     for (request, number) in rows {
         expect_bad_line(&rt, request, number);
     }
