@@ -10,6 +10,7 @@ ghost use Rattle.scl_cl.specs.AnswersGiven.{answer_of};
 use crate::answer::Answer;
 use crate::compiler::Compiler;
 use crate::draft::Request;
+use scl_gnu::gcc::Gcc;
 use scl_small::diab::Diab;
 use scl_small::tasking_vx::TaskingVX;
 use scl_text::records::{Cacheable, CommandError, CompilerArguments, ParsedArguments};
@@ -63,11 +64,23 @@ fn answer_by<C: CCompilerImpl>(alloc: Global, compiler: &C, request: &Request) -
     }
 }
 
+fn gcc(gplusplus: bool) -> Gcc
+    ensures { result.gplusplus ≡ gplusplus }
+{
+    Gcc {
+        gplusplus,
+        version: None,
+        assembler_digest: None,
+    }
+}
+
 /// The answer to a request.
 pub fn answer_request(alloc: Global, request: Request) -> Mem<Answer>
     ensures { IfOk result (λ answer. answer_of answer ≡ answer_to (asked_by request)) }
 {
     match request.compiler {
+        Compiler::Gcc => answer_by(alloc, &gcc(false), &request),
+        Compiler::Gxx => answer_by(alloc, &gcc(true), &request),
         Compiler::Diab => answer_by(alloc, &Diab { version: None }, &request),
         Compiler::Tasking => answer_by(alloc, &TaskingVX, &request),
         _ => Ok(Answer::NotCompilation),

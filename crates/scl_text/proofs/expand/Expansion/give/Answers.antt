@@ -1,6 +1,6 @@
-use Rattle.std.proofs.Common.{◌≡◌, map, ℕ, ◌+◌, ◌<◌, List, [], ◌∷◌, ◌++◌, Option, Some, arith, sym, refl}
+use Rattle.std.proofs.Common.{◌≡◌, map, [], ◌∷◌, ◌++◌, Some, arith, sym, refl}
 use Rattle.std.proofs.lemmas.List.{map-append}
-use Rattle.scl_text.specs.Expand.{Level, opened}
+use Rattle.scl_text.specs.Expand.{opened}
 use Rattle.scl_text.specs.Words.{words_of}
 use Rattle.scl_text.specs.Remaining.{level_of, closed_of}
 use Rattle.scl_text.proofs.StepLemmas.{left-opened, steps-opened}

@@ -1,10 +1,9 @@
-use Rattle.std.proofs.Common.{rules, ◌≡◌, map, ℕ, ◌+◌, length, List, [], ◌∷◌, ◌++◌, Option, Some, arith, sym, refl}
+use Rattle.std.proofs.Common.{◌≡◌, map, [], ◌∷◌, ◌++◌, arith, refl}
 use Rattle.std.proofs.lemmas.List.{map-append}
 use Rattle.std.proofs.lemmas.Grind.{common_steps}
 use Rattle.std.specs.Vec.Iter.{into_iter_items}
-use Rattle.scl_text.specs.Expand.{Level, opened}
 use Rattle.scl_text.specs.Words.{words_of}
-use Rattle.scl_text.specs.Remaining.{level_of, closed_of, StepsFrom}
+use Rattle.scl_text.specs.Remaining.{level_of}
 use Rattle.scl_text.proofs.StepLemmas.{left-first, steps-first, left-next, steps-next, left-close, steps-close, steps_by}
 use Rattle.scl_text.proofs.ExpandLemmas.{expand-nil}
 use Rattle.scl_text.proofs.expand.Expansion.step.Goals as goal
