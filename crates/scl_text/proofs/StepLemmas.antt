@@ -1,6 +1,7 @@
 -- The steps of an expansion.
-use Rattle.std.proofs.Common.{◌≡◌, ℕ, zero, suc, ◌+◌, ◌<◌, ◌≤◌, List, [], ◌∷◌, ◌++◌, length, Option, None, Some, refl, sym, ap, append_assoc, arith}
+use Rattle.std.proofs.Common.{◌≡◌, ℕ, zero, suc, ◌+◌, ◌<◌, ◌≤◌, List, [], ◌∷◌, ◌++◌, length, Option, None, Some, Result, IfOk, refl, sym, ap, append_assoc, arith}
 use Rattle.std.proofs.lemmas.List.{append-nil}
+use Rattle.std.specs.declared.alloc.AllocError.{AllocError}
 use Rattle.scl_text.specs.Views.{File}
 use Rattle.scl_text.specs.ResponseFiles.{files_inside}
 use Rattle.scl_text.specs.Expand.{Level, opened, in_place, expand}
@@ -125,5 +126,5 @@ module _ (kind : ExpansionKind) (directory : List ℕ) (files : List File) where
       → steps_left kind directory files levels words < steps_left kind directory files (levels ++ record { path = path; words = [] } ∷ []) words
   steps-close levels words path = rw (steps_open-push kind directory files levels (record { path = path; words = [] })) (omega arith)
 
-pub steps_by : (a b : List (List ℕ)) (n m : ℕ) (r : Step) (t : Expansion) → a ≡ b → n ≡ m → StepsFrom b m r t → StepsFrom a n r t
+pub steps_by : (a b : List (List ℕ)) (n m : ℕ) (r : Result Step AllocError) (t : Expansion) → a ≡ b → n ≡ m → IfOk r (λ step. StepsFrom b m step t) → IfOk r (λ step. StepsFrom a n step t)
 steps_by a b n m r t e f h = rw (e, f) h

@@ -88,7 +88,6 @@ abbrev pub StepsFrom : List (List ℕ) → ℕ → Step → Expansion → Type 0
 StepsFrom words n (step.Word w) t = (words ≡ w.items ∷ left_of t) × (steps_of t < n)
 StepsFrom words n step.Again t = (words ≡ left_of t) × (steps_of t < n)
 StepsFrom words n step.End t = words ≡ []
-StepsFrom words n step.Failed t = Unit {0}
 
 abbrev pub Steps : Expansion → Step → Expansion → Type 0
 Steps s r t = StepsFrom (left_of s) (steps_of s) r t
