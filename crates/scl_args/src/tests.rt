@@ -126,6 +126,8 @@ fn a_search_looks_at_few_rows(rt: HostRuntime) -> Result<(), Fail> {
         sum = sum.saturating_add(looks(&table, row.flag().as_bytes()));
     }
     assert!(rt; sum >= 300);
+    assert_eq!(rt; table.store().len(), 86);
+    assert!(rt; !table.store().is_empty());
     assert!(rt; table.check());
     Ok(())
 }
@@ -307,6 +309,16 @@ fn of_two_tables_the_longer_flag_wins_and_then_the_second(rt: HostRuntime) -> Re
     assert_eq!(rt; kind_found(&tied, "-include"), Some(Kind::Alone));
     assert_eq!(rt; looks(&&tied, b"-include"), looks(&tied, b"-include"));
     Ok(())
+}
+
+#[test]
+fn a_delimiter_stands_behind_the_flag(rt: HostRuntime) {
+    let row = TakeArg("-foo", Kind::Valued, CanBeSeparated(Some(b'=')));
+    assert!(rt; row.fits(b"-foo"));
+    assert!(rt; row.fits(b"-foo="));
+    assert!(rt; row.fits(b"-foo=bar"));
+    assert!(rt; !row.fits(b"-foobar"));
+    assert!(rt; !row.fits(b"-fo"));
 }
 
 #[test]
