@@ -1,14 +1,12 @@
 -- The rows of a table that fit a word.
-use Rattle.std.proofs.Common.{◌≡◌, ℕ, ◌<◌, ◌≤◌, Bool, true, false, ◌⊎◌, inl, inr, List, [], ◌∷◌, ◌++◌, length, take, Option, None, Some, MatchOption, refl, sym, ap, subst, ◌∙◌, arith}
+use Rattle.std.proofs.Common.{◌≡◌, ℕ, ◌<◌, true, false, inl, inr, List, [], ◌∷◌, ◌++◌, length, take, None, Some, MatchOption, refl, sym, ap, subst, ◌∙◌, arith}
 use Rattle.std.proofs.lemmas.Cmp.{nat_list_cmp_total}
-use Rattle.std.specs.Cmp.Lexicographic.{slice_cmp}
-use Rattle.std.specs.Ordering.{nat_cmp}
 use Rattle.std.specs.declared.cmp.Ordering.TheVariants.{Less}
 use Rattle.scl_args.specs.Row.{Row, fits}
 use Rattle.scl_args.specs.Tables.{is_table, comes_before, has_ascii_delimiter, owner}
 use Rattle.scl_args.specs.Each.{Each, Has}
 use Rattle.scl_args.specs.Laws.{IsLongestFit}
-use Rattle.scl_args.proofs.OrderLemmas.{cmp, is_less, IsPrefix, fits_prefix, prefix_not_after, prefix_before}
+use Rattle.scl_args.proofs.OrderLemmas.{cmp, is_less, fits_prefix, prefix_not_after, prefix_before}
 use Rattle.scl_args.proofs.PrefixLemmas.{both, starts-length, fits-starts}
 use Rattle.scl_args.proofs.OwnerLaws.{owner-longest, owner-wins, AtMost, Below, Wins}
 

@@ -6,7 +6,7 @@ use Rattle.scl_args.specs.Row.{Row, fits}
 use Rattle.scl_args.specs.Tables.{longer, longest, owner, owner_in, all_rows}
 use Rattle.scl_args.specs.Each.{Each, Has}
 use Rattle.scl_args.specs.Laws.{IsLongestFit}
-use Rattle.scl_args.proofs.TablesLemmas.{longer_none, longer_longer, owner_cons, owner_in_append}
+use Rattle.scl_args.proofs.TablesLemmas.{longer_longer, owner_cons, owner_in_append}
 
 longest-append : {K : Type 0} (xs ys : List (Row K)) → longest (xs ++ ys) ≡ longer (longest xs) (longest ys)
 longest-append [] ys = refl

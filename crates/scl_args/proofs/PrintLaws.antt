@@ -5,12 +5,12 @@ use Rattle.std.proofs.lemmas.List.{append-nil}
 use Rattle.std.specs.Str.{bytes_eq}
 use Rattle.scl_args.specs.declared.argument.ArgDisposition.{ArgDisposition}
 use Rattle.scl_args.specs.declared.argument.ArgDisposition.TheVariants as how
-use Rattle.scl_args.specs.Row.{Row, Shape, bare, apart, joined, either, joins, fits}
+use Rattle.scl_args.specs.Row.{Row, Shape, bare, apart, joined, either, joins}
 use Rattle.scl_args.specs.Tables.{owner_in}
-use Rattle.scl_args.specs.Cuts.{Cut, raw, unknown, flag, with_value, End, clean, dangling, Piece, whole, needs_value, ends_options, piece_at, owned_piece, piece_of, after_delimiter, without_value, last_piece, starts_with_dash, cut}
+use Rattle.scl_args.specs.Cuts.{Cut, raw, unknown, with_value, End, Piece, whole, needs_value, ends_options, piece_at, owned_piece, piece_of, after_delimiter, without_value, last_piece, starts_with_dash, cut}
 use Rattle.scl_args.specs.Relation.{CutsInto, nothing, option, option_and_value, last_word, ended}
 use Rattle.scl_args.specs.Seen.{shown}
-use Rattle.scl_args.specs.Spell.{spelled, spell_value, delimited}
+use Rattle.scl_args.specs.Spell.{spelled, delimited}
 use Rattle.scl_args.specs.Printed.{CutFrom, as_printed, with_delimiter, AllCutFrom, IsLeftAt}
 use Rattle.scl_args.proofs.TablesLemmas.{owner_in_fits}
 use Rattle.scl_args.proofs.PrefixLemmas.{fits-split}

@@ -1,5 +1,5 @@
 -- What follows from the definitions of tables, cutting and printing, in the subject's own words.
-use Rattle.std.specs.Prelude.{◌≡◌, ℕ, ◌*◌, ◌+◌, ◌^◌, ◌<◌, ◌≤◌, Bool, true, false, List, [], ◌∷◌, ◌++◌, length, map, filter, slice_index_or, Option, None, Some, MatchOption, ◌⊎◌, ◌↔◌}
+use Rattle.std.specs.Prelude.{◌≡◌, ℕ, ◌*◌, ◌+◌, ◌^◌, ◌<◌, ◌≤◌, Bool, true, false, List, ◌∷◌, ◌++◌, length, map, filter, slice_index_or, Option, Some, MatchOption, ◌⊎◌, ◌↔◌}
 use Rattle.std.specs.Cmp.Lexicographic.{slice_cmp}
 use Rattle.std.specs.Ordering.{nat_cmp}
 use Rattle.std.specs.declared.cmp.Ordering.TheVariants.{Less}
@@ -7,7 +7,7 @@ use Rattle.scl_args.specs.declared.argument.NormalizedDisposition.{NormalizedDis
 use Rattle.scl_args.specs.Row.{Row, fits}
 use Rattle.scl_args.specs.Tables.{is_table, owner, owner_in, all_rows}
 use Rattle.scl_args.specs.Probes.{bits, looks_in}
-use Rattle.scl_args.specs.Cuts.{Cut, End, Cutting, cut}
+use Rattle.scl_args.specs.Cuts.{Cutting, cut}
 use Rattle.scl_args.specs.Relation.{CutsInto}
 use Rattle.scl_args.specs.Seen.{Seen, shown, plain_seen}
 use Rattle.scl_args.specs.Spell.{spelled}

@@ -8,9 +8,10 @@ mod tables;
 use crate::ArgDisposition::{CanBeConcatenated, CanBeSeparated, Concatenated, Separated};
 use crate::ArgRow::{Flag, TakeArg};
 use crate::{
-    ArgDisposition, ArgParseError, ArgParseResult, ArgRow, ArgsIter, Argument, ArgumentValue,
-    Delimiter, ExactArg, FlagTable, Gather, IntoArg, Mem, NormalizedDisposition, PathArg,
-    SearchableArgInfo, cut_options, cut_words, gather_all, laws, looks, push_spelled, side_of_flag,
+    ArgDisposition, ArgParseError, ArgParseResult, ArgRow, ArgToStringResult, ArgsIter, Argument,
+    ArgumentValue, Delimiter, ExactArg, FlagTable, Gather, IntoArg, Mem, NormalizedDisposition,
+    PathArg, SearchableArgInfo, cut_options, cut_words, gather_all, laws, looks, push_spelled,
+    side_of_flag,
 };
 use std::alloc::Global;
 use std::test::Fail;
@@ -36,7 +37,15 @@ impl IntoArg for Value {
     ghost is_path = { λ _. false };
 
     fn into_arg_os_string(&self, alloc: Global) -> Mem<Vec<u8>> {
-        Vec::from_slice(alloc, self.word.as_slice())
+        self.word.into_arg_os_string(alloc)
+    }
+
+    fn into_arg_string<F: FnMut(&[u8]) -> Option<String>>(
+        &self,
+        alloc: Global,
+        f: &mut F,
+    ) -> ArgToStringResult {
+        self.word.into_arg_string(alloc, f)
     }
 }
 
@@ -117,6 +126,8 @@ fn a_search_looks_at_few_rows(rt: HostRuntime) -> Result<(), Fail> {
         sum = sum.saturating_add(looks(&table, row.flag().as_bytes()));
     }
     assert!(rt; sum >= 300);
+    assert_eq!(rt; table.store().len(), 86);
+    assert!(rt; !table.store().is_empty());
     assert!(rt; table.check());
     Ok(())
 }
@@ -301,6 +312,16 @@ fn of_two_tables_the_longer_flag_wins_and_then_the_second(rt: HostRuntime) -> Re
 }
 
 #[test]
+fn a_delimiter_stands_behind_the_flag(rt: HostRuntime) {
+    let row = TakeArg("-foo", Kind::Valued, CanBeSeparated(Some(b'=')));
+    assert!(rt; row.fits(b"-foo"));
+    assert!(rt; row.fits(b"-foo="));
+    assert!(rt; row.fits(b"-foo=bar"));
+    assert!(rt; !row.fits(b"-foobar"));
+    assert!(rt; !row.fits(b"-fo"));
+}
+
+#[test]
 fn rows_in_disorder_make_no_table(rt: HostRuntime) {
     let twice = [Flag("-bar", Kind::Alone), Flag("-bar", Kind::Alone)];
     let falling = [Flag("-plop", Kind::Alone), Flag("-bar", Kind::Alone)];
@@ -445,15 +466,6 @@ fn options_are_gathered_until_one_is_refused(rt: HostRuntime) -> Result<(), Fail
 }
 
 #[test]
-fn values_print_their_words(rt: HostRuntime) -> Result<(), Fail> {
-    let word = Vec::from_slice(rt.alloc(), b"a")?;
-    assert_eq!(rt; word.into_arg_os_string(rt.alloc())?, word);
-    let path = PathArg(Vec::from_slice(rt.alloc(), b"a")?);
-    assert_eq!(rt; path.into_arg_os_string(rt.alloc())?, word);
-    Ok(())
-}
-
-#[test]
 fn laws_may_be_called() {
     laws::flags_rise::<Kind>();
     laws::owner_is_longest_fit::<Kind>();
@@ -468,4 +480,7 @@ fn laws_may_be_called() {
     laws::prints_what_was_cut::<Kind>();
     laws::prints_one_or_two::<Kind>();
     laws::stays_on_its_side::<Kind>();
+    laws::options_came::<Kind>();
+    laws::next_flag_suffices::<Kind>();
+    laws::prints_again::<Kind>();
 }

@@ -6,6 +6,11 @@ use Rattle.scl_text.specs.Records.{Parsed, Verdict, CannotCache, NotCompilation}
 use Rattle.scl_text.specs.declared.records.Cacheable.{Cacheable}
 use Rattle.scl_text.specs.declared.records.Cacheable.TheVariants as cacheable
 use Rattle.scl_args.specs.Tables.{owner_in}
+use Rattle.scl_text.specs.Languages.{gcc_text}
+use Rattle.scl_text.specs.declared.records.CCompilerKind.TheVariants as kinds
+use Rattle.scl_gnu.specs.Building as gcc
+use Rattle.scl_gnu.specs.GccRows.{gcc_rows}
+use Rattle.scl_gnu.specs.Readings as gcc_reading
 use Rattle.scl_small.specs.Command.{command}
 use Rattle.scl_small.specs.DiabReading as diab
 use Rattle.scl_small.specs.DiabTable as diab_table
@@ -54,6 +59,12 @@ answer_from command kept (Ok parsed) = answer_with (command parsed) (kept parsed
 answer_from command kept (Err (CannotCache reason)) = cannot_cache reason
 answer_from command kept (Err NotCompilation) = not_compilation
 
+-- the answer of Gcc, as its driver for C or for C++
+abbrev pub gcc_answer : Bool → Request → Answer
+gcc_answer plusplus request =
+    answer_from (λ parsed. gcc.command (gcc_text parsed.language) parsed) (λ parsed. cacheable.Yes)
+    (gcc_reading.reading kinds.Gcc plusplus (gcc_rows ∷ []) request.directory request.view request.words)
+
 -- the answer of Diab
 abbrev pub diab_answer : Request → Answer
 diab_answer request =
@@ -65,6 +76,8 @@ tasking_answer request = answer_from command (λ parsed. cacheable.Yes) (tasking
 
 -- the answer of a compiler; those that no request may name compile nothing
 abbrev pub answer_by : Compiler → Request → Answer
+answer_by compilers.Gcc request = gcc_answer false request
+answer_by compilers.Gxx request = gcc_answer true request
 answer_by compilers.Diab request = diab_answer request
 answer_by compilers.Tasking request = tasking_answer request
 answer_by _ request = not_compilation

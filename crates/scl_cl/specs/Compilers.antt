@@ -17,7 +17,9 @@ name_of Tasking = codes "tasking"
 -- the compilers that requests may name
 abbrev pub served : List Compiler
 served =
-    Diab
+    Gcc
+    ∷ Gxx
+    ∷ Diab
     ∷ Tasking
     ∷ []
 

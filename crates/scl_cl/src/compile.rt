@@ -4,12 +4,13 @@ ghost use Rattle.scl_text.specs.Records.{parsed_of};
 ghost use Rattle.scl_text.specs.Words.{words_of};
 ghost use Rattle.scl_text.specs.Commands.{pairs_of};
 ghost use Rattle.scl_cl.specs.Drafts.{asked_by};
-ghost use Rattle.scl_cl.specs.Answers.{answer_to, answer_from, answer_with};
+ghost use Rattle.scl_cl.specs.Answers.{answer_to, answer_from, answer_with, gcc_answer};
 ghost use Rattle.scl_cl.specs.AnswersGiven.{answer_of};
 
 use crate::answer::Answer;
 use crate::compiler::Compiler;
 use crate::draft::Request;
+use scl_gnu::gcc::Gcc;
 use scl_small::diab::Diab;
 use scl_small::tasking_vx::TaskingVX;
 use scl_text::records::{Cacheable, CommandError, CompilerArguments, ParsedArguments};
@@ -63,11 +64,25 @@ fn answer_by<C: CCompilerImpl>(alloc: Global, compiler: &C, request: &Request) -
     }
 }
 
+/// The answer of Gcc, as its driver for C or for C++.
+fn gcc_answer(alloc: Global, gplusplus: bool, request: &Request) -> Mem<Answer>
+    ensures { IfOk result (λ answer. answer_of answer ≡ gcc_answer gplusplus (asked_by request.now)) }
+{
+    let gcc = Gcc {
+        gplusplus,
+        version: None,
+        assembler_digest: None,
+    };
+    answer_by(alloc, &gcc, request)
+}
+
 /// The answer to a request.
 pub fn answer_request(alloc: Global, request: Request) -> Mem<Answer>
     ensures { IfOk result (λ answer. answer_of answer ≡ answer_to (asked_by request)) }
 {
     match request.compiler {
+        Compiler::Gcc => gcc_answer(alloc, false, &request),
+        Compiler::Gxx => gcc_answer(alloc, true, &request),
         Compiler::Diab => answer_by(alloc, &Diab { version: None }, &request),
         Compiler::Tasking => answer_by(alloc, &TaskingVX, &request),
         _ => Ok(Answer::NotCompilation),

@@ -16,7 +16,9 @@ pub enum Compiler {
 }
 
 /// The compilers that requests may name: a new one is one line here and one in its definition.
-static SERVED: [Compiler; 2] = [
+static SERVED: [Compiler; 4] = [
+    Compiler::Gcc,
+    Compiler::Gxx,
     Compiler::Diab,
     Compiler::Tasking,
 ];

@@ -15,6 +15,10 @@ mod request;
 mod transfer;
 
 pub use program::{Outcome, run};
+pub use scl_args as args;
+pub use scl_gnu::gcc;
+pub use scl_small::{diab, tasking_vx};
+pub use scl_text as text;
 
 #[cfg(test)]
 mod tests;

@@ -9,4 +9,6 @@ mod place;
 mod reading;
 mod rules;
 pub mod tasking_vx;
+#[cfg(test)]
+mod tests;
 mod values;

@@ -1,8 +1,9 @@
-ghost use Rattle.std.specs.Prelude.{◌≡◌};
+ghost use Rattle.std.specs.Prelude.{◌≡◌, ◌∷◌, [], IsTrue};
 ghost use Rattle.std.specs.Option.{option_map};
 ghost use Rattle.scl_args.specs.Seen.{seen};
 ghost use Rattle.scl_text.specs.Refusals.{verdict_of};
-ghost use Rattle.scl_small.specs.DiabValues.{word_of};
+ghost use Rattle.scl_args.specs.Tables.{tables_hold_values};
+ghost use Rattle.scl_small.specs.DiabValues.{holds_value, word_of};
 ghost use Rattle.scl_small.specs.DiabTable.{rows};
 
 use crate::values::without_value;
@@ -175,7 +176,8 @@ pub static ARGS: [ArgInfo<ArgData>; 23] = [
 /// Diab's table.
 #[tactic(auto, unfolding(crate::specs::DiabTable::rows))]
 pub fn table() -> FlagTable<'static, ArgData>
-    ensures { result ≡ rows }
+    ensures rows { result ≡ rows }
+    ensures values { IsTrue (tables_hold_values holds_value (result ∷ [])) }
 {
     FlagTable::new(&ARGS).unwrap()
 }

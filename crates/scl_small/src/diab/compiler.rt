@@ -55,7 +55,6 @@ impl CCompilerImpl for Diab {
         }
     }
 
-    #[tactic(auto, unfolding(crate::specs::DiabTable::rows))]
     fn parse_arguments(
         &self,
         alloc: Global,

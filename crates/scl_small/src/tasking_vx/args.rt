@@ -1,8 +1,9 @@
-ghost use Rattle.std.specs.Prelude.{◌≡◌};
+ghost use Rattle.std.specs.Prelude.{◌≡◌, ◌∷◌, [], IsTrue};
 ghost use Rattle.std.specs.Option.{option_map};
 ghost use Rattle.scl_args.specs.Seen.{seen};
 ghost use Rattle.scl_text.specs.Refusals.{verdict_of};
-ghost use Rattle.scl_small.specs.TaskingValues.{word_of};
+ghost use Rattle.scl_args.specs.Tables.{tables_hold_values};
+ghost use Rattle.scl_small.specs.TaskingValues.{holds_value, word_of};
 ghost use Rattle.scl_small.specs.TaskingTable.{rows};
 
 use crate::values::without_value;
@@ -176,7 +177,8 @@ pub static ARGS: [ArgInfo<ArgData>; 25] = [
 /// TaskingVX's table.
 #[tactic(auto, unfolding(crate::specs::TaskingTable::rows))]
 pub fn table() -> FlagTable<'static, ArgData>
-    ensures { result ≡ rows }
+    ensures rows { result ≡ rows }
+    ensures values { IsTrue (tables_hold_values holds_value (result ∷ [])) }
 {
     FlagTable::new(&ARGS).unwrap()
 }

@@ -48,7 +48,6 @@ impl CCompilerImpl for TaskingVX {
         Ok(None)
     }
 
-    #[tactic(auto, unfolding(crate::specs::TaskingTable::rows))]
     fn parse_arguments(
         &self,
         alloc: Global,

@@ -1,5 +1,5 @@
-use Rattle.std.proofs.Common.{◌≡◌, List, subst, sym}
-use Rattle.scl_args.specs.Cuts.{Cutting, cut}
+use Rattle.std.proofs.Common.{subst}
+use Rattle.scl_args.specs.Cuts.{Cutting}
 use Rattle.scl_args.specs.Relation.{CutsInto}
 use Rattle.scl_args.proofs.RelationLaws.{cuts, cuts_only}
 use Rattle.scl_args.proofs.laws.cuts_by_cases.Goals as goal
