@@ -54,7 +54,7 @@ fn read(rt: &HostRuntime, text: &[u8], view: &View) -> Mem<CompilerArguments<Par
         rt.alloc(),
         &words,
         b"/w",
-        &table(),
+        table(),
         false,
         CCompilerKind::Clang,
         view,
