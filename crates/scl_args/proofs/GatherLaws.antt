@@ -1,5 +1,5 @@
 -- A pass over options as far as it has come, and the first verdict that it amounts to.
-use Rattle.std.proofs.Common.{◌≡◌, List, [], ◌∷◌, ◌++◌, Option, Some, None, ◌⊎◌, inl, inr, refl, ap, sym, ◌∙◌, subst, append_assoc, append-nil, length, arith}
+use Rattle.std.proofs.Common.{◌≡◌, List, [], ◌∷◌, ◌++◌, Option, Some, None, inl, inr, refl, ap, sym, ◌∙◌, subst, append_assoc, append-nil, length, arith}
 use Rattle.std.specs.Option.{option_map}
 use Rattle.scl_args.specs.Seen.{Seen}
 use Rattle.scl_args.specs.Options.{or_else, first_verdict, first_verdict_after}

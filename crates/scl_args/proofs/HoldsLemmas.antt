@@ -1,10 +1,9 @@
 -- Tables whose value rows have kinds that hold values.
-use Rattle.std.proofs.Common.{◌≡◌, ℕ, Bool, true, false, cond, nat_lt, ◌&&◌, ◌||◌, not, List, [], ◌∷◌, length, drop, filter, map, Option, None, Some, refl, sym, ap, subst, ◌∙◌}
+use Rattle.std.proofs.Common.{◌≡◌, ℕ, Bool, true, false, cond, nat_lt, ◌&&◌, ◌||◌, not, List, [], ◌∷◌, length, drop, filter, Option, None, Some, refl, subst}
 use Rattle.std.specs.Str.{bytes_eq}
-use Rattle.scl_args.specs.declared.argument.ArgDisposition.{ArgDisposition}
 use Rattle.scl_args.specs.Row.{Row, Shape, bare, apart, joined, either, fits}
 use Rattle.scl_args.specs.Tables.{longer, longest, owner, owner_in, takes_value, rows_hold_values, tables_hold_values}
-use Rattle.scl_args.specs.Cuts.{Cut, raw, unknown, flag, with_value, Cutting, Piece, whole, needs_value, ends_options, piece_at, owned_piece, piece_of, starts_with_dash, cut}
+use Rattle.scl_args.specs.Cuts.{Cut, raw, unknown, flag, with_value, Piece, whole, needs_value, ends_options, piece_at, owned_piece, piece_of, starts_with_dash, cut}
 use Rattle.scl_args.specs.Each.{Each}
 use Rattle.scl_args.proofs.RelationLaws.{cuts, each-option}
 

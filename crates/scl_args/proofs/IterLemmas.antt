@@ -1,7 +1,7 @@
-use Rattle.std.proofs.Common.{◌≡◌, ◌≢◌, ℕ, Bool, true, false, cond, ◌&&◌, List, [], ◌∷◌, ◌++◌, map, Option, None, Some, Result, Ok, Err, OnErr, is_err, Vec, refl, sym, ap, subst, ◌∙◌, ◌⊎◌, inl, inr, append_assoc, arith, rules}
+use Rattle.std.proofs.Common.{◌≡◌, ℕ, Bool, true, false, cond, ◌&&◌, List, [], ◌∷◌, ◌++◌, Option, None, Some, Result, Ok, Err, OnErr, is_err, Vec, refl, sym, ap, subst, ◌⊎◌, inl, inr, append_assoc}
 use Rattle.std.specs.Str.{bytes_eq}
 use Rattle.std.specs.Bool.{MatchBool}
-use Rattle.std.specs.Iterator.{Drains, Yields, YieldsThen}
+use Rattle.std.specs.Iterator.{Drains, Yields}
 use Rattle.std.specs.declared.alloc.Global.{Global}
 use Rattle.scl_args.specs.declared.argument.Argument.{Argument}
 use Rattle.scl_args.specs.declared.argument.Argument.TheVariants as argument
@@ -10,8 +10,8 @@ use Rattle.scl_args.specs.declared.error.ArgParseError.{ArgParseError}
 use Rattle.scl_args.specs.declared.error.ArgParseError.TheVariants as error
 use Rattle.scl_args.specs.Row.{Row}
 use Rattle.scl_args.specs.Words.{words_of}
-use Rattle.scl_args.specs.Cuts.{Cut, raw, unknown, flag, with_value, End, clean, dangling, Cutting, Piece, whole, needs_value, ends_options, piece_of, owned_piece, before, last_piece, all_raw, cut}
-use Rattle.scl_args.specs.Iter.{nothing_left, nothing_but_flag, IsMadeOf, FailsAt, Makes, EndsBy, no_memory, no_word, no_value, CutsPiece, Cutter, cut_left, IsFirstOf, CutsItem, midway, at_end, CutsNext, AreItemsOf, CutsRun, whole_run, cut_short}
+use Rattle.scl_args.specs.Cuts.{Cut, raw, with_value, Cutting, Piece, whole, needs_value, ends_options, piece_of, owned_piece, before, all_raw, cut}
+use Rattle.scl_args.specs.Iter.{nothing_left, FailsAt, Makes, EndsBy, no_memory, no_word, no_value, CutsPiece, Cutter, cut_left, CutsItem, midway, at_end, CutsNext, AreItemsOf, CutsRun, whole_run, cut_short}
 use Rattle.scl_args.proofs.CutsLemmas.{cut_whole, cut_value, cut_last, cut_ended}
 
 module _ {I K T : Type 0} (steps : I → Option (Vec ℕ Global) → I → Type 0) (make : K → List ℕ → Result T ArgParseError → Type 0) (own : List ℕ → Option (Row K)) (dashes : Bool) where

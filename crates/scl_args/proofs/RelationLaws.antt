@@ -1,9 +1,10 @@
-use Rattle.std.proofs.Common.{◌≡◌, ℕ, Bool, List, [], ◌∷◌, Option, None, Some, map, refl}
+use Rattle.std.proofs.Common.{◌≡◌, ℕ, Bool, List, [], ◌∷◌, Option, None, Some, map, refl, ap, ◌∙◌}
 use Rattle.scl_args.specs.declared.argument.ArgDisposition.{ArgDisposition}
 use Rattle.scl_args.specs.Row.{Row}
 use Rattle.scl_args.specs.Cuts.{Cut, raw, with_value, End, clean, Cutting, whole, needs_value, ends_options, piece_of, last_piece, before, all_raw, cut}
 use Rattle.scl_args.specs.Relation.{CutsInto, nothing, option, option_and_value, last_word, ended}
 use Rattle.scl_args.specs.Each.{Each}
+use Rattle.scl_args.proofs.CutsLemmas.{cut_whole, cut_value, cut_last, cut_ended}
 
 module _ {K : Type 0} (own : List ℕ → Option (Row K)) (dashes : Bool) where
   abbrev C : List (List ℕ) → Cutting K → Type 0
@@ -50,3 +51,16 @@ module _ {K : Type 0} (own : List ℕ → Option (Row K)) (dashes : Bool) where
     each-option _ _ _ (option_and_value word value row d last words cs e p more) = (at_value word row d last p value, each-option words cs e more)
     each-option _ _ _ (last_word word row d last p) = lasts word row d last p
     each-option _ _ _ (ended word words p) = raws word p (word ∷ words)
+
+-- ---- the relation and the function are one
+
+module _ {K : Type 0} (own : List ℕ → Option (Row K)) (dashes : Bool) where
+  with_first : (c : Cut K) (left : Cutting K) (cs : List (Cut K)) (e : End) → left ≡ record { options = cs; end = e } → before c left ≡ record { options = c ∷ cs; end = e }
+  with_first c left cs e h = ap (before c) h
+
+  pub cuts_only : (words : List (List ℕ)) (cs : List (Cut K)) (e : End) → CutsInto own dashes words cs e → cut own dashes words ≡ record { options = cs; end = e }
+  cuts_only _ _ _ nothing = refl
+  cuts_only _ _ _ (option word c words cs e p more) = cut_whole own dashes word c p words ∙ with_first c _ cs e (cuts_only words cs e more)
+  cuts_only _ _ _ (option_and_value word value row d last words cs e p more) = cut_value own dashes word row d last p value words ∙ with_first (with_value row value d) _ cs e (cuts_only words cs e more)
+  cuts_only _ _ _ (last_word word row d last p) = cut_last own dashes word row d last p
+  cuts_only _ _ _ (ended word words p) = cut_ended own dashes word p words

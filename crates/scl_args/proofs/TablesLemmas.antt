@@ -1,10 +1,10 @@
-use Rattle.std.proofs.Common.{◌≡◌, ℕ, ◌+◌, ◌<◌, ◌≤◌, Bool, true, false, cond, nat_lt, ◌&&◌, List, [], ◌∷◌, ◌++◌, length, drop, filter, map, Option, None, Some, refl, sym, ap, subst, take, nat_eq, ◌∙◌, arith}
+use Rattle.std.proofs.Common.{◌≡◌, ℕ, ◌+◌, ◌≤◌, true, false, cond, nat_lt, ◌&&◌, List, [], ◌∷◌, ◌++◌, length, drop, filter, Option, None, Some, refl, sym, ap, subst, take, nat_eq, ◌∙◌, arith}
 use Rattle.std.specs.Cmp.Lexicographic.{pointwise}
 use Rattle.std.proofs.lemmas.Bool.Decides.{nat_tests}
-use Rattle.scl_args.specs.Row.{Row, row_of, Shape, joins, fits}
+use Rattle.scl_args.specs.Row.{Row, joins, fits}
 use Rattle.std.specs.List.{starts_with}
 use Rattle.scl_args.specs.Probes.{looks_in}
-use Rattle.scl_args.specs.Tables.{is_table, longer, longest, owner, owner_in}
+use Rattle.scl_args.specs.Tables.{longer, longest, owner, owner_in}
 
 pub longer_none : {K : Type 0} (a : Option (Row K)) → longer a None ≡ a
 longer_none None = refl

@@ -1,19 +1,18 @@
-use Rattle.std.proofs.Common.{◌≡◌, ℕ, ◌+◌, Bool, true, false, cond, List, [], ◌∷◌, ◌++◌, length, map, Option, None, Some, Result, Ok, Err, Vec, refl, sym, ap, subst, ◌∙◌, append_assoc, arith, rules, ◌⊎◌, inl, inr, IsOkAnd}
+use Rattle.std.proofs.Common.{◌≡◌, ℕ, Bool, true, false, List, [], ◌∷◌, ◌++◌, length, map, Option, None, Some, Result, Ok, Err, Vec, refl, sym, ap, subst, ◌∙◌, arith, ◌⊎◌, inl, inr, IsOkAnd}
 use Rattle.std.proofs.lemmas.List.{append-nil}
 use Rattle.std.specs.Bool.{MatchBool}
-use Rattle.std.specs.Iterator.{Drains, Yields, YieldsThen}
+use Rattle.std.specs.Iterator.{Yields}
 use Rattle.std.specs.Vec.Iter.{into_iter_items, into_iter_len, into_iter_steps}
 use Rattle.std.specs.declared.alloc.Global.{Global}
 use Rattle.std.specs.declared.vec.IntoIter.{IntoIter}
 use Rattle.scl_args.specs.declared.argument.Argument.{Argument}
 use Rattle.scl_args.specs.declared.error.ArgParseError.{ArgParseError}
 use Rattle.scl_args.specs.declared.error.ArgParseError.TheVariants as error
-use Rattle.scl_args.specs.Row.{Row}
 use Rattle.scl_args.specs.Words.{words_of}
 use Rattle.scl_args.specs.declared.argument.Argument.TheVariants as argument
 use Rattle.scl_args.specs.Cuts.{Cut, raw, unknown, flag, with_value, Cutting, before, clean, dangling, is_dangling}
-use Rattle.scl_args.specs.Seen.{Seen, Raw, Unknown, Known, seen, shown}
-use Rattle.scl_args.specs.Iter.{nothing_left, IsMadeOf, FailsAt, EndsBy, no_memory, no_word, no_value, Cutter, cut_left, IsFirstOf, CutsItem, midway, at_end, CutsNext, AreItemsOf}
+use Rattle.scl_args.specs.Seen.{Raw, Unknown, seen, shown}
+use Rattle.scl_args.specs.Iter.{nothing_left, IsMadeOf, FailsAt, EndsBy, no_memory, no_word, no_value, Cutter, IsFirstOf, midway, at_end, CutsNext, AreItemsOf}
 use Rattle.scl_args.specs.Runs.{after_options, items_of, left_of, dangles_by}
 use Rattle.scl_args.specs.Each.{Each}
 use Rattle.scl_args.proofs.HoldsLemmas.{CutHolds}

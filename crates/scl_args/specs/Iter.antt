@@ -1,5 +1,5 @@
 -- What an iterator that cuts words gives, call by call and over a whole run.
-use Rattle.std.specs.Prelude.{◌≡◌, ℕ, Bool, true, false, cond, List, [], ◌∷◌, map, Option, None, Some, Result, Ok, Err, MatchOption, OnErr, is_err, Vec, ◌⊎◌, ◌++◌}
+use Rattle.std.specs.Prelude.{◌≡◌, ℕ, Bool, true, false, cond, List, [], ◌∷◌, Option, None, Some, Result, Ok, Err, MatchOption, OnErr, is_err, Vec, ◌⊎◌, ◌++◌}
 use Rattle.std.specs.Bool.{MatchBool}
 use Rattle.std.specs.Iterator.{Drains, Yields, YieldsThen}
 use Rattle.std.specs.declared.alloc.Global.{Global}
@@ -9,7 +9,7 @@ use Rattle.scl_args.specs.declared.error.ArgParseError.{ArgParseError}
 use Rattle.scl_args.specs.declared.error.ArgParseError.TheVariants as error
 use Rattle.scl_args.specs.Row.{Row}
 use Rattle.scl_args.specs.Words.{words_of}
-use Rattle.scl_args.specs.Cuts.{Cut, raw, unknown, flag, with_value, End, clean, dangling, Cutting, Piece, whole, needs_value, ends_options, before, all_raw, cut}
+use Rattle.scl_args.specs.Cuts.{Cut, raw, unknown, flag, with_value, clean, dangling, Cutting, Piece, whole, needs_value, ends_options, before, all_raw, cut}
 
 abbrev pub nothing_left : {K : Type 0} → Cutting K
 nothing_left = record { options = []; end = clean }

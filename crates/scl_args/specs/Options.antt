@@ -1,7 +1,6 @@
 -- What definitions say of a finished list of options: filters, last ones, lists of words, a first verdict.
-use Rattle.std.specs.Prelude.{ℕ, Bool, true, false, not, List, [], ◌∷◌, ◌++◌, map, filter, length, nat_eq, Option, None, Some, Result, Ok, Err, if◌then◌else◌}
-use Rattle.std.specs.List.{flat_map, list_any}
-use Rattle.scl_args.specs.declared.argument.ArgDisposition.{ArgDisposition}
+use Rattle.std.specs.Prelude.{ℕ, Bool, true, false, List, [], ◌∷◌, ◌++◌, map, filter, length, nat_eq, Option, None, Some, Result, Ok, Err, if◌then◌else◌}
+use Rattle.std.specs.List.{flat_map}
 use Rattle.scl_args.specs.declared.argument.NormalizedDisposition.{NormalizedDisposition}
 use Rattle.scl_args.specs.declared.argument.NormalizedDisposition.TheVariants as side
 use Rattle.scl_args.specs.Seen.{Seen, Raw, Unknown, Known}

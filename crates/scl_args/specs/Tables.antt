@@ -1,5 +1,6 @@
 -- Tables, and the owner of a word in one table or in several.
 use Rattle.std.specs.Prelude.{ℕ, Bool, true, cond, nat_lt, ◌&&◌, ◌||◌, not, false, List, [], ◌∷◌, length, filter, Option, None, Some}
+use Rattle.std.specs.List.{flat_map}
 use Rattle.std.specs.Ordering.{nat_cmp, is_lt}
 use Rattle.std.specs.Cmp.Lexicographic.{slice_cmp}
 use Rattle.scl_args.specs.Row.{Row, Shape, bare, apart, joined, either, fits}
@@ -44,6 +45,10 @@ owner rows word = longest (filter (λ row. fits row word) rows)
 abbrev pub owner_in : {K : Type 0} → List (List (Row K)) → List ℕ → Option (Row K)
 owner_in [] word = None
 owner_in (rows ∷ tables) word = longer (owner rows word) (owner_in tables word)
+
+-- all rows of several tables, in one list
+abbrev pub all_rows : {K : Type 0} → List (List (Row K)) → List (Row K)
+all_rows tables = flat_map (λ rows. rows) tables
 
 abbrev pub takes_value : Shape → Bool
 takes_value bare = false

@@ -1,5 +1,5 @@
 -- Options as texts: what a value and an option print, and how a text is split.
-use Rattle.std.specs.Prelude.{◌≡◌, ℕ, Bool, true, false, cond, List, [], ◌∷◌, ◌++◌, length, drop, nat_eq, is_ok, Option, None, Some, Result, MatchResult, ◌⊎◌, if◌then◌else◌, String}
+use Rattle.std.specs.Prelude.{◌≡◌, ℕ, Bool, true, false, cond, List, [], ◌∷◌, ◌++◌, length, drop, nat_eq, is_ok, Option, None, Some, Result, Ok, Err, MatchResult, ◌⊎◌, if◌then◌else◌, String}
 use Rattle.std.specs.Str.{IsUtf8}
 use Rattle.std.specs.List.{starts_with}
 use Rattle.std.specs.Option.{option_map}
@@ -37,18 +37,19 @@ IsWantOfMemory (error.FailedPathTransform w) = ⊥
 IsWantOfMemory (error.InvalidUnicode w) = ⊥
 IsWantOfMemory error.Memory = Unit {0}
 
--- what is printed of a word, where an item shows a text so
-abbrev pub IsWord : (List ℕ → List ℕ) → List ℕ → Result (String Global) ArgToStringError → Type 0
-IsWord shown word result = MatchResult result (λ printed. string_bytes printed ≡ shown word) (IsNotText word)
+-- what a word prints
+abbrev pub IsWord : List ℕ → Result (String Global) ArgToStringError → Type 0
+IsWord word result = MatchResult result (λ printed. string_bytes printed ≡ word) (IsNotText word)
 
--- what is printed of a path, by the closure's answer
-abbrev pub IsAnswer : (List ℕ → List ℕ) → List ℕ → Option (String Global) → Result (String Global) ArgToStringError → Type 0
-IsAnswer shown path None result = MatchResult result (λ _. ⊥) (IsNotTransformed path)
-IsAnswer shown path (Some text) result = MatchResult result (λ printed. string_bytes printed ≡ shown (string_bytes text)) IsWantOfMemory
+-- what a path prints: the closure's answer unchanged
+abbrev pub IsAnswer : List ℕ → Option (String Global) → Result (String Global) ArgToStringError → Type 0
+IsAnswer path None result = MatchResult result (λ _. ⊥) (IsNotTransformed path)
+IsAnswer path (Some text) result = result ≡ Ok text
 
--- a text as it is
-abbrev pub bare_text : List ℕ → List ℕ
-bare_text text = text
+-- what a flag and a value print as one text, where the value alone prints so
+abbrev pub IsJoined : List ℕ → Option ℕ → Result (String Global) ArgToStringError → Result (String Global) ArgToStringError → Type 0
+IsJoined flag d (Ok text) result = MatchResult result (λ printed. string_bytes printed ≡ flag ++ delimited d (string_bytes text)) IsWantOfMemory
+IsJoined flag d (Err e) result = result ≡ Err e
 
 -- ---- how an option prints as texts
 
@@ -56,11 +57,6 @@ bare_text text = text
 pub data Item : Type 0 where
   alone : Bool → List ℕ → Item
   behind : List ℕ → Option ℕ → Bool → List ℕ → Item
-
--- the item, where its word prints as the text
-abbrev pub shown : Item → List ℕ → List ℕ
-shown (alone is_path word) text = text
-shown (behind flag d is_path word) text = flag ++ delimited d text
 
 -- the item, where its word prints as it is
 abbrev pub word_shown : Item → List ℕ
@@ -98,14 +94,18 @@ abbrev pub printer : {F : Type 0} → F → Seen Bool → Printer F
 printer f option = record { closure = f; left = items_shown option }
 
 module _ {F : Type 0} (calls : F → List ℕ → Option (String Global) → F → Type 0) where
-  -- what a word prints: a path what one call of the closure answers, any other word its own text, without a call
-  abbrev pub Prints : (List ℕ → List ℕ) → Bool → List ℕ → F → Result (String Global) ArgToStringError → F → Type 0
-  Prints shown true path f result g = (answer : Option (String Global)) × calls f path answer g × IsAnswer shown path answer result
-  Prints shown false word f result g = (g ≡ f) × IsWord shown word result
+  -- what a value prints: a path what one call of the closure answers, any other value its word, without a call
+  abbrev pub Prints : Bool → List ℕ → F → Result (String Global) ArgToStringError → F → Type 0
+  Prints true path f result g = (answer : Option (String Global)) × calls f path answer g × IsAnswer path answer result
+  Prints false word f result g = (g ≡ f) × IsWord word result
+
+  -- what a value prints behind its flag
+  abbrev pub PrintsBehind : List ℕ → Option ℕ → Bool → List ℕ → F → Result (String Global) ArgToStringError → F → Type 0
+  PrintsBehind flag d is_path word f result g = (value : Result (String Global) ArgToStringError) × Prints is_path word f value g × IsJoined flag d value result
 
   abbrev pub PrintsItem : Item → F → Result (String Global) ArgToStringError → F → Type 0
-  PrintsItem (alone is_path word) = Prints bare_text is_path word
-  PrintsItem (behind flag d is_path word) = Prints (λ text. flag ++ delimited d text) is_path word
+  PrintsItem (alone is_path word) = Prints is_path word
+  PrintsItem (behind flag d is_path word) = PrintsBehind flag d is_path word
 
   -- the first item prints, and the others are left, or after an error nothing
   abbrev pub PrintsFirst : List Item → F → Result (String Global) ArgToStringError → Printer F → Type 0

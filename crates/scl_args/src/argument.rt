@@ -20,7 +20,7 @@ pub enum ArgDisposition {
     Concatenated(Delimiter),
 }
 
-/// The side to which an option that may stand either way is moved.
+/// The side to which an option that may stand either way is moved (docs/RULES.md, Printing).
 #[derive(Clone, Copy, Debug, PartialEq, Eq)]
 pub enum NormalizedDisposition {
     /// Flag and value in two words.
@@ -42,7 +42,7 @@ pub enum Argument<T> {
     WithValue(&'static str, T, ArgDisposition),
 }
 
-/// One row of a table, with a kind of type `K`.
+/// One row of a table, with a kind of type `K` (docs/RULES.md, Rows and tables).
 #[derive(Debug, PartialEq, Eq, Drop)]
 pub enum ArgRow<K> {
     /// A flag that takes no value.
@@ -130,7 +130,8 @@ impl<K> ArgRow<K> {
         }
     }
 
-    /// Whether the row fits the word: it is the row's flag, or begins with it and the row joins the rest.
+    /// Whether the row fits the word: the word is the row's flag, or begins with it and the row joins the rest
+    /// (docs/RULES.md, Owners).
     pub fn fits(&self, word: &[u8]) -> bool
         ensures { result ≡ fits (row_of self.now) word.now }
     {

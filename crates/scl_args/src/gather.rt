@@ -7,7 +7,7 @@ use crate::memory::Mem;
 use crate::value::ArgumentValue;
 use std::alloc::Global;
 
-/// What gathers options one by one, and refuses some.
+/// What gathers options one by one, and refuses some (docs/RULES.md, Passes).
 pub trait Gather<T: ArgumentValue>: Drop {
     /// Why an option is refused.
     type Refusal: Drop;
@@ -18,16 +18,17 @@ pub trait Gather<T: ArgumentValue>: Drop {
     /// What is said of an option after others.
     ghost says: { List (Seen T.Kind) → Seen T.Kind → Option Self.Refusal → Type 0 };
 
-    /// Says why the next option is refused, if it is.
+    /// Says why the next option is refused, if it is. It fails only for want of memory.
     fn judge(&self, alloc: Global, option: &Argument<T>) -> Mem<Option<Self::Refusal>>
         ensures { IfOk result (λ said. (before : List (Seen T.Kind)) → has_seen self.now before → says before (seen T.kind_of T.word_of option.now) said) };
 
-    /// Gathers the next option.
+    /// Gathers the next option. It fails only for want of memory.
     fn take(&mut self, alloc: Global, option: Argument<T>) -> Mem<()>
         ensures { OnOk result ((before : List (Seen T.Kind)) → has_seen self.old before → has_seen self.new (before ++ seen T.kind_of T.word_of option ∷ [])) };
 }
 
-/// Gathers all options, or gives the refusal of the first that is refused.
+/// Gathers all options, or gives the refusal of the first that is refused. It fails only for want of memory
+/// (docs/RULES.md, Passes).
 pub fn gather_all<T: ArgumentValue, G: Gather<T>>(
     alloc: Global,
     state: G,

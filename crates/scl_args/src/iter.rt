@@ -14,7 +14,8 @@ use crate::value::ArgumentValue;
 use std::alloc::Global;
 use std::marker::{Model, PhantomData};
 
-/// Cuts the words of an iterator into options.
+/// Cuts the words of an iterator into options (docs/RULES.md, Cutting). The first error is the last item: the last flag
+/// lacks its value, a value can't be made of its word, or a request for memory was refused.
 #[derive(Drop)]
 pub struct ArgsIter<I, T, S> {
     alloc: Global,
@@ -74,7 +75,7 @@ impl<I: Iterator<Item = Vec<u8>> + Drop, T: ArgumentValue, S: SearchableArgInfo<
     T,
     S,
 > {
-    /// Cuts these words by the rows of a table, or of several. The words' iterator has to end.
+    /// Cuts these words by the rows of a table, or of several. This takes no memory.
     pub fn new(alloc: Global, arguments: I, arg_info: S) -> ArgsIter<I, T, S>
         ensures arguments { result.arguments ≡ arguments }
         ensures arg_info { result.arg_info ≡ arg_info }
@@ -93,7 +94,7 @@ impl<I: Iterator<Item = Vec<u8>> + Drop, T: ArgumentValue, S: SearchableArgInfo<
         }
     }
 
-    /// The same, where the first word `--` in option place and all words after it are raw.
+    /// The same, where the first word `--` that stands where an option could, and all words after it, are raw.
     pub fn with_double_dashes(self) -> ArgsIter<I, T, S>
         ensures arguments { result.arguments ≡ self.arguments }
         ensures arg_info { result.arg_info ≡ self.arg_info }

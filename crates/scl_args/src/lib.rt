@@ -6,6 +6,7 @@ mod counted;
 mod error;
 mod gather;
 mod iter;
+pub mod laws;
 mod lists;
 mod memory;
 mod piece;
@@ -15,6 +16,8 @@ mod spell;
 mod split;
 mod strings;
 mod table;
+#[cfg(test)]
+mod tests;
 mod value;
 mod words;
 

@@ -9,7 +9,8 @@ use crate::memory::Mem;
 use crate::value::ArgumentValue;
 use std::alloc::Global;
 
-/// The side of an option in a list: a flag of two bytes stands together with its value, any other apart.
+/// The side of an option in a list: a flag of two bytes stands together with its value, any other apart
+/// (docs/RULES.md, Printing).
 pub fn side_of_flag(flag: &str) -> NormalizedDisposition
     ensures { result ≡ side_of_flag flag.now }
 {
@@ -33,7 +34,8 @@ fn push_words<T: ArgumentValue>(
     Ok(())
 }
 
-/// Puts an option's words, on the side of its flag, behind those of a list.
+/// Puts an option's words, on the side of its flag, behind those of a list. It fails only for want of memory, and the list
+/// may then hold the first of two words.
 pub fn push_spelled<T: ArgumentValue>(
     alloc: Global,
     list: &mut Vec<Vec<u8>>,

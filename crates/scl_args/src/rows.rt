@@ -8,7 +8,8 @@ use crate::value::ArgumentValue;
 use std::cmp::Ordering;
 use std::marker::Model;
 
-/// A count of looks at rows. It stays at its greatest value, and only this module makes one.
+/// A count of looks at rows. It stays at its greatest value, can't be copied or set back, and only this module makes
+/// one (docs/RULES.md, Looks).
 #[derive(Drop)]
 pub struct Probes {
     looks: u64,
@@ -30,7 +31,7 @@ impl Probes {
     }
 }
 
-/// Rows that are read one at a time, each read being counted.
+/// Rows that are read one at a time, each read being counted (docs/RULES.md, Looks).
 #[derive(Drop)]
 pub struct RowStore<'a, K> {
     rows: &'a [ArgRow<K>],
@@ -60,7 +61,7 @@ impl<'a, K> RowStore<'a, K> {
         self.rows.is_empty()
     }
 
-    /// Reads a row, and counts it.
+    /// Reads the row at an index, counted from 0, and counts the read.
     pub fn look(&self, index: usize, probes: &mut Probes) -> &'a ArgRow<K>
         requires { index < length self.now }
         ensures row { (other : Row K) → slice_index_or self.now index other ≡ row_of result.now }
@@ -135,13 +136,15 @@ impl<'a, T: ArgumentValue> FlagTable<'a, T> {
 pub trait SearchableArgInfo<T: ArgumentValue> {
     ghost tables: { Self → List (List (Row T.Kind)) };
 
-    /// The row with the longest flag among those that fit the key, by looks that are counted.
+    /// The row with the longest flag among those that fit the key, and at one length the last table's; `None` only where
+    /// no row fits. The looks that it takes are added to the count (docs/RULES.md, Looks).
     fn search_counted(&self, key: &[u8], probes: &mut Probes) -> Option<&ArgInfo<T>>
         ensures owner { row_at result ≡ owner_in (tables self.now) key.now }
         ensures count { CountsUpTo probes.old probes.new (looks_in (tables self.now) key.now) }
         ensures rises { OnSome result (Rises probes.old probes.new) };
 
-    /// The row with the longest flag among those that fit the key, and at one length the last table's.
+    /// The row with the longest flag among those that fit the key, and at one length the last table's; `None` only where
+    /// no row fits (docs/RULES.md, Owners).
     final fn search(&self, key: &[u8]) -> Option<&ArgInfo<T>>
         ensures { row_at result ≡ owner_in (tables self.now) key.now }
     {
@@ -149,7 +152,7 @@ pub trait SearchableArgInfo<T: ArgumentValue> {
         self.search_counted(key, &mut probes)
     }
 
-    /// Whether the tables are valid, which all that can be made are.
+    /// Whether the tables are valid: true, since no other can be made.
     final fn check(&self) -> bool
         ensures { IsTrue result }
     {
@@ -157,9 +160,11 @@ pub trait SearchableArgInfo<T: ArgumentValue> {
     }
 }
 
-/// How many looks a search for the key makes.
+/// How many looks a search for the key makes: none or more where it finds nothing, at least one where it finds a row, and
+/// never more than the bound (docs/RULES.md, Looks).
 pub fn looks<T: ArgumentValue, S: SearchableArgInfo<T>>(table: &S, key: &[u8]) -> u64
     ensures bound { result ≤ looks_in (S.tables table.now) key.now }
+    ensures some { OnSome (owner_in (S.tables table.now) key.now) (0 < result) }
 {
     let mut probes = Probes::new();
     let _row = table.search_counted(key, &mut probes);

@@ -27,7 +27,8 @@ impl ArgDisposition {
 }
 
 impl<T: ArgumentValue> Argument<T> {
-    /// Puts a value that may stand either way on the side.
+    /// Moves a value that may stand either way to the side: into the next word, or into the flag's. Nothing else changes
+    /// (docs/RULES.md, Printing).
     pub fn normalize(self, side: NormalizedDisposition) -> Argument<T>
         ensures normal { result ≡ normal side self }
         ensures again { (other : NormalizedDisposition) → normal other result ≡ result }
@@ -40,7 +41,7 @@ impl<T: ArgumentValue> Argument<T> {
         }
     }
 
-    /// The words of the option, one or two.
+    /// The words of the option, one or two (docs/RULES.md, Printing). Making the iterator takes no memory; each word does.
     pub fn iter_os_strings(&self, alloc: Global) -> Iter<'_, T>
         ensures { result ≡ spelled (seen T.kind_of T.word_of self.now) }
     {
@@ -51,7 +52,7 @@ impl<T: ArgumentValue> Argument<T> {
         }
     }
 
-    /// The word of an option without a flag, else the flag.
+    /// The flag, or the word of an option without one. It fails only for want of memory.
     pub fn to_os_string(&self, alloc: Global) -> Mem<Vec<u8>>
         ensures { IfOk result (λ word. word.items ≡ head_of self.now) }
     {
@@ -86,7 +87,7 @@ impl<T> Argument<T> {
     }
 }
 
-/// An option's words.
+/// The words of an option. After a word that got no memory there is none.
 #[derive(Drop)]
 pub struct Iter<'a, T: ArgumentValue> {
     alloc: Global,

@@ -8,7 +8,7 @@ ghost use Rattle.scl_args.specs.declared.error.ArgToStringError.{ArgToStringErro
 ghost use Rattle.scl_args.specs.Tables.{is_ascii_or_none};
 ghost use Rattle.scl_args.specs.Seen.{seen};
 ghost use Rattle.scl_args.specs.Spell.{delimited, spelled, YieldsWords};
-ghost use Rattle.scl_args.specs.Texts.{bare_text, IsWord, IsWantOfMemory, Prints, PrintsNext, printer, items_shown, word_shown, is_delimited_by_ascii};
+ghost use Rattle.scl_args.specs.Texts.{IsWord, IsWantOfMemory, PrintsBehind, PrintsNext, printer, items_shown, word_shown, is_delimited_by_ascii};
 
 use crate::argument::{ArgDisposition, Argument, Delimiter};
 use crate::error::{ArgToStringError, ArgToStringResult};
@@ -37,7 +37,7 @@ impl<T: ArgumentValue> Argument<T> {
     }
 }
 
-/// An option's words as texts.
+/// An option's words as texts, at most two; an error is the last item (docs/RULES.md, Texts).
 #[derive(Drop)]
 pub struct IterStrings<'a, T: ArgumentValue, F> {
     alloc: Global,
@@ -59,7 +59,7 @@ impl<'a, T: ArgumentValue, F> Model for IterStrings<'a, T, F> {
 }
 
 fn text_of_flag(alloc: Global, flag: &str) -> ArgToStringResult
-    ensures { IsWord bare_text flag.now result }
+    ensures { IsWord flag.now result }
 {
     Ok(String::from_str(alloc, flag)?)
 }
@@ -92,7 +92,7 @@ fn joined_text<T: ArgumentValue, F: FnMut(&[u8]) -> Option<String>>(
 ) -> ArgToStringResult
     requires ascii { is_ascii_or_none delimiter ≡ true }
     requires callable { F.IsAlwaysCallable f.old }
-    ensures prints { Prints (CalledAt F.FnMut) (λ text. flag.now ++ delimited delimiter text) (T.is_path value.now) (T.word_of value.now) f.old result f.new }
+    ensures prints { PrintsBehind (CalledAt F.FnMut) flag.now delimiter (T.is_path value.now) (T.word_of value.now) f.old result f.new }
     ensures callable { F.IsAlwaysCallable f.new }
 {
     let text = value.into_arg_string(alloc, f)?;

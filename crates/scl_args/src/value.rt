@@ -1,7 +1,7 @@
 ghost use Rattle.std.specs.Prelude.{◌≡◌, ℕ, List, [], IfOk, IsOkAnd, MatchResult, Result, Ok, Bool, true, false, ◌⊎◌};
 ghost use Rattle.std.specs.Fn.{CalledAt};
 ghost use Rattle.std.specs.String.{string_bytes};
-ghost use Rattle.scl_args.specs.Texts.{bare_text, IsWord, IsInvalidUnicode, Prints};
+ghost use Rattle.scl_args.specs.Texts.{IsWord, IsInvalidUnicode, Prints};
 
 use crate::error::{ArgParseError, ArgParseResult, ArgToStringError, ArgToStringResult};
 use crate::memory::Mem;
@@ -37,7 +37,7 @@ pub trait IntoArg {
         f: &mut F,
     ) -> ArgToStringResult
         requires { F.IsAlwaysCallable f.old }
-        ensures prints { Prints (CalledAt F.FnMut) bare_text (is_path self.now) (word_of self.now) f.old result f.new }
+        ensures prints { Prints (CalledAt F.FnMut) (is_path self.now) (word_of self.now) f.old result f.new }
         ensures callable { F.IsAlwaysCallable f.new };
 }
 
@@ -71,7 +71,7 @@ pub trait ExactArg: ArgumentValue {
 
 /// A word as a text, if it is UTF-8.
 pub(crate) fn text_of_word(alloc: Global, word: &[u8]) -> ArgToStringResult
-    ensures { IsWord bare_text word.now result }
+    ensures { IsWord word.now result }
 {
     match str::from_utf8(word) {
         Ok(text) => Ok(String::from_str(alloc, text)?),

@@ -35,7 +35,8 @@ fn cutter<T: ArgumentValue, S: SearchableArgInfo<T> + Drop>(
     }
 }
 
-/// Cuts all the words, and gives the options with the error that ended them, if there is one.
+/// Cuts all the words, and gives the options with the error that ended them, if there is one (docs/RULES.md, Cutting).
+/// It fails itself only where the list of options gets no memory.
 pub fn cut_words<T: ArgumentValue, S: SearchableArgInfo<T> + Drop>(
     alloc: Global,
     words: Vec<Vec<u8>>,
@@ -66,7 +67,7 @@ fn dangles_by(end: Option<ArgParseError>) -> Mem<bool>
     }
 }
 
-/// What words are cut into: the options, and whether the last flag lacks its value.
+/// What words are cut into (docs/RULES.md, Cutting).
 #[derive(Debug, PartialEq, Eq, Drop)]
 pub struct CutWords<T> {
     /// The options in order.
@@ -75,7 +76,8 @@ pub struct CutWords<T> {
     pub is_dangling: bool,
 }
 
-/// Cuts all the words by tables whose value rows have kinds that hold values.
+/// Cuts all the words by tables whose rows that take a value have kinds that hold one: so no value fails to be made, and
+/// this fails only for want of memory (docs/RULES.md, Cutting).
 pub fn cut_options<T: ExactArg, S: SearchableArgInfo<T> + Drop>(
     alloc: Global,
     words: Vec<Vec<u8>>,

@@ -17,28 +17,28 @@ pub cut_at-mark : (m : ℕ) (xs ys : List ℕ) → cut_at m xs ≡ None → cut_
 cut_at-mark m [] ys h = rw (eq-eqb m m refl) refl
 cut_at-mark m (x ∷ xs) ys h =
     elim (nat_eq x m) as (λ v. cond v (parts [] xs) (with_first x (cut_at m xs)) ≡ None → cond v (parts [] (xs ++ m ∷ ys)) (with_first x (cut_at m (xs ++ m ∷ ys))) ≡ parts (x ∷ xs) ys)
-      [ true ↦ λ e. cc | false ↦ λ e. ap (with_first x) (cut_at-mark m xs ys (none_first x _ e)) ] h
+    [ true ↦ λ e. cc | false ↦ λ e. ap (with_first x) (cut_at-mark m xs ys (none_first x _ e)) ] h
 
 -- another byte behind bytes without a mark
 pub cut_at-other : (m : ℕ) (xs : List ℕ) (b : ℕ) → cut_at m xs ≡ None → nat_eq b m ≡ false → cut_at m (xs ++ b ∷ []) ≡ None
 cut_at-other m [] b h k = rw k refl
 cut_at-other m (x ∷ xs) b h k =
     elim (nat_eq x m) as (λ v. cond v (parts [] xs) (with_first x (cut_at m xs)) ≡ None → cond v (parts [] (xs ++ b ∷ [])) (with_first x (cut_at m (xs ++ b ∷ []))) ≡ None)
-      [ true ↦ λ e. cc | false ↦ λ e. ap (with_first x) (cut_at-other m xs b (none_first x _ e) k) ] h
+    [ true ↦ λ e. cc | false ↦ λ e. ap (with_first x) (cut_at-other m xs b (none_first x _ e) k) ] h
 
 -- bytes without a mark behind bytes without one
 pub cut_at-append : (m : ℕ) (xs ys : List ℕ) → cut_at m xs ≡ None → cut_at m ys ≡ None → cut_at m (xs ++ ys) ≡ None
 cut_at-append m [] ys h k = k
 cut_at-append m (x ∷ xs) ys h k =
     elim (nat_eq x m) as (λ v. cond v (parts [] xs) (with_first x (cut_at m xs)) ≡ None → cond v (parts [] (xs ++ ys)) (with_first x (cut_at m (xs ++ ys))) ≡ None)
-      [ true ↦ λ e. cc | false ↦ λ e. ap (with_first x) (cut_at-append m xs ys (none_first x _ e) k) ] h
+    [ true ↦ λ e. cc | false ↦ λ e. ap (with_first x) (cut_at-append m xs ys (none_first x _ e) k) ] h
 
 -- the mark at a place before which there is none
 pub cut_at-place : (m : ℕ) (bs : List ℕ) (i : ℕ) → i < length bs → get_or bs i 0 ≡ m → cut_at m (take i bs) ≡ None → cut_at m bs ≡ parts (take i bs) (take (length bs - (i + 1)) (drop (i + 1) bs))
 cut_at-place m bs i h e k =
     let all : take (length bs - (i + 1)) (drop (i + 1) bs) ≡ drop (i + 1) bs = take_all _ _ (omega (arith, length-drop (i + 1) bs)) in
     let whole : take i bs ++ m ∷ drop (i + 1) bs ≡ bs =
-        ap (λ x. take i bs ++ x ∷ drop (i + 1) bs) (sym e) ∙ ap (λ xs. take i bs ++ xs) (rw (add-one, drop-cons bs i 0) refl) ∙ take-append-drop i bs in
+    ap (λ x. take i bs ++ x ∷ drop (i + 1) bs) (sym e) ∙ ap (λ xs. take i bs ++ xs) (rw (add-one, drop-cons bs i 0) refl) ∙ take-append-drop i bs in
     ap (cut_at m) (sym whole) ∙ cut_at-mark m (take i bs) (drop (i + 1) bs) k ∙ ap (parts (take i bs)) (sym all)
 
 pub cut_at-further : (m : ℕ) (bs : List ℕ) (i : ℕ) → i < length bs → (get_or bs i 0 ≡ m → ⊥) → cut_at m (take i bs) ≡ None → cut_at m (take (i + 1) bs) ≡ None
@@ -65,7 +65,7 @@ pub lines_of-cut : (bs line rest : List ℕ) → cut_at 10 bs ≡ parts line res
 lines_of-cut [] line rest h = cc
 lines_of-cut (b ∷ bs) line rest h =
     elim (nat_eq b 10) as (λ v. cond v (parts [] bs) (with_first b (cut_at 10 bs)) ≡ parts line rest → cond v ([] ∷ lines_of bs) (onto_first b (lines_of bs)) ≡ line ∷ lines_of rest)
-      [ true ↦ λ e. ap (λ o. part_before o ∷ lines_of (part_behind o)) e | false ↦ λ e. line_behind b bs line rest (cut_at 10 bs) refl (λ first last. lines_of-cut bs first last) e ] h
+    [ true ↦ λ e. ap (λ o. part_before o ∷ lines_of (part_behind o)) e | false ↦ λ e. line_behind b bs line rest (cut_at 10 bs) refl (λ first last. lines_of-cut bs first last) e ] h
 
 -- bytes without an LF are a line
 pub lines_of-last : (b : ℕ) (bs : List ℕ) → cut_at 10 (b ∷ bs) ≡ None → lines_of (b ∷ bs) ≡ (b ∷ bs) ∷ []
@@ -73,7 +73,7 @@ lines_of-last b [] h =
     elim (nat_eq b 10) as (λ v. cond v (parts [] []) (with_first b None) ≡ None → cond v ([] ∷ []) ((b ∷ []) ∷ []) ≡ (b ∷ []) ∷ []) [ true ↦ λ e. cc | false ↦ λ e. refl ] h
 lines_of-last b (c ∷ cs) h =
     elim (nat_eq b 10) as (λ v. cond v (parts [] (c ∷ cs)) (with_first b (cut_at 10 (c ∷ cs))) ≡ None → cond v ([] ∷ lines_of (c ∷ cs)) (onto_first b (lines_of (c ∷ cs))) ≡ (b ∷ c ∷ cs) ∷ [])
-      [ true ↦ λ e. cc | false ↦ λ e. ap (onto_first b) (lines_of-last c cs (none_first b _ e)) ] h
+    [ true ↦ λ e. cc | false ↦ λ e. ap (onto_first b) (lines_of-last c cs (none_first b _ e)) ] h
 
 pub lines_of-only : (bs : List ℕ) → 0 < length bs → cut_at 10 bs ≡ None → lines_of bs ≡ bs ∷ []
 lines_of-only [] h e = absurd (omega arith)
@@ -84,7 +84,7 @@ pub cut_at-shorter : (m : ℕ) (bs : List ℕ) (p : List ℕ × List ℕ) → cu
 cut_at-shorter m [] p h = cc
 cut_at-shorter m (b ∷ bs) p h =
     elim (nat_eq b m) as (λ v. cond v (parts [] bs) (with_first b (cut_at m bs)) ≡ Some p → length p.1 < length (b ∷ bs))
-      [ true ↦ λ e. let is : bs ≡ p.1 = ap part_behind e in omega (arith, ap length is) | false ↦ λ e. behind (cut_at m bs) refl (λ q. cut_at-shorter m bs q) e ] h where
-  behind : (o : Option (List ℕ × List ℕ)) → cut_at m bs ≡ o → ((q : List ℕ × List ℕ) → cut_at m bs ≡ Some q → length q.1 < length bs) → with_first b o ≡ Some p → length p.1 < length (b ∷ bs)
-  behind None is ih e = cc
-  behind (Some q) is ih e = let same : q.1 ≡ p.1 = ap part_behind e in omega (arith, ih q is, ap length same)
+    [ true ↦ λ e. let is : bs ≡ p.1 = ap part_behind e in omega (arith, ap length is) | false ↦ λ e. behind (cut_at m bs) refl (λ q. cut_at-shorter m bs q) e ] h where
+      behind : (o : Option (List ℕ × List ℕ)) → cut_at m bs ≡ o → ((q : List ℕ × List ℕ) → cut_at m bs ≡ Some q → length q.1 < length bs) → with_first b o ≡ Some p → length p.1 < length (b ∷ bs)
+      behind None is ih e = cc
+      behind (Some q) is ih e = let same : q.1 ≡ p.1 = ap part_behind e in omega (arith, ih q is, ap length same)

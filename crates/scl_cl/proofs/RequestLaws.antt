@@ -80,20 +80,20 @@ starts all kept k = record { before = []; kept_is = k; told = refl; whole = refl
 
 -- a line was taken
 pub goes_on : (all left rest line : List ℕ) (number : ℕ) (kept kept' : Gathered) (s : Said) → Passed all left number kept → lines_of left ≡ line ∷ lines_of rest → length rest < length left
-  → said line ≡ Some s → breaks kept (Some s) ≡ false → kept' ≡ with_line kept s → Passed all rest (number + 1) kept'
+    → said line ≡ Some s → breaks kept (Some s) ≡ false → kept' ≡ with_line kept s → Passed all rest (number + 1) kept'
 goes_on all left rest line number kept kept' s p cut shorter says keeps takes =
     let holds : breaks (gathered p.before) (said line) ≡ false = ap (λ g. breaks g (said line)) (sym p.kept_is) ∙ ap (breaks kept) says ∙ keeps in
     record {
       before = p.before ++ s ∷ [];
       kept_is = takes ∙ ap (λ g. with_line g s) p.kept_is ∙ gathered-more p.before s;
       told =
-        ap (λ o. first_broken (number + 1) (p.before ++ option_to_list o) (lines_of rest)) (sym says)
-        ∙ ap (λ b. cond b (Some number) (first_broken (number + 1) (p.before ++ option_to_list (said line)) (lines_of rest))) (sym holds)
-        ∙ ap (first_broken number p.before) (sym cut) ∙ p.told;
+          ap (λ o. first_broken (number + 1) (p.before ++ option_to_list o) (lines_of rest)) (sym says)
+          ∙ ap (λ b. cond b (Some number) (first_broken (number + 1) (p.before ++ option_to_list (said line)) (lines_of rest))) (sym holds)
+          ∙ ap (first_broken number p.before) (sym cut) ∙ p.told;
       whole =
-        append_assoc p.before (s ∷ []) (filter_map said (lines_of rest))
-        ∙ ap (λ o. p.before ++ cons_option o (filter_map said (lines_of rest))) (sym says)
-        ∙ ap (λ ls. p.before ++ filter_map said ls) (sym cut) ∙ p.whole;
+          append_assoc p.before (s ∷ []) (filter_map said (lines_of rest))
+          ∙ ap (λ o. p.before ++ cons_option o (filter_map said (lines_of rest))) (sym says)
+          ∙ ap (λ ls. p.before ++ filter_map said ls) (sym cut) ∙ p.whole;
       numbered = omega (arith, p.numbered, ap length cut);
       counted = omega (arith, p.counted);
     }
@@ -102,8 +102,8 @@ goes_on all left rest line number kept kept' s p cut shorter says keeps takes =
 pub is_bad : (all left rest line : List ℕ) (number : ℕ) (kept : Gathered) → Passed all left number kept → lines_of left ≡ line ∷ lines_of rest → breaks kept (said line) ≡ true → request_in (lines_of all) ≡ Err number
 is_bad all left rest line number kept p cut h =
     let found : first_broken 1 [] (lines_of all) ≡ Some number =
-        sym p.told ∙ ap (first_broken number p.before) cut
-        ∙ ap (λ b. cond b (Some number) (first_broken (number + 1) (p.before ++ option_to_list (said line)) (lines_of rest))) (ap (λ g. breaks g (said line)) (sym p.kept_is) ∙ h) in
+    sym p.told ∙ ap (first_broken number p.before) cut
+    ∙ ap (λ b. cond b (Some number) (first_broken (number + 1) (p.before ++ option_to_list (said line)) (lines_of rest))) (ap (λ g. breaks g (said line)) (sym p.kept_is) ∙ h) in
     ap (λ o. request_unless o (lines_of all)) found
 
 -- the end, behind lines none of which breaks a rule
@@ -111,6 +111,6 @@ pub at_end : (all left : List ℕ) (number : ℕ) (kept : Gathered) → Passed a
 at_end all left number kept p e =
     let none : first_broken 1 [] (lines_of all) ≡ None = sym p.told ∙ ap (λ bs. first_broken number p.before (lines_of bs)) e in
     let named : gathered (filter_map said (lines_of all)) ≡ kept =
-        ap gathered (sym p.whole ∙ ap (λ bs. p.before ++ filter_map said (lines_of bs)) e ∙ append-nil p.before) ∙ sym p.kept_is in
+    ap gathered (sym p.whole ∙ ap (λ bs. p.before ++ filter_map said (lines_of bs)) e ∙ append-nil p.before) ∙ sym p.kept_is in
     let last : length (lines_of all) + 1 ≡ number = omega (arith, p.numbered, ap (λ bs. length (lines_of bs)) e) in
     ap (λ o. request_unless o (lines_of all)) none ∙ ap (λ g. ok_or (request_of g) (length (lines_of all) + 1)) named ∙ ap (λ n. ok_or (request_of kept) n) last

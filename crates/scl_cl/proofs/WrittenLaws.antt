@@ -47,6 +47,7 @@ escape-printable : (b : ℕ) (rest : List ℕ) → b < 256 → ArePrintable rest
 escape-printable b rest h are = either (is_plain b) refl where
   digit-printable : (n : ℕ) → n < 16 → (0x21 ≤ digit_of n) × (digit_of n ≤ 0x7e)
   digit-printable n k = (grind (arith, nat_tests), grind (arith, nat_tests))
+
   either : (plain : Bool) → is_plain b ≡ plain → ArePrintable (escape b ++ rest)
   either true is = rw is ((grind (arith, nat_tests), grind (arith, nat_tests)), are)
   either false is = rw is ((lit≤ tt, lit≤ tt), ((lit≤ tt, lit≤ tt), (digit-printable (b / 16) (omega arith), (digit-printable (b % 16) (omega arith), are))))

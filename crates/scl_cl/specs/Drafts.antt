@@ -1,10 +1,10 @@
 -- The part of a request that lines so far make.
-use Rattle.std.specs.Prelude.{ℕ, Bool, ◌||◌, List, [], ◌∷◌, ◌++◌, Option, map, Vec}
+use Rattle.std.specs.Prelude.{ℕ, Bool, ◌||◌, List, [], ◌∷◌, ◌++◌, map}
 use Rattle.std.specs.List.{flat_map}
 use Rattle.std.specs.Option.{option_map, option_to_list}
-use Rattle.std.specs.declared.alloc.Global.{Global}
 use Rattle.scl_text.specs.Views.{Viewed}
 use Rattle.scl_text.specs.Words.{words_of}
+use Rattle.scl_text.specs.Commands.{pairs_of}
 use Rattle.scl_cl.specs.declared.compiler.Compiler.{Compiler}
 use Rattle.scl_cl.specs.declared.draft.Draft.{Draft}
 use Rattle.scl_cl.specs.declared.draft.Request as code
@@ -14,37 +14,34 @@ use Rattle.scl_cl.specs.Requests.{compiler_in, directory_in, word_in, variable_i
 -- with one more line
 abbrev pub with_line : Gathered → Said → Gathered
 with_line g line = record {
-    compilers = g.compilers ++ compiler_in line;
-    directories = g.directories ++ directory_in line;
-    words = g.words ++ word_in line;
-    environment = g.environment ++ variable_in line;
-    view = record {
-      files = file_in line ++ g.view.files;
-      directories = viewed_directory_in line ++ g.view.directories;
-      existing = path_in line ++ g.view.existing;
-      is_multiarch = is_multiarch line || g.view.is_multiarch;
-    };
-  }
-
-abbrev pub pairs_of : List (Vec ℕ Global × Vec ℕ Global) → List (List ℕ × List ℕ)
-pairs_of pairs = map (λ p. (p.0.items, p.1.items)) pairs
+  compilers = g.compilers ++ compiler_in line;
+  directories = g.directories ++ directory_in line;
+  words = g.words ++ word_in line;
+  environment = g.environment ++ variable_in line;
+  view = record {
+    files = file_in line ++ g.view.files;
+    directories = viewed_directory_in line ++ g.view.directories;
+    existing = path_in line ++ g.view.existing;
+    is_multiarch = is_multiarch line || g.view.is_multiarch;
+  };
+}
 
 -- what a draft keeps
 abbrev pub kept_by : Draft → Gathered
 kept_by draft = record {
-    compilers = option_to_list draft.compiler;
-    directories = map (λ path. path.items) (option_to_list draft.directory);
-    words = words_of draft.words.items;
-    environment = pairs_of draft.environment.items;
-    view = draft.view;
-  }
+  compilers = option_to_list draft.compiler;
+  directories = map (λ path. path.items) (option_to_list draft.directory);
+  words = words_of draft.words.items;
+  environment = pairs_of draft.environment.items;
+  view = draft.view;
+}
 
 -- what a finished request asks for
 abbrev pub asked_by : code.Request → Request
 asked_by request = record {
-    compiler = request.compiler;
-    directory = request.directory.items;
-    words = words_of request.words.items;
-    environment = pairs_of request.environment.items;
-    view = request.view;
-  }
+  compiler = request.compiler;
+  directory = request.directory.items;
+  words = words_of request.words.items;
+  environment = pairs_of request.environment.items;
+  view = request.view;
+}

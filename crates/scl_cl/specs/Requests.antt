@@ -50,11 +50,11 @@ is_multiarch _ = false
 -- the view of the files, directories and paths that lines name
 abbrev pub view_of : List Said → Viewed
 view_of all = record {
-    files = reverse (flat_map file_in all);
-    directories = reverse (flat_map viewed_directory_in all);
-    existing = reverse (flat_map path_in all);
-    is_multiarch = list_any is_multiarch all;
-  }
+  files = reverse (flat_map file_in all);
+  directories = reverse (flat_map viewed_directory_in all);
+  existing = reverse (flat_map path_in all);
+  is_multiarch = list_any is_multiarch all;
+}
 
 -- what lines name, in their order
 pub record Gathered : Type 0 where
@@ -66,12 +66,12 @@ pub record Gathered : Type 0 where
 
 abbrev pub gathered : List Said → Gathered
 gathered all = record {
-    compilers = flat_map compiler_in all;
-    directories = flat_map directory_in all;
-    words = flat_map word_in all;
-    environment = flat_map variable_in all;
-    view = view_of all;
-  }
+  compilers = flat_map compiler_in all;
+  directories = flat_map directory_in all;
+  words = flat_map word_in all;
+  environment = flat_map variable_in all;
+  view = view_of all;
+}
 
 -- the first, or the empty path
 abbrev pub directory_of : List (List ℕ) → List ℕ
@@ -81,12 +81,12 @@ directory_of (directory ∷ _) = directory
 abbrev pub request_for : List Compiler → Gathered → Option Request
 request_for [] g = None
 request_for (compiler ∷ _) g = Some (record {
-    compiler = compiler;
-    directory = directory_of g.directories;
-    words = g.words;
-    environment = g.environment;
-    view = g.view;
-  })
+  compiler = compiler;
+  directory = directory_of g.directories;
+  words = g.words;
+  environment = g.environment;
+  view = g.view;
+})
 
 -- the request that what lines name makes, if they name a compiler
 abbrev pub request_of : Gathered → Option Request

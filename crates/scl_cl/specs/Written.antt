@@ -74,7 +74,7 @@ LinesEndAtFeeds = (line rest : List ℕ) → cut_at 10 line ≡ None → lines_o
 -- The lines of the text of a command are `ok`, one line for each word, and whether it can be cached.
 abbrev pub AnswerHasLines : Type 0
 AnswerHasLines = (words : List (List ℕ)) (is_cacheable : Bool) → AreAllBytes words
-  → lines_of (text_of (compiled words is_cacheable)) ≡ (codes "ok" ∷ map (λ word. codes "arg " ++ escaped word) words) ++ cacheable_text is_cacheable ∷ []
+    → lines_of (text_of (compiled words is_cacheable)) ≡ (codes "ok" ∷ map (λ word. codes "arg " ++ escaped word) words) ++ cacheable_text is_cacheable ∷ []
 
 -- The k-th line breaks a rule behind those before it.
 abbrev pub breaks_at : List (List ℕ) → ℕ → Bool
@@ -83,8 +83,8 @@ breaks_at lines k = breaks (gathered (filter_map said (take k lines))) (said (sl
 -- The bad line breaks a rule and none before it does; where there is none, no line does.
 abbrev pub BadLineIsFirst : Type 0
 BadLineIsFirst = (lines : List (List ℕ)) → MatchOption (first_broken 1 [] lines)
-  ((k : ℕ) → k < length lines → breaks_at lines k ≡ false)
-  (λ n. (k : ℕ) × (n ≡ k + 1) × (k < length lines) × (breaks_at lines k ≡ true) × ((j : ℕ) → j < k → breaks_at lines j ≡ false))
+    ((k : ℕ) → k < length lines → breaks_at lines k ≡ false)
+    (λ n. (k : ℕ) × (n ≡ k + 1) × (k < length lines) × (breaks_at lines k ≡ true) × ((j : ℕ) → j < k → breaks_at lines j ≡ false))
 
 -- Each served name names its compiler, and each keyword's text the keyword.
 abbrev pub NamesReadBack : Type 0

@@ -4,48 +4,40 @@ ghost use Rattle.scl_cl.specs.Written.{FieldReadsBack, FieldIsPrintable, LineRea
 /// A field that is written is read back, whatever its bytes (docs/RULES.md, Fields).
 pub fn field_reads_back()
     ensures { FieldReadsBack }
-{
-}
+{}
 
 /// A field that is written has only bytes from 21 to 7E: no space, tab or LF (docs/RULES.md, Fields).
 pub fn field_is_printable()
     ensures { FieldIsPrintable }
-{
-}
+{}
 
 /// A line that is written says what was to be said (docs/RULES.md, Requests).
 pub fn line_reads_back()
     ensures { LineReadsBack }
-{
-}
+{}
 
 /// The lines of a request that is written say what was to be said, in order (docs/RULES.md, Requests).
 pub fn request_reads_back()
     ensures { RequestReadsBack }
-{
-}
+{}
 
 /// A line ends at the first LF (docs/RULES.md, Lines).
 pub fn lines_end_at_feeds()
     ensures { LinesEndAtFeeds }
-{
-}
+{}
 
 /// The lines of a command's text are `ok`, one for each word, and whether it can be cached
 /// (docs/RULES.md, Answers).
 pub fn answer_has_lines()
     ensures { AnswerHasLines }
-{
-}
+{}
 
 /// The bad line breaks a rule behind those before it, and none of those does (docs/RULES.md, Requests).
 pub fn bad_line_is_first()
     ensures { BadLineIsFirst }
-{
-}
+{}
 
 /// Each served name names its compiler, and each keyword's text the keyword (docs/RULES.md, Requests).
 pub fn names_read_back()
     ensures { NamesReadBack }
-{
-}
+{}

@@ -10,11 +10,15 @@ mod field;
 mod keyword;
 pub mod laws;
 mod line;
-mod request;
 mod program;
+mod request;
 mod transfer;
 
 pub use program::{Outcome, run};
+pub use scl_args as args;
+pub use scl_gnu::gcc;
+pub use scl_small::{diab, tasking_vx};
+pub use scl_text as text;
 
 #[cfg(test)]
 mod tests;

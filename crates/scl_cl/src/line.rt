@@ -6,8 +6,8 @@ ghost use Rattle.scl_cl.specs.LinesRead.{said_by};
 
 use crate::compiler::{Compiler, compiler_named};
 use crate::cut::cut_at;
-use crate::keyword::{Keyword, keyword_named};
 use crate::field::{read_field, read_two_fields};
+use crate::keyword::{Keyword, keyword_named};
 use scl_text::Mem;
 use std::alloc::Global;
 

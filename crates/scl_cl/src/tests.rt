@@ -1,4 +1,6 @@
 //! What the contracts do not say: rows worked by hand, and devices that fail.
+mod rows;
+
 use crate::answer::{Answer, answer_text};
 use crate::compiler::Compiler;
 use crate::request::read_request;
@@ -109,7 +111,8 @@ fn the_compiler_stands_once_and_is_served(rt: HostRuntime) {
 
 #[test]
 fn a_request_has_what_its_lines_say(rt: HostRuntime) -> Result<(), Fail> {
-    let bytes = b"word -c\nfile a/./b\tone\nenv A\tx\\x09y\ncompiler g++\ncwd /w\\x20d\ndir d\nmultiarch\nexists e\nword \nfile a/b\ttwo\nenv B\t";
+    let bytes =
+        b"word -c\nfile a/./b\tone\nenv A\tx\\x09y\ncompiler g++\ncwd /w\\x20d\ndir d\nmultiarch\nexists e\nword \nfile a/b\ttwo\nenv B\t";
     let request = read_request(rt.alloc(), bytes)?.ok().ok_or("a bad line")?;
     assert_eq!(rt; request.compiler, Compiler::Gxx);
     assert_eq!(rt; request.directory.as_slice(), b"/w d".as_slice());
@@ -123,7 +126,9 @@ fn a_request_has_what_its_lines_say(rt: HostRuntime) -> Result<(), Fail> {
     assert_eq!(rt; request.view.file(b"a//b"), Some(b"two".as_slice()));
     assert_eq!(rt; request.view.file(b"b"), None);
     assert!(rt; request.view.is_dir(b"d") && !request.view.is_dir(b"e"));
-    assert!(rt; request.view.exists(b"e") && request.view.exists(b"a/b") && !request.view.exists(b"f"));
+    assert!(rt;
+        request.view.exists(b"e") && request.view.exists(b"a/b") && !request.view.exists(b"f")
+    );
     assert!(rt; request.view.multiarch());
     Ok(())
 }
@@ -149,7 +154,10 @@ fn answers_are_texts(rt: HostRuntime) -> Result<(), Fail> {
         is_cacheable: true,
     };
     let text = answer_text(rt.alloc(), &compiled)?;
-    assert_eq!(rt; text.as_slice(), b"ok\narg -DA=\\x20\\x5c\\x0a\\xff~\narg \ncacheable yes\n".as_slice());
+    assert_eq!(rt;
+        text.as_slice(),
+        b"ok\narg -DA=\\x20\\x5c\\x0a\\xff~\narg \ncacheable yes\n".as_slice()
+    );
     let empty = Answer::Compiled {
         words: Vec::new(rt.alloc()),
         is_cacheable: false,
@@ -157,7 +165,10 @@ fn answers_are_texts(rt: HostRuntime) -> Result<(), Fail> {
     let text = answer_text(rt.alloc(), &empty)?;
     assert_eq!(rt; text.as_slice(), b"ok\ncacheable no\n".as_slice());
     let text = answer_text(rt.alloc(), &Answer::CannotCache("multiple input files"))?;
-    assert_eq!(rt; text.as_slice(), b"cannot-cache multiple input files\n".as_slice());
+    assert_eq!(rt;
+        text.as_slice(),
+        b"cannot-cache multiple input files\n".as_slice()
+    );
     let text = answer_text(rt.alloc(), &Answer::NotCompilation)?;
     assert_eq!(rt; text.as_slice(), b"not-compilation\n".as_slice());
     Ok(())
@@ -242,7 +253,12 @@ fn bytes_in_small_pieces_are_one_request(rt: HostRuntime) {
     assert_eq!(rt; reader.failures(), 0);
 }
 
-fn expect_beginning(rt: &(impl Abort + Alloc<A = Global>), whole: &[u8], fails_at: u32, takes_none: bool) {
+fn expect_beginning(
+    rt: &(impl Abort + Alloc<A = Global>),
+    whole: &[u8],
+    fails_at: u32,
+    takes_none: bool,
+) {
     let mut taken = Vec::new(rt.alloc());
     let mut writer = Counted::new(Writer {
         taken: &mut taken,
@@ -250,11 +266,23 @@ fn expect_beginning(rt: &(impl Abort + Alloc<A = Global>), whole: &[u8], fails_a
         fails_at,
         takes_none,
     });
-    let outcome = run(rt.alloc(), &mut Counted::new(b"compiler diab".as_slice()), &mut writer);
+    let outcome = run(
+        rt.alloc(),
+        &mut Counted::new(b"compiler diab".as_slice()),
+        &mut writer,
+    );
     let failures = writer.failures();
     drop(writer);
     let fails = (fails_at as usize) * 3 < whole.len();
-    assert_eq!(rt; outcome, if fails { Outcome::WriteFailed } else { Outcome::Answered }, "at {fails_at}");
+    assert_eq!(rt;
+        outcome,
+        if fails {
+            Outcome::WriteFailed
+        } else {
+            Outcome::Answered
+        },
+        "at {fails_at}"
+    );
     assert_eq!(rt; failures, u64::from(fails));
     assert!(rt; whole.starts_with(&taken));
     assert_eq!(rt; taken.len(), whole.len().min(3 * (fails_at as usize)));

@@ -30,6 +30,7 @@ pub(crate) struct Gathered {
 }
 
 impl Gathered {
+    /// What no options amount to.
     pub fn new(alloc: Global) -> Gathered
         ensures { summary_of result ≡ nothing }
     {

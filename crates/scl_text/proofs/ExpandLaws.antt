@@ -2,13 +2,13 @@
 use Rattle.std.proofs.Common.{◌≡◌, ℕ, Bool, true, false, cond, ◌||◌, List, [], ◌∷◌, ◌++◌, Option, None, Some, Vec, refl, sym, ap, ◌∙◌}
 use Rattle.std.proofs.lemmas.Bool.{false≢true}
 use Rattle.std.specs.List.{list_any}
-use Rattle.std.specs.Option.{option_and_then, option_map, is_some}
+use Rattle.std.specs.Option.{option_map, is_some}
 use Rattle.std.specs.declared.alloc.Global.{Global}
 use Rattle.scl_text.specs.Words.{words_of}
 use Rattle.scl_text.specs.Paths.{same_path, join}
 use Rattle.scl_text.specs.Views.{File, bytes_at, without}
-use Rattle.scl_text.specs.ResponseFiles.{file_name_in, named, arguments, files_inside}
-use Rattle.scl_text.specs.Expand.{Level, level_at, opened, in_place, expand_within, expand}
+use Rattle.scl_text.specs.ResponseFiles.{file_name_in, named, files_inside}
+use Rattle.scl_text.specs.Expand.{opened, expand}
 use Rattle.scl_text.specs.ExpansionLaws.{WordsAreExpandedOneByOne, WordsOfMsvcFilesStand, AbsentFilesLeaveTheirWords, UnreadableFilesLeaveTheirWords, OpenFilesAreAbsentInside, PlainWordsStand, EachFileIsOpenOnce, IsChain, none, opens, Each, AllApart}
 use Rattle.scl_text.specs.Remaining.{hides}
 use Rattle.scl_text.specs.declared.expand.ExpansionKind.{ExpansionKind}

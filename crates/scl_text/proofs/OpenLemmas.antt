@@ -1,19 +1,13 @@
 -- What a word opens.
-use Rattle.std.proofs.Common.{◌≡◌, ℕ, zero, suc, ◌+◌, ◌<◌, ◌≤◌, Bool, true, false, cond, List, [], ◌∷◌, ◌++◌, length, map, get_or, Option, None, Some, refl, sym, ap, ◌∙◌, append_assoc, arith}
-use Rattle.std.proofs.lemmas.List.{append-nil}
+use Rattle.std.proofs.Common.{◌≡◌, ℕ, ◌<◌, ◌≤◌, Bool, true, false, cond, List, [], ◌∷◌, length, map, get_or, Option, None, Some, refl, sym, ap, ◌∙◌, arith}
 use Rattle.std.proofs.lemmas.List.Recursion.{found_at, found_nowhere}
-use Rattle.std.specs.List.{flat_map}
 use Rattle.std.specs.Option.{option_and_then, is_some}
-use Rattle.scl_text.specs.Paths.{same_path}
-use Rattle.scl_text.specs.Views.{File, bytes_at, without}
+use Rattle.scl_text.specs.Views.{File, bytes_at}
 use Rattle.scl_text.specs.ResponseFiles.{named, arguments, files_inside}
-use Rattle.scl_text.specs.Expand.{Level, level_at, opened, in_place, expand_within, expand}
+use Rattle.scl_text.specs.Expand.{Level, level_at, opened}
 use Rattle.scl_text.specs.declared.expand.OpenFile.{OpenFile}
-use Rattle.scl_text.specs.declared.expand.Step.{Step}
-use Rattle.scl_text.specs.declared.expand.Expansion.{Expansion}
-use Rattle.scl_text.specs.Remaining.{StepsFrom, level_of, hides, is_shut, closed, left_open, left, total, cost, steps_within, steps, steps_open, steps_left}
+use Rattle.scl_text.specs.Remaining.{level_of, hides, is_shut, closed}
 use Rattle.scl_text.specs.declared.expand.ExpansionKind.{ExpansionKind}
-use Rattle.scl_text.specs.declared.expand.ExpansionKind.TheVariants as kinds
 use Rattle.scl_text.proofs.FilesLemmas.{inside-less, bytes_at-inside}
 
 hide_none : {X : Type 0} (b : Bool) → cond {A = Option X} b None None ≡ None

@@ -1,7 +1,6 @@
 -- The parts of a path, and the number that paths with the same names share.
-use Rattle.std.proofs.Common.{◌≡◌, ℕ, ◌+◌, ◌<◌, ◌≤◌, ltb, not, suc, Bool, true, false, cond, List, [], ◌∷◌, length, take, drop, position, fold, Option, None, Some, refl, sym, arith}
+use Rattle.std.proofs.Common.{◌≡◌, ℕ, ◌+◌, ◌<◌, ◌≤◌, ltb, not, suc, true, false, cond, List, [], ◌∷◌, length, take, drop, position, None, Some, refl, arith}
 use Rattle.std.proofs.lemmas.Bool.{ltb-true, false≢true}
-use Rattle.std.proofs.lemmas.Grind.{common_steps}
 use Rattle.std.proofs.lemmas.List.Splits.{slice_split_first}
 use Rattle.std.specs.List.{slice_split, onto_first, before_first, after_first, position_or_len}
 use Rattle.scl_text.specs.Paths.{is_slash}

@@ -1,11 +1,11 @@
 -- Paths with the same components, and the number that they share.
-use Rattle.std.proofs.Common.{◌≡◌, ℕ, ◌&&◌, Bool, true, false, cond, List, [], ◌∷◌, ◌++◌, map, fold, filter, codes, refl, sym, ap, ◌∙◌}
+use Rattle.std.proofs.Common.{◌≡◌, ℕ, ◌&&◌, Bool, true, false, cond, List, [], ◌∷◌, ◌++◌, map, fold, codes, refl, sym, ap, ◌∙◌}
 use Rattle.std.proofs.lemmas.Bool.{false≢true}
 use Rattle.std.specs.Str.{bytes_eq}
 use Rattle.std.specs.Cmp.Lexicographic.{pointwise}
 use Rattle.std.specs.List.{slice_split}
 use lib.Pointwise.{pointwise_decides, bytes_decides}
-use Rattle.scl_text.specs.Paths.{is_slash, is_name, start, Place, placed, places_after, places, Components, components, same_components, same_path}
+use Rattle.scl_text.specs.Paths.{is_slash, is_name, Place, placed, places_after, places, Components, components, same_components, same_path}
 use Rattle.scl_text.specs.PathMaps.{name_hash, part_hash, path_hash}
 
 both_true : (a b : Bool) → (a && b) ≡ true → (a ≡ true) × (b ≡ true)

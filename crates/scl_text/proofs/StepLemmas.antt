@@ -1,19 +1,14 @@
 -- The steps of an expansion.
-use Rattle.std.proofs.Common.{◌≡◌, ℕ, zero, suc, ◌+◌, ◌<◌, ◌≤◌, Bool, true, false, cond, List, [], ◌∷◌, ◌++◌, length, map, get_or, Option, None, Some, refl, sym, ap, ◌∙◌, append_assoc, arith}
+use Rattle.std.proofs.Common.{◌≡◌, ℕ, zero, suc, ◌+◌, ◌<◌, ◌≤◌, List, [], ◌∷◌, ◌++◌, length, Option, None, Some, Result, IfOk, refl, sym, ap, append_assoc, arith}
 use Rattle.std.proofs.lemmas.List.{append-nil}
-use Rattle.std.proofs.lemmas.List.Recursion.{found_at, found_nowhere}
-use Rattle.std.specs.List.{flat_map}
-use Rattle.std.specs.Option.{option_and_then, is_some}
-use Rattle.scl_text.specs.Paths.{same_path}
-use Rattle.scl_text.specs.Views.{File, bytes_at, without}
-use Rattle.scl_text.specs.ResponseFiles.{named, arguments, files_inside}
-use Rattle.scl_text.specs.Expand.{Level, level_at, opened, in_place, expand_within, expand}
-use Rattle.scl_text.specs.declared.expand.OpenFile.{OpenFile}
+use Rattle.std.specs.declared.alloc.AllocError.{AllocError}
+use Rattle.scl_text.specs.Views.{File}
+use Rattle.scl_text.specs.ResponseFiles.{files_inside}
+use Rattle.scl_text.specs.Expand.{Level, opened, in_place, expand}
 use Rattle.scl_text.specs.declared.expand.Step.{Step}
 use Rattle.scl_text.specs.declared.expand.Expansion.{Expansion}
-use Rattle.scl_text.specs.Remaining.{StepsFrom, level_of, hides, is_shut, closed, left_open, left, total, cost, steps_within, steps, steps_open, steps_left}
+use Rattle.scl_text.specs.Remaining.{StepsFrom, closed, left_open, left, total, cost, steps_within, steps, steps_open, steps_left}
 use Rattle.scl_text.specs.declared.expand.ExpansionKind.{ExpansionKind}
-use Rattle.scl_text.specs.declared.expand.ExpansionKind.TheVariants as kinds
 use Rattle.scl_text.proofs.OpenLemmas.{opened-none, opened-less}
 use Rattle.scl_text.proofs.ExpandLemmas.{no_files, expand-cons, expand-nil}
 
@@ -131,5 +126,5 @@ module _ (kind : ExpansionKind) (directory : List ℕ) (files : List File) where
       → steps_left kind directory files levels words < steps_left kind directory files (levels ++ record { path = path; words = [] } ∷ []) words
   steps-close levels words path = rw (steps_open-push kind directory files levels (record { path = path; words = [] })) (omega arith)
 
-pub steps_by : (a b : List (List ℕ)) (n m : ℕ) (r : Step) (t : Expansion) → a ≡ b → n ≡ m → StepsFrom b m r t → StepsFrom a n r t
+pub steps_by : (a b : List (List ℕ)) (n m : ℕ) (r : Result Step AllocError) (t : Expansion) → a ≡ b → n ≡ m → IfOk r (λ step. StepsFrom b m step t) → IfOk r (λ step. StepsFrom a n step t)
 steps_by a b n m r t e f h = rw (e, f) h

@@ -1,10 +1,10 @@
 -- What a view finds, by what its maps find.
-use Rattle.std.proofs.Common.{◌≡◌, ℕ, Bool, true, false, cond, List, [], ◌∷◌, map, Option, None, Some, Vec, refl}
+use Rattle.std.proofs.Common.{◌≡◌, ℕ, true, false, cond, List, [], ◌∷◌, map, Some, Vec, refl}
 use Rattle.std.specs.Option.{option_map, is_some}
 use Rattle.std.specs.declared.alloc.Global.{Global}
 use Rattle.scl_text.specs.Paths.{same_path}
 use Rattle.scl_text.specs.PathMaps.{value_at}
-use Rattle.scl_text.specs.Views.{File, bytes_at, is_among, file_of, path_of}
+use Rattle.scl_text.specs.Views.{bytes_at, is_among, file_of, path_of}
 
 pub bytes_at_lem : (path : List ℕ) (entries : List (List ℕ × Vec ℕ Global)) → bytes_at path (map file_of entries) ≡ option_map (λ bytes. bytes.items) (value_at path entries)
 bytes_at_lem path [] = refl

@@ -1,5 +1,5 @@
 -- What is true of every expansion.
-use Rattle.std.specs.Prelude.{◌≡◌, ℕ, Bool, false, List, [], ◌∷◌, ◌++◌, Some, None, is_some}
+use Rattle.std.specs.Prelude.{◌≡◌, ℕ, false, List, [], ◌∷◌, ◌++◌, Some, None, is_some}
 use Rattle.std.specs.List.{list_any}
 use Rattle.scl_text.specs.Paths.{same_path}
 use Rattle.scl_text.specs.Views.{File, bytes_at}

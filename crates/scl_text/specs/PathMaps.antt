@@ -1,6 +1,6 @@
 -- Values by paths, and where the entries of a map stand.
-use Rattle.std.specs.Prelude.{ℕ, zero, suc, ◌+◌, ◌*◌, ◌%◌, ◌^◌, ◌==◌, Bool, true, false, cond, List, [], ◌∷◌, length, map, fold, Option, None, Some, Vec}
-use Rattle.std.specs.List.{slice_get, slice_split}
+use Rattle.std.specs.Prelude.{ℕ, ◌+◌, ◌*◌, ◌%◌, ◌^◌, cond, List, [], ◌∷◌, fold, Option, None, Some}
+use Rattle.std.specs.List.{slice_split}
 use Rattle.scl_text.specs.Paths.{same_path, is_slash, is_name}
 
 -- the value of the first entry at the path

@@ -1,6 +1,6 @@
 -- Paths by their components. A path is its bytes.
 use Rattle.std.specs.Prelude.{ℕ, ◌==◌, ◌&&◌, ◌||◌, not, Bool, true, false, List, [], ◌∷◌, ◌++◌, length, take, drop, map, Option, None, Some, codes, nat_eq, if◌then◌else◌, is_some}
-use Rattle.std.specs.List.{slice_split, starts_with, ends_with, before_first, before_last, after_last}
+use Rattle.std.specs.List.{list_all, slice_split, starts_with, ends_with, before_first, before_last, after_last}
 use Rattle.std.specs.Option.{option_map, option_and_then}
 use Rattle.std.specs.Str.{bytes_eq}
 use Rattle.std.specs.Cmp.Lexicographic.{pointwise}
@@ -119,3 +119,19 @@ parent path = parent_from (start path) (start path) (places path)
 -- the path without its file name, which is then joined on
 abbrev pub with_file_name : List ℕ → List ℕ → List ℕ
 with_file_name path name = join (if is_some (file_place path) then parent path else path) name
+
+-- no byte is a slash
+abbrev pub is_one_part : List ℕ → Bool
+is_one_part part = list_all (λ byte. not (is_slash byte)) part
+
+-- a plain name of a file: one part, neither empty nor `.` nor `..`
+abbrev pub is_file_name : List ℕ → Bool
+is_file_name name = is_one_part name && (is_name name && not (bytes_eq name (codes "..")))
+
+-- a plain extension: bytes, none of which is a slash or a dot
+abbrev pub is_plain_extension : List ℕ → Bool
+is_plain_extension extension = not (length extension == 0) && (is_one_part extension && list_all (λ byte. not (is_dot byte)) extension)
+
+-- a file name with this extension in place of its own
+abbrev pub extended_name : List ℕ → List ℕ → List ℕ
+extended_name name extension = stem_of_name name ++ codes "." ++ extension

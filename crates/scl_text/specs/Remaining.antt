@@ -1,7 +1,6 @@
 -- What is left of an expansion that has begun.
-use Rattle.std.specs.Prelude.{◌≡◌, ℕ, zero, suc, ◌+◌, ◌<◌, List, [], ◌∷◌, ◌++◌, length, map, Bool, true, false, cond, Option, None, Some, Vec}
+use Rattle.std.specs.Prelude.{◌≡◌, ℕ, zero, suc, ◌+◌, ◌<◌, List, [], ◌∷◌, ◌++◌, length, map, Bool, true, false, cond, Option, None, Some}
 use Rattle.std.specs.Vec.Iter.{into_iter_items}
-use Rattle.std.specs.declared.alloc.Global.{Global}
 use Rattle.scl_text.specs.Views.{File}
 use Rattle.scl_text.specs.Words.{words_of}
 use Rattle.scl_text.specs.Paths.{same_path}
@@ -89,7 +88,6 @@ abbrev pub StepsFrom : List (List ℕ) → ℕ → Step → Expansion → Type 0
 StepsFrom words n (step.Word w) t = (words ≡ w.items ∷ left_of t) × (steps_of t < n)
 StepsFrom words n step.Again t = (words ≡ left_of t) × (steps_of t < n)
 StepsFrom words n step.End t = words ≡ []
-StepsFrom words n step.Failed t = Unit {0}
 
 abbrev pub Steps : Expansion → Step → Expansion → Type 0
 Steps s r t = StepsFrom (left_of s) (steps_of s) r t

@@ -1,5 +1,5 @@
 -- How a word names a response file, and what words stand in the file.
-use Rattle.std.specs.Prelude.{ℕ, ◌==◌, ◌&&◌, ◌||◌, not, Bool, true, false, cond, List, [], ◌∷◌, Option, None, Some}
+use Rattle.std.specs.Prelude.{ℕ, ◌==◌, ◌&&◌, ◌||◌, not, Bool, false, cond, List, [], ◌∷◌, Option, None, Some}
 use Rattle.std.specs.Option.{option_map}
 use Rattle.std.specs.Str.{chars, is_utf8}
 use Rattle.scl_text.specs.Paths.{join}

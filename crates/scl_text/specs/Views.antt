@@ -1,5 +1,5 @@
 -- What a view holds: files, directories and other paths that exist, all by paths that are compared by their components.
-use Rattle.std.specs.Prelude.{◌≡◌, ℕ, Bool, true, false, cond, ◌||◌, List, [], ◌∷◌, Option, None, Some, is_some, Vec}
+use Rattle.std.specs.Prelude.{ℕ, Bool, true, false, cond, ◌||◌, List, [], ◌∷◌, Option, None, Some, is_some, Vec}
 use Rattle.std.specs.declared.alloc.Global.{Global}
 use Rattle.scl_text.specs.Paths.{same_path}
 

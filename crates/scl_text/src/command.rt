@@ -1,5 +1,5 @@
 //! What every builder of a command uses: words put behind words, copies, and the command of its parts.
-ghost use Rattle.std.specs.Prelude.{◌≡◌, ◌++◌, ◌∷◌, [], OnOk, IfOk};
+ghost use Rattle.std.specs.Prelude.{◌≡◌, ◌++◌, ◌∷◌, [], OnOk, OnErr, IfOk};
 ghost use Rattle.scl_text.specs.Words.{words_of};
 ghost use Rattle.scl_text.specs.Commands.{Builds, pairs_of};
 
@@ -7,15 +7,16 @@ use crate::memory::Mem;
 use crate::records::SingleCompileCommand;
 use std::alloc::Global;
 
-/// Puts a copy of a word behind those of a list.
+/// Puts a copy of a word behind those of a list, which stays as it was where memory is refused.
 pub fn push_word(alloc: Global, list: &mut Vec<Vec<u8>>, word: &[u8]) -> Mem<()>
-    ensures { OnOk result (words_of list.new.items ≡ words_of list.old.items ++ word.now ∷ []) }
+    ensures ok { OnOk result (words_of list.new.items ≡ words_of list.old.items ++ word.now ∷ []) }
+    ensures err { OnErr result (list.new.items ≡ list.old.items) }
 {
     list.push(Vec::from_slice(alloc, word)?)?;
     Ok(())
 }
 
-/// Puts copies of words behind those of a list.
+/// Puts copies of words behind those of a list; where memory is refused, some may stand there already.
 pub fn push_words(alloc: Global, list: &mut Vec<Vec<u8>>, words: &[Vec<u8>]) -> Mem<()>
     ensures { OnOk result (words_of list.new.items ≡ words_of list.old.items ++ words_of words.now) }
 {

@@ -41,7 +41,6 @@ enum Step {
     Word(Vec<u8>),
     Again,
     End,
-    Failed,
 }
 
 mod advance;

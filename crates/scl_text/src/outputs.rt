@@ -1,5 +1,5 @@
 //! The outputs of a compilation, by their names.
-ghost use Rattle.std.specs.Prelude.{◌≡◌, OnOk};
+ghost use Rattle.std.specs.Prelude.{◌≡◌, OnOk, OnErr};
 ghost use Rattle.std.specs.Option.{option_copied};
 ghost use Rattle.scl_text.specs.Outputs.{path_at, put_output};
 ghost use Rattle.scl_text.specs.Records.{artifact, artifacts};
@@ -9,7 +9,8 @@ use crate::records::ArtifactDescriptor;
 use std::alloc::Global;
 use std::collections::BTreeMap;
 
-/// Puts an output at its name, in place of one of that name (docs/RULES.md, Records).
+/// Puts an output at its name, in place of one of that name; the outputs stay as they were where
+/// memory is refused (docs/RULES.md, Records).
 #[tactic(auto, using(crate::proofs::OutputLemmas::put_entry))]
 pub fn put_output(
     alloc: Global,
@@ -18,7 +19,8 @@ pub fn put_output(
     path: Vec<u8>,
     optional: bool,
 ) -> Mem<()>
-    ensures { OnOk result (artifacts outputs.new ≡ put_output (artifacts outputs.old) (artifact name.now path.items optional)) }
+    ensures ok { OnOk result (artifacts outputs.new ≡ put_output (artifacts outputs.old) (artifact name.now path.items optional)) }
+    ensures err { OnErr result (artifacts outputs.new ≡ artifacts outputs.old) }
 {
     let name = String::from_str(alloc, name)?;
     outputs.insert(name, ArtifactDescriptor { path, optional })?;

@@ -47,5 +47,7 @@ pub fn one_input(inputs: Vec<Vec<u8>>) -> Result<Vec<u8>, Refusal>
     if inputs.len() > 1 {
         return Err(Refusal::CannotCache("multiple input files", None));
     }
-    inputs.pop().ok_or(Refusal::CannotCache("no input file", None))
+    inputs
+        .pop()
+        .ok_or(Refusal::CannotCache("no input file", None))
 }

@@ -62,10 +62,11 @@ fn an_error_of_any_kind_is_a_failure(rt: HostRuntime) {
 }
 
 #[test]
-fn a_flush_is_not_counted(rt: HostRuntime) {
+fn a_flush_is_passed_on_and_not_counted(rt: HostRuntime) {
     let mut device = Counted::new(Refuses(ErrorKind::Other));
     assert!(rt; device.flush().is_err());
     assert_eq!(rt; device.failures(), 0);
+    assert!(rt; Counted::new(Takes(0)).flush().is_ok());
 }
 
 #[test]

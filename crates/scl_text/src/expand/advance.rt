@@ -55,39 +55,34 @@ impl Expansion<'_> {
     }
 
     /// Gives a word, or opens the file that it names.
-    fn give(&mut self, word: Vec<u8>) -> Step
-        ensures { StepsFrom (left_before self.old word.items) (steps_before self.old word.items) result self.new }
+    fn give(&mut self, word: Vec<u8>) -> Mem<Step>
+        ensures { IfOk result (λ step. StepsFrom (left_before self.old word.items) (steps_before self.old word.items) step self.new) }
     {
-        match self.open(&word) {
-            Err(_) => Step::Failed,
-            Ok(None) => Step::Word(word),
-            Ok(Some(file)) => match self.open_files.push(file) {
-                Ok(()) => Step::Again,
-                Err(_) => Step::Failed,
-            },
+        match self.open(&word)? {
+            None => Ok(Step::Word(word)),
+            Some(opened) => {
+                self.open_files.push(opened)?;
+                Ok(Step::Again)
+            }
         }
     }
 
     /// Takes the next word, or closes a file that has none left.
-    pub(super) fn step(&mut self) -> Step
-        ensures { Steps self.old result self.new }
+    pub(super) fn step(&mut self) -> Mem<Step>
+        ensures { IfOk result (λ step. Steps self.old step self.new) }
     {
         let Some(mut file) = self.open_files.pop() else {
             let Some((word, words)) = self.words.split_first() else {
-                return Step::End;
+                return Ok(Step::End);
             };
             self.words = words;
-            return match Vec::from_slice(self.alloc, word) {
-                Ok(word) => self.give(word),
-                Err(_) => Step::Failed,
-            };
+            let word = Vec::from_slice(self.alloc, word)?;
+            return self.give(word);
         };
         let Some(word) = file.words.next() else {
-            return Step::Again;
+            return Ok(Step::Again);
         };
-        match self.open_files.push(file) {
-            Ok(()) => self.give(word),
-            Err(_) => Step::Failed,
-        }
+        self.open_files.push(file)?;
+        self.give(word)
     }
 }

@@ -6,7 +6,7 @@ ghost use Rattle.scl_text.specs.Left.{items_left, GivesWord};
 use super::{Expansion, ExpansionKind, Step};
 use crate::memory::Mem;
 use crate::view::View;
-use std::alloc::{AllocError, Global};
+use std::alloc::Global;
 use std::marker::Model;
 
 /// The words of an expansion of any kind.
@@ -63,15 +63,15 @@ impl Iterator for Expand<'_> {
         }
         loop {
             match self.expansion.step() {
-                Step::Word(word) => return Some(Ok(word)),
-                Step::Again => {}
-                Step::End => {
+                Ok(Step::Word(word)) => return Some(Ok(word)),
+                Ok(Step::Again) => {}
+                Ok(Step::End) => {
                     self.ended = true;
                     return None;
                 }
-                Step::Failed => {
+                Err(refused) => {
                     self.ended = true;
-                    return Some(Err(AllocError));
+                    return Some(Err(refused));
                 }
             }
         }

@@ -1,4 +1,4 @@
-use Rattle.std.proofs.Common.{◌≡◌, Some, ◌∙◌, sym}
+use Rattle.std.proofs.Common.{◌≡◌, Some}
 use Rattle.scl_args.specs.Row.{row_of}
 use Rattle.scl_args.specs.Tables.{owner_in}
 use Rattle.scl_args.specs.Cuts.{owned_piece, needs_value}

@@ -1,5 +1,5 @@
-use Rattle.std.proofs.Common.{◌≡◌, ℕ, ◌+◌, ◌*◌, ◌<◌, ◌≤◌, map, length, slice_index_or, true}
-use Rattle.scl_args.specs.Row.{Row, row_of, fits}
+use Rattle.std.proofs.Common.{◌≡◌, ℕ, ◌+◌, ◌*◌, ◌<◌, ◌≤◌, length, slice_index_or, true}
+use Rattle.scl_args.specs.Row.{Row, fits}
 use Rattle.scl_args.specs.Probes.{bits}
 use Rattle.scl_args.proofs.search.longest_fit.Given as goal
 

@@ -1,7 +1,6 @@
-use Rattle.std.proofs.Common.{◌≡◌, ◌+◌, ◌-◌, ◌/◌, ◌<◌, map, length, slice_index_or, false, true, sym, ◌∙◌, arith}
-use Rattle.std.proofs.lemmas.List.{length-map}
+use Rattle.std.proofs.Common.{◌≡◌, ◌+◌, ◌-◌, ◌/◌, slice_index_or, false, true, sym, ◌∙◌, arith}
 use Rattle.std.specs.Ordering.{is_gt}
-use Rattle.scl_args.specs.Row.{Row, row_of}
+use Rattle.scl_args.specs.Row.{Row}
 use Rattle.scl_args.proofs.BitsLemmas.{bits_half}
 use Rattle.scl_args.proofs.OrderLemmas.{cmp, above_from, below_to}
 use Rattle.scl_args.proofs.search.rows_up_to.Goals as goal

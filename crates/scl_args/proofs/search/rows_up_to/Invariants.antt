@@ -1,6 +1,6 @@
-use Rattle.std.proofs.Common.{◌≡◌, ℕ, ◌+◌, ◌-◌, ◌<◌, ◌≤◌, map, length, slice_index_or, false, true}
+use Rattle.std.proofs.Common.{◌≡◌, ℕ, ◌+◌, ◌-◌, ◌<◌, ◌≤◌, length, slice_index_or, false, true}
 use Rattle.std.specs.Ordering.{is_gt}
-use Rattle.scl_args.specs.Row.{Row, row_of}
+use Rattle.scl_args.specs.Row.{Row}
 use Rattle.scl_args.specs.Probes.{bits}
 use Rattle.scl_args.proofs.OrderLemmas.{cmp}
 use Rattle.scl_args.proofs.search.rows_up_to.Given as goal

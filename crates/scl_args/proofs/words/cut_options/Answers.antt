@@ -1,4 +1,4 @@
-use Rattle.std.proofs.Common.{◌≡◌, sym}
+use Rattle.std.proofs.Common.{sym}
 use Rattle.scl_args.specs.Cuts.{cut}
 use Rattle.scl_args.specs.Tables.{owner_in}
 use Rattle.scl_args.specs.Words.{words_of}

@@ -1,7 +1,6 @@
-use Rattle.std.proofs.Common.{false, ◌≡◌, ◌∷◌, [], Ok, Err, Some, refl}
+use Rattle.std.proofs.Common.{◌∷◌, [], Ok, Err, Some, refl}
 use Rattle.scl_args.specs.Iter.{cutter}
 use Rattle.scl_args.specs.Tables.{owner_in}
-use Rattle.scl_args.specs.Runs.{left_of}
 use Rattle.scl_args.proofs.WordsLemmas.{leaves_after, after_options-append}
 use Rattle.scl_args.proofs.words.cut_words.Goals as goal
 

@@ -1,4 +1,4 @@
-use Rattle.std.proofs.Common.{◌≡◌, ℕ, List, Result}
+use Rattle.std.proofs.Common.{List, Result}
 use Rattle.scl_args.specs.declared.argument.Argument.{Argument}
 use Rattle.scl_args.specs.declared.error.ArgParseError.{ArgParseError}
 use Rattle.scl_args.specs.Tables.{owner_in}

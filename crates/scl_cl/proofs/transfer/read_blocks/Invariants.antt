@@ -4,7 +4,7 @@ use Rattle.scl_cl.proofs.transfer.read_blocks.Given as goal
 
 abbrev pub invariant-loop-turn : goal.invariant-loop-turn
 invariant-loop-turn g l = record {
-    consumed : Consumes (g.R.Read.remaining l.fn.reader.device) (g.R.Read.remaining l.reader.device) l.bytes.items;
-    long : l._turn ≤ length l.bytes.items;
-    none_failed : l.reader.failed ≡ l.fn.reader.failed;
-  }
+  consumed : Consumes (g.R.Read.remaining l.fn.reader.device) (g.R.Read.remaining l.reader.device) l.bytes.items;
+  long : l._turn ≤ length l.bytes.items;
+  none_failed : l.reader.failed ≡ l.fn.reader.failed;
+}

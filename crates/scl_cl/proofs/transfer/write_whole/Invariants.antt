@@ -4,10 +4,10 @@ use Rattle.scl_cl.proofs.transfer.write_whole.Given as goal
 
 abbrev pub invariant-loop-written : goal.invariant-loop-written
 invariant-loop-written g l = record {
-    appended : Appends (g.W.Write.contents l.fn.writer.device) (g.W.Write.contents l.writer.device) (take l.written l.text);
-    within : l.written ≤ length l.text;
-    none_failed : l.writer.failed ≡ l.fn.writer.failed;
-  }
+  appended : Appends (g.W.Write.contents l.fn.writer.device) (g.W.Write.contents l.writer.device) (take l.written l.text);
+  within : l.written ≤ length l.text;
+  none_failed : l.writer.failed ≡ l.fn.writer.failed;
+}
 
 abbrev pub decreases-loop-written : goal.decreases-loop-written
 decreases-loop-written g l = length l.text - l.written

@@ -1,4 +1,4 @@
-use Rattle.std.proofs.Common.{◌≡◌, ℕ, List, ◌<◌, ◌≤◌, arith, sym, ◌∙◌, true, false}
+use Rattle.std.proofs.Common.{arith, sym, ◌∙◌}
 use Rattle.scl_text.proofs.OpenLemmas.{is_shut-found, is_shut-nowhere}
 use Rattle.scl_text.proofs.expand.advance.is_shut.Goals as goal
 

@@ -1,4 +1,4 @@
-use Rattle.std.proofs.Common.{◌≡◌, ◌<◌, ◌≤◌, length, Some, true, false, arith, refl, sym, ◌∙◌}
+use Rattle.std.proofs.Common.{◌≡◌, length, Some, true, false, arith, refl, sym, ◌∙◌}
 use Rattle.std.proofs.lemmas.Option.{slice_get_read}
 use Rattle.std.specs.List.{slice_get}
 use Rattle.scl_text.specs.Paths.{same_path}

@@ -1,0 +1,5 @@
+use Rattle.scl_args.proofs.BitsLemmas.{counts_digits}
+use Rattle.scl_args.proofs.laws.counts_digits.Goals as goal
+
+pub returns : goal.returns
+returns c = counts_digits

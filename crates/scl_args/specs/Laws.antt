@@ -1,0 +1,110 @@
+-- What follows from the definitions of tables, cutting and printing, in the subject's own words.
+use Rattle.std.specs.Prelude.{◌≡◌, ℕ, ◌*◌, ◌+◌, ◌^◌, ◌<◌, ◌≤◌, Bool, true, false, List, ◌∷◌, ◌++◌, length, map, filter, slice_index_or, Option, Some, MatchOption, ◌⊎◌, ◌↔◌}
+use Rattle.std.specs.Cmp.Lexicographic.{slice_cmp}
+use Rattle.std.specs.Ordering.{nat_cmp}
+use Rattle.std.specs.declared.cmp.Ordering.TheVariants.{Less}
+use Rattle.scl_args.specs.declared.argument.NormalizedDisposition.{NormalizedDisposition}
+use Rattle.scl_args.specs.Row.{Row, fits}
+use Rattle.scl_args.specs.Tables.{is_table, owner, owner_in, all_rows}
+use Rattle.scl_args.specs.Probes.{bits, looks_in}
+use Rattle.scl_args.specs.Cuts.{Cutting, cut}
+use Rattle.scl_args.specs.Relation.{CutsInto}
+use Rattle.scl_args.specs.Seen.{Seen, shown, plain_seen}
+use Rattle.scl_args.specs.Spell.{spelled}
+use Rattle.scl_args.specs.Options.{normal_on, list}
+use Rattle.scl_args.specs.Again.{keeps_flags, joins_safely, is_changing, is_joining, is_last, next_is_clear, Reads}
+use Rattle.scl_args.specs.Origins.{Came, IsClear, IsKept}
+use Rattle.scl_args.specs.Printed.{AllCutFrom, IsLeftAt}
+use Rattle.scl_args.specs.Each.{Each, Has}
+
+-- ---- tables and owners
+
+-- the flags of a table rise strictly by bytes
+abbrev pub FlagsRise : Type 0 → Type 0
+FlagsRise K = (rows : List (Row K)) → is_table rows ≡ true → (i j : ℕ) (other : Row K) → i < j → j < length rows
+    → slice_cmp nat_cmp (slice_index_or rows i other).flag (slice_index_or rows j other).flag ≡ Less
+
+-- the row fits the word, and no row that does has a longer flag
+pub record IsLongestFit {K : Type 0} (rows : List (Row K)) (word : List ℕ) (row : Row K) : Type 0 where
+  pub is_row : Has rows row
+  pub fits_word : fits row word ≡ true
+  pub none_longer : (other : Row K) → Has rows other → fits other word ≡ true → length other.flag ≤ length row.flag
+
+-- an owner is a longest fit, and there is none only where no row fits
+abbrev pub OwnerIsLongestFit : Type 0 → Type 0
+OwnerIsLongestFit K = (rows : List (Row K)) (word : List ℕ) → MatchOption (owner rows word) ((row : Row K) → Has rows row → fits row word ≡ false) (IsLongestFit rows word)
+
+-- in a table, two rows that fit a word and whose flags have one length are one row
+abbrev pub FitsAreUnique : Type 0 → Type 0
+FitsAreUnique K = (rows : List (Row K)) → is_table rows ≡ true → (word : List ℕ) (row other : Row K) → Has rows row → Has rows other
+    → fits row word ≡ true → fits other word ≡ true → length row.flag ≡ length other.flag → row ≡ other
+
+-- in a table, a longest fit is the owner
+abbrev pub LongestFitOwns : Type 0 → Type 0
+LongestFitOwns K = (rows : List (Row K)) → is_table rows ≡ true → (word : List ℕ) (row : Row K) → IsLongestFit rows word row → owner rows word ≡ Some row
+
+-- in a table, the last row that fits a word is its owner
+abbrev pub LastFitOwns : Type 0 → Type 0
+LastFitOwns K = (before after : List (Row K)) (row : Row K) (word : List ℕ) → is_table (before ++ row ∷ after) ≡ true
+    → fits row word ≡ true → Each (λ later. fits later word ≡ false) after → owner (before ++ row ∷ after) word ≡ Some row
+
+-- the owner in several tables is the owner in one list of all their rows
+abbrev pub OwnerIsOfAllRows : Type 0 → Type 0
+OwnerIsOfAllRows K = (tables : List (List (Row K))) (word : List ℕ) → owner_in tables word ≡ owner (all_rows tables) word
+
+-- of several tables, the last of those whose owners have the longest flag gives the owner
+abbrev pub LastTableWins : Type 0 → Type 0
+LastTableWins K = (earlier later : List (List (Row K))) (rows : List (Row K)) (word : List ℕ) (row : Row K) → owner rows word ≡ Some row
+    → Each (λ table. (other : Row K) → owner table word ≡ Some other → length other.flag ≤ length row.flag) earlier
+    → Each (λ table. (other : Row K) → owner table word ≡ Some other → length other.flag < length row.flag) later
+    → owner_in (earlier ++ rows ∷ later) word ≡ Some row
+
+-- ---- the bound on looks
+
+-- the digits of a number in base two: as many as say it, and no more
+abbrev pub CountsDigits : Type 0
+CountsDigits = (n : ℕ) → (n < 2 ^ bits n) × (0 < n → 2 ^ bits n ≤ 2 * n)
+
+-- the bounds of several tables add up
+abbrev pub LooksAddUp : Type 0 → Type 0
+LooksAddUp K = (tables others : List (List (Row K))) (word : List ℕ) → looks_in (tables ++ others) word ≡ looks_in tables word + looks_in others word
+
+-- ---- cutting and printing
+
+-- words are cut into options by the cases of their first words, and in no other way
+abbrev pub CutsByCases : Type 0 → Type 0
+CutsByCases K = (own : List ℕ → Option (Row K)) (dashes : Bool) (words : List (List ℕ)) (cutting : Cutting K)
+    → CutsInto own dashes words cutting.options cutting.end ↔ (cut own dashes words ≡ cutting)
+
+-- options print the words that they were cut from, but for a delimiter with nothing behind it
+abbrev pub PrintsWhatWasCut : Type 0 → Type 0
+PrintsWhatWasCut K = (tables : List (List (Row K))) (dashes : Bool) (words : List (List ℕ)) →
+    let cutting = cut (owner_in tables) dashes words in
+    (left : List (List ℕ)) × AllCutFrom cutting.options words left × IsLeftAt (owner_in tables) cutting.end left
+
+-- an option prints one word or two
+abbrev pub PrintsOneOrTwo : Type 0 → Type 0
+PrintsOneOrTwo K = (option : Seen K) → (length (spelled option) ≡ 1) ⊎ (length (spelled option) ≡ 2)
+
+-- an option that was moved to its side stays there, whatever side it is moved to
+abbrev pub StaysOnItsSide : Type 0 → Type 0
+StaysOnItsSide K = (side other : List ℕ → NormalizedDisposition) (option : Seen K) → normal_on other (normal_on side option) ≡ normal_on side option
+
+-- ---- printing and cutting again
+
+-- by tables that pass both checks, a list of options of a cutting, printed, is cut into those options again, whatever words follow
+abbrev pub PrintsAgain : Type 0 → Type 0
+PrintsAgain K = (tables : List (List (Row K))) (dashes : Bool) (kept : K → Bool) (to : List ℕ → NormalizedDisposition) →
+    keeps_flags (is_changing kept) (all_rows tables) ≡ true → joins_safely (is_joining to) (all_rows tables) (all_rows tables) ≡ true →
+    (words : List (List ℕ)) (p : Seen K → Bool) →
+    let options = (cut (owner_in tables) dashes words).options in
+    Each IsClear options → Each (λ c. p (shown c) ≡ true → IsKept dashes kept c) options →
+    Reads (owner_in tables) dashes (list to p (map shown options)) (map plain_seen (filter p (map shown options)))
+
+-- each option of a cutting came from a word of its row, or of none
+abbrev pub OptionsCame : Type 0 → Type 0
+OptionsCame K = (tables : List (List (Row K))) (dashes : Bool) (words : List (List ℕ)) → Each (Came (owner_in tables) dashes) (cut (owner_in tables) dashes words).options
+
+-- in a table, no flag goes on after a flag where the next greater one does not
+abbrev pub NextFlagSuffices : Type 0 → Type 0
+NextFlagSuffices K = (rows : List (Row K)) → is_table rows ≡ true → (f : List ℕ) → next_is_clear f rows ≡ true → is_last f rows ≡ true

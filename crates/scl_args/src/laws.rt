@@ -1,0 +1,85 @@
+//! What follows from the definitions that the other contracts cite. Each law is the contract of a function that does nothing.
+ghost use Rattle.scl_args.specs.Laws.{FlagsRise, OwnerIsLongestFit, FitsAreUnique, LongestFitOwns, LastFitOwns, OwnerIsOfAllRows, LastTableWins, CountsDigits, LooksAddUp, CutsByCases, PrintsWhatWasCut, PrintsOneOrTwo, StaysOnItsSide, PrintsAgain, OptionsCame, NextFlagSuffices};
+
+/// The flags of a table rise strictly by bytes (docs/RULES.md, Rows and tables).
+pub fn flags_rise<K>()
+    ensures { FlagsRise K }
+{}
+
+/// The owner of a word in a table fits it, no row that fits it has a longer flag, and there is none only where no row
+/// fits (docs/RULES.md, Owners).
+pub fn owner_is_longest_fit<K>()
+    ensures { OwnerIsLongestFit K }
+{}
+
+/// Rows of one table that fit a word and whose flags have one length are one row (docs/RULES.md, Owners).
+pub fn fits_are_unique<K>()
+    ensures { FitsAreUnique K }
+{}
+
+/// In a table, a row that fits a word such that no longer one does is the word's owner (docs/RULES.md, Owners).
+pub fn longest_fit_owns<K>()
+    ensures { LongestFitOwns K }
+{}
+
+/// In a table, the last row that fits a word is its owner (docs/RULES.md, Owners).
+pub fn last_fit_owns<K>()
+    ensures { LastFitOwns K }
+{}
+
+/// The owner of a word in several tables is its owner in one list of all their rows (docs/RULES.md, Owners).
+pub fn owner_is_of_all_rows<K>()
+    ensures { OwnerIsOfAllRows K }
+{}
+
+/// Of several tables the longest owner wins, and at one length the last table's (docs/RULES.md, Owners).
+pub fn last_table_wins<K>()
+    ensures { LastTableWins K }
+{}
+
+/// The count of a number's binary digits, which the bound on looks names, is that count (docs/RULES.md, Looks).
+pub fn counts_digits()
+    ensures { CountsDigits }
+{}
+
+/// The bound on the looks of a search in several tables is the sum of the tables' bounds (docs/RULES.md, Looks).
+pub fn looks_add_up<K>()
+    ensures { LooksAddUp K }
+{}
+
+/// Words are cut by the cases of their first words, and in no other way (docs/RULES.md, Cutting).
+pub fn cuts_by_cases<K>()
+    ensures { CutsByCases K }
+{}
+
+/// The words that options print are those that they were cut from, but for a delimiter with nothing behind it
+/// (docs/RULES.md, Printing).
+pub fn prints_what_was_cut<K>()
+    ensures { PrintsWhatWasCut K }
+{}
+
+/// An option prints one word or two (docs/RULES.md, Printing).
+pub fn prints_one_or_two<K>()
+    ensures { PrintsOneOrTwo K }
+{}
+
+/// Moving an option to a side a second time, to either side, changes nothing (docs/RULES.md, Printing).
+pub fn stays_on_its_side<K>()
+    ensures { StaysOnItsSide K }
+{}
+
+/// Each option that words are cut into came from a word of its row, or of none (docs/RULES.md, Cutting again).
+pub fn options_came<K>()
+    ensures { OptionsCame K }
+{}
+
+/// In a table, no flag goes on after a flag where the next greater one does not (docs/RULES.md, Cutting again).
+pub fn next_flag_suffices<K>()
+    ensures { NextFlagSuffices K }
+{}
+
+/// By tables that pass two checks, a list of options that words were cut into, printed, is cut into those options again,
+/// whatever words follow (docs/RULES.md, Cutting again).
+pub fn prints_again<K>()
+    ensures { PrintsAgain K }
+{}

@@ -1,0 +1,4 @@
+pub mod OutputLaws
+pub mod PassLaws
+pub mod SummaryLaws
+pub mod TableLaws

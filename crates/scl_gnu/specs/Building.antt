@@ -1,0 +1,38 @@
+-- The words of a compile command.
+use Rattle.std.specs.Prelude.{ℕ, Bool, true, false, List, [], ◌∷◌, ◌++◌, Option, None, Some, codes}
+use Rattle.std.specs.Option.{option_map}
+use Rattle.scl_text.specs.declared.records.ColorMode.{ColorMode}
+use Rattle.scl_text.specs.declared.records.ColorMode.TheVariants as colors
+use Rattle.scl_text.specs.Outputs.{path_at}
+use Rattle.scl_text.specs.Records.{Parsed}
+
+abbrev pub language_words : Option (List ℕ) → List (List ℕ)
+language_words None = []
+language_words (Some text) = codes "-x" ∷ text ∷ []
+
+abbrev pub color_words : ColorMode → List (List ℕ)
+color_words colors.Off = []
+color_words colors.On = codes "-fdiagnostics-color=always" ∷ []
+color_words colors.Auto = codes "-fdiagnostics-color=always" ∷ []
+
+abbrev pub dash_words : Bool → List (List ℕ)
+dash_words true = codes "--" ∷ []
+dash_words false = []
+
+-- what is done, and where the object goes
+abbrev pub front_words : Option (List ℕ) → List ℕ → Parsed → List (List ℕ)
+front_words text object p = language_words text ++ p.compilation_flag ∷ codes "-o" ∷ object ∷ []
+
+abbrev pub list_words : Parsed → List (List ℕ)
+list_words p = p.preprocessor_args ++ p.dependency_args ++ p.unhashed_args ++ p.common_args ++ p.arch_args
+
+abbrev pub back_words : Parsed → List (List ℕ)
+back_words p = color_words p.color_mode ++ dash_words p.double_dash_input ++ p.input ∷ []
+
+-- with this text for the language and this object
+abbrev pub command_words : Option (List ℕ) → List ℕ → Parsed → List (List ℕ)
+command_words text object p = front_words text object p ++ list_words p ++ back_words p
+
+-- the words of the command, where the record has an object
+abbrev pub command : Option (List ℕ) → Parsed → Option (List (List ℕ))
+command text p = option_map (λ object. command_words text object p) (path_at p.outputs (codes "obj"))

@@ -1,0 +1,143 @@
+//! The builder of Gcc's compile commands.
+ghost use Rattle.std.specs.Prelude.{◌≡◌, ◌++◌, ◌↔◌, IfOk, OnOk, Err, None, codes};
+ghost use Rattle.std.specs.Option.{option_copied, option_map};
+ghost use Rattle.scl_text.specs.Commands.{pairs_of};
+ghost use Rattle.scl_text.specs.Compilers.{IsAnswer};
+ghost use Rattle.scl_text.specs.Languages.{gcc_text};
+ghost use Rattle.scl_text.specs.Outputs.{path_at};
+ghost use Rattle.scl_text.specs.Records.{parsed_of};
+ghost use Rattle.scl_text.specs.Words.{words_of};
+ghost use Rattle.scl_gnu.specs.Building.{front_words, list_words, color_words, dash_words, back_words, command_words, command};
+
+use scl_args::Mem;
+use scl_text::command::{copied_pairs, push_word, push_words, single_command};
+use scl_text::language::Language;
+use scl_text::outputs::output_path;
+use scl_text::records::{
+    CCompilerKind, Cacheable, ColorMode, CommandError, ParsedArguments, SingleCompileCommand,
+};
+use scl_text::view::View;
+use std::alloc::Global;
+use std::convert::AsStr;
+
+/// The text that gcc's `-x` takes for the language, if there is one (docs/RULES.md, Languages).
+pub fn language_to_gcc_arg(language: Language) -> Option<&'static str>
+    ensures { option_copied result ≡ gcc_text language }
+{
+    language.to_gcc_arg()
+}
+
+fn front_words(
+    alloc: Global,
+    text: Option<&str>,
+    object: &[u8],
+    parsed: &ParsedArguments,
+) -> Mem<Vec<Vec<u8>>>
+    ensures { IfOk result (λ words. words_of words.items ≡ front_words (option_copied text.entry) object.now (parsed_of parsed.now)) }
+{
+    let mut words = Vec::new(alloc);
+    if let Some(text) = text {
+        push_word(alloc, &mut words, b"-x")?;
+        push_word(alloc, &mut words, text.as_bytes())?;
+    }
+    push_word(alloc, &mut words, &parsed.compilation_flag)?;
+    push_word(alloc, &mut words, b"-o")?;
+    push_word(alloc, &mut words, object)?;
+    Ok(words)
+}
+
+fn push_lists(alloc: Global, words: &mut Vec<Vec<u8>>, parsed: &ParsedArguments) -> Mem<()>
+    ensures { OnOk result (words_of words.new.items ≡ words_of words.old.items ++ list_words (parsed_of parsed.now)) }
+{
+    push_words(alloc, words, &parsed.preprocessor_args)?;
+    push_words(alloc, words, &parsed.dependency_args)?;
+    push_words(alloc, words, &parsed.unhashed_args)?;
+    push_words(alloc, words, &parsed.common_args)?;
+    push_words(alloc, words, &parsed.arch_args)
+}
+
+fn push_color(alloc: Global, words: &mut Vec<Vec<u8>>, mode: ColorMode) -> Mem<()>
+    ensures { OnOk result (words_of words.new.items ≡ words_of words.old.items ++ color_words mode) }
+{
+    match mode {
+        ColorMode::On | ColorMode::Auto => {
+            push_word(alloc, words, b"-fdiagnostics-color=always")
+        }
+        ColorMode::Off => Ok(()),
+    }
+}
+
+fn push_dashes(alloc: Global, words: &mut Vec<Vec<u8>>, is_behind_dashes: bool) -> Mem<()>
+    ensures { OnOk result (words_of words.new.items ≡ words_of words.old.items ++ dash_words is_behind_dashes) }
+{
+    if is_behind_dashes {
+        push_word(alloc, words, b"--")?;
+    }
+    Ok(())
+}
+
+fn push_back_words(alloc: Global, words: &mut Vec<Vec<u8>>, parsed: &ParsedArguments) -> Mem<()>
+    ensures { OnOk result (words_of words.new.items ≡ words_of words.old.items ++ back_words (parsed_of parsed.now)) }
+{
+    push_color(alloc, words, parsed.color_mode)?;
+    push_dashes(alloc, words, parsed.double_dash_input)?;
+    push_word(alloc, words, &parsed.input)
+}
+
+fn command_words(
+    alloc: Global,
+    text: Option<&str>,
+    object: &[u8],
+    parsed: &ParsedArguments,
+) -> Mem<Vec<Vec<u8>>>
+    ensures { IfOk result (λ words. words_of words.items ≡ command_words (option_copied text.entry) object.now (parsed_of parsed.now)) }
+{
+    let mut words = front_words(alloc, text, object, parsed)?;
+    push_lists(alloc, &mut words, parsed)?;
+    push_back_words(alloc, &mut words, parsed)?;
+    Ok(words)
+}
+
+/// The command with a text for the language, if there is one.
+fn command_with(
+    alloc: Global,
+    executable: &[u8],
+    parsed: &ParsedArguments,
+    cwd: &[u8],
+    env_vars: &[(Vec<u8>, Vec<u8>)],
+    text: Option<&str>,
+) -> Result<(SingleCompileCommand, Cacheable), CommandError>
+    ensures command { IfOk result (λ built. IsAnswer built.0 built.1 (command (option_copied text.entry) (parsed_of parsed.now)) executable.now (pairs_of env_vars.now) cwd.now Cacheable.Yes) }
+    ensures missing { (result ≡ Err CommandError.MissingObj) ↔ (path_at (parsed_of parsed.now).outputs (codes "obj") ≡ None) }
+{
+    let Some(object) = output_path(&parsed.outputs, "obj") else {
+        return Err(CommandError::MissingObj);
+    };
+    let arguments = command_words(alloc, text, object, parsed)?;
+    let env_vars = copied_pairs(alloc, env_vars)?;
+    let command = single_command(alloc, executable, arguments, env_vars, cwd)?;
+    Ok((command, Cacheable::Yes))
+}
+
+/// The compile command of a record, whose language word is what the closure answers; it may always be kept in the
+/// cache (docs/RULES.md, Gcc). The errors are `MissingObj`, exactly where the record has no output `obj`, and the
+/// refusal of memory.
+pub fn generate_compile_commands<T: AsStr + Drop, F: Fn(Language) -> Option<T>>(
+    alloc: Global,
+    executable: &[u8],
+    parsed: &ParsedArguments,
+    cwd: &[u8],
+    env_vars: &[(Vec<u8>, Vec<u8>)],
+    _kind: CCompilerKind,
+    _view: &View,
+    language_to_arg: F,
+) -> Result<(SingleCompileCommand, Cacheable), CommandError>
+    requires { F.IsAlwaysCallable language_to_arg }
+    ensures command { IfOk result (λ built. (text : _) × F.post language_to_arg parsed.now.language text
+        × IsAnswer built.0 built.1 (command (option_map T.text text) (parsed_of parsed.now)) executable.now (pairs_of env_vars.now) cwd.now Cacheable.Yes) }
+    ensures missing { (result ≡ Err CommandError.MissingObj) ↔ (path_at (parsed_of parsed.now).outputs (codes "obj") ≡ None) }
+{
+    let text = language_to_arg(parsed.language);
+    let text = text.as_ref().map(|text| text.as_str());
+    command_with(alloc, executable, parsed, cwd, env_vars, text)
+}

@@ -1,0 +1,118 @@
+//! Gcc.
+ghost use Rattle.std.specs.Prelude.{◌≡◌, IfOk};
+ghost use Rattle.std.specs.Option.{option_map};
+ghost use Rattle.std.specs.String.{string_bytes};
+
+use super::args::table;
+use super::command::{generate_compile_commands, language_to_gcc_arg};
+use super::parse::parse_arguments;
+use scl_args::Mem;
+use scl_text::CCompilerImpl;
+use scl_text::records::{
+    CCompilerKind, Cacheable, CommandError, CompilerArguments, ParsedArguments,
+    SingleCompileCommand,
+};
+use scl_text::view::View;
+use std::alloc::Global;
+
+/// Gcc, as its driver for C or for C++, with its version and the digest of its assembler if they are known
+/// (docs/RULES.md, Gcc).
+#[derive(Debug, Drop)]
+pub struct Gcc {
+    pub gplusplus: bool,
+    pub version: Option<String>,
+    pub assembler_digest: Option<String>,
+}
+
+fn copied_text(alloc: Global, text: &Option<String>) -> Mem<Option<String>>
+    ensures { IfOk result (λ copy. option_map string_bytes copy ≡ option_map string_bytes text.now) }
+{
+    match text {
+        Some(text) => Ok(Some(String::from_str(alloc, text.as_str())?)),
+        None => Ok(None),
+    }
+}
+
+impl CCompilerImpl for Gcc {
+    ghost use Rattle.std.specs.Prelude.{[], ◌∷◌};
+    ghost use Rattle.std.specs.Option.{option_map};
+    ghost use Rattle.std.specs.String.{string_bytes};
+    ghost use Rattle.scl_text.specs.declared.records.CCompilerKind.TheVariants as compilers;
+    ghost use Rattle.scl_text.specs.declared.records.Cacheable.TheVariants as cacheables;
+    ghost use Rattle.scl_text.specs.Languages.{gcc_text};
+    ghost use Rattle.scl_gnu.specs.Building.{command};
+    ghost use Rattle.scl_gnu.specs.GccRows.{gcc_rows};
+    ghost use Rattle.scl_gnu.specs.Readings.{reading};
+
+    ghost kind_of = { λ _. compilers.Gcc };
+
+    ghost plusplus_of = { λ gcc. gcc.gplusplus };
+
+    ghost version_of = { λ gcc. option_map string_bytes gcc.version };
+
+    ghost digest_of = { λ gcc. option_map string_bytes gcc.assembler_digest };
+
+    ghost reading = { λ gcc words directory env_vars view. reading compilers.Gcc gcc.gplusplus (gcc_rows ∷ []) directory view words };
+
+    ghost command = { λ _ parsed. command (gcc_text parsed.language) parsed };
+
+    ghost environment = { λ _ env_vars. env_vars };
+
+    ghost cacheable = { λ _ parsed directory view. cacheables.Yes };
+
+    fn kind(&self) -> CCompilerKind {
+        CCompilerKind::Gcc
+    }
+
+    fn plusplus(&self) -> bool {
+        self.gplusplus
+    }
+
+    fn version(&self, alloc: Global) -> Mem<Option<String>> {
+        copied_text(alloc, &self.version)
+    }
+
+    fn parse_arguments(
+        &self,
+        alloc: Global,
+        arguments: &[Vec<u8>],
+        cwd: &[u8],
+        _env_vars: &[(Vec<u8>, Vec<u8>)],
+        view: &View,
+    ) -> Mem<CompilerArguments<ParsedArguments>> {
+        parse_arguments(
+            alloc,
+            arguments,
+            cwd,
+            table(),
+            self.gplusplus,
+            CCompilerKind::Gcc,
+            view,
+        )
+    }
+
+    fn generate_compile_commands(
+        &self,
+        alloc: Global,
+        executable: &[u8],
+        parsed: &ParsedArguments,
+        cwd: &[u8],
+        env_vars: &[(Vec<u8>, Vec<u8>)],
+        view: &View,
+    ) -> Result<(SingleCompileCommand, Cacheable), CommandError> {
+        generate_compile_commands(
+            alloc,
+            executable,
+            parsed,
+            cwd,
+            env_vars,
+            CCompilerKind::Gcc,
+            view,
+            language_to_gcc_arg,
+        )
+    }
+
+    fn assembler_digest(&self, alloc: Global) -> Mem<Option<String>> {
+        copied_text(alloc, &self.assembler_digest)
+    }
+}

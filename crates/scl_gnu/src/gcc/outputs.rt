@@ -1,0 +1,116 @@
+//! The outputs of a compilation.
+ghost use Rattle.std.specs.Prelude.{◌≡◌, IfOk, OnOk};
+ghost use Rattle.scl_text.specs.Paths.{with_extension};
+ghost use Rattle.scl_text.specs.Records.{artifacts, path_of};
+ghost use Rattle.scl_gnu.specs.FoundBy.{found_of, paths_of};
+ghost use Rattle.scl_gnu.specs.Passes.{summary_of};
+ghost use Rattle.scl_gnu.specs.Recordings.{only_if, unless_absent, output_paths, outputs, put_optional};
+
+use super::finish::Finding;
+use super::pass::Gathered;
+use scl_args::Mem;
+use scl_text::outputs::put_output;
+use scl_text::path::with_extension;
+use scl_text::records::ArtifactDescriptor;
+use std::alloc::Global;
+use std::collections::BTreeMap;
+
+/// Where a compilation puts what it makes.
+#[derive(Drop)]
+pub(crate) struct OutputFiles {
+    pub(crate) depfile: Option<Vec<u8>>,
+    pub(crate) diagnostics: Option<Vec<u8>>,
+    pub(crate) dwo: Option<Vec<u8>>,
+    pub(crate) gcno: Option<Vec<u8>>,
+    pub(crate) module_path: Option<Vec<u8>>,
+    pub(crate) object: Vec<u8>,
+}
+
+fn extended_if(
+    alloc: Global,
+    is_wanted: bool,
+    path: &[u8],
+    extension: &[u8],
+) -> Mem<Option<Vec<u8>>>
+    ensures { IfOk result (λ whole. path_of whole ≡ only_if is_wanted (with_extension path.now extension.now)) }
+{
+    if !is_wanted {
+        return Ok(None);
+    }
+    Ok(Some(with_extension(alloc, path, extension)?))
+}
+
+fn copied(alloc: Global, path: &Option<Vec<u8>>) -> Mem<Option<Vec<u8>>>
+    ensures { IfOk result (λ copy. path_of copy ≡ path_of path.now) }
+{
+    match path {
+        Some(path) => Ok(Some(Vec::from_slice(alloc, path)?)),
+        None => Ok(None),
+    }
+}
+
+fn copied_if(alloc: Global, is_wanted: bool, path: &Option<Vec<u8>>) -> Mem<Option<Vec<u8>>>
+    ensures { IfOk result (λ copy. path_of copy ≡ unless_absent is_wanted (path_of path.now)) }
+{
+    if !is_wanted {
+        return Ok(None);
+    }
+    copied(alloc, path)
+}
+
+impl Gathered {
+    /// Where the compilation puts what it makes.
+    pub(crate) fn output_files(&self, alloc: Global, found: &Finding) -> Mem<OutputFiles>
+        ensures { IfOk result (λ files. paths_of files ≡ output_paths (summary_of self.now) (found_of found.now)) }
+    {
+        let has_depfile = found.language.needs_c_preprocessing();
+        Ok(OutputFiles {
+            depfile: copied_if(alloc, has_depfile, &self.lasts.dep_path)?,
+            diagnostics: copied(alloc, &self.lasts.diagnostics)?,
+            dwo: extended_if(alloc, self.marks.split_dwarf, &found.object, b"dwo")?,
+            gcno: extended_if(alloc, self.marks.notes, &found.object, b"gcno")?,
+            module_path: copied(alloc, &found.module_path)?,
+            object: Vec::from_slice(alloc, &found.object)?,
+        })
+    }
+}
+
+fn put_optional(
+    alloc: Global,
+    outputs: &mut BTreeMap<String, ArtifactDescriptor>,
+    name: &str,
+    optional: bool,
+    path: Option<Vec<u8>>,
+) -> Mem<()>
+    ensures { OnOk result (artifacts outputs.new ≡ put_optional (artifacts outputs.old) name.now optional (path_of path)) }
+{
+    match path {
+        Some(path) => put_output(alloc, outputs, name, path, optional),
+        None => Ok(()),
+    }
+}
+
+impl OutputFiles {
+    /// The outputs by their names.
+    #[tactic(auto, using(crate::proofs::OutputLaws::put_in_order))]
+    pub(crate) fn into_outputs(self, alloc: Global) -> Mem<BTreeMap<String, ArtifactDescriptor>>
+        ensures { IfOk result (λ made. artifacts made ≡ outputs (paths_of self)) }
+    {
+        let OutputFiles {
+            depfile,
+            diagnostics,
+            dwo,
+            gcno,
+            module_path,
+            object,
+        } = self;
+        let mut made = BTreeMap::new(alloc);
+        put_optional(alloc, &mut made, "d", false, depfile)?;
+        put_optional(alloc, &mut made, "dia", false, diagnostics)?;
+        put_optional(alloc, &mut made, "dwo", true, dwo)?;
+        put_optional(alloc, &mut made, "gcno", false, gcno)?;
+        put_optional(alloc, &mut made, "module", false, module_path)?;
+        put_optional(alloc, &mut made, "obj", false, Some(object))?;
+        Ok(made)
+    }
+}

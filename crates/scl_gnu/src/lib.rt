@@ -1,0 +1,4 @@
+//! The command lines of Gcc and Clang.
+#![tactic(auto)]
+
+pub mod gcc;

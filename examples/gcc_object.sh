@@ -1,0 +1,67 @@
+#!/usr/bin/env bash
+# Compiles a C file as it is asked for, and again by the command that ccline builds for the same words,
+# and compares the two objects and dependency files byte for byte.
+#
+#     examples/gcc_object.sh PATH_OF_CCLINE [gcc|g++]
+set -euo pipefail
+
+ccline=$(realpath "$1")
+compiler=${2:-gcc}
+folder=$(mktemp -d)
+trap 'rm -rf "$folder"' EXIT
+cd "$folder"
+
+mkdir include src build
+cat > include/greeting.h <<'C'
+#define TIMES 3
+C
+cat > src/main.c <<'C'
+#include <stdio.h>
+#include "greeting.h"
+
+int main(void) {
+    for (int i = 0; i < TIMES; i++)
+        printf("%s %d\n", GREETING, i);
+    return 0;
+}
+C
+words=(-O2 -g -Wall -I include '-DGREETING="hello, \"world\""' -fno-common -MMD -o build/main.o -c src/main.c)
+
+# each byte of a word as \xHH
+escaped() {
+    printf %s "$1" | od -An -v -tx1 | tr -d ' \n' | sed 's/../\\x&/g'
+}
+
+request() {
+    printf 'compiler %s\ncwd %s\n' "$compiler" "$(escaped "$folder")"
+    local word
+    for word in "${words[@]}"; do
+        printf 'word %s\n' "$(escaped "$word")"
+    done
+}
+
+built=()
+answered=no
+while IFS= read -r line; do
+    case $line in
+        ok) answered=yes ;;
+        'arg '*)
+            printf -v word %b "${line#arg }"
+            built+=("$word")
+            ;;
+    esac
+done < <(request | "$ccline")
+if [ $answered = no ]; then
+    echo "ccline built no command" >&2
+    exit 1
+fi
+
+"$compiler" "${words[@]}"
+mv build asked
+mkdir build
+"$compiler" "${built[@]}"
+printf 'asked: %s' "$compiler"; printf ' %q' "${words[@]}"; echo
+printf 'built: %s' "$compiler"; printf ' %q' "${built[@]}"; echo
+cmp asked/main.o build/main.o
+cmp asked/main.d build/main.d
+echo "the objects are the same $(wc -c < build/main.o) bytes"
