@@ -6,7 +6,6 @@ pub mod CutsLemmas
 pub mod EmptyLaws
 pub mod FitLaws
 pub mod FreshLaws
-pub mod GatherLaws
 pub mod HoldsLemmas
 pub mod InputLaws
 pub mod IterLemmas

@@ -1,13 +1,13 @@
 -- Filters, last ones and first verdicts of two lists of options one after the other.
-use Rattle.std.proofs.Common.{◌≡◌, ℕ, Bool, List, [], ◌∷◌, ◌++◌, Option, Some, None, refl, ap, sym, ◌∙◌, filter, map}
+use Rattle.std.proofs.Common.{◌≡◌, ℕ, Bool, true, cond, List, [], ◌∷◌, ◌++◌, Option, Some, None, refl, ap, sym, ◌∙◌, filter, map, length, slice_get, ◌-◌, Bor, suc, arith}
 use Rattle.std.specs.List.{flat_map}
-use Rattle.std.specs.Option.{option_map}
+use Rattle.std.specs.Option.{option_map, option_copied}
 use Rattle.std.proofs.lemmas.List.Concat.{flat_map-append}
 use Rattle.std.proofs.lemmas.List.Elements.{filter-append}
 use Rattle.std.proofs.lemmas.List.{map-append}
 use Rattle.scl_args.specs.declared.argument.NormalizedDisposition.{NormalizedDisposition}
 use Rattle.scl_args.specs.Seen.{Seen}
-use Rattle.scl_args.specs.Options.{text_of, spelled_on, or_else, last, last_by, texts, list, first_verdict}
+use Rattle.scl_args.specs.Options.{text_of, spelled_on, or_else, last, last_by, texts, list}
 
 pub or_else-assoc : {A : Type 0} (a b c : Option A) → or_else (or_else a b) c ≡ or_else a (or_else b c)
 or_else-assoc None b c = refl
@@ -26,11 +26,6 @@ option_map-or_else f None b = refl
 option_map-or_else f (Some x) b = refl
 
 module _ {K : Type 0} where
-  pub first_verdict-append : {V : Type 0} (verdict : Seen K → Option V) (xs ys : List (Seen K)) → first_verdict verdict (xs ++ ys) ≡ or_else (first_verdict verdict xs) (first_verdict verdict ys)
-  first_verdict-append verdict [] ys = refl
-  first_verdict-append verdict (x ∷ xs) ys =
-      ap (or_else (verdict x)) (first_verdict-append verdict xs ys) ∙ sym (or_else-assoc (verdict x) (first_verdict verdict xs) (first_verdict verdict ys))
-
   pub list-append : (to : List ℕ → NormalizedDisposition) (p : Seen K → Bool) (xs ys : List (Seen K)) → list to p (xs ++ ys) ≡ list to p xs ++ list to p ys
   list-append to p xs ys = ap (flat_map (spelled_on to)) (filter-append p xs ys) ∙ flat_map-append (spelled_on to) (filter p xs) (filter p ys)
 
@@ -40,3 +35,24 @@ module _ {K : Type 0} where
 
   pub texts-append : (p : Seen K → Bool) (xs ys : List (Seen K)) → texts p (xs ++ ys) ≡ texts p xs ++ texts p ys
   texts-append p xs ys = ap (map text_of) (filter-append p xs ys) ∙ map-append text_of (filter p xs) (filter p ys)
+
+  -- the last of a list is the last one by a test that it passes
+  pub last_by-passes : (p : Seen K → Bool) (xs : List (Seen K)) (x : Seen K) → p x ≡ true → last_by p (xs ++ x ∷ []) ≡ Some x
+  last_by-passes p xs x e =
+      ap last (filter-append p xs (x ∷ [])) ∙ last-append (filter p xs) (filter p (x ∷ [])) ∙ ap (λ b. or_else (last (cond b (x ∷ []) [])) (last (filter p xs))) e
+
+-- the last of a list, as it is read by its place
+last-at : {A B : Type 0} (f : A → B) (x : A) (xs : List A) → option_map f (slice_get (x ∷ xs) (length xs)) ≡ last (map f (x ∷ xs))
+last-at f x [] = refl
+last-at f x (y ∷ ys) = last-at f y ys ∙ sym (or_else-assoc (last (map f ys)) (Some (f y)) (Some (f x)))
+
+minus-one : (n : ℕ) → suc n - 1 ≡ n
+minus-one n = omega arith
+
+pub last-get : {A B : Type 0} (f : A → B) (xs : List A) → option_map f (slice_get xs (length xs - 1)) ≡ last (map f xs)
+last-get f [] = refl
+last-get f (x ∷ xs) = ap (λ n. option_map f (slice_get (x ∷ xs) n)) (minus-one (length xs)) ∙ last-at f x xs
+
+pub option_map-copied : {A B : Type 0} (f : A → B) (x : Option (Bor A)) → option_map (λ a. f a.now) x ≡ option_map f (option_copied x)
+option_map-copied f None = refl
+option_map-copied f (Some x) = refl

@@ -1,9 +1,13 @@
 -- What definitions say of a finished list of options: filters, last ones, lists of words, a first verdict.
-use Rattle.std.specs.Prelude.{ℕ, Bool, true, false, List, [], ◌∷◌, ◌++◌, map, filter, length, nat_eq, Option, None, Some, Result, Ok, Err, if◌then◌else◌}
-use Rattle.std.specs.List.{flat_map}
+use Rattle.std.specs.Prelude.{ℕ, ◌==◌, ◌||◌, codes, Vec, Bool, true, false, List, [], ◌∷◌, ◌++◌, map, filter, length, nat_eq, Option, None, Some, Result, Ok, Err, if◌then◌else◌}
+use Rattle.std.specs.List.{flat_map, list_any}
+use Rattle.std.specs.Str.{bytes_eq}
+use Rattle.std.specs.declared.alloc.Global.{Global}
+use Rattle.scl_args.specs.declared.argument.ArgDisposition.TheVariants as how
+use Rattle.scl_args.specs.declared.argument.Argument.{Argument}
 use Rattle.scl_args.specs.declared.argument.NormalizedDisposition.{NormalizedDisposition}
 use Rattle.scl_args.specs.declared.argument.NormalizedDisposition.TheVariants as side
-use Rattle.scl_args.specs.Seen.{Seen, Raw, Unknown, Known}
+use Rattle.scl_args.specs.Seen.{Seen, Raw, Unknown, Known, seen}
 use Rattle.scl_args.specs.Spell.{normal_how, spelled}
 
 -- ---- one option
@@ -24,6 +28,10 @@ is_of p (Raw w) = false
 is_of p (Unknown w) = false
 is_of p (Known f k v h) = p k
 
+-- whether the option is of one of the kinds
+abbrev pub of_kinds : {K : Type 0} → (K → K → Bool) → List K → Seen K → Bool
+of_kinds same kinds o = is_of (λ k. list_any (λ other. same other k) kinds) o
+
 -- the flag, or nothing
 abbrev pub flag_of : {K : Type 0} → Seen K → List ℕ
 flag_of (Raw w) = []
@@ -35,6 +43,26 @@ abbrev pub text_of : {K : Type 0} → Seen K → List ℕ
 text_of (Raw w) = w
 text_of (Unknown w) = w
 text_of (Known f k v h) = v
+
+abbrev pub begins_with_at : List ℕ → Bool
+begins_with_at [] = false
+begins_with_at (byte ∷ bytes) = byte == 64
+
+-- whether the value begins with @, in a word of its own or where it could have been one
+abbrev pub names_file : {K : Type 0} → Seen K → Bool
+names_file (Raw w) = false
+names_file (Unknown w) = false
+names_file (Known f k v None) = false
+names_file (Known f k v (Some (how.Concatenated d))) = false
+names_file (Known f k v (Some how.Separated)) = begins_with_at v
+names_file (Known f k v (Some (how.CanBeConcatenated d))) = begins_with_at v
+names_file (Known f k v (Some (how.CanBeSeparated d))) = begins_with_at v
+
+-- whether the option is the raw word --
+abbrev pub is_dashes : {K : Type 0} → Seen K → Bool
+is_dashes (Raw w) = bytes_eq w (codes "--")
+is_dashes (Unknown w) = false
+is_dashes (Known f k v h) = false
 
 -- the option with its value on the side of its flag, where it may stand either way
 abbrev pub normal_on : {K : Type 0} → (List ℕ → NormalizedDisposition) → Seen K → Seen K
@@ -73,15 +101,18 @@ texts p os = map text_of (filter p os)
 abbrev pub list : {K : Type 0} → (List ℕ → NormalizedDisposition) → (Seen K → Bool) → List (Seen K) → List (List ℕ)
 list to p os = flat_map (spelled_on to) (filter p os)
 
--- the first verdict in order, of those that options say by themselves
-abbrev pub first_verdict : {K V : Type 0} → (Seen K → Option V) → List (Seen K) → Option V
-first_verdict verdict [] = None
-first_verdict verdict (o ∷ os) = or_else (verdict o) (first_verdict verdict os)
+abbrev pub first_is : {A : Type 0} → (A → Bool) → List A → Bool
+first_is p [] = false
+first_is p (x ∷ xs) = p x
+
+-- whether a raw -- stands before any input
+abbrev pub is_behind_dashes : {K : Type 0} → (Seen K → Bool) → List (Seen K) → Bool
+is_behind_dashes is_input os = first_is is_dashes (filter (λ o. is_dashes o || is_input o) os)
 
 -- the first verdict in order, where an option is judged after those before it
-abbrev pub first_verdict_after : {K V : Type 0} → (List (Seen K) → Seen K → Option V) → List (Seen K) → List (Seen K) → Option V
-first_verdict_after verdict before [] = None
-first_verdict_after verdict before (o ∷ os) = or_else (verdict before o) (first_verdict_after verdict (before ++ o ∷ []) os)
+abbrev pub first_verdict : {K V : Type 0} → (List (Seen K) → Seen K → Option V) → List (Seen K) → List (Seen K) → Option V
+first_verdict verdict before [] = None
+first_verdict verdict before (o ∷ os) = or_else (verdict before o) (first_verdict verdict (before ++ o ∷ []) os)
 
 -- ---- tests in their order
 
@@ -99,3 +130,16 @@ wanted (Some x) v = Ok x
 abbrev pub unless : {A V : Type 0} → Option V → Result A V → Result A V
 unless None rest = rest
 unless (Some v) rest = Err v
+
+-- the options, where none is refused and the last flag has its value
+abbrev pub judged : {K V : Type 0} → (List (Seen K) → Seen K → Option V) → V → List (Seen K) → Bool → Result (List (Seen K)) V
+judged verdict dangling os dangles = unless (first_verdict verdict [] os) (if dangles then Err dangling else Ok os)
+
+-- ---- what the code gives, as definitions see it
+
+abbrev pub all_seen : {T K : Type 0} → (T → K) → (T → List ℕ) → Vec (Argument T) Global → List (Seen K)
+all_seen kind_of word_of options = map (seen kind_of word_of) options.items
+
+abbrev pub result_by : {A B E V : Type 0} → (A → B) → (E → V) → Result A E → Result B V
+result_by f verdict_of (Ok x) = Ok (f x)
+result_by f verdict_of (Err e) = Err (verdict_of e)

@@ -4,11 +4,13 @@
 mod argument;
 mod counted;
 mod error;
-mod gather;
+mod held;
 mod iter;
+mod judge;
 pub mod laws;
 mod lists;
 mod memory;
+mod options;
 mod piece;
 mod rows;
 mod search;
@@ -24,10 +26,15 @@ mod words;
 pub use argument::{ArgDisposition, ArgInfo, ArgRow, Argument, Delimiter, NormalizedDisposition};
 pub use counted::Counted;
 pub use error::{ArgParseError, ArgParseResult, ArgToStringError, ArgToStringResult};
-pub use gather::{Gather, gather_all};
+pub use held::{Held, ReadArg, without_value};
 pub use iter::ArgsIter;
-pub use lists::{push_spelled, side_of_flag};
+pub use judge::{Judge, first_refusal, judge_all};
+pub use lists::{ShortFlagsJoined, Sides, list, push_option, side_of_flag};
 pub use memory::Mem;
+pub use options::{
+    OfKinds, Test, any, is_behind_dashes, is_dashes, last_by, last_flag, last_option, last_text,
+    names_file, texts,
+};
 pub use rows::{FlagTable, Probes, RowStore, SearchableArgInfo, looks};
 pub use spell::Iter;
 pub use split::split_os_string_arg;

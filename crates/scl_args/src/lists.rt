@@ -1,13 +1,28 @@
-ghost use Rattle.std.specs.Prelude.{◌≡◌, ◌++◌, OnOk};
+//! The words of lists of options.
+ghost use Rattle.std.specs.Prelude.{◌≡◌, ◌++◌, map, IfOk, OnOk};
 ghost use Rattle.scl_args.specs.Seen.{seen};
-ghost use Rattle.scl_args.specs.Spell.{spelled};
-ghost use Rattle.scl_args.specs.Options.{side_of_flag, spelled_on};
+ghost use Rattle.scl_args.specs.Spell.{spell_value};
+ghost use Rattle.scl_args.specs.Options.{side_of_flag, spelled_on, list};
 ghost use Rattle.scl_args.specs.Words.{words_of};
 
-use crate::argument::{Argument, NormalizedDisposition};
+use crate::argument::{ArgDisposition, Argument, NormalizedDisposition};
 use crate::memory::Mem;
+use crate::options::Test;
+use crate::spell::joined_value;
 use crate::value::ArgumentValue;
 use std::alloc::Global;
+
+/// On which side of its flag an option of a list prints a value that may stand either way (docs/RULES.md, Printing).
+pub trait Sides {
+    ghost use Rattle.std.specs.Prelude.{ℕ, List};
+    ghost use Rattle.scl_args.specs.declared.argument.NormalizedDisposition.{NormalizedDisposition};
+
+    ghost side: { Self → List ℕ → NormalizedDisposition };
+
+    /// The side of the flag.
+    fn side(&self, flag: &str) -> NormalizedDisposition
+        ensures { result ≡ side self.now flag.now };
+}
 
 /// The side of an option in a list: a flag of two bytes stands together with its value, any other apart
 /// (docs/RULES.md, Printing).
@@ -21,31 +36,82 @@ pub fn side_of_flag(flag: &str) -> NormalizedDisposition
     }
 }
 
-fn push_words<T: ArgumentValue>(
+/// Flags of two bytes stand together with their values, any others apart.
+#[derive(Clone, Copy, Debug)]
+pub struct ShortFlagsJoined;
+
+impl Sides for ShortFlagsJoined {
+    ghost use Rattle.scl_args.specs.Options.{side_of_flag};
+
+    ghost side = { λ _. side_of_flag };
+
+    fn side(&self, flag: &str) -> NormalizedDisposition {
+        side_of_flag(flag)
+    }
+}
+
+fn push_value<T: ArgumentValue>(
     alloc: Global,
-    list: &mut Vec<Vec<u8>>,
-    option: &Argument<T>,
+    words: &mut Vec<Vec<u8>>,
+    flag: &str,
+    value: &T,
+    disposition: ArgDisposition,
 ) -> Mem<()>
-    ensures { OnOk result (words_of list.new.items ≡ words_of list.old.items ++ spelled (seen T.kind_of T.word_of option.now)) }
+    ensures { OnOk result (words_of words.new.items ≡ words_of words.old.items ++ spell_value flag.now (T.word_of value.now) disposition) }
 {
-    for word in option.iter_os_strings(alloc) {
-        list.push(word?)?;
+    match disposition {
+        ArgDisposition::Separated | ArgDisposition::CanBeConcatenated(_) => {
+            words.push(Vec::from_slice(alloc, flag.as_bytes())?)?;
+            words.push(value.into_arg_os_string(alloc)?)?;
+        }
+        ArgDisposition::CanBeSeparated(delimiter) | ArgDisposition::Concatenated(delimiter) => {
+            words.push(joined_value(alloc, flag, delimiter, value)?)?;
+        }
     }
     Ok(())
 }
 
-/// Puts an option's words, on the side of its flag, behind those of a list. It fails only for want of memory, and the list
-/// may then hold the first of two words.
-pub fn push_spelled<T: ArgumentValue>(
+/// Puts the words of the option, on the side of its flag, behind others. It fails only for want of memory, and the first of
+/// two words may then stand there.
+pub fn push_option<T: ArgumentValue, S: Sides>(
     alloc: Global,
-    list: &mut Vec<Vec<u8>>,
-    option: Argument<T>,
+    words: &mut Vec<Vec<u8>>,
+    option: &Argument<T>,
+    sides: &S,
 ) -> Mem<()>
-    ensures { OnOk result (words_of list.new.items ≡ words_of list.old.items ++ spelled_on side_of_flag (seen T.kind_of T.word_of option)) }
+    ensures { OnOk result (words_of words.new.items ≡ words_of words.old.items ++ spelled_on (S.side sides.now) (seen T.kind_of T.word_of option.now)) }
 {
-    let side = match option.flag_str() {
-        Some(flag) => side_of_flag(flag),
-        None => NormalizedDisposition::Separated,
-    };
-    push_words(alloc, list, &option.normalize(side))
+    match option {
+        Argument::Raw(word) | Argument::UnknownFlag(word) => {
+            words.push(Vec::from_slice(alloc, word)?)?;
+            Ok(())
+        }
+        Argument::Flag(flag, _) => {
+            words.push(Vec::from_slice(alloc, flag.as_bytes())?)?;
+            Ok(())
+        }
+        Argument::WithValue(flag, value, disposition) => {
+            let disposition = disposition.normalize(sides.side(flag));
+            push_value(alloc, words, flag, value, disposition)
+        }
+    }
+}
+
+/// The words of the options that pass, each option on the side of its flag (docs/RULES.md, Lists of options). It fails only
+/// for want of memory.
+pub fn list<T: ArgumentValue, S: Sides, P: Test<T>>(
+    alloc: Global,
+    options: &[Argument<T>],
+    sides: &S,
+    test: &P,
+) -> Mem<Vec<Vec<u8>>>
+    ensures { IfOk result (λ words. words_of words.items ≡ list (S.side sides.now) (P.passes test.now) (map (seen T.kind_of T.word_of) options.now)) }
+{
+    let mut words = Vec::new(alloc);
+    for option in options {
+        if test.passes(option) {
+            push_option(alloc, &mut words, option, sides)?;
+        }
+    }
+    Ok(words)
 }

@@ -1,9 +1,8 @@
 -- The words of a compile command.
 use Rattle.std.specs.Prelude.{ℕ, Bool, true, false, List, [], ◌∷◌, ◌++◌, Option, None, Some, codes}
-use Rattle.std.specs.Option.{option_map}
 use Rattle.scl_text.specs.declared.records.ColorMode.{ColorMode}
 use Rattle.scl_text.specs.declared.records.ColorMode.TheVariants as colors
-use Rattle.scl_text.specs.Outputs.{path_at}
+use Rattle.scl_text.specs.Commands.{command_by}
 use Rattle.scl_text.specs.Records.{Parsed}
 
 abbrev pub language_words : Option (List ℕ) → List (List ℕ)
@@ -30,9 +29,9 @@ abbrev pub back_words : Parsed → List (List ℕ)
 back_words p = color_words p.color_mode ++ dash_words p.double_dash_input ++ p.input ∷ []
 
 -- with this text for the language and this object
-abbrev pub command_words : Option (List ℕ) → List ℕ → Parsed → List (List ℕ)
-command_words text object p = front_words text object p ++ list_words p ++ back_words p
+abbrev pub command_words : Option (List ℕ) → Parsed → List ℕ → List (List ℕ)
+command_words text p object = front_words text object p ++ list_words p ++ back_words p
 
 -- the words of the command, where the record has an object
 abbrev pub command : Option (List ℕ) → Parsed → Option (List (List ℕ))
-command text p = option_map (λ object. command_words text object p) (path_at p.outputs (codes "obj"))
+command text p = command_by (command_words text) p

@@ -1,8 +1,5 @@
 -- The kinds of options, and what a value of each holds.
-use Rattle.std.specs.Prelude.{◌≡◌, ◌≢◌, ℕ, Bool, true, false, List, [], Result, Ok, Err, IsOkAnd, ◌⊎◌, codes}
-use Rattle.std.proofs.Common.{inl, inr}
-use Rattle.scl_args.specs.declared.error.ArgParseError.{ArgParseError}
-use Rattle.scl_args.specs.declared.error.ArgParseError.TheVariants as error
+use Rattle.std.specs.Prelude.{ℕ, Bool, true, false, List, []}
 use Rattle.scl_gnu.specs.declared.gcc.data.ArgData.{ArgData}
 use Rattle.scl_gnu.specs.declared.gcc.data.ArgData.TheVariants as values
 use Rattle.scl_gnu.specs.declared.gcc.data.Kind.{Kind}
@@ -113,26 +110,3 @@ is_path (values.PreprocessorArgumentPath path) = true
 is_path (values.ClangProfileUse path) = true
 is_path (values.SerializeDiagnostics path) = true
 is_path _ = false
-
--- the error of a kind without a value that is given one
-abbrev pub IsNoValueError : ArgParseError → Type 0
-IsNoValueError (error.Other text) = text.now ≡ codes "flag takes no value"
-IsNoValueError _ = ⊥
-
--- a value of the kind that prints the word; or an error, where a kind without a value is given one
-abbrev pub MakeGives : Kind → List ℕ → Result ArgData ArgParseError → Type 0
-MakeGives kind word (Ok value) = (kind_of value ≡ kind) × (word_of value ≡ word)
-MakeGives kind word (Err e) = IsNoValueError e × (holds_value kind ≡ false) × (word ≢ [])
-
--- this flag, where the word is empty, else an error
-abbrev pub MakesFlag : ArgData → List ℕ → Result ArgData ArgParseError → Type 0
-MakesFlag flag word (Ok value) = (value ≡ flag) × (word ≡ [])
-MakesFlag flag word (Err e) = IsNoValueError e × (word ≢ [])
-
-pub exact : (k : Kind) (word : List ℕ) (made : Result ArgData ArgParseError) → (holds_value k ≡ true) ⊎ (word ≡ []) → MakeGives k word made → IsOkAnd made (λ value. (kind_of value ≡ k) × (word_of value ≡ word))
-exact k word (Ok value) can h = h
-exact k word (Err e) (inl holds) h = absurd (let other : holds_value k ≡ false = h.1 in cc)
-exact k word (Err e) (inr none) h = absurd (h.2 none)
-
-pub keeps : (k : Kind) (word : List ℕ) (value : ArgData) → MakeGives k word (Ok value) → (kind_of value ≡ k) × (word_of value ≡ word)
-keeps k word value h = h

@@ -3,11 +3,8 @@ pub mod Data
 pub mod FixedTests
 pub mod FoundBy
 pub mod GccRows
-pub mod Gathered
 pub mod Kinds
-pub mod Passes
 pub mod Places
 pub mod Readings
 pub mod Recordings
-pub mod Summaries
 pub mod Verdicts

@@ -1,9 +1,10 @@
 -- Where the words of options go.
-use Rattle.std.specs.Prelude.{ℕ, Bool, true, false, List}
+use Rattle.std.specs.Prelude.{ℕ, Bool, List}
 use Rattle.scl_args.specs.Seen.{Seen, Raw, Unknown, Known}
 use Rattle.scl_args.specs.Options.{list, side_of_flag}
 use Rattle.scl_gnu.specs.declared.gcc.data.Kind.{Kind}
 use Rattle.scl_gnu.specs.declared.gcc.data.Kind.TheVariants as kind
+use Rattle.scl_gnu.specs.contracts.gcc.place.PlacePartialEq.TheImpl.{ghosts}
 use Rattle.scl_gnu.specs.declared.gcc.place.Place.{Place}
 use Rattle.scl_gnu.specs.declared.gcc.place.Place.TheVariants as places
 
@@ -49,18 +50,8 @@ place_of (Raw w) = places.Nowhere
 place_of (Unknown w) = places.Common
 place_of (Known f k v how) = place k
 
-abbrev pub same_place : Place → Place → Bool
-same_place places.Common places.Common = true
-same_place places.Unhashed places.Unhashed = true
-same_place places.Arch places.Arch = true
-same_place places.Preprocessor places.Preprocessor = true
-same_place places.Dependency places.Dependency = true
-same_place places.Nowhere places.Nowhere = true
-same_place places.Refused places.Refused = true
-same_place _ _ = false
-
 abbrev pub goes_to : Place → Seen Kind → Bool
-goes_to there o = same_place (place_of o) there
+goes_to there o = ghosts.eq (place_of o) there
 
 -- the words of the options that go there, in order, each on the side of its flag
 abbrev pub words_at : Place → List (Seen Kind) → List (List ℕ)

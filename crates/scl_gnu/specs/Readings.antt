@@ -1,38 +1,33 @@
 -- What a command line says.
-use Rattle.std.specs.Prelude.{ℕ, Bool, true, false, not, ◌&&◌, List, [], ◌∷◌, Option, None, Some, Result, Ok, Err, map, codes}
+use Rattle.std.specs.Prelude.{ℕ, Bool, true, false, not, ◌&&◌, List, [], ◌∷◌, Result, Ok, map}
 use Rattle.scl_args.specs.Cuts.{Cutting, is_dangling, cut}
-use Rattle.scl_args.specs.Options.{unless, ◌>>=◌}
+use Rattle.scl_args.specs.Options.{judged, ◌>>=◌}
 use Rattle.scl_args.specs.Row.{Row}
 use Rattle.scl_args.specs.Seen.{Seen, shown}
 use Rattle.scl_args.specs.Tables.{owner_in}
 use Rattle.scl_text.specs.declared.expand.ExpansionKind.TheVariants as expansions
 use Rattle.scl_text.specs.declared.records.CCompilerKind.{CCompilerKind}
 use Rattle.scl_text.specs.Expand.{expand}
+use Rattle.scl_text.specs.Reasons.{argument_parse}
 use Rattle.scl_text.specs.Records.{Parsed, Verdict}
 use Rattle.scl_text.specs.Views.{Viewed}
 use Rattle.scl_gnu.specs.declared.gcc.data.Kind.{Kind}
 use Rattle.scl_gnu.specs.declared.gcc.data.Kind.TheVariants as kind
 use Rattle.scl_gnu.specs.FixedTests.{found}
-use Rattle.scl_gnu.specs.Passes.{gathered}
 use Rattle.scl_gnu.specs.Recordings.{is_clang, record_of}
-use Rattle.scl_gnu.specs.Summaries.{Summary}
-use Rattle.scl_gnu.specs.Verdicts.{refusal}
-
-abbrev pub dangling_verdict : Bool → Option Verdict
-dangling_verdict true = refusal (codes "argument parse")
-dangling_verdict false = None
+use Rattle.scl_gnu.specs.Verdicts.{verdict}
 
 -- the tests, and the record of what they find
-abbrev pub recorded : CCompilerKind → Bool → List ℕ → Viewed → Summary → Result Parsed Verdict
-recorded compiler plusplus directory view s = do
-  f ← found plusplus s
-  Ok (record_of compiler directory view s f)
+abbrev pub recorded : CCompilerKind → Bool → List ℕ → Viewed → List (Seen Kind) → Result Parsed Verdict
+recorded compiler plusplus directory view os = do
+  f ← found plusplus os
+  Ok (record_of compiler directory view os f)
 
--- what options say, the last of which may lack its value: the first verdict in option order, else that of a lacking value, else the tests and the record
+-- options, the last of which may lack its value, are tested and recorded where they are not refused
 abbrev pub read : CCompilerKind → Bool → List ℕ → Viewed → List (Seen Kind) → Bool → Result Parsed Verdict
 read compiler plusplus directory view os dangles = do
-  s ← gathered view.is_multiarch os
-  unless (dangling_verdict dangles) (recorded compiler plusplus directory view s)
+  options ← judged (verdict view.is_multiarch) argument_parse os dangles
+  recorded compiler plusplus directory view options
 
 abbrev pub read_cut : CCompilerKind → Bool → List ℕ → Viewed → Cutting Kind → Result Parsed Verdict
 read_cut compiler plusplus directory view c = read compiler plusplus directory view (map shown c.options) (is_dangling c.end)

@@ -1,20 +1,26 @@
 -- The record of a compilation.
-use Rattle.std.specs.Prelude.{ℕ, ◌+◌, ◌==◌, Bool, true, false, not, ◌&&◌, List, [], ◌∷◌, ◌++◌, Option, None, Some, map, codes, nat_eq, drop, position, unwrap_or, is_some, if◌then◌else◌}
+use Rattle.std.specs.Prelude.{ℕ, ◌+◌, ◌==◌, Bool, true, false, not, ◌&&◌, List, [], ◌∷◌, ◌++◌, Option, None, Some, map, codes, nat_eq, drop, position, unwrap_or, is_some}
 use Rattle.std.specs.List.{starts_with}
 use Rattle.std.specs.Option.{option_map, option_to_list}
+use Rattle.scl_args.specs.Options.{is_behind_dashes}
+use Rattle.scl_args.specs.Seen.{Seen}
 use Rattle.scl_text.specs.declared.records.CCompilerKind.{CCompilerKind}
 use Rattle.scl_text.specs.declared.records.CCompilerKind.TheVariants as compilers
 use Rattle.scl_text.specs.declared.records.ColorMode.TheVariants as colors
+use Rattle.scl_text.specs.declared.language.Language.{Language}
 use Rattle.scl_text.specs.Languages.{needs_c_preprocessing}
 use Rattle.scl_text.specs.Outputs.{put_output}
 use Rattle.scl_text.specs.Paths.{join, with_extension}
 use Rattle.scl_text.specs.Records.{Artifact, artifact, Parsed}
 use Rattle.scl_text.specs.Views.{Viewed, is_directory}
-use Rattle.scl_gnu.specs.declared.gcc.hashed.HashRole.{HashRole}
-use Rattle.scl_gnu.specs.declared.gcc.hashed.HashRole.TheVariants as roles
+use Rattle.scl_gnu.specs.declared.gcc.hash_files.HashRole.{HashRole}
+use Rattle.scl_gnu.specs.declared.gcc.hash_files.HashRole.TheVariants as roles
 use Rattle.scl_gnu.specs.FixedTests.{Found}
-use Rattle.scl_gnu.specs.Kinds.{Hashed}
-use Rattle.scl_gnu.specs.Summaries.{Summary}
+use Rattle.scl_gnu.specs.declared.gcc.data.Kind.{Kind}
+use Rattle.scl_gnu.specs.declared.gcc.data.Kind.TheVariants as kind
+use Rattle.scl_gnu.specs.declared.gcc.place.Place.TheVariants as places
+use Rattle.scl_gnu.specs.Kinds.{Hashed, hashed, any, last_text, last_flag, is_input, color_mode, external_assembler, too_hard_flag}
+use Rattle.scl_gnu.specs.Places.{words_at}
 
 -- ---- outputs
 
@@ -35,12 +41,12 @@ pub record OutputPaths : Type 0 where
   pub module_path : Option (List ℕ)
   pub object : List ℕ
 
-abbrev pub output_paths : Summary → Found → OutputPaths
-output_paths s f = record {
-  depfile = unless_absent (needs_c_preprocessing f.language) s.lasts.dep_path;
-  diagnostics = s.lasts.diagnostics;
-  dwo = only_if s.marks.split_dwarf (with_extension f.object (codes "dwo"));
-  gcno = only_if s.marks.notes (with_extension f.object (codes "gcno"));
+abbrev pub output_paths : List (Seen Kind) → Found → OutputPaths
+output_paths os f = record {
+  depfile = unless_absent (needs_c_preprocessing f.language) (last_text (kind.DepArgumentPath ∷ []) os);
+  diagnostics = last_text (kind.SerializeDiagnostics ∷ []) os;
+  dwo = only_if (any (kind.SplitDwarf ∷ []) os) (with_extension f.object (codes "dwo"));
+  gcno = only_if (any (kind.Coverage ∷ kind.TestCoverage ∷ []) os) (with_extension f.object (codes "gcno"));
   module_path = f.module_path;
   object = f.object;
 }
@@ -115,26 +121,41 @@ abbrev pub has_extensions : Option (List ℕ) → Bool
 has_extensions None = true
 has_extensions (Some text) = starts_with nat_eq text (codes "gnu")
 
-abbrev pub record_of : CCompilerKind → List ℕ → Viewed → Summary → Found → Parsed
-record_of kind directory view s f = record {
+-- whether includes that were rewritten would change what a pedantic Gcc says
+abbrev pub suppresses_rewritten_includes : CCompilerKind → List (Seen Kind) → Bool
+suppresses_rewritten_includes compiler os = (is_gcc compiler && any (kind.PedanticFlag ∷ []) os) && has_extensions (last_text (kind.Standard ∷ []) os)
+
+-- whether the words about dependencies need a target
+abbrev pub needs_target : Language → List (Seen Kind) → Bool
+needs_target language os = needs_c_preprocessing language && any (kind.NeedDepTarget ∷ []) os
+
+-- the words about dependencies, and those that are added where a target is needed
+abbrev pub dependency_words : List (Seen Kind) → Found → List (List ℕ)
+dependency_words os f =
+    words_at places.Dependency os
+    ++ added_dependency (needs_target f.language os) (is_some (last_text (kind.DepArgumentPath ∷ []) os))
+    (last_flag (kind.DepTarget ∷ []) os) (last_text (kind.DepTarget ∷ []) os) f.object
+
+abbrev pub record_of : CCompilerKind → List ℕ → Viewed → List (Seen Kind) → Found → Parsed
+record_of compiler directory view os f = record {
   input = f.input;
-  double_dash_input = s.inputs.behind_dashes;
+  double_dash_input = is_behind_dashes is_input os;
   language = f.language;
   compilation_flag = f.compile_flag;
   depfile = None;
-  outputs = outputs (output_paths s f);
-  dependency_args = s.lists.dependency ++ added_dependency (needs_c_preprocessing f.language && s.marks.dep_target_needed) (is_some s.lasts.dep_path) s.lasts.dep_flag s.lasts.dep_target f.object;
-  preprocessor_args = s.lists.preprocessor;
-  common_args = s.lists.common ++ added_common s.marks.split_dwarf f.object;
-  arch_args = s.lists.arch;
-  unhashed_args = s.lists.unhashed;
+  outputs = outputs (output_paths os f);
+  dependency_args = dependency_words os f;
+  preprocessor_args = words_at places.Preprocessor os;
+  common_args = words_at places.Common os ++ added_common (any (kind.SplitDwarf ∷ []) os) f.object;
+  arch_args = words_at places.Arch os;
+  unhashed_args = words_at places.Unhashed os;
   extra_dist_files = [];
-  extra_hash_files = map (hash_path directory view) s.hashed;
-  uses_external_assembler = unwrap_or s.lasts.external_assembler (not (is_clang kind));
+  extra_hash_files = map (hash_path directory view) (hashed os);
+  uses_external_assembler = unwrap_or (external_assembler os) (not (is_clang compiler));
   msvc_show_includes = false;
   msvc_explicit_language = false;
-  profile_generate = s.marks.profile;
-  color_mode = unwrap_or s.lasts.color colors.Auto;
-  suppress_rewrite_includes_only = is_gcc kind && (s.marks.pedantic && has_extensions s.lasts.standard);
-  too_hard_for_preprocessor_cache_mode = s.lasts.too_hard;
+  profile_generate = any (kind.Coverage ∷ kind.TestCoverage ∷ kind.ProfileGenerate ∷ []) os;
+  color_mode = unwrap_or (color_mode os) colors.Auto;
+  suppress_rewrite_includes_only = suppresses_rewritten_includes compiler os;
+  too_hard_for_preprocessor_cache_mode = too_hard_flag os;
 }

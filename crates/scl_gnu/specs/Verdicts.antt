@@ -1,34 +1,21 @@
 -- What an option says against caching, after those before it.
-use Rattle.std.specs.Prelude.{ℕ, Bool, true, false, not, ◌==◌, ◌&&◌, List, [], ◌∷◌, Option, None, Some, codes, if◌then◌else◌}
+use Rattle.std.specs.Prelude.{ℕ, Bool, false, not, ◌==◌, ◌&&◌, List, [], ◌∷◌, Option, None, Some, codes, if◌then◌else◌}
 use Rattle.std.specs.Str.{bytes_eq}
-use Rattle.scl_args.specs.declared.argument.ArgDisposition.{ArgDisposition}
-use Rattle.scl_args.specs.declared.argument.ArgDisposition.TheVariants as how
 use Rattle.scl_args.specs.Seen.{Seen, Raw, Unknown, Known}
-use Rattle.scl_args.specs.Options.{or_else}
+use Rattle.scl_args.specs.Options.{names_file, or_else}
 use Rattle.scl_text.specs.declared.language.Language.{Language}
 use Rattle.scl_text.specs.Languages.{language_of_gcc_text}
+use Rattle.scl_text.specs.Reasons.{unexpanded_file}
 use Rattle.scl_text.specs.Records.{Verdict, CannotCache}
 use Rattle.scl_gnu.specs.declared.gcc.data.Kind.{Kind}
 use Rattle.scl_gnu.specs.declared.gcc.data.Kind.TheVariants as kind
 use Rattle.scl_gnu.specs.declared.gcc.place.Place.{Place}
 use Rattle.scl_gnu.specs.declared.gcc.place.Place.TheVariants as places
-use Rattle.scl_gnu.specs.Kinds.{is_arch, last_text}
+use Rattle.scl_gnu.specs.Kinds.{last_text}
 use Rattle.scl_gnu.specs.Places.{place}
 
 abbrev pub refusal : List ℕ → Option Verdict
 refusal reason = Some (CannotCache reason)
-
-abbrev pub begins_with_at : List ℕ → Bool
-begins_with_at [] = false
-begins_with_at (byte ∷ bytes) = byte == 64
-
--- a value that begins with @ names a file that was not expanded, unless it can stand nowhere but in the flag's word
-abbrev pub names_file : List ℕ → Option ArgDisposition → Bool
-names_file value None = false
-names_file value (Some how.Separated) = begins_with_at value
-names_file value (Some (how.CanBeConcatenated d)) = begins_with_at value
-names_file value (Some (how.CanBeSeparated d)) = begins_with_at value
-names_file value (Some (how.Concatenated d)) = false
 
 -- an option whose kind is refused is refused by its flag
 abbrev pub flag_verdict : Place → List ℕ → Option Verdict
@@ -57,12 +44,15 @@ value_verdict multiarch arch kind.Language value = unread_language (language_of_
 value_verdict multiarch arch kind.Arch value = arch_verdict multiarch arch value
 value_verdict multiarch arch _ value = None
 
+-- what a flag with a value of the kind says, after this architecture
+abbrev pub known_verdict : Bool → Option (List ℕ) → List ℕ → Kind → List ℕ → Option Verdict
+known_verdict multiarch arch flag k value = or_else (flag_verdict (place k) flag) (value_verdict multiarch arch k value)
+
 abbrev pub verdict_after : Bool → Option (List ℕ) → Seen Kind → Option Verdict
 verdict_after multiarch arch (Raw w) = None
 verdict_after multiarch arch (Unknown w) = None
-verdict_after multiarch arch (Known f k v how) =
-    if names_file v how then refusal (codes "@") else or_else (flag_verdict (place k) f) (value_verdict multiarch arch k v)
+verdict_after multiarch arch (Known f k v how) = known_verdict multiarch arch f k v
 
--- what an option says after others, of which the last architecture counts
+-- what an option says after others, of which the last architecture counts: a value that names a file is refused first
 abbrev pub verdict : Bool → List (Seen Kind) → Seen Kind → Option Verdict
-verdict multiarch before o = verdict_after multiarch (last_text is_arch before) o
+verdict multiarch before o = if names_file o then Some unexpanded_file else verdict_after multiarch (last_text (kind.Arch ∷ []) before) o

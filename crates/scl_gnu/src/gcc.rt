@@ -1,24 +1,20 @@
 //! The command lines of Gcc.
 
-mod added;
+mod added_words;
 mod args;
 mod command;
 mod compiler;
 mod data;
-mod finish;
+mod fixed_tests;
+mod hash_files;
 mod hash_paths;
-mod hashed;
 mod inputs;
 mod judge;
-mod lasts;
-mod lists;
-mod marks;
 mod outputs;
 mod parse;
-mod pass;
 mod place;
-mod reason;
 mod record;
+mod switches;
 
 pub use args::{ARCH_FLAG, ARGS, table};
 pub use command::{generate_compile_commands, language_to_gcc_arg};

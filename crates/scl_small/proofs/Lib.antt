@@ -1,4 +1,0 @@
-pub mod GatherLemmas
-pub mod PlaceLemmas
-pub mod RecordLemmas
-pub mod SummaryLemmas

@@ -1,7 +1,6 @@
 -- The compile command of Diab and TaskingVX.
 use Rattle.std.specs.Prelude.{ℕ, List, [], ◌∷◌, ◌++◌, Option, codes}
-use Rattle.std.specs.Option.{option_map}
-use Rattle.scl_text.specs.Outputs.{path_at}
+use Rattle.scl_text.specs.Commands.{command_by}
 use Rattle.scl_text.specs.Records.{Parsed}
 
 -- the words of a record with this object file
@@ -10,4 +9,4 @@ command_words p object = (p.compilation_flag ∷ p.input ∷ codes "-o" ∷ obje
 
 -- the words of a record, none where it has no object file
 abbrev pub command : Parsed → Option (List (List ℕ))
-command p = option_map (command_words p) (path_at p.outputs (codes "obj"))
+command p = command_by command_words p

@@ -1,16 +1,16 @@
 -- What a command line says to Diab.
-use Rattle.std.specs.Prelude.{ℕ, Bool, false, ◌==◌, List, [], ◌∷◌, Option, None, Some, Result, codes, if◌then◌else◌}
-use Rattle.scl_args.specs.declared.argument.ArgDisposition.TheVariants as how
+use Rattle.std.specs.Prelude.{ℕ, false, List, Option, Some, Result, if◌then◌else◌}
 use Rattle.scl_args.specs.Row.{Row}
 use Rattle.scl_args.specs.Cuts.{cut}
-use Rattle.scl_args.specs.Seen.{Seen, Raw, Unknown, Known}
-use Rattle.scl_args.specs.Options.{wanted, ◌>>=◌}
-use Rattle.scl_text.specs.Records.{Parsed, Verdict, CannotCache, NotCompilation}
+use Rattle.scl_args.specs.Seen.{Seen}
+use Rattle.scl_args.specs.Options.{names_file, wanted, ◌>>=◌}
+use Rattle.scl_text.specs.Reasons.{unexpanded_file}
+use Rattle.scl_text.specs.Records.{Parsed, Verdict, NotCompilation}
 use Rattle.scl_text.specs.Expand.{expand}
 use Rattle.scl_text.specs.Views.{File}
 use Rattle.scl_text.specs.declared.expand.ExpansionKind.TheVariants as expansions
 use Rattle.scl_small.specs.Places.{refused_at}
-use Rattle.scl_small.specs.Readings.{Summary, recorded, reads}
+use Rattle.scl_small.specs.Readings.{last_flag_at, recorded, reads}
 use Rattle.scl_small.specs.declared.place.Place.{Place}
 use Rattle.scl_small.specs.declared.place.Place.TheVariants as places
 use Rattle.scl_small.specs.declared.diab.args.Kind.{Kind}
@@ -29,33 +29,19 @@ place kinds.DepArgumentFlag = places.Dependency
 place kinds.DepArgument = places.Dependency
 place kinds.DepArgumentPath = places.Dependency
 
-abbrev pub begins_with_at : List ℕ → Bool
-begins_with_at [] = false
-begins_with_at (byte ∷ bytes) = byte == 64
-
--- a value that begins with @, unless its row's shape is joined
-abbrev pub names_a_file : Seen Kind → Bool
-names_a_file (Raw w) = false
-names_a_file (Unknown w) = false
-names_a_file (Known f k v None) = false
-names_a_file (Known f k v (Some (how.Concatenated d))) = false
-names_a_file (Known f k v (Some how.Separated)) = begins_with_at v
-names_a_file (Known f k v (Some (how.CanBeConcatenated d))) = begins_with_at v
-names_a_file (Known f k v (Some (how.CanBeSeparated d))) = begins_with_at v
-
 -- what one option says: a value that names a file is refused, then the kinds that are too hard
 abbrev pub verdict : Seen Kind → Option Verdict
-verdict o = if names_a_file o then Some (CannotCache (codes "@")) else refused_at place o
+verdict o = if names_file o then Some unexpanded_file else refused_at place o
 
 -- the fixed tests, and the record
-abbrev pub tested : Summary → Result Parsed Verdict
-tested s = do
-  flag ← wanted s.compilation_flag NotCompilation
-  recorded s flag
+abbrev pub tested : List (Seen Kind) → Result Parsed Verdict
+tested os = do
+  flag ← wanted (last_flag_at place places.CompileFlag os) NotCompilation
+  recorded place os flag
 
 -- what the words say, where `own` gives a word's owner
 abbrev pub reading : (List ℕ → Option (Row Kind)) → List (List ℕ) → Result Parsed Verdict
-reading own words = reads place verdict tested (cut own false words)
+reading own words = reads verdict tested (cut own false words)
 
 -- the same of words whose response files, from the directory, are put in place
 abbrev pub expanded_reading : (List ℕ → Option (Row Kind)) → List ℕ → List File → List (List ℕ) → Result Parsed Verdict

@@ -2,10 +2,8 @@ pub mod Command
 pub mod DiabReading
 pub mod DiabTable
 pub mod DiabValues
-pub mod Gathers
 pub mod Places
 pub mod Readings
 pub mod TaskingReading
 pub mod TaskingTable
 pub mod TaskingValues
-pub mod Values

@@ -4,11 +4,9 @@
 mod command;
 pub mod diab;
 mod finish;
-mod pass;
 mod place;
 mod reading;
 mod rules;
 pub mod tasking_vx;
 #[cfg(test)]
 mod tests;
-mod values;

@@ -1,12 +1,11 @@
 ghost use Rattle.std.specs.Prelude.{◌≡◌};
 ghost use Rattle.std.specs.Option.{option_map};
 ghost use Rattle.scl_args.specs.Seen.{seen};
-ghost use Rattle.scl_args.specs.Options.{text_of};
 ghost use Rattle.scl_text.specs.Refusals.{verdict_of};
 ghost use Rattle.scl_small.specs.Places.{place_of, refused_at};
 ghost use Rattle.scl_small.specs.declared.place.Place.{Place};
 
-use scl_args::{Argument, ExactArg};
+use scl_args::{Argument, ExactArg, ReadArg, Test};
 use scl_text::refusal::Refusal;
 
 /// Where an option goes, or how it ends the reading (docs/RULES.md, Diab and TaskingVX).
@@ -33,47 +32,48 @@ pub(crate) enum Place {
 }
 
 /// The values of a compiler's options, and where each option goes.
-pub(crate) trait Placed: ExactArg {
+pub(crate) trait Placed: ExactArg + ReadArg {
     ghost place: { Self.Kind → Place };
 
-    fn place(&self) -> Place
-        ensures { result ≡ place (Self.kind_of self.now) };
-
-    fn word(&self) -> &[u8]
-        ensures { result.now ≡ Self.word_of self.now };
+    /// Where the options of the kind go.
+    fn place(kind: Self::Kind) -> Place
+        ensures { result ≡ place kind };
 }
 
 /// Where an option goes.
-pub(crate) fn place_of<T: Placed>(option: &Argument<T>) -> Place
+fn place_of<T: Placed>(option: &Argument<T>) -> Place
     ensures { result ≡ place_of T.place (seen T.kind_of T.word_of option.now) }
 {
     match option {
         Argument::Raw(_) => Place::Input,
         Argument::UnknownFlag(_) => Place::Common,
-        Argument::Flag(_, data) | Argument::WithValue(_, data, _) => data.place(),
+        Argument::Flag(_, value) | Argument::WithValue(_, value, _) => T::place(value.kind()),
     }
 }
 
-/// The word of an option that has no flag, else the value's.
-pub(crate) fn text_of<T: Placed>(option: &Argument<T>) -> &[u8]
-    ensures { result.now ≡ text_of (seen T.kind_of T.word_of option.now) }
-{
-    match option {
-        Argument::Raw(word) | Argument::UnknownFlag(word) => word,
-        Argument::Flag(_, data) | Argument::WithValue(_, data, _) => data.word(),
+impl<T: Placed> Test<T> for Place {
+    ghost use Rattle.scl_small.specs.Places.{goes_to};
+
+    ghost passes = { goes_to T.place };
+
+    fn passes(&self, option: &Argument<T>) -> bool {
+        place_of(option) == *self
     }
 }
 
 /// The refusal that an option's place is.
-#[tactic(auto, using(crate::proofs::PlaceLemmas::flag_of_too_hard))]
 pub(crate) fn refused_by_place<T: Placed>(option: &Argument<T>) -> Option<Refusal>
     ensures { option_map verdict_of result ≡ refused_at T.place (seen T.kind_of T.word_of option.now) }
 {
     match place_of(option) {
-        Place::TooHard => option
-            .flag_str()
-            .map(|flag| Refusal::CannotCache(flag, None)),
+        Place::TooHard => Some(Refusal::CannotCache(option.flag(), None)),
         Place::NotCompilation => Some(Refusal::NotCompilation),
-        _ => None,
+        Place::Input
+        | Place::CompileFlag
+        | Place::Output
+        | Place::DepFile
+        | Place::Common
+        | Place::Preprocessor
+        | Place::Dependency => None,
     }
 }

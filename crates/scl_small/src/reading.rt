@@ -5,12 +5,10 @@ ghost use Rattle.scl_args.specs.Words.{words_of};
 ghost use Rattle.scl_text.specs.Records.{outcome_of};
 ghost use Rattle.scl_small.specs.Readings.{reads};
 
-use crate::pass::gather;
-use crate::rules::Rules;
-use scl_args::{ArgParseError, CutWords, SearchableArgInfo, cut_options};
+use crate::rules::{ByRules, Rules};
+use scl_args::{SearchableArgInfo, cut_options, judge_all};
 use scl_text::Mem;
 use scl_text::records::{CompilerArguments, ParsedArguments};
-use scl_text::refusal::argument_parse;
 use std::alloc::Global;
 
 /// What the words say, cut by the tables.
@@ -20,18 +18,11 @@ pub(crate) fn read<T: Rules, S: SearchableArgInfo<T> + Drop>(
     arg_info: S,
 ) -> Mem<CompilerArguments<ParsedArguments>>
     requires { IsTrue (tables_hold_values T.holds_value (S.tables arg_info)) }
-    ensures { IfOk result (λ answer. outcome_of answer ≡ reads T.place T.verdict T.tested (cut (owner_in (S.tables arg_info)) false (words_of words.items))) }
+    ensures { IfOk result (λ answer. outcome_of answer ≡ reads T.verdict T.tested (cut (owner_in (S.tables arg_info)) false (words_of words.items))) }
 {
-    let CutWords {
-        options,
-        is_dangling,
-    } = cut_options(alloc, words, arg_info, false)?;
-    let gathered = match gather(alloc, options)? {
-        Ok(gathered) => gathered,
-        Err(refusal) => return Ok(refusal.into_answer()),
-    };
-    if is_dangling {
-        return Ok(argument_parse(alloc, &ArgParseError::UnexpectedEndOfArgs)?.into_answer());
+    let cut = cut_options(alloc, words, arg_info, false)?;
+    match judge_all(alloc, &ByRules, cut)? {
+        Ok(options) => T::test(alloc, &options),
+        Err(refusal) => Ok(refusal.into_answer()),
     }
-    T::test(alloc, gathered)
 }

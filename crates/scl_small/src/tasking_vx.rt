@@ -1,7 +1,7 @@
 //! TaskingVX.
 ghost use Rattle.std.specs.Prelude.{◌≡◌, ◌↔◌, Err, IfOk, IsTrue, None};
 ghost use Rattle.scl_args.specs.Tables.{owner_in, tables_hold_values};
-ghost use Rattle.scl_text.specs.Commands.{pairs_of};
+ghost use Rattle.scl_text.specs.Commands.{pairs_of, object_of};
 ghost use Rattle.scl_text.specs.Compilers.{IsAnswer};
 ghost use Rattle.scl_text.specs.Words.{words_of};
 ghost use Rattle.scl_text.specs.Records.{outcome_of, parsed_of};
@@ -13,12 +13,12 @@ mod args;
 mod compiler;
 mod rules;
 
-use crate::command::compile_command;
+use crate::command::Command;
 use crate::reading::read;
 pub use args::{ARGS, ArgData, Kind, table};
 pub use compiler::TaskingVX;
 use scl_args::SearchableArgInfo;
-use scl_text::command::push_words;
+use scl_text::command::{compile_command, push_words};
 use scl_text::records::{
     Cacheable, CommandError, CompilerArguments, ParsedArguments, SingleCompileCommand,
 };
@@ -53,7 +53,15 @@ pub fn generate_compile_commands(
     _view: &View,
 ) -> Result<(SingleCompileCommand, Cacheable), CommandError>
     ensures command { IfOk result (λ built. IsAnswer built.0 built.1 (command (parsed_of parsed.now)) executable.now (pairs_of env_vars.now) cwd.now Cacheable.Yes) }
-    ensures missing { (result ≡ Err CommandError.MissingObj) ↔ (command (parsed_of parsed.now) ≡ None) }
+    ensures missing { (result ≡ Err CommandError.MissingObj) ↔ (object_of (parsed_of parsed.now) ≡ None) }
 {
-    compile_command(alloc, executable, parsed, cwd, env_vars)
+    compile_command(
+        alloc,
+        &Command,
+        executable,
+        parsed,
+        cwd,
+        env_vars,
+        Cacheable::Yes,
+    )
 }

@@ -1,6 +1,9 @@
 -- What a builder makes: a command, word by word.
-use Rattle.std.specs.Prelude.{ℕ, ◌≡◌, List, map, Vec, false}
+use Rattle.std.specs.Prelude.{ℕ, ◌≡◌, List, map, Option, Vec, codes, false}
+use Rattle.std.specs.Option.{option_map}
 use Rattle.std.specs.declared.alloc.Global.{Global}
+use Rattle.scl_text.specs.Outputs.{path_at}
+use Rattle.scl_text.specs.Records.{Parsed}
 use Rattle.scl_text.specs.Words.{words_of}
 use Rattle.scl_text.specs.declared.records.SingleCompileCommand.{SingleCompileCommand}
 
@@ -15,3 +18,11 @@ pub record Builds (command : SingleCompileCommand) (executable : List ℕ) (word
   pub env_vars_are : pairs_of command.env_vars.items ≡ env_vars
   pub cwd_is : command.cwd.items ≡ cwd
   pub is_alone : command.share_jobserver ≡ false
+
+-- the object file of a record, if it has one
+abbrev pub object_of : Parsed → Option (List ℕ)
+object_of p = path_at p.outputs (codes "obj")
+
+-- the words of a record's command, where it has an object file, from its words for that file
+abbrev pub command_by : (Parsed → List ℕ → List (List ℕ)) → Parsed → Option (List (List ℕ))
+command_by words p = option_map (words p) (object_of p)

@@ -15,6 +15,7 @@ pub mod Outputs
 pub mod PathEntries
 pub mod PathMaps
 pub mod Paths
+pub mod Reasons
 pub mod Records
 pub mod Refusals
 pub mod Remaining

@@ -1,10 +1,13 @@
 //! What every builder of a command uses: words put behind words, copies, and the command of its parts.
-ghost use Rattle.std.specs.Prelude.{◌≡◌, ◌++◌, ◌∷◌, [], OnOk, OnErr, IfOk};
+ghost use Rattle.std.specs.Prelude.{◌≡◌, ◌↔◌, ◌++◌, ◌∷◌, [], OnOk, OnErr, IfOk, Err, None};
 ghost use Rattle.scl_text.specs.Words.{words_of};
-ghost use Rattle.scl_text.specs.Commands.{Builds, pairs_of};
+ghost use Rattle.scl_text.specs.Commands.{Builds, pairs_of, object_of, command_by};
+ghost use Rattle.scl_text.specs.Compilers.{IsAnswer};
+ghost use Rattle.scl_text.specs.Records.{parsed_of};
 
 use crate::memory::Mem;
-use crate::records::SingleCompileCommand;
+use crate::outputs::output_path;
+use crate::records::{Cacheable, CommandError, ParsedArguments, SingleCompileCommand};
 use std::alloc::Global;
 
 /// Puts a copy of a word behind those of a list, which stays as it was where memory is refused.
@@ -56,4 +59,39 @@ pub fn single_command(
         cwd: Vec::from_slice(alloc, cwd)?,
         share_jobserver: false,
     })
+}
+
+/// What gives the words of a record's compile command.
+pub trait CommandWords {
+    ghost use Rattle.std.specs.Prelude.{ℕ, List};
+    ghost use Rattle.scl_text.specs.Records.{Parsed};
+
+    ghost words: { Self → Parsed → List ℕ → List (List ℕ) };
+
+    /// The words that make this object file.
+    fn words(&self, alloc: Global, parsed: &ParsedArguments, object: &[u8]) -> Mem<Vec<Vec<u8>>>
+        ensures { IfOk result (λ made. words_of made.items ≡ words self.now (parsed_of parsed.now) object.now) };
+}
+
+/// The compile command of a record, and whether its outcome may be kept; `MissingObj` exactly where the record has no
+/// output `obj`.
+pub fn compile_command<W: CommandWords>(
+    alloc: Global,
+    words: &W,
+    executable: &[u8],
+    parsed: &ParsedArguments,
+    cwd: &[u8],
+    env_vars: &[(Vec<u8>, Vec<u8>)],
+    cacheable: Cacheable,
+) -> Result<(SingleCompileCommand, Cacheable), CommandError>
+    ensures command { IfOk result (λ built. IsAnswer built.0 built.1 (command_by (W.words words.now) (parsed_of parsed.now)) executable.now (pairs_of env_vars.now) cwd.now cacheable) }
+    ensures missing { (result ≡ Err CommandError.MissingObj) ↔ (object_of (parsed_of parsed.now) ≡ None) }
+{
+    let Some(object) = output_path(&parsed.outputs, "obj") else {
+        return Err(CommandError::MissingObj);
+    };
+    let arguments = words.words(alloc, parsed, object)?;
+    let env_vars = copied_pairs(alloc, env_vars)?;
+    let command = single_command(alloc, executable, arguments, env_vars, cwd)?;
+    Ok((command, cacheable))
 }

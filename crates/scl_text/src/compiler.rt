@@ -17,7 +17,7 @@ pub trait CCompilerImpl {
     ghost use Rattle.std.specs.String.{string_bytes};
     ghost use Rattle.scl_text.specs.Words.{words_of};
     ghost use Rattle.scl_text.specs.Views.{Viewed};
-    ghost use Rattle.scl_text.specs.Commands.{pairs_of};
+    ghost use Rattle.scl_text.specs.Commands.{pairs_of, object_of};
     ghost use Rattle.scl_text.specs.Compilers.{IsAnswer};
     ghost use Rattle.scl_text.specs.Records.{Parsed, Verdict, parsed_of, outcome_of};
     ghost use Rattle.scl_text.specs.declared.records.CCompilerKind.{CCompilerKind};
@@ -75,7 +75,7 @@ pub trait CCompilerImpl {
         view: &View,
     ) -> Result<(SingleCompileCommand, Cacheable), CommandError>
         ensures command { IfOk result (λ answer. IsAnswer answer.0 answer.1 (command self.now (parsed_of parsed.now)) executable.now (environment self.now (pairs_of env_vars.now)) cwd.now (cacheable self.now (parsed_of parsed.now) cwd.now view.now)) }
-        ensures missing { (result ≡ Err CommandError.MissingObj) ↔ (command self.now (parsed_of parsed.now) ≡ None) };
+        ensures missing { (result ≡ Err CommandError.MissingObj) ↔ (object_of (parsed_of parsed.now) ≡ None) };
 
     /// A copy of the assembler's digest, if it is known (docs/RULES.md, Compilers).
     fn assembler_digest(&self, alloc: Global) -> Mem<Option<String>>

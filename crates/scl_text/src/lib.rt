@@ -12,6 +12,8 @@ pub mod memory;
 mod msvc_text;
 pub mod outputs;
 pub mod path;
+mod quoting;
+pub mod reasons;
 pub mod records;
 pub mod refusal;
 pub mod view;
@@ -33,4 +35,5 @@ pub use msvc_text::{
     SplitMsvcResponseFileArgs, msvc_quoted_words_are_read_back, msvc_words,
     only_quotes_give_empty_msvc_arguments,
 };
+pub use quoting::{quoted, quoted_list};
 pub use view::View;

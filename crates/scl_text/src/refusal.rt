@@ -1,10 +1,13 @@
 //! Why a command line is refused.
-ghost use Rattle.std.specs.Prelude.{◌≡◌, Err, IfOk, MatchResult, Ok, codes};
-ghost use Rattle.scl_text.specs.Records.{outcome_of, CannotCache};
+ghost use Rattle.std.specs.Prelude.{◌≡◌, Err, IfOk, MatchResult, Ok};
+ghost use Rattle.scl_text.specs.Reasons.{argument_parse};
+ghost use Rattle.scl_text.specs.Records.{outcome_of};
 ghost use Rattle.scl_text.specs.Refusals.{verdict_of, the_input};
 ghost use Rattle.scl_text.specs.Words.{words_of};
 
 use crate::memory::Mem;
+use crate::quoting::quoted_list;
+use crate::reasons::{ARGUMENT_PARSE, MULTIPLE_INPUT_FILES, NO_INPUT_FILE};
 use crate::records::{CompilerArguments, ParsedArguments};
 use std::alloc::Global;
 use std::fmt::Display;
@@ -31,23 +34,42 @@ impl Refusal {
     }
 }
 
-/// The refusal of words that can't be cut, with the error's text beside the reason (docs/RULES.md, Readings).
-pub fn argument_parse<E: Display>(alloc: Global, error: &E) -> Mem<Refusal>
-    ensures { IfOk result (λ refusal. verdict_of refusal ≡ CannotCache (codes "argument parse")) }
-{
-    let text = format!(in alloc; "{error}")?;
-    Ok(Refusal::CannotCache("argument parse", Some(text)))
+impl Refusal {
+    /// The refusal, without a text beside its reason.
+    pub fn without_text(self) -> Refusal
+        ensures { verdict_of result ≡ verdict_of self }
+    {
+        match self {
+            Refusal::CannotCache(reason, text) => {
+                drop(text);
+                Refusal::CannotCache(reason, None)
+            }
+            Refusal::NotCompilation => Refusal::NotCompilation,
+        }
+    }
 }
 
-/// The one input; refused where there is none, and where there are several (docs/RULES.md, Readings).
-pub fn one_input(inputs: Vec<Vec<u8>>) -> Result<Vec<u8>, Refusal>
-    ensures { MatchResult result (λ input. the_input (words_of inputs.items) ≡ Ok input.items) (λ refusal. the_input (words_of inputs.items) ≡ Err (verdict_of refusal)) }
+/// The refusal of words that can't be cut, with the error's text beside the reason (docs/RULES.md, Readings).
+pub fn argument_parse<E: Display>(alloc: Global, error: &E) -> Mem<Refusal>
+    ensures { IfOk result (λ refusal. verdict_of refusal ≡ argument_parse) }
+{
+    let text = format!(in alloc; "{error}")?;
+    Ok(Refusal::CannotCache(ARGUMENT_PARSE, Some(text)))
+}
+
+/// The one input; refused where there is none, and where there are several, with the later ones beside the reason
+/// (docs/RULES.md, Readings). The error is the refusal of memory.
+pub fn one_input(alloc: Global, inputs: Vec<Vec<u8>>) -> Mem<Result<Vec<u8>, Refusal>>
+    ensures { IfOk result (λ tested. MatchResult tested (λ input. the_input (words_of inputs.items) ≡ Ok input.items) (λ refusal. the_input (words_of inputs.items) ≡ Err (verdict_of refusal))) }
 {
     let mut inputs = inputs;
-    if inputs.len() > 1 {
-        return Err(Refusal::CannotCache("multiple input files", None));
+    if let [_, _, ..] = inputs.as_slice() {
+        let text = quoted_list(alloc, &inputs[1..])?;
+        return Ok(Err(Refusal::CannotCache(MULTIPLE_INPUT_FILES, Some(text))));
     }
-    inputs
-        .pop()
-        .ok_or(Refusal::CannotCache("no input file", None))
+    Ok(
+        inputs
+            .pop()
+            .ok_or(Refusal::CannotCache(NO_INPUT_FILE, None)),
+    )
 }

@@ -1,18 +1,16 @@
 //! The builder of Gcc's compile commands.
-ghost use Rattle.std.specs.Prelude.{◌≡◌, ◌++◌, ◌↔◌, IfOk, OnOk, Err, None, codes};
+ghost use Rattle.std.specs.Prelude.{◌≡◌, ◌++◌, ◌↔◌, IfOk, OnOk, Err, None};
 ghost use Rattle.std.specs.Option.{option_copied, option_map};
-ghost use Rattle.scl_text.specs.Commands.{pairs_of};
+ghost use Rattle.scl_text.specs.Commands.{pairs_of, object_of};
 ghost use Rattle.scl_text.specs.Compilers.{IsAnswer};
 ghost use Rattle.scl_text.specs.Languages.{gcc_text};
-ghost use Rattle.scl_text.specs.Outputs.{path_at};
 ghost use Rattle.scl_text.specs.Records.{parsed_of};
 ghost use Rattle.scl_text.specs.Words.{words_of};
-ghost use Rattle.scl_gnu.specs.Building.{front_words, list_words, color_words, dash_words, back_words, command_words, command};
+ghost use Rattle.scl_gnu.specs.Building.{front_words, list_words, color_words, dash_words, back_words, command};
 
 use scl_args::Mem;
-use scl_text::command::{copied_pairs, push_word, push_words, single_command};
+use scl_text::command::{CommandWords, compile_command, push_word, push_words};
 use scl_text::language::Language;
-use scl_text::outputs::output_path;
 use scl_text::records::{
     CCompilerKind, Cacheable, ColorMode, CommandError, ParsedArguments, SingleCompileCommand,
 };
@@ -84,39 +82,22 @@ fn push_back_words(alloc: Global, words: &mut Vec<Vec<u8>>, parsed: &ParsedArgum
     push_word(alloc, words, &parsed.input)
 }
 
-fn command_words(
-    alloc: Global,
-    text: Option<&str>,
-    object: &[u8],
-    parsed: &ParsedArguments,
-) -> Mem<Vec<Vec<u8>>>
-    ensures { IfOk result (λ words. words_of words.items ≡ command_words (option_copied text.entry) object.now (parsed_of parsed.now)) }
-{
-    let mut words = front_words(alloc, text, object, parsed)?;
-    push_lists(alloc, &mut words, parsed)?;
-    push_back_words(alloc, &mut words, parsed)?;
-    Ok(words)
-}
+/// The compile command with this text for the language.
+#[derive(Clone, Copy, Debug)]
+struct Command<'a>(Option<&'a str>);
 
-/// The command with a text for the language, if there is one.
-fn command_with(
-    alloc: Global,
-    executable: &[u8],
-    parsed: &ParsedArguments,
-    cwd: &[u8],
-    env_vars: &[(Vec<u8>, Vec<u8>)],
-    text: Option<&str>,
-) -> Result<(SingleCompileCommand, Cacheable), CommandError>
-    ensures command { IfOk result (λ built. IsAnswer built.0 built.1 (command (option_copied text.entry) (parsed_of parsed.now)) executable.now (pairs_of env_vars.now) cwd.now Cacheable.Yes) }
-    ensures missing { (result ≡ Err CommandError.MissingObj) ↔ (path_at (parsed_of parsed.now).outputs (codes "obj") ≡ None) }
-{
-    let Some(object) = output_path(&parsed.outputs, "obj") else {
-        return Err(CommandError::MissingObj);
-    };
-    let arguments = command_words(alloc, text, object, parsed)?;
-    let env_vars = copied_pairs(alloc, env_vars)?;
-    let command = single_command(alloc, executable, arguments, env_vars, cwd)?;
-    Ok((command, Cacheable::Yes))
+impl<'a> CommandWords for Command<'a> {
+    ghost use Rattle.std.specs.Option.{option_copied};
+    ghost use Rattle.scl_gnu.specs.Building.{command_words};
+
+    ghost words = { λ command. command_words (option_copied command.0) };
+
+    fn words(&self, alloc: Global, parsed: &ParsedArguments, object: &[u8]) -> Mem<Vec<Vec<u8>>> {
+        let mut words = front_words(alloc, self.0, object, parsed)?;
+        push_lists(alloc, &mut words, parsed)?;
+        push_back_words(alloc, &mut words, parsed)?;
+        Ok(words)
+    }
 }
 
 /// The compile command of a record, whose language word is what the closure answers; it may always be kept in the
@@ -135,9 +116,17 @@ pub fn generate_compile_commands<T: AsStr + Drop, F: Fn(Language) -> Option<T>>(
     requires { F.IsAlwaysCallable language_to_arg }
     ensures command { IfOk result (λ built. (text : _) × F.post language_to_arg parsed.now.language text
         × IsAnswer built.0 built.1 (command (option_map T.text text) (parsed_of parsed.now)) executable.now (pairs_of env_vars.now) cwd.now Cacheable.Yes) }
-    ensures missing { (result ≡ Err CommandError.MissingObj) ↔ (path_at (parsed_of parsed.now).outputs (codes "obj") ≡ None) }
+    ensures missing { (result ≡ Err CommandError.MissingObj) ↔ (object_of (parsed_of parsed.now) ≡ None) }
 {
     let text = language_to_arg(parsed.language);
-    let text = text.as_ref().map(|text| text.as_str());
-    command_with(alloc, executable, parsed, cwd, env_vars, text)
+    let command = Command(text.as_ref().map(|text| text.as_str()));
+    compile_command(
+        alloc,
+        &command,
+        executable,
+        parsed,
+        cwd,
+        env_vars,
+        Cacheable::Yes,
+    )
 }

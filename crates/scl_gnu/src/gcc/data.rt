@@ -1,10 +1,7 @@
 //! The kinds of options, and their values.
-ghost use Rattle.std.specs.Prelude.{◌≡◌};
-ghost use Rattle.scl_gnu.specs.Data.{kind_of, word_of, MakesFlag};
-
 use scl_args::{
-    ArgParseError, ArgParseResult, ArgToStringResult, ArgumentValue, ExactArg, IntoArg, Mem,
-    PathArg,
+    ArgParseResult, ArgToStringResult, ArgumentValue, ExactArg, Held, IntoArg, Mem, PathArg,
+    ReadArg, without_value,
 };
 use std::alloc::Global;
 
@@ -88,11 +85,8 @@ pub enum ArgData {
     NoIntegratedAs,
 }
 
-impl ArgData {
-    /// The kind of the option.
-    pub fn kind(&self) -> Kind
-        ensures { result ≡ kind_of self.now }
-    {
+impl ReadArg for ArgData {
+    fn kind(&self) -> Kind {
         match self {
             ArgData::TooHardFlag => Kind::TooHardFlag,
             ArgData::TooHard(_) => Kind::TooHard,
@@ -132,10 +126,7 @@ impl ArgData {
         }
     }
 
-    /// The bytes of the value, none where the option takes no value.
-    pub fn word(&self) -> &[u8]
-        ensures { result.now ≡ word_of self.now }
-    {
+    fn held(&self) -> Held<'_> {
         match self {
             ArgData::TooHardFlag
             | ArgData::DiagnosticsColorFlag
@@ -152,14 +143,7 @@ impl ArgData {
             | ArgData::PedanticFlag
             | ArgData::ModuleOnlyFlag
             | ArgData::IntegratedAs
-            | ArgData::NoIntegratedAs => &[],
-            ArgData::DepArgumentPath(PathArg(word))
-            | ArgData::ExtraHashFile(PathArg(word))
-            | ArgData::Output(PathArg(word))
-            | ArgData::PassThroughPath(PathArg(word))
-            | ArgData::PreprocessorArgumentPath(PathArg(word))
-            | ArgData::ClangProfileUse(PathArg(word))
-            | ArgData::SerializeDiagnostics(PathArg(word)) => word,
+            | ArgData::NoIntegratedAs => Held::Nothing,
             ArgData::TooHard(word)
             | ArgData::DiagnosticsColor(word)
             | ArgData::Arch(word)
@@ -171,7 +155,14 @@ impl ArgData {
             | ArgData::Unhashed(word)
             | ArgData::Standard(word)
             | ArgData::XClang(word)
-            | ArgData::ClangModuleOutput(word) => word,
+            | ArgData::ClangModuleOutput(word) => Held::Word(word),
+            ArgData::DepArgumentPath(path)
+            | ArgData::ExtraHashFile(path)
+            | ArgData::Output(path)
+            | ArgData::PassThroughPath(path)
+            | ArgData::PreprocessorArgumentPath(path)
+            | ArgData::ClangProfileUse(path)
+            | ArgData::SerializeDiagnostics(path) => Held::Path(&path.0),
         }
     }
 }
@@ -184,7 +175,7 @@ impl IntoArg for ArgData {
     ghost is_path = { is_path };
 
     fn into_arg_os_string(&self, alloc: Global) -> Mem<Vec<u8>> {
-        Vec::from_slice(alloc, self.word())
+        Vec::from_slice(alloc, self.held().word())
     }
 
     fn into_arg_string<F: FnMut(&[u8]) -> Option<String>>(
@@ -192,113 +183,71 @@ impl IntoArg for ArgData {
         alloc: Global,
         f: &mut F,
     ) -> ArgToStringResult {
-        match self {
-            ArgData::TooHardFlag
-            | ArgData::DiagnosticsColorFlag
-            | ArgData::NoDiagnosticsColorFlag
-            | ArgData::Coverage
-            | ArgData::TestCoverage
-            | ArgData::NeedDepTarget
-            | ArgData::DoCompilation
-            | ArgData::SplitDwarf
-            | ArgData::PassThroughFlag
-            | ArgData::PreprocessorArgumentFlag
-            | ArgData::ProfileGenerate
-            | ArgData::UnhashedFlag
-            | ArgData::PedanticFlag
-            | ArgData::ModuleOnlyFlag
-            | ArgData::IntegratedAs
-            | ArgData::NoIntegratedAs => ().into_arg_string(alloc, f),
-            ArgData::DepArgumentPath(path)
-            | ArgData::ExtraHashFile(path)
-            | ArgData::Output(path)
-            | ArgData::PassThroughPath(path)
-            | ArgData::PreprocessorArgumentPath(path)
-            | ArgData::ClangProfileUse(path)
-            | ArgData::SerializeDiagnostics(path) => path.into_arg_string(alloc, f),
-            ArgData::TooHard(word)
-            | ArgData::DiagnosticsColor(word)
-            | ArgData::Arch(word)
-            | ArgData::DepTarget(word)
-            | ArgData::ExtraHashFileClangModuleFile(word)
-            | ArgData::Language(word)
-            | ArgData::PassThrough(word)
-            | ArgData::PreprocessorArgument(word)
-            | ArgData::Unhashed(word)
-            | ArgData::Standard(word)
-            | ArgData::XClang(word)
-            | ArgData::ClangModuleOutput(word) => word.into_arg_string(alloc, f),
-        }
-    }
-}
-
-fn flag(value: ArgData, word: Vec<u8>) -> ArgParseResult<ArgData>
-    ensures { MakesFlag value word.items result }
-{
-    if word.is_empty() {
-        Ok(value)
-    } else {
-        Err(ArgParseError::Other("flag takes no value"))
+        self.held().text(alloc, f)
     }
 }
 
 impl ArgumentValue for ArgData {
-    ghost use Rattle.scl_gnu.specs.Data.{MakeGives, holds_value, kind_of};
+    ghost use Rattle.scl_args.specs.Values.{MakesOf};
+    ghost use Rattle.scl_gnu.specs.Data.{holds_value, kind_of, word_of};
 
     type Kind = Kind;
 
-    ghost make_gives = { MakeGives };
+    ghost make_gives = { MakesOf kind_of word_of holds_value };
 
     ghost holds_value = { holds_value };
 
     ghost kind_of = { kind_of };
 
-    fn make(alloc: Global, kind: Kind, word: Vec<u8>) -> ArgParseResult<ArgData> {
-        let _alloc = alloc;
+    fn make(_alloc: Global, kind: Kind, word: Vec<u8>) -> ArgParseResult<ArgData> {
         match kind {
-            Kind::TooHardFlag => flag(ArgData::TooHardFlag, word),
+            Kind::TooHardFlag => without_value(ArgData::TooHardFlag, &word),
             Kind::TooHard => Ok(ArgData::TooHard(word)),
             Kind::DiagnosticsColor => Ok(ArgData::DiagnosticsColor(word)),
-            Kind::DiagnosticsColorFlag => flag(ArgData::DiagnosticsColorFlag, word),
-            Kind::NoDiagnosticsColorFlag => flag(ArgData::NoDiagnosticsColorFlag, word),
+            Kind::DiagnosticsColorFlag => without_value(ArgData::DiagnosticsColorFlag, &word),
+            Kind::NoDiagnosticsColorFlag => without_value(ArgData::NoDiagnosticsColorFlag, &word),
             Kind::Arch => Ok(ArgData::Arch(word)),
-            Kind::Coverage => flag(ArgData::Coverage, word),
-            Kind::TestCoverage => flag(ArgData::TestCoverage, word),
+            Kind::Coverage => without_value(ArgData::Coverage, &word),
+            Kind::TestCoverage => without_value(ArgData::TestCoverage, &word),
             Kind::DepArgumentPath => Ok(ArgData::DepArgumentPath(PathArg(word))),
             Kind::DepTarget => Ok(ArgData::DepTarget(word)),
-            Kind::NeedDepTarget => flag(ArgData::NeedDepTarget, word),
-            Kind::DoCompilation => flag(ArgData::DoCompilation, word),
+            Kind::NeedDepTarget => without_value(ArgData::NeedDepTarget, &word),
+            Kind::DoCompilation => without_value(ArgData::DoCompilation, &word),
             Kind::ExtraHashFile => Ok(ArgData::ExtraHashFile(PathArg(word))),
             Kind::ExtraHashFileClangModuleFile => Ok(ArgData::ExtraHashFileClangModuleFile(word)),
             Kind::Language => Ok(ArgData::Language(word)),
-            Kind::SplitDwarf => flag(ArgData::SplitDwarf, word),
+            Kind::SplitDwarf => without_value(ArgData::SplitDwarf, &word),
             Kind::Output => Ok(ArgData::Output(PathArg(word))),
             Kind::PassThrough => Ok(ArgData::PassThrough(word)),
-            Kind::PassThroughFlag => flag(ArgData::PassThroughFlag, word),
+            Kind::PassThroughFlag => without_value(ArgData::PassThroughFlag, &word),
             Kind::PassThroughPath => Ok(ArgData::PassThroughPath(PathArg(word))),
             Kind::PreprocessorArgument => Ok(ArgData::PreprocessorArgument(word)),
-            Kind::PreprocessorArgumentFlag => flag(ArgData::PreprocessorArgumentFlag, word),
+            Kind::PreprocessorArgumentFlag => without_value(
+                ArgData::PreprocessorArgumentFlag,
+                &word,
+            ),
             Kind::PreprocessorArgumentPath => Ok(ArgData::PreprocessorArgumentPath(PathArg(word))),
-            Kind::ProfileGenerate => flag(ArgData::ProfileGenerate, word),
+            Kind::ProfileGenerate => without_value(ArgData::ProfileGenerate, &word),
             Kind::ClangProfileUse => Ok(ArgData::ClangProfileUse(PathArg(word))),
             Kind::SerializeDiagnostics => Ok(ArgData::SerializeDiagnostics(PathArg(word))),
-            Kind::UnhashedFlag => flag(ArgData::UnhashedFlag, word),
+            Kind::UnhashedFlag => without_value(ArgData::UnhashedFlag, &word),
             Kind::Unhashed => Ok(ArgData::Unhashed(word)),
-            Kind::PedanticFlag => flag(ArgData::PedanticFlag, word),
+            Kind::PedanticFlag => without_value(ArgData::PedanticFlag, &word),
             Kind::Standard => Ok(ArgData::Standard(word)),
             Kind::XClang => Ok(ArgData::XClang(word)),
-            Kind::ModuleOnlyFlag => flag(ArgData::ModuleOnlyFlag, word),
+            Kind::ModuleOnlyFlag => without_value(ArgData::ModuleOnlyFlag, &word),
             Kind::ClangModuleOutput => Ok(ArgData::ClangModuleOutput(word)),
-            Kind::IntegratedAs => flag(ArgData::IntegratedAs, word),
-            Kind::NoIntegratedAs => flag(ArgData::NoIntegratedAs, word),
+            Kind::IntegratedAs => without_value(ArgData::IntegratedAs, &word),
+            Kind::NoIntegratedAs => without_value(ArgData::NoIntegratedAs, &word),
         }
     }
 }
 
 impl ExactArg for ArgData {
-    ghost use Rattle.scl_gnu.specs.Data.{exact, keeps};
+    ghost use Rattle.scl_args.specs.Values.{exact, keeps};
+    ghost use Rattle.scl_gnu.specs.Data.{holds_value, kind_of, word_of};
 
-    ghost exact = { exact };
+    ghost exact = { exact kind_of word_of holds_value };
 
-    ghost keeps = { keeps };
+    ghost keeps = { keeps kind_of word_of holds_value };
 }

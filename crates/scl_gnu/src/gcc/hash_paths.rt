@@ -1,11 +1,8 @@
 //! The paths of the files on whose contents the outcome of a compilation depends.
-ghost use Rattle.std.specs.Prelude.{◌≡◌, ◌<◌, IfOk, IfSome, length, map, position};
-ghost use Rattle.scl_text.specs.Words.{words_of};
-ghost use Rattle.scl_gnu.specs.Gathered.{hashed_of};
-ghost use Rattle.scl_gnu.specs.Kinds.{named_by};
-ghost use Rattle.scl_gnu.specs.Recordings.{is_equals, module_file_path, profile_in, profile_use_path, hash_path_as, hash_path};
+ghost use Rattle.std.specs.Prelude.{◌≡◌, ◌<◌, IfOk, IfSome, length, position};
+ghost use Rattle.scl_gnu.specs.Recordings.{is_equals, module_file_path, profile_in, profile_use_path, hash_path_as};
 
-use super::hashed::{HashFile, HashRole};
+use super::hash_files::HashRole;
 use scl_args::Mem;
 use scl_text::path::join;
 use scl_text::view::View;
@@ -60,7 +57,13 @@ pub fn resolve_profile_use_path(
     profile_in(alloc, is_directory, path)
 }
 
-fn path_as(alloc: Global, role: HashRole, text: &[u8], cwd: &[u8], view: &View) -> Mem<Vec<u8>>
+pub(crate) fn path_as(
+    alloc: Global,
+    role: HashRole,
+    text: &[u8],
+    cwd: &[u8],
+    view: &View,
+) -> Mem<Vec<u8>>
     ensures { IfOk result (λ path. path.items ≡ hash_path_as role text.now cwd.now view.now) }
 {
     match role {
@@ -68,20 +71,4 @@ fn path_as(alloc: Global, role: HashRole, text: &[u8], cwd: &[u8], view: &View) 
         HashRole::Module => join(alloc, cwd, module_path_in(text)),
         HashRole::Profile => resolve_profile_use_path(alloc, text, cwd, view),
     }
-}
-
-/// The paths of the files, from the directory.
-pub(crate) fn hash_paths(
-    alloc: Global,
-    files: &[HashFile],
-    cwd: &[u8],
-    view: &View,
-) -> Mem<Vec<Vec<u8>>>
-    ensures { IfOk result (λ paths. words_of paths.items ≡ map (hash_path cwd.now view.now) (hashed_of files.now)) }
-{
-    let mut paths = Vec::with_capacity(alloc, files.len())?;
-    for file in files {
-        paths.push(path_as(alloc, file.role, &file.text, cwd, view)?)?;
-    }
-    Ok(paths)
 }

@@ -1,5 +1,5 @@
 //! What an option says against caching.
-ghost use Rattle.std.specs.Prelude.{◌≡◌, IfOk};
+ghost use Rattle.std.specs.Prelude.{◌≡◌, ◌∷◌, [], IfOk, map};
 ghost use Rattle.std.specs.Option.{option_map, option_copied};
 ghost use Rattle.scl_args.specs.Seen.{seen};
 ghost use Rattle.scl_args.specs.Options.{or_else};
@@ -7,33 +7,17 @@ ghost use Rattle.scl_text.specs.Languages.{language_of_gcc_text};
 ghost use Rattle.scl_text.specs.Refusals.{verdict_of};
 ghost use Rattle.scl_gnu.specs.Data.{kind_of, word_of};
 ghost use Rattle.scl_gnu.specs.Places.{place};
-ghost use Rattle.scl_gnu.specs.Verdicts.{begins_with_at, names_file, flag_verdict, module_output_verdict, unread_language, arch_verdict, value_verdict, verdict_after};
+ghost use Rattle.scl_gnu.specs.Verdicts.{flag_verdict, module_output_verdict, unread_language, arch_verdict, value_verdict};
+ghost use Rattle.scl_gnu.specs.Kinds.{last_text};
 
-use super::data::ArgData;
+use super::data::{ArgData, Kind};
 use super::place::{Place, place_of_kind};
-use super::reason::quoted;
-use scl_args::{ArgDisposition, Argument, Mem};
+use scl_args::{ArgParseError, Argument, Judge, Mem, OfKinds, ReadArg, last_text, names_file};
 use scl_text::language::Language;
-use scl_text::refusal::Refusal;
+use scl_text::quoted;
+use scl_text::reasons::UNEXPANDED_FILE;
+use scl_text::refusal::{Refusal, argument_parse};
 use std::alloc::Global;
-
-fn begins_with_at(value: &[u8]) -> bool
-    ensures { result ≡ begins_with_at value.now }
-{
-    value.first() == Some(&b'@')
-}
-
-/// Whether a value names a file that was not expanded.
-fn names_file(value: &[u8], disposition: ArgDisposition) -> bool
-    ensures { result ≡ names_file value.now (Some disposition) }
-{
-    match disposition {
-        ArgDisposition::Separated
-        | ArgDisposition::CanBeConcatenated(_)
-        | ArgDisposition::CanBeSeparated(_) => begins_with_at(value),
-        ArgDisposition::Concatenated(_) => false,
-    }
-}
 
 fn judged_flag(flag: &'static str, value: &ArgData) -> Option<Refusal>
     ensures { option_map verdict_of result ≡ flag_verdict (place (kind_of value.now)) flag.now }
@@ -81,15 +65,18 @@ fn judged_arch(multiarch: bool, before: Option<&[u8]>, arch: &[u8]) -> Option<Re
 fn judged_value(
     alloc: Global,
     multiarch: bool,
-    arch: Option<&[u8]>,
+    before: &[Argument<ArgData>],
     value: &ArgData,
 ) -> Mem<Option<Refusal>>
-    ensures { IfOk result (λ said. option_map verdict_of said ≡ value_verdict multiarch (option_copied arch.entry) (kind_of value.now) (word_of value.now)) }
+    ensures { IfOk result (λ said. option_map verdict_of said ≡ value_verdict multiarch (last_text (Kind.Arch ∷ []) (map (seen kind_of word_of) before.now)) (kind_of value.now) (word_of value.now)) }
 {
     match value {
         ArgData::ClangModuleOutput(text) => judged_module_output(alloc, text),
         ArgData::Language(text) => Ok(judged_language(text)),
-        ArgData::Arch(name) => Ok(judged_arch(multiarch, arch, name)),
+        ArgData::Arch(name) => {
+            let arch = last_text(before, &OfKinds(&[Kind::Arch]));
+            Ok(judged_arch(multiarch, arch, name))
+        }
         _ => Ok(None),
     }
 }
@@ -97,36 +84,59 @@ fn judged_value(
 fn judged_known(
     alloc: Global,
     multiarch: bool,
-    arch: Option<&[u8]>,
+    before: &[Argument<ArgData>],
     flag: &'static str,
     value: &ArgData,
 ) -> Mem<Option<Refusal>>
     ensures { IfOk result (λ said. option_map verdict_of said
-        ≡ or_else (flag_verdict (place (kind_of value.now)) flag.now) (value_verdict multiarch (option_copied arch.entry) (kind_of value.now) (word_of value.now))) }
+        ≡ or_else (flag_verdict (place (kind_of value.now)) flag.now) (value_verdict multiarch (last_text (Kind.Arch ∷ []) (map (seen kind_of word_of) before.now)) (kind_of value.now) (word_of value.now))) }
 {
     match judged_flag(flag, value) {
         Some(refusal) => Ok(Some(refusal)),
-        None => judged_value(alloc, multiarch, arch, value),
+        None => judged_value(alloc, multiarch, before, value),
     }
 }
 
-/// Why the option is refused, if it is, after the last architecture before it.
-pub(crate) fn judged(
-    alloc: Global,
-    multiarch: bool,
-    arch: Option<&[u8]>,
-    option: &Argument<ArgData>,
-) -> Mem<Option<Refusal>>
-    ensures { IfOk result (λ said. option_map verdict_of said ≡ verdict_after multiarch (option_copied arch.entry) (seen kind_of word_of option.now)) }
-{
-    match option {
-        Argument::Raw(_) | Argument::UnknownFlag(_) => Ok(None),
-        Argument::Flag(flag, value) => judged_known(alloc, multiarch, arch, flag, value),
-        Argument::WithValue(flag, value, disposition) => {
-            if names_file(value.word(), *disposition) {
-                return Ok(Some(Refusal::CannotCache("@", None)));
-            }
-            judged_known(alloc, multiarch, arch, flag, value)
+/// Judges options, where several architectures may be named or not.
+#[derive(Clone, Copy)]
+pub(crate) struct ByVerdict {
+    pub(crate) multiarch: bool,
+}
+
+impl Judge<ArgData> for ByVerdict {
+    ghost use Rattle.scl_text.specs.Reasons.{argument_parse};
+    ghost use Rattle.scl_text.specs.Records.{Verdict};
+    ghost use Rattle.scl_text.specs.Refusals.{verdict_of};
+    ghost use Rattle.scl_gnu.specs.Verdicts.{verdict};
+
+    type Refusal = Refusal;
+
+    ghost Verdict = { Verdict };
+
+    ghost verdict_of = { verdict_of };
+
+    ghost verdict = { λ judge. verdict judge.multiarch };
+
+    ghost dangling = { argument_parse };
+
+    fn judge(
+        &self,
+        alloc: Global,
+        before: &[Argument<ArgData>],
+        option: &Argument<ArgData>,
+    ) -> Mem<Option<Refusal>> {
+        if names_file(option) {
+            return Ok(Some(Refusal::CannotCache(UNEXPANDED_FILE, None)));
         }
+        match option {
+            Argument::Raw(_) | Argument::UnknownFlag(_) => Ok(None),
+            Argument::Flag(flag, value) | Argument::WithValue(flag, value, _) => {
+                judged_known(alloc, self.multiarch, before, flag, value)
+            }
+        }
+    }
+
+    fn refuse_dangling(&self, alloc: Global) -> Mem<Refusal> {
+        argument_parse(alloc, &ArgParseError::UnexpectedEndOfArgs)
     }
 }

@@ -1,14 +1,16 @@
 //! The outputs of a compilation.
-ghost use Rattle.std.specs.Prelude.{◌≡◌, IfOk, OnOk};
+ghost use Rattle.std.specs.Prelude.{◌≡◌, IfOk, OnOk, map};
+ghost use Rattle.std.specs.Option.{option_copied};
+ghost use Rattle.scl_args.specs.Seen.{seen};
 ghost use Rattle.scl_text.specs.Paths.{with_extension};
 ghost use Rattle.scl_text.specs.Records.{artifacts, path_of};
 ghost use Rattle.scl_gnu.specs.FoundBy.{found_of, paths_of};
-ghost use Rattle.scl_gnu.specs.Passes.{summary_of};
+ghost use Rattle.scl_gnu.specs.Data.{kind_of, word_of};
 ghost use Rattle.scl_gnu.specs.Recordings.{only_if, unless_absent, output_paths, outputs, put_optional};
 
-use super::finish::Finding;
-use super::pass::Gathered;
-use scl_args::Mem;
+use super::data::{ArgData, Kind};
+use super::fixed_tests::Finding;
+use scl_args::{Argument, Mem, OfKinds, any, last_text};
 use scl_text::outputs::put_output;
 use scl_text::path::with_extension;
 use scl_text::records::ArtifactDescriptor;
@@ -40,8 +42,8 @@ fn extended_if(
     Ok(Some(with_extension(alloc, path, extension)?))
 }
 
-fn copied(alloc: Global, path: &Option<Vec<u8>>) -> Mem<Option<Vec<u8>>>
-    ensures { IfOk result (λ copy. path_of copy ≡ path_of path.now) }
+fn copied(alloc: Global, path: Option<&[u8]>) -> Mem<Option<Vec<u8>>>
+    ensures { IfOk result (λ copy. path_of copy ≡ option_copied path.entry) }
 {
     match path {
         Some(path) => Ok(Some(Vec::from_slice(alloc, path)?)),
@@ -49,8 +51,8 @@ fn copied(alloc: Global, path: &Option<Vec<u8>>) -> Mem<Option<Vec<u8>>>
     }
 }
 
-fn copied_if(alloc: Global, is_wanted: bool, path: &Option<Vec<u8>>) -> Mem<Option<Vec<u8>>>
-    ensures { IfOk result (λ copy. path_of copy ≡ unless_absent is_wanted (path_of path.now)) }
+fn copied_if(alloc: Global, is_wanted: bool, path: Option<&[u8]>) -> Mem<Option<Vec<u8>>>
+    ensures { IfOk result (λ copy. path_of copy ≡ unless_absent is_wanted (option_copied path.entry)) }
 {
     if !is_wanted {
         return Ok(None);
@@ -58,21 +60,30 @@ fn copied_if(alloc: Global, is_wanted: bool, path: &Option<Vec<u8>>) -> Mem<Opti
     copied(alloc, path)
 }
 
-impl Gathered {
-    /// Where the compilation puts what it makes.
-    pub(crate) fn output_files(&self, alloc: Global, found: &Finding) -> Mem<OutputFiles>
-        ensures { IfOk result (λ files. paths_of files ≡ output_paths (summary_of self.now) (found_of found.now)) }
-    {
-        let has_depfile = found.language.needs_c_preprocessing();
-        Ok(OutputFiles {
-            depfile: copied_if(alloc, has_depfile, &self.lasts.dep_path)?,
-            diagnostics: copied(alloc, &self.lasts.diagnostics)?,
-            dwo: extended_if(alloc, self.marks.split_dwarf, &found.object, b"dwo")?,
-            gcno: extended_if(alloc, self.marks.notes, &found.object, b"gcno")?,
-            module_path: copied(alloc, &found.module_path)?,
-            object: Vec::from_slice(alloc, &found.object)?,
-        })
-    }
+/// Where the compilation puts what it makes.
+pub(crate) fn output_files(
+    alloc: Global,
+    options: &[Argument<ArgData>],
+    found: &Finding,
+) -> Mem<OutputFiles>
+    ensures { IfOk result (λ files. paths_of files ≡ output_paths (map (seen kind_of word_of) options.now) (found_of found.now)) }
+{
+    let has_depfile = found.language.needs_c_preprocessing();
+    let dep_path = last_text(options, &OfKinds(&[Kind::DepArgumentPath]));
+    let diagnostics = last_text(options, &OfKinds(&[Kind::SerializeDiagnostics]));
+    let has_dwo = any(options, &OfKinds(&[Kind::SplitDwarf]));
+    let has_notes = any(options, &OfKinds(&[Kind::Coverage, Kind::TestCoverage]));
+    Ok(OutputFiles {
+        depfile: copied_if(alloc, has_depfile, dep_path)?,
+        diagnostics: copied(alloc, diagnostics)?,
+        dwo: extended_if(alloc, has_dwo, &found.object, b"dwo")?,
+        gcno: extended_if(alloc, has_notes, &found.object, b"gcno")?,
+        module_path: copied(
+            alloc,
+            found.module_path.as_ref().map(|path| path.as_slice()),
+        )?,
+        object: Vec::from_slice(alloc, &found.object)?,
+    })
 }
 
 fn put_optional(

@@ -6,39 +6,36 @@ ghost use Rattle.scl_args.specs.Tables.{owner_in, tables_hold_values};
 ghost use Rattle.scl_text.specs.Records.{outcome_of};
 ghost use Rattle.scl_text.specs.Words.{words_of};
 ghost use Rattle.scl_gnu.specs.Data.{holds_value, kind_of, word_of};
-ghost use Rattle.scl_gnu.specs.Passes.{summary_of};
 ghost use Rattle.scl_gnu.specs.Readings.{recorded, read, read_cut, reading, tables_lack_inner};
 ghost use Rattle.scl_gnu.specs.Recordings.{is_clang};
 
 use super::data::ArgData;
-use super::pass::{Gathered, gather};
-use super::record::is_clang;
-use scl_args::{ArgParseError, CutWords, Mem, SearchableArgInfo, cut_options};
+use super::fixed_tests::find;
+use super::judge::ByVerdict;
+use super::record::{is_clang, record_of};
+use scl_args::{Argument, CutWords, Mem, SearchableArgInfo, cut_options, judge_all};
 use scl_text::records::{CCompilerKind, CompilerArguments, ParsedArguments};
-use scl_text::refusal::argument_parse;
 use scl_text::view::View;
 use scl_text::{ExpansionKind, expand_all};
 use std::alloc::Global;
 
-impl Gathered {
-    /// The tests, and the record of what they find.
-    fn into_answer(
-        self,
-        alloc: Global,
-        kind: CCompilerKind,
-        plusplus: bool,
-        cwd: &[u8],
-        view: &View,
-    ) -> Mem<CompilerArguments<ParsedArguments>>
-        ensures { IfOk result (λ answer. outcome_of answer ≡ recorded kind plusplus cwd.now view.now (summary_of self)) }
-    {
-        match self.find(alloc, plusplus)? {
-            Ok(found) => {
-                let record = self.into_record(alloc, found, kind, cwd, view)?;
-                Ok(CompilerArguments::Ok(record))
-            }
-            Err(refusal) => Ok(refusal.into_answer()),
+/// The tests of options that are not refused, and the record of what they find.
+fn answer(
+    alloc: Global,
+    options: &[Argument<ArgData>],
+    kind: CCompilerKind,
+    plusplus: bool,
+    cwd: &[u8],
+    view: &View,
+) -> Mem<CompilerArguments<ParsedArguments>>
+    ensures { IfOk result (λ answer. outcome_of answer ≡ recorded kind plusplus cwd.now view.now (map (seen kind_of word_of) options.now)) }
+{
+    match find(alloc, options, plusplus)? {
+        Ok(found) => {
+            let record = record_of(alloc, options, found, kind, cwd, view)?;
+            Ok(CompilerArguments::Ok(record))
         }
+        Err(refusal) => Ok(refusal.into_answer()),
     }
 }
 
@@ -54,18 +51,16 @@ fn read(
     ensures { IfOk result (λ answer. outcome_of answer
         ≡ read kind plusplus cwd.now view.now (map (seen kind_of word_of) cut.options.items) cut.is_dangling) }
 {
-    let gathered = match gather(alloc, view.multiarch(), cut.options)? {
-        Ok(gathered) => gathered,
-        Err(refusal) => return Ok(refusal.into_answer()),
+    let judge = ByVerdict {
+        multiarch: view.multiarch(),
     };
-    if cut.is_dangling {
-        let refusal = argument_parse(alloc, &ArgParseError::UnexpectedEndOfArgs)?;
-        return Ok(refusal.into_answer());
+    match judge_all(alloc, &judge, cut)? {
+        Ok(options) => answer(alloc, &options, kind, plusplus, cwd, view),
+        Err(refusal) => Ok(refusal.into_answer()),
     }
-    gathered.into_answer(alloc, kind, plusplus, cwd, view)
 }
 
-/// What the words say, without response files.
+/// What words without response files say.
 fn parse_words<S: SearchableArgInfo<ArgData> + Drop>(
     alloc: Global,
     words: Vec<Vec<u8>>,

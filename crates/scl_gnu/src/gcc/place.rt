@@ -5,11 +5,11 @@ ghost use Rattle.scl_gnu.specs.Data.{kind_of, word_of};
 ghost use Rattle.scl_gnu.specs.Places.{place, place_of};
 
 use super::data::{ArgData, Kind};
-use scl_args::Argument;
+use scl_args::{Argument, ReadArg, Test};
 
 /// Where the words of an option go: to a list of the command, or nowhere; or the option is refused
 /// (docs/RULES.md, Gcc).
-#[derive(Clone, Copy)]
+#[derive(Clone, Copy, Debug, PartialEq, Eq)]
 pub enum Place {
     Common,
     Unhashed,
@@ -71,5 +71,15 @@ pub(crate) fn place_of(option: &Argument<ArgData>) -> Place
         Argument::Raw(_) => Place::Nowhere,
         Argument::UnknownFlag(_) => Place::Common,
         Argument::Flag(_, value) | Argument::WithValue(_, value, _) => place_of_kind(value.kind()),
+    }
+}
+
+impl Test<ArgData> for Place {
+    ghost use Rattle.scl_gnu.specs.Places.{goes_to};
+
+    ghost passes = { goes_to };
+
+    fn passes(&self, option: &Argument<ArgData>) -> bool {
+        place_of(option) == *self
     }
 }

@@ -3,15 +3,14 @@ ghost use Rattle.std.specs.Option.{option_map};
 ghost use Rattle.scl_args.specs.Seen.{seen};
 ghost use Rattle.scl_text.specs.Refusals.{verdict_of};
 ghost use Rattle.scl_args.specs.Tables.{tables_hold_values};
-ghost use Rattle.scl_small.specs.DiabValues.{holds_value, word_of};
+ghost use Rattle.scl_small.specs.DiabValues.{holds_value};
 ghost use Rattle.scl_small.specs.DiabTable.{rows};
 
-use crate::values::without_value;
 use scl_args::ArgDisposition::{CanBeSeparated, Concatenated, Separated};
 use scl_args::ArgRow::{Flag, TakeArg};
 use scl_args::{
-    ArgInfo, ArgParseResult, ArgToStringResult, ArgumentValue, ExactArg, FlagTable, IntoArg, Mem,
-    PathArg,
+    ArgInfo, ArgParseResult, ArgToStringResult, ArgumentValue, ExactArg, FlagTable, Held, IntoArg, Mem,
+    PathArg, ReadArg, without_value,
 };
 use std::alloc::Global;
 
@@ -45,19 +44,34 @@ pub enum ArgData {
     DepArgumentPath(PathArg),
 }
 
-impl ArgData {
-    pub(crate) fn word(&self) -> &[u8]
-        ensures { result.now ≡ word_of self.now }
-    {
+impl ReadArg for ArgData {
+    fn kind(&self) -> Kind {
         match self {
-            ArgData::TooHardFlag | ArgData::DoCompilation | ArgData::DepArgumentFlag => &[],
+            ArgData::TooHardFlag => Kind::TooHardFlag,
+            ArgData::TooHard(_) => Kind::TooHard,
+            ArgData::DoCompilation => Kind::DoCompilation,
+            ArgData::Output(_) => Kind::Output,
+            ArgData::PassThrough(_) => Kind::PassThrough,
+            ArgData::PreprocessorArgument(_) => Kind::PreprocessorArgument,
+            ArgData::PreprocessorArgumentPath(_) => Kind::PreprocessorArgumentPath,
+            ArgData::DepArgumentFlag => Kind::DepArgumentFlag,
+            ArgData::DepArgument(_) => Kind::DepArgument,
+            ArgData::DepArgumentPath(_) => Kind::DepArgumentPath,
+        }
+    }
+
+    fn held(&self) -> Held<'_> {
+        match self {
+            ArgData::TooHardFlag
+            | ArgData::DoCompilation
+            | ArgData::DepArgumentFlag => Held::Nothing,
             ArgData::TooHard(word)
             | ArgData::PassThrough(word)
             | ArgData::PreprocessorArgument(word)
-            | ArgData::DepArgument(word) => word,
+            | ArgData::DepArgument(word) => Held::Word(word),
             ArgData::Output(path)
             | ArgData::PreprocessorArgumentPath(path)
-            | ArgData::DepArgumentPath(path) => &path.0,
+            | ArgData::DepArgumentPath(path) => Held::Path(&path.0),
         }
     }
 }
@@ -70,7 +84,7 @@ impl IntoArg for ArgData {
     ghost is_path = { is_path };
 
     fn into_arg_os_string(&self, alloc: Global) -> Mem<Vec<u8>> {
-        Vec::from_slice(alloc, self.word())
+        Vec::from_slice(alloc, self.held().word())
     }
 
     fn into_arg_string<F: FnMut(&[u8]) -> Option<String>>(
@@ -78,22 +92,12 @@ impl IntoArg for ArgData {
         alloc: Global,
         f: &mut F,
     ) -> ArgToStringResult {
-        match self {
-            ArgData::TooHardFlag | ArgData::DoCompilation | ArgData::DepArgumentFlag =>
-                ().into_arg_string(alloc, f),
-            ArgData::TooHard(word)
-            | ArgData::PassThrough(word)
-            | ArgData::PreprocessorArgument(word)
-            | ArgData::DepArgument(word) => word.into_arg_string(alloc, f),
-            ArgData::Output(path)
-            | ArgData::PreprocessorArgumentPath(path)
-            | ArgData::DepArgumentPath(path) => path.into_arg_string(alloc, f),
-        }
+        self.held().text(alloc, f)
     }
 }
 
 impl ArgumentValue for ArgData {
-    ghost use Rattle.scl_small.specs.Values.{MakesOf};
+    ghost use Rattle.scl_args.specs.Values.{MakesOf};
     ghost use Rattle.scl_small.specs.DiabValues.{word_of, kind_of, holds_value};
 
     type Kind = Kind;
@@ -106,16 +110,16 @@ impl ArgumentValue for ArgData {
 
     fn make(_alloc: Global, kind: Kind, word: Vec<u8>) -> ArgParseResult<ArgData> {
         match kind {
-            Kind::TooHardFlag => without_value(ArgData::TooHardFlag, word),
+            Kind::TooHardFlag => without_value(ArgData::TooHardFlag, &word),
             Kind::TooHard => Ok(ArgData::TooHard(word)),
-            Kind::DoCompilation => without_value(ArgData::DoCompilation, word),
+            Kind::DoCompilation => without_value(ArgData::DoCompilation, &word),
             Kind::Output => Ok(ArgData::Output(PathArg(word))),
             Kind::PassThrough => Ok(ArgData::PassThrough(word)),
             Kind::PreprocessorArgument => Ok(ArgData::PreprocessorArgument(word)),
             Kind::PreprocessorArgumentPath => {
                 Ok(ArgData::PreprocessorArgumentPath(PathArg(word)))
             }
-            Kind::DepArgumentFlag => without_value(ArgData::DepArgumentFlag, word),
+            Kind::DepArgumentFlag => without_value(ArgData::DepArgumentFlag, &word),
             Kind::DepArgument => Ok(ArgData::DepArgument(word)),
             Kind::DepArgumentPath => Ok(ArgData::DepArgumentPath(PathArg(word))),
         }
@@ -124,7 +128,7 @@ impl ArgumentValue for ArgData {
 
 impl ExactArg for ArgData {
     ghost use Rattle.scl_small.specs.DiabValues.{word_of, kind_of, holds_value};
-    ghost use Rattle.scl_small.specs.Values.{exact, keeps};
+    ghost use Rattle.scl_args.specs.Values.{exact, keeps};
 
     ghost exact = { exact kind_of word_of holds_value };
 

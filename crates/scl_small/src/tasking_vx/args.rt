@@ -3,15 +3,14 @@ ghost use Rattle.std.specs.Option.{option_map};
 ghost use Rattle.scl_args.specs.Seen.{seen};
 ghost use Rattle.scl_text.specs.Refusals.{verdict_of};
 ghost use Rattle.scl_args.specs.Tables.{tables_hold_values};
-ghost use Rattle.scl_small.specs.TaskingValues.{holds_value, word_of};
+ghost use Rattle.scl_small.specs.TaskingValues.{holds_value};
 ghost use Rattle.scl_small.specs.TaskingTable.{rows};
 
-use crate::values::without_value;
 use scl_args::ArgDisposition::{CanBeSeparated, Concatenated, Separated};
 use scl_args::ArgRow::{Flag, TakeArg};
 use scl_args::{
-    ArgInfo, ArgParseResult, ArgToStringResult, ArgumentValue, ExactArg, FlagTable, IntoArg, Mem,
-    PathArg,
+    ArgInfo, ArgParseResult, ArgToStringResult, ArgumentValue, ExactArg, FlagTable, Held, IntoArg, Mem,
+    PathArg, ReadArg, without_value,
 };
 use std::alloc::Global;
 
@@ -45,19 +44,34 @@ pub enum ArgData {
     DepFile(PathArg),
 }
 
-impl ArgData {
-    pub(crate) fn word(&self) -> &[u8]
-        ensures { result.now ≡ word_of self.now }
-    {
+impl ReadArg for ArgData {
+    fn kind(&self) -> Kind {
         match self {
-            ArgData::TooHardFlag | ArgData::NotCompilationFlag | ArgData::DoCompilation => &[],
+            ArgData::TooHardFlag => Kind::TooHardFlag,
+            ArgData::TooHard(_) => Kind::TooHard,
+            ArgData::NotCompilationFlag => Kind::NotCompilationFlag,
+            ArgData::NotCompilation(_) => Kind::NotCompilation,
+            ArgData::DoCompilation => Kind::DoCompilation,
+            ArgData::Output(_) => Kind::Output,
+            ArgData::PassThrough(_) => Kind::PassThrough,
+            ArgData::PreprocessorArgument(_) => Kind::PreprocessorArgument,
+            ArgData::PreprocessorArgumentPath(_) => Kind::PreprocessorArgumentPath,
+            ArgData::DepFile(_) => Kind::DepFile,
+        }
+    }
+
+    fn held(&self) -> Held<'_> {
+        match self {
+            ArgData::TooHardFlag
+            | ArgData::NotCompilationFlag
+            | ArgData::DoCompilation => Held::Nothing,
             ArgData::TooHard(word)
             | ArgData::NotCompilation(word)
             | ArgData::PassThrough(word)
-            | ArgData::PreprocessorArgument(word) => word,
+            | ArgData::PreprocessorArgument(word) => Held::Word(word),
             ArgData::Output(path)
             | ArgData::PreprocessorArgumentPath(path)
-            | ArgData::DepFile(path) => &path.0,
+            | ArgData::DepFile(path) => Held::Path(&path.0),
         }
     }
 }
@@ -70,7 +84,7 @@ impl IntoArg for ArgData {
     ghost is_path = { is_path };
 
     fn into_arg_os_string(&self, alloc: Global) -> Mem<Vec<u8>> {
-        Vec::from_slice(alloc, self.word())
+        Vec::from_slice(alloc, self.held().word())
     }
 
     fn into_arg_string<F: FnMut(&[u8]) -> Option<String>>(
@@ -78,22 +92,12 @@ impl IntoArg for ArgData {
         alloc: Global,
         f: &mut F,
     ) -> ArgToStringResult {
-        match self {
-            ArgData::TooHardFlag | ArgData::NotCompilationFlag | ArgData::DoCompilation =>
-                ().into_arg_string(alloc, f),
-            ArgData::TooHard(word)
-            | ArgData::NotCompilation(word)
-            | ArgData::PassThrough(word)
-            | ArgData::PreprocessorArgument(word) => word.into_arg_string(alloc, f),
-            ArgData::Output(path)
-            | ArgData::PreprocessorArgumentPath(path)
-            | ArgData::DepFile(path) => path.into_arg_string(alloc, f),
-        }
+        self.held().text(alloc, f)
     }
 }
 
 impl ArgumentValue for ArgData {
-    ghost use Rattle.scl_small.specs.Values.{MakesOf};
+    ghost use Rattle.scl_args.specs.Values.{MakesOf};
     ghost use Rattle.scl_small.specs.TaskingValues.{word_of, kind_of, holds_value};
 
     type Kind = Kind;
@@ -106,11 +110,11 @@ impl ArgumentValue for ArgData {
 
     fn make(_alloc: Global, kind: Kind, word: Vec<u8>) -> ArgParseResult<ArgData> {
         match kind {
-            Kind::TooHardFlag => without_value(ArgData::TooHardFlag, word),
+            Kind::TooHardFlag => without_value(ArgData::TooHardFlag, &word),
             Kind::TooHard => Ok(ArgData::TooHard(word)),
-            Kind::NotCompilationFlag => without_value(ArgData::NotCompilationFlag, word),
+            Kind::NotCompilationFlag => without_value(ArgData::NotCompilationFlag, &word),
             Kind::NotCompilation => Ok(ArgData::NotCompilation(word)),
-            Kind::DoCompilation => without_value(ArgData::DoCompilation, word),
+            Kind::DoCompilation => without_value(ArgData::DoCompilation, &word),
             Kind::Output => Ok(ArgData::Output(PathArg(word))),
             Kind::PassThrough => Ok(ArgData::PassThrough(word)),
             Kind::PreprocessorArgument => Ok(ArgData::PreprocessorArgument(word)),
@@ -122,7 +126,7 @@ impl ArgumentValue for ArgData {
 
 impl ExactArg for ArgData {
     ghost use Rattle.scl_small.specs.TaskingValues.{word_of, kind_of, holds_value};
-    ghost use Rattle.scl_small.specs.Values.{exact, keeps};
+    ghost use Rattle.scl_args.specs.Values.{exact, keeps};
 
     ghost exact = { exact kind_of word_of holds_value };
 

@@ -1,8 +1,8 @@
-use super::args::ArgData;
-use crate::pass::Gathered;
+use super::args::{ArgData, Kind};
+use crate::finish::answer;
 use crate::place::{Place, Placed, refused_by_place};
 use crate::rules::Rules;
-use scl_args::Argument;
+use scl_args::{Argument, last_flag};
 use scl_text::Mem;
 use scl_text::records::{CompilerArguments, ParsedArguments};
 use scl_text::refusal::Refusal;
@@ -13,23 +13,19 @@ impl Placed for ArgData {
 
     ghost place = { place };
 
-    fn place(&self) -> Place {
-        match self {
-            ArgData::TooHardFlag => Place::TooHard,
-            ArgData::TooHard(_) => Place::TooHard,
-            ArgData::NotCompilationFlag => Place::NotCompilation,
-            ArgData::NotCompilation(_) => Place::NotCompilation,
-            ArgData::DoCompilation => Place::CompileFlag,
-            ArgData::Output(_) => Place::Output,
-            ArgData::PassThrough(_) => Place::Common,
-            ArgData::PreprocessorArgument(_) => Place::Preprocessor,
-            ArgData::PreprocessorArgumentPath(_) => Place::Preprocessor,
-            ArgData::DepFile(_) => Place::DepFile,
+    fn place(kind: Kind) -> Place {
+        match kind {
+            Kind::TooHardFlag => Place::TooHard,
+            Kind::TooHard => Place::TooHard,
+            Kind::NotCompilationFlag => Place::NotCompilation,
+            Kind::NotCompilation => Place::NotCompilation,
+            Kind::DoCompilation => Place::CompileFlag,
+            Kind::Output => Place::Output,
+            Kind::PassThrough => Place::Common,
+            Kind::PreprocessorArgument => Place::Preprocessor,
+            Kind::PreprocessorArgumentPath => Place::Preprocessor,
+            Kind::DepFile => Place::DepFile,
         }
-    }
-
-    fn word(&self) -> &[u8] {
-        self.word()
     }
 }
 
@@ -44,10 +40,13 @@ impl Rules for ArgData {
         refused_by_place(option)
     }
 
-    fn test(alloc: Global, gathered: Gathered) -> Mem<CompilerArguments<ParsedArguments>> {
-        if gathered.compilation_flag.is_none() {
-            return Ok(CompilerArguments::NotCompilation);
+    fn test(
+        alloc: Global,
+        options: &[Argument<ArgData>],
+    ) -> Mem<CompilerArguments<ParsedArguments>> {
+        match last_flag(options, &Place::CompileFlag) {
+            Some(_) => answer(alloc, options, "-c"),
+            None => Ok(CompilerArguments::NotCompilation),
         }
-        gathered.into_answer(alloc, "-c")
     }
 }

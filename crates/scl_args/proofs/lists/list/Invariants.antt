@@ -1,0 +1,11 @@
+use Rattle.std.proofs.Common.{◌≡◌, ◌++◌, map, drop}
+use Rattle.scl_args.specs.Seen.{seen}
+use Rattle.scl_args.specs.Words.{words_of}
+use Rattle.scl_args.specs.Options.{list}
+use Rattle.scl_args.proofs.lists.list.Given as goal
+
+abbrev pub invariant-loop-option : goal.invariant-loop-option
+invariant-loop-option g l =
+    let see = seen g.T.ArgumentValue.kind_of g.T.IntoArg.word_of in
+    let all = list (g.S.Sides.side l.sides) (g.P.Test.passes l.test) in
+    words_of l.words.items ++ all (map see (drop l.option-index l.options)) ≡ all (map see l.options)

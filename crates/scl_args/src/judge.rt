@@ -1,0 +1,78 @@
+//! Verdicts on a finished list of options.
+ghost use Rattle.std.specs.Prelude.{◌≡◌, List, [], map, IfOk};
+ghost use Rattle.std.specs.Option.{option_map};
+ghost use Rattle.scl_args.specs.Seen.{seen};
+ghost use Rattle.scl_args.specs.Options.{first_verdict, judged, result_by, all_seen};
+
+use crate::argument::Argument;
+use crate::memory::Mem;
+use crate::value::ArgumentValue;
+use crate::words::CutWords;
+use std::alloc::Global;
+
+/// What judges options, each after those before it (docs/RULES.md, Lists of options).
+pub trait Judge<T: ArgumentValue> {
+    ghost use Rattle.std.specs.Prelude.{Option};
+    ghost use Rattle.scl_args.specs.Seen.{Seen};
+
+    /// Why an option is refused.
+    type Refusal: Drop;
+
+    /// What a refusal is to definitions.
+    ghost Verdict: { Type 0 };
+
+    ghost verdict_of: { Self.Refusal → Verdict };
+
+    ghost verdict: { Self → List (Seen T.Kind) → Seen T.Kind → Option Verdict };
+
+    ghost dangling: { Verdict };
+
+    /// Why the option is refused, if it is. It fails only for want of memory.
+    fn judge(
+        &self,
+        alloc: Global,
+        before: &[Argument<T>],
+        option: &Argument<T>,
+    ) -> Mem<Option<Self::Refusal>>
+        ensures { IfOk result (λ said. option_map verdict_of said
+            ≡ verdict self.now (map (seen T.kind_of T.word_of) before.now) (seen T.kind_of T.word_of option.now)) };
+
+    /// Why options are refused whose last flag lacks its value. It fails only for want of memory.
+    fn refuse_dangling(&self, alloc: Global) -> Mem<Self::Refusal>
+        ensures { IfOk result (λ refusal. verdict_of refusal ≡ dangling) };
+}
+
+/// The refusal of the first option that is refused. It fails only for want of memory.
+pub fn first_refusal<T: ArgumentValue, J: Judge<T>>(
+    alloc: Global,
+    judge: &J,
+    options: &[Argument<T>],
+) -> Mem<Option<J::Refusal>>
+    ensures { IfOk result (λ said. option_map J.verdict_of said ≡ first_verdict (J.verdict judge.now) [] (map (seen T.kind_of T.word_of) options.now)) }
+{
+    for (i, option) in options.iter().enumerate() {
+        if let Some(refusal) = judge.judge(alloc, &options[..i], option)? {
+            return Ok(Some(refusal));
+        }
+    }
+    Ok(None)
+}
+
+/// The options, or the refusal of the first that is refused, or that of a last flag without its value
+/// (docs/RULES.md, Readings). It fails only for want of memory.
+pub fn judge_all<T: ArgumentValue, J: Judge<T>>(
+    alloc: Global,
+    judge: &J,
+    cut: CutWords<T>,
+) -> Mem<Result<Vec<Argument<T>>, J::Refusal>>
+    ensures { IfOk result (λ said. result_by (all_seen T.kind_of T.word_of) J.verdict_of said
+        ≡ judged (J.verdict judge.now) J.dangling (map (seen T.kind_of T.word_of) cut.options.items) cut.is_dangling) }
+{
+    if let Some(refusal) = first_refusal(alloc, judge, &cut.options)? {
+        return Ok(Err(refusal));
+    }
+    if cut.is_dangling {
+        return Ok(Err(judge.refuse_dangling(alloc)?));
+    }
+    Ok(Ok(cut.options))
+}

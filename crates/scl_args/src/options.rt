@@ -1,0 +1,202 @@
+//! Filters over a finished list of options: the last that passes a test, its flag or text, whether any passes, the texts of
+//! those that do.
+ghost use Rattle.std.specs.Prelude.{◌≡◌, IfOk, map};
+ghost use Rattle.std.specs.List.{list_any};
+ghost use Rattle.std.specs.Option.{option_map};
+ghost use Rattle.scl_args.specs.Seen.{seen};
+ghost use Rattle.scl_args.specs.Words.{words_of};
+ghost use Rattle.scl_args.specs.Options.{flag_of, text_of, begins_with_at, names_file, is_dashes, is_behind_dashes, last, last_by, texts};
+
+use crate::argument::{ArgDisposition, Argument};
+use crate::held::ReadArg;
+use crate::memory::Mem;
+use crate::value::ArgumentValue;
+use std::alloc::Global;
+
+/// A test that options pass or not (docs/RULES.md, Lists of options).
+pub trait Test<T: ArgumentValue> {
+    ghost use Rattle.std.specs.Prelude.{Bool};
+    ghost use Rattle.scl_args.specs.Seen.{Seen};
+
+    ghost passes: { Self → Seen T.Kind → Bool };
+
+    /// Whether the option passes.
+    fn passes(&self, option: &Argument<T>) -> bool
+        ensures { result ≡ passes self.now (seen T.kind_of T.word_of option.now) };
+}
+
+/// The test that options of these kinds pass.
+#[derive(Clone, Copy, Debug)]
+pub struct OfKinds<'a, K>(pub &'a [K]);
+
+impl<'a, T: ReadArg> Test<T> for OfKinds<'a, T::Kind>
+where
+    T::Kind: PartialEq,
+{
+    ghost use Rattle.scl_args.specs.Options.{of_kinds};
+
+    ghost passes = { λ test. of_kinds T.Kind.eq test.0.now };
+
+    fn passes(&self, option: &Argument<T>) -> bool {
+        match option {
+            Argument::Raw(_) | Argument::UnknownFlag(_) => false,
+            Argument::Flag(_, value) | Argument::WithValue(_, value, _) => {
+                self.0.contains(&value.kind())
+            }
+        }
+    }
+}
+
+/// The last of the options that pass.
+pub fn last_by<'a, T: ArgumentValue, P: Test<T>>(
+    options: &'a [Argument<T>],
+    test: &P,
+) -> Option<&'a Argument<T>>
+    ensures { option_map (λ option. seen T.kind_of T.word_of option.now) result ≡ last_by (P.passes test.now) (map (seen T.kind_of T.word_of) options.now) }
+{
+    let mut left = options;
+    while let Some((option, before)) = left.split_last() {
+        if test.passes(option) {
+            return Some(option);
+        }
+        left = before;
+    }
+    None
+}
+
+/// Whether any of the options passes.
+pub fn any<T: ArgumentValue, P: Test<T>>(options: &[Argument<T>], test: &P) -> bool
+    ensures { result ≡ list_any (P.passes test.now) (map (seen T.kind_of T.word_of) options.now) }
+{
+    for option in options {
+        if test.passes(option) {
+            return true;
+        }
+    }
+    false
+}
+
+/// The last of the options.
+pub fn last_option<T: ArgumentValue>(options: &[Argument<T>]) -> Option<&Argument<T>>
+    ensures { option_map (λ option. seen T.kind_of T.word_of option.now) result ≡ last (map (seen T.kind_of T.word_of) options.now) }
+{
+    options.last()
+}
+
+impl<T: ArgumentValue> Argument<T> {
+    /// The flag, empty where the option has none.
+    pub fn flag(&self) -> &'static str
+        ensures { result.now ≡ flag_of (seen T.kind_of T.word_of self.now) }
+    {
+        match self {
+            Argument::Raw(_) | Argument::UnknownFlag(_) => "",
+            Argument::Flag(flag, _) | Argument::WithValue(flag, _, _) => flag,
+        }
+    }
+
+    /// The word of an option without a flag, else the value's.
+    pub fn text(&self) -> &[u8]
+    where
+        T: ReadArg,
+        ensures { result.now ≡ text_of (seen T.kind_of T.word_of self.now) }
+    {
+        match self {
+            Argument::Raw(word) | Argument::UnknownFlag(word) => word,
+            Argument::Flag(_, value) | Argument::WithValue(_, value, _) => value.word(),
+        }
+    }
+}
+
+/// The flag of the last of the options that pass.
+pub fn last_flag<T: ArgumentValue, P: Test<T>>(
+    options: &[Argument<T>],
+    test: &P,
+) -> Option<&'static str>
+    ensures { option_map (λ flag. flag.now) result ≡ option_map flag_of (last_by (P.passes test.now) (map (seen T.kind_of T.word_of) options.now)) }
+{
+    match last_by(options, test) {
+        Some(option) => Some(option.flag()),
+        None => None,
+    }
+}
+
+/// The text of the last of the options that pass.
+pub fn last_text<'a, T: ReadArg, P: Test<T>>(
+    options: &'a [Argument<T>],
+    test: &P,
+) -> Option<&'a [u8]>
+    ensures { option_map (λ text. text.now) result ≡ option_map text_of (last_by (P.passes test.now) (map (seen T.kind_of T.word_of) options.now)) }
+{
+    match last_by(options, test) {
+        Some(option) => Some(option.text()),
+        None => None,
+    }
+}
+
+/// The texts of the options that pass, in order. It fails only for want of memory.
+pub fn texts<T: ReadArg, P: Test<T>>(
+    alloc: Global,
+    options: &[Argument<T>],
+    test: &P,
+) -> Mem<Vec<Vec<u8>>>
+    ensures { IfOk result (λ words. words_of words.items ≡ texts (P.passes test.now) (map (seen T.kind_of T.word_of) options.now)) }
+{
+    let mut words = Vec::new(alloc);
+    for option in options {
+        if test.passes(option) {
+            words.push(Vec::from_slice(alloc, option.text())?)?;
+        }
+    }
+    Ok(words)
+}
+
+/// Whether the option is the raw word `--`.
+pub fn is_dashes<T: ArgumentValue>(option: &Argument<T>) -> bool
+    ensures { result ≡ is_dashes (seen T.kind_of T.word_of option.now) }
+{
+    match option {
+        Argument::Raw(word) => word.as_slice() == b"--".as_slice(),
+        Argument::UnknownFlag(_) | Argument::Flag(_, _) | Argument::WithValue(_, _, _) => false,
+    }
+}
+
+/// Whether a raw word `--` stands before any of the options that the test takes for inputs (docs/RULES.md, Readings).
+pub fn is_behind_dashes<T: ArgumentValue, P: Test<T>>(options: &[Argument<T>], inputs: &P) -> bool
+    ensures { result ≡ is_behind_dashes (P.passes inputs.now) (map (seen T.kind_of T.word_of) options.now) }
+{
+    for option in options {
+        if is_dashes(option) {
+            return true;
+        }
+        if inputs.passes(option) {
+            return false;
+        }
+    }
+    false
+}
+
+fn begins_with_at(value: &[u8]) -> bool
+    ensures { result ≡ begins_with_at value.now }
+{
+    value.first() == Some(&b'@')
+}
+
+/// Whether the option's value begins with `@` and stands in a word of its own, or could have: it then names a file that
+/// was not put in its place (docs/RULES.md, Readings).
+pub fn names_file<T: ReadArg>(option: &Argument<T>) -> bool
+    ensures { result ≡ names_file (seen T.kind_of T.word_of option.now) }
+{
+    match option {
+        Argument::Raw(_)
+        | Argument::UnknownFlag(_)
+        | Argument::Flag(_, _)
+        | Argument::WithValue(_, _, ArgDisposition::Concatenated(_)) => false,
+        Argument::WithValue(
+            _,
+            value,
+            ArgDisposition::Separated
+            | ArgDisposition::CanBeConcatenated(_)
+            | ArgDisposition::CanBeSeparated(_),
+        ) => begins_with_at(value.word()),
+    }
+}

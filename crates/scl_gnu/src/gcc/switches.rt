@@ -1,0 +1,107 @@
+//! What options switch: the colour of messages, the assembler, and what a cache of preprocessor runs can see.
+ghost use Rattle.std.specs.Prelude.{◌≡◌, map};
+ghost use Rattle.std.specs.Option.{option_copied};
+ghost use Rattle.scl_args.specs.Seen.{seen};
+ghost use Rattle.scl_gnu.specs.Data.{kind_of, word_of};
+ghost use Rattle.scl_gnu.specs.Kinds.{color_named, color_of, assembler_of, is_hidden_flag, color_mode, external_assembler, too_hard_flag};
+
+use super::data::{ArgData, Kind};
+use scl_args::{Argument, OfKinds, Test, last_by, last_flag};
+use scl_text::records::ColorMode;
+
+/// The colour that a value asks for.
+fn color_named(value: &[u8]) -> ColorMode
+    ensures { result ≡ color_named value.now }
+{
+    if value == b"".as_slice() || value == b"always".as_slice() {
+        ColorMode::On
+    } else if value == b"never".as_slice() {
+        ColorMode::Off
+    } else {
+        ColorMode::Auto
+    }
+}
+
+fn color_of(option: &Argument<ArgData>) -> ColorMode
+    ensures { result ≡ color_of (seen kind_of word_of option.now) }
+{
+    match option {
+        Argument::Raw(_) | Argument::UnknownFlag(_) => ColorMode::Auto,
+        Argument::Flag(_, value) | Argument::WithValue(_, value, _) => match value {
+            ArgData::DiagnosticsColor(word) => color_named(word),
+            ArgData::DiagnosticsColorFlag => ColorMode::On,
+            ArgData::NoDiagnosticsColorFlag => ColorMode::Off,
+            _ => ColorMode::Auto,
+        },
+    }
+}
+
+/// The colour that was asked for last.
+pub(crate) fn color_mode(options: &[Argument<ArgData>]) -> Option<ColorMode>
+    ensures { result ≡ color_mode (map (seen kind_of word_of) options.now) }
+{
+    let kinds = [
+        Kind::DiagnosticsColor,
+        Kind::DiagnosticsColorFlag,
+        Kind::NoDiagnosticsColorFlag,
+    ];
+    match last_by(options, &OfKinds(&kinds)) {
+        Some(option) => Some(color_of(option)),
+        None => None,
+    }
+}
+
+fn assembler_of(option: &Argument<ArgData>) -> bool
+    ensures { result ≡ assembler_of (seen kind_of word_of option.now) }
+{
+    match option {
+        Argument::Flag(_, ArgData::NoIntegratedAs)
+        | Argument::WithValue(_, ArgData::NoIntegratedAs, _) => true,
+        _ => false,
+    }
+}
+
+/// Whether the assembler that was asked for last is a program of its own.
+pub(crate) fn external_assembler(options: &[Argument<ArgData>]) -> Option<bool>
+    ensures { result ≡ external_assembler (map (seen kind_of word_of) options.now) }
+{
+    match last_by(
+        options,
+        &OfKinds(&[Kind::IntegratedAs, Kind::NoIntegratedAs]),
+    ) {
+        Some(option) => Some(assembler_of(option)),
+        None => None,
+    }
+}
+
+fn is_hidden_flag(flag: &str) -> bool
+    ensures { result ≡ is_hidden_flag flag.now }
+{
+    flag == "-Wp" || flag == "-Xpreprocessor"
+}
+
+/// The options that hide from a cache of preprocessor runs what they ask of the preprocessor.
+struct Hidden;
+
+impl Test<ArgData> for Hidden {
+    ghost use Rattle.scl_gnu.specs.Kinds.{is_too_hard};
+
+    ghost passes = { λ _. is_too_hard };
+
+    fn passes(&self, option: &Argument<ArgData>) -> bool {
+        match option {
+            Argument::Flag(flag, ArgData::PreprocessorArgument(_))
+            | Argument::WithValue(flag, ArgData::PreprocessorArgument(_), _) => {
+                is_hidden_flag(flag)
+            }
+            _ => false,
+        }
+    }
+}
+
+/// The flag of the last of those options.
+pub(crate) fn too_hard_flag(options: &[Argument<ArgData>]) -> Option<&'static str>
+    ensures { option_copied result ≡ too_hard_flag (map (seen kind_of word_of) options.now) }
+{
+    last_flag(options, &Hidden)
+}

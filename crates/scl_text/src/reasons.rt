@@ -1,0 +1,19 @@
+//! The reasons of refusals that several compilers share (docs/RULES.md, Readings).
+
+/// A value names a response file that was not put in its place.
+pub const UNEXPANDED_FILE: &str = "@";
+
+/// The words can't be cut.
+pub const ARGUMENT_PARSE: &str = "argument parse";
+
+/// Several inputs are named.
+pub const MULTIPLE_INPUT_FILES: &str = "multiple input files";
+
+/// No input is named.
+pub const NO_INPUT_FILE: &str = "no input file";
+
+/// Nothing tells the input's language.
+pub const UNKNOWN_SOURCE_LANGUAGE: &str = "unknown source language";
+
+/// The input has no file name.
+pub const INVALID_INPUT_FILE: &str = "invalid input file";
