@@ -2,7 +2,7 @@
 ghost use Rattle.std.specs.Prelude.{◌≡◌, IfOk};
 ghost use Rattle.scl_text.specs.Records.{parsed_of};
 ghost use Rattle.scl_text.specs.Words.{words_of};
-ghost use Rattle.scl_text.specs.Commands.{pairs_of};
+ghost use Rattle.scl_text.specs.Commands.{pairs_of, command_by};
 ghost use Rattle.scl_cl.specs.Drafts.{asked_by};
 ghost use Rattle.scl_cl.specs.Answers.{answer_to, answer_from, answer_with, gcc_answer};
 ghost use Rattle.scl_cl.specs.AnswersGiven.{answer_of};
@@ -24,7 +24,7 @@ fn answer_record<C: CCompilerImpl>(
     parsed: &ParsedArguments,
     request: &Request,
 ) -> Mem<Answer>
-    ensures { IfOk result (λ answer. answer_of answer ≡ answer_with (C.command compiler.now (parsed_of parsed.now)) (C.cacheable compiler.now (parsed_of parsed.now) request.now.directory.items request.now.view)) }
+    ensures { IfOk result (λ answer. answer_of answer ≡ answer_with (command_by (C.command compiler.now) (parsed_of parsed.now)) (C.cacheable compiler.now (parsed_of parsed.now) request.now.directory.items request.now.view)) }
 {
     let built = compiler.generate_compile_commands(
         alloc,
@@ -47,7 +47,7 @@ fn answer_record<C: CCompilerImpl>(
 /// The answer of a compiler.
 fn answer_by<C: CCompilerImpl>(alloc: Global, compiler: &C, request: &Request) -> Mem<Answer>
     ensures { IfOk result (λ answer. let asked = asked_by request.now in
-        answer_of answer ≡ answer_from (C.command compiler.now) (λ parsed. C.cacheable compiler.now parsed asked.directory asked.view)
+        answer_of answer ≡ answer_from (command_by (C.command compiler.now)) (λ parsed. C.cacheable compiler.now parsed asked.directory asked.view)
         (C.reading compiler.now asked.words asked.directory asked.environment asked.view)) }
 {
     let parsed = compiler.parse_arguments(

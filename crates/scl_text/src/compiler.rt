@@ -8,8 +8,7 @@ use crate::view::View;
 use std::alloc::Global;
 
 /// A compiler whose command lines are read and built. The ghost members are its own definitions:
-/// the outcome of a command line, the words of a record's command (none where the record has no
-/// output `obj`), the environment that the command gets, and whether its outcome may be kept
+/// the outcome of a command line, the words of the command that makes a record's object, the environment that the command gets, and whether its outcome may be kept
 /// (docs/RULES.md, Compilers).
 pub trait CCompilerImpl {
     ghost use Rattle.std.specs.Prelude.{◌≡◌, ◌↔◌, ℕ, Bool, List, Option, None, Result, IfOk};
@@ -17,7 +16,7 @@ pub trait CCompilerImpl {
     ghost use Rattle.std.specs.String.{string_bytes};
     ghost use Rattle.scl_text.specs.Words.{words_of};
     ghost use Rattle.scl_text.specs.Views.{Viewed};
-    ghost use Rattle.scl_text.specs.Commands.{pairs_of, object_of};
+    ghost use Rattle.scl_text.specs.Commands.{pairs_of, object_of, command_by};
     ghost use Rattle.scl_text.specs.Compilers.{IsAnswer};
     ghost use Rattle.scl_text.specs.Records.{Parsed, Verdict, parsed_of, outcome_of};
     ghost use Rattle.scl_text.specs.declared.records.CCompilerKind.{CCompilerKind};
@@ -33,7 +32,7 @@ pub trait CCompilerImpl {
 
     ghost reading: { Self → List (List ℕ) → List ℕ → List (List ℕ × List ℕ) → Viewed → Result Parsed Verdict };
 
-    ghost command: { Self → Parsed → Option (List (List ℕ)) };
+    ghost command: { Self → Parsed → List ℕ → List (List ℕ) };
 
     ghost environment: { Self → List (List ℕ × List ℕ) → List (List ℕ × List ℕ) };
 
@@ -74,7 +73,7 @@ pub trait CCompilerImpl {
         env_vars: &[(Vec<u8>, Vec<u8>)],
         view: &View,
     ) -> Result<(SingleCompileCommand, Cacheable), CommandError>
-        ensures command { IfOk result (λ answer. IsAnswer answer.0 answer.1 (command self.now (parsed_of parsed.now)) executable.now (environment self.now (pairs_of env_vars.now)) cwd.now (cacheable self.now (parsed_of parsed.now) cwd.now view.now)) }
+        ensures command { IfOk result (λ answer. IsAnswer answer.0 answer.1 (command_by (command self.now) (parsed_of parsed.now)) executable.now (environment self.now (pairs_of env_vars.now)) cwd.now (cacheable self.now (parsed_of parsed.now) cwd.now view.now)) }
         ensures missing { (result ≡ Err CommandError.MissingObj) ↔ (object_of (parsed_of parsed.now) ≡ None) };
 
     /// A copy of the assembler's digest, if it is known (docs/RULES.md, Compilers).

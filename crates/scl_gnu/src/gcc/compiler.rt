@@ -40,7 +40,7 @@ impl CCompilerImpl for Gcc {
     ghost use Rattle.scl_text.specs.declared.records.CCompilerKind.TheVariants as compilers;
     ghost use Rattle.scl_text.specs.declared.records.Cacheable.TheVariants as cacheables;
     ghost use Rattle.scl_text.specs.Languages.{gcc_text};
-    ghost use Rattle.scl_gnu.specs.Building.{command};
+    ghost use Rattle.scl_gnu.specs.Building.{command_words};
     ghost use Rattle.scl_gnu.specs.GccRows.{gcc_rows};
     ghost use Rattle.scl_gnu.specs.Readings.{reading};
 
@@ -54,7 +54,7 @@ impl CCompilerImpl for Gcc {
 
     ghost reading = { λ gcc words directory env_vars view. reading compilers.Gcc gcc.gplusplus (gcc_rows ∷ []) directory view words };
 
-    ghost command = { λ _ parsed. command (gcc_text parsed.language) parsed };
+    ghost command = { λ _ parsed. command_words (gcc_text parsed.language) parsed };
 
     ghost environment = { λ _ env_vars. env_vars };
 

@@ -20,7 +20,7 @@ impl CCompilerImpl for Diab {
     ghost use Rattle.scl_args.specs.Tables.{owner_in};
     ghost use Rattle.scl_small.specs.DiabTable.{rows};
     ghost use Rattle.scl_small.specs.DiabReading.{expanded_reading};
-    ghost use Rattle.scl_small.specs.Command.{command};
+    ghost use Rattle.scl_small.specs.Command.{command_words};
     ghost use Rattle.scl_text.specs.declared.records.CCompilerKind.TheVariants as kinds;
     ghost use Rattle.scl_text.specs.declared.records.Cacheable.TheVariants as answers;
 
@@ -34,7 +34,7 @@ impl CCompilerImpl for Diab {
 
     ghost reading = { λ _ words cwd env_vars view. expanded_reading (owner_in (rows ∷ [])) cwd view.files words };
 
-    ghost command = { λ _. command };
+    ghost command = { λ _. command_words };
 
     ghost environment = { λ _ env_vars. env_vars };
 

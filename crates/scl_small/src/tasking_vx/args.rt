@@ -9,8 +9,8 @@ ghost use Rattle.scl_small.specs.TaskingTable.{rows};
 use scl_args::ArgDisposition::{CanBeSeparated, Concatenated, Separated};
 use scl_args::ArgRow::{Flag, TakeArg};
 use scl_args::{
-    ArgInfo, ArgParseResult, ArgToStringResult, ArgumentValue, ExactArg, FlagTable, Held, IntoArg, Mem,
-    PathArg, ReadArg, without_value,
+    ArgInfo, ArgParseResult, ArgToStringResult, ArgumentValue, ExactArg, FlagTable, Held, IntoArg,
+    Mem, PathArg, ReadArg, without_value,
 };
 use std::alloc::Global;
 
@@ -62,9 +62,8 @@ impl ReadArg for ArgData {
 
     fn held(&self) -> Held<'_> {
         match self {
-            ArgData::TooHardFlag
-            | ArgData::NotCompilationFlag
-            | ArgData::DoCompilation => Held::Nothing,
+            ArgData::TooHardFlag | ArgData::NotCompilationFlag | ArgData::DoCompilation =>
+                Held::Nothing,
             ArgData::TooHard(word)
             | ArgData::NotCompilation(word)
             | ArgData::PassThrough(word)

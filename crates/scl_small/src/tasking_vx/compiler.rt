@@ -16,7 +16,7 @@ impl CCompilerImpl for TaskingVX {
     ghost use Rattle.scl_args.specs.Tables.{owner_in};
     ghost use Rattle.scl_small.specs.TaskingTable.{rows};
     ghost use Rattle.scl_small.specs.TaskingReading.{reading};
-    ghost use Rattle.scl_small.specs.Command.{command};
+    ghost use Rattle.scl_small.specs.Command.{command_words};
     ghost use Rattle.scl_text.specs.declared.records.CCompilerKind.TheVariants as kinds;
     ghost use Rattle.scl_text.specs.declared.records.Cacheable.TheVariants as answers;
 
@@ -30,7 +30,7 @@ impl CCompilerImpl for TaskingVX {
 
     ghost reading = { λ _ words cwd env_vars view. reading (owner_in (rows ∷ [])) words };
 
-    ghost command = { λ _. command };
+    ghost command = { λ _. command_words };
 
     ghost environment = { λ _ env_vars. env_vars };
 
