@@ -4,6 +4,7 @@
 mod argument;
 mod counted;
 mod error;
+mod escaped;
 mod gather;
 mod iter;
 pub mod laws;
@@ -16,14 +17,13 @@ mod spell;
 mod split;
 mod strings;
 mod table;
-#[cfg(test)]
-mod tests;
 mod value;
 mod words;
 
 pub use argument::{ArgDisposition, ArgInfo, ArgRow, Argument, Delimiter, NormalizedDisposition};
 pub use counted::Counted;
 pub use error::{ArgParseError, ArgParseResult, ArgToStringError, ArgToStringResult};
+pub use escaped::{Escaped, quoted, quoted_list};
 pub use gather::{Gather, gather_all};
 pub use iter::ArgsIter;
 pub use lists::{push_spelled, side_of_flag};
@@ -31,6 +31,6 @@ pub use memory::Mem;
 pub use rows::{FlagTable, Probes, RowStore, SearchableArgInfo, looks};
 pub use spell::Iter;
 pub use split::split_os_string_arg;
-pub use strings::{IterStrings, prints_one_word_or_two};
+pub use strings::IterStrings;
 pub use value::{ArgumentValue, ExactArg, FromArg, IntoArg, PathArg};
 pub use words::{CutWords, cut_options, cut_words};
