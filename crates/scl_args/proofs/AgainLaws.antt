@@ -16,8 +16,9 @@ use Rattle.scl_args.specs.Cuts.{Cut, raw, unknown, flag, with_value, after_delim
 use Rattle.scl_args.specs.Seen.{Plain, plain, plain_seen, Seen, shown}
 use Rattle.scl_args.specs.Seen as plain
 use Rattle.scl_args.specs.Again.{extends, keeps_flags, joins_safely, is_changing, is_changing_shape, is_joining, is_together, Reads}
-use Rattle.scl_args.specs.Origins.{is_mark, Owns, StandsEither, ValueCame, Came, HasSome, IsClear, IsKept}
+use Rattle.scl_args.specs.Origins.{is_mark, Owns, StandsEither, ValueCame, HasSome, IsClear, IsKept}
 use Rattle.scl_args.proofs.PrefixLemmas.{both}
+use Rattle.scl_args.proofs.OriginLaws.{owned_word, CameUnmarked}
 use Rattle.scl_args.proofs.OwnerLaws.{owner_is}
 use Rattle.scl_args.proofs.AgainChecks.{owner-flag, flag-no_dash, owner-joined}
 use Rattle.scl_args.proofs.ReadsLaws.{reads-flag, reads-apart, reads-either_apart, reads-joined, reads-either_joined, reads-unknown, reads-raw, reads-all, reads-append, reads-nil}
@@ -85,9 +86,9 @@ module _ {K : Type 0} (own : List ℕ → Option (Row K)) (dashes : Bool) (rows 
 
   again-either : (row : Row K) (d : Option ℕ) (v : List ℕ) (h : ArgDisposition) (s : NormalizedDisposition) → row.shape ≡ either d → Has rows row → HasSome (either d) v → to row.flag ≡ s → StandsEither own dashes row d v h → Again row v h s
   again-either row d v how.Separated s e has some t k = absurd k
-  again-either row d v (how.CanBeConcatenated f) side.Concatenated e has some t k = again-either_joined row f v (e ∙ ap either k) has (subst (λ g. HasSome (either g) v) k some) (ap is_together t)
+  again-either row d v (how.CanBeConcatenated f) side.Concatenated e has some t k = again-either_joined row f v (e ∙ ap either k.0) has (subst (λ g. HasSome (either g) v) k.0 some) (ap is_together t)
   again-either row d v (how.CanBeConcatenated f) side.Separated e has some t k = again-either_apart row d v e has
-  again-either row d v (how.CanBeSeparated f) side.Concatenated e has some t k = again-either_joined row f v (e ∙ ap either k) has (subst (λ g. HasSome (either g) v) k some) (ap is_together t)
+  again-either row d v (how.CanBeSeparated f) side.Concatenated e has some t k = again-either_joined row f v (e ∙ ap either k.0) has (subst (λ g. HasSome (either g) v) k.0 some) (ap is_together t)
   again-either row d v (how.CanBeSeparated f) side.Separated e has some t k = again-either_apart row d v e has
   again-either row d [] (how.Concatenated f) s e has some t k = absurd some
   again-either row d (x ∷ xs) (how.Concatenated f) s e has some t k = absurd (let n : x ∷ xs ≡ [] = k.0 in cc)
@@ -120,25 +121,17 @@ module _ {K : Type 0} (own : List ℕ → Option (Row K)) (dashes : Bool) (rows 
         | side.Concatenated ↦ rw came.0 (reads-joined own dashes row d v e o)
         | side.Separated ↦ rw came.0 (reads-joined own dashes row d v e o)
       ]
-  again-shape row (either d) v h e came some k = again-either row d v h (to row.flag) e (has_row row came.1.0 came.1.1) some refl came.0
+  again-shape row (either d) v h e came some k = again-either row d v h (to row.flag) e (let w = owned_word own dashes row d v h came in has_row row w.0 w.1) some refl came
 
   -- an option that words were cut into, printed and cut again
-  pub again : (c : Cut K) → Came own dashes c → IsClear c → IsKept dashes kept c → Reads own dashes (spelled_on to (shown c)) (plain c ∷ [])
-  again (raw w) came clear k = let r = came k in reads-raw own dashes w r.0 r.1 (rw k refl)
+  pub again : (c : Cut K) → CameUnmarked own dashes c → IsClear c → IsKept dashes kept c → Reads own dashes (spelled_on to (shown c)) (plain c ∷ [])
+  again (raw w) came clear k = let r = came k in reads-raw own dashes w r.no_owner r.no_dash r.no_mark
   again (unknown w) came clear k = reads-unknown own dashes w came.0 came.1 came.2
   again (flag row) came clear k = reads-flag own dashes row came.1 came.0
   again (with_value row v h) came clear k = again-shape row row.shape v h refl came clear k
 
-  -- a list of such options
-  pub again-all : (cs : List (Cut K)) → Each (λ c. Came own dashes c × IsClear c × IsKept dashes kept c) cs → Reads own dashes (flat_map (λ c. spelled_on to (shown c)) cs) (map plain cs)
-  again-all cs h = reads-all own dashes (λ c. spelled_on to (shown c)) plain cs (each cs h)
-    where
-      each : (xs : List (Cut K)) → Each (λ c. Came own dashes c × IsClear c × IsKept dashes kept c) xs → Each (λ c. Reads own dashes (spelled_on to (shown c)) (plain c ∷ [])) xs
-      each [] h = tt
-      each (c ∷ xs) h = (again c h.0.0 h.0.1 h.0.2, each xs h.1)
-
   -- the options that pass a test, as a reader sees them, printed and cut again
-  pub list-again : (p : Seen K → Bool) (cs : List (Cut K)) → Each (Came own dashes) cs → Each IsClear cs → Each (λ c. p (shown c) ≡ true → IsKept dashes kept c) cs
+  pub list-again : (p : Seen K → Bool) (cs : List (Cut K)) → Each (CameUnmarked own dashes) cs → Each IsClear cs → Each (λ c. p (shown c) ≡ true → IsKept dashes kept c) cs
       → Reads own dashes (flat_map (spelled_on to) (filter p (map shown cs))) (map plain_seen (filter p (map shown cs)))
   list-again p [] came clear k = reads-nil own dashes
   list-again p (c ∷ cs) came clear k =
@@ -147,7 +140,7 @@ module _ {K : Type 0} (own : List ℕ → Option (Row K)) (dashes : Bool) (rows 
         | false ↦ λ e. list-again p cs came.1 clear.1 k.1
       ] refl
     where
-      seen-again : (c : Cut K) → Came own dashes c → IsClear c → IsKept dashes kept c → Reads own dashes (spelled_on to (shown c)) (plain c ∷ [])
+      seen-again : (c : Cut K) → CameUnmarked own dashes c → IsClear c → IsKept dashes kept c → Reads own dashes (spelled_on to (shown c)) (plain c ∷ [])
       seen-again (raw w) a b d = again (raw w) a b d
       seen-again (unknown w) a b d = again (unknown w) a b d
       seen-again (flag row) a b d = again (flag row) a b d

@@ -22,10 +22,10 @@ module _ {K : Type 0} (own : List ℕ → Option (Row K)) (dashes : Bool) where
       let o : Owns own dashes row.flag row = subst (λ u. Owns own dashes u row) (ap (λ r. row.flag ++ r) none ∙ append-nil row.flag) c.1.1 in
       rw c.0 (by_owner row (joined None) e o)
   shape-tells row (joined (Some d)) [] h e c = rw c.0 refl
-  shape-tells row (either d) [] how.Separated e c = absurd c.0
+  shape-tells row (either d) [] how.Separated e c = absurd c
   shape-tells row (either d) [] (how.CanBeConcatenated f) e c = refl
   shape-tells row (either d) [] (how.CanBeSeparated f) e c = refl
-  shape-tells row (either d) [] (how.Concatenated f) e c = rw c.0.1 (by_owner row (either d) e c.0.2)
+  shape-tells row (either d) [] (how.Concatenated f) e c = rw c.1 (by_owner row (either d) e c.2)
 
   -- a search for the flag tells whether an option of a cutting has an empty value where its row is either
   pub search-tells : (c : Cut K) → Came own dashes c → seems_empty_either own (shown c) ≡ is_empty_either c

@@ -4,6 +4,7 @@ pub mod BehindLaws
 pub mod BitsLemmas
 pub mod CutsLemmas
 pub mod EmptyLaws
+pub mod EscapedLemmas
 pub mod FitLaws
 pub mod FreshLaws
 pub mod HoldsLemmas

@@ -3,12 +3,13 @@ use Rattle.std.specs.Str.{bytes_eq}
 use Rattle.scl_args.specs.Options.{text_of}
 use Rattle.scl_args.specs.declared.argument.ArgDisposition.{ArgDisposition}
 use Rattle.scl_args.specs.Row.{Row, Shape, bare, apart, joined, either}
-use Rattle.scl_args.specs.Cuts.{Cut, raw, unknown, flag, with_value}
+use Rattle.scl_args.specs.Cuts.{mark, Cut, raw, unknown, flag, with_value}
 use Rattle.scl_args.specs.Seen.{Seen, shown}
 use Rattle.scl_args.specs.Seen as plain
-use Rattle.scl_args.specs.Again.{Reads, mark}
+use Rattle.scl_args.specs.Again.{Reads}
 use Rattle.scl_args.specs.Origins.{FirstRaw, IsInput, Owns, ValueCame}
 use Rattle.scl_args.specs.Marks.{is_input, inputs, is_marked}
+use Rattle.scl_args.proofs.OriginLaws.{owned_word}
 use Rattle.scl_args.proofs.ReadsLaws.{reads-apart, reads-either_apart}
 
 module _ {K : Type 0} (own : List ℕ → Option (Row K)) where
@@ -34,4 +35,4 @@ module _ {K : Type 0} (own : List ℕ → Option (Row K)) (dashes : Bool) (rows 
   another-value row bare v h other e n c = absurd c
   another-value row apart v h other e n c = reads-apart own dashes row other e c.1
   another-value row (joined d) v h other e n c = absurd (n d refl)
-  another-value row (either d) v h other e n c = reads-either_apart own dashes row d other e (owns-flag row c.1.0 c.1.1 (covers row d e))
+  another-value row (either d) v h other e n c = reads-either_apart own dashes row d other e (let w = owned_word own dashes row d v h c in owns-flag row w.0 w.1 (covers row d e))

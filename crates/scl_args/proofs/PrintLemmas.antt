@@ -1,13 +1,15 @@
 -- How many words and texts an option prints.
-use Rattle.std.proofs.Common.{ℕ, ◌<◌, ◌≤◌, Bool, List, [], ◌∷◌, length, Option, None, Some, Result, Ok, Err, String, Vec, ap, arith}
+use Rattle.std.proofs.Common.{◌≡◌, ℕ, ◌<◌, ◌≤◌, Bool, List, [], ◌∷◌, length, map, refl, Option, None, Some, Result, Ok, Err, String, Vec, ap, arith}
 use Rattle.std.specs.Iterator.{Drains, Yields}
 use Rattle.std.specs.declared.alloc.AllocError.{AllocError}
 use Rattle.std.specs.declared.alloc.Global.{Global}
 use Rattle.scl_args.specs.declared.argument.ArgDisposition.TheVariants as how
+use Rattle.scl_args.specs.declared.argument.Argument.{Argument}
+use Rattle.scl_args.specs.declared.argument.Argument.TheVariants as argument
 use Rattle.scl_args.specs.declared.error.ArgToStringError.{ArgToStringError}
-use Rattle.scl_args.specs.Seen.{Seen, Raw, Unknown, Known}
+use Rattle.scl_args.specs.Seen.{Seen, Raw, Unknown, Known, seen}
 use Rattle.scl_args.specs.Spell.{spelled, YieldsWords}
-use Rattle.scl_args.specs.Texts.{Item, Printer, printer, items_shown, PrintsFirst, PrintsNext}
+use Rattle.scl_args.specs.Texts.{Item, Printer, printer, items_shown, word_shown, PrintsFirst, PrintsNext}
 
 items_few : (option : Seen Bool) → length (items_shown option) ≤ 2
 items_few (Raw w) = omega arith
@@ -64,3 +66,13 @@ pub words_few : {K : Type 0} (option : Seen K) (items : List (Result (Vec ℕ Gl
     → (0 < length items) × (length items ≤ 2)
 words_few option items h =
     (words_some (spelled option) items (spelled_few option).0 h, omega (arith, (spelled_few option).1, words_bounded (spelled option) items h.1.0 h.1.1))
+
+-- the items of an option that are shown as they are, are its words
+pub texts_are_words : {K T : Type 0} (is_path : T → Bool) (kind_of : T → K) (word_of : T → List ℕ) (option : Argument T) → map word_shown (items_shown (seen is_path word_of option)) ≡ spelled (seen kind_of word_of option)
+texts_are_words p k v (argument.Raw w) = refl
+texts_are_words p k v (argument.UnknownFlag w) = refl
+texts_are_words p k v (argument.Flag name value) = refl
+texts_are_words p k v (argument.WithValue name value how.Separated) = refl
+texts_are_words p k v (argument.WithValue name value (how.CanBeConcatenated d)) = refl
+texts_are_words p k v (argument.WithValue name value (how.CanBeSeparated d)) = refl
+texts_are_words p k v (argument.WithValue name value (how.Concatenated d)) = refl

@@ -51,11 +51,6 @@ module _ {K : Type 0} (own : List ℕ → Option (Row K)) (dashes : Bool) where
   reads-all words options [] h = reads-nil
   reads-all words options (x ∷ xs) h = reads-append (words x) (flat_map words xs) (options x ∷ []) (map options xs) h.0 (reads-all words options xs h.1)
 
-  -- all the words, with nothing after them
-  pub reads-whole_line : (ws : List (List ℕ)) (xs : List (Plain K)) → Reads own dashes ws xs → read own dashes ws ≡ record { options = xs; end = clean }
-  reads-whole_line ws xs p =
-      ap (read own dashes) (sym (append-nil ws)) ∙ (p.before [] ∙ ap (λ os. let x : Read K = record { options = os; end = clean } in x) (append-nil xs))
-
   -- ---- the piece of a word
 
   pub piece-owned : (row : Row K) (rest : List ℕ) → Owns own dashes (row.flag ++ rest) row → piece_of own dashes (row.flag ++ rest) ≡ piece_at row row.shape rest

@@ -1,10 +1,10 @@
-use Rattle.std.proofs.Common.{◌≡◌, ℕ, ◌+◌, ◌≤◌, true, false, cond, nat_lt, ◌&&◌, List, [], ◌∷◌, ◌++◌, length, drop, filter, Option, None, Some, refl, sym, ap, subst, take, nat_eq, ◌∙◌, arith}
+use Rattle.std.proofs.Common.{◌≡◌, ℕ, ◌+◌, ◌≤◌, Bool, true, false, cond, nat_lt, ◌&&◌, List, [], ◌∷◌, ◌++◌, length, drop, filter, Option, None, Some, refl, sym, ap, subst, take, nat_eq, ◌∙◌, arith}
 use Rattle.std.specs.Cmp.Lexicographic.{pointwise}
 use Rattle.std.proofs.lemmas.Bool.Decides.{nat_tests}
 use Rattle.scl_args.specs.Row.{Row, joins, fits}
 use Rattle.std.specs.List.{starts_with}
 use Rattle.scl_args.specs.Probes.{looks_in}
-use Rattle.scl_args.specs.Tables.{longer, longest, owner, owner_in}
+use Rattle.scl_args.specs.Tables.{has_ascii_delimiter, finds_ascii_delimiter, comes_before, is_table, longer, longest, owner, owner_in}
 
 pub longer_none : {K : Type 0} (a : Option (Row K)) → longer a None ≡ a
 longer_none None = refl
@@ -70,6 +70,27 @@ fits-length row word h =
 
 pub owner_in_length : {K : Type 0} (tables : List (List (Row K))) (word : List ℕ) (row : Row K) → Some row ≡ owner_in tables word → length row.flag ≤ length word
 owner_in_length tables word row e = fits-length row word (owner_in_fits tables word row e)
+
+-- in a table, the row that a search finds has an ASCII delimiter or none
+finds-longer : {K : Type 0} (a b : Option (Row K)) → finds_ascii_delimiter a ≡ true → finds_ascii_delimiter b ≡ true → finds_ascii_delimiter (longer a b) ≡ true
+finds-longer None b p q = q
+finds-longer (Some x) None p q = p
+finds-longer (Some x) (Some y) p q = elim (nat_lt (length y.flag) (length x.flag)) as (λ t. finds_ascii_delimiter (cond t (Some x) (Some y)) ≡ true) [ true ↦ p | false ↦ q ]
+
+both-hold : (a b c : Bool) → (a && b && c) ≡ true → (a ≡ true) × (c ≡ true)
+both-hold true true c h = (refl, h)
+both-hold true false c h = cc
+both-hold false b c h = cc
+
+pub owner_finds_ascii_delimiter : {K : Type 0} (rows : List (Row K)) (word : List ℕ) → is_table rows ≡ true → finds_ascii_delimiter (owner rows word) ≡ true
+owner_finds_ascii_delimiter [] word h = refl
+owner_finds_ascii_delimiter (row ∷ rows) word h =
+    let part = both-hold (has_ascii_delimiter row.shape) (comes_before row.flag rows) (is_table rows) h in
+    let more = owner_finds_ascii_delimiter rows word part.1 in
+    elim (fits row word) as (λ b. finds_ascii_delimiter (longest (cond b (row ∷ filter (λ r. fits r word) rows) (filter (λ r. fits r word) rows))) ≡ true) [
+      | true ↦ finds-longer (Some row) (owner rows word) part.0 more
+      | false ↦ more
+    ]
 
 pub looks_in_append : {K : Type 0} (xs ys : List (List (Row K))) (word : List ℕ) → looks_in (xs ++ ys) word ≡ looks_in xs word + looks_in ys word
 looks_in_append [] ys word = omega arith

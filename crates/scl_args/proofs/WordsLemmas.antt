@@ -65,10 +65,10 @@ module _ {K T : Type 0} (make : K → List ℕ → Result T ArgParseError → Ty
 
   pub leaves_after : (s t : State) (r : Option (Result (Argument T) ArgParseError)) → HasLenIf s.ended s.arguments → CutsNext steps make s r t → LeavesAfter s r t
   leaves_after s t None h n = at_none s t.arguments h n.1
-  leaves_after s t (Some item) h (going, _, _, midway taken y f) =
+  leaves_after s t (Some item) h (going, _, _, midway taken y f, _) =
       let more = taken_all s.arguments t.arguments taken (record { len = h.len going }) y in
       (rw (more.items, words_of-append taken (into_iter_items t.arguments)) (f (words_of (into_iter_items t.arguments))), record { len = λ _. more.len.len })
-  leaves_after s t (Some item) h (going, _, _, at_end taken y ended f) =
+  leaves_after s t (Some item) h (going, _, _, at_end taken y ended f, _) =
       let more = taken_all s.arguments y.0 taken (record { len = h.len going }) y.1 in
       let none : into_iter_items y.0 ≡ [] = no_items _ (omega (arith, more.len.len, y.2.0)) in
       let all : into_iter_items s.arguments ≡ taken = more.items ∙ rw none (append-nil taken) in

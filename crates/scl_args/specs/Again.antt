@@ -6,7 +6,7 @@ use Rattle.std.specs.Cmp.Lexicographic.{slice_cmp}
 use Rattle.scl_args.specs.declared.argument.NormalizedDisposition.{NormalizedDisposition}
 use Rattle.scl_args.specs.declared.argument.NormalizedDisposition.TheVariants as side
 use Rattle.scl_args.specs.Row.{Row, Shape, bare, apart, joined, either}
-use Rattle.scl_args.specs.Cuts.{End, Cutting, cut}
+use Rattle.scl_args.specs.Cuts.{mark, End, Cutting, cut}
 use Rattle.scl_args.specs.Seen.{Plain, plain}
 
 -- what words are cut into, apart from how values stand
@@ -27,11 +27,6 @@ behind first others = record { options = first ++ others.options; end = others.e
 -- before any other words, the words are read as the options
 pub record Reads {K : Type 0} (own : List ℕ → Option (Row K)) (dashes : Bool) (words : List (List ℕ)) (options : List (Plain K)) : Type 0 where
   pub before : (rest : List (List ℕ)) → read own dashes (words ++ rest) ≡ behind options (read own dashes rest)
-
--- ---- the mark after which all words are raw
-
-abbrev pub mark : List ℕ
-mark = 45 ∷ (45 ∷ [])
 
 -- ---- two checks of tables, over all their rows in one list
 

@@ -1,10 +1,8 @@
 -- What words are cut into.
-use Rattle.std.specs.Prelude.{ℕ, Bool, true, false, cond, ◌==◌, ◌&&◌, ◌≤◌, List, [], ◌∷◌, length, drop, map, Option, None, Some}
+use Rattle.std.specs.Prelude.{ℕ, Bool, true, false, cond, ◌==◌, ◌&&◌, List, [], ◌∷◌, length, drop, map, Option, None, Some}
 use Rattle.std.specs.Str.{bytes_eq}
 use Rattle.scl_args.specs.declared.argument.ArgDisposition.{ArgDisposition}
 use Rattle.scl_args.specs.declared.argument.ArgDisposition.TheVariants as how
-use Rattle.scl_args.specs.declared.piece.Reading.{Reading}
-use Rattle.scl_args.specs.declared.piece.Reading.TheVariants as reading
 use Rattle.scl_args.specs.Row.{Row, Shape, bare, apart, joined, either}
 
 -- an option of a command line: a word that is none, an unknown flag, a flag that takes no value, or a flag with its value
@@ -53,18 +51,26 @@ piece_at row (joined d) rest = whole (with_value row (after_delimiter d rest) (h
 piece_at row (either d) [] = needs_value row (how.CanBeConcatenated d) (without_value d)
 piece_at row (either d) (x ∷ xs) = whole (with_value row (after_delimiter d (x ∷ xs)) (how.CanBeSeparated d))
 
+-- `-`
+abbrev pub dash : ℕ
+dash = 45
+
+-- `--`, the mark after which all words are raw
+abbrev pub mark : List ℕ
+mark = dash ∷ (dash ∷ [])
+
 abbrev pub starts_with_dash : List ℕ → Bool
 starts_with_dash [] = false
-starts_with_dash (x ∷ xs) = x == 45
+starts_with_dash (x ∷ xs) = x == dash
 
 -- a word, by its owner
 abbrev pub owned_piece : {K : Type 0} → Option (Row K) → List ℕ → Piece K
 owned_piece None word = whole (cond (starts_with_dash word) (unknown word) (raw word))
 owned_piece (Some row) word = piece_at row row.shape (drop (length row.flag) word)
 
--- a word in option place, where `own` gives its owner, and with dashes `--` ends the options
+-- a word in option place, where `own` gives its owner, and with dashes the mark ends the options
 abbrev pub piece_of : {K : Type 0} → (List ℕ → Option (Row K)) → Bool → List ℕ → Piece K
-piece_of own dashes word = cond (dashes && bytes_eq word (45 ∷ 45 ∷ [])) ends_options (owned_piece (own word) word)
+piece_of own dashes word = cond (dashes && bytes_eq word mark) ends_options (owned_piece (own word) word)
 
 -- the option before the others
 abbrev pub before : {K : Type 0} → Cut K → Cutting K → Cutting K
@@ -91,15 +97,3 @@ cut own dashes (word ∷ (next ∷ words)) = elim (piece_of own dashes word) [
   | needs_value row d last ↦ before (with_value row next d) (cut own dashes words)
   | ends_options ↦ all_raw (word ∷ (next ∷ words))
 ]
-
--- the same, of what the program reads in a word that the row fits
-abbrev pub piece_read : {K : Type 0} → Row K → List ℕ → Reading → Piece K
-piece_read row word reading.Bare = whole (flag row)
-piece_read row word (reading.Joined start d) = whole (with_value row (drop start word) d)
-piece_read row word (reading.NextWord d last) = needs_value row d last
-
--- the place where a value begins is in the word
-abbrev pub IsReadingOf : List ℕ → Reading → Type 0
-IsReadingOf word reading.Bare = Unit {0}
-IsReadingOf word (reading.Joined start d) = start ≤ length word
-IsReadingOf word (reading.NextWord d last) = Unit {0}

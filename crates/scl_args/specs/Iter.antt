@@ -1,5 +1,5 @@
 -- What an iterator that cuts words gives, call by call and over a whole run.
-use Rattle.std.specs.Prelude.{◌≡◌, ℕ, Bool, true, false, cond, List, [], ◌∷◌, Option, None, Some, Result, Ok, Err, MatchOption, OnErr, is_err, Vec, ◌⊎◌, ◌++◌}
+use Rattle.std.specs.Prelude.{◌≡◌, ℕ, Bool, true, false, cond, List, [], ◌∷◌, Option, None, Some, Result, Ok, Err, MatchOption, OnErr, IfOk, is_err, Vec, ◌⊎◌, ◌++◌}
 use Rattle.std.specs.Bool.{MatchBool}
 use Rattle.std.specs.Iterator.{Drains, Yields, YieldsThen}
 use Rattle.std.specs.declared.alloc.Global.{Global}
@@ -9,6 +9,7 @@ use Rattle.scl_args.specs.declared.error.ArgParseError.{ArgParseError}
 use Rattle.scl_args.specs.declared.error.ArgParseError.TheVariants as error
 use Rattle.scl_args.specs.Row.{Row}
 use Rattle.scl_args.specs.Words.{words_of}
+use Rattle.scl_args.specs.Texts.{is_delimited_by_ascii}
 use Rattle.scl_args.specs.Cuts.{Cut, raw, unknown, flag, with_value, clean, dangling, Cutting, Piece, whole, needs_value, ends_options, before, all_raw, cut}
 
 abbrev pub nothing_left : {K : Type 0} → Cutting K
@@ -87,9 +88,10 @@ module _ {I K T : Type 0} (steps : I → Option (Vec ℕ Global) → I → Type 
     at_end : (taken : List (Vec ℕ Global)) → YieldsThen steps s.arguments taken None t.arguments → t.ended ≡ true
         → IsFirstOf (cut_left s (words_of taken)) item nothing_left → CutsItem s item t
 
+  -- a call of `next`: an item is the first of what was left, and an option can be printed as text
   abbrev pub CutsNext : Cutter I K → Option (Result (Argument T) ArgParseError) → Cutter I K → Type 0
   CutsNext s None t = (t.ended ≡ true) × MatchBool s.ended (t.arguments ≡ s.arguments) (steps s.arguments None t.arguments)
-  CutsNext s (Some item) t = (s.ended ≡ false) × (t.own ≡ s.own) × OnErr item (t.ended ≡ true) × CutsItem s item t
+  CutsNext s (Some item) t = (s.ended ≡ false) × (t.own ≡ s.own) × OnErr item (t.ended ≡ true) × CutsItem s item t × IfOk item (λ option. is_delimited_by_ascii option ≡ true)
 
 module _ {I K T : Type 0} (steps : I → Option (Vec ℕ Global) → I → Type 0) (make : K → List ℕ → Result T ArgParseError → Type 0) where
   -- the items are those of the words: of all that the iterator below gives, or, where an error came first, of those so far, whatever words follow

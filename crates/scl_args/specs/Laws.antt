@@ -3,17 +3,19 @@ use Rattle.std.specs.Prelude.{◌≡◌, ℕ, ◌*◌, ◌+◌, ◌^◌, ◌<◌
 use Rattle.std.specs.Cmp.Lexicographic.{slice_cmp}
 use Rattle.std.specs.Ordering.{nat_cmp}
 use Rattle.std.specs.declared.cmp.Ordering.TheVariants.{Less}
+use Rattle.scl_args.specs.declared.argument.Argument.{Argument}
 use Rattle.scl_args.specs.declared.argument.NormalizedDisposition.{NormalizedDisposition}
 use Rattle.scl_args.specs.Row.{Row, fits}
 use Rattle.scl_args.specs.Tables.{is_table, owner, owner_in, all_rows}
 use Rattle.scl_args.specs.Probes.{bits, looks_in}
 use Rattle.scl_args.specs.Cuts.{Cutting, cut}
 use Rattle.scl_args.specs.Relation.{CutsInto}
-use Rattle.scl_args.specs.Seen.{Seen, shown, plain_seen}
+use Rattle.scl_args.specs.Seen.{Seen, seen, shown, plain_seen}
 use Rattle.scl_args.specs.Spell.{spelled}
+use Rattle.scl_args.specs.Texts.{items_shown, word_shown}
 use Rattle.scl_args.specs.Options.{normal_on, list}
 use Rattle.scl_args.specs.Again.{keeps_flags, joins_safely, is_changing, is_joining, is_last, next_is_clear, Reads}
-use Rattle.scl_args.specs.Origins.{Came, IsClear, IsKept}
+use Rattle.scl_args.specs.Origins.{AllCame, IsClear, IsKept}
 use Rattle.scl_args.specs.Printed.{AllCutFrom, IsLeftAt}
 use Rattle.scl_args.specs.Each.{Each, Has}
 
@@ -86,6 +88,11 @@ PrintsWhatWasCut K = (tables : List (List (Row K))) (dashes : Bool) (words : Lis
 abbrev pub PrintsOneOrTwo : Type 0 → Type 0
 PrintsOneOrTwo K = (option : Seen K) → (length (spelled option) ≡ 1) ⊎ (length (spelled option) ≡ 2)
 
+-- the texts of an option, where each path's text is its word, are its words
+abbrev pub TextsAreWords : Type 0 → Type 0 → Type 0
+TextsAreWords K T = (is_path : T → Bool) (kind_of : T → K) (word_of : T → List ℕ) (option : Argument T) →
+    map word_shown (items_shown (seen is_path word_of option)) ≡ spelled (seen kind_of word_of option)
+
 -- an option that was moved to its side stays there, whatever side it is moved to
 abbrev pub StaysOnItsSide : Type 0 → Type 0
 StaysOnItsSide K = (side other : List ℕ → NormalizedDisposition) (option : Seen K) → normal_on other (normal_on side option) ≡ normal_on side option
@@ -101,9 +108,9 @@ PrintsAgain K = (tables : List (List (Row K))) (dashes : Bool) (kept : K → Boo
     Each IsClear options → Each (λ c. p (shown c) ≡ true → IsKept dashes kept c) options →
     Reads (owner_in tables) dashes (list to p (map shown options)) (map plain_seen (filter p (map shown options)))
 
--- each option of a cutting came from a word of its row, or of none
+-- each option of a cutting came from a word of its row or of none, up to the mark; it and what stands behind it are raw
 abbrev pub OptionsCame : Type 0 → Type 0
-OptionsCame K = (tables : List (List (Row K))) (dashes : Bool) (words : List (List ℕ)) → Each (Came (owner_in tables) dashes) (cut (owner_in tables) dashes words).options
+OptionsCame K = (tables : List (List (Row K))) (dashes : Bool) (words : List (List ℕ)) → AllCame (owner_in tables) dashes (cut (owner_in tables) dashes words).options
 
 -- in a table, no flag goes on after a flag where the next greater one does not
 abbrev pub NextFlagSuffices : Type 0 → Type 0

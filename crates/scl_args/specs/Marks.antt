@@ -2,7 +2,7 @@
 use Rattle.std.specs.Prelude.{ℕ, Bool, false, not, List, [], ◌∷◌, map, filter}
 use Rattle.std.specs.Str.{bytes_eq}
 use Rattle.scl_args.specs.Seen.{Seen, Raw, Unknown, Known}
-use Rattle.scl_args.specs.Again.{mark}
+use Rattle.scl_args.specs.Cuts.{mark}
 use Rattle.scl_args.specs.Options.{text_of}
 
 abbrev pub is_input : {K : Type 0} → Seen K → Bool

@@ -16,6 +16,11 @@ has_ascii_delimiter apart = true
 has_ascii_delimiter (joined d) = is_ascii_or_none d
 has_ascii_delimiter (either d) = is_ascii_or_none d
 
+-- whether the row that was found, if one was, has an ASCII delimiter or none
+abbrev pub finds_ascii_delimiter : {K : Type 0} → Option (Row K) → Bool
+finds_ascii_delimiter None = true
+finds_ascii_delimiter (Some row) = has_ascii_delimiter row.shape
+
 -- whether the flag comes before the first row's, by bytes
 abbrev pub comes_before : {K : Type 0} → List ℕ → List (Row K) → Bool
 comes_before flag [] = true

@@ -89,6 +89,3 @@ impl<D: Write> Write for Counted<D> {
         self.device.flush()
     }
 }
-
-#[cfg(test)]
-mod tests;

@@ -1,6 +1,5 @@
-use std::alloc::AllocError;
-use std::fmt;
-use std::fmt::Write;
+use crate::escaped::Escaped;
+use std::alloc::{AllocError, AllocFailed};
 use thiserror::Error;
 
 /// What can go wrong when words are cut into options, or made into values (docs/RULES.md, Texts).
@@ -18,6 +17,17 @@ pub enum ArgParseError {
     /// A request for memory was refused.
     #[error("out of memory")]
     Memory,
+}
+
+impl<T: Drop> From<AllocFailed<T>> for ArgParseError {
+    ghost use Rattle.std.specs.Prelude.{◌≡◌};
+    ghost use Rattle.scl_args.specs.declared.error.ArgParseError.TheVariants.{Memory};
+
+    ghost from_gives = { λ _ e. e ≡ Memory };
+
+    fn from(_: AllocFailed<T>) -> ArgParseError {
+        ArgParseError::from(AllocError)
+    }
 }
 
 impl From<AllocError> for ArgParseError {
@@ -48,6 +58,17 @@ pub enum ArgToStringError {
     Memory,
 }
 
+impl<T: Drop> From<AllocFailed<T>> for ArgToStringError {
+    ghost use Rattle.std.specs.Prelude.{◌≡◌};
+    ghost use Rattle.scl_args.specs.declared.error.ArgToStringError.TheVariants.{Memory};
+
+    ghost from_gives = { λ _ e. e ≡ Memory };
+
+    fn from(_: AllocFailed<T>) -> ArgToStringError {
+        ArgToStringError::from(AllocError)
+    }
+}
+
 impl From<AllocError> for ArgToStringError {
     ghost use Rattle.std.specs.Prelude.{◌≡◌};
     ghost use Rattle.scl_args.specs.declared.error.ArgToStringError.TheVariants.{Memory};
@@ -61,23 +82,3 @@ impl From<AllocError> for ArgToStringError {
 
 /// What printing an option as texts gives.
 pub type ArgToStringResult = Result<String, ArgToStringError>;
-
-// A word in a message: bytes 21 to 7E but the backslash as they are, any other as `\x` and two digits.
-#[derive(Drop)]
-struct Escaped<'a>(&'a [u8]);
-
-impl fmt::Display for Escaped<'_> {
-    fn fmt<W: fmt::Write>(&self, f: &mut fmt::Formatter<W>) -> fmt::Result {
-        for byte in self.0 {
-            match *byte {
-                b'\\' => f.write_str("\\x5c")?,
-                0x21..=0x7E => f.write_char(char::from(*byte))?,
-                other => write!(f, "\\x{other:02x}")?,
-            }
-        }
-        Ok(())
-    }
-}
-
-#[cfg(test)]
-mod tests;

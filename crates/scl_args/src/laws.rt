@@ -1,5 +1,5 @@
 //! What follows from the definitions that the other contracts cite. Each law is the contract of a function that does nothing.
-ghost use Rattle.scl_args.specs.Laws.{FlagsRise, OwnerIsLongestFit, FitsAreUnique, LongestFitOwns, LastFitOwns, OwnerIsOfAllRows, LastTableWins, CountsDigits, LooksAddUp, CutsByCases, PrintsWhatWasCut, PrintsOneOrTwo, StaysOnItsSide, PrintsAgain, OptionsCame, NextFlagSuffices};
+ghost use Rattle.scl_args.specs.Laws.{FlagsRise, OwnerIsLongestFit, FitsAreUnique, LongestFitOwns, LastFitOwns, OwnerIsOfAllRows, LastTableWins, CountsDigits, LooksAddUp, CutsByCases, PrintsWhatWasCut, PrintsOneOrTwo, TextsAreWords, StaysOnItsSide, PrintsAgain, OptionsCame, NextFlagSuffices};
 
 /// The flags of a table rise strictly by bytes (docs/RULES.md, Rows and tables).
 pub fn flags_rise<K>()
@@ -63,12 +63,18 @@ pub fn prints_one_or_two<K>()
     ensures { PrintsOneOrTwo K }
 {}
 
+/// The texts of an option, where each path's text is its word, are its words (docs/RULES.md, Texts).
+pub fn texts_are_words<K, T>()
+    ensures { TextsAreWords K T }
+{}
+
 /// Moving an option to a side a second time, to either side, changes nothing (docs/RULES.md, Printing).
 pub fn stays_on_its_side<K>()
     ensures { StaysOnItsSide K }
 {}
 
-/// Each option that words are cut into came from a word of its row, or of none (docs/RULES.md, Cutting again).
+/// Each option that words are cut into came from a word of its row, with its value, or from a word of none; but the mark
+/// `--`, where it ends the options, and the words after it are raw (docs/RULES.md, Cutting again).
 pub fn options_came<K>()
     ensures { OptionsCame K }
 {}

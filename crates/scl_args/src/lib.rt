@@ -4,6 +4,7 @@
 mod argument;
 mod counted;
 mod error;
+mod escaped;
 mod held;
 mod iter;
 mod judge;
@@ -18,14 +19,13 @@ mod spell;
 mod split;
 mod strings;
 mod table;
-#[cfg(test)]
-mod tests;
 mod value;
 mod words;
 
 pub use argument::{ArgDisposition, ArgInfo, ArgRow, Argument, Delimiter, NormalizedDisposition};
 pub use counted::Counted;
 pub use error::{ArgParseError, ArgParseResult, ArgToStringError, ArgToStringResult};
+pub use escaped::{Escaped, quoted, quoted_list};
 pub use held::{Held, ReadArg, without_value};
 pub use iter::ArgsIter;
 pub use judge::{Judge, first_refusal, judge_all};
@@ -38,6 +38,6 @@ pub use options::{
 pub use rows::{FlagTable, Probes, RowStore, SearchableArgInfo, looks};
 pub use spell::Iter;
 pub use split::split_os_string_arg;
-pub use strings::{IterStrings, prints_one_word_or_two};
+pub use strings::IterStrings;
 pub use value::{ArgumentValue, ExactArg, FromArg, IntoArg, PathArg};
 pub use words::{CutWords, cut_options, cut_words};

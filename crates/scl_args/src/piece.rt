@@ -1,10 +1,12 @@
-ghost use Rattle.std.specs.Prelude.{◌≡◌, ◌≤◌, length, drop, is_err};
+ghost use Rattle.std.specs.Prelude.{◌≡◌, ◌≤◌, length, drop, is_err, IfOk, true};
 ghost use Rattle.std.specs.Bool.{OnFalse};
 ghost use Rattle.std.specs.Iterator.{IsFinite, size};
-ghost use Rattle.scl_args.specs.Row.{row_of};
-ghost use Rattle.scl_args.specs.Tables.{owner_in};
-ghost use Rattle.scl_args.specs.Cuts.{flag, with_value, owned_piece, piece_at, piece_read, IsReadingOf, after_delimiter};
+ghost use Rattle.scl_args.specs.Row.{row_of, shape_of};
+ghost use Rattle.scl_args.specs.Tables.{owner_in, has_ascii_delimiter};
+ghost use Rattle.scl_args.specs.Cuts.{flag, with_value, owned_piece, piece_at, after_delimiter};
+ghost use Rattle.scl_args.specs.Places.{piece_of_place, IsPlaceIn, has_ascii_delimiters};
 ghost use Rattle.scl_args.specs.Iter.{Makes, CutsPiece};
+ghost use Rattle.scl_args.specs.Texts.{is_delimited_by_ascii};
 
 use crate::argument::{ArgDisposition, ArgInfo, ArgRow, Argument, Delimiter};
 use crate::error::{ArgParseError, ArgParseResult};
@@ -12,10 +14,11 @@ use crate::rows::SearchableArgInfo;
 use crate::value::ArgumentValue;
 use std::alloc::Global;
 
-/// How a word that a row fits gives an option.
+/// Where the value is of a flag whose row fits a word.
 #[derive(Drop)]
-pub(crate) enum Reading {
-    Bare,
+pub(crate) enum ValuePlace {
+    /// The flag takes no value.
+    Nowhere,
     /// The value begins there in the word.
     Joined(usize, ArgDisposition),
     /// The value is the next word; if none is left, it may be empty.
@@ -34,25 +37,26 @@ fn skip_delimiter(delimiter: Delimiter, word: &[u8], start: usize) -> usize
 }
 
 #[tactic(auto, using(crate::proofs::CutsLemmas::piece_at_either))]
-fn read<K>(row: &ArgRow<K>, word: &[u8]) -> Reading
+fn value_place<K>(row: &ArgRow<K>, word: &[u8]) -> ValuePlace
     requires { length (row_of row.now).flag ≤ length word.now }
-    ensures bound { IsReadingOf word.now result }
-    ensures piece { piece_read (row_of row.now) word.now result
+    ensures bound { IsPlaceIn word.now result }
+    ensures piece { piece_of_place (row_of row.now) word.now result
         ≡ piece_at (row_of row.now) (row_of row.now).shape (drop (length (row_of row.now).flag) word.now) }
+    ensures delimiter { has_ascii_delimiter (row_of row.now).shape ≡ true → has_ascii_delimiters result ≡ true }
 {
     let start = row.flag().len();
     match row {
-        ArgRow::Flag(_, _) => Reading::Bare,
+        ArgRow::Flag(_, _) => ValuePlace::Nowhere,
         ArgRow::TakeArg(_, _, disposition) => match *disposition {
-            ArgDisposition::Separated => Reading::NextWord(ArgDisposition::Separated, None),
-            ArgDisposition::Concatenated(delimiter) => Reading::Joined(
+            ArgDisposition::Separated => ValuePlace::NextWord(ArgDisposition::Separated, None),
+            ArgDisposition::Concatenated(delimiter) => ValuePlace::Joined(
                 skip_delimiter(delimiter, word, start),
                 ArgDisposition::Concatenated(delimiter),
             ),
             ArgDisposition::CanBeConcatenated(delimiter)
             | ArgDisposition::CanBeSeparated(delimiter) => {
                 if start == word.len() {
-                    Reading::NextWord(
+                    ValuePlace::NextWord(
                         ArgDisposition::CanBeConcatenated(delimiter),
                         match delimiter {
                             None => Some(ArgDisposition::Concatenated(None)),
@@ -60,7 +64,7 @@ fn read<K>(row: &ArgRow<K>, word: &[u8]) -> Reading
                         },
                     )
                 } else {
-                    Reading::Joined(
+                    ValuePlace::Joined(
                         skip_delimiter(delimiter, word, start),
                         ArgDisposition::CanBeSeparated(delimiter),
                     )
@@ -71,7 +75,8 @@ fn read<K>(row: &ArgRow<K>, word: &[u8]) -> Reading
 }
 
 fn make_flag<T: ArgumentValue>(alloc: Global, row: &ArgInfo<T>) -> ArgParseResult<Argument<T>>
-    ensures { Makes T.make_gives (flag (row_of row.now)) result }
+    ensures made { Makes T.make_gives (flag (row_of row.now)) result }
+    ensures delimiter { IfOk result (λ option. is_delimited_by_ascii option ≡ true) }
 {
     match T::make(alloc, row.kind(), Vec::new(alloc)) {
         Ok(value) => Ok(Argument::Flag(row.flag(), value)),
@@ -85,7 +90,8 @@ fn make_with_value<T: ArgumentValue>(
     word: Vec<u8>,
     disposition: ArgDisposition,
 ) -> ArgParseResult<Argument<T>>
-    ensures { Makes T.make_gives (with_value (row_of row.now) word.items disposition) result }
+    ensures made { Makes T.make_gives (with_value (row_of row.now) word.items disposition) result }
+    ensures delimiter { IfOk result (λ option. is_delimited_by_ascii option ≡ has_ascii_delimiter (shape_of disposition)) }
 {
     match T::make(alloc, row.kind(), word) {
         Ok(value) => Ok(Argument::WithValue(row.flag(), value, disposition)),
@@ -99,7 +105,8 @@ fn make_joined<T: ArgumentValue>(
     word: &[u8],
     disposition: ArgDisposition,
 ) -> ArgParseResult<Argument<T>>
-    ensures { Makes T.make_gives (with_value (row_of row.now) word.now disposition) result }
+    ensures made { Makes T.make_gives (with_value (row_of row.now) word.now disposition) result }
+    ensures delimiter { IfOk result (λ option. is_delimited_by_ascii option ≡ has_ascii_delimiter (shape_of disposition)) }
 {
     match Vec::from_slice(alloc, word) {
         Ok(value) => make_with_value(alloc, row, value, disposition),
@@ -128,6 +135,7 @@ pub(crate) fn option_of<I: Iterator<Item = Vec<u8>>, T: ArgumentValue, S: Search
     requires { I.can_next arguments.old }
     ensures piece { CutsPiece I.next_gives T.make_gives (owned_piece (owner_in (S.tables arg_info.now) word.items) word.items)
         arguments.old result.0 result.1 arguments.new }
+    ensures delimiter { IfOk result.0 (λ option. is_delimited_by_ascii option ≡ true) }
     ensures goes_on { OnFalse result.1 (I.can_next arguments.new) }
     ensures finite { IsFinite (I.remaining arguments.old) → IsFinite (I.remaining arguments.new) }
     ensures fewer { IsFinite (I.remaining arguments.old) → OnFalse result.1 (size (I.remaining arguments.new) ≤ size (I.remaining arguments.old)) }
@@ -138,12 +146,12 @@ pub(crate) fn option_of<I: Iterator<Item = Vec<u8>>, T: ArgumentValue, S: Search
         }
         return (Ok(Argument::Raw(word)), false);
     };
-    match read(row, word.as_slice()) {
-        Reading::Bare => over_on_error(make_flag(alloc, row)),
-        Reading::Joined(start, disposition) => {
+    match value_place(row, word.as_slice()) {
+        ValuePlace::Nowhere => over_on_error(make_flag(alloc, row)),
+        ValuePlace::Joined(start, disposition) => {
             over_on_error(make_joined(alloc, row, &word[start..], disposition))
         }
-        Reading::NextWord(disposition, last) => match (arguments.next(), last) {
+        ValuePlace::NextWord(disposition, last) => match (arguments.next(), last) {
             (Some(value), _) => over_on_error(make_with_value(alloc, row, value, disposition)),
             (None, Some(last)) => (make_with_value(alloc, row, Vec::new(alloc), last), true),
             (None, None) => (Err(ArgParseError::UnexpectedEndOfArgs), true),

@@ -1,6 +1,6 @@
-ghost use Rattle.std.specs.Prelude.{◌≡◌, ℕ, ◌+◌, ◌-◌, ◌<◌, ◌≤◌, ◌^◌, List, map, length, is_some, IsTrue, IfSome, OnSome, ◌↔◌, slice_index_or};
+ghost use Rattle.std.specs.Prelude.{◌≡◌, ℕ, ◌+◌, ◌-◌, ◌<◌, ◌≤◌, ◌^◌, List, map, length, is_some, true, IsTrue, IfSome, OnSome, ◌↔◌, slice_index_or};
 ghost use Rattle.scl_args.specs.Row.{Row, row_of, row_at};
-ghost use Rattle.scl_args.specs.Tables.{is_table, owner_in};
+ghost use Rattle.scl_args.specs.Tables.{is_table, owner_in, finds_ascii_delimiter};
 ghost use Rattle.scl_args.specs.Probes.{looks_in, CountsUpTo, Rises};
 
 use crate::argument::{ArgInfo, ArgRow};
@@ -124,7 +124,8 @@ impl<'a, T: ArgumentValue> FlagTable<'a, T> {
         }
     }
 
-    pub(crate) fn store(&self) -> &RowStore<'a, T::Kind>
+    /// The rows of the table.
+    pub fn store(&self) -> &RowStore<'a, T::Kind>
         ensures same { result.now ≡ self.now }
         ensures valid { IsTrue (is_table self.now) }
     {
@@ -140,13 +141,15 @@ pub trait SearchableArgInfo<T: ArgumentValue> {
     /// no row fits. The looks that it takes are added to the count (docs/RULES.md, Looks).
     fn search_counted(&self, key: &[u8], probes: &mut Probes) -> Option<&ArgInfo<T>>
         ensures owner { row_at result ≡ owner_in (tables self.now) key.now }
+        ensures delimiter { finds_ascii_delimiter (row_at result) ≡ true }
         ensures count { CountsUpTo probes.old probes.new (looks_in (tables self.now) key.now) }
         ensures rises { OnSome result (Rises probes.old probes.new) };
 
     /// The row with the longest flag among those that fit the key, and at one length the last table's; `None` only where
     /// no row fits (docs/RULES.md, Owners).
     final fn search(&self, key: &[u8]) -> Option<&ArgInfo<T>>
-        ensures { row_at result ≡ owner_in (tables self.now) key.now }
+        ensures owner { row_at result ≡ owner_in (tables self.now) key.now }
+        ensures delimiter { finds_ascii_delimiter (row_at result) ≡ true }
     {
         let mut probes = Probes::new();
         self.search_counted(key, &mut probes)

@@ -22,6 +22,3 @@ pub fn split_os_string_arg(
         None => Ok((text, None)),
     }
 }
-
-#[cfg(test)]
-mod tests;

@@ -1,5 +1,4 @@
-ghost use Rattle.std.specs.Prelude.{◌≡◌, ◌++◌, ◌≤◌, ◌<◌, ℕ, length, map, true, List, MatchResult, Result, String, Vec};
-ghost use Rattle.std.specs.declared.alloc.AllocError.{AllocError};
+ghost use Rattle.std.specs.Prelude.{◌≡◌, ◌++◌, ◌≤◌, length, true, List, MatchResult, Result, String};
 ghost use Rattle.std.specs.declared.alloc.Global.{Global};
 ghost use Rattle.std.specs.String.{string_bytes};
 ghost use Rattle.std.specs.Fn.{CalledAt};
@@ -7,13 +6,13 @@ ghost use Rattle.std.specs.Iterator.{item_count, Drains};
 ghost use Rattle.scl_args.specs.declared.error.ArgToStringError.{ArgToStringError};
 ghost use Rattle.scl_args.specs.Tables.{is_ascii_or_none};
 ghost use Rattle.scl_args.specs.Seen.{seen};
-ghost use Rattle.scl_args.specs.Spell.{delimited, spelled, YieldsWords};
-ghost use Rattle.scl_args.specs.Texts.{IsWord, IsWantOfMemory, PrintsBehind, PrintsNext, printer, items_shown, word_shown, is_delimited_by_ascii};
+ghost use Rattle.scl_args.specs.Spell.{delimited};
+ghost use Rattle.scl_args.specs.Texts.{IsWord, IsWantOfMemory, PrintsBehind, PrintsNext, printer, is_delimited_by_ascii};
 
 use crate::argument::{ArgDisposition, Argument, Delimiter};
 use crate::error::{ArgToStringError, ArgToStringResult};
 use crate::value::{ArgumentValue, text_of_word};
-use std::alloc::{AllocError, Global};
+use std::alloc::Global;
 use std::marker::Model;
 
 impl<T: ArgumentValue> Argument<T> {
@@ -136,15 +135,3 @@ impl<'a, T: ArgumentValue, F: FnMut(&[u8]) -> Option<String> + Drop> Iterator
         Some(text)
     }
 }
-
-/// An option prints one word or two, and they are its texts where each path's text is its word (docs/RULES.md, Texts).
-pub fn prints_one_word_or_two<T: ArgumentValue>(option: &Argument<T>)
-    ensures few { (items : List (Result (Vec ℕ Global) AllocError)) → Drains (YieldsWords (λ words. words)) (spelled (seen T.kind_of T.word_of option.now)) items
-        → (0 < length items) × (length items ≤ 2) }
-    ensures same { map word_shown (items_shown (seen T.is_path T.word_of option.now)) ≡ spelled (seen T.kind_of T.word_of option.now) }
-{
-    let _ = option;
-}
-
-#[cfg(test)]
-mod tests;

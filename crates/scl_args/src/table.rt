@@ -8,6 +8,7 @@ use crate::value::ArgumentValue;
 impl<'a, T: ArgumentValue> SearchableArgInfo<T> for FlagTable<'a, T> {
     ghost tables = { λ table. table ∷ [] };
 
+    #[tactic(auto, using(crate::proofs::TablesLemmas::owner_finds_ascii_delimiter))]
     fn search_counted(&self, key: &[u8], probes: &mut Probes) -> Option<&ArgInfo<T>> {
         longest_fit(self.store(), key, probes)
     }

@@ -1,10 +1,11 @@
-ghost use Rattle.std.specs.Prelude.{◌≡◌, IfOk, IsTrue, map, length, false, Some};
+ghost use Rattle.std.specs.Prelude.{◌≡◌, All, IfOk, IsTrue, map, length, true, false, Some};
 ghost use Rattle.std.specs.Vec.Iter.{into_iter_items, into_iter_len};
 ghost use Rattle.scl_args.specs.Tables.{owner_in, tables_hold_values};
 ghost use Rattle.scl_args.specs.Cuts.{cut, is_dangling};
 ghost use Rattle.scl_args.specs.Seen.{seen, shown};
 ghost use Rattle.scl_args.specs.Iter.{AreItemsOf};
 ghost use Rattle.scl_args.specs.Runs.{items_of, dangles_by};
+ghost use Rattle.scl_args.specs.Texts.{is_delimited_by_ascii};
 ghost use Rattle.scl_args.specs.Words.{words_of};
 
 use crate::argument::Argument;
@@ -36,14 +37,15 @@ fn cutter<T: ArgumentValue, S: SearchableArgInfo<T> + Drop>(
 }
 
 /// Cuts all the words, and gives the options with the error that ended them, if there is one (docs/RULES.md, Cutting).
-/// It fails itself only where the list of options gets no memory.
+/// It fails itself only where the list of options gets no memory. Each option can be printed as text.
 pub fn cut_words<T: ArgumentValue, S: SearchableArgInfo<T> + Drop>(
     alloc: Global,
     words: Vec<Vec<u8>>,
     arg_info: S,
     double_dashes: bool,
 ) -> Mem<(Vec<Argument<T>>, Option<ArgParseError>)>
-    ensures { IfOk result (λ r. AreItemsOf T.make_gives (cut (owner_in (S.tables arg_info)) double_dashes (words_of words.items)) (items_of r.0.items r.1)) }
+    ensures items { IfOk result (λ r. AreItemsOf T.make_gives (cut (owner_in (S.tables arg_info)) double_dashes (words_of words.items)) (items_of r.0.items r.1)) }
+    ensures texts { IfOk result (λ r. All (λ option. is_delimited_by_ascii option ≡ true) r.0.items) }
 {
     let mut options = Vec::with_capacity(alloc, words.len())?;
     let mut arguments = cutter(alloc, words, arg_info, double_dashes);
@@ -77,7 +79,7 @@ pub struct CutWords<T> {
 }
 
 /// Cuts all the words by tables whose rows that take a value have kinds that hold one: so no value fails to be made, and
-/// this fails only for want of memory (docs/RULES.md, Cutting).
+/// this fails only for want of memory. Each option can be printed as text (docs/RULES.md, Cutting).
 pub fn cut_options<T: ExactArg, S: SearchableArgInfo<T> + Drop>(
     alloc: Global,
     words: Vec<Vec<u8>>,
@@ -88,6 +90,7 @@ pub fn cut_options<T: ExactArg, S: SearchableArgInfo<T> + Drop>(
     ensures options { IfOk result (λ r. map (seen T.kind_of T.word_of) r.options.items
         ≡ map shown (cut (owner_in (S.tables arg_info)) double_dashes (words_of words.items)).options) }
     ensures end { IfOk result (λ r. r.is_dangling ≡ is_dangling (cut (owner_in (S.tables arg_info)) double_dashes (words_of words.items)).end) }
+    ensures texts { IfOk result (λ r. All (λ option. is_delimited_by_ascii option ≡ true) r.options.items) }
 {
     let (options, end) = cut_words(alloc, words, arg_info, double_dashes)?;
     let is_dangling = dangles_by(end)?;

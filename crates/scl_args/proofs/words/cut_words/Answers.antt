@@ -1,6 +1,8 @@
-use Rattle.std.proofs.Common.{◌∷◌, [], Ok, Err, Some, refl}
+use Rattle.std.proofs.Common.{◌≡◌, true, ◌∷◌, [], Ok, Err, Some, refl}
+use Rattle.std.proofs.lemmas.List.Elements.{All-nil, All-push}
 use Rattle.scl_args.specs.Iter.{cutter}
 use Rattle.scl_args.specs.Tables.{owner_in}
+use Rattle.scl_args.specs.Texts.{is_delimited_by_ascii}
 use Rattle.scl_args.proofs.WordsLemmas.{leaves_after, after_options-append}
 use Rattle.scl_args.proofs.words.cut_words.Goals as goal
 
@@ -10,6 +12,7 @@ loop-item-init g c =
     let st = start.state in (
       record { len = λ _. rw (start.count, start.words) refl },
       λ items h. rw c.in_ok-options.ensures.items (rw (start.arg_info, st.0, st.1, st.2, start.words) at h),
+      rw c.in_ok-options.ensures.items (All-nil (λ option. is_delimited_by_ascii option ≡ true)),
     )
 
 pub loop-item-preserved : goal.loop-item-preserved
@@ -21,10 +24,14 @@ loop-item-preserved g c =
     (cutter t.arguments (owner_in (g.S.SearchableArgInfo.tables t.arg_info)) t.double_dashes t.only_raw t.ended)
     (Some c.in-Some.item) c.loop-item.invariant.0 c.in-Some.ensures.steps in
     let first = rw c.in-Ok.is at after.0 in
-    (after.1, λ items h. rw (c.in_ok-push-in-Ok.ensures.items, after_options-append g.T.ArgumentValue.make_gives) (c.loop-item.invariant.1 (Ok c.in-Ok.option ∷ items) (first.0, _, first.1, first.2, h)))
+    let printable = rw c.in-Ok.is at c.in-Some.ensures.steps.4 in (
+      after.1,
+      λ items h. rw (c.in_ok-push-in-Ok.ensures.items, after_options-append g.T.ArgumentValue.make_gives) (c.loop-item.invariant.1 (Ok c.in-Ok.option ∷ items) (first.0, _, first.1, first.2, h)),
+      rw c.in_ok-push-in-Ok.ensures.items (All-push (λ option. is_delimited_by_ascii option ≡ true) _ _ c.loop-item.invariant.2 printable),
+    )
 
-pub returns-in-Err : goal.returns-in-Err
-returns-in-Err g c =
+pub returns-in-Err-clause-items : goal.returns-in-Err-clause-items
+returns-in-Err-clause-items g c =
     let a = c.loop-item.arguments in
     let t = c.next.new.self in
     let after = leaves_after g.T.ArgumentValue.make_gives

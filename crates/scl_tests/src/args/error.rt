@@ -1,10 +1,30 @@
-use super::{ArgParseError, ArgToStringError};
-use crate::memory::Mem;
+use scl_args::{ArgParseError, ArgToStringError, Mem, quoted, quoted_list};
 use std::alloc::Global;
 use std::test::Fail;
 
 fn word(alloc: Global) -> Mem<Vec<u8>> {
     Vec::from_slice(alloc, b"!a~ \\\x7f\xff\n")
+}
+
+/// A list of one word, where a refused push is passed up by `?` alone.
+fn list_of(word: Vec<u8>, alloc: Global) -> Result<Vec<Vec<u8>>, ArgParseError> {
+    let mut words = Vec::new(alloc);
+    words.push(word)?;
+    Ok(words)
+}
+
+/// The same, with the other error.
+fn printed_of(word: String, alloc: Global) -> Result<Vec<String>, ArgToStringError> {
+    let mut words = Vec::new(alloc);
+    words.push(word)?;
+    Ok(words)
+}
+
+#[test]
+fn a_refused_push_is_passed_up(rt: HostRuntime) -> Result<(), Fail> {
+    assert_eq!(rt; list_of(word(rt.alloc())?, rt.alloc())?.len(), 1);
+    assert_eq!(rt; printed_of(String::new(rt.alloc()), rt.alloc())?.len(), 1);
+    Ok(())
 }
 
 #[test]
@@ -51,5 +71,21 @@ fn want_of_memory_has_its_text(rt: HostRuntime) -> Result<(), Fail> {
     assert_eq!(rt; text.as_str(), "out of memory");
     let text = format!(in rt.alloc(); "{}", ArgToStringError::Memory)?;
     assert_eq!(rt; text.as_str(), "out of memory");
+    Ok(())
+}
+
+#[test]
+fn words_in_quotes_are_escaped(rt: HostRuntime) -> Result<(), Fail> {
+    let one = quoted(rt.alloc(), b"a b")?;
+    assert_eq!(rt; one.as_str(), "\"a\\x20b\"");
+    let mut words = Vec::new(rt.alloc());
+    assert_eq!(rt; quoted_list(rt.alloc(), words.as_slice())?.as_str(), "[]");
+    words.push(Vec::from_slice(rt.alloc(), b"a")?)?;
+    words.push(word(rt.alloc())?)?;
+    let several = quoted_list(rt.alloc(), words.as_slice())?;
+    assert_eq!(rt;
+        several.as_str(),
+        "[\"a\", \"!a~\\x20\\x5c\\x7f\\xff\\x0a\"]"
+    );
     Ok(())
 }

@@ -3,10 +3,12 @@ ghost use Rattle.scl_args.specs.Row.{shape_of};
 ghost use Rattle.scl_args.specs.Tables.{has_ascii_delimiter};
 ghost use Rattle.scl_args.specs.Texts.{is_delimited_by_ascii};
 
-use crate::argument::{ArgDisposition, Argument};
-use crate::error::{ArgParseResult, ArgToStringResult};
-use crate::memory::Mem;
-use crate::value::{ArgumentValue, FromArg, IntoArg, PathArg};
+use super::cutting::SHAPES;
+use super::values::{table_of, words_of};
+use scl_args::{
+    ArgDisposition, ArgParseResult, ArgToStringError, ArgToStringResult, Argument, ArgumentValue,
+    FromArg, IntoArg, Mem, PathArg, SearchableArgInfo, cut_words,
+};
 use std::alloc::Global;
 use std::cell::Cell;
 use std::process::Abort;
@@ -20,7 +22,7 @@ enum Value {
 
 impl IntoArg for Value {
     ghost use Rattle.std.specs.Prelude.{true, false};
-    ghost use Rattle.scl_args.specs.declared.strings.tests.Value.TheVariants.{Path, Word};
+    ghost use Rattle.scl_tests.specs.declared.args.strings.Value.TheVariants.{Path, Word};
 
     ghost word_of = { elim [ Path path ↦ path.0.items | Word word ↦ word.items ] };
 
@@ -49,7 +51,7 @@ impl ArgumentValue for Value {
     type Kind = bool;
 
     ghost use Rattle.std.specs.Prelude.{◌≡◌, true, IsOkAnd};
-    ghost use Rattle.scl_args.specs.declared.strings.tests.Value.TheVariants.{Path, Word};
+    ghost use Rattle.scl_tests.specs.declared.args.strings.Value.TheVariants.{Path, Word};
 
     ghost make_gives = { λ is_path word made. IsOkAnd made (λ value. (Self.is_path value ≡ is_path) × (Self.word_of value ≡ word)) };
 
@@ -183,7 +185,6 @@ fn a_raw_word_that_is_no_text_ends_the_texts(rt: HostRuntime) -> Result<(), Fail
 #[test]
 fn words_are_made_and_printed(rt: HostRuntime) -> Result<(), Fail> {
     let option = Argument::Flag("-c", Value::make(rt.alloc(), false, Vec::new(rt.alloc()))?);
-    super::prints_one_word_or_two(&option);
     assert_eq!(rt; texts(&rt, &option, None)?.0.as_str(), "-c\n");
     let text = String::process(rt.alloc(), Vec::from_slice(rt.alloc(), b"a")?)?;
     assert_eq!(rt; text.as_str(), "a");
@@ -195,5 +196,33 @@ fn words_are_made_and_printed(rt: HostRuntime) -> Result<(), Fail> {
     assert_eq!(rt; text.into_arg_string(rt.alloc(), &mut none)?.as_str(), "a");
     assert_eq!(rt; ().into_arg_string(rt.alloc(), &mut none)?.as_str(), "");
     assert_eq!(rt; ().into_arg_os_string(rt.alloc())?.len(), 0);
+    Ok(())
+}
+
+/// The texts of the options that words are cut into, by any tables whatever.
+fn texts_of<T: ArgumentValue, S: SearchableArgInfo<T> + Drop>(
+    alloc: Global,
+    words: Vec<Vec<u8>>,
+    tables: S,
+) -> Result<Vec<String>, ArgToStringError> {
+    let (options, _end) = cut_words(alloc, words, tables, false)?;
+    let mut texts = Vec::new(alloc);
+    for option in options.iter() {
+        for text in option.iter_strings(alloc, |_path: &[u8]| None) {
+            texts.push(text?)?;
+        }
+    }
+    Ok(texts)
+}
+
+#[test]
+fn options_that_were_cut_print_as_texts(rt: HostRuntime) -> Result<(), Fail> {
+    let words = words_of(rt.alloc(), &["-qux=", "-hogea", "-foo", "b", "c"])?;
+    let texts = texts_of(rt.alloc(), words, table_of(&SHAPES)?)?;
+    let wanted = ["-qux", "-hogea", "-foo", "b", "c"];
+    assert_eq!(rt; texts.len(), wanted.len());
+    for (text, wanted) in texts.iter().zip(wanted.iter()) {
+        assert_eq!(rt; text.as_str(), *wanted);
+    }
     Ok(())
 }

@@ -1,5 +1,4 @@
-use super::split_os_string_arg;
-use crate::error::ArgParseError;
+use scl_args::{ArgParseError, split_os_string_arg};
 use std::test::Fail;
 
 #[test]

@@ -1,5 +1,5 @@
 //! The rules on devices that no clause says: which calls of real devices fail.
-use super::Counted;
+use scl_args::Counted;
 use std::io;
 use std::io::{ErrorKind, Read, Write};
 use std::test::Fail;

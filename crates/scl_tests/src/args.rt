@@ -1,0 +1,13 @@
+//! Tests of `scl_args`: worked rows, and each call once.
+mod clang;
+mod counted;
+mod cutting;
+mod error;
+mod gather;
+mod laws;
+mod lists;
+mod printing;
+mod search;
+mod split;
+mod strings;
+mod values;

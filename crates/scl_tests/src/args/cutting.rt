@@ -1,0 +1,145 @@
+//! What words are cut into.
+ghost use Rattle.std.specs.Prelude.{IfSome, IsTrue};
+ghost use Rattle.scl_args.specs.Tables.{rows_hold_values};
+
+use super::values::{Kind, Told, Value, are_told, table_of, words_of};
+use scl_args::ArgDisposition::{CanBeConcatenated, CanBeSeparated, Concatenated, Separated};
+use scl_args::ArgRow::{Flag, TakeArg};
+use scl_args::{
+    ArgParseError, ArgRow, ArgsIter, Argument, ArgumentValue, FlagTable, IntoArg, cut_options,
+    cut_words,
+};
+use scl_gnu::gcc;
+use std::test::Fail;
+
+pub(super) static SHAPES: [ArgRow<Kind>; 7] = [
+    Flag("-bar", Kind::Alone),
+    TakeArg("-foo", Kind::Valued, Separated),
+    Flag("-fuga", Kind::Alone),
+    TakeArg("-hoge", Kind::Valued, Concatenated(None)),
+    Flag("-plop", Kind::Alone),
+    TakeArg("-qux", Kind::Valued, CanBeSeparated(Some(b'='))),
+    Flag("-zorglub", Kind::Alone),
+];
+
+static WORDS: [&str; 16] = [
+    "-nomatch",
+    "-foo",
+    "value",
+    "-hoge",
+    "value",
+    "-hoge=value",
+    "-hogevalue",
+    "-zorglub",
+    "-qux",
+    "value",
+    "-plop",
+    "-quxbar",
+    "-qux=value",
+    "--",
+    "non_flag",
+    "-flag",
+];
+
+static OPTIONS: [Told<'static>; 14] = [
+    Told::Unknown(b"-nomatch"),
+    Told::Value("-foo", b"value", Separated),
+    Told::Value("-hoge", b"", Concatenated(None)),
+    Told::Raw(b"value"),
+    Told::Value("-hoge", b"=value", Concatenated(None)),
+    Told::Value("-hoge", b"value", Concatenated(None)),
+    Told::Flag("-zorglub"),
+    Told::Value("-qux", b"value", CanBeConcatenated(Some(b'='))),
+    Told::Flag("-plop"),
+    Told::Unknown(b"-quxbar"),
+    Told::Value("-qux", b"value", CanBeSeparated(Some(b'='))),
+    Told::Raw(b"--"),
+    Told::Raw(b"non_flag"),
+    Told::Raw(b"-flag"),
+];
+
+fn shapes() -> Option<FlagTable<'static, Value>>
+    ensures { IfSome result (λ table. IsTrue (rows_hold_values ⟦<Value as ArgumentValue>⟧.holds_value table)) }
+{
+    FlagTable::new(&SHAPES)
+}
+
+#[test]
+fn words_behind_double_dashes_are_raw(rt: HostRuntime) -> Result<(), Fail> {
+    let table = table_of(&SHAPES)?;
+    let words = words_of(rt.alloc(), &WORDS)?;
+    let arguments = ArgsIter::new(rt.alloc(), words.into_iter(), table).with_double_dashes();
+    let mut options = Vec::new(rt.alloc());
+    for option in arguments {
+        options.push(option?)?;
+    }
+    assert!(rt; are_told(options.as_slice(), &OPTIONS));
+    Ok(())
+}
+
+#[test]
+fn without_double_dashes_options_go_on(rt: HostRuntime) -> Result<(), Fail> {
+    let table = shapes().ok_or("no table")?;
+    let words = words_of(rt.alloc(), &["--", "-bar", "-"])?;
+    let cut = cut_options(rt.alloc(), words, table, false)?;
+    let wanted = [
+        Told::Unknown(b"--"),
+        Told::Flag("-bar"),
+        Told::Unknown(b"-"),
+    ];
+    assert!(rt; are_told(cut.options.as_slice(), &wanted));
+    assert!(rt; !cut.is_dangling);
+    Ok(())
+}
+
+static WANTING: [[ArgRow<Kind>; 1]; 3] = [
+    [TakeArg("-foo", Kind::Valued, Separated)],
+    [TakeArg("-foo", Kind::Valued, CanBeSeparated(Some(b'=')))],
+    [TakeArg("-foo", Kind::Valued, CanBeConcatenated(Some(b'=')))],
+];
+
+static CONTENT: [[ArgRow<Kind>; 1]; 2] = [
+    [TakeArg("-foo", Kind::Valued, CanBeSeparated(None))],
+    [TakeArg("-foo", Kind::Valued, CanBeConcatenated(None))],
+];
+
+#[test]
+fn a_last_flag_may_lack_its_value(rt: HostRuntime) -> Result<(), Fail> {
+    for rows in &WANTING {
+        let words = words_of(rt.alloc(), &["-foo"])?;
+        let (options, end) = cut_words(rt.alloc(), words, table_of(rows)?, false)?;
+        assert!(rt; options.is_empty());
+        assert_eq!(rt; end, Some(ArgParseError::UnexpectedEndOfArgs));
+    }
+    Ok(())
+}
+
+#[test]
+fn a_last_flag_may_have_the_empty_value(rt: HostRuntime) -> Result<(), Fail> {
+    let wanted = [Told::Value("-foo", b"", Concatenated(None))];
+    for rows in &CONTENT {
+        let words = words_of(rt.alloc(), &["-foo"])?;
+        let (options, end) = cut_words(rt.alloc(), words, table_of(rows)?, false)?;
+        assert!(rt; are_told(options.as_slice(), &wanted));
+        assert_eq!(rt; end, None);
+    }
+    Ok(())
+}
+
+#[test]
+fn a_value_goes_on_behind_the_longest_flag(rt: HostRuntime) -> Result<(), Fail> {
+    let words = words_of(rt.alloc(), &["-iwithprefixdir"])?;
+    let (options, end) = cut_words(rt.alloc(), words, gcc::table(), false)?;
+    assert_eq!(rt; options.len(), 1);
+    let Argument::WithValue(flag, value, how) = &options[0] else {
+        panic!(&rt; "no value");
+    };
+    assert_eq!(rt; *flag, "-iwithprefix");
+    assert_eq!(rt;
+        value.into_arg_os_string(rt.alloc())?.as_slice(),
+        b"dir".as_slice()
+    );
+    assert_eq!(rt; *how, CanBeSeparated(None));
+    assert_eq!(rt; end, None);
+    Ok(())
+}

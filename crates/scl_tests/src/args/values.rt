@@ -1,0 +1,123 @@
+//! A value of two kinds, tables of it, and its options as a test writes them.
+ghost use Rattle.std.specs.Prelude.{◌≡◌, IsOkAnd, true, false};
+
+use scl_args::{
+    ArgDisposition, ArgParseResult, ArgRow, ArgToStringResult, Argument, ArgumentValue, ExactArg,
+    FlagTable, IntoArg, Mem,
+};
+use std::alloc::Global;
+use std::test::Fail;
+
+/// Whether a flag takes a value.
+#[derive(Clone, Copy, Debug, PartialEq, Eq)]
+pub(super) enum Kind {
+    Alone,
+    Valued,
+}
+
+/// The word that it was made of, with its kind.
+#[derive(Debug, PartialEq, Eq, Drop)]
+pub(super) struct Value {
+    pub(super) kind: Kind,
+    pub(super) word: Vec<u8>,
+}
+
+impl IntoArg for Value {
+    ghost word_of = { λ value. value.word.items };
+
+    ghost is_path = { λ _. false };
+
+    fn into_arg_os_string(&self, alloc: Global) -> Mem<Vec<u8>> {
+        self.word.into_arg_os_string(alloc)
+    }
+
+    fn into_arg_string<F: FnMut(&[u8]) -> Option<String>>(
+        &self,
+        alloc: Global,
+        f: &mut F,
+    ) -> ArgToStringResult {
+        self.word.into_arg_string(alloc, f)
+    }
+}
+
+impl ArgumentValue for Value {
+    type Kind = Kind;
+
+    ghost make_gives = { λ kind word made. IsOkAnd made (λ value. (value.kind ≡ kind) × (value.word.items ≡ word)) };
+
+    ghost holds_value = { λ _. true };
+
+    ghost kind_of = { λ value. value.kind };
+
+    fn make(_alloc: Global, kind: Kind, word: Vec<u8>) -> ArgParseResult<Value> {
+        Ok(Value { kind, word })
+    }
+}
+
+impl ExactArg for Value {
+    ghost exact = { λ kind word made holds gives. gives };
+
+    ghost keeps = { λ kind word value gives. gives };
+}
+
+/// An option as a test writes it.
+#[derive(Clone, Copy, Debug, PartialEq, Eq)]
+pub(super) enum Told<'a> {
+    Raw(&'a [u8]),
+    Unknown(&'a [u8]),
+    Flag(&'static str),
+    Value(&'static str, &'a [u8], ArgDisposition),
+}
+
+pub(super) fn as_told<'a>(option: &'a Argument<Value>) -> Told<'a> {
+    match option {
+        Argument::Raw(word) => Told::Raw(word.as_slice()),
+        Argument::UnknownFlag(word) => Told::Unknown(word.as_slice()),
+        Argument::Flag(flag, _) => Told::Flag(flag),
+        Argument::WithValue(flag, value, how) => Told::Value(flag, value.word.as_slice(), *how),
+    }
+}
+
+/// Whether the options are those that are told.
+pub(super) fn are_told(options: &[Argument<Value>], told: &[Told<'_>]) -> bool {
+    options.len() == told.len()
+        && options
+            .iter()
+            .zip(told.iter())
+            .all(|(option, told)| as_told(option) == *told)
+}
+
+pub(super) fn words_of(alloc: Global, texts: &[&str]) -> Mem<Vec<Vec<u8>>> {
+    let mut words = Vec::new(alloc);
+    for text in texts {
+        words.push(Vec::from_slice(alloc, text.as_bytes())?)?;
+    }
+    Ok(words)
+}
+
+pub(super) fn table_of(rows: &'static [ArgRow<Kind>]) -> Result<FlagTable<'static, Value>, Fail> {
+    Ok(FlagTable::new(rows).ok_or("the rows make no table")?)
+}
+
+/// An option `-foo` with the value `bar`.
+pub(super) fn foo_bar(alloc: Global, how: ArgDisposition) -> Mem<Argument<Value>> {
+    valued(alloc, "-foo", b"bar", how)
+}
+
+/// An option with a value.
+pub(super) fn valued(
+    alloc: Global,
+    flag: &'static str,
+    word: &[u8],
+    how: ArgDisposition,
+) -> Mem<Argument<Value>> {
+    let word = Vec::from_slice(alloc, word)?;
+    Ok(Argument::WithValue(
+        flag,
+        Value {
+            kind: Kind::Valued,
+            word,
+        },
+        how,
+    ))
+}
