@@ -113,6 +113,3 @@ pub fn marked_files_are_read_back()
     ensures utf8 { Utf8FilesAreReadBack }
     ensures utf16 { Utf16FilesAreReadBack }
 {}
-
-#[cfg(test)]
-mod tests;

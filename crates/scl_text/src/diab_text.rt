@@ -36,6 +36,3 @@ pub fn split_diab(alloc: Global, text: &str) -> Mem<Option<Vec<Vec<u8>>>>
 pub fn diab_words_are_read_back()
     ensures { PlainWordsAreReadBack }
 {}
-
-#[cfg(test)]
-mod tests;

@@ -56,6 +56,3 @@ pub use laws::{
     plain_words_stand, unreadable_files_leave_their_words, words_are_expanded_one_by_one,
     words_of_msvc_files_stand,
 };
-
-#[cfg(test)]
-mod tests;

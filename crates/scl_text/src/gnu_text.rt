@@ -119,6 +119,3 @@ pub fn gnu_quoted_words_are_read_back()
 pub fn gnu_escaped_words_are_read_back()
     ensures { IsReadBack gnu_escaped }
 {}
-
-#[cfg(test)]
-mod tests;

@@ -151,6 +151,3 @@ pub fn texts_are_read_back(_language: Language)
     ensures gcc { IfSome (gcc_text _language) (λ text. language_of_gcc_text text ≡ Some _language) }
     ensures clang { IfSome (clang_text _language) (λ text. language_of_gcc_text text ≡ Some _language) }
 {}
-
-#[cfg(test)]
-mod tests;

@@ -46,6 +46,3 @@ pub fn msvc_quoted_words_are_read_back()
 mod arguments;
 
 pub use arguments::{SplitMsvcResponseFileArgs, msvc_words};
-
-#[cfg(test)]
-mod tests;

@@ -270,6 +270,3 @@ pub fn new_extensions_are_extensions(_path: &[u8], _extension: &[u8])
     ensures stem { IfSome (file_name _path.now) (λ name. IsTrue (is_plain_extension _extension.now)
         → stem_of_name (extended_name name _extension.now) ≡ stem_of_name name) }
 {}
-
-#[cfg(test)]
-mod tests;

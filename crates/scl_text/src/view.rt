@@ -124,6 +124,3 @@ impl View {
         self.multiarch
     }
 }
-
-#[cfg(test)]
-mod tests;

@@ -1,4 +1,4 @@
-use crate::language::{Language, texts_are_read_back};
+use scl_text::language::{Language, texts_are_read_back};
 
 #[test]
 fn finds_languages(rt: HostRuntime) {

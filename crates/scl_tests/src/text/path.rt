@@ -1,4 +1,4 @@
-use crate::path::{extension, file_name, join, same_path, with_extension, with_file_name};
+use scl_text::path::{extension, file_name, join, same_path, with_extension, with_file_name};
 use std::test::Fail;
 
 #[test]
@@ -53,12 +53,17 @@ fn changes_file_names(rt: HostRuntime) -> Result<(), Fail> {
 
 #[test]
 fn finds_file_names_and_extensions(rt: HostRuntime) {
-    assert_eq!(rt; file_name(b"a/b.c/."), Some(b"b.c".as_slice()));
-    assert_eq!(rt; file_name(b"a/.."), None);
-    assert_eq!(rt; extension(b"a/b.c/."), Some(b"c".as_slice()));
-    assert_eq!(rt; extension(b".c"), None);
-    assert_eq!(rt; extension(b"..c"), Some(b"c".as_slice()));
-    assert_eq!(rt; extension(b"out."), Some(b"".as_slice()));
+    let rows: [(&[u8], Option<&[u8]>, Option<&[u8]>); 5] = [
+        (b"a/b.c/.", Some(b"b.c"), Some(b"c")),
+        (b"a/..", None, None),
+        (b".c", Some(b".c"), None),
+        (b"..c", Some(b"..c"), Some(b"c")),
+        (b"out.", Some(b"out."), Some(b"")),
+    ];
+    for (path, name, ending) in rows {
+        assert_eq!(rt; file_name(path), name);
+        assert_eq!(rt; extension(path), ending);
+    }
 }
 
 #[test]

@@ -1,8 +1,8 @@
-use crate::command::{copied_pairs, push_word, push_words, single_command};
-use crate::language::Language;
-use crate::memory::Mem;
-use crate::outputs::{output_path, put_output};
-use crate::records::{CommandError, ParsedArguments};
+use scl_text::Mem;
+use scl_text::command::{copied_pairs, push_word, push_words, single_command};
+use scl_text::language::Language;
+use scl_text::outputs::{output_path, put_output};
+use scl_text::records::{CommandError, ParsedArguments};
 use std::alloc::{AllocError, Global};
 use std::collections::BTreeMap;
 use std::test::Fail;
