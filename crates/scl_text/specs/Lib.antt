@@ -4,10 +4,10 @@ pub mod Decoding
 pub mod DiabText
 pub mod Expand
 pub mod ExpansionLaws
+pub mod ExpansionState
 pub mod GnuReader
 pub mod GnuText
 pub mod Languages
-pub mod Left
 pub mod MsvcReader
 pub mod MsvcText
 pub mod Orders
@@ -17,7 +17,7 @@ pub mod PathMaps
 pub mod Paths
 pub mod Records
 pub mod Refusals
-pub mod Remaining
 pub mod ResponseFiles
 pub mod Views
 pub mod Words
+pub mod WordsToCome

@@ -106,10 +106,3 @@ pub fn read_text(alloc: Global, bytes: &[u8]) -> Mem<Option<String>>
         _ => Ok(Some(windows_text(alloc, bytes)?)),
     }
 }
-
-/// A file in UTF-8 or UTF-16 behind its mark gives its characters. (docs/RULES.md, Decoding)
-#[tactic(auto, using(crate::proofs::DecodeLaws::file_laws))]
-pub fn marked_files_are_read_back()
-    ensures utf8 { Utf8FilesAreReadBack }
-    ensures utf16 { Utf16FilesAreReadBack }
-{}

@@ -29,10 +29,3 @@ pub fn split_diab(alloc: Global, text: &str) -> Mem<Option<Vec<Vec<u8>>>>
     }
     Ok(Some(words))
 }
-
-/// Words without white space and quotes, with a space between each two, are the arguments of their text.
-/// (docs/RULES.md, Diab text)
-#[tactic(auto, using(crate::proofs::DiabLaws::plain_words_are_read_back))]
-pub fn diab_words_are_read_back()
-    ensures { PlainWordsAreReadBack }
-{}

@@ -4,13 +4,14 @@ use std::alloc::Global;
 use std::process::Abort;
 use std::test::Fail;
 
-/// Files, each by its path and its bytes.
-type Files<'a> = &'a [(&'a [u8], &'a [u8])];
-
-fn view_of(alloc: Global, files: Files<'_>) -> Mem<View> {
+/// The view of files, each a line of text: its path, a colon and its words.
+fn view_of(alloc: Global, files: &[u8]) -> Mem<View> {
     let mut view = View::new(alloc);
-    for (path, bytes) in files {
-        view.add_file(bytes_of(alloc, path)?, bytes_of(alloc, bytes)?)?;
+    for line in files.split(|byte| *byte == b'\n') {
+        let at = line.iter().position(|byte| *byte == b':').unwrap_or(0);
+        if let Some((_, words)) = line[at..].split_first() {
+            view.add_file(bytes_of(alloc, &line[..at])?, bytes_of(alloc, words)?)?;
+        }
     }
     Ok(view)
 }
@@ -53,14 +54,13 @@ fn collected(
 fn expect(
     rt: &(impl Abort + AllocGlobal),
     kind: ExpansionKind,
-    cwd: &[u8],
-    files: Files<'_>,
+    files: &[u8],
     text: &[u8],
     expected: &[u8],
 ) -> Mem<()> {
     let words = cut(rt.alloc(), text)?;
     let view = view_of(rt.alloc(), files)?;
-    let given = collected(rt.alloc(), kind, cwd, &words, &view)?;
+    let given = collected(rt.alloc(), kind, b"/w", &words, &view)?;
     let line = joined(rt.alloc(), &given)?;
     assert_eq!(rt; line.as_slice(), expected);
     Ok(())
@@ -68,67 +68,64 @@ fn expect(
 
 #[test]
 fn gnu_files_are_put_in_place(rt: HostRuntime) -> Result<(), Fail> {
-    let rows: [(&[u8], Files, &[u8], &[u8]); 6] = [
-        (
-            b"",
-            &[(b"x", b"-DA @y"), (b"y", b"-DB")],
-            b"@y @x @y",
-            b"-DB -DA -DB -DB",
-        ),
-        (
-            b"",
-            &[(b"p", b"-a @q"), (b"q", b"-b @p")],
-            b"@p @p",
-            b"-a -b @p -a -b @p",
-        ),
-        (b"/w", &[(b"/w/r", b"@./r -x")], b"@r", b"@./r -x"),
-        (b"/w", &[(b"/w//r", b"-c a.c")], b"@r", b"-c a.c"),
-        (
-            b"",
-            &[(b"r", b"-old"), (b"./r", b"-other"), (b"r/", b"-new")],
-            b"@r",
-            b"-new",
-        ),
-        (b"", &[(b"r", b"\xff")], b"@r @s @", b"@r @s @"),
-    ];
-    for (cwd, files, text, expected) in rows {
-        expect(&rt, ExpansionKind::Gnu, cwd, files, text, expected)?;
+    for (files, text, expected) in [
+        ("/w/x:-DA @y\n/w/y:-DB", "@y @x @y", "-DB -DA -DB -DB"),
+        ("/w/p:-a @q\n/w/q:-b @p", "@p @p", "-a -b @p -a -b @p"),
+        ("/w/r:@./r -x", "@r", "@./r -x"),
+        ("/w//r:-c a.c", "@r", "-c a.c"),
+        ("/w/r:-old\n/w/s:-other\n/w/./r/:-new", "@r", "-new"),
+        ("r:-c", "@r @s @", "@r @s @"),
+    ] {
+        let files = files.as_bytes();
+        expect(
+            &rt,
+            ExpansionKind::Gnu,
+            files,
+            text.as_bytes(),
+            expected.as_bytes(),
+        )?;
     }
     Ok(())
 }
 
 #[test]
-fn words_of_an_msvc_file_stand(rt: HostRuntime) -> Result<(), Fail> {
-    let files: Files = &[(b"f", b"/c x.c @g"), (b"g", b"-Zi")];
+fn unreadable_files_leave_their_words(rt: HostRuntime) -> Result<(), Fail> {
     expect(
         &rt,
-        ExpansionKind::Msvc,
-        b"",
-        files,
-        b"@f @g",
-        b"/c x.c @g -Zi",
+        ExpansionKind::Gnu,
+        b"/w/r:\xff",
+        b"@r @s @",
+        b"@r @s @",
     )?;
     Ok(())
 }
 
 #[test]
+fn words_of_an_msvc_file_stand(rt: HostRuntime) -> Result<(), Fail> {
+    let files = b"/w/f:/c x.c @g\n/w/g:-Zi";
+    expect(&rt, ExpansionKind::Msvc, files, b"@f @g", b"/c x.c @g -Zi")?;
+    Ok(())
+}
+
+#[test]
 fn diab_files_are_put_in_place(rt: HostRuntime) -> Result<(), Fail> {
-    let rows: [(Files, &[u8], &[u8]); 3] = [
-        (&[(b"f", b"-c -@f")], b"-@f", b"-c -@f"),
-        (&[(b"f", b"-DA=\"x\"")], b"-@f", b"-@f"),
+    for (files, text, expected) in [
+        ("/w/f:-c -@f", "-@f", "-c -@f"),
+        ("/w/f:-DA=\"x\"", "-@f", "-@f"),
         (
-            &[
-                (b"E", b"-DE"),
-                (b"O", b"-DO"),
-                (b"@", b"-DA"),
-                (b"f", b"-DF"),
-            ],
-            b"-@E -@O -@@ @f -@f",
-            b"-@E -@O -@@ @f -DF",
+            "/w/E:-DE\n/w/O:-DO\n/w/@:-DA\n/w/f:-DF",
+            "-@E -@O -@@ @f -@f",
+            "-@E -@O -@@ @f -DF",
         ),
-    ];
-    for (files, text, expected) in rows {
-        expect(&rt, ExpansionKind::Diab, b"", files, text, expected)?;
+    ] {
+        let files = files.as_bytes();
+        expect(
+            &rt,
+            ExpansionKind::Diab,
+            files,
+            text.as_bytes(),
+            expected.as_bytes(),
+        )?;
     }
     Ok(())
 }

@@ -1,4 +1,4 @@
-use scl_text::language::{Language, texts_are_read_back};
+use scl_text::language::Language;
 
 #[test]
 fn finds_languages(rt: HostRuntime) {
@@ -15,5 +15,5 @@ fn finds_languages(rt: HostRuntime) {
     assert_eq!(rt; Language::Rust.to_gcc_arg(), None);
     assert!(rt; Language::Hip.needs_c_preprocessing());
     assert!(rt; !Language::Rust.needs_c_preprocessing());
-    texts_are_read_back(Language::Cuda);
+    scl_text::laws::texts_are_read_back(Language::Cuda);
 }
