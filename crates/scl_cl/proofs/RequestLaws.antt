@@ -2,7 +2,7 @@
 use Rattle.std.proofs.Common.{◌≡◌, ℕ, ◌+◌, ◌-◌, ◌<◌, ◌≤◌, Bool, true, false, ◌||◌, cond, List, [], ◌∷◌, ◌++◌, reverse, length, Option, Some, None, Result, Ok, Err, refl, ap, sym, ◌∙◌, arith, append-nil, append_assoc}
 use Rattle.std.specs.List.{flat_map, filter_map, list_any, cons_option}
 use Rattle.std.specs.Option.{option_to_list, ok_or}
-use Rattle.std.proofs.lemmas.Grind.{flat_map-append}
+use Rattle.std.proofs.lemmas.Grind.{flat_map-append, fold-append}
 use Rattle.std.proofs.lemmas.List.{reverse-append}
 use Rattle.scl_text.specs.Views.{Viewed}
 use Rattle.scl_cl.specs.Lines.{lines_of}
@@ -29,17 +29,6 @@ flat_more : {A : Type 0} (f : Said → List A) (xs : List Said) (y : Said) → f
 flat_more f xs y = flat_map-append f xs (y ∷ []) ∙ ap (λ zs. flat_map f xs ++ zs) (append-nil (f y))
 
 -- one line's part of a list is the same turned round
-file_in-turned : (y : Said) → reverse (file_in y) ≡ file_in y
-file_in-turned Blank = refl
-file_in-turned (Names _) = refl
-file_in-turned (StandsIn _) = refl
-file_in-turned (HasWord _) = refl
-file_in-turned (HasFile _ _) = refl
-file_in-turned (HasDirectory _) = refl
-file_in-turned (HasPath _) = refl
-file_in-turned (HasVariable _ _) = refl
-file_in-turned IsMultiarch = refl
-
 viewed_directory_in-turned : (y : Said) → reverse (viewed_directory_in y) ≡ viewed_directory_in y
 viewed_directory_in-turned Blank = refl
 viewed_directory_in-turned (Names _) = refl
@@ -64,7 +53,7 @@ path_in-turned IsMultiarch = refl
 
 -- one more line adds what it names
 pub gathered-more : (before : List Said) (line : Said) → with_line (gathered before) line ≡ gathered (before ++ line ∷ [])
-gathered-more before line = simp (flat_more, reverse-append, file_in-turned, viewed_directory_in-turned, path_in-turned, any_more)
+gathered-more before line = simp (flat_more, reverse-append, fold-append, viewed_directory_in-turned, path_in-turned, any_more)
 
 -- Of all bytes these are left behind lines that kept this; the next line has this number.
 pub record Passed (all left : List ℕ) (number : ℕ) (kept : Gathered) : Type 0 where

@@ -1,5 +1,5 @@
 -- What an answer that the code keeps says.
-use Rattle.scl_text.specs.Words.{words_of}
+use Rattle.scl_args.specs.Words.{words_of}
 use Rattle.scl_cl.specs.Answers.{Answer, compiled, cannot_cache, not_compilation}
 use Rattle.scl_cl.specs.declared.answer.Answer as code
 use Rattle.scl_cl.specs.declared.answer.Answer.TheVariants as answers

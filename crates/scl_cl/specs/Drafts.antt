@@ -3,13 +3,13 @@ use Rattle.std.specs.Prelude.{ℕ, Bool, ◌||◌, List, [], ◌∷◌, ◌++◌
 use Rattle.std.specs.List.{flat_map}
 use Rattle.std.specs.Option.{option_map, option_to_list}
 use Rattle.scl_text.specs.Views.{Viewed}
-use Rattle.scl_text.specs.Words.{words_of}
+use Rattle.scl_args.specs.Words.{words_of}
 use Rattle.scl_text.specs.Commands.{pairs_of}
 use Rattle.scl_cl.specs.declared.compiler.Compiler.{Compiler}
 use Rattle.scl_cl.specs.declared.draft.Draft.{Draft}
 use Rattle.scl_cl.specs.declared.draft.Request as code
 use Rattle.scl_cl.specs.Sayings.{Said}
-use Rattle.scl_cl.specs.Requests.{compiler_in, directory_in, word_in, variable_in, file_in, viewed_directory_in, path_in, is_multiarch, Gathered, Request}
+use Rattle.scl_cl.specs.Requests.{compiler_in, directory_in, word_in, variable_in, file_in, viewed_directory_in, path_in, is_multiarch, with_files, Gathered, Request}
 
 -- with one more line
 abbrev pub with_line : Gathered → Said → Gathered
@@ -19,7 +19,7 @@ with_line g line = record {
   words = g.words ++ word_in line;
   environment = g.environment ++ variable_in line;
   view = record {
-    files = file_in line ++ g.view.files;
+    files = with_files g.view.files (file_in line);
     directories = viewed_directory_in line ++ g.view.directories;
     existing = path_in line ++ g.view.existing;
     is_multiarch = is_multiarch line || g.view.is_multiarch;

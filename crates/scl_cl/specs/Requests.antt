@@ -1,8 +1,8 @@
 -- The request that lines make, or the number of the first line that breaks a rule.
-use Rattle.std.specs.Prelude.{ℕ, ◌+◌, ◌<◌, ◌≤◌, ◌≡◌, Bool, true, false, List, [], ◌∷◌, ◌++◌, reverse, length, Option, Some, None, Result, Ok, Err, if◌then◌else◌, take}
+use Rattle.std.specs.Prelude.{ℕ, ◌+◌, ◌<◌, ◌≤◌, ◌≡◌, Bool, true, false, List, [], ◌∷◌, ◌++◌, fold, reverse, length, Option, Some, None, Result, Ok, Err, if◌then◌else◌, take}
 use Rattle.std.specs.List.{flat_map, filter_map, list_any}
 use Rattle.std.specs.Option.{option_map, option_to_list, ok_or}
-use Rattle.scl_text.specs.Views.{Viewed, File}
+use Rattle.scl_text.specs.Views.{Viewed, File, put_file}
 use Rattle.scl_cl.specs.declared.compiler.Compiler.{Compiler}
 use Rattle.scl_cl.specs.Lines.{lines_of}
 use Rattle.scl_cl.specs.Sayings.{Said, Blank, Names, StandsIn, HasWord, HasFile, HasDirectory, HasPath, HasVariable, IsMultiarch, said}
@@ -47,10 +47,14 @@ abbrev pub is_multiarch : Said → Bool
 is_multiarch IsMultiarch = true
 is_multiarch _ = false
 
+-- the files with others added, one after the other
+abbrev pub with_files : List File → List File → List File
+with_files files added = fold (λ before file. put_file file before) files added
+
 -- the view of the files, directories and paths that lines name
 abbrev pub view_of : List Said → Viewed
 view_of all = record {
-  files = reverse (flat_map file_in all);
+  files = with_files [] (flat_map file_in all);
   directories = reverse (flat_map viewed_directory_in all);
   existing = reverse (flat_map path_in all);
   is_multiarch = list_any is_multiarch all;

@@ -1,7 +1,7 @@
 //! The answer to a request, by its compiler.
 ghost use Rattle.std.specs.Prelude.{◌≡◌, IfOk};
 ghost use Rattle.scl_text.specs.Records.{parsed_of};
-ghost use Rattle.scl_text.specs.Words.{words_of};
+ghost use Rattle.scl_args.specs.Words.{words_of};
 ghost use Rattle.scl_text.specs.Commands.{pairs_of, command_by};
 ghost use Rattle.scl_cl.specs.Drafts.{asked_by};
 ghost use Rattle.scl_cl.specs.Answers.{answer_to, answer_from, answer_with, gcc_answer};

@@ -3,3 +3,5 @@
 
 #[cfg(test)]
 mod args;
+#[cfg(test)]
+mod text;

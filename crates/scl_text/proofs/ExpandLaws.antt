@@ -4,13 +4,13 @@ use Rattle.std.proofs.lemmas.Bool.{false≢true}
 use Rattle.std.specs.List.{list_any}
 use Rattle.std.specs.Option.{option_map, is_some}
 use Rattle.std.specs.declared.alloc.Global.{Global}
-use Rattle.scl_text.specs.Words.{words_of}
+use Rattle.scl_args.specs.Words.{words_of}
 use Rattle.scl_text.specs.Paths.{same_path, join}
 use Rattle.scl_text.specs.Views.{File, bytes_at, without}
 use Rattle.scl_text.specs.ResponseFiles.{file_name_in, named, files_inside}
 use Rattle.scl_text.specs.Expand.{opened, expand}
 use Rattle.scl_text.specs.ExpansionLaws.{WordsAreExpandedOneByOne, WordsOfMsvcFilesStand, AbsentFilesLeaveTheirWords, UnreadableFilesLeaveTheirWords, OpenFilesAreAbsentInside, PlainWordsStand, EachFileIsOpenOnce, IsChain, none, opens, Each, AllApart}
-use Rattle.scl_text.specs.Remaining.{hides}
+use Rattle.scl_text.specs.ExpansionState.{hides}
 use Rattle.scl_text.specs.declared.expand.ExpansionKind.{ExpansionKind}
 use Rattle.scl_text.specs.declared.expand.ExpansionKind.TheVariants as kinds
 use Rattle.scl_text.proofs.SamePath.{same_path-same}
@@ -64,13 +64,6 @@ plain_stay kind directory files (word ∷ words) h =
 
 pub plain_words : PlainWordsStand
 plain_words kind directory files words h = plain_stay kind directory files words h
-
-any-words : (test : List ℕ → Bool) (words : List (Vec ℕ Global)) → list_any test (words_of words) ≡ list_any (λ word. test word.items) words
-any-words test [] = refl
-any-words test (word ∷ words) = ap (λ b. test word.items || b) (any-words test words)
-
-pub plain_copies : (kind : ExpansionKind) (directory : List ℕ) (files : List File) (words : List (Vec ℕ Global)) → list_any (λ word. is_some (file_name_in kind word.items)) words ≡ false → words_of words ≡ expand kind directory files (words_of words)
-plain_copies kind directory files words h = sym (plain_stay kind directory files (words_of words) (any-words (λ word. is_some (file_name_in kind word)) words ∙ h))
 
 -- ---- chains of open files
 

@@ -3,7 +3,7 @@ use Rattle.std.proofs.Common.{◌≡◌, ℕ, suc, ◌<◌, ◌≤◌, Bool, tru
 use Rattle.scl_text.specs.Paths.{same_path}
 use Rattle.scl_text.specs.Views.{File, bytes_at, without}
 use Rattle.scl_text.specs.ResponseFiles.{files_inside}
-use Rattle.scl_text.specs.Remaining.{hides}
+use Rattle.scl_text.specs.ExpansionState.{hides}
 use Rattle.scl_text.proofs.SamePath.{same_path-left, same_path-right}
 use Rattle.scl_text.specs.declared.expand.ExpansionKind.{ExpansionKind}
 use Rattle.scl_text.specs.declared.expand.ExpansionKind.TheVariants as kinds

@@ -13,7 +13,6 @@ pub mod MsvcLaws
 pub mod MsvcLemmas
 pub mod OpenLemmas
 pub mod OutputLemmas
-pub mod PathHashLemmas
 pub mod PathLaws
 pub mod PathLemmas
 pub mod PathMapLemmas

@@ -1,28 +1,27 @@
 -- What a word opens.
-use Rattle.std.proofs.Common.{◌≡◌, ℕ, ◌<◌, ◌≤◌, Bool, true, false, cond, List, [], ◌∷◌, length, map, get_or, Option, None, Some, refl, sym, ap, ◌∙◌, arith}
-use Rattle.std.proofs.lemmas.List.Recursion.{found_at, found_nowhere}
+use Rattle.std.proofs.Common.{◌≡◌, ℕ, ◌<◌, ◌≤◌, Bool, true, false, cond, List, [], ◌∷◌, length, map, Option, None, Some, not, IsTrue, ◌↔◌, ◌⊎◌, inl, inr, refl, sym, ap, ◌∙◌, arith}
+use Rattle.std.proofs.lemmas.Bool.{false≢true}
 use Rattle.std.specs.Option.{option_and_then, is_some}
 use Rattle.scl_text.specs.Views.{File, bytes_at}
 use Rattle.scl_text.specs.ResponseFiles.{named, arguments, files_inside}
 use Rattle.scl_text.specs.Expand.{Level, level_at, opened}
-use Rattle.scl_text.specs.declared.expand.OpenFile.{OpenFile}
-use Rattle.scl_text.specs.Remaining.{level_of, hides, is_shut, closed}
+use Rattle.scl_text.specs.declared.expand.engine.WordsLeft.{WordsLeft}
+use Rattle.scl_text.specs.ExpansionState.{words_left, levels, hides, is_shut, closed}
+use Rattle.scl_text.specs.Paths.{same_path}
+use Rattle.scl_text.specs.PathMaps.{value_at}
+use Rattle.scl_text.specs.declared.expand.ExpansionKind.TheVariants as kinds
 use Rattle.scl_text.specs.declared.expand.ExpansionKind.{ExpansionKind}
 use Rattle.scl_text.proofs.FilesLemmas.{inside-less, bytes_at-inside}
 
-hide_none : {X : Type 0} (b : Bool) → cond {A = Option X} b None None ≡ None
-hide_none true = refl
-hide_none false = refl
-
-hide_twice : {X : Type 0} (a b : Bool) (y : Option X) → cond a None (cond b None y) ≡ cond (cond b true a) None y
-hide_twice a true y = hide_none a
-hide_twice a false y = refl
+hide_twice : {X : Type 0} (a b : Bool) (y : Option X) → cond a None (cond b None y) ≡ cond (cond a true b) None y
+hide_twice true b y = refl
+hide_twice false b y = refl
 
 pub bytes_at-closed : (kind : ExpansionKind) (path : List ℕ) (files : List File) (levels : List Level) → bytes_at path (closed kind files levels) ≡ cond (is_shut kind path levels) None (bytes_at path files)
 bytes_at-closed kind path files [] = refl
 bytes_at-closed kind path files (level ∷ levels) =
-    bytes_at-closed kind path (files_inside kind level.path files) levels ∙ rw (bytes_at-inside kind path level.path files)
-    (hide_twice (is_shut kind path levels) (hides kind level.path path) (bytes_at path files))
+    bytes_at-inside kind path level.path (closed kind files levels) ∙ rw (bytes_at-closed kind path files levels)
+    (hide_twice (hides kind level.path path) (is_shut kind path levels) (bytes_at path files))
 
 pub opened-none : (kind : ExpansionKind) (directory word : List ℕ) → opened kind directory [] word ≡ None
 unfolding opened
@@ -89,14 +88,31 @@ opened-found kind directory files word file h =
 
 pub ruleset opened_rules = (opened-no_name, opened-hidden, opened-absent, opened-unread, opened-read)
 
--- ---- a loop that looks for a file that hides the path
+-- ---- the open files, by their paths
 
-pub is_shut-found : (kind : ExpansionKind) (path : List ℕ) (files : List OpenFile) (i : ℕ) (file : OpenFile) → file ≡ get_or files i file → i < length files
-    → ((k : ℕ) (d : OpenFile) → k < i → hides kind (get_or files k d).path.items path ≡ false) → hides kind file.path.items path ≡ true → true ≡ is_shut kind path (map level_of files)
-is_shut-found kind path files i file is lt before here =
-    sym (found_at (λ fs. is_shut kind path (map level_of fs)) (λ f. hides kind f.path.items path) (λ _. true) false refl (λ _ _. refl) files i file lt (λ k. before k file) (rw (← is) here))
+pub is_shut-gnu : (path : List ℕ) (inner : List (List ℕ)) (files : List (List ℕ × WordsLeft)) → is_shut kinds.Gnu path (levels inner files) ≡ is_some (value_at path files)
+is_shut-gnu path inner [] = refl
+is_shut-gnu path inner (file ∷ files) =
+    elim (same_path file.0 path) as (λ b. cond b true (is_shut kinds.Gnu path (levels (words_left file.1) files)) ≡ is_some (cond b (Some file.1) (value_at path files))) [
+      | true ↦ refl
+      | false ↦ is_shut-gnu path (words_left file.1) files
+    ]
 
-pub is_shut-nowhere : (kind : ExpansionKind) (path : List ℕ) (files : List OpenFile) (n : ℕ) → length files ≤ n → ((k : ℕ) (d : OpenFile) → k < n → hides kind (get_or files k d).path.items path ≡ false) → false ≡ is_shut kind path (map level_of files)
-is_shut-nowhere kind path [] n all before = refl
-is_shut-nowhere kind path (f ∷ fs) n all before =
-    sym (found_nowhere (λ fs. is_shut kind path (map level_of fs)) (λ f. hides kind f.path.items path) (λ _. true) false refl (λ _ _. refl) (f ∷ fs) f (λ k h. before k f (omega arith)))
+pub is_shut-diab : (path : List ℕ) (inner : List (List ℕ)) (files : List (List ℕ × WordsLeft)) → is_shut kinds.Diab path (levels inner files) ≡ is_some (value_at path files)
+is_shut-diab path inner [] = refl
+is_shut-diab path inner (file ∷ files) =
+    elim (same_path file.0 path) as (λ b. cond b true (is_shut kinds.Diab path (levels (words_left file.1) files)) ≡ is_some (cond b (Some file.1) (value_at path files))) [
+      | true ↦ refl
+      | false ↦ is_shut-diab path (words_left file.1) files
+    ]
+
+pub is_shut-msvc : (path : List ℕ) (inner : List (List ℕ)) (files : List (List ℕ × WordsLeft)) (empty : Bool) → (IsTrue empty ↔ (files ≡ [])) → is_shut kinds.Msvc path (levels inner files) ≡ not empty
+is_shut-msvc path inner [] true h = refl
+is_shut-msvc path inner [] false h = absurd (false≢true (h.1 refl))
+is_shut-msvc path inner (file ∷ files) true h = absurd (let e : file ∷ files ≡ [] = h.0 refl in cc)
+is_shut-msvc path inner (file ∷ files) false h = refl
+
+pub is_shut-compared : (kind : ExpansionKind) (path : List ℕ) (inner : List (List ℕ)) (files : List (List ℕ × WordsLeft)) → (kind ≡ kinds.Gnu) ⊎ (kind ≡ kinds.Diab)
+    → is_shut kind path (levels inner files) ≡ is_some (value_at path files)
+is_shut-compared kind path inner files (inl e) = rw e (is_shut-gnu path inner files)
+is_shut-compared kind path inner files (inr e) = rw e (is_shut-diab path inner files)

@@ -1,12 +1,11 @@
 -- Paths with the same components, and the number that they share.
-use Rattle.std.proofs.Common.{◌≡◌, ℕ, ◌&&◌, Bool, true, false, cond, List, [], ◌∷◌, ◌++◌, map, fold, codes, refl, sym, ap, ◌∙◌}
+use Rattle.std.proofs.Common.{◌≡◌, ℕ, ◌&&◌, Bool, true, false, List, fold, refl, ap}
 use Rattle.std.proofs.lemmas.Bool.{false≢true}
 use Rattle.std.specs.Str.{bytes_eq}
 use Rattle.std.specs.Cmp.Lexicographic.{pointwise}
-use Rattle.std.specs.List.{slice_split}
 use lib.Pointwise.{pointwise_decides, bytes_decides}
-use Rattle.scl_text.specs.Paths.{is_slash, is_name, Place, placed, places_after, places, Components, components, same_components, same_path}
-use Rattle.scl_text.specs.PathMaps.{name_hash, part_hash, path_hash}
+use Rattle.scl_text.specs.Paths.{Components, components, same_components, same_path}
+use Rattle.scl_text.specs.PathMaps.{name_hash, path_hash}
 
 both_true : (a b : Bool) → (a && b) ≡ true → (a ≡ true) × (b ≡ true)
 both_true true b h = (refl, h)
@@ -40,19 +39,6 @@ same_path-same a = same_components-same (components a)
 
 -- ---- the number that they share
 
-places_hash : (hash : ℕ) (before : List ℕ) (parts : List (List ℕ)) → fold part_hash hash parts ≡ fold name_hash hash (map (λ (place : Place). place.name) (places_after before parts))
-places_hash hash before [] = refl
-places_hash hash before (part ∷ parts) =
-    elim (is_name part) as (λ b. fold part_hash (cond b (name_hash hash part) hash) parts
-    ≡ fold name_hash hash (map (λ (place : Place). place.name) (cond b (placed before part ∷ places_after (before ++ part ++ codes "/") parts) (places_after (before ++ part ++ codes "/") parts)))) [
-      | true ↦ places_hash (name_hash hash part) (before ++ part ++ codes "/") parts
-      | false ↦ places_hash hash (before ++ part ++ codes "/") parts
-    ]
-
-path_hash-names : (path : List ℕ) → path_hash path ≡ fold name_hash 0 (components path).names
-unfolding path_hash places
-path_hash-names path = places_hash 0 [] (slice_split is_slash path)
-
 pub path_hash-same : (a b : List ℕ) → same_path a b ≡ true → path_hash a ≡ path_hash b
-path_hash-same a b h =
-    path_hash-names a ∙ ap (λ these. fold name_hash 0 these) ((components_equal (components a) (components b) h).1) ∙ sym (path_hash-names b)
+unfolding path_hash
+path_hash-same a b h = ap (λ these. fold name_hash 0 these) ((components_equal (components a) (components b) h).1)

@@ -1,13 +1,14 @@
 -- The steps of an expansion.
-use Rattle.std.proofs.Common.{◌≡◌, ℕ, zero, suc, ◌+◌, ◌<◌, ◌≤◌, List, [], ◌∷◌, ◌++◌, length, Option, None, Some, Result, IfOk, refl, sym, ap, append_assoc, arith}
+use Rattle.std.proofs.Common.{◌≡◌, ◌≢◌, ℕ, zero, suc, ◌+◌, ◌<◌, ◌≤◌, List, [], ◌∷◌, ◌++◌, length, Option, None, Some, Result, IfOk, refl, sym, ap, append_assoc, arith}
 use Rattle.std.proofs.lemmas.List.{append-nil}
 use Rattle.std.specs.declared.alloc.AllocError.{AllocError}
 use Rattle.scl_text.specs.Views.{File}
 use Rattle.scl_text.specs.ResponseFiles.{files_inside}
 use Rattle.scl_text.specs.Expand.{Level, opened, in_place, expand}
-use Rattle.scl_text.specs.declared.expand.Step.{Step}
-use Rattle.scl_text.specs.declared.expand.Expansion.{Expansion}
-use Rattle.scl_text.specs.Remaining.{StepsFrom, closed, left_open, left, total, cost, steps_within, steps, steps_open, steps_left}
+use Rattle.scl_text.specs.declared.expand.engine.Step.{Step}
+use Rattle.scl_text.specs.declared.expand.engine.Expansion.{Expansion}
+use Rattle.scl_text.specs.declared.expand.engine.WordsLeft.{WordsLeft}
+use Rattle.scl_text.specs.ExpansionState.{StepsFrom, words_left, levels, closed, left_open, left, total, cost, steps_within, steps, steps_open, steps_left}
 use Rattle.scl_text.specs.declared.expand.ExpansionKind.{ExpansionKind}
 use Rattle.scl_text.proofs.OpenLemmas.{opened-none, opened-less}
 use Rattle.scl_text.proofs.ExpandLemmas.{no_files, expand-cons, expand-nil}
@@ -46,23 +47,6 @@ steps-cons kind directory files word words =
           (λ file e. let less = opened-less kind directory (f ∷ fs) word file e in steps-stable (length fs) _ kind directory (files_inside kind file.path (f ∷ fs)) file.words (omega (arith, less)) (omega arith)))
     ]
 
--- ---- a stack of open files
-
-pub left_open-push : (kind : ExpansionKind) (directory : List ℕ) (files : List File) (levels : List Level) (level : Level)
-    → left_open kind directory files (levels ++ level ∷ []) ≡ expand kind directory (closed kind files (levels ++ level ∷ [])) level.words ++ left_open kind directory files levels
-left_open-push kind directory files [] level = sym (append-nil _)
-left_open-push kind directory files (x ∷ xs) level =
-    rw (left_open-push kind directory (files_inside kind x.path files) xs level, append_assoc) refl
-
-pub closed-push : (kind : ExpansionKind) (files : List File) (levels : List Level) (level : Level) → closed kind files (levels ++ level ∷ []) ≡ files_inside kind level.path (closed kind files levels)
-closed-push kind files [] level = refl
-closed-push kind files (x ∷ xs) level = closed-push kind (files_inside kind x.path files) xs level
-
-pub steps_open-push : (kind : ExpansionKind) (directory : List ℕ) (files : List File) (levels : List Level) (level : Level)
-    → steps_open kind directory files (levels ++ level ∷ []) ≡ 1 + steps kind directory (closed kind files (levels ++ level ∷ [])) level.words + steps_open kind directory files levels
-steps_open-push kind directory files [] level = omega arith
-steps_open-push kind directory files (x ∷ xs) level = rw (steps_open-push kind directory (files_inside kind x.path files) xs level) (omega arith)
-
 -- ---- one step
 
 module _ (kind : ExpansionKind) (directory : List ℕ) (files : List File) where
@@ -81,12 +65,12 @@ module _ (kind : ExpansionKind) (directory : List ℕ) (files : List File) where
   steps-word levels words word e = rw e refl
 
   pub left-opened : (levels : List Level) (words : List (List ℕ)) (word : List ℕ) (level : Level) → opened kind directory (closed kind files levels) word ≡ Some level
-      → From (left kind directory files levels words) word (closed kind files levels) ≡ left kind directory files (levels ++ level ∷ []) words
-  left-opened levels words word level e = rw (e, left_open-push kind directory files levels level, closed-push kind files levels level, append_assoc) refl
+      → From (left kind directory files levels words) word (closed kind files levels) ≡ left kind directory files (level ∷ levels) words
+  left-opened levels words word level e = rw (e, append_assoc) refl
 
   pub steps-opened : (levels : List Level) (words : List (List ℕ)) (word : List ℕ) (level : Level) → opened kind directory (closed kind files levels) word ≡ Some level
-      → CostFrom (steps_left kind directory files levels words) word (closed kind files levels) ≡ 1 + steps_left kind directory files (levels ++ level ∷ []) words
-  steps-opened levels words word level e = rw (e, steps_open-push kind directory files levels level, closed-push kind files levels level) (omega arith)
+      → CostFrom (steps_left kind directory files levels words) word (closed kind files levels) ≡ 1 + steps_left kind directory files (level ∷ levels) words
+  steps-opened levels words word level e = rw e (omega arith)
 
   pub left-first : (words : List (List ℕ)) (word : List ℕ) → left kind directory files [] (word ∷ words) ≡ From (left kind directory files [] words) word files
   left-first words word = expand-cons kind directory files word words
@@ -94,37 +78,38 @@ module _ (kind : ExpansionKind) (directory : List ℕ) (files : List File) where
   pub steps-first : (words : List (List ℕ)) (word : List ℕ) → steps_left kind directory files [] (word ∷ words) ≡ CostFrom (steps_left kind directory files [] words) word files
   steps-first words word = let e = steps-cons kind directory files word words in omega arith
 
+  -- the file opened last has this word and others left
   pub left-next : (levels : List Level) (words : List (List ℕ)) (path : List ℕ) (word : List ℕ) (others : List (List ℕ))
-      → left kind directory files (levels ++ record { path = path; words = word ∷ others } ∷ []) words
-      ≡ From (left kind directory files (levels ++ record { path = path; words = others } ∷ []) words) word (closed kind files (levels ++ record { path = path; words = others } ∷ []))
+      → left kind directory files (record { path = path; words = word ∷ others } ∷ levels) words
+      ≡ From (left kind directory files (record { path = path; words = others } ∷ levels) words) word (files_inside kind path (closed kind files levels))
   left-next levels words path word others =
-      rw (
-        left_open-push kind directory files levels (record { path = path; words = word ∷ others }),
-        left_open-push kind directory files levels (record { path = path; words = others }),
-        closed-push kind files levels (record { path = path; words = word ∷ others }),
-        closed-push kind files levels (record { path = path; words = others }),
-        expand-cons kind directory (files_inside kind path (closed kind files levels)) word others,
-      ) (simp append_assoc)
+      rw (expand-cons kind directory (files_inside kind path (closed kind files levels)) word others) (simp append_assoc)
 
   pub steps-next : (levels : List Level) (words : List (List ℕ)) (path : List ℕ) (word : List ℕ) (others : List (List ℕ))
-      → steps_left kind directory files (levels ++ record { path = path; words = word ∷ others } ∷ []) words
-      ≡ CostFrom (steps_left kind directory files (levels ++ record { path = path; words = others } ∷ []) words) word (closed kind files (levels ++ record { path = path; words = others } ∷ []))
+      → steps_left kind directory files (record { path = path; words = word ∷ others } ∷ levels) words
+      ≡ CostFrom (steps_left kind directory files (record { path = path; words = others } ∷ levels) words) word (files_inside kind path (closed kind files levels))
   steps-next levels words path word others =
-      rw (
-        steps_open-push kind directory files levels (record { path = path; words = word ∷ others }),
-        steps_open-push kind directory files levels (record { path = path; words = others }),
-        closed-push kind files levels (record { path = path; words = word ∷ others }),
-        closed-push kind files levels (record { path = path; words = others }),
-        steps-cons kind directory (files_inside kind path (closed kind files levels)) word others,
-      ) (omega arith)
+      rw (steps-cons kind directory (files_inside kind path (closed kind files levels)) word others) (omega arith)
 
+  -- the file opened last has no word left
   pub left-close : (levels : List Level) (words : List (List ℕ)) (path : List ℕ)
-      → left kind directory files (levels ++ record { path = path; words = [] } ∷ []) words ≡ left kind directory files levels words
-  left-close levels words path = rw (left_open-push kind directory files levels (record { path = path; words = [] }), expand-nil kind directory (closed kind files (levels ++ record { path = path; words = [] } ∷ []))) refl
+      → left kind directory files (record { path = path; words = [] } ∷ levels) words ≡ left kind directory files levels words
+  left-close levels words path = rw (expand-nil kind directory (files_inside kind path (closed kind files levels))) refl
 
   pub steps-close : (levels : List Level) (words : List (List ℕ)) (path : List ℕ)
-      → steps_left kind directory files levels words < steps_left kind directory files (levels ++ record { path = path; words = [] } ∷ []) words
-  steps-close levels words path = rw (steps_open-push kind directory files levels (record { path = path; words = [] })) (omega arith)
+      → steps_left kind directory files levels words < steps_left kind directory files (record { path = path; words = [] } ∷ levels) words
+  steps-close levels words path = omega arith
+
+  -- the file opened last, whichever it is, has this word and others left
+  pub left-inner : (those : List (List ℕ × WordsLeft)) (words : List (List ℕ)) (word : List ℕ) (others : List (List ℕ)) → those ≢ []
+      → left kind directory files (levels (word ∷ others) those) words ≡ From (left kind directory files (levels others those) words) word (closed kind files (levels others those))
+  left-inner [] words word others h = absurd (h refl)
+  left-inner (file ∷ those) words word others h = left-next (levels (words_left file.1) those) words file.0 word others
+
+  pub steps-inner : (those : List (List ℕ × WordsLeft)) (words : List (List ℕ)) (word : List ℕ) (others : List (List ℕ)) → those ≢ []
+      → steps_left kind directory files (levels (word ∷ others) those) words ≡ CostFrom (steps_left kind directory files (levels others those) words) word (closed kind files (levels others those))
+  steps-inner [] words word others h = absurd (h refl)
+  steps-inner (file ∷ those) words word others h = steps-next (levels (words_left file.1) those) words file.0 word others
 
 pub steps_by : (a b : List (List ℕ)) (n m : ℕ) (r : Result Step AllocError) (t : Expansion) → a ≡ b → n ≡ m → IfOk r (λ step. StepsFrom b m step t) → IfOk r (λ step. StepsFrom a n step t)
 steps_by a b n m r t e f h = rw (e, f) h

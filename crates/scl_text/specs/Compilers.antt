@@ -1,6 +1,6 @@
 -- What the methods of a compiler answer, as its own definitions say.
 use Rattle.std.specs.Prelude.{◌≡◌, ℕ, List, Option, Some}
-use Rattle.scl_text.specs.Words.{words_of}
+use Rattle.scl_args.specs.Words.{words_of}
 use Rattle.scl_text.specs.Commands.{Builds}
 use Rattle.scl_text.specs.declared.records.SingleCompileCommand.{SingleCompileCommand}
 use Rattle.scl_text.specs.declared.records.Cacheable.{Cacheable}

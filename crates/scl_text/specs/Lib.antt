@@ -4,10 +4,10 @@ pub mod Decoding
 pub mod DiabText
 pub mod Expand
 pub mod ExpansionLaws
+pub mod ExpansionState
 pub mod GnuReader
 pub mod GnuText
 pub mod Languages
-pub mod Left
 pub mod MsvcReader
 pub mod MsvcText
 pub mod Orders
@@ -18,7 +18,7 @@ pub mod Paths
 pub mod Reasons
 pub mod Records
 pub mod Refusals
-pub mod Remaining
 pub mod ResponseFiles
 pub mod Views
-pub mod Words
+pub use Rattle.scl_args.specs.Words
+pub mod WordsToCome

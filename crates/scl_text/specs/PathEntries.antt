@@ -3,8 +3,9 @@ use Rattle.std.specs.Prelude.{◌≡◌, ℕ, zero, suc, ◌==◌, cond, List, [
 use Rattle.std.specs.List.{slice_get}
 use Rattle.std.specs.Ordering.{nat_cmp}
 use Rattle.std.specs.BTreeMap.{BTreeMap, get}
+use Rattle.scl_text.specs.Paths.{same_path}
 use Rattle.scl_text.specs.PathMaps.{path_hash}
-use Rattle.scl_text.specs.declared.view.path_map.Entry.{Entry}
+use Rattle.scl_text.specs.declared.path_map.Entry.{Entry}
 
 abbrev pub onto : {T : Type 0} → Option (Entry T) → List (List ℕ × T) → List (List ℕ × T)
 onto None rest = rest
@@ -17,6 +18,15 @@ shown_up_to entries (suc n) = onto (slice_get entries n) (shown_up_to entries n)
 
 abbrev pub shown : {T : Type 0} → List (Entry T) → List (List ℕ × T)
 shown entries = shown_up_to entries (length entries)
+
+abbrev pub this_at : {T : Type 0} → List ℕ → ℕ → Option (Entry T) → Option ℕ → Option ℕ
+this_at path n None older = older
+this_at path n (Some entry) older = cond (same_path entry.path.items path) (Some n) older
+
+-- where the newest of the first n entries at the path stands
+abbrev pub place_at : {T : Type 0} → List ℕ → List (Entry T) → ℕ → Option ℕ
+place_at path entries zero = None
+place_at path entries (suc n) = this_at path n (slice_get entries n) (place_at path entries n)
 
 abbrev pub this_or : {T : Type 0} → ℕ → ℕ → Option (Entry T) → Option ℕ → Option ℕ
 this_or hash n None older = older

@@ -5,11 +5,17 @@ use Rattle.std.specs.Option.{option_map, option_and_then}
 use Rattle.std.specs.Str.{bytes_eq}
 use Rattle.std.specs.Cmp.Lexicographic.{pointwise}
 
+abbrev pub slash : ℕ
+slash = 47
+
+abbrev pub dot : ℕ
+dot = 46
+
 abbrev pub is_slash : ℕ → Bool
-is_slash byte = byte == 47
+is_slash byte = byte == slash
 
 abbrev pub is_dot : ℕ → Bool
-is_dot byte = byte == 46
+is_dot byte = byte == dot
 
 abbrev pub begins_with_slash : List ℕ → Bool
 begins_with_slash path = starts_with nat_eq path (codes "/")

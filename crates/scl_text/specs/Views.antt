@@ -7,7 +7,7 @@ pub record File : Type 0 where
   pub path : List ℕ
   pub bytes : List ℕ
 
--- what was added, the newest first
+-- what was added, the newest first; a file stands where the first one at its path was added
 pub record Viewed : Type 0 where
   pub files : List File
   pub directories : List (List ℕ)
@@ -21,6 +21,15 @@ empty_view = record { files = []; directories = []; existing = []; is_multiarch 
 abbrev pub bytes_at : List ℕ → List File → Option (List ℕ)
 bytes_at path [] = None
 bytes_at path (file ∷ files) = cond (same_path file.path path) (Some file.bytes) (bytes_at path files)
+
+-- the file's bytes in the place of those of the newest file at its path
+abbrev pub with_bytes : File → List File → List File
+with_bytes file [] = []
+with_bytes file (other ∷ files) = cond (same_path other.path file.path) (record { path = other.path; bytes = file.bytes } ∷ files) (other ∷ with_bytes file files)
+
+-- the files with one more; one at the same path gives way
+abbrev pub put_file : File → List File → List File
+put_file file files = cond (is_some (bytes_at file.path files)) (with_bytes file files) (file ∷ files)
 
 -- the path is among these
 abbrev pub is_among : List ℕ → List (List ℕ) → Bool

@@ -1,5 +1,5 @@
 //! What every compiler answers.
-use crate::memory::Mem;
+use scl_args::Mem;
 use crate::records::{
     CCompilerKind, Cacheable, CommandError, CompilerArguments, ParsedArguments,
     SingleCompileCommand,
@@ -14,7 +14,7 @@ pub trait CCompilerImpl {
     ghost use Rattle.std.specs.Prelude.{◌≡◌, ◌↔◌, ℕ, Bool, List, Option, None, Result, IfOk};
     ghost use Rattle.std.specs.Option.{option_map};
     ghost use Rattle.std.specs.String.{string_bytes};
-    ghost use Rattle.scl_text.specs.Words.{words_of};
+    ghost use Rattle.scl_args.specs.Words.{words_of};
     ghost use Rattle.scl_text.specs.Views.{Viewed};
     ghost use Rattle.scl_text.specs.Commands.{pairs_of, object_of, command_by};
     ghost use Rattle.scl_text.specs.Compilers.{IsAnswer};

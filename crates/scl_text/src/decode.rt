@@ -4,7 +4,7 @@ ghost use Rattle.std.specs.String.{string_bytes};
 ghost use Rattle.scl_text.specs.Decoding.{unit_of, units, utf8_text, utf16_text, windows_char, windows_text, decoded, Utf8FilesAreReadBack, Utf16FilesAreReadBack};
 ghost use Rattle.scl_text.specs.Orders.{order_of};
 
-use crate::memory::Mem;
+use scl_args::Mem;
 use bstr::ByteSlice;
 use std::alloc::Global;
 
@@ -106,13 +106,3 @@ pub fn read_text(alloc: Global, bytes: &[u8]) -> Mem<Option<String>>
         _ => Ok(Some(windows_text(alloc, bytes)?)),
     }
 }
-
-/// A file in UTF-8 or UTF-16 behind its mark gives its characters. (docs/RULES.md, Decoding)
-#[tactic(auto, using(crate::proofs::DecodeLaws::file_laws))]
-pub fn marked_files_are_read_back()
-    ensures utf8 { Utf8FilesAreReadBack }
-    ensures utf16 { Utf16FilesAreReadBack }
-{}
-
-#[cfg(test)]
-mod tests;

@@ -2,10 +2,10 @@ ghost use Rattle.std.specs.Prelude.{◌≡◌, ℕ, List, IfOk};
 ghost use Rattle.std.specs.List.{list_any};
 ghost use Rattle.std.specs.Option.{option_map};
 ghost use Rattle.std.specs.Str.{chars};
-ghost use Rattle.scl_text.specs.Words.{words_of};
+ghost use Rattle.scl_args.specs.Words.{words_of};
 ghost use Rattle.scl_text.specs.DiabText.{is_quote, diab_arguments, PlainWordsAreReadBack};
 
-use crate::memory::Mem;
+use scl_args::Mem;
 use std::alloc::Global;
 
 fn has_quote(text: &str) -> bool
@@ -29,13 +29,3 @@ pub fn split_diab(alloc: Global, text: &str) -> Mem<Option<Vec<Vec<u8>>>>
     }
     Ok(Some(words))
 }
-
-/// Words without white space and quotes, with a space between each two, are the arguments of their text.
-/// (docs/RULES.md, Diab text)
-#[tactic(auto, using(crate::proofs::DiabLaws::plain_words_are_read_back))]
-pub fn diab_words_are_read_back()
-    ensures { PlainWordsAreReadBack }
-{}
-
-#[cfg(test)]
-mod tests;

@@ -1,9 +1,17 @@
-ghost use Rattle.std.specs.Prelude.{◌≡◌, ℕ, length, map, false, true, IfOk, [], ◌∷◌};
-ghost use Rattle.std.specs.Vec.Iter.{into_iter_items, into_iter_len};
+ghost use Rattle.std.specs.Prelude.{◌≡◌, IfOk};
+ghost use Rattle.scl_args.specs.Words.{words_of};
+ghost use Rattle.scl_text.specs.Expand.{expand};
 
+use scl_args::Mem;
 use crate::view::View;
 use std::alloc::Global;
-use std::vec::IntoIter;
+
+mod engine;
+mod iterators;
+mod response_file;
+
+use iterators::Expand;
+pub use iterators::{ExpandAtArgs, GnuExpand, MsvcExpand};
 
 /// Whose response files are put in place (docs/RULES.md, Expansion).
 #[derive(Clone, Copy, Debug, PartialEq, Eq)]
@@ -16,46 +24,20 @@ pub enum ExpansionKind {
     Diab,
 }
 
-/// A file that is open, and its words that are left.
-#[derive(Drop)]
-struct OpenFile {
-    path: Vec<u8>,
-    words: IntoIter<Vec<u8>>,
-    ghost counted: { into_iter_len words ≡ length (into_iter_items words) },
-}
-
-/// An expansion that has begun: the files that are open, the last opened last, and the given
-/// words that are left.
-#[derive(Drop)]
-struct Expansion<'a> {
+/// All the words with response files put in place, as the iterator of the kind gives them
+/// (docs/RULES.md, Expansion).
+pub fn expand_all(
     alloc: Global,
     kind: ExpansionKind,
-    directory: &'a [u8],
-    view: &'a View,
-    words: &'a [Vec<u8>],
-    open_files: Vec<OpenFile>,
+    cwd: &[u8],
+    words: &[Vec<u8>],
+    view: &View,
+) -> Mem<Vec<Vec<u8>>>
+    ensures { IfOk result (λ v. words_of v.items ≡ expand kind cwd.now view.now.files (words_of words.now)) }
+{
+    let mut all = Vec::new(alloc);
+    for word in Expand::new(alloc, kind, cwd, words, view) {
+        all.push(word?)?;
+    }
+    Ok(all)
 }
-
-#[derive(Drop)]
-enum Step {
-    Word(Vec<u8>),
-    Again,
-    End,
-}
-
-mod advance;
-mod collected;
-mod items;
-mod laws;
-mod response_file;
-
-pub use collected::{expand_all, expanded};
-pub use items::{ExpandAtArgs, GnuExpand, MsvcExpand};
-pub use laws::{
-    absent_files_leave_their_words, each_file_is_open_once, open_files_are_absent_inside,
-    plain_words_stand, unreadable_files_leave_their_words, words_are_expanded_one_by_one,
-    words_of_msvc_files_stand,
-};
-
-#[cfg(test)]
-mod tests;

@@ -1,11 +1,11 @@
 ghost use Rattle.std.specs.Prelude.{◌≡◌, ℕ, List, [], ◌++◌, OnOk, IfOk};
 ghost use Rattle.std.specs.Str.{chars};
 ghost use Rattle.std.specs.String.{string_bytes};
-ghost use Rattle.scl_text.specs.Words.{words_of};
+ghost use Rattle.scl_args.specs.Words.{words_of};
 ghost use Rattle.scl_text.specs.GnuText.{is_gnu_separator, keep, joined, Piece, ArePieces, gnu_arguments, TextsHavePieces, TextsHaveNoOtherPieces, GivesNoEmptyArgument, IsReadBack, gnu_quoted, gnu_escaped};
 ghost use Rattle.scl_text.specs.GnuReader.{mark_of, mode_after};
 
-use crate::memory::Mem;
+use scl_args::Mem;
 use std::alloc::Global;
 use std::mem::replace;
 
@@ -94,31 +94,3 @@ pub fn split_gnu_response_file_args(alloc: Global, text: &str) -> Mem<Vec<Vec<u8
     put(&mut arguments, argument)?;
     Ok(arguments)
 }
-
-/// Every text has exactly one list of pieces. (docs/RULES.md, GNU text)
-#[tactic(auto, using(crate::proofs::GnuLaws::piece_laws))]
-pub fn gnu_texts_have_their_pieces()
-    ensures have { TextsHavePieces }
-    ensures no_others { TextsHaveNoOtherPieces }
-{}
-
-/// No GNU text gives an empty argument. (docs/RULES.md, GNU text)
-#[tactic(auto, using(crate::proofs::GnuLaws::gives_no_empty_argument))]
-pub fn gnu_arguments_are_nonempty()
-    ensures { GivesNoEmptyArgument }
-{}
-
-/// Words in single quotes, with a space between each two, are the arguments of their text. (docs/RULES.md, GNU text)
-#[tactic(auto, using(crate::proofs::GnuLaws::quoted_words_are_read_back))]
-pub fn gnu_quoted_words_are_read_back()
-    ensures { IsReadBack gnu_quoted }
-{}
-
-/// Words with backslashes, with a space between each two, are the arguments of their text. (docs/RULES.md, GNU text)
-#[tactic(auto, using(crate::proofs::GnuLaws::escaped_words_are_read_back))]
-pub fn gnu_escaped_words_are_read_back()
-    ensures { IsReadBack gnu_escaped }
-{}
-
-#[cfg(test)]
-mod tests;

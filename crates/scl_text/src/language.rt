@@ -145,12 +145,3 @@ impl Language {
         !matches!(self, Language::Assembler | Language::Rust)
     }
 }
-
-/// Every text that gcc or clang is given for a language is read back as that language.
-pub fn texts_are_read_back(_language: Language)
-    ensures gcc { IfSome (gcc_text _language) (λ text. language_of_gcc_text text ≡ Some _language) }
-    ensures clang { IfSome (clang_text _language) (λ text. language_of_gcc_text text ≡ Some _language) }
-{}
-
-#[cfg(test)]
-mod tests;

@@ -3,7 +3,7 @@ ghost use Rattle.std.specs.String.{string_bytes};
 ghost use Rattle.scl_text.specs.MsvcText.{is_msvc_separator, OnlyQuotesGiveEmptyArguments, QuotedWordsAreReadBack};
 ghost use Rattle.scl_text.specs.MsvcReader.{slashes};
 
-use crate::memory::Mem;
+use scl_args::Mem;
 
 /// An argument so far, the backslashes behind it, and whether a quote is open.
 #[derive(Drop)]
@@ -29,23 +29,6 @@ fn push_slashes(argument: &mut String, count: usize) -> Mem<()>
     Ok(())
 }
 
-/// An MSVC text gives an empty argument exactly where a stretch is toggling quotes alone, as `""`.
-/// (docs/RULES.md, MSVC text)
-#[tactic(auto, using(crate::proofs::MsvcLaws::only_quotes_give_empty_arguments))]
-pub fn only_quotes_give_empty_msvc_arguments()
-    ensures { OnlyQuotesGiveEmptyArguments }
-{}
-
-/// Words that MSVC's own tools quote, with a space between each two, are the arguments of their text.
-/// (docs/RULES.md, MSVC text)
-#[tactic(auto, using(crate::proofs::MsvcLaws::quoted_words_are_read_back))]
-pub fn msvc_quoted_words_are_read_back()
-    ensures { QuotedWordsAreReadBack }
-{}
-
 mod arguments;
 
 pub use arguments::{SplitMsvcResponseFileArgs, msvc_words};
-
-#[cfg(test)]
-mod tests;

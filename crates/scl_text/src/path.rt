@@ -5,7 +5,7 @@ ghost use Rattle.std.specs.Option.{option_copied, option_map};
 ghost use Rattle.std.specs.Iterator.{YieldsFirstBy, item_count};
 ghost use Rattle.scl_text.specs.Paths.{placed, places, places_from, start, last_place, file_place, stem_of_name, extension, join, with_extension, parent, with_file_name, same_path, components, is_file_name, is_plain_extension, extended_name, file_name, is_name, is_slash, is_dot, extension_of_name};
 
-use crate::memory::Mem;
+use scl_args::Mem;
 use std::alloc::Global;
 
 /// The position of the first slash.
@@ -48,16 +48,16 @@ fn is_name(part: &[u8]) -> bool
 
 /// A name in a path, with the bytes before it and the path through it.
 #[derive(Drop)]
-struct Place<'a> {
+pub(crate) struct Place<'a> {
     before: &'a [u8],
-    name: &'a [u8],
+    pub(crate) name: &'a [u8],
     through: &'a [u8],
     ghost joined: { through.now ≡ before.now ++ name.now },
 }
 
 /// The names of a path from a position on.
 #[derive(Drop)]
-struct Places<'a> {
+pub(crate) struct Places<'a> {
     path: &'a [u8],
     at: usize,
     ghost within: { at ≤ length path.now },
@@ -65,7 +65,7 @@ struct Places<'a> {
 
 impl<'a> Places<'a> {
     #[tactic(auto, unfolding(crate::specs::Paths::places, crate::specs::Paths::places_from))]
-    fn new(path: &'a [u8]) -> Places<'a>
+    pub(crate) fn new(path: &'a [u8]) -> Places<'a>
         ensures { places_from result.path.now result.at ≡ places path.now }
     {
         Places { path, at: 0 }
@@ -246,30 +246,3 @@ pub fn same_path(a: &[u8], b: &[u8]) -> bool
     }
     others.next().is_none()
 }
-
-/// `same_path` says that the components are equal, so it is an equivalence.
-pub fn same_paths_have_equal_components(_a: &[u8], _b: &[u8], _c: &[u8])
-    ensures components { IsTrue (same_path _a.now _b.now) ↔ (components _a.now ≡ components _b.now) }
-    ensures reflexive { IsTrue (same_path _a.now _a.now) }
-    ensures symmetric { IsTrue (same_path _a.now _b.now) → IsTrue (same_path _b.now _a.now) }
-    ensures transitive { IsTrue (same_path _a.now _b.now) → IsTrue (same_path _b.now _c.now) → IsTrue (same_path _a.now _c.now) }
-{}
-
-/// A plain name that is joined to a directory, or put in place of a file name, is the file name.
-pub fn new_names_are_file_names(_path: &[u8], _name: &[u8])
-    ensures joined { IsTrue (is_file_name _name.now) → file_name (join _path.now _name.now) ≡ Some _name.now }
-    ensures replaced { IsTrue (is_file_name _name.now) → file_name (with_file_name _path.now _name.now) ≡ Some _name.now }
-{}
-
-/// A plain extension takes the place of the file name's own, and is then the extension; the stem stays.
-pub fn new_extensions_are_extensions(_path: &[u8], _extension: &[u8])
-    ensures name { IfSome (file_name _path.now) (λ name. IsTrue (is_plain_extension _extension.now)
-        → file_name (with_extension _path.now _extension.now) ≡ Some (extended_name name _extension.now)) }
-    ensures extension { IfSome (file_name _path.now) (λ _. IsTrue (is_plain_extension _extension.now)
-        → extension (with_extension _path.now _extension.now) ≡ Some _extension.now) }
-    ensures stem { IfSome (file_name _path.now) (λ name. IsTrue (is_plain_extension _extension.now)
-        → stem_of_name (extended_name name _extension.now) ≡ stem_of_name name) }
-{}
-
-#[cfg(test)]
-mod tests;

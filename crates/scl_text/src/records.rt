@@ -158,6 +158,3 @@ impl<T: Drop> From<AllocFailed<T>> for CommandError {
         CommandError::from(AllocError)
     }
 }
-
-#[cfg(test)]
-mod tests;

@@ -3,10 +3,10 @@ ghost use Rattle.std.specs.Prelude.{◌≡◌, Err, IfOk, MatchResult, Ok};
 ghost use Rattle.scl_text.specs.Reasons.{argument_parse};
 ghost use Rattle.scl_text.specs.Records.{outcome_of};
 ghost use Rattle.scl_text.specs.Refusals.{verdict_of, the_input};
-ghost use Rattle.scl_text.specs.Words.{words_of};
+ghost use Rattle.scl_args.specs.Words.{words_of};
 
-use crate::memory::Mem;
-use crate::quoting::quoted_list;
+use scl_args::Mem;
+use scl_args::quoted_list;
 use crate::reasons::{ARGUMENT_PARSE, MULTIPLE_INPUT_FILES, NO_INPUT_FILE};
 use crate::records::{CompilerArguments, ParsedArguments};
 use std::alloc::Global;

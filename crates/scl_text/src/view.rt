@@ -1,16 +1,12 @@
 ghost use Rattle.std.specs.Prelude.{List, OnOk, OnErr, if◌then◌else◌, Some, ◌≡◌, ℕ, ◌∷◌, ◌||◌, true};
 ghost use Rattle.std.specs.Option.{option_copied};
 ghost use Rattle.scl_text.specs.Paths.{same_path};
-ghost use Rattle.scl_text.specs.Views.{empty_view, bytes_at, is_among, is_directory, exists};
+ghost use Rattle.scl_text.specs.Views.{empty_view, put_file, bytes_at, is_among, is_directory, exists};
 
-use crate::memory::Mem;
+use scl_args::Mem;
+use crate::path_map::PathMap;
 use std::alloc::Global;
 use std::marker::Model;
-
-mod path_hash;
-mod path_map;
-
-use path_map::PathMap;
 
 /// The files, directories and other paths that a command line may ask for, and whether the
 /// compiler makes code for several architectures. Paths are compared by their components
@@ -50,14 +46,14 @@ impl View {
         }
     }
 
-    /// Adds a file, in place of an earlier one at the path. Where memory is refused the view is
-    /// as it was (docs/RULES.md, View).
+    /// Adds a file, in place of an earlier one at the path, whose bytes are given back. Where memory
+    /// is refused the view is as it was (docs/RULES.md, View).
     pub fn add_file(&mut self, path: Vec<u8>, bytes: Vec<u8>) -> Mem<()>
-        ensures ok { OnOk result (self.new ≡ record self.old { files = record { path = path.items; bytes = bytes.items } ∷ self.old.files }) }
+        ensures ok { OnOk result (self.new ≡ record self.old { files = put_file (record { path = path.items; bytes = bytes.items }) self.old.files }) }
         ensures found { OnOk result ((other : List ℕ) → bytes_at other self.new.files ≡ (if same_path path.items other then Some bytes.items else bytes_at other self.old.files)) }
         ensures err { OnErr result (self.new ≡ self.old) }
     {
-        self.files.add(path, bytes)
+        self.files.put(path, bytes)
     }
 
     /// Adds a directory. Where memory is refused the view is as it was (docs/RULES.md, View).
@@ -90,10 +86,8 @@ impl View {
     pub fn file(&self, path: &[u8]) -> Option<&[u8]>
         ensures { option_copied result ≡ bytes_at path.now self.now.files }
     {
-        match self.files.get(path) {
-            Some(bytes) => Some(bytes),
-            None => None,
-        }
+        let bytes = self.files.get(path)?;
+        Some(bytes)
     }
 
     /// Whether there is a directory at the path (docs/RULES.md, View).
@@ -124,6 +118,3 @@ impl View {
         self.multiarch
     }
 }
-
-#[cfg(test)]
-mod tests;

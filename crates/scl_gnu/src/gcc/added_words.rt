@@ -2,7 +2,7 @@
 ghost use Rattle.std.specs.Prelude.{◌≡◌, ◌++◌, ◌∷◌, [], OnOk, IfOk, codes, map, is_some};
 ghost use Rattle.scl_text.specs.Paths.{with_extension};
 ghost use Rattle.scl_args.specs.Seen.{seen};
-ghost use Rattle.scl_text.specs.Words.{words_of};
+ghost use Rattle.scl_args.specs.Words.{words_of};
 ghost use Rattle.scl_gnu.specs.Data.{kind_of, word_of};
 ghost use Rattle.scl_gnu.specs.Kinds.{last_text, last_flag};
 ghost use Rattle.scl_gnu.specs.Recordings.{added_common, added_depfile, added_dependency};

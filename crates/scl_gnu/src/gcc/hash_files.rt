@@ -2,7 +2,7 @@
 ghost use Rattle.std.specs.Prelude.{◌≡◌, ◌++◌, OnOk, IfOk, map};
 ghost use Rattle.std.specs.Option.{option_map, option_to_list};
 ghost use Rattle.scl_args.specs.Seen.{seen};
-ghost use Rattle.scl_text.specs.Words.{words_of};
+ghost use Rattle.scl_args.specs.Words.{words_of};
 ghost use Rattle.scl_gnu.specs.Data.{kind_of, word_of};
 ghost use Rattle.scl_gnu.specs.Kinds.{hash_role, hashed_by, hashed};
 ghost use Rattle.scl_gnu.specs.Recordings.{hash_path};

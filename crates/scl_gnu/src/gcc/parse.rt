@@ -4,7 +4,7 @@ ghost use Rattle.scl_args.specs.Cuts.{cut};
 ghost use Rattle.scl_args.specs.Seen.{seen};
 ghost use Rattle.scl_args.specs.Tables.{owner_in, tables_hold_values};
 ghost use Rattle.scl_text.specs.Records.{outcome_of};
-ghost use Rattle.scl_text.specs.Words.{words_of};
+ghost use Rattle.scl_args.specs.Words.{words_of};
 ghost use Rattle.scl_gnu.specs.Data.{holds_value, kind_of, word_of};
 ghost use Rattle.scl_gnu.specs.Readings.{recorded, read, read_cut, reading, tables_lack_inner};
 ghost use Rattle.scl_gnu.specs.Recordings.{is_clang};

@@ -1,14 +1,14 @@
 ghost use Rattle.std.specs.Prelude.{◌≡◌, IfOk};
 ghost use Rattle.std.specs.Option.{option_map, option_copied};
 ghost use Rattle.std.specs.Str.{chars};
-ghost use Rattle.scl_text.specs.Words.{words_of};
+ghost use Rattle.scl_args.specs.Words.{words_of};
 ghost use Rattle.scl_text.specs.ResponseFiles.{file_name_in, named, arguments};
 
 use super::ExpansionKind;
 use crate::decode::read_text;
 use crate::diab_text::split_diab;
 use crate::gnu_text::split_gnu_response_file_args;
-use crate::memory::Mem;
+use scl_args::Mem;
 use crate::msvc_text::msvc_words;
 use crate::path::join;
 use std::alloc::Global;

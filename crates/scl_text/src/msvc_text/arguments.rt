@@ -1,13 +1,13 @@
 ghost use Rattle.std.specs.Prelude.{◌≡◌, ℕ, ◌+◌, ◌<◌, ◌≤◌, ◌^◌, List, [], ◌∷◌, IfOk, MatchOption, false};
 ghost use Rattle.std.specs.Str.{chars};
 ghost use Rattle.std.specs.String.{string_bytes};
-ghost use Rattle.scl_text.specs.Words.{words_of};
-ghost use Rattle.scl_text.specs.Left.{items_left, GivesText};
+ghost use Rattle.scl_args.specs.Words.{words_of};
+ghost use Rattle.scl_args.specs.WordsToCome.{items_left, GivesText};
 ghost use Rattle.scl_text.specs.MsvcText.{msvc_arguments};
 ghost use Rattle.scl_text.specs.MsvcReader.{TakesChar};
 
 use super::{Reader, is_msvc_separator, push_slashes};
-use crate::memory::Mem;
+use scl_args::Mem;
 use std::alloc::Global;
 use std::marker::Model;
 
@@ -81,10 +81,10 @@ pub struct SplitMsvcResponseFileArgs<'a> {
 
 impl<'a> Model for SplitMsvcResponseFileArgs<'a> {
     ghost use Rattle.std.specs.Str.{chars};
-    ghost use Rattle.scl_text.specs.Left.{Left};
+    ghost use Rattle.scl_args.specs.WordsToCome.{WordsToCome};
     ghost use Rattle.scl_text.specs.MsvcText.{msvc_arguments};
 
-    ghost Value = { Left };
+    ghost Value = { WordsToCome };
 
     ghost view = { λ s. record { words = msvc_arguments (chars s.rest.now); ended = s.ended } };
 }

@@ -1,7 +1,7 @@
 use Rattle.std.proofs.Common.{◌≡◌, [], ◌++◌, ◌∷◌, Some, refl, sym, ap, ◌∙◌}
 use Rattle.std.proofs.lemmas.List.{append-nil, map-append}
 use Rattle.std.specs.Str.{chars}
-use Rattle.scl_text.specs.Words.{words_of}
+use Rattle.scl_args.specs.Words.{words_of}
 use Rattle.scl_text.proofs.DiabLemmas.{takes_word, step-word, no_words, arguments-plain}
 use Rattle.scl_text.proofs.diab_text.split_diab.Goals as goal
 

@@ -1,7 +1,7 @@
 use Rattle.std.proofs.Common.{◌≡◌, ◌++◌, map, encode_utf8_all}
 use Rattle.std.specs.Str.{chars, IsUtf8}
 use Rattle.std.specs.Str.Iter.{split_whitespace_rest}
-use Rattle.scl_text.specs.Words.{words_of}
+use Rattle.scl_args.specs.Words.{words_of}
 use Rattle.scl_text.specs.DiabText.{diab_words}
 use Rattle.scl_text.proofs.diab_text.split_diab.Given as goal
 

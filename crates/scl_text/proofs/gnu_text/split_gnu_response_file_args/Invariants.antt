@@ -2,7 +2,7 @@ use Rattle.std.proofs.Common.{◌≡◌, [], ◌++◌}
 use Rattle.std.specs.Str.{chars, IsUtf8}
 use Rattle.std.specs.Str.Iter.{chars_rest}
 use Rattle.std.specs.String.{string_bytes}
-use Rattle.scl_text.specs.Words.{words_of}
+use Rattle.scl_args.specs.Words.{words_of}
 use Rattle.scl_text.specs.declared.gnu_text.Mode.TheVariants as mode
 use Rattle.scl_text.proofs.GnuLemmas.{read_from}
 use Rattle.scl_text.proofs.gnu_text.split_gnu_response_file_args.Given as goal

@@ -1,6 +1,6 @@
 use Rattle.std.proofs.Common.{◌≡◌, ◌++◌, map, drop}
 use Rattle.scl_args.specs.Seen.{seen}
-use Rattle.scl_text.specs.Words.{words_of}
+use Rattle.scl_args.specs.Words.{words_of}
 use Rattle.scl_gnu.specs.Data.{kind_of, word_of}
 use Rattle.scl_gnu.specs.Kinds.{hashed}
 use Rattle.scl_gnu.specs.Recordings.{hash_path}

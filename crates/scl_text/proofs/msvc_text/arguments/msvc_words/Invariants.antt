@@ -1,6 +1,6 @@
 use Rattle.std.proofs.Common.{◌≡◌, ◌++◌, false}
 use Rattle.std.specs.Str.{chars}
-use Rattle.scl_text.specs.Words.{words_of}
+use Rattle.scl_args.specs.Words.{words_of}
 use Rattle.scl_text.specs.MsvcText.{msvc_arguments}
 use Rattle.scl_text.proofs.msvc_text.arguments.msvc_words.Given as goal
 

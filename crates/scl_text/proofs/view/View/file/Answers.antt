@@ -3,12 +3,12 @@ use Rattle.scl_text.specs.PathMaps.{value_at}
 use Rattle.scl_text.proofs.ViewLemmas.{bytes_at_lem}
 use Rattle.scl_text.proofs.view.View.file.Goals as goal
 
-pub returns-in-Some : goal.returns-in-Some
-returns-in-Some c =
-    let found : Some c.in-Some.bytes.now ≡ value_at c.args.path.now c.self.inside.files = c.in-Some.ensures in
-    rw (← c.self.view_is, bytes_at_lem, c.deref.ensures.value, ← found) refl
+pub returns-in_err-bytes : goal.returns-in_err-bytes
+returns-in_err-bytes c =
+    let none : None ≡ value_at c.args.path.now c.self.inside.files = c.in_err-bytes.ensures in
+    rw (← c.self.view_is, bytes_at_lem, ← none) (rw c.from_residual.ensures refl)
 
-pub returns-in-None : goal.returns-in-None
-returns-in-None c =
-    let none : None ≡ value_at c.args.path.now c.self.inside.files = c.in-None.ensures in
-    rw (← c.self.view_is, bytes_at_lem, ← none) refl
+pub returns : goal.returns
+returns c =
+    let found : Some c.in_ok-bytes.bytes.now ≡ value_at c.args.path.now c.self.inside.files = c.in_ok-bytes.ensures in
+    rw (← c.self.view_is, bytes_at_lem, c.deref.ensures.value, ← found) refl

@@ -1,0 +1,26 @@
+use Rattle.std.specs.Prelude.{◌≡◌, ℕ, ◌+◌, List, [], ◌∷◌, length, Bool, true, false, cond, Option, None, Some, Result, Ok, Err, Vec}
+use Rattle.std.specs.declared.alloc.AllocError.{AllocError}
+use Rattle.std.specs.Prelude.{String}
+use Rattle.std.specs.String.{string_bytes}
+use Rattle.std.specs.Iterator.{Count, at_most}
+use Rattle.std.specs.declared.alloc.Global.{Global}
+
+-- what an iterator of words still gives, unless it has ended
+pub record WordsToCome : Type 0 where
+  pub words : List (List ℕ)
+  pub ended : Bool
+
+-- an error may come where no word is left
+abbrev pub items_left : WordsToCome → Count
+items_left s = at_most (cond s.ended 0 (1 + length s.words))
+
+-- a call gave the first word, or an error, which ends it, or met the end
+abbrev pub GivesWord : WordsToCome → Option (Result (Vec ℕ Global) AllocError) → WordsToCome → Type 0
+GivesWord s None t = (t.ended ≡ true) × (s.ended ≡ false → s.words ≡ [])
+GivesWord s (Some (Ok word)) t = (s.ended ≡ false) × (t.ended ≡ false) × (s.words ≡ word.items ∷ t.words)
+GivesWord s (Some (Err e)) t = (s.ended ≡ false) × (t.ended ≡ true)
+
+abbrev pub GivesText : WordsToCome → Option (Result (String Global) AllocError) → WordsToCome → Type 0
+GivesText s None t = (t.ended ≡ true) × (s.ended ≡ false → s.words ≡ [])
+GivesText s (Some (Ok text)) t = (s.ended ≡ false) × (t.ended ≡ false) × (s.words ≡ string_bytes text ∷ t.words)
+GivesText s (Some (Err e)) t = (s.ended ≡ false) × (t.ended ≡ true)
