@@ -1,0 +1,11 @@
+//! Tests that cross the crates.
+#![tactic(auto)]
+
+#[cfg(test)]
+mod cl;
+#[cfg(test)]
+mod gnu;
+#[cfg(test)]
+mod small;
+#[cfg(test)]
+mod words;
