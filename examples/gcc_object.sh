@@ -2,11 +2,18 @@
 # Compiles a C file as it is asked for, and again by the command that ccline builds for the same words,
 # and compares the two objects and dependency files byte for byte.
 #
-#     examples/gcc_object.sh PATH_OF_CCLINE [gcc|g++]
+# Status 0: they are the same; 1: they differ, or there is no built command; 64: called wrongly.
 set -euo pipefail
 
+usage() {
+    echo "usage: examples/gcc_object.sh PATH_OF_CCLINE [gcc|g++]" >&2
+    exit 64
+}
+[ $# -eq 1 ] || [ $# -eq 2 ] || usage
+[ -x "$1" ] || { echo "examples/gcc_object.sh: $1: no program" >&2; usage; }
 ccline=$(realpath "$1")
 compiler=${2:-gcc}
+case $compiler in gcc | g++) ;; *) usage ;; esac
 folder=$(mktemp -d)
 trap 'rm -rf "$folder"' EXIT
 cd "$folder"
@@ -40,21 +47,25 @@ request() {
     done
 }
 
+status=0
+request | "$ccline" > answer || status=$?
+if [ $status -ne 0 ]; then
+    echo "ccline ended with status $status" >&2
+    exit 1
+fi
+if [ "$(head -n 1 answer)" != ok ]; then
+    echo "ccline built no command: $(cat answer)" >&2
+    exit 1
+fi
 built=()
-answered=no
 while IFS= read -r line; do
     case $line in
-        ok) answered=yes ;;
         'arg '*)
             printf -v word %b "${line#arg }"
             built+=("$word")
             ;;
     esac
-done < <(request | "$ccline")
-if [ $answered = no ]; then
-    echo "ccline built no command" >&2
-    exit 1
-fi
+done < answer
 
 "$compiler" "${words[@]}"
 mv build asked

@@ -1,48 +1,61 @@
 #!/usr/bin/env python3
-"""Tries the rows of docs/LIMITS.md: runs each compile command as it is given and as ccline builds it, in folders of
-their own, and prints what differs.
+"""Tries the rows of docs/LIMITS.md: runs the compile command of each row as it is given and as ccline builds it, in
+folders of their own, prints what differs, and compares it with what the row says.
 
-usage: examples/limits.py PATH_OF_CCLINE [ROW ..]
+usage: examples/limits.py PATH_OF_CCLINE [ROW ..]   (it needs gcc 12; without rows: all)
+
+Status 0: all that was seen is as the rows say; 1: a row differs; 64: called wrongly.
 """
 import os
-import shutil
+import re
+import shlex
 import subprocess
 import sys
 import tempfile
 
-SOURCE = b"int main(void) { return 0; }\n"
-FILES = {"a.c": SOURCE, "t.c": b'char x[] = "??=";\n', "a.h": b"#define A 1\n", "b.h": b"#define B 1\n",
-         "p.h": b"static int p(void) { return 1; }\n", "u.c": b"int main(void) { return p(); }\n", "s.c": b"const char *s = X;\n",
-         "a.cu": SOURCE, "w.c": b"#include <q.h>\nint q = Q;\n", "in/q.h": b"#define Q 1\n", "on/q.h": b"#define Q 2\n",
-         "o.c": b"#ifdef B\nint first_b;\n#endif\nint main(void) { return 0; }\n",
-         "first.h": b"#ifndef B\n#define A_FIRST 1\n#endif\n", "w2.c": b"#ifdef A_FIRST\nint a_first;\n#else\nint b_first;\n#endif\n",
-         "r": b"""-c s.c '-DX="C:\\\\\\\\dir"'""", "e": b'-c a.c ""'}
+DOCS = os.path.join(os.path.dirname(os.path.realpath(__file__)), "..", "docs", "LIMITS.md")
 
-# row of docs/LIMITS.md, the words behind gcc; for row 1 the commands one after the other
-ROWS = {
-    1: [["-g", "-gsplit-dwarf", "-x", "c-header", "-c", "p.h", "-o", "p.h.gch"],
-        ["-g", "-gsplit-dwarf", "-Winvalid-pch", "-Werror", "-include", "p.h", "-c", "u.c"]],
-    2: [["-g3", "-gsplit-dwarf", "-c", "a.c"]],
-    3: [["@r"]],
-    4: [["-std=gnu11", "-trigraphs", "-c", "t.c"]],
-    5: [["-c", "--preprocess", "a.c"]],
-    6: [["-c", "-S", "a.c"]],
-    7: [["-c", "a.h"]],
-    8: [["--include-directory=in", "-Ion", "-c", "w.c"]],
-    9: [["--include=first.h", "-include", "b.h", "-c", "w2.c"]],
-    10: [["-c", "a.cu"]],
-    11: [["@e"]],
-    12: [["-MD", "-MT", "one", "-MT", "two", "-c", "a.c"]],
-    13: [["-MD", "-c", "a.c", "-o", "a$b.o"]],
-    14: [["-Wp,-MMD,x.d", "-MT", "one", "-c", "a.c"]],
-    15: [["-MD", "-MTone", "-c", "a.c"]],
-    16: [["-MD", "-MFx.d", "-MF", "y.d", "-c", "a.c"]],
-    17: [["-MD", "-c", "a.c", "-o", ".hidden"]],
-    18: [["-MT", "one", "-c", "a.c"]],
-    19: [["-std=gnu11", "-g", "-O2", "-trigraphs", "-c", "a.c"]],
-    20: [["-x", "c-header", "-c", "a.h", "-o", "a.h.gch"]],
-    21: [["-fdiagnostics-color=never", "-c", "a.c"]],
-    22: [["-c", "a.c", "-x", "c++"]],
+SOURCE = "int main(void) { return 0; }\n"
+FILES = {"a.c": SOURCE, "t.c": 'char x[] = "??=";\n', "a.h": "#define A 1\n", "b.h": "#define B 1\n", "a.cu": SOURCE,
+         "p.h": "static int p(void) { return 1; }\n", "u.c": "int main(void) { return p(); }\n",
+         "in/q.h": "#define Q 1\n", "on/q.h": "#define Q 2\n"}
+
+# What else a row's files hold.
+FILES_OF = {
+    3: {"r": "-c a.c '-DX=\"C:\\\\\\\\dir\"'", "a.c": "const char *s = X;\n"},
+    8: {"a.c": "#include <q.h>\nint q = Q;\n"},
+    9: {"a.h": "#ifndef B\n#define A_FIRST 1\n#endif\n", "a.c": "#ifdef A_FIRST\nint a_first;\n#else\nint b_first;\n#endif\n"},
+    11: {"r": '-c a.c ""'},
+    22: {"a.c": "int size = sizeof('a');\n"},
+}
+
+# A command before the row's own.
+BEFORE = {1: "-g -gsplit-dwarf -x c-header -c p.h -o p.h.gch"}
+
+# What the row says that one sees, and its words that say so.
+SAYS = {
+    1: (["status 0 -> 1", "p.h.gch differs", "u.dwo given only", "u.o given only"], "the compilation stops"),
+    2: (["a.dwo differs"], "the `.dwo` differs"),
+    3: (["a.o differs"], "twice the backslashes"),
+    4: (["t.o differs"], "4 bytes in place of 2"),
+    5: (["standard output given only", "a.o built only"], "into `a.o` and not to standard output"),
+    6: (["a.o built only", "a.s given only"], "`a.o` holds what belongs into `a.s`"),
+    7: (["a.h.gch given only", "a.o built only"], "writes `a.o` and not `a.h.gch`"),
+    8: (["a.o differs"], "`on` is searched before `in`"),
+    9: (["a.o differs"], "`b.h` is read before `a.h`"),
+    10: (["status 0 -> 1"], "language not recognized"),
+    11: (["status 1 -> 0"], "compiles, where gcc alone stops"),
+    12: (["a.d: one two -> two"], "| `one two: ..` | `two: ..` |"),
+    13: (["a$b.d: a$$b.o -> a$b.o"], "| `a$$b.o: ..` | `a$b.o: ..`"),
+    14: (["x.d: one -> a.o"], "| `one: ..` | `a.o: ..`"),
+    15: (["a.d: one -> a.o one"], "| `one: ..` | `a.o one: ..`"),
+    16: (["x.d built only", "y.d given only"], "| `y.d` | `x.d`"),
+    17: ([".d given only", ".hidden.d built only"], "| writes `.d` | writes `.hidden.d` |"),
+    18: (["status 1 -> 0", "a.o built only"], "| stops: -M or -MM must be given | compiles |"),
+    19: (["a.o differs"], "in the new order"),
+    20: (["a.h.gch differs"], "the stored colour option"),
+    21: ([], "nothing in files"),
+    22: (["a.o differs"], "the built command compiles C++"),
 }
 
 
@@ -50,65 +63,134 @@ def escaped(data):
     return "".join("\\x%02x" % byte for byte in data)
 
 
-def built(program, words, folder):
+def rows_of(text):
+    """The rows of the tables by their numbers: the words of the first command, and the row's text."""
+    rows = {}
+    for line in text.splitlines():
+        row = re.match(r"\| (\d+) \| `gcc ([^`]*)`", line)
+        if row:
+            rows[int(row[1])] = (shlex.split(row[2]), line)
+    return rows
+
+
+def built(program, words, folder, files):
+    """The words of the built command, or None and the first line of the answer."""
     lines = ["compiler gcc", "cwd " + escaped(folder.encode())]
-    for name in ("r", "e"):
-        lines.append("file " + escaped(os.path.join(folder, name).encode()) + "\t" + escaped(FILES[name]))
+    if "r" in files:
+        lines.append("file " + escaped(os.path.join(folder, "r").encode()) + "\t" + escaped(files["r"].encode()))
     lines += ["word " + escaped(word.encode()) for word in words]
-    answer = subprocess.run([program], input=("\n".join(lines) + "\n").encode(), capture_output=True).stdout.decode().splitlines()
-    if answer[0] != "ok":
-        return None, answer[0]
-    unescape = lambda text: text.encode().decode("unicode_escape")
-    return [unescape(line[4:]) for line in answer if line.startswith("arg ")], "ok"
-
-
-def run(commands, folder):
-    """The statuses, what went to standard output, and the files that are new, with their bytes."""
-    before = set(all_files(folder))
-    told = []
-    for words in commands:
-        done = subprocess.run(["gcc"] + words, cwd=folder, capture_output=True)
-        told.append((done.returncode, len(done.stdout), done.stderr.decode(errors="replace").strip().split("\n")[0][:110]))
-    return told, {name: open(os.path.join(folder, name), "rb").read() for name in set(all_files(folder)) - before}
+    done = subprocess.run([program], input=("\n".join(lines) + "\n").encode(), stdout=subprocess.PIPE)
+    answer = done.stdout.decode().splitlines()
+    if done.returncode != 0 or answer[0] != "ok":
+        return None, answer[0] if answer else f"status {done.returncode}"
+    return [line[4:].encode().decode("unicode_escape") for line in answer if line.startswith("arg ")], "ok"
 
 
 def all_files(folder):
-    return [os.path.relpath(os.path.join(at, name), folder) for at, _, names in os.walk(folder) for name in names]
+    return {os.path.relpath(os.path.join(at, name), folder) for at, _, names in os.walk(folder) for name in names}
+
+
+def run(commands, folder):
+    """The last status, standard output, and the new files with their bytes."""
+    before = all_files(folder)
+    status, printed = 0, b""
+    for words in commands:
+        done = subprocess.run(["gcc"] + words, cwd=folder, capture_output=True)
+        status, printed = done.returncode, printed + done.stdout
+    made = {}
+    for name in all_files(folder) - before:
+        with open(os.path.join(folder, name), "rb") as file:
+            made[name] = file.read()
+    return status, printed, made
+
+
+def tried(commands, files, base, program=None):
+    """What commands do in a new folder, or, with a program, what the commands do that it builds for them."""
+    folder = os.path.join(base, "work")
+    with tempfile.TemporaryDirectory(dir=base) as other:
+        os.rename(other, folder)
+        for name, text in files.items():
+            os.makedirs(os.path.dirname(os.path.join(folder, name)), exist_ok=True)
+            with open(os.path.join(folder, name), "w") as file:
+                file.write(text)
+        if program:
+            answers = [built(program, words, folder, files) for words in commands]
+            refused = [why for words, why in answers if words is None]
+            if refused:
+                os.rename(folder, other)
+                return None, refused[0]
+            commands = [words for words, _ in answers]
+        print("  ", "built:" if program else "given:", "; ".join(shlex.join(["gcc"] + words) for words in commands))
+        result = run(commands, folder)
+        os.rename(folder, other)
+    return result, "ok"
+
+
+def targets(data):
+    return data.decode().split(":")[0]
+
+
+def seen(given, built_one):
+    """What differs between what two commands did."""
+    found = []
+    if given[0] != built_one[0]:
+        found.append(f"status {given[0]} -> {built_one[0]}")
+    if given[1] != built_one[1]:
+        found.append("standard output " + ("given only" if not built_one[1] else "built only" if not given[1] else "differs"))
+    for name in sorted(set(given[2]) | set(built_one[2])):
+        one, two = given[2].get(name), built_one[2].get(name)
+        if one is None or two is None:
+            found.append(f"{name} " + ("built only" if one is None else "given only"))
+        elif one != two and name.endswith(".d"):
+            found.append(f"{name}: {targets(one)} -> {targets(two)}")
+        elif one != two:
+            found.append(f"{name} differs")
+    return found
+
+
+def try_row(program, number, row):
+    """Tries a row and gives what is not as it says."""
+    words, text = row
+    wanted, quote = SAYS[number]
+    faults = [] if quote in text else [f"the row no longer says: {quote}"]
+    commands = [shlex.split(BEFORE[number])] if number in BEFORE else []
+    commands.append(words)
+    files = dict(FILES, **FILES_OF.get(number, {}))
+    with tempfile.TemporaryDirectory() as base:
+        given, _ = tried(commands, files, base)
+        made, why = tried(commands, files, base, program)
+    if made is None:
+        return faults + [f"ccline built no command: {why}"]
+    found = seen(given, made)
+    print("   seen:", "; ".join(found) or "the same files")
+    if sorted(found) != sorted(wanted):
+        faults.append("the row says: " + ("; ".join(wanted) or "the same files"))
+    return faults
 
 
 def main():
+    if len(sys.argv) < 2 or sys.argv[1].startswith("-") or not all(word.isdigit() for word in sys.argv[2:]):
+        print(__doc__.split("\n\n")[1], file=sys.stderr)
+        return 64
     program = os.path.realpath(sys.argv[1])
-    for row in [int(word) for word in sys.argv[2:]] or ROWS:
-        base = tempfile.mkdtemp()
-        folder = os.path.join(base, "work")
-        results = []
-        for side in ("given", "built"):
-            os.makedirs(folder)
-            for name, data in FILES.items():
-                os.makedirs(os.path.dirname(os.path.join(folder, name)), exist_ok=True)
-                open(os.path.join(folder, name), "wb").write(data)
-            commands = ROWS[row]
-            if side == "built":
-                answers = [built(program, words, folder) for words in commands]
-                print("   built:", [answer or why for answer, why in answers])
-                commands = [answer for answer, _ in answers if answer]
-            else:
-                print(f"{row}: given: {commands}")
-            results.append(run(commands, folder))
-            shutil.rmtree(folder)
-        (told, files), (told_built, files_built) = results
-        if told != told_built:
-            print("   status, bytes of standard output, message:", told, "->", told_built)
-        for name in sorted(set(files) | set(files_built)):
-            one, two = files.get(name), files_built.get(name)
-            if one == two:
-                print(f"   {name}: the same")
-            elif name.endswith(".d") or name.endswith(".hidden.d"):
-                print(f"   {name}: {one!r} -> {two!r}")
-            else:
-                print(f"   {name}: {'absent' if one is None else str(len(one)) + ' bytes'} -> {'absent' if two is None else str(len(two)) + ' bytes'}")
-        shutil.rmtree(base)
+    if not os.access(program, os.X_OK):
+        print(f"examples/limits.py: {program}: no program", file=sys.stderr)
+        return 64
+    with open(DOCS) as docs:
+        rows = rows_of(docs.read())
+    differs = 0
+    for number in [int(word) for word in sys.argv[2:]] or sorted(rows.keys() | SAYS.keys()):
+        print(f"{number}:")
+        if number in rows and number in SAYS:
+            faults = try_row(program, number, rows[number])
+        else:
+            faults = [f"{'docs/LIMITS.md' if number in SAYS else 'this script'} has no row {number}"]
+        for fault in faults:
+            print("   DIFFERS:", fault)
+        differs += bool(faults)
+    print(f"{differs} rows differ" if differs else "all rows are as docs/LIMITS.md says")
+    return 1 if differs else 0
 
 
 if __name__ == "__main__":
-    main()
+    sys.exit(main())

@@ -4,6 +4,8 @@ program says: status 3 and nothing written where memory was refused, status 4 an
 and a beginning of the answer where a write failed.
 
 usage: examples/refusals.py PATH_OF_CCLINE [REQUEST_FILE ..]   (it needs cc; without files: requests of its own)
+
+Status 0: each run said what it should; 1: one did not, and what it said is printed; 64: called wrongly.
 """
 import os
 import subprocess
@@ -74,17 +76,23 @@ def run(program, shim, request, **variables):
 
 
 def tries(program, shim, request, whole, variable, status, text, check):
+    """Fails each call of a kind in turn, until a run meets none; gives how many there were."""
     number = 0
     while True:
         number += 1
         got, out, err = run(program, shim, request, **{variable: str(number)})
-        if not err.startswith(b"#"):
-            assert (got, out) == (0, whole), (variable, number, got, out, err)
+        met = err.startswith(b"#")
+        wanted = (got == status and err == b"#" + text + b"\n" and check(out)) if met else (got, out) == (0, whole)
+        if not wanted:
+            sys.exit(f"{variable}={number}: status {got}, standard output {out!r}, standard error {err!r}")
+        if not met:
             return number - 1
-        assert got == status and err == b"#" + text + b"\n" and check(out), (variable, number, got, out, err)
 
 
 def main():
+    if len(sys.argv) < 2 or sys.argv[1].startswith("-") or not os.access(sys.argv[1], os.X_OK):
+        print(__doc__.split("\n\n")[1], file=sys.stderr)
+        return 64
     program = os.path.realpath(sys.argv[1])
     requests = [open(name, "rb").read() for name in sys.argv[2:]] or REQUESTS
     with tempfile.TemporaryDirectory() as folder:
@@ -93,13 +101,15 @@ def main():
             source.write(SHIM)
         subprocess.run(["cc", "-shared", "-fPIC", "-O1", "-o", shim, os.path.join(folder, "shim.c"), "-ldl"], check=True)
         for request in requests:
-            status, whole, _ = run(program, shim, request)
-            assert status == 0
+            status, whole, told = run(program, shim, request)
+            if status != 0:
+                sys.exit(f"a request is not answered: status {status}, {told.decode(errors='replace').strip()}")
             memory = tries(program, shim, request, whole, "REFUSE_MEMORY", 3, b"out of memory", lambda out: out == b"")
             reads = tries(program, shim, request, whole, "FAIL_READ", 4, b"read failed", lambda out: out == b"")
             writes = tries(program, shim, request, whole, "FAIL_WRITE", 4, b"write failed", lambda out: out != whole and whole.startswith(out))
             print(f"{memory} requests for memory refused, {reads} reads and {writes} writes failed: {whole.splitlines()[0].decode()}")
+    return 0
 
 
 if __name__ == "__main__":
-    main()
+    sys.exit(main())

@@ -5,13 +5,15 @@ use Rattle.std.proofs.lemmas.Bool.Decides.{nat_tests}
 use Rattle.scl_cl.specs.Fields.{is_plain, digit_value, digit_of, escaped_byte, before, field_of, escape, escaped, both, fields_of, two_fields}
 use Rattle.std.specs.Option.{option_map}
 use Rattle.scl_cl.specs.Lines.{cut_at, with_first, lines_of}
-use Rattle.scl_cl.specs.Sayings.{Said, Blank, Names, StandsIn, HasWord, HasFile, HasDirectory, HasPath, HasVariable, IsMultiarch, said}
+use Rattle.scl_cl.specs.Sayings.{Said, Blank, Names, StandsIn, HasWord, HasFile, HasDirectory, HasPath, HasVariable, IsMultiarch, said, text_of as keyword_text, keyword_named}
 use Rattle.scl_cl.specs.Written.{AreBytes, ArePrintable, CanBeWritten, AllCanBeWritten, AreAllBytes, written, breaks_at}
 use Rattle.scl_cl.specs.Requests.{Gathered, gathered, breaks, first_broken}
 use Rattle.scl_cl.specs.Answers.{compiled, text_of, cacheable_text, line, arg_line}
-use Rattle.scl_cl.specs.Compilers.{name_of}
+use Rattle.scl_cl.specs.Compilers.{name_of, compiler_named}
 use Rattle.scl_cl.specs.declared.compiler.Compiler.{Compiler}
-use Rattle.scl_cl.specs.declared.compiler.Compiler.TheVariants.{Gcc, Gxx, Clang, Clangxx, Cl, ClangCl, Diab, Tasking}
+use Rattle.scl_cl.specs.declared.compiler.Compiler.TheVariants.{Gcc, Gxx, Diab, Tasking}
+use Rattle.scl_cl.specs.declared.keyword.Keyword as keywords
+use Rattle.scl_cl.specs.declared.keyword.Keyword.TheVariants as keyword
 use Rattle.scl_cl.proofs.CutLaws.{cut_at-mark, cut_at-append, lines_of-cut}
 
 pub digit-back : (n : ℕ) → n < 16 → digit_value (digit_of n) ≡ Some n
@@ -68,9 +70,24 @@ fields-written a b h k =
     ap fields_of (cut_at-mark 9 (escaped a) (escaped b) (cut_at-printable 9 (escaped a) (lit< tt) (escaped-printable a h)))
     ∙ ap (λ f. both f (field_of (escaped b))) (field-escaped a h) ∙ ap (both (Some a)) (field-escaped b k)
 
+pub name-back : (compiler : Compiler) → compiler_named (name_of compiler) ≡ Some compiler
+name-back Gcc = refl
+name-back Gxx = refl
+name-back Diab = refl
+name-back Tasking = refl
+
+pub keyword-back : (k : keywords.Keyword) → keyword_named (keyword_text k) ≡ Some k
+keyword-back keyword.Compiler = refl
+keyword-back keyword.Cwd = refl
+keyword-back keyword.Word = refl
+keyword-back keyword.File = refl
+keyword-back keyword.Dir = refl
+keyword-back keyword.Exists = refl
+keyword-back keyword.Env = refl
+
 pub said-written : (s : Said) → CanBeWritten s → said (written s) ≡ Some s
 said-written Blank can = refl
-said-written (Names compiler) can = ap (option_map Names) can
+said-written (Names compiler) can = ap (option_map Names) (name-back compiler)
 said-written (StandsIn directory) can = ap (option_map StandsIn) (field-escaped directory can)
 said-written (HasWord word) can = ap (option_map HasWord) (field-escaped word can)
 said-written (HasFile path bytes) can = ap (option_map (λ p. HasFile p.0 p.1)) (fields-written path bytes can.0 can.1)
@@ -96,10 +113,6 @@ no-feed_pair front a b h k l =
 name-no-feed : (compiler : Compiler) → cut_at 10 (codes "compiler " ++ name_of compiler) ≡ None
 name-no-feed Gcc = refl
 name-no-feed Gxx = refl
-name-no-feed Clang = refl
-name-no-feed Clangxx = refl
-name-no-feed Cl = refl
-name-no-feed ClangCl = refl
 name-no-feed Diab = refl
 name-no-feed Tasking = refl
 

@@ -59,29 +59,27 @@ answer_from command kept (Ok parsed) = answer_with (command parsed) (kept parsed
 answer_from command kept (Err (CannotCache reason)) = cannot_cache reason
 answer_from command kept (Err NotCompilation) = not_compilation
 
--- the answer of Gcc, as its driver for C or for C++
-abbrev pub gcc_answer : Bool → Request → Answer
-gcc_answer plusplus request =
-    answer_from (λ parsed. gcc.command (gcc_text parsed.language) parsed) (λ parsed. cacheable.Yes)
-    (gcc_reading.reading kinds.Gcc plusplus (gcc_rows ∷ []) request.directory request.view request.words)
+-- what a command line says to a compiler: its words, directory and files
+abbrev pub reading_by : Compiler → Request → Result Parsed Verdict
+reading_by compilers.Gcc request = gcc_reading.reading kinds.Gcc false (gcc_rows ∷ []) request.directory request.view request.words
+reading_by compilers.Gxx request = gcc_reading.reading kinds.Gcc true (gcc_rows ∷ []) request.directory request.view request.words
+reading_by compilers.Diab request = diab.expanded_reading (owner_in (diab_table.rows ∷ [])) request.directory request.view.files request.words
+reading_by compilers.Tasking request = tasking.reading (owner_in (tasking_table.rows ∷ [])) request.words
 
--- the answer of Diab
-abbrev pub diab_answer : Request → Answer
-diab_answer request =
-    answer_from command (λ parsed. cacheable.Yes) (diab.expanded_reading (owner_in (diab_table.rows ∷ [])) request.directory request.view.files request.words)
+-- the words of a compiler's command for what was read, if it has an output `obj`
+abbrev pub command_by : Compiler → Parsed → Option (List (List ℕ))
+command_by compilers.Gcc parsed = gcc.command (gcc_text parsed.language) parsed
+command_by compilers.Gxx parsed = gcc.command (gcc_text parsed.language) parsed
+command_by compilers.Diab parsed = command parsed
+command_by compilers.Tasking parsed = command parsed
 
--- the answer of TaskingVX
-abbrev pub tasking_answer : Request → Answer
-tasking_answer request = answer_from command (λ parsed. cacheable.Yes) (tasking.reading (owner_in (tasking_table.rows ∷ [])) request.words)
-
--- the answer of a compiler; those that no request may name compile nothing
-abbrev pub answer_by : Compiler → Request → Answer
-answer_by compilers.Gcc request = gcc_answer false request
-answer_by compilers.Gxx request = gcc_answer true request
-answer_by compilers.Diab request = diab_answer request
-answer_by compilers.Tasking request = tasking_answer request
-answer_by _ request = not_compilation
+-- whether a compiler's outcome may be kept
+abbrev pub kept_by : Compiler → Cacheable
+kept_by compilers.Gcc = cacheable.Yes
+kept_by compilers.Gxx = cacheable.Yes
+kept_by compilers.Diab = cacheable.Yes
+kept_by compilers.Tasking = cacheable.Yes
 
 -- the answer to a request
 abbrev pub answer_to : Request → Answer
-answer_to request = answer_by request.compiler request
+answer_to request = answer_from (command_by request.compiler) (λ parsed. kept_by request.compiler) (reading_by request.compiler request)

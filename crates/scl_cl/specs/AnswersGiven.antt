@@ -1,10 +1,22 @@
--- What an answer that the code keeps says.
+-- What an answer that the code gives says.
+use Rattle.std.specs.Prelude.{◌≡◌, ℕ, List, Result, Ok}
 use Rattle.scl_args.specs.Words.{words_of}
-use Rattle.scl_cl.specs.Answers.{Answer, compiled, cannot_cache, not_compilation}
-use Rattle.scl_cl.specs.declared.answer.Answer as code
-use Rattle.scl_cl.specs.declared.answer.Answer.TheVariants as answers
+use Rattle.scl_text.specs.Commands.{Builds}
+use Rattle.scl_text.specs.Records.{Parsed, Verdict, parsed_of}
+use Rattle.scl_text.specs.declared.records.CompilerArguments.{CompilerArguments}
+use Rattle.scl_text.specs.declared.records.CompilerArguments.TheVariants as outcomes
+use Rattle.scl_cl.specs.declared.compile.Compilation.{Compilation}
+use Rattle.scl_cl.specs.Answers.{Answer, compiled, cannot_cache, not_compilation, is_kept}
 
-abbrev pub answer_of : code.Answer → Answer
-answer_of (answers.Compiled words is_cacheable) = compiled (words_of words.items) is_cacheable
-answer_of (answers.CannotCache reason) = cannot_cache reason.now
-answer_of answers.NotCompilation = not_compilation
+-- the answer, less the text beside a reason
+abbrev pub answer_of : CompilerArguments Compilation → Answer
+answer_of (outcomes.Ok compilation) = compiled (words_of compilation.command.arguments.items) (is_kept compilation.cacheable)
+answer_of (outcomes.CannotCache reason text) = cannot_cache reason.now
+answer_of outcomes.NotCompilation = not_compilation
+
+-- where there is a command, what was read is this reading, and the command has this program, environment and directory
+abbrev pub HasParts : Result Parsed Verdict → List ℕ → List (List ℕ × List ℕ) → List ℕ → CompilerArguments Compilation → Type 0
+HasParts reading executable env_vars cwd (outcomes.Ok compilation) =
+    (reading ≡ Ok (parsed_of compilation.parsed)) × Builds compilation.command executable (words_of compilation.command.arguments.items) env_vars cwd
+HasParts reading executable env_vars cwd (outcomes.CannotCache reason text) = Unit {0}
+HasParts reading executable env_vars cwd outcomes.NotCompilation = Unit {0}

@@ -10,3 +10,4 @@ pub mod AnswersGiven
 pub mod Transfers
 pub mod Written
 pub mod Runs
+pub mod Outcomes

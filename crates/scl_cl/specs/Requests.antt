@@ -15,6 +15,11 @@ pub record Request : Type 0 where
   pub environment : List (List ℕ × List ℕ)
   pub view : Viewed
 
+-- a compiler is asked for these words, in this directory, with this environment and view
+abbrev pub asked : Compiler → List (List ℕ) → List ℕ → List (List ℕ × List ℕ) → Viewed → Request
+asked compiler words directory environment view =
+    record { compiler = compiler; directory = directory; words = words; environment = environment; view = view }
+
 abbrev pub compiler_in : Said → List Compiler
 compiler_in (Names compiler) = compiler ∷ []
 compiler_in _ = []

@@ -4,8 +4,9 @@ use Rattle.std.specs.List.{flat_map, filter_map}
 use Rattle.scl_cl.specs.declared.compiler.Compiler.{Compiler}
 use Rattle.scl_cl.specs.Lines.{cut_at, lines_of}
 use Rattle.scl_cl.specs.Fields.{field_of, escaped}
-use Rattle.scl_cl.specs.Compilers.{name_of, served, compiler_named}
-use Rattle.scl_cl.specs.Sayings.{Said, Blank, Names, StandsIn, HasWord, HasFile, HasDirectory, HasPath, HasVariable, IsMultiarch, said, keywords, keyword_named}
+use Rattle.scl_cl.specs.Compilers.{name_of, compiler_named}
+use Rattle.scl_cl.specs.declared.keyword.Keyword.{Keyword}
+use Rattle.scl_cl.specs.Sayings.{Said, Blank, Names, StandsIn, HasWord, HasFile, HasDirectory, HasPath, HasVariable, IsMultiarch, said, keyword_named}
 use Rattle.scl_cl.specs.Sayings as sayings
 use Rattle.scl_cl.specs.Requests.{gathered, breaks, first_broken}
 use Rattle.scl_cl.specs.Answers.{compiled, text_of, cacheable_text, line}
@@ -23,10 +24,10 @@ abbrev pub ArePrintable : List ℕ → Type 0
 ArePrintable [] = Unit {0}
 ArePrintable (b ∷ bs) = ((0x21 ≤ b) × (b ≤ 0x7e)) × ArePrintable bs
 
--- what is said can be written: its byte strings are bytes, its compiler is served
+-- what is said can be written: its byte strings are bytes
 abbrev pub CanBeWritten : Said → Type 0
 CanBeWritten Blank = Unit {0}
-CanBeWritten (Names compiler) = compiler_named (name_of compiler) ≡ Some compiler
+CanBeWritten (Names compiler) = Unit {0}
 CanBeWritten (StandsIn directory) = AreBytes directory
 CanBeWritten (HasWord word) = AreBytes word
 CanBeWritten (HasFile path bytes) = AreBytes path × AreBytes bytes
@@ -86,6 +87,6 @@ BadLineIsFirst = (lines : List (List ℕ)) → MatchOption (first_broken 1 [] li
     ((k : ℕ) → k < length lines → breaks_at lines k ≡ false)
     (λ n. (k : ℕ) × (n ≡ k + 1) × (k < length lines) × (breaks_at lines k ≡ true) × ((j : ℕ) → j < k → breaks_at lines j ≡ false))
 
--- Each served name names its compiler, and each keyword's text the keyword.
+-- The name of each compiler names it, and the text of each keyword the keyword.
 abbrev pub NamesReadBack : Type 0
-NamesReadBack = (map (λ compiler. compiler_named (name_of compiler)) served ≡ map Some served) × (map (λ keyword. keyword_named (sayings.text_of keyword)) keywords ≡ map Some keywords)
+NamesReadBack = ((compiler : Compiler) → compiler_named (name_of compiler) ≡ Some compiler) × ((keyword : Keyword) → keyword_named (sayings.text_of keyword) ≡ Some keyword)

@@ -1,4 +1,4 @@
-//! Answers and their texts.
+//! The texts of answers.
 ghost use Rattle.std.specs.Prelude.{◌≡◌, ◌++◌, ◌<◌, OnOk, IfOk};
 ghost use Rattle.std.specs.List.{flat_map};
 ghost use Rattle.scl_args.specs.Words.{words_of};
@@ -6,23 +6,11 @@ ghost use Rattle.scl_cl.specs.Fields.{digit_of, escape, escaped};
 ghost use Rattle.scl_cl.specs.Answers.{compiled, cannot_cache, arg_line, text_of};
 ghost use Rattle.scl_cl.specs.AnswersGiven.{answer_of};
 
+use crate::compile::Compilation;
 use crate::field::is_plain;
 use scl_text::Mem;
+use scl_text::records::{Cacheable, CompilerArguments};
 use std::alloc::Global;
-
-/// What a request is answered.
-#[derive(Drop)]
-pub enum Answer {
-    /// The words of the compile command, and whether its outcome can be cached.
-    Compiled {
-        words: Vec<Vec<u8>>,
-        is_cacheable: bool,
-    },
-    /// Why the outcome of the command line cannot be cached.
-    CannotCache(&'static str),
-    /// The command line compiles nothing.
-    NotCompilation,
-}
 
 /// The hexadecimal digit of a number below sixteen.
 fn digit_of(number: u8) -> u8
@@ -103,16 +91,17 @@ fn reason_text(alloc: Global, reason: &str) -> Mem<Vec<u8>>
     Ok(text)
 }
 
-/// The text of an answer.
-pub fn answer_text(alloc: Global, answer: &Answer) -> Mem<Vec<u8>>
+/// The text of an answer: lines with LF; the text beside a reason is left out (docs/RULES.md, Answers).
+pub fn answer_text(alloc: Global, answer: &CompilerArguments<Compilation>) -> Mem<Vec<u8>>
     ensures { IfOk result (λ text. text.items ≡ text_of (answer_of answer.now)) }
 {
     match answer {
-        Answer::Compiled {
-            words,
-            is_cacheable,
-        } => compiled_text(alloc, words, *is_cacheable),
-        Answer::CannotCache(reason) => reason_text(alloc, reason),
-        Answer::NotCompilation => Vec::from_slice(alloc, b"not-compilation\n"),
+        CompilerArguments::Ok(compilation) => compiled_text(
+            alloc,
+            &compilation.command.arguments,
+            compilation.cacheable == Cacheable::Yes,
+        ),
+        CompilerArguments::CannotCache(reason, _) => reason_text(alloc, reason),
+        CompilerArguments::NotCompilation => Vec::from_slice(alloc, b"not-compilation\n"),
     }
 }

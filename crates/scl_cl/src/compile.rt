@@ -1,90 +1,122 @@
-//! The answer to a request, by its compiler.
-ghost use Rattle.std.specs.Prelude.{◌≡◌, IfOk};
+//! The answer to a command line, by its compiler.
+ghost use Rattle.std.specs.Prelude.{◌≡◌, IfOk, Ok};
 ghost use Rattle.scl_text.specs.Records.{parsed_of};
 ghost use Rattle.scl_args.specs.Words.{words_of};
 ghost use Rattle.scl_text.specs.Commands.{pairs_of, command_by};
-ghost use Rattle.scl_cl.specs.Drafts.{asked_by};
-ghost use Rattle.scl_cl.specs.Answers.{answer_to, answer_from, answer_with, gcc_answer};
-ghost use Rattle.scl_cl.specs.AnswersGiven.{answer_of};
+ghost use Rattle.scl_cl.specs.Requests.{asked};
+ghost use Rattle.scl_cl.specs.Answers.{answer_to, answer_from, answer_with, reading_by};
+ghost use Rattle.scl_cl.specs.AnswersGiven.{answer_of, HasParts};
 
-use crate::answer::Answer;
 use crate::compiler::Compiler;
-use crate::draft::Request;
 use scl_gnu::gcc::Gcc;
 use scl_small::diab::Diab;
 use scl_small::tasking_vx::TaskingVX;
-use scl_text::records::{Cacheable, CommandError, CompilerArguments, ParsedArguments};
-use scl_text::{CCompilerImpl, Mem};
+use scl_text::records::{
+    Cacheable, CommandError, CompilerArguments, ParsedArguments, SingleCompileCommand,
+};
+use scl_text::{CCompilerImpl, Mem, View};
 use std::alloc::{AllocError, Global};
+
+/// A command line that was read, the command to run in its place, and whether its outcome may be
+/// kept (docs/RULES.md, Answers).
+#[derive(Debug, PartialEq, Eq, Drop)]
+pub struct Compilation {
+    pub parsed: ParsedArguments,
+    pub command: SingleCompileCommand,
+    pub cacheable: Cacheable,
+}
 
 /// The answer of a record.
 fn answer_record<C: CCompilerImpl>(
     alloc: Global,
     compiler: &C,
-    parsed: &ParsedArguments,
-    request: &Request,
-) -> Mem<Answer>
-    ensures { IfOk result (λ answer. answer_of answer ≡ answer_with (command_by (C.command compiler.now) (parsed_of parsed.now)) (C.cacheable compiler.now (parsed_of parsed.now) request.now.directory.items request.now.view)) }
+    executable: &[u8],
+    parsed: ParsedArguments,
+    cwd: &[u8],
+    env_vars: &[(Vec<u8>, Vec<u8>)],
+    view: &View,
+) -> Mem<CompilerArguments<Compilation>>
+    ensures answer { IfOk result (λ answer. answer_of answer ≡ answer_with (command_by (C.command compiler.now) (parsed_of parsed)) (C.cacheable compiler.now (parsed_of parsed) cwd.now view.now)) }
+    ensures parts { IfOk result (λ answer. HasParts (Ok (parsed_of parsed)) executable.now (C.environment compiler.now (pairs_of env_vars.now)) cwd.now answer) }
 {
-    let built = compiler.generate_compile_commands(
-        alloc,
-        b"",
-        parsed,
-        &request.directory,
-        &request.environment,
-        &request.view,
-    );
+    let built = compiler.generate_compile_commands(alloc, executable, &parsed, cwd, env_vars, view);
     match built {
-        Ok((command, cacheable)) => Ok(Answer::Compiled {
-            words: command.arguments,
-            is_cacheable: cacheable == Cacheable::Yes,
-        }),
-        Err(CommandError::MissingObj) => Ok(Answer::CannotCache("Missing object file output")),
+        Ok((command, cacheable)) => Ok(CompilerArguments::Ok(Compilation {
+            parsed,
+            command,
+            cacheable,
+        })),
+        Err(CommandError::MissingObj) => Ok(CompilerArguments::CannotCache(
+            "Missing object file output",
+            None,
+        )),
         Err(CommandError::Memory) => Err(AllocError),
     }
 }
 
 /// The answer of a compiler.
-fn answer_by<C: CCompilerImpl>(alloc: Global, compiler: &C, request: &Request) -> Mem<Answer>
-    ensures { IfOk result (λ answer. let asked = asked_by request.now in
-        answer_of answer ≡ answer_from (command_by (C.command compiler.now)) (λ parsed. C.cacheable compiler.now parsed asked.directory asked.view)
-        (C.reading compiler.now asked.words asked.directory asked.environment asked.view)) }
+fn answer_by<C: CCompilerImpl>(
+    alloc: Global,
+    compiler: &C,
+    executable: &[u8],
+    words: &[Vec<u8>],
+    cwd: &[u8],
+    env_vars: &[(Vec<u8>, Vec<u8>)],
+    view: &View,
+) -> Mem<CompilerArguments<Compilation>>
+    ensures answer { IfOk result (λ answer. answer_of answer ≡ answer_from (command_by (C.command compiler.now)) (λ parsed. C.cacheable compiler.now parsed cwd.now view.now)
+        (C.reading compiler.now (words_of words.now) cwd.now (pairs_of env_vars.now) view.now)) }
+    ensures parts { IfOk result (λ answer. HasParts (C.reading compiler.now (words_of words.now) cwd.now (pairs_of env_vars.now) view.now)
+        executable.now (C.environment compiler.now (pairs_of env_vars.now)) cwd.now answer) }
 {
-    let parsed = compiler.parse_arguments(
-        alloc,
-        &request.words,
-        &request.directory,
-        &request.environment,
-        &request.view,
-    )?;
-    match parsed {
-        CompilerArguments::Ok(parsed) => answer_record(alloc, compiler, &parsed, request),
-        CompilerArguments::CannotCache(reason, _) => Ok(Answer::CannotCache(reason)),
-        CompilerArguments::NotCompilation => Ok(Answer::NotCompilation),
+    match compiler.parse_arguments(alloc, words, cwd, env_vars, view)? {
+        CompilerArguments::Ok(parsed) => {
+            answer_record(alloc, compiler, executable, parsed, cwd, env_vars, view)
+        }
+        CompilerArguments::CannotCache(reason, text) => {
+            Ok(CompilerArguments::CannotCache(reason, text))
+        }
+        CompilerArguments::NotCompilation => Ok(CompilerArguments::NotCompilation),
     }
 }
 
-/// The answer of Gcc, as its driver for C or for C++.
-fn gcc_answer(alloc: Global, gplusplus: bool, request: &Request) -> Mem<Answer>
-    ensures { IfOk result (λ answer. answer_of answer ≡ gcc_answer gplusplus (asked_by request.now)) }
+/// Gcc with nothing known of its version and assembler.
+fn gcc(gplusplus: bool) -> Gcc
+    ensures { result.gplusplus ≡ gplusplus }
 {
-    let gcc = Gcc {
+    Gcc {
         gplusplus,
         version: None,
         assembler_digest: None,
-    };
-    answer_by(alloc, &gcc, request)
+    }
 }
 
-/// The answer to a request.
-pub fn answer_request(alloc: Global, request: Request) -> Mem<Answer>
-    ensures { IfOk result (λ answer. answer_of answer ≡ answer_to (asked_by request)) }
-{
-    match request.compiler {
-        Compiler::Gcc => gcc_answer(alloc, false, &request),
-        Compiler::Gxx => gcc_answer(alloc, true, &request),
-        Compiler::Diab => answer_by(alloc, &Diab { version: None }, &request),
-        Compiler::Tasking => answer_by(alloc, &TaskingVX, &request),
-        _ => Ok(Answer::NotCompilation),
+impl Compiler {
+    /// What a command line is answered: the words behind the program `executable`, read in the
+    /// directory `cwd` with the files of `view`. All are bytes (docs/RULES.md, Answers).
+    pub fn answer(
+        self,
+        alloc: Global,
+        executable: &[u8],
+        words: &[Vec<u8>],
+        cwd: &[u8],
+        env_vars: &[(Vec<u8>, Vec<u8>)],
+        view: &View,
+    ) -> Mem<CompilerArguments<Compilation>>
+        ensures answer { IfOk result (λ answer. answer_of answer ≡ answer_to (asked self (words_of words.now) cwd.now (pairs_of env_vars.now) view.now)) }
+        ensures parts { IfOk result (λ answer. HasParts (reading_by self (asked self (words_of words.now) cwd.now (pairs_of env_vars.now) view.now))
+            executable.now (pairs_of env_vars.now) cwd.now answer) }
+    {
+        match self {
+            Compiler::Gcc => answer_by(alloc, &gcc(false), executable, words, cwd, env_vars, view),
+            Compiler::Gxx => answer_by(alloc, &gcc(true), executable, words, cwd, env_vars, view),
+            Compiler::Diab => {
+                let diab = Diab { version: None };
+                answer_by(alloc, &diab, executable, words, cwd, env_vars, view)
+            }
+            Compiler::Tasking => {
+                answer_by(alloc, &TaskingVX, executable, words, cwd, env_vars, view)
+            }
+        }
     }
 }

@@ -1,21 +1,21 @@
-//! The compilers that a request may name.
+//! The compilers that are served.
 ghost use Rattle.std.specs.Prelude.{◌≡◌};
 ghost use Rattle.scl_cl.specs.Compilers.{name_of, served, compiler_named};
 
-/// A compiler.
+/// A compiler that is served (docs/RULES.md, Requests).
 #[derive(Debug, Clone, Copy, PartialEq, Eq)]
 pub enum Compiler {
+    /// Gcc, as its driver for C.
     Gcc,
+    /// Gcc, as its driver for C++.
     Gxx,
-    Clang,
-    Clangxx,
-    Cl,
-    ClangCl,
+    /// Diab.
     Diab,
+    /// TaskingVX.
     Tasking,
 }
 
-/// The compilers that requests may name: a new one is one line here and one in its definition.
+/// The compilers: a new one is a variant, a name and a line here, and as much in the definitions.
 static SERVED: [Compiler; 4] = [
     Compiler::Gcc,
     Compiler::Gxx,
@@ -30,29 +30,25 @@ fn served() -> &'static [Compiler]
 }
 
 impl Compiler {
-    /// The name that a request gives the compiler.
+    /// The name that a request gives the compiler (docs/RULES.md, Requests).
     pub fn name(self) -> &'static str
         ensures { result.now ≡ name_of self }
     {
         match self {
             Compiler::Gcc => "gcc",
             Compiler::Gxx => "g++",
-            Compiler::Clang => "clang",
-            Compiler::Clangxx => "clang++",
-            Compiler::Cl => "cl",
-            Compiler::ClangCl => "clang-cl",
             Compiler::Diab => "diab",
             Compiler::Tasking => "tasking",
         }
     }
-}
 
-/// The served compiler with this name.
-pub fn compiler_named(name: &[u8]) -> Option<Compiler>
-    ensures { result ≡ compiler_named name.now }
-{
-    served()
-        .iter()
-        .copied()
-        .find(|compiler| compiler.name().as_bytes() == name)
+    /// The compiler with this name, if it is served (docs/RULES.md, Requests).
+    pub fn named(name: &[u8]) -> Option<Compiler>
+        ensures { result ≡ compiler_named name.now }
+    {
+        served()
+            .iter()
+            .copied()
+            .find(|compiler| compiler.name().as_bytes() == name)
+    }
 }

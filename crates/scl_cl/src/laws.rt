@@ -37,7 +37,8 @@ pub fn bad_line_is_first()
     ensures { BadLineIsFirst }
 {}
 
-/// Each served name names its compiler, and each keyword's text the keyword (docs/RULES.md, Requests).
+/// The name of each compiler names it, and the text of each keyword the keyword: none is missing in
+/// the lists that are searched (docs/RULES.md, Requests).
 pub fn names_read_back()
     ensures { NamesReadBack }
 {}

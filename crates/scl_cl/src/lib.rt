@@ -10,15 +10,26 @@ mod field;
 mod keyword;
 pub mod laws;
 mod line;
+mod outcome;
 mod program;
 mod request;
 mod transfer;
 
-pub use program::{Outcome, run};
+pub use answer::answer_text;
+pub use compile::Compilation;
+pub use compiler::Compiler;
+pub use draft::Request;
+pub use outcome::Outcome;
+pub use program::run;
+pub use request::read_request;
 pub use scl_args as args;
+pub use scl_args::Counted;
 pub use scl_gnu::gcc;
 pub use scl_small::{diab, tasking_vx};
 pub use scl_text as text;
-
-#[cfg(test)]
-mod tests;
+pub use scl_text::language::Language;
+pub use scl_text::records::{
+    ArtifactDescriptor, CCompilerKind, Cacheable, ColorMode, CommandError, CompilerArguments,
+    ParsedArguments, SingleCompileCommand,
+};
+pub use scl_text::{CCompilerImpl, Mem, View, path};

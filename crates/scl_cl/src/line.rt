@@ -4,7 +4,7 @@ ghost use Rattle.std.specs.Option.{option_map};
 ghost use Rattle.scl_cl.specs.Sayings.{said, said_with, said_alone};
 ghost use Rattle.scl_cl.specs.LinesRead.{said_by};
 
-use crate::compiler::{Compiler, compiler_named};
+use crate::compiler::Compiler;
 use crate::cut::cut_at;
 use crate::field::{read_field, read_two_fields};
 use crate::keyword::{Keyword, keyword_named};
@@ -43,7 +43,7 @@ fn line_with(alloc: Global, keyword: Keyword, text: &[u8]) -> Mem<Option<Line>>
     ensures { IfOk result (λ line. option_map said_by line ≡ said_with text.now keyword) }
 {
     Ok(match keyword {
-        Keyword::Compiler => compiler_named(text).map(Line::Compiler),
+        Keyword::Compiler => Compiler::named(text).map(Line::Compiler),
         Keyword::Cwd => read_field(alloc, text)?.map(Line::Directory),
         Keyword::Word => read_field(alloc, text)?.map(Line::Word),
         Keyword::File => {

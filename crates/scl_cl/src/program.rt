@@ -5,11 +5,12 @@ ghost use Rattle.scl_args.specs.Counts.{HasFailed};
 ghost use Rattle.scl_cl.specs.Transfers.{Gave};
 ghost use Rattle.scl_cl.specs.Drafts.{asked_by};
 ghost use Rattle.scl_cl.specs.Answers.{answer_to, text_of};
-ghost use Rattle.scl_cl.specs.Runs.{answer, IsSilent};
+ghost use Rattle.scl_cl.specs.Outcomes.{IsSilent};
+ghost use Rattle.scl_cl.specs.Runs.{answer};
 
 use crate::answer::answer_text;
-use crate::compile::answer_request;
 use crate::draft::Request;
+use crate::outcome::Outcome;
 use crate::request::read_request;
 use crate::transfer::{ReadError, read_all, write_whole};
 use scl_args::Counted;
@@ -17,26 +18,18 @@ use scl_text::Mem;
 use std::alloc::Global;
 use std::io::{Read, Write};
 
-/// How a run ended (docs/RULES.md, Outcomes).
-#[derive(Debug, Clone, Copy, PartialEq, Eq)]
-pub enum Outcome {
-    /// The answer was written whole.
-    Answered,
-    /// The line of this number, the first being 1, breaks a rule; nothing was written.
-    BadLine(u64),
-    /// Memory was refused; nothing was written.
-    OutOfMemory,
-    /// The reader failed, or gave bytes by 2^40 reads; nothing was written.
-    ReadFailed,
-    /// The writer failed; a beginning of the answer was written.
-    WriteFailed,
-}
-
 /// The text of the answer to a request.
 fn text_for(alloc: Global, request: Request) -> Mem<Vec<u8>>
     ensures { IfOk result (λ text. text.items ≡ text_of (answer_to (asked_by request))) }
 {
-    let answer = answer_request(alloc, request)?;
+    let answer = request.compiler.answer(
+        alloc,
+        b"",
+        &request.words,
+        &request.directory,
+        &request.environment,
+        &request.view,
+    )?;
     answer_text(alloc, &answer)
 }
 

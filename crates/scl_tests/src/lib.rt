@@ -4,4 +4,12 @@
 #[cfg(test)]
 mod args;
 #[cfg(test)]
+mod cl;
+#[cfg(test)]
+mod gnu;
+#[cfg(test)]
+mod small;
+#[cfg(test)]
 mod text;
+#[cfg(test)]
+mod words;

@@ -1,0 +1,17 @@
+//! The program over memory: what the contracts do not say.
+mod besides;
+mod devices;
+mod outcomes;
+mod requests;
+mod rows;
+
+use scl_cl::{Counted, Outcome, run};
+use std::alloc::Global;
+
+/// How a run over memory ends, and what it writes.
+fn run_over(alloc: Global, request: &[u8]) -> (Outcome, Vec<u8>) {
+    let mut written = Vec::new(alloc);
+    let mut reader = Counted::new(request);
+    let outcome = run(alloc, &mut reader, &mut Counted::new(&mut written));
+    (outcome, written)
+}

@@ -1,0 +1,77 @@
+//! The texts beside reasons.
+use crate::words::cut;
+use scl_cl::{Compiler, CompilerArguments, View};
+use std::alloc::Global;
+use std::process::Abort;
+use std::test::Fail;
+
+/// Words, and the reason for which they are refused, with the text beside it in parentheses.
+type Row = (Compiler, &'static [u8], &'static str);
+
+static REFUSALS: [Row; 22] = [
+    (
+        Compiler::Gcc,
+        b"-c a.c b.c c\xff\\.c",
+        "multiple input files ([\"b.c\", \"c\\xff\\x5c.c\"])",
+    ),
+    (
+        Compiler::Gcc,
+        b"-c a.c -L",
+        "argument parse (Unexpected end of args)",
+    ),
+    (Compiler::Gcc, b"-c", "no input file"),
+    (Compiler::Gcc, b"-E", "-E"),
+    (Compiler::Gcc, b"-c a.c -x y", "-x"),
+    (Compiler::Gcc, b"-c a.c -I @b", "@"),
+    (Compiler::Gcc, b"-c a.xyz", "unknown source language"),
+    (Compiler::Diab, b"-@@foo", "-@"),
+    (Compiler::Diab, b"-c a.xyz", "unknown source language"),
+    (Compiler::Diab, b"-c ..", "unknown source language"),
+    (Compiler::Diab, b"-c a.c -E -o", "-E"),
+    (Compiler::Diab, b"-c", "no input file"),
+    (Compiler::Diab, b"-c a.c b.c", "multiple input files"),
+    (Compiler::Diab, b"-c a.c -L @x", "@"),
+    (Compiler::Diab, b"-## -c foo.c", "-##"),
+    (
+        Compiler::Diab,
+        b"-c a.c -o",
+        "argument parse (Unexpected end of args)",
+    ),
+    (Compiler::Tasking, b"-c a.c b.c", "multiple input files"),
+    (Compiler::Tasking, b"-c a.c @r", "multiple input files"),
+    (Compiler::Tasking, b"-n -c foo.c", "-n"),
+    (Compiler::Tasking, b"-c a.xyz", "unknown source language"),
+    (Compiler::Tasking, b"-c", "no input file"),
+    (
+        Compiler::Tasking,
+        b"-c a.c -o",
+        "argument parse (Unexpected end of args)",
+    ),
+];
+
+/// The reason for which words are refused, with the text beside it in parentheses.
+fn refusal(alloc: Global, compiler: Compiler, words: &[u8]) -> Result<String, Fail> {
+    let words = cut(alloc, words)?;
+    match compiler.answer(alloc, b"cc", &words, b"", &[], &View::new(alloc))? {
+        CompilerArguments::CannotCache(reason, Some(text)) => {
+            Ok(format!(in alloc; "{reason} ({text})")?)
+        }
+        CompilerArguments::CannotCache(reason, None) => Ok(String::from_str(alloc, reason)?),
+        CompilerArguments::Ok(_) | CompilerArguments::NotCompilation => Err("not refused")?,
+    }
+}
+
+fn expect_refusal(rt: &(impl Abort + Alloc<A = Global>), row: Row) -> Result<(), Fail> {
+    let (compiler, words, want) = row;
+    let refused = refusal(rt.alloc(), compiler, words)?;
+    assert_eq!(rt; refused.as_str(), want, "of {words:?}");
+    Ok(())
+}
+
+#[test]
+fn a_text_stands_beside_a_reason(rt: HostRuntime) -> Result<(), Fail> {
+    for row in REFUSALS {
+        expect_refusal(&rt, row)?;
+    }
+    Ok(())
+}

@@ -1,0 +1,317 @@
+//! Rows worked by hand, through the program.
+use super::run_over;
+use scl_cl::{Compiler, Mem, Outcome};
+use std::alloc::Global;
+use std::process::Abort;
+use std::test::Fail;
+
+/// Lines of the request besides words, the words, and the command's words or the answer's one line.
+type Row = (&'static str, &'static str, &'static str);
+
+/// Of Diab.
+static DIAB: [Row; 18] = [
+    (
+        "",
+        "-c foo.cxx -fabc -I include -o foo.o -include file",
+        "-c foo.cxx -o foo.o -Iinclude -include file -fabc",
+    ),
+    ("", "-@@foo", "cannot-cache -@"),
+    ("", "-c src/a.c", "-c src/a.c -o src/a.o"),
+    ("", "-c ", "cannot-cache unknown source language"),
+    ("", "-c a.xyz", "cannot-cache unknown source language"),
+    ("", "", "not-compilation"),
+    ("", "-c a.c -L @x", "cannot-cache @"),
+    ("", "-c a.c -Xmake-dependency", "-c a.c -o a.o"),
+    (
+        "",
+        "-c foo.c -fabc -Xmake-dependency-savefile=bar -o foo.o",
+        "-c foo.c -o foo.o -fabc",
+    ),
+    ("", "-## -c foo.c", "cannot-cache -##"),
+    ("", "-shared foo.o -o foo.so bar.o", "not-compilation"),
+    ("", "-c ..", "cannot-cache unknown source language"),
+    (
+        "file foo\t-c\\x20foo.c\\x20-o\\x20foo.o\n",
+        "-@foo",
+        "-c foo.c -o foo.o",
+    ),
+    ("", "-c @a.c", "-c @a.c -o @a.o"),
+    ("", "-c", "cannot-cache no input file"),
+    ("", "-c a.c b.c", "cannot-cache multiple input files"),
+    ("", "-c a.c -o", "cannot-cache argument parse"),
+    ("", "-c a.c -E -o", "cannot-cache -E"),
+];
+
+/// Of TaskingVX.
+static TASKING: [Row; 14] = [
+    (
+        "",
+        "-c a.c -H file -I include -fabc",
+        "-c a.c -o a.o -Hfile -Iinclude -fabc",
+    ),
+    (
+        "file r\t-DA\n",
+        "-c a.c @r",
+        "cannot-cache multiple input files",
+    ),
+    ("", "--version -c a.c", "not-compilation"),
+    ("", "-c a.c -L @x", "-c a.c -o a.o -L@x"),
+    ("", "-c a.c -L", "-c a.c -o a.o -L"),
+    ("", "-n -c foo.c", "cannot-cache -n"),
+    ("", "-c foo.c --dep-file=dep -o foo.o", "-c foo.c -o foo.o"),
+    ("", "--dep-file -c foo.c", "-c foo.c -o foo.o"),
+    ("", "-c a.c --output=b.o", "-c a.c -o b.o"),
+    ("", "-c a.c b.c", "cannot-cache multiple input files"),
+    ("", "a.c", "not-compilation"),
+    ("", "-c a.xyz", "cannot-cache unknown source language"),
+    ("", "-c", "cannot-cache no input file"),
+    ("", "-c a.c -o", "cannot-cache argument parse"),
+];
+
+/// Of Gcc, as its driver for C.
+static GCC: [Row; 32] = [
+    (
+        "",
+        "-o foo.o -c foo.c",
+        "-x c -c -o foo.o -fdiagnostics-color=always foo.c",
+    ),
+    ("", "-o foo.o foo.c", "not-compilation"),
+    ("", "", "not-compilation"),
+    ("", "-c a.c b.c", "cannot-cache multiple input files"),
+    ("", "-c -x c ..", "cannot-cache invalid input file"),
+    (
+        "",
+        "-c src/foo.cc -stdlib=libc++ -MMD",
+        "-x c++ -c -o foo.o -stdlib=libc++ -MMD -MT foo.o -MF foo.d -fdiagnostics-color=always src/foo.cc",
+    ),
+    (
+        "",
+        "-c a.c -I",
+        "-x c -c -o a.o -I -fdiagnostics-color=always a.c",
+    ),
+    (
+        "file r\t-c\\x20\"a\\x20b.c\"\\x20@r\n",
+        "@r",
+        "cannot-cache @",
+    ),
+    (
+        "",
+        "-c a.c -gsplit-dwarf -pipe",
+        "-x c -c -o a.o -pipe -gsplit-dwarf -D_gsplit_dwarf_path=a.dwo -fdiagnostics-color=always a.c",
+    ),
+    (
+        "",
+        "-c a.c -arch i386 -arch x86_64",
+        "cannot-cache multiple different -arch, and SCCACHE_CACHE_MULTIARCH not set",
+    ),
+    (
+        "multiarch\n",
+        "-c a.c -arch i386 -arch x86_64",
+        "-x c -c -o a.o -arch i386 -arch x86_64 -fdiagnostics-color=always a.c",
+    ),
+    (
+        "",
+        "-c a.s -MMD",
+        "-x assembler -c -o a.o -MMD -fdiagnostics-color=always a.s",
+    ),
+    ("", "-c a.rs", "-c -o a.o -fdiagnostics-color=always a.rs"),
+    ("", "-c a.c -fdiagnostics-color=never", "-x c -c -o a.o a.c"),
+    (
+        "",
+        "-c a.c -fno-diagnostics-color",
+        "-x c -c -o a.o -fno-diagnostics-color a.c",
+    ),
+    (
+        "",
+        "-c -- a.c",
+        "-x c -c -o a.o -- -fdiagnostics-color=always a.c",
+    ),
+    (
+        "",
+        "-c a.c --serialize-diagnostics x.dia",
+        "-x c -c -o a.o -fdiagnostics-color=always a.c",
+    ),
+    ("file r\t\\xff\n", "-c a.c @r", "cannot-cache @"),
+    (
+        "",
+        "-c \\xff.c -gsplit-dwarf",
+        "-x c -c -o \\xff.o -gsplit-dwarf -D_gsplit_dwarf_path=\\xff.dwo -fdiagnostics-color=always \\xff.c",
+    ),
+    (
+        "",
+        "-c a.c -I\\xfe\\xff",
+        "-x c -c -o a.o -I\\xfe\\xff -fdiagnostics-color=always a.c",
+    ),
+    ("", "-c a.c -L", "cannot-cache argument parse"),
+    ("", "-c a.c -x", "cannot-cache -x"),
+    (
+        "",
+        "-c a.c -o",
+        "-x c -c -o  -fdiagnostics-color=always a.c",
+    ),
+    (
+        "cwd /w\nfile /w//r\t-c\\x20a.c\n",
+        "@r",
+        "-x c -c -o a.o -fdiagnostics-color=always a.c",
+    ),
+    (
+        "",
+        "-c a.c -std=",
+        "-x c -c -o a.o -std -fdiagnostics-color=always a.c",
+    ),
+    (
+        "",
+        "-c a.c -L ",
+        "-x c -c -o a.o -L  -fdiagnostics-color=always a.c",
+    ),
+    ("", "-c", "cannot-cache no input file"),
+    ("", "-c a.xyz", "cannot-cache unknown source language"),
+    (
+        "",
+        "-c a.c -arch i386 -arch i386",
+        "-x c -c -o a.o -arch i386 -arch i386 -fdiagnostics-color=always a.c",
+    ),
+    ("", "-c a.c -E", "cannot-cache -E"),
+    (
+        "cwd /w\nfile /w/s\t-c\\x20\"a\\x20b.c\"\\x20@s\n",
+        "@s",
+        "cannot-cache @",
+    ),
+    ("cwd /w\nfile /w/t\t\\xff\n", "-c a.c @t", "cannot-cache @"),
+];
+
+/// Of Gcc, as its driver for C++.
+static GXX: [Row; 2] = [
+    (
+        "",
+        "-c a.c",
+        "-x c++ -c -o a.o -fdiagnostics-color=always a.c",
+    ),
+    (
+        "",
+        "-c -x c a.c",
+        "-x c -c -o a.o -fdiagnostics-color=always a.c",
+    ),
+];
+
+/// Appends a line for each word of a text.
+fn push_lines(lines: &mut String, keyword: &str, words: &str) -> Mem<()> {
+    if words.is_empty() {
+        return Ok(());
+    }
+    for word in words.split(' ') {
+        lines.push_str(keyword)?;
+        lines.push_str(word)?;
+        lines.push('\n')?;
+    }
+    Ok(())
+}
+
+/// The request of a row.
+fn request_of(alloc: Global, compiler: Compiler, lines: &str, words: &str) -> Result<String, Fail> {
+    let mut request = format!(in alloc; "compiler {}\n{lines}", compiler.name())?;
+    push_lines(&mut request, "word ", words)?;
+    Ok(request)
+}
+
+/// The text of a row's answer.
+fn text_of(alloc: Global, answer: &str) -> Result<String, Fail> {
+    if answer.starts_with("cannot-cache ") || answer == "not-compilation" {
+        return Ok(format!(in alloc; "{answer}\n")?);
+    }
+    let mut text = String::from_str(alloc, "ok\n")?;
+    push_lines(&mut text, "arg ", answer)?;
+    text.push_str("cacheable yes\n")?;
+    Ok(text)
+}
+
+fn expect_row(
+    rt: &(impl Abort + Alloc<A = Global>),
+    compiler: Compiler,
+    row: Row,
+) -> Result<(), Fail> {
+    let (lines, words, answer) = row;
+    let request = request_of(rt.alloc(), compiler, lines, words)?;
+    let (outcome, written) = run_over(rt.alloc(), request.as_bytes());
+    assert_eq!(rt; outcome, Outcome::Answered, "of {request:?}");
+    let want = text_of(rt.alloc(), answer)?;
+    assert_eq!(rt; written.as_slice(), want.as_bytes(), "of {request:?}");
+    Ok(())
+}
+
+fn expect_rows(
+    rt: &(impl Abort + Alloc<A = Global>),
+    compiler: Compiler,
+    rows: &[Row],
+) -> Result<(), Fail> {
+    for row in rows {
+        expect_row(rt, compiler, *row)?;
+    }
+    Ok(())
+}
+
+#[test]
+fn diab_answers_its_rows(rt: HostRuntime) -> Result<(), Fail> {
+    expect_rows(&rt, Compiler::Diab, &DIAB)
+}
+
+#[test]
+fn tasking_answers_its_rows(rt: HostRuntime) -> Result<(), Fail> {
+    expect_rows(&rt, Compiler::Tasking, &TASKING)
+}
+
+#[test]
+fn gcc_answers_its_rows(rt: HostRuntime) -> Result<(), Fail> {
+    expect_rows(&rt, Compiler::Gcc, &GCC)
+}
+
+#[test]
+fn gcc_for_cxx_answers_its_rows(rt: HostRuntime) -> Result<(), Fail> {
+    expect_rows(&rt, Compiler::Gxx, &GXX)
+}
+
+/// `file` lines of so many files from f0 on, each of which names the next so many times, and a last one of this text.
+fn nested_files(alloc: Global, files: u32, times: u32, last: &str) -> Result<String, Fail> {
+    let mut lines = String::new(alloc);
+    for number in 0..files {
+        let named = format!(in alloc; "@f{}", u64::from(number) + 1)?;
+        lines.push_str(format!(in alloc; "file f{number}\t{named}")?.as_str())?;
+        for _ in 1..times {
+            lines.push_str(format!(in alloc; "\\x20{named}")?.as_str())?;
+        }
+        lines.push('\n')?;
+    }
+    lines.push_str(format!(in alloc; "file f{files}\t{last}\n")?.as_str())?;
+    Ok(lines)
+}
+
+fn expect_nested(
+    rt: &(impl Abort + Alloc<A = Global>),
+    lines: &str,
+    words: &str,
+    answer: &str,
+) -> Result<(), Fail> {
+    let request = request_of(rt.alloc(), Compiler::Gcc, lines, words)?;
+    let (outcome, written) = run_over(rt.alloc(), request.as_bytes());
+    assert_eq!(rt; outcome, Outcome::Answered);
+    assert_eq!(rt; written.as_slice(), text_of(rt.alloc(), answer)?.as_bytes());
+    Ok(())
+}
+
+#[test]
+fn files_that_name_the_next_twice_give_a_thousand_words(rt: HostRuntime) -> Result<(), Fail> {
+    let lines = nested_files(rt.alloc(), 10, 2, "-DA")?;
+    let mut answer = String::from_str(rt.alloc(), "-x c -c -o a.o")?;
+    for _ in 0..1024 {
+        answer.push_str(" -DA")?;
+    }
+    answer.push_str(" -fdiagnostics-color=always a.c")?;
+    expect_nested(&rt, lines.as_str(), "-c a.c @f0", answer.as_str())
+}
+
+#[test]
+fn a_chain_of_a_thousand_files_is_followed(rt: HostRuntime) -> Result<(), Fail> {
+    let lines = nested_files(rt.alloc(), 999, 1, "-c\\x20a.c")?;
+    let answer = "-x c -c -o a.o -fdiagnostics-color=always a.c";
+    expect_nested(&rt, lines.as_str(), "@f0", answer)
+}

@@ -1,0 +1,227 @@
+//! Calls of Gcc's module.
+mod kinds;
+
+use crate::words::{cut, joined};
+use scl_args::{ArgParseError, ArgumentValue, Mem, PathArg, SearchableArgInfo, looks};
+use scl_gnu::gcc::{
+    ARCH_FLAG, ARGS, ArgData, Gcc, Kind, generate_compile_commands, language_to_gcc_arg,
+    module_file_path, resolve_profile_use_path, table,
+};
+use scl_text::language::Language;
+use scl_text::outputs::output_path;
+use scl_text::records::{
+    CCompilerKind, ColorMode, CommandError, CompilerArguments, ParsedArguments,
+    SingleCompileCommand,
+};
+use scl_text::{CCompilerImpl, View};
+use std::alloc::Global;
+use std::test::Fail;
+
+fn bytes_of(rt: &HostRuntime, text: &[u8]) -> Mem<Vec<u8>> {
+    Vec::from_slice(rt.alloc(), text)
+}
+
+fn driver(gplusplus: bool) -> Gcc {
+    Gcc {
+        gplusplus,
+        version: None,
+        assembler_digest: None,
+    }
+}
+
+/// What Gcc reads in the directory `/w`.
+fn record_of(alloc: Global, text: &[u8]) -> Result<ParsedArguments, Fail> {
+    let words = cut(alloc, text)?;
+    match driver(false).parse_arguments(alloc, &words, b"/w", &[], &View::new(alloc))? {
+        CompilerArguments::Ok(record) => Ok(record),
+        CompilerArguments::CannotCache(reason, _) => Err(reason)?,
+        CompilerArguments::NotCompilation => Err("no compilation")?,
+    }
+}
+
+#[test]
+fn outputs_have_their_paths(rt: HostRuntime) -> Result<(), Fail> {
+    let text =
+        b"-c d/a.c -o o/a.o --serialize-diagnostics x.dia -MF y.d -MD -gsplit-dwarf -ftest-coverage";
+    let record = record_of(rt.alloc(), text)?;
+    let rows: [(&str, &[u8]); 5] = [
+        ("obj", b"o/a.o"),
+        ("dia", b"x.dia"),
+        ("d", b"y.d"),
+        ("dwo", b"o/a.dwo"),
+        ("gcno", b"o/a.gcno"),
+    ];
+    for (name, want) in rows {
+        assert_eq!(rt; output_path(&record.outputs, name), Some(want), "of {name}");
+    }
+    assert_eq!(rt; record.outputs.len(), 5);
+    for (name, output) in record.outputs.iter() {
+        assert_eq!(rt; output.optional, name.as_str() == "dwo", "of {name}");
+    }
+    Ok(())
+}
+
+#[test]
+fn fields_say_what_the_options_say(rt: HostRuntime) -> Result<(), Fail> {
+    let text = b"-c a.c -pedantic -std=gnu11 -Wp,-DA -fprofile-arcs -fdiagnostics-color";
+    let record = record_of(rt.alloc(), text)?;
+    assert_eq!(rt;
+        record.too_hard_for_preprocessor_cache_mode,
+        Some(bytes_of(&rt, b"-Wp")?)
+    );
+    assert_eq!(rt; record.color_mode, ColorMode::On);
+    assert!(rt; record.suppress_rewrite_includes_only);
+    assert!(rt; record.profile_generate);
+    assert!(rt; record.uses_external_assembler);
+    assert!(rt; !record.double_dash_input);
+    let plain = record_of(rt.alloc(), b"-c a.c -std=c11 -pedantic")?;
+    assert_eq!(rt; plain.too_hard_for_preprocessor_cache_mode, None);
+    assert_eq!(rt; plain.color_mode, ColorMode::Auto);
+    assert!(rt; !plain.suppress_rewrite_includes_only);
+    assert!(rt; !plain.profile_generate);
+    Ok(())
+}
+
+/// The command of `-c a.c` with a word of its own for the language.
+fn command_with(
+    alloc: Global,
+    env_vars: &[(Vec<u8>, Vec<u8>)],
+) -> Result<SingleCompileCommand, Fail> {
+    let record = record_of(alloc, b"-c a.c")?;
+    let view = View::new(alloc);
+    let (command, _) = generate_compile_commands(
+        alloc,
+        b"/usr/bin/gcc",
+        &record,
+        b"/w",
+        env_vars,
+        CCompilerKind::Gcc,
+        &view,
+        |_| Some("zz"),
+    )?;
+    Ok(command)
+}
+
+#[test]
+fn a_command_has_the_parts_that_were_handed_in(rt: HostRuntime) -> Result<(), Fail> {
+    let pair = (bytes_of(&rt, b"K")?, bytes_of(&rt, b"V")?);
+    let command = command_with(rt.alloc(), &[pair])?;
+    assert_eq!(rt; command.executable.as_slice(), b"/usr/bin/gcc".as_slice());
+    assert_eq!(rt; command.cwd.as_slice(), b"/w".as_slice());
+    assert!(rt; !command.share_jobserver);
+    let words = joined(rt.alloc(), &command.arguments)?;
+    assert_eq!(rt;
+        words.as_slice(),
+        b"-x zz -c -o a.o -fdiagnostics-color=always a.c".as_slice()
+    );
+    Ok(())
+}
+
+#[test]
+fn a_command_has_the_environment_that_was_handed_in(rt: HostRuntime) -> Result<(), Fail> {
+    let pairs = [(bytes_of(&rt, b"K")?, bytes_of(&rt, b"V")?)];
+    let command = command_with(rt.alloc(), &pairs)?;
+    assert_eq!(rt; command.env_vars.as_slice(), pairs.as_slice());
+    Ok(())
+}
+
+#[test]
+fn a_record_without_an_object_has_no_command(rt: HostRuntime) -> Result<(), Fail> {
+    let record = ParsedArguments::bare(
+        rt.alloc(),
+        bytes_of(&rt, b"a.c")?,
+        Language::C,
+        bytes_of(&rt, b"-c")?,
+    );
+    let view = View::new(rt.alloc());
+    let command = driver(false).generate_compile_commands(
+        rt.alloc(),
+        b"gcc",
+        &record,
+        b"",
+        &[],
+        &view,
+    );
+    assert_eq!(rt; command.err(), Some(CommandError::MissingObj));
+    Ok(())
+}
+
+#[test]
+fn gcc_says_what_it_is(rt: HostRuntime) -> Result<(), Fail> {
+    let gcc = Gcc {
+        gplusplus: true,
+        version: Some(String::from_str(rt.alloc(), "v")?),
+        assembler_digest: Some(String::from_str(rt.alloc(), "d")?),
+    };
+    assert_eq!(rt; gcc.kind(), CCompilerKind::Gcc);
+    assert!(rt; gcc.plusplus());
+    let version = gcc.version(rt.alloc())?.ok_or("no version")?;
+    assert_eq!(rt; version.as_str(), "v");
+    let digest = gcc.assembler_digest(rt.alloc())?.ok_or("no digest")?;
+    assert_eq!(rt; digest.as_str(), "d");
+    assert_eq!(rt; language_to_gcc_arg(Language::Cuda), Some("cu"));
+    assert_eq!(rt; ARCH_FLAG, "-arch");
+    Ok(())
+}
+
+#[test]
+fn the_table_is_searched_within_few_looks(rt: HostRuntime) {
+    let rows: [(&[u8], &str, u64); 3] = [
+        (b"-stdlib=libc++", "-stdlib", 120),
+        (b"-c", "-c", 24),
+        (b"-iwithprefixdir", "-iwithprefix", 136),
+    ];
+    let table = table();
+    for (word, flag, bound) in rows {
+        let found = table.search(word).map(|row| row.flag());
+        assert_eq!(rt; found, Some(flag), "of {word:?}");
+        assert!(rt; looks(&table, word) <= bound, "of {word:?}");
+    }
+    let mut sum: u64 = 0;
+    for row in &ARGS {
+        sum = sum.saturating_add(looks(&table, row.flag().as_bytes()));
+    }
+    assert!(rt; sum >= 300);
+}
+
+#[test]
+fn a_flag_takes_no_value(rt: HostRuntime) -> Result<(), Fail> {
+    let made = ArgData::make(rt.alloc(), Kind::DoCompilation, bytes_of(&rt, b"x")?);
+    assert_eq!(rt;
+        made.err(),
+        Some(ArgParseError::Other("flag takes no value"))
+    );
+    Ok(())
+}
+
+#[test]
+fn an_output_takes_its_path(rt: HostRuntime) -> Result<(), Fail> {
+    match ArgData::make(rt.alloc(), Kind::Output, bytes_of(&rt, b"a.o")?) {
+        Ok(ArgData::Output(PathArg(path))) => {
+            assert_eq!(rt; path.as_slice(), b"a.o".as_slice());
+            Ok(())
+        }
+        Ok(_) | Err(_) => Err("no output")?,
+    }
+}
+
+#[test]
+fn files_beside_the_words_have_their_paths(rt: HostRuntime) -> Result<(), Fail> {
+    let rows: [(&[u8], &[u8]); 3] = [
+        (b"n=m=p.pcm", b"m=p.pcm"),
+        (b"m.pcm", b"m.pcm"),
+        (b"=", b""),
+    ];
+    for (value, want) in rows {
+        let path = module_file_path(rt.alloc(), value)?;
+        assert_eq!(rt; path.as_slice(), want, "of {value:?}");
+    }
+    let mut view = View::new(rt.alloc());
+    view.add_dir(bytes_of(&rt, b"/w")?)?;
+    let profiles: [(&[u8], &[u8]); 2] = [(b"", b"/w/default.profdata"), (b"p", b"/w/p")];
+    for (value, want) in profiles {
+        let path = resolve_profile_use_path(rt.alloc(), value, b"/w", &view)?;
+        assert_eq!(rt; path.as_slice(), want, "of {value:?}");
+    }
+    Ok(())
+}
