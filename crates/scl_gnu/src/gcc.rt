@@ -23,6 +23,3 @@ pub use data::{ArgData, Kind};
 pub use hash_paths::{module_file_path, resolve_profile_use_path};
 pub use parse::parse_arguments;
 pub use scl_text::GnuExpand as ExpandIncludeFile;
-
-#[cfg(test)]
-mod tests;

@@ -8,5 +8,3 @@ mod place;
 mod reading;
 mod rules;
 pub mod tasking_vx;
-#[cfg(test)]
-mod tests;

@@ -3,7 +3,6 @@ mod clang;
 mod counted;
 mod cutting;
 mod error;
-mod gather;
 mod laws;
 mod lists;
 mod printing;

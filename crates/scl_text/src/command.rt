@@ -5,9 +5,9 @@ ghost use Rattle.scl_text.specs.Commands.{Builds, pairs_of, object_of, command_b
 ghost use Rattle.scl_text.specs.Compilers.{IsAnswer};
 ghost use Rattle.scl_text.specs.Records.{parsed_of};
 
-use scl_args::Mem;
 use crate::outputs::output_path;
 use crate::records::{Cacheable, CommandError, ParsedArguments, SingleCompileCommand};
+use scl_args::Mem;
 use std::alloc::Global;
 
 /// Puts a copy of a word behind those of a list, which stays as it was where memory is refused.

@@ -1,10 +1,10 @@
 //! What every compiler answers.
-use scl_args::Mem;
 use crate::records::{
     CCompilerKind, Cacheable, CommandError, CompilerArguments, ParsedArguments,
     SingleCompileCommand,
 };
 use crate::view::View;
+use scl_args::Mem;
 use std::alloc::Global;
 
 /// A compiler whose command lines are read and built. The ghost members are its own definitions:

@@ -4,8 +4,8 @@ ghost use Rattle.std.specs.String.{string_bytes};
 ghost use Rattle.scl_text.specs.Decoding.{unit_of, units, utf8_text, utf16_text, windows_char, windows_text, decoded, Utf8FilesAreReadBack, Utf16FilesAreReadBack};
 ghost use Rattle.scl_text.specs.Orders.{order_of};
 
-use scl_args::Mem;
 use bstr::ByteSlice;
+use scl_args::Mem;
 use std::alloc::Global;
 
 /// Which byte of a 16-bit number stands first.

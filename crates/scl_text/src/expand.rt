@@ -2,8 +2,8 @@ ghost use Rattle.std.specs.Prelude.{◌≡◌, IfOk};
 ghost use Rattle.scl_args.specs.Words.{words_of};
 ghost use Rattle.scl_text.specs.Expand.{expand};
 
-use scl_args::Mem;
 use crate::view::View;
+use scl_args::Mem;
 use std::alloc::Global;
 
 mod engine;

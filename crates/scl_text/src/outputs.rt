@@ -4,8 +4,8 @@ ghost use Rattle.std.specs.Option.{option_copied};
 ghost use Rattle.scl_text.specs.Outputs.{path_at, put_output};
 ghost use Rattle.scl_text.specs.Records.{artifact, artifacts};
 
-use scl_args::Mem;
 use crate::records::ArtifactDescriptor;
+use scl_args::Mem;
 use std::alloc::Global;
 use std::collections::BTreeMap;
 

@@ -5,10 +5,9 @@ ghost use Rattle.scl_text.specs.Records.{outcome_of};
 ghost use Rattle.scl_text.specs.Refusals.{verdict_of, the_input};
 ghost use Rattle.scl_args.specs.Words.{words_of};
 
-use scl_args::Mem;
-use scl_args::quoted_list;
 use crate::reasons::{ARGUMENT_PARSE, MULTIPLE_INPUT_FILES, NO_INPUT_FILE};
 use crate::records::{CompilerArguments, ParsedArguments};
+use scl_args::{Mem, quoted_list};
 use std::alloc::Global;
 use std::fmt::Display;
 

@@ -3,8 +3,8 @@ ghost use Rattle.std.specs.Option.{option_copied};
 ghost use Rattle.scl_text.specs.Paths.{same_path};
 ghost use Rattle.scl_text.specs.Views.{empty_view, put_file, bytes_at, is_among, is_directory, exists};
 
-use scl_args::Mem;
 use crate::path_map::PathMap;
+use scl_args::Mem;
 use std::alloc::Global;
 use std::marker::Model;
 

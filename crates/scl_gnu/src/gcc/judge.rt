@@ -12,9 +12,10 @@ ghost use Rattle.scl_gnu.specs.Kinds.{last_text};
 
 use super::data::{ArgData, Kind};
 use super::place::{Place, place_of_kind};
-use scl_args::{ArgParseError, Argument, Judge, Mem, OfKinds, ReadArg, last_text, names_file};
+use scl_args::{
+    ArgParseError, Argument, Judge, Mem, OfKinds, ReadArg, last_text, names_file, quoted,
+};
 use scl_text::language::Language;
-use scl_args::quoted;
 use scl_text::reasons::UNEXPANDED_FILE;
 use scl_text::refusal::{Refusal, argument_parse};
 use std::alloc::Global;

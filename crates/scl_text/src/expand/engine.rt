@@ -4,9 +4,9 @@ ghost use Rattle.std.specs.Vec.Iter.{into_iter_items, into_iter_len};
 
 use super::ExpansionKind;
 use super::response_file::{arguments, named};
-use scl_args::Mem;
 use crate::path_map::PathMap;
 use crate::view::View;
+use scl_args::Mem;
 use std::alloc::Global;
 use std::mem::replace;
 use std::vec::IntoIter;

@@ -5,8 +5,8 @@ ghost use Rattle.scl_args.specs.WordsToCome.{items_left, GivesWord};
 
 use super::ExpansionKind;
 use super::engine::{Expansion, Step};
-use scl_args::Mem;
 use crate::view::View;
+use scl_args::Mem;
 use std::alloc::Global;
 use std::marker::Model;
 
@@ -80,7 +80,6 @@ pub struct GnuExpand<'a> {
 }
 
 impl<'a> Model for GnuExpand<'a> {
-
     ghost Value = { WordsToCome };
 
     ghost view = { λ e. e.words };
@@ -117,7 +116,6 @@ pub struct MsvcExpand<'a> {
 }
 
 impl<'a> Model for MsvcExpand<'a> {
-
     ghost Value = { WordsToCome };
 
     ghost view = { λ e. e.words };
@@ -154,7 +152,6 @@ pub struct ExpandAtArgs<'a> {
 }
 
 impl<'a> Model for ExpandAtArgs<'a> {
-
     ghost Value = { WordsToCome };
 
     ghost view = { λ e. e.words };

@@ -8,9 +8,9 @@ use super::ExpansionKind;
 use crate::decode::read_text;
 use crate::diab_text::split_diab;
 use crate::gnu_text::split_gnu_response_file_args;
-use scl_args::Mem;
 use crate::msvc_text::msvc_words;
 use crate::path::join;
+use scl_args::Mem;
 use std::alloc::Global;
 use std::str;
 

@@ -7,8 +7,8 @@ ghost use Rattle.scl_args.specs.Words.{words_of};
 ghost use Rattle.scl_text.specs.Records.{archs, second_words};
 
 use crate::command::push_word;
-use scl_args::Mem;
 use crate::records::ParsedArguments;
+use scl_args::Mem;
 use std::alloc::Global;
 
 /// The second words of pairs of words.
