@@ -1,12 +1,12 @@
 ghost use Rattle.std.specs.Prelude.{◌≡◌, map, false, true, IfOk, length};
 ghost use Rattle.scl_args.specs.Words.{words_of};
 ghost use Rattle.scl_text.specs.Expand.{expand};
-ghost use Rattle.scl_args.specs.WordsToCome.{items_left, GivesWord};
+ghost use Rattle.scl_text.specs.WordsToCome.{items_left, GivesWord};
 
 use super::ExpansionKind;
 use super::engine::{Expansion, Step};
-use crate::view::View;
 use scl_args::Mem;
+use crate::view::View;
 use std::alloc::Global;
 use std::marker::Model;
 
@@ -18,7 +18,7 @@ pub(super) struct Expand<'a> {
 }
 
 impl<'a> Model for Expand<'a> {
-    ghost use Rattle.scl_args.specs.WordsToCome.{WordsToCome};
+    ghost use Rattle.scl_text.specs.WordsToCome.{WordsToCome};
 
     ghost Value = { WordsToCome };
 
@@ -80,6 +80,8 @@ pub struct GnuExpand<'a> {
 }
 
 impl<'a> Model for GnuExpand<'a> {
+    ghost use Rattle.scl_text.specs.WordsToCome.{WordsToCome};
+
     ghost Value = { WordsToCome };
 
     ghost view = { λ e. e.words };
@@ -116,6 +118,8 @@ pub struct MsvcExpand<'a> {
 }
 
 impl<'a> Model for MsvcExpand<'a> {
+    ghost use Rattle.scl_text.specs.WordsToCome.{WordsToCome};
+
     ghost Value = { WordsToCome };
 
     ghost view = { λ e. e.words };
@@ -152,6 +156,8 @@ pub struct ExpandAtArgs<'a> {
 }
 
 impl<'a> Model for ExpandAtArgs<'a> {
+    ghost use Rattle.scl_text.specs.WordsToCome.{WordsToCome};
+
     ghost Value = { WordsToCome };
 
     ghost view = { λ e. e.words };

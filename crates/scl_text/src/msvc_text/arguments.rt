@@ -2,7 +2,7 @@ ghost use Rattle.std.specs.Prelude.{◌≡◌, ℕ, ◌+◌, ◌<◌, ◌≤◌,
 ghost use Rattle.std.specs.Str.{chars};
 ghost use Rattle.std.specs.String.{string_bytes};
 ghost use Rattle.scl_args.specs.Words.{words_of};
-ghost use Rattle.scl_args.specs.WordsToCome.{items_left, GivesText};
+ghost use Rattle.scl_text.specs.WordsToCome.{items_left, GivesText};
 ghost use Rattle.scl_text.specs.MsvcText.{msvc_arguments};
 ghost use Rattle.scl_text.specs.MsvcReader.{TakesChar};
 
@@ -81,7 +81,7 @@ pub struct SplitMsvcResponseFileArgs<'a> {
 
 impl<'a> Model for SplitMsvcResponseFileArgs<'a> {
     ghost use Rattle.std.specs.Str.{chars};
-    ghost use Rattle.scl_args.specs.WordsToCome.{WordsToCome};
+    ghost use Rattle.scl_text.specs.WordsToCome.{WordsToCome};
     ghost use Rattle.scl_text.specs.MsvcText.{msvc_arguments};
 
     ghost Value = { WordsToCome };
