@@ -1,6 +1,6 @@
-ghost use Rattle.std.specs.Prelude.{◌≡◌, ℕ, ◌+◌, ◌≤◌, List, ◌++◌, OnOk};
+ghost use Rattle.std.specs.Prelude.{◌≡◌, ◌+◌, ◌++◌, OnOk};
 ghost use Rattle.std.specs.String.{string_bytes};
-ghost use Rattle.scl_text.specs.MsvcText.{is_msvc_separator, OnlyQuotesGiveEmptyArguments, QuotedWordsAreReadBack};
+ghost use Rattle.scl_text.specs.MsvcText.{is_msvc_separator};
 ghost use Rattle.scl_text.specs.MsvcReader.{slashes};
 
 use crate::memory::Mem;

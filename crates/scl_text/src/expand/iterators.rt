@@ -1,4 +1,4 @@
-ghost use Rattle.std.specs.Prelude.{◌≡◌, map, false, true, IfOk, length};
+ghost use Rattle.std.specs.Prelude.{◌≡◌, false};
 ghost use Rattle.scl_text.specs.Words.{words_of};
 ghost use Rattle.scl_text.specs.Expand.{expand};
 ghost use Rattle.scl_text.specs.WordsToCome.{items_left, GivesWord};
