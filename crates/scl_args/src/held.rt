@@ -1,5 +1,5 @@
 //! What values hold: nothing, a word or a path.
-ghost use Rattle.std.specs.Prelude.{◌≡◌, ◌≢◌, [], IsTrue, MatchResult};
+ghost use Rattle.std.specs.Prelude.{◌≡◌, ◌≢◌, ◌↔◌, [], IsTrue, MatchResult};
 ghost use Rattle.std.specs.Fn.{CalledAt};
 ghost use Rattle.scl_args.specs.Texts.{Prints};
 ghost use Rattle.scl_args.specs.Held.{word_held, is_path_held};
@@ -61,7 +61,7 @@ pub trait ReadArg: ArgumentValue {
 
     /// Whether the kinds are the same.
     fn is_same_kind(kind: Self::Kind, other: Self::Kind) -> bool
-        ensures { IsTrue result → kind ≡ other };
+        ensures { IsTrue result ↔ (kind ≡ other) };
 
     /// What the value holds.
     fn held(&self) -> Held<'_>

@@ -1,5 +1,5 @@
 //! What options are apart from their flags and values.
-ghost use Rattle.std.specs.Prelude.{◌≡◌, IsTrue};
+ghost use Rattle.std.specs.Prelude.{◌≡◌, ◌↔◌, IsTrue};
 ghost use Rattle.scl_args.specs.Seen.{seen};
 ghost use Rattle.scl_args.specs.Sorts.{sort_of};
 
@@ -30,7 +30,7 @@ pub(crate) fn sort_of<T: ReadArg>(option: &Argument<T>) -> Sort<T::Kind>
 
 /// Whether the sorts are the same.
 pub(crate) fn is_same<T: ReadArg>(sort: Sort<T::Kind>, other: Sort<T::Kind>) -> bool
-    ensures { IsTrue result → sort ≡ other }
+    ensures { IsTrue result ↔ (sort ≡ other) }
 {
     match (sort, other) {
         (Sort::Raw, Sort::Raw) | (Sort::Unknown, Sort::Unknown) => true,

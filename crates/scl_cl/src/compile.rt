@@ -80,17 +80,6 @@ fn answer_by<C: CCompilerImpl>(
     }
 }
 
-/// Gcc with nothing known of its version and assembler.
-fn gcc(gplusplus: bool) -> Gcc
-    ensures { result.gplusplus ≡ gplusplus }
-{
-    Gcc {
-        gplusplus,
-        version: None,
-        assembler_digest: None,
-    }
-}
-
 impl Compiler {
     /// What a command line is answered: the words behind the program `executable`, read in the
     /// directory `cwd` with the files of `view`. All are bytes (docs/RULES.md, Answers).
@@ -108,8 +97,24 @@ impl Compiler {
             executable.now (pairs_of env_vars.now) cwd.now answer) }
     {
         match self {
-            Compiler::Gcc => answer_by(alloc, &gcc(false), executable, words, cwd, env_vars, view),
-            Compiler::Gxx => answer_by(alloc, &gcc(true), executable, words, cwd, env_vars, view),
+            Compiler::Gcc => answer_by(
+                alloc,
+                &Gcc::new(false),
+                executable,
+                words,
+                cwd,
+                env_vars,
+                view,
+            ),
+            Compiler::Gxx => answer_by(
+                alloc,
+                &Gcc::new(true),
+                executable,
+                words,
+                cwd,
+                env_vars,
+                view,
+            ),
             Compiler::Diab => {
                 let diab = Diab { version: None };
                 answer_by(alloc, &diab, executable, words, cwd, env_vars, view)

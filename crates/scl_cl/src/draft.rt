@@ -52,7 +52,13 @@ impl Draft {
         match line {
             Line::Compiler(_) => self.compiler.is_some(),
             Line::Directory(_) => self.directory.is_some(),
-            _ => false,
+            Line::Blank
+            | Line::Word(_)
+            | Line::File(_, _)
+            | Line::ViewedDirectory(_)
+            | Line::Existing(_)
+            | Line::Variable(_, _)
+            | Line::Multiarch => false,
         }
     }
 

@@ -1,5 +1,8 @@
 -- Refusals as contracts see them, and the fixed tests that parsers share.
 use Rattle.std.specs.Prelude.{ℕ, List, [], ◌∷◌, Result, Ok, Err}
+use Rattle.scl_text.specs.declared.records.CompilerArguments.{CompilerArguments}
+use Rattle.scl_text.specs.declared.records.CompilerArguments.TheVariants as answers
+use Rattle.scl_text.specs.declared.records.ParsedArguments.{ParsedArguments}
 use Rattle.scl_text.specs.declared.refusal.Refusal.{Refusal}
 use Rattle.scl_text.specs.declared.refusal.Refusal.TheVariants as refusals
 use Rattle.scl_text.specs.Reasons.{no_input_file, multiple_input_files}
@@ -9,6 +12,11 @@ use Rattle.scl_text.specs.Records.{Verdict, CannotCache, NotCompilation}
 abbrev pub verdict_of : Refusal → Verdict
 verdict_of (refusals.CannotCache reason text) = CannotCache reason.now
 verdict_of refusals.NotCompilation = NotCompilation
+
+-- the answer that a refusal is, with its text
+abbrev pub answer_of : Refusal → CompilerArguments ParsedArguments
+answer_of (refusals.CannotCache reason text) = answers.CannotCache reason text
+answer_of refusals.NotCompilation = answers.NotCompilation
 
 -- the one input
 abbrev pub the_input : List (List ℕ) → Result (List ℕ) Verdict

@@ -23,6 +23,8 @@ pub use decode::{from_local_codepage, read_text};
 pub use diab_text::split_diab;
 pub use expand::{ExpandAtArgs, ExpansionKind, GnuExpand, MsvcExpand, expand_all};
 pub use gnu_text::split_gnu_response_file_args;
+pub use language::Language;
 pub use msvc_text::{SplitMsvcResponseFileArgs, msvc_words};
+pub use records::{CommandError, CompilerArguments, ParsedArguments};
 pub use scl_args::Mem;
 pub use view::View;

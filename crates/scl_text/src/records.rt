@@ -53,25 +53,45 @@ pub enum CompilerArguments<T> {
 /// A command line as it was read; paths and words are bytes (docs/RULES.md, Records).
 #[derive(Debug, PartialEq, Eq, Drop)]
 pub struct ParsedArguments {
+    /// The path of the one input.
     pub input: Vec<u8>,
+    /// Whether `--` stands before the input.
     pub double_dash_input: bool,
+    /// The language of the input.
     pub language: Language,
+    /// The flag that asks for a compilation.
     pub compilation_flag: Vec<u8>,
+    /// The path of the dependency file, where the compiler keeps one here.
     pub depfile: Option<Vec<u8>>,
+    /// What the compilation makes, by name: `obj`, and others.
     pub outputs: BTreeMap<String, ArtifactDescriptor>,
+    /// The words about dependencies.
     pub dependency_args: Vec<Vec<u8>>,
+    /// The words for the preprocessor.
     pub preprocessor_args: Vec<Vec<u8>>,
+    /// All other words that change the outcome.
     pub common_args: Vec<Vec<u8>>,
+    /// The words that name architectures.
     pub arch_args: Vec<Vec<u8>>,
+    /// The words that do not change the outcome.
     pub unhashed_args: Vec<Vec<u8>>,
+    /// Files that a distant compiler needs beside the input.
     pub extra_dist_files: Vec<Vec<u8>>,
+    /// Files on whose contents the outcome depends, beside the input.
     pub extra_hash_files: Vec<Vec<u8>>,
+    /// Whether the assembler is a program of its own.
     pub uses_external_assembler: bool,
+    /// Whether the included files are to be printed.
     pub msvc_show_includes: bool,
+    /// Whether a flag said the language of the input.
     pub msvc_explicit_language: bool,
+    /// Whether the program will write a profile of its runs.
     pub profile_generate: bool,
+    /// Whether messages are coloured.
     pub color_mode: ColorMode,
+    /// Whether includes may not be rewritten before the compiler sees them.
     pub suppress_rewrite_includes_only: bool,
+    /// The flag that hides from a cache of preprocessor runs what it asks of the preprocessor.
     pub too_hard_for_preprocessor_cache_mode: Option<Vec<u8>>,
 }
 

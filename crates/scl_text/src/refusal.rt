@@ -2,7 +2,7 @@
 ghost use Rattle.std.specs.Prelude.{◌≡◌, Err, IfOk, MatchResult, Ok};
 ghost use Rattle.scl_text.specs.Reasons.{argument_parse};
 ghost use Rattle.scl_text.specs.Records.{outcome_of};
-ghost use Rattle.scl_text.specs.Refusals.{verdict_of, the_input};
+ghost use Rattle.scl_text.specs.Refusals.{verdict_of, answer_of, the_input};
 ghost use Rattle.scl_args.specs.Words.{words_of};
 
 use crate::reasons::{ARGUMENT_PARSE, MULTIPLE_INPUT_FILES, NO_INPUT_FILE};
@@ -22,9 +22,10 @@ pub enum Refusal {
 }
 
 impl Refusal {
-    /// The answer that the refusal is.
+    /// The answer that the refusal is, with its text beside the reason.
     pub fn into_answer(self) -> CompilerArguments<ParsedArguments>
-        ensures { outcome_of result ≡ Err (verdict_of self) }
+        ensures outcome { outcome_of result ≡ Err (verdict_of self) }
+        ensures answer { result ≡ answer_of self }
     {
         match self {
             Refusal::CannotCache(reason, text) => CompilerArguments::CannotCache(reason, text),

@@ -1,5 +1,5 @@
 //! Gcc.
-ghost use Rattle.std.specs.Prelude.{◌≡◌, IfOk};
+ghost use Rattle.std.specs.Prelude.{◌≡◌, IfOk, None};
 ghost use Rattle.std.specs.Option.{option_map};
 ghost use Rattle.std.specs.String.{string_bytes};
 
@@ -22,6 +22,20 @@ pub struct Gcc {
     pub gplusplus: bool,
     pub version: Option<String>,
     pub assembler_digest: Option<String>,
+}
+
+impl Gcc {
+    /// Gcc's driver for C, or for C++, of which no version and no assembler is known.
+    pub fn new(gplusplus: bool) -> Gcc
+        ensures driver { result.gplusplus ≡ gplusplus }
+        ensures unknown { (result.version ≡ None) × (result.assembler_digest ≡ None) }
+    {
+        Gcc {
+            gplusplus,
+            version: None,
+            assembler_digest: None,
+        }
+    }
 }
 
 fn copied_text(alloc: Global, text: &Option<String>) -> Mem<Option<String>>
