@@ -21,7 +21,7 @@ use Rattle.scl_args.proofs.PrefixLemmas.{both}
 use Rattle.scl_args.proofs.OriginLaws.{owned_word, CameUnmarked}
 use Rattle.scl_args.proofs.OwnerLaws.{owner_is}
 use Rattle.scl_args.proofs.AgainChecks.{owner-flag, flag-no_dash, owner-joined}
-use Rattle.scl_args.proofs.ReadsLaws.{reads-flag, reads-apart, reads-either_apart, reads-joined, reads-either_joined, reads-unknown, reads-raw, reads-all, reads-append, reads-nil}
+use Rattle.scl_args.proofs.ReadsLaws.{reads-flag, reads-apart, reads-either_apart, reads-joined, reads-either_joined, reads-unknown, reads-raw, reads-append, reads-nil}
 
 eq-starts : (f rest word : List ℕ) → bytes_eq (f ++ rest) word ≡ true → starts_with nat_eq word f ≡ true
 eq-starts [] rest word h = refl

@@ -8,7 +8,7 @@ use Rattle.scl_args.specs.Each.{Each}
 use Rattle.scl_args.specs.declared.argument.ArgDisposition.{ArgDisposition}
 use Rattle.scl_args.specs.declared.argument.ArgDisposition.TheVariants as how
 use Rattle.scl_args.specs.Row.{Row, bare, apart, joined, either}
-use Rattle.scl_args.specs.Cuts.{Cut, raw, unknown, flag, with_value, clean, Piece, whole, needs_value, ends_options, piece_at, owned_piece, piece_of, after_delimiter, before, cut, starts_with_dash}
+use Rattle.scl_args.specs.Cuts.{Cut, raw, unknown, flag, with_value, Piece, whole, needs_value, ends_options, piece_at, owned_piece, piece_of, after_delimiter, before, cut, starts_with_dash}
 use Rattle.scl_args.specs.Seen.{Plain, plain}
 use Rattle.scl_args.specs.Seen as plain
 use Rattle.scl_args.specs.Again.{Read, plainly, read, behind, Reads}

@@ -22,10 +22,11 @@ escaped word = flat_map escape word
 abbrev pub quoted : List ℕ → List ℕ
 quoted word = codes "\"" ++ escaped word ++ codes "\""
 
--- words between double quotes, with a comma and a space before each but the first, in brackets
+-- words between double quotes, with a comma and a space before each
 abbrev pub quoted_behind : List (List ℕ) → List ℕ
 quoted_behind words = flat_map (λ word. codes ", " ++ quoted word) words
 
+-- words between double quotes, with a comma and a space between them, in brackets
 abbrev pub quoted_list : List (List ℕ) → List ℕ
 quoted_list [] = codes "[" ++ codes "]"
 quoted_list (word ∷ words) = codes "[" ++ quoted word ++ quoted_behind words ++ codes "]"

@@ -15,7 +15,8 @@ use std::alloc::Global;
 use std::marker::{Model, PhantomData};
 
 /// Cuts the words of an iterator into options (docs/RULES.md, Cutting). The first error is the last item: the last flag
-/// lacks its value, a value can't be made of its word, or a request for memory was refused.
+/// lacks its value, a value can't be made of its word, or a request for memory was refused. Each option can be printed as
+/// text.
 #[derive(Drop)]
 pub struct ArgsIter<I, T, S> {
     alloc: Global,

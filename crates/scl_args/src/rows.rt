@@ -138,7 +138,8 @@ pub trait SearchableArgInfo<T: ArgumentValue> {
     ghost tables: { Self → List (List (Row T.Kind)) };
 
     /// The row with the longest flag among those that fit the key, and at one length the last table's; `None` only where
-    /// no row fits. The looks that it takes are added to the count (docs/RULES.md, Looks).
+    /// no row fits. Its delimiter, if it has one, is below 128. The looks that it takes are added to the count
+    /// (docs/RULES.md, Looks).
     fn search_counted(&self, key: &[u8], probes: &mut Probes) -> Option<&ArgInfo<T>>
         ensures owner { row_at result ≡ owner_in (tables self.now) key.now }
         ensures delimiter { finds_ascii_delimiter (row_at result) ≡ true }
@@ -146,7 +147,7 @@ pub trait SearchableArgInfo<T: ArgumentValue> {
         ensures rises { OnSome result (Rises probes.old probes.new) };
 
     /// The row with the longest flag among those that fit the key, and at one length the last table's; `None` only where
-    /// no row fits (docs/RULES.md, Owners).
+    /// no row fits (docs/RULES.md, Owners). Its delimiter, if it has one, is below 128.
     final fn search(&self, key: &[u8]) -> Option<&ArgInfo<T>>
         ensures owner { row_at result ≡ owner_in (tables self.now) key.now }
         ensures delimiter { finds_ascii_delimiter (row_at result) ≡ true }

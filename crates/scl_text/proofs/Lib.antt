@@ -16,7 +16,6 @@ pub mod OutputLemmas
 pub mod PathLaws
 pub mod PathLemmas
 pub mod PathMapLemmas
-pub mod ResponseFileLemmas
 pub mod SamePath
 pub mod StepLemmas
 pub mod ViewLemmas

@@ -56,22 +56,6 @@ module _ (kind : ExpansionKind) (directory : List ℕ) (files : List File) where
   abbrev CostFrom : ℕ → List ℕ → List File → ℕ
   CostFrom rest word closed = cost (λ file. steps kind directory (files_inside kind file.path closed) file.words) (opened kind directory closed word) + rest
 
-  pub left-word : (levels : List Level) (words : List (List ℕ)) (word : List ℕ) → opened kind directory (closed kind files levels) word ≡ None
-      → From (left kind directory files levels words) word (closed kind files levels) ≡ word ∷ left kind directory files levels words
-  left-word levels words word e = rw e refl
-
-  pub steps-word : (levels : List Level) (words : List (List ℕ)) (word : List ℕ) → opened kind directory (closed kind files levels) word ≡ None
-      → CostFrom (steps_left kind directory files levels words) word (closed kind files levels) ≡ 1 + steps_left kind directory files levels words
-  steps-word levels words word e = rw e refl
-
-  pub left-opened : (levels : List Level) (words : List (List ℕ)) (word : List ℕ) (level : Level) → opened kind directory (closed kind files levels) word ≡ Some level
-      → From (left kind directory files levels words) word (closed kind files levels) ≡ left kind directory files (level ∷ levels) words
-  left-opened levels words word level e = rw (e, append_assoc) refl
-
-  pub steps-opened : (levels : List Level) (words : List (List ℕ)) (word : List ℕ) (level : Level) → opened kind directory (closed kind files levels) word ≡ Some level
-      → CostFrom (steps_left kind directory files levels words) word (closed kind files levels) ≡ 1 + steps_left kind directory files (level ∷ levels) words
-  steps-opened levels words word level e = rw e (omega arith)
-
   pub left-first : (words : List (List ℕ)) (word : List ℕ) → left kind directory files [] (word ∷ words) ≡ From (left kind directory files [] words) word files
   left-first words word = expand-cons kind directory files word words
 

@@ -5,7 +5,7 @@ use Rattle.std.specs.Option.{option_map, is_some}
 use Rattle.std.specs.declared.alloc.Global.{Global}
 use Rattle.scl_text.specs.Paths.{same_path}
 use Rattle.scl_text.specs.PathMaps.{value_at, replaced_at, put_at}
-use Rattle.scl_text.specs.Views.{File, bytes_at, is_among, with_bytes, put_file, file_of, path_of}
+use Rattle.scl_text.specs.Views.{File, bytes_at, is_among, with_bytes, put_file, file_of, entry_path}
 use Rattle.scl_text.proofs.SamePath.{same_path-left, same_path-right}
 
 pub bytes_at_lem : (path : List ℕ) (entries : List (List ℕ × Vec ℕ Global)) → bytes_at path (map file_of entries) ≡ option_map (λ bytes. bytes.items) (value_at path entries)
@@ -16,10 +16,10 @@ bytes_at_lem path (entry ∷ entries) =
       | false ↦ bytes_at_lem path entries
     ]
 
-pub is_among_lem : {T : Type 0} (path : List ℕ) (entries : List (List ℕ × T)) → is_among path (map path_of entries) ≡ is_some (value_at path entries)
+pub is_among_lem : {T : Type 0} (path : List ℕ) (entries : List (List ℕ × T)) → is_among path (map entry_path entries) ≡ is_some (value_at path entries)
 is_among_lem path [] = refl
 is_among_lem path (entry ∷ entries) =
-    elim (same_path entry.0 path) as (λ b. cond b true (is_among path (map path_of entries)) ≡ is_some (cond b (Some entry.1) (value_at path entries))) [
+    elim (same_path entry.0 path) as (λ b. cond b true (is_among path (map entry_path entries)) ≡ is_some (cond b (Some entry.1) (value_at path entries))) [
       | true ↦ refl
       | false ↦ is_among_lem path entries
     ]

@@ -1,7 +1,8 @@
 -- The text of a Diab options file, from its characters.
 use Rattle.std.specs.Prelude.{◌≡◌, ℕ, ◌==◌, ◌||◌, ◌&&◌, nat_lt, not, Bool, true, cond, List, map, Option, None, Some, filter, encode_utf8_all}
 use Rattle.std.specs.List.{list_all, list_any, slice_split, join_with_byte}
-use Rattle.scl_text.specs.GnuText.{single_quote, double_quote, space, is_not_empty}
+use Rattle.scl_text.specs.Characters.{single_quote, double_quote, space}
+use Rattle.scl_text.specs.GnuText.{is_not_empty}
 
 -- U+0009 to U+000D, U+0020, U+0085, U+00A0, U+1680, U+2000 to U+200A, U+2028, U+2029, U+202F, U+205F and U+3000
 abbrev pub is_white_space : ℕ → Bool

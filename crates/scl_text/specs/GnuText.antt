@@ -1,22 +1,11 @@
 -- The GNU text of a response file, from its characters.
 use Rattle.std.specs.Prelude.{◌≡◌, ◌≢◌, ℕ, ◌==◌, ◌||◌, Bool, true, false, cond, List, [], ◌∷◌, ◌++◌, map, encode_utf8_all}
 use Rattle.std.specs.List.{list_all, join_with_byte}
-
-abbrev pub backslash : ℕ
-backslash = 92
-
-abbrev pub single_quote : ℕ
-single_quote = 39
-
-abbrev pub double_quote : ℕ
-double_quote = 34
-
-abbrev pub space : ℕ
-space = 32
+use Rattle.scl_text.specs.Characters.{space, tab, line_feed, form_feed, carriage_return, backslash, single_quote, double_quote}
 
 -- space, tab, LF, FF and CR
 abbrev pub is_gnu_separator : ℕ → Bool
-is_gnu_separator c = c == 32 || c == 9 || c == 10 || c == 12 || c == 13
+is_gnu_separator c = c == space || c == tab || c == line_feed || c == form_feed || c == carriage_return
 
 -- a piece of a text: a separator, or characters that stand for these
 pub data Piece : Type 0 where

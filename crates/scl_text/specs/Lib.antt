@@ -1,3 +1,4 @@
+pub mod Characters
 pub mod Commands
 pub mod Compilers
 pub mod Decoding

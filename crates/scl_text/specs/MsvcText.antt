@@ -1,11 +1,11 @@
 -- The MSVC text of a response file, from its characters.
 use Rattle.std.specs.Prelude.{◌≡◌, ℕ, zero, suc, ◌+◌, ◌%◌, ◌==◌, ◌||◌, ◌&&◌, ◌↔◌, not, Bool, true, false, cond, List, [], ◌∷◌, ◌++◌, length, drop, map, encode_utf8, encode_utf8_all, slice_index}
 use Rattle.std.specs.List.{flat_map, list_all, join_with_byte}
-use Rattle.scl_text.specs.GnuText.{backslash, double_quote, space}
+use Rattle.scl_text.specs.Characters.{space, tab, line_feed, carriage_return, backslash, double_quote}
 
 -- space, tab, LF and CR
 abbrev pub is_msvc_separator : ℕ → Bool
-is_msvc_separator c = c == 32 || c == 9 || c == 10 || c == 13
+is_msvc_separator c = c == space || c == tab || c == line_feed || c == carriage_return
 
 abbrev pub is_even : ℕ → Bool
 is_even n = n % 2 == 0

@@ -1,6 +1,7 @@
 -- Values by paths, and where the entries of a map stand.
 use Rattle.std.specs.Prelude.{ℕ, ◌+◌, ◌*◌, ◌%◌, ◌^◌, cond, List, [], ◌∷◌, fold, Option, None, Some, is_some}
-use Rattle.scl_text.specs.Paths.{same_path, slash, components}
+use Rattle.scl_text.specs.Characters.{slash}
+use Rattle.scl_text.specs.Paths.{same_path, components}
 
 -- the value of the first entry at the path
 abbrev pub value_at : {T : Type 0} → List ℕ → List (List ℕ × T) → Option T

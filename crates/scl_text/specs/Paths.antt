@@ -4,12 +4,7 @@ use Rattle.std.specs.List.{list_all, slice_split, starts_with, ends_with, before
 use Rattle.std.specs.Option.{option_map, option_and_then}
 use Rattle.std.specs.Str.{bytes_eq}
 use Rattle.std.specs.Cmp.Lexicographic.{pointwise}
-
-abbrev pub slash : ℕ
-slash = 47
-
-abbrev pub dot : ℕ
-dot = 46
+use Rattle.scl_text.specs.Characters.{slash, dot}
 
 abbrev pub is_slash : ℕ → Bool
 is_slash byte = byte == slash

@@ -52,5 +52,5 @@ without path (file ∷ files) = cond (same_path file.path path) (without path fi
 abbrev pub file_of : List ℕ × Vec ℕ Global → File
 file_of entry = record { path = entry.0; bytes = entry.1.items }
 
-abbrev pub path_of : {T : Type 0} → List ℕ × T → List ℕ
-path_of entry = entry.0
+abbrev pub entry_path : {T : Type 0} → List ℕ × T → List ℕ
+entry_path entry = entry.0

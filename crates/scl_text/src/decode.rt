@@ -1,7 +1,7 @@
 ghost use Rattle.std.specs.Prelude.{◌≡◌, IfOk};
-ghost use Rattle.std.specs.Option.{option_map};
+ghost use Rattle.std.specs.Option.{option_map, option_copied};
 ghost use Rattle.std.specs.String.{string_bytes};
-ghost use Rattle.scl_text.specs.Decoding.{unit_of, units, utf8_text, utf16_text, windows_char, windows_text, decoded, Utf8FilesAreReadBack, Utf16FilesAreReadBack};
+ghost use Rattle.scl_text.specs.Decoding.{unit_of, units, utf8_text, utf16_text, windows_char, windows_text, decoded};
 ghost use Rattle.scl_text.specs.Orders.{order_of};
 
 use bstr::ByteSlice;
@@ -81,15 +81,25 @@ fn utf16_text(alloc: Global, bytes: &[u8], order: Order) -> Mem<Option<String>>
     }
 }
 
-/// The text of bytes in UTF-8. None if they are malformed. The error is a refusal of memory.
-/// (docs/RULES.md, Decoding)
+/// The bytes as a text, if they are UTF-8.
 #[tactic(auto, using(crate::proofs::DecodeLemmas::utf8_rules))]
+pub(crate) fn utf8_text(bytes: &[u8]) -> Option<&str>
+    ensures { option_copied result ≡ utf8_text bytes.now }
+{
+    match bytes.to_str() {
+        Ok(text) => Some(text),
+        Err(_) => None,
+    }
+}
+
+/// The text of bytes in UTF-8, all of them: a leading mark `EF BB BF` is part of it. None if they are
+/// malformed. The error is a refusal of memory. (docs/RULES.md, Decoding)
 pub fn from_local_codepage(alloc: Global, bytes: &[u8]) -> Mem<Option<String>>
     ensures { IfOk result (λ o. option_map string_bytes o ≡ utf8_text bytes.now) }
 {
-    match bytes.to_str() {
-        Ok(text) => Ok(Some(String::from_str(alloc, text)?)),
-        Err(_) => Ok(None),
+    match utf8_text(bytes) {
+        Some(text) => Ok(Some(String::from_str(alloc, text)?)),
+        None => Ok(None),
     }
 }
 

@@ -1,9 +1,9 @@
-ghost use Rattle.std.specs.Prelude.{◌≡◌, ℕ, List, IfOk};
+ghost use Rattle.std.specs.Prelude.{◌≡◌, IfOk};
 ghost use Rattle.std.specs.List.{list_any};
 ghost use Rattle.std.specs.Option.{option_map};
 ghost use Rattle.std.specs.Str.{chars};
 ghost use Rattle.scl_args.specs.Words.{words_of};
-ghost use Rattle.scl_text.specs.DiabText.{is_quote, diab_arguments, PlainWordsAreReadBack};
+ghost use Rattle.scl_text.specs.DiabText.{is_quote, diab_arguments};
 
 use scl_args::Mem;
 use std::alloc::Global;

@@ -1,8 +1,8 @@
-ghost use Rattle.std.specs.Prelude.{◌≡◌, ℕ, List, [], ◌++◌, OnOk, IfOk};
+ghost use Rattle.std.specs.Prelude.{◌≡◌, List, [], ◌++◌, OnOk, IfOk};
 ghost use Rattle.std.specs.Str.{chars};
 ghost use Rattle.std.specs.String.{string_bytes};
 ghost use Rattle.scl_args.specs.Words.{words_of};
-ghost use Rattle.scl_text.specs.GnuText.{is_gnu_separator, keep, joined, Piece, ArePieces, gnu_arguments, TextsHavePieces, TextsHaveNoOtherPieces, GivesNoEmptyArgument, IsReadBack, gnu_quoted, gnu_escaped};
+ghost use Rattle.scl_text.specs.GnuText.{is_gnu_separator, keep, joined, Piece, ArePieces, gnu_arguments};
 ghost use Rattle.scl_text.specs.GnuReader.{mark_of, mode_after};
 
 use scl_args::Mem;

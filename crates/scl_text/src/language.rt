@@ -1,5 +1,5 @@
 //! The languages of source files, by extension and by the texts of `-x`.
-ghost use Rattle.std.specs.Prelude.{◌≡◌, IfSome, Some};
+ghost use Rattle.std.specs.Prelude.{◌≡◌};
 ghost use Rattle.std.specs.Option.{option_copied};
 ghost use Rattle.scl_text.specs.Languages.{clang_text, gcc_text, language_of_file_name, language_of_gcc_text, language_named, rows_of, needs_c_preprocessing};
 

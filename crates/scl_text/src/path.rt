@@ -1,9 +1,9 @@
 //! Paths as bytes, by their components.
-ghost use Rattle.std.specs.Prelude.{◌≡◌, ◌∷◌, ◌++◌, ◌+◌, [], ◌≤◌, None, Some, IsTrue, ◌↔◌, length, IfOk, IfSome, position, drop, take, not};
+ghost use Rattle.std.specs.Prelude.{◌≡◌, ◌++◌, ◌+◌, [], ◌≤◌, None, length, IfOk, position, drop, not};
 ghost use Rattle.std.specs.List.{before_first, suffix_len};
 ghost use Rattle.std.specs.Option.{option_copied, option_map};
 ghost use Rattle.std.specs.Iterator.{YieldsFirstBy, item_count};
-ghost use Rattle.scl_text.specs.Paths.{placed, places, places_from, start, last_place, file_place, stem_of_name, extension, join, with_extension, parent, with_file_name, same_path, components, is_file_name, is_plain_extension, extended_name, file_name, is_name, is_slash, is_dot, extension_of_name};
+ghost use Rattle.scl_text.specs.Paths.{placed, places, places_from, start, last_place, file_place, stem_of_name, extension, join, with_extension, parent, with_file_name, same_path, file_name, is_name, is_slash, is_dot, extension_of_name};
 
 use scl_args::Mem;
 use std::alloc::Global;

@@ -20,15 +20,15 @@ pub struct View {
 }
 
 impl Model for View {
-    ghost use Rattle.scl_text.specs.Views.{Viewed, file_of, path_of};
+    ghost use Rattle.scl_text.specs.Views.{Viewed, file_of, entry_path};
     ghost use Rattle.std.specs.Prelude.{map};
 
     ghost Value = { Viewed };
 
     ghost view = { λ v. record {
       files = map file_of v.files;
-      directories = map path_of v.directories;
-      existing = map path_of v.existing;
+      directories = map entry_path v.directories;
+      existing = map entry_path v.existing;
       is_multiarch = v.multiarch;
     } };
 }

@@ -1,12 +1,12 @@
-ghost use Rattle.std.specs.Prelude.{◌≡◌, map, false, true, IfOk, length};
+ghost use Rattle.std.specs.Prelude.{◌≡◌, false};
 ghost use Rattle.scl_args.specs.Words.{words_of};
 ghost use Rattle.scl_text.specs.Expand.{expand};
 ghost use Rattle.scl_text.specs.WordsToCome.{items_left, GivesWord};
 
 use super::ExpansionKind;
 use super::engine::{Expansion, Step};
-use scl_args::Mem;
 use crate::view::View;
+use scl_args::Mem;
 use std::alloc::Global;
 use std::marker::Model;
 

@@ -1,18 +1,16 @@
 ghost use Rattle.std.specs.Prelude.{◌≡◌, IfOk};
 ghost use Rattle.std.specs.Option.{option_map, option_copied};
-ghost use Rattle.std.specs.Str.{chars};
 ghost use Rattle.scl_args.specs.Words.{words_of};
 ghost use Rattle.scl_text.specs.ResponseFiles.{file_name_in, named, arguments};
 
 use super::ExpansionKind;
-use crate::decode::read_text;
+use crate::decode::{read_text, utf8_text};
 use crate::diab_text::split_diab;
 use crate::gnu_text::split_gnu_response_file_args;
 use crate::msvc_text::msvc_words;
 use crate::path::join;
 use scl_args::Mem;
 use std::alloc::Global;
-use std::str;
 
 /// The name of the file that a word names.
 pub(super) fn file_name_in(kind: ExpansionKind, word: &[u8]) -> Option<&[u8]>
@@ -42,13 +40,13 @@ pub(super) fn named(
     }
 }
 
-#[tactic(auto, using(crate::proofs::ResponseFileLemmas::argument_rules))]
+#[tactic(auto, unfolding(crate::specs::ResponseFiles::arguments))]
 fn gnu_arguments(alloc: Global, bytes: &[u8]) -> Mem<Option<Vec<Vec<u8>>>>
     ensures { IfOk result (λ words. option_map (λ w. words_of w.items) words ≡ arguments ExpansionKind.Gnu bytes.now) }
 {
-    match str::from_utf8(bytes) {
-        Ok(text) => Ok(Some(split_gnu_response_file_args(alloc, text)?)),
-        Err(_) => Ok(None),
+    match utf8_text(bytes) {
+        Some(text) => Ok(Some(split_gnu_response_file_args(alloc, text)?)),
+        None => Ok(None),
     }
 }
 
@@ -62,13 +60,13 @@ fn msvc_arguments(alloc: Global, bytes: &[u8]) -> Mem<Option<Vec<Vec<u8>>>>
     }
 }
 
-#[tactic(auto, using(crate::proofs::ResponseFileLemmas::argument_rules))]
+#[tactic(auto, unfolding(crate::specs::ResponseFiles::arguments))]
 fn diab_arguments(alloc: Global, bytes: &[u8]) -> Mem<Option<Vec<Vec<u8>>>>
     ensures { IfOk result (λ words. option_map (λ w. words_of w.items) words ≡ arguments ExpansionKind.Diab bytes.now) }
 {
-    match str::from_utf8(bytes) {
-        Ok(text) => split_diab(alloc, text),
-        Err(_) => Ok(None),
+    match utf8_text(bytes) {
+        Some(text) => split_diab(alloc, text),
+        None => Ok(None),
     }
 }
 

@@ -2,7 +2,7 @@ use Rattle.std.proofs.Common.{◌≡◌, length, arith, sym}
 use Rattle.std.specs.Str.{chars}
 use Rattle.std.proofs.lemmas.Str.{IsUtf8-past_char}
 use Rattle.scl_text.proofs.MsvcLemmas.{char_taken, shorter, text_over, nothing_left, msvc_arguments-read}
-use Rattle.scl_text.proofs.msvc_text.arguments.first_argument.Goals as goal
+use Rattle.scl_text.proofs.msvc_text.first_argument.Goals as goal
 
 pub returns-then-branch : goal.returns-then-branch
 returns-then-branch c =

@@ -2,7 +2,7 @@ use Rattle.std.proofs.Common.{◌≡◌, ◌++◌, false}
 use Rattle.std.specs.Str.{chars}
 use Rattle.scl_args.specs.Words.{words_of}
 use Rattle.scl_text.specs.MsvcText.{msvc_arguments}
-use Rattle.scl_text.proofs.msvc_text.arguments.msvc_words.Given as goal
+use Rattle.scl_text.proofs.msvc_text.msvc_words.Given as goal
 
 abbrev pub invariant-loop-argument : goal.invariant-loop-argument
 invariant-loop-argument l = record {

@@ -3,7 +3,7 @@ use Rattle.std.specs.Str.{chars, IsUtf8}
 use Rattle.std.specs.Str.Iter.{chars_rest}
 use Rattle.scl_text.specs.MsvcReader.{read_on}
 use Rattle.scl_text.specs.MsvcReader.{reads}
-use Rattle.scl_text.proofs.msvc_text.arguments.first_argument.Given as goal
+use Rattle.scl_text.proofs.msvc_text.first_argument.Given as goal
 
 abbrev pub invariant-loop-c : goal.invariant-loop-c
 invariant-loop-c l = record {
