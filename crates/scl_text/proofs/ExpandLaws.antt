@@ -1,10 +1,8 @@
 -- What is expanded, and what stays.
-use Rattle.std.proofs.Common.{◌≡◌, ℕ, Bool, true, false, cond, ◌||◌, List, [], ◌∷◌, ◌++◌, Option, None, Some, Vec, refl, sym, ap, ◌∙◌}
+use Rattle.std.proofs.Common.{◌≡◌, ℕ, Bool, true, false, cond, ◌||◌, List, [], ◌∷◌, ◌++◌, Option, None, Some, refl, sym, ap, ◌∙◌}
 use Rattle.std.proofs.lemmas.Bool.{false≢true}
 use Rattle.std.specs.List.{list_any}
 use Rattle.std.specs.Option.{option_map, is_some}
-use Rattle.std.specs.declared.alloc.Global.{Global}
-use Rattle.scl_args.specs.Words.{words_of}
 use Rattle.scl_text.specs.Paths.{same_path, join}
 use Rattle.scl_text.specs.Views.{File, bytes_at, without}
 use Rattle.scl_text.specs.ResponseFiles.{file_name_in, named, files_inside}

@@ -1,6 +1,5 @@
 -- The steps of an expansion.
 use Rattle.std.proofs.Common.{◌≡◌, ◌≢◌, ℕ, zero, suc, ◌+◌, ◌<◌, ◌≤◌, List, [], ◌∷◌, ◌++◌, length, Option, None, Some, Result, IfOk, refl, sym, ap, append_assoc, arith}
-use Rattle.std.proofs.lemmas.List.{append-nil}
 use Rattle.std.specs.declared.alloc.AllocError.{AllocError}
 use Rattle.scl_text.specs.Views.{File}
 use Rattle.scl_text.specs.ResponseFiles.{files_inside}
@@ -8,7 +7,7 @@ use Rattle.scl_text.specs.Expand.{Level, opened, in_place, expand}
 use Rattle.scl_text.specs.declared.expand.engine.Step.{Step}
 use Rattle.scl_text.specs.declared.expand.engine.Expansion.{Expansion}
 use Rattle.scl_text.specs.declared.expand.engine.WordsLeft.{WordsLeft}
-use Rattle.scl_text.specs.ExpansionState.{StepsFrom, words_left, levels, closed, left_open, left, total, cost, steps_within, steps, steps_open, steps_left}
+use Rattle.scl_text.specs.ExpansionState.{StepsFrom, words_left, levels, closed, left, total, cost, steps_within, steps, steps_left}
 use Rattle.scl_text.specs.declared.expand.ExpansionKind.{ExpansionKind}
 use Rattle.scl_text.proofs.OpenLemmas.{opened-none, opened-less}
 use Rattle.scl_text.proofs.ExpandLemmas.{no_files, expand-cons, expand-nil}

@@ -1,5 +1,5 @@
 -- What a view finds, by what its maps find.
-use Rattle.std.proofs.Common.{◌≡◌, ℕ, true, false, cond, List, [], ◌∷◌, map, Bool, Option, None, Some, Result, Ok, Err, OnOk, Vec, refl, sym, ap, ◌∙◌}
+use Rattle.std.proofs.Common.{◌≡◌, ℕ, true, false, cond, List, [], ◌∷◌, map, Bool, None, Some, Result, Ok, Err, OnOk, Vec, refl, sym, ap, ◌∙◌}
 use Rattle.std.proofs.lemmas.Bool.{false≢true}
 use Rattle.std.specs.Option.{option_map, is_some}
 use Rattle.std.specs.declared.alloc.Global.{Global}

@@ -1,4 +1,4 @@
-use Rattle.std.proofs.Common.{rules, ◌≡◌, ◌∷◌, ◌++◌, [], refl, ◌∙◌}
+use Rattle.std.proofs.Common.{rules, ◌≡◌, refl, ◌∙◌}
 use Rattle.scl_text.specs.PathMaps.{path_hash}
 use Rattle.scl_text.proofs.PathMapLemmas.{shown-push, newest-last, linked-pop}
 use Rattle.scl_text.proofs.path_map.PathMap.pop.Goals as goal
