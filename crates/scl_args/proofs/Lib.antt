@@ -22,6 +22,7 @@ pub mod PrintLaws
 pub mod PrintLemmas
 pub mod ReadsLaws
 pub mod RelationLaws
+pub mod SortLaws
 pub mod SplitLemmas
 pub mod TablesLemmas
 pub mod WordsLemmas

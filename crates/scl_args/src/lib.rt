@@ -5,6 +5,7 @@ mod argument;
 mod counted;
 mod error;
 mod escaped;
+mod finished;
 mod held;
 mod iter;
 mod judge;
@@ -15,6 +16,7 @@ mod options;
 mod piece;
 mod rows;
 mod search;
+mod sort;
 mod spell;
 mod split;
 mod strings;
@@ -26,6 +28,7 @@ pub use argument::{ArgDisposition, ArgInfo, ArgRow, Argument, Delimiter, Normali
 pub use counted::Counted;
 pub use error::{ArgParseError, ArgParseResult, ArgToStringError, ArgToStringResult};
 pub use escaped::{Escaped, quoted, quoted_list};
+pub use finished::Options;
 pub use held::{Held, ReadArg, without_value};
 pub use iter::ArgsIter;
 pub use judge::{Judge, first_refusal, judge_all};
@@ -36,6 +39,7 @@ pub use options::{
     names_file, texts,
 };
 pub use rows::{FlagTable, Probes, RowStore, SearchableArgInfo, looks};
+pub use sort::Sort;
 pub use spell::Iter;
 pub use split::split_os_string_arg;
 pub use strings::IterStrings;

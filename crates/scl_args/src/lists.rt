@@ -97,6 +97,26 @@ pub fn push_option<T: ArgumentValue, S: Sides>(
     }
 }
 
+/// Puts the words of the option behind others as `push_option` does; the word of one without a flag is moved.
+fn push_whole<T: ArgumentValue, S: Sides>(
+    alloc: Global,
+    words: &mut Vec<Vec<u8>>,
+    option: Argument<T>,
+    sides: &S,
+) -> Mem<()>
+    ensures { OnOk result (words_of words.new.items ≡ words_of words.old.items ++ spelled_on (S.side sides.now) (seen T.kind_of T.word_of option)) }
+{
+    match option {
+        Argument::Raw(word) | Argument::UnknownFlag(word) => {
+            words.push(word)?;
+            Ok(())
+        }
+        known @ (Argument::Flag(_, _) | Argument::WithValue(_, _, _)) => {
+            push_option(alloc, words, &known, sides)
+        }
+    }
+}
+
 /// The words of the options that pass, each option on the side of its flag (docs/RULES.md, Lists of options). It fails only
 /// for want of memory.
 pub fn list<T: ArgumentValue, S: Sides, P: Test<T>>(
@@ -111,6 +131,25 @@ pub fn list<T: ArgumentValue, S: Sides, P: Test<T>>(
     for option in options {
         if test.passes(option) {
             push_option(alloc, &mut words, option, sides)?;
+        }
+    }
+    Ok(words)
+}
+
+/// The words of the options that pass, each option on the side of its flag, as `list` gives them; the memory of each option
+/// is used again or given back as it goes. It fails only for want of memory.
+pub(crate) fn into_list<T: ArgumentValue, S: Sides, P: Test<T>>(
+    alloc: Global,
+    options: Vec<Argument<T>>,
+    sides: &S,
+    test: &P,
+) -> Mem<Vec<Vec<u8>>>
+    ensures { IfOk result (λ words. words_of words.items ≡ list (S.side sides.now) (P.passes test.now) (map (seen T.kind_of T.word_of) options.items)) }
+{
+    let mut words = Vec::new(alloc);
+    for option in options {
+        if test.passes(&option) {
+            push_whole(alloc, &mut words, option, sides)?;
         }
     }
     Ok(words)

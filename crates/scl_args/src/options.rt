@@ -5,24 +5,36 @@ ghost use Rattle.std.specs.List.{list_any};
 ghost use Rattle.std.specs.Option.{option_map};
 ghost use Rattle.scl_args.specs.Seen.{seen};
 ghost use Rattle.scl_args.specs.Words.{words_of};
+ghost use Rattle.scl_args.specs.Sorts.{sort_of_kinds};
 ghost use Rattle.scl_args.specs.Options.{flag_of, text_of, begins_with_at, names_file, is_dashes, is_behind_dashes, last, last_by, texts};
 
 use crate::argument::{ArgDisposition, Argument};
 use crate::held::ReadArg;
 use crate::memory::Mem;
+use crate::sort::Sort;
 use crate::value::ArgumentValue;
 use std::alloc::Global;
 
 /// A test that options pass or not (docs/RULES.md, Lists of options).
 pub trait Test<T: ArgumentValue> {
-    ghost use Rattle.std.specs.Prelude.{Bool};
+    ghost use Rattle.std.specs.Prelude.{Bool, false};
     ghost use Rattle.scl_args.specs.Seen.{Seen};
+    ghost use Rattle.scl_args.specs.Sorts.{sort_of};
+    ghost use Rattle.scl_args.specs.declared.sort.Sort.{Sort};
 
     ghost passes: { Self → Seen T.Kind → Bool };
+
+    ghost may_pass: { Self → Sort T.Kind → Bool };
+
+    ghost passes_by_sort: { (test : Self) (option : Seen T.Kind) → may_pass test (sort_of option) ≡ false → passes test option ≡ false };
 
     /// Whether the option passes.
     fn passes(&self, option: &Argument<T>) -> bool
         ensures { result ≡ passes self.now (seen T.kind_of T.word_of option.now) };
+
+    /// Whether options of the sort may pass; where this is false none does.
+    fn may_pass(&self, sort: Sort<T::Kind>) -> bool
+        ensures { result ≡ may_pass self.now sort };
 }
 
 /// The test that options of these kinds pass.
@@ -34,8 +46,13 @@ where
     T::Kind: PartialEq,
 {
     ghost use Rattle.scl_args.specs.Options.{of_kinds};
+    ghost use Rattle.scl_args.specs.Sorts.{sort_of_kinds, of_kinds_by_sort};
 
     ghost passes = { λ test. of_kinds T.Kind.eq test.0.now };
+
+    ghost may_pass = { λ test. sort_of_kinds T.Kind.eq test.0.now };
+
+    ghost passes_by_sort = { λ test. of_kinds_by_sort T.Kind.eq test.0.now };
 
     fn passes(&self, option: &Argument<T>) -> bool {
         match option {
@@ -43,6 +60,15 @@ where
             Argument::Flag(_, value) | Argument::WithValue(_, value, _) => {
                 self.0.contains(&value.kind())
             }
+        }
+    }
+
+    fn may_pass(&self, sort: Sort<T::Kind>) -> bool
+        ensures { result ≡ sort_of_kinds T.Kind.eq self.now.0.now sort }
+    {
+        match sort {
+            Sort::Raw | Sort::Unknown => false,
+            Sort::Known(kind) => self.0.contains(&kind),
         }
     }
 }

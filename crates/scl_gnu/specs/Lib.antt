@@ -7,4 +7,5 @@ pub mod Kinds
 pub mod Places
 pub mod Readings
 pub mod Recordings
+pub mod Sorts
 pub mod Verdicts

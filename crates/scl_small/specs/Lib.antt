@@ -4,6 +4,7 @@ pub mod DiabTable
 pub mod DiabValues
 pub mod Places
 pub mod Readings
+pub mod Sorts
 pub mod TaskingReading
 pub mod TaskingTable
 pub mod TaskingValues

@@ -1,11 +1,10 @@
-ghost use Rattle.std.specs.Prelude.{◌≡◌, ◌∷◌, [], IfOk, false, codes, map};
+ghost use Rattle.std.specs.Prelude.{◌≡◌, ◌∷◌, [], IfOk, false, codes};
 ghost use Rattle.std.specs.Option.{option_copied};
-ghost use Rattle.scl_args.specs.Seen.{seen};
 ghost use Rattle.scl_text.specs.Records.{outcome_of, parsed_of, path_of, artifact, artifacts};
 ghost use Rattle.scl_small.specs.Readings.{record_of, recorded, object_path, dependency_path};
 
 use crate::place::{Place, Placed};
-use scl_args::{Argument, ShortFlagsJoined, last_text, list, texts};
+use scl_args::{Options, ShortFlagsJoined};
 use scl_text::Mem;
 use scl_text::language::Language;
 use scl_text::outputs::put_output;
@@ -49,19 +48,19 @@ fn outputs_of(alloc: Global, object: Vec<u8>) -> Mem<BTreeMap<String, ArtifactDe
 /// The record of a compilation with the flag, of an input in the language.
 fn record_of<T: Placed>(
     alloc: Global,
-    options: &[Argument<T>],
+    options: Options<T>,
     flag: &str,
     input: Vec<u8>,
     language: Language,
 ) -> Mem<ParsedArguments>
-    ensures { IfOk result (λ parsed. parsed_of parsed ≡ record_of T.place (map (seen T.kind_of T.word_of) options.now) flag.now input.items language) }
+    ensures { IfOk result (λ parsed. parsed_of parsed ≡ record_of T.place options flag.now input.items language) }
 {
-    let object = object_path(alloc, last_text(options, &Place::Output), &input)?;
-    let depfile = dependency_path(alloc, last_text(options, &Place::DepFile), &input)?;
+    let object = object_path(alloc, options.last_text(&Place::Output), &input)?;
+    let depfile = dependency_path(alloc, options.last_text(&Place::DepFile), &input)?;
     let outputs = outputs_of(alloc, object)?;
-    let dependency_args = list(alloc, options, &ShortFlagsJoined, &Place::Dependency)?;
-    let preprocessor_args = list(alloc, options, &ShortFlagsJoined, &Place::Preprocessor)?;
-    let common_args = list(alloc, options, &ShortFlagsJoined, &Place::Common)?;
+    let dependency_args = options.list(alloc, &ShortFlagsJoined, &Place::Dependency)?;
+    let preprocessor_args = options.list(alloc, &ShortFlagsJoined, &Place::Preprocessor)?;
+    let common_args = options.into_list(alloc, &ShortFlagsJoined, &Place::Common)?;
     let flag = Vec::from_slice(alloc, flag.as_bytes())?;
     Ok(ParsedArguments {
         depfile,
@@ -76,12 +75,12 @@ fn record_of<T: Placed>(
 /// The answer for a compilation with the flag: the tests of inputs and language, and the record.
 pub(crate) fn answer<T: Placed>(
     alloc: Global,
-    options: &[Argument<T>],
+    options: Options<T>,
     flag: &str,
 ) -> Mem<CompilerArguments<ParsedArguments>>
-    ensures { IfOk result (λ answer. outcome_of answer ≡ recorded T.place (map (seen T.kind_of T.word_of) options.now) flag.now) }
+    ensures { IfOk result (λ answer. outcome_of answer ≡ recorded T.place options flag.now) }
 {
-    let input = match one_input(alloc, texts(alloc, options, &Place::Input)?)? {
+    let input = match one_input(alloc, options.texts(alloc, &Place::Input)?)? {
         Ok(input) => input,
         Err(refusal) => return Ok(refusal.without_text().into_answer()),
     };

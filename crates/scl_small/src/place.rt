@@ -3,9 +3,10 @@ ghost use Rattle.std.specs.Option.{option_map};
 ghost use Rattle.scl_args.specs.Seen.{seen};
 ghost use Rattle.scl_text.specs.Refusals.{verdict_of};
 ghost use Rattle.scl_small.specs.Places.{place_of, refused_at};
+ghost use Rattle.scl_small.specs.Sorts.{place_of_sort, sort_goes_to};
 ghost use Rattle.scl_small.specs.declared.place.Place.{Place};
 
-use scl_args::{Argument, ExactArg, ReadArg, Test};
+use scl_args::{Argument, ExactArg, ReadArg, Sort, Test};
 use scl_text::refusal::Refusal;
 
 /// Where an option goes, or how it ends the reading (docs/RULES.md, Diab and TaskingVX).
@@ -40,6 +41,17 @@ pub(crate) trait Placed: ExactArg + ReadArg {
         ensures { result ≡ place kind };
 }
 
+/// Where options of the sort go.
+fn place_of_sort<T: Placed>(sort: Sort<T::Kind>) -> Place
+    ensures { result ≡ place_of_sort T.place sort }
+{
+    match sort {
+        Sort::Raw => Place::Input,
+        Sort::Unknown => Place::Common,
+        Sort::Known(kind) => T::place(kind),
+    }
+}
+
 /// Where an option goes.
 fn place_of<T: Placed>(option: &Argument<T>) -> Place
     ensures { result ≡ place_of T.place (seen T.kind_of T.word_of option.now) }
@@ -53,11 +65,22 @@ fn place_of<T: Placed>(option: &Argument<T>) -> Place
 
 impl<T: Placed> Test<T> for Place {
     ghost use Rattle.scl_small.specs.Places.{goes_to};
+    ghost use Rattle.scl_small.specs.Sorts.{sort_goes_to, goes_by_sort};
 
     ghost passes = { goes_to T.place };
 
+    ghost may_pass = { sort_goes_to T.place };
+
+    ghost passes_by_sort = { goes_by_sort T.place };
+
     fn passes(&self, option: &Argument<T>) -> bool {
         place_of(option) == *self
+    }
+
+    fn may_pass(&self, sort: Sort<T::Kind>) -> bool
+        ensures { result ≡ sort_goes_to T.place self.now sort }
+    {
+        place_of_sort::<T>(sort) == *self
     }
 }
 

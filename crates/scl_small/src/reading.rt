@@ -22,7 +22,7 @@ pub(crate) fn read<T: Rules, S: SearchableArgInfo<T> + Drop>(
 {
     let cut = cut_options(alloc, words, arg_info, false)?;
     match judge_all(alloc, &ByRules, cut)? {
-        Ok(options) => T::test(alloc, &options),
+        Ok(options) => T::test(alloc, options),
         Err(refusal) => Ok(refusal.into_answer()),
     }
 }

@@ -22,8 +22,8 @@ pub(crate) trait Rules: Placed {
         ensures { option_map verdict_of result ≡ verdict (seen Self.kind_of Self.word_of option.now) };
 
     /// The fixed tests of all options, and the record.
-    fn test(alloc: Global, options: &[Argument<Self>]) -> Mem<CompilerArguments<ParsedArguments>>
-        ensures { IfOk result (λ answer. outcome_of answer ≡ tested (map (seen Self.kind_of Self.word_of) options.now)) };
+    fn test(alloc: Global, options: Vec<Argument<Self>>) -> Mem<CompilerArguments<ParsedArguments>>
+        ensures { IfOk result (λ answer. outcome_of answer ≡ tested (map (seen Self.kind_of Self.word_of) options.items)) };
 }
 
 /// Judges each option by itself.

@@ -1,14 +1,12 @@
 //! The words that are added to the lists of a command.
-ghost use Rattle.std.specs.Prelude.{◌≡◌, ◌++◌, ◌∷◌, [], OnOk, IfOk, codes, map, is_some};
+ghost use Rattle.std.specs.Prelude.{◌≡◌, ◌++◌, ◌∷◌, [], OnOk, IfOk, codes, is_some};
 ghost use Rattle.scl_text.specs.Paths.{with_extension};
-ghost use Rattle.scl_args.specs.Seen.{seen};
 ghost use Rattle.scl_args.specs.Words.{words_of};
-ghost use Rattle.scl_gnu.specs.Data.{kind_of, word_of};
 ghost use Rattle.scl_gnu.specs.Kinds.{last_text, last_flag};
 ghost use Rattle.scl_gnu.specs.Recordings.{added_common, added_depfile, added_dependency};
 
 use super::data::{ArgData, Kind};
-use scl_args::{Argument, Mem, OfKinds, last_flag, last_text};
+use scl_args::{Mem, OfKinds, Options};
 use scl_text::command::push_word;
 use scl_text::path::with_extension;
 use std::alloc::Global;
@@ -58,18 +56,24 @@ pub(crate) fn add_dependency(
     alloc: Global,
     dependency: &mut Vec<Vec<u8>>,
     is_needed: bool,
-    options: &[Argument<ArgData>],
+    options: &Options<ArgData>,
     object: &[u8],
 ) -> Mem<()>
-    ensures { let os = map (seen kind_of word_of) options.now in OnOk result (words_of dependency.new.items ≡ words_of dependency.old.items
-        ++ added_dependency is_needed (is_some (last_text (Kind.DepArgumentPath ∷ []) os)) (last_flag (Kind.DepTarget ∷ []) os) (last_text (Kind.DepTarget ∷ []) os) object.now) }
+    ensures { OnOk result (words_of dependency.new.items ≡ words_of dependency.old.items
+        ++ added_dependency is_needed (is_some (last_text (Kind.DepArgumentPath ∷ []) options.now)) (last_flag (Kind.DepTarget ∷ []) options.now) (last_text (Kind.DepTarget ∷ []) options.now) object.now) }
 {
     if !is_needed {
         return Ok(());
     }
-    let flag = last_flag(options, &OfKinds(&[Kind::DepTarget])).unwrap_or("-MT");
-    let target = last_text(options, &OfKinds(&[Kind::DepTarget])).unwrap_or(object);
-    let has_path = last_text(options, &OfKinds(&[Kind::DepArgumentPath])).is_some();
+    let flag = options
+        .last_flag(&OfKinds(&[Kind::DepTarget]))
+        .unwrap_or("-MT");
+    let target = options
+        .last_text(&OfKinds(&[Kind::DepTarget]))
+        .unwrap_or(object);
+    let has_path = options
+        .last_text(&OfKinds(&[Kind::DepArgumentPath]))
+        .is_some();
     push_word(alloc, dependency, flag.as_bytes())?;
     push_word(alloc, dependency, target)?;
     add_depfile(alloc, dependency, has_path, object)

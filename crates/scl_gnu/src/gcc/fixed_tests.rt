@@ -1,5 +1,5 @@
 //! The tests that follow the verdicts of the options.
-ghost use Rattle.std.specs.Prelude.{◌≡◌, ◌++◌, IfOk, codes, unwrap_or, [], ◌∷◌, map};
+ghost use Rattle.std.specs.Prelude.{◌≡◌, ◌++◌, IfOk, codes, unwrap_or, [], ◌∷◌};
 ghost use Rattle.std.specs.Option.{option_copied};
 ghost use Rattle.scl_text.specs.Paths.{extension};
 ghost use Rattle.scl_text.specs.Records.{path_of};
@@ -7,13 +7,11 @@ ghost use Rattle.scl_text.specs.Refusals.{verdict_of};
 ghost use Rattle.scl_gnu.specs.FixedTests.{driven, language_of, object_of, with_pcm, module_path_of, module_path_unless, found};
 ghost use Rattle.scl_gnu.specs.FoundBy.{found_of};
 ghost use Rattle.scl_args.specs.Options.{result_by};
-ghost use Rattle.scl_args.specs.Seen.{seen};
-ghost use Rattle.scl_gnu.specs.Data.{kind_of, word_of};
 ghost use Rattle.scl_gnu.specs.Kinds.{any, last_text};
 
 use super::data::{ArgData, Kind};
 use super::inputs::Inputs;
-use scl_args::{Argument, Mem, OfKinds, any, last_flag, last_text, texts};
+use scl_args::{Mem, OfKinds, Options};
 use scl_text::language::Language;
 use scl_text::path::{extension, file_name, with_extension, with_file_name};
 use scl_text::reasons::{INVALID_INPUT_FILE, UNKNOWN_SOURCE_LANGUAGE};
@@ -99,40 +97,40 @@ fn module_path_of(
 
 fn module_path(
     alloc: Global,
-    options: &[Argument<ArgData>],
+    options: &Options<ArgData>,
     input: &[u8],
     object: &[u8],
 ) -> Mem<Result<Option<Vec<u8>>, Refusal>>
-    ensures { let os = map (seen kind_of word_of) options.now in IfOk result (λ tested. result_by path_of verdict_of tested
-        ≡ module_path_unless (any (Kind.ModuleOnlyFlag ∷ []) os) (last_text (Kind.ClangModuleOutput ∷ []) os) input.now object.now) }
+    ensures { IfOk result (λ tested. result_by path_of verdict_of tested
+        ≡ module_path_unless (any (Kind.ModuleOnlyFlag ∷ []) options.now) (last_text (Kind.ClangModuleOutput ∷ []) options.now) input.now object.now) }
 {
-    if any(options, &OfKinds(&[Kind::ModuleOnlyFlag])) {
+    if options.any(&OfKinds(&[Kind::ModuleOnlyFlag])) {
         return Ok(Ok(None));
     }
-    let text = last_text(options, &OfKinds(&[Kind::ClangModuleOutput]));
+    let text = options.last_text(&OfKinds(&[Kind::ClangModuleOutput]));
     module_path_of(alloc, text, input, object)
 }
 
 /// The tests in their order.
 pub(crate) fn find(
     alloc: Global,
-    options: &[Argument<ArgData>],
+    options: &Options<ArgData>,
     plusplus: bool,
 ) -> Mem<Result<Finding, Refusal>>
-    ensures { IfOk result (λ tested. result_by found_of verdict_of tested ≡ found plusplus (map (seen kind_of word_of) options.now)) }
+    ensures { IfOk result (λ tested. result_by found_of verdict_of tested ≡ found plusplus options.now) }
 {
-    let Some(compile_flag) = last_flag(options, &OfKinds(&[Kind::DoCompilation])) else {
+    let Some(compile_flag) = options.last_flag(&OfKinds(&[Kind::DoCompilation])) else {
         return Ok(Err(Refusal::NotCompilation));
     };
-    let input = match one_input(alloc, texts(alloc, options, &Inputs)?)? {
+    let input = match one_input(alloc, options.texts(alloc, &Inputs)?)? {
         Ok(input) => input,
         Err(refusal) => return Ok(Err(refusal)),
     };
-    let text = last_text(options, &OfKinds(&[Kind::Language]));
+    let text = options.last_text(&OfKinds(&[Kind::Language]));
     let Some(language) = language_of(plusplus, text, &input) else {
         return Ok(Err(Refusal::CannotCache(UNKNOWN_SOURCE_LANGUAGE, None)));
     };
-    let output = last_text(options, &OfKinds(&[Kind::Output]));
+    let output = options.last_text(&OfKinds(&[Kind::Output]));
     let Some(object) = object_of(alloc, output, &input)? else {
         return Ok(Err(Refusal::CannotCache(INVALID_INPUT_FILE, None)));
     };

@@ -6,10 +6,11 @@ ghost use Rattle.scl_args.specs.Words.{words_of};
 ghost use Rattle.scl_gnu.specs.Data.{kind_of, word_of};
 ghost use Rattle.scl_gnu.specs.Kinds.{hash_role, hashed_by, hashed};
 ghost use Rattle.scl_gnu.specs.Recordings.{hash_path};
+ghost use Rattle.scl_gnu.specs.Sorts.{may_name_hashed};
 
 use super::data::{ArgData, Kind};
 use super::hash_paths::path_as;
-use scl_args::{Argument, Mem, ReadArg};
+use scl_args::{Argument, Mem, Options, ReadArg, Sort, Test};
 use scl_text::view::View;
 use std::alloc::Global;
 
@@ -56,8 +57,38 @@ fn push_path(
     }
 }
 
-/// The paths of the files that the options name, from the directory.
-pub(crate) fn hash_paths(
+/// The options that name such files.
+struct Hashed;
+
+impl Test<ArgData> for Hashed {
+    ghost use Rattle.scl_gnu.specs.Sorts.{names_hashed, may_name_hashed, hashed_by_sort};
+
+    ghost passes = { λ _. names_hashed };
+
+    ghost may_pass = { λ _. may_name_hashed };
+
+    ghost passes_by_sort = { λ _. hashed_by_sort };
+
+    fn passes(&self, option: &Argument<ArgData>) -> bool {
+        match option {
+            Argument::Raw(_) | Argument::UnknownFlag(_) => false,
+            Argument::Flag(_, value) | Argument::WithValue(_, value, _) => {
+                hash_role(value.kind()).is_some()
+            }
+        }
+    }
+
+    fn may_pass(&self, sort: Sort<Kind>) -> bool
+        ensures { result ≡ may_name_hashed sort }
+    {
+        match sort {
+            Sort::Raw | Sort::Unknown => false,
+            Sort::Known(kind) => hash_role(kind).is_some(),
+        }
+    }
+}
+
+fn paths_of(
     alloc: Global,
     options: &[Argument<ArgData>],
     cwd: &[u8],
@@ -70,4 +101,16 @@ pub(crate) fn hash_paths(
         push_path(alloc, &mut paths, option, cwd, view)?;
     }
     Ok(paths)
+}
+
+/// The paths of the files that the options name, from the directory.
+pub(crate) fn hash_paths(
+    alloc: Global,
+    options: &Options<ArgData>,
+    cwd: &[u8],
+    view: &View,
+) -> Mem<Vec<Vec<u8>>>
+    ensures { IfOk result (λ paths. words_of paths.items ≡ map (hash_path cwd.now view.now) (hashed options.now)) }
+{
+    paths_of(alloc, options.among(&Hashed), cwd, view)
 }

@@ -1,16 +1,14 @@
 //! The outputs of a compilation.
-ghost use Rattle.std.specs.Prelude.{◌≡◌, IfOk, OnOk, map};
+ghost use Rattle.std.specs.Prelude.{◌≡◌, IfOk, OnOk};
 ghost use Rattle.std.specs.Option.{option_copied};
-ghost use Rattle.scl_args.specs.Seen.{seen};
 ghost use Rattle.scl_text.specs.Paths.{with_extension};
 ghost use Rattle.scl_text.specs.Records.{artifacts, path_of};
 ghost use Rattle.scl_gnu.specs.FoundBy.{found_of, paths_of};
-ghost use Rattle.scl_gnu.specs.Data.{kind_of, word_of};
 ghost use Rattle.scl_gnu.specs.Recordings.{only_if, unless_absent, output_paths, outputs, put_optional};
 
 use super::data::{ArgData, Kind};
 use super::fixed_tests::Finding;
-use scl_args::{Argument, Mem, OfKinds, any, last_text};
+use scl_args::{Mem, OfKinds, Options};
 use scl_text::outputs::put_output;
 use scl_text::path::with_extension;
 use scl_text::records::ArtifactDescriptor;
@@ -63,16 +61,16 @@ fn copied_if(alloc: Global, is_wanted: bool, path: Option<&[u8]>) -> Mem<Option<
 /// Where the compilation puts what it makes.
 pub(crate) fn output_files(
     alloc: Global,
-    options: &[Argument<ArgData>],
+    options: &Options<ArgData>,
     found: &Finding,
 ) -> Mem<OutputFiles>
-    ensures { IfOk result (λ files. paths_of files ≡ output_paths (map (seen kind_of word_of) options.now) (found_of found.now)) }
+    ensures { IfOk result (λ files. paths_of files ≡ output_paths options.now (found_of found.now)) }
 {
     let has_depfile = found.language.needs_c_preprocessing();
-    let dep_path = last_text(options, &OfKinds(&[Kind::DepArgumentPath]));
-    let diagnostics = last_text(options, &OfKinds(&[Kind::SerializeDiagnostics]));
-    let has_dwo = any(options, &OfKinds(&[Kind::SplitDwarf]));
-    let has_notes = any(options, &OfKinds(&[Kind::Coverage, Kind::TestCoverage]));
+    let dep_path = options.last_text(&OfKinds(&[Kind::DepArgumentPath]));
+    let diagnostics = options.last_text(&OfKinds(&[Kind::SerializeDiagnostics]));
+    let has_dwo = options.any(&OfKinds(&[Kind::SplitDwarf]));
+    let has_notes = options.any(&OfKinds(&[Kind::Coverage, Kind::TestCoverage]));
     Ok(OutputFiles {
         depfile: copied_if(alloc, has_depfile, dep_path)?,
         diagnostics: copied(alloc, diagnostics)?,

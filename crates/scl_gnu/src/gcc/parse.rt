@@ -13,7 +13,7 @@ use super::data::ArgData;
 use super::fixed_tests::find;
 use super::judge::ByVerdict;
 use super::record::{is_clang, record_of};
-use scl_args::{Argument, CutWords, Mem, SearchableArgInfo, cut_options, judge_all};
+use scl_args::{CutWords, Mem, Options, SearchableArgInfo, cut_options, judge_all};
 use scl_text::records::{CCompilerKind, CompilerArguments, ParsedArguments};
 use scl_text::view::View;
 use scl_text::{ExpansionKind, expand_all};
@@ -22,15 +22,15 @@ use std::alloc::Global;
 /// The tests of options that are not refused, and the record of what they find.
 fn answer(
     alloc: Global,
-    options: &[Argument<ArgData>],
+    options: Options<ArgData>,
     kind: CCompilerKind,
     plusplus: bool,
     cwd: &[u8],
     view: &View,
 ) -> Mem<CompilerArguments<ParsedArguments>>
-    ensures { IfOk result (λ answer. outcome_of answer ≡ recorded kind plusplus cwd.now view.now (map (seen kind_of word_of) options.now)) }
+    ensures { IfOk result (λ answer. outcome_of answer ≡ recorded kind plusplus cwd.now view.now options) }
 {
-    match find(alloc, options, plusplus)? {
+    match find(alloc, &options, plusplus)? {
         Ok(found) => {
             let record = record_of(alloc, options, found, kind, cwd, view)?;
             Ok(CompilerArguments::Ok(record))
@@ -55,7 +55,10 @@ fn read(
         multiarch: view.multiarch(),
     };
     match judge_all(alloc, &judge, cut)? {
-        Ok(options) => answer(alloc, &options, kind, plusplus, cwd, view),
+        Ok(options) => {
+            let options = Options::new(alloc, options)?;
+            answer(alloc, options, kind, plusplus, cwd, view)
+        }
         Err(refusal) => Ok(refusal.into_answer()),
     }
 }

@@ -3,9 +3,10 @@ ghost use Rattle.std.specs.Prelude.{◌≡◌};
 ghost use Rattle.scl_args.specs.Seen.{seen};
 ghost use Rattle.scl_gnu.specs.Data.{kind_of, word_of};
 ghost use Rattle.scl_gnu.specs.Places.{place, place_of};
+ghost use Rattle.scl_gnu.specs.Sorts.{place_of_sort, sort_goes_to};
 
 use super::data::{ArgData, Kind};
-use scl_args::{Argument, ReadArg, Test};
+use scl_args::{Argument, ReadArg, Sort, Test};
 
 /// Where the words of an option go: to a list of the command, or nowhere; or the option is refused
 /// (docs/RULES.md, Gcc).
@@ -63,6 +64,17 @@ pub(crate) fn place_of_kind(kind: Kind) -> Place
     }
 }
 
+/// Where the words of options of the sort go: an unknown flag to the common words, a word that is no option nowhere.
+fn place_of_sort(sort: Sort<Kind>) -> Place
+    ensures { result ≡ place_of_sort sort }
+{
+    match sort {
+        Sort::Raw => Place::Nowhere,
+        Sort::Unknown => Place::Common,
+        Sort::Known(kind) => place_of_kind(kind),
+    }
+}
+
 /// Where the words of the option go: an unknown flag to the common words, a word that is no option nowhere.
 pub(crate) fn place_of(option: &Argument<ArgData>) -> Place
     ensures { result ≡ place_of (seen kind_of word_of option.now) }
@@ -76,10 +88,21 @@ pub(crate) fn place_of(option: &Argument<ArgData>) -> Place
 
 impl Test<ArgData> for Place {
     ghost use Rattle.scl_gnu.specs.Places.{goes_to};
+    ghost use Rattle.scl_gnu.specs.Sorts.{sort_goes_to, goes_by_sort};
 
     ghost passes = { goes_to };
 
+    ghost may_pass = { sort_goes_to };
+
+    ghost passes_by_sort = { goes_by_sort };
+
     fn passes(&self, option: &Argument<ArgData>) -> bool {
         place_of(option) == *self
+    }
+
+    fn may_pass(&self, sort: Sort<Kind>) -> bool
+        ensures { result ≡ sort_goes_to self.now sort }
+    {
+        place_of_sort(sort) == *self
     }
 }

@@ -1,10 +1,8 @@
 //! The record of a compilation.
-ghost use Rattle.std.specs.Prelude.{◌≡◌, ◌&&◌, ◌++◌, ◌∷◌, [], IfOk, map};
+ghost use Rattle.std.specs.Prelude.{◌≡◌, ◌&&◌, ◌++◌, ◌∷◌, [], IfOk};
 ghost use Rattle.std.specs.Option.{option_copied};
-ghost use Rattle.scl_args.specs.Seen.{seen};
 ghost use Rattle.scl_text.specs.Records.{parsed_of, path_of};
 ghost use Rattle.scl_args.specs.Words.{words_of};
-ghost use Rattle.scl_gnu.specs.Data.{kind_of, word_of};
 ghost use Rattle.scl_gnu.specs.FoundBy.{found_of};
 ghost use Rattle.scl_gnu.specs.Kinds.{any, last_text};
 ghost use Rattle.scl_gnu.specs.Places.{words_at};
@@ -18,7 +16,7 @@ use super::inputs::Inputs;
 use super::outputs::output_files;
 use super::place::Place;
 use super::switches::{color_mode, external_assembler, too_hard_flag};
-use scl_args::{Argument, Mem, OfKinds, ShortFlagsJoined, any, is_behind_dashes, last_text, list};
+use scl_args::{Mem, OfKinds, Options, ShortFlagsJoined};
 use scl_text::language::Language;
 use scl_text::records::{CCompilerKind, ColorMode, ParsedArguments};
 use scl_text::view::View;
@@ -56,79 +54,75 @@ fn copied_flag(alloc: Global, flag: Option<&'static str>) -> Mem<Option<Vec<u8>>
 }
 
 /// Whether the words about dependencies need a target.
-fn needs_target(language: Language, options: &[Argument<ArgData>]) -> bool
-    ensures { result ≡ needs_target language (map (seen kind_of word_of) options.now) }
+fn needs_target(language: Language, options: &Options<ArgData>) -> bool
+    ensures { result ≡ needs_target language options.now }
 {
-    language.needs_c_preprocessing() && any(options, &OfKinds(&[Kind::NeedDepTarget]))
+    language.needs_c_preprocessing() && options.any(&OfKinds(&[Kind::NeedDepTarget]))
 }
 
-fn dependency_words(
-    alloc: Global,
-    options: &[Argument<ArgData>],
-    found: &Finding,
-) -> Mem<Vec<Vec<u8>>>
-    ensures { IfOk result (λ words. words_of words.items ≡ dependency_words (map (seen kind_of word_of) options.now) (found_of found.now)) }
+fn dependency_words(alloc: Global, options: &Options<ArgData>, found: &Finding) -> Mem<Vec<Vec<u8>>>
+    ensures { IfOk result (λ words. words_of words.items ≡ dependency_words options.now (found_of found.now)) }
 {
-    let mut words = list(alloc, options, &ShortFlagsJoined, &Place::Dependency)?;
+    let mut words = options.list(alloc, &ShortFlagsJoined, &Place::Dependency)?;
     let is_needed = needs_target(found.language, options);
     add_dependency(alloc, &mut words, is_needed, options, &found.object)?;
     Ok(words)
 }
 
-fn common_words(alloc: Global, options: &[Argument<ArgData>], object: &[u8]) -> Mem<Vec<Vec<u8>>>
-    ensures { let os = map (seen kind_of word_of) options.now in IfOk result (λ words. words_of words.items
-        ≡ words_at Place.Common os ++ added_common (any (Kind.SplitDwarf ∷ []) os) object.now) }
+/// The common words; they take over the words of the options, as the last of the lists.
+fn common_words(alloc: Global, options: Options<ArgData>, object: &[u8]) -> Mem<Vec<Vec<u8>>>
+    ensures { IfOk result (λ words. words_of words.items
+        ≡ words_at Place.Common options ++ added_common (any (Kind.SplitDwarf ∷ []) options) object.now) }
 {
-    let mut words = list(alloc, options, &ShortFlagsJoined, &Place::Common)?;
-    let is_split = any(options, &OfKinds(&[Kind::SplitDwarf]));
+    let is_split = options.any(&OfKinds(&[Kind::SplitDwarf]));
+    let mut words = options.into_list(alloc, &ShortFlagsJoined, &Place::Common)?;
     add_split_dwarf(alloc, &mut words, is_split, object)?;
     Ok(words)
 }
 
 /// Whether includes that were rewritten would change what a pedantic Gcc says.
-fn suppresses_rewritten_includes(kind: CCompilerKind, options: &[Argument<ArgData>]) -> bool
-    ensures { result ≡ suppresses_rewritten_includes kind (map (seen kind_of word_of) options.now) }
+fn suppresses_rewritten_includes(kind: CCompilerKind, options: &Options<ArgData>) -> bool
+    ensures { result ≡ suppresses_rewritten_includes kind options.now }
 {
     is_gcc(kind)
-        && any(options, &OfKinds(&[Kind::PedanticFlag]))
-        && has_extensions(last_text(options, &OfKinds(&[Kind::Standard])))
+        && options.any(&OfKinds(&[Kind::PedanticFlag]))
+        && has_extensions(options.last_text(&OfKinds(&[Kind::Standard])))
 }
 
 /// The record of the compilation that the tests found.
 pub(crate) fn record_of(
     alloc: Global,
-    options: &[Argument<ArgData>],
+    options: Options<ArgData>,
     found: Finding,
     kind: CCompilerKind,
     cwd: &[u8],
     view: &View,
 ) -> Mem<ParsedArguments>
-    ensures { IfOk result (λ parsed. parsed_of parsed ≡ record_of kind cwd.now view.now (map (seen kind_of word_of) options.now) (found_of found)) }
+    ensures { IfOk result (λ parsed. parsed_of parsed ≡ record_of kind cwd.now view.now options (found_of found)) }
 {
-    let outputs = output_files(alloc, options, &found)?.into_outputs(alloc)?;
-    let dependency_args = dependency_words(alloc, options, &found)?;
-    let common_args = common_words(alloc, options, &found.object)?;
+    let outputs = output_files(alloc, &options, &found)?.into_outputs(alloc)?;
+    let dependency_args = dependency_words(alloc, &options, &found)?;
     let profile = OfKinds(&[Kind::Coverage, Kind::TestCoverage, Kind::ProfileGenerate]);
     Ok(ParsedArguments {
         input: found.input,
-        double_dash_input: is_behind_dashes(options, &Inputs),
+        double_dash_input: options.is_behind_dashes(&Inputs),
         language: found.language,
         compilation_flag: Vec::from_slice(alloc, found.compile_flag.as_bytes())?,
         depfile: None,
         outputs,
         dependency_args,
-        preprocessor_args: list(alloc, options, &ShortFlagsJoined, &Place::Preprocessor)?,
-        common_args,
-        arch_args: list(alloc, options, &ShortFlagsJoined, &Place::Arch)?,
-        unhashed_args: list(alloc, options, &ShortFlagsJoined, &Place::Unhashed)?,
+        preprocessor_args: options.list(alloc, &ShortFlagsJoined, &Place::Preprocessor)?,
+        arch_args: options.list(alloc, &ShortFlagsJoined, &Place::Arch)?,
+        unhashed_args: options.list(alloc, &ShortFlagsJoined, &Place::Unhashed)?,
         extra_dist_files: Vec::new(alloc),
-        extra_hash_files: hash_paths(alloc, options, cwd, view)?,
-        uses_external_assembler: external_assembler(options).unwrap_or(!is_clang(kind)),
+        extra_hash_files: hash_paths(alloc, &options, cwd, view)?,
+        uses_external_assembler: external_assembler(&options).unwrap_or(!is_clang(kind)),
         msvc_show_includes: false,
         msvc_explicit_language: false,
-        profile_generate: any(options, &profile),
-        color_mode: color_mode(options).unwrap_or(ColorMode::Auto),
-        suppress_rewrite_includes_only: suppresses_rewritten_includes(kind, options),
-        too_hard_for_preprocessor_cache_mode: copied_flag(alloc, too_hard_flag(options))?,
+        profile_generate: options.any(&profile),
+        color_mode: color_mode(&options).unwrap_or(ColorMode::Auto),
+        suppress_rewrite_includes_only: suppresses_rewritten_includes(kind, &options),
+        too_hard_for_preprocessor_cache_mode: copied_flag(alloc, too_hard_flag(&options))?,
+        common_args: common_words(alloc, options, &found.object)?,
     })
 }

@@ -1,12 +1,13 @@
 //! What options switch: the colour of messages, the assembler, and what a cache of preprocessor runs can see.
-ghost use Rattle.std.specs.Prelude.{◌≡◌, map};
+ghost use Rattle.std.specs.Prelude.{◌≡◌};
 ghost use Rattle.std.specs.Option.{option_copied};
 ghost use Rattle.scl_args.specs.Seen.{seen};
 ghost use Rattle.scl_gnu.specs.Data.{kind_of, word_of};
+ghost use Rattle.scl_gnu.specs.Sorts.{may_be_too_hard};
 ghost use Rattle.scl_gnu.specs.Kinds.{color_named, color_of, assembler_of, is_hidden_flag, color_mode, external_assembler, too_hard_flag};
 
 use super::data::{ArgData, Kind};
-use scl_args::{Argument, OfKinds, Test, last_by, last_flag};
+use scl_args::{Argument, OfKinds, Options, Sort, Test};
 use scl_text::records::ColorMode;
 
 /// The colour that a value asks for.
@@ -37,15 +38,15 @@ fn color_of(option: &Argument<ArgData>) -> ColorMode
 }
 
 /// The colour that was asked for last.
-pub(crate) fn color_mode(options: &[Argument<ArgData>]) -> Option<ColorMode>
-    ensures { result ≡ color_mode (map (seen kind_of word_of) options.now) }
+pub(crate) fn color_mode(options: &Options<ArgData>) -> Option<ColorMode>
+    ensures { result ≡ color_mode options.now }
 {
     let kinds = [
         Kind::DiagnosticsColor,
         Kind::DiagnosticsColorFlag,
         Kind::NoDiagnosticsColorFlag,
     ];
-    match last_by(options, &OfKinds(&kinds)) {
+    match options.last_by(&OfKinds(&kinds)) {
         Some(option) => Some(color_of(option)),
         None => None,
     }
@@ -62,13 +63,10 @@ fn assembler_of(option: &Argument<ArgData>) -> bool
 }
 
 /// Whether the assembler that was asked for last is a program of its own.
-pub(crate) fn external_assembler(options: &[Argument<ArgData>]) -> Option<bool>
-    ensures { result ≡ external_assembler (map (seen kind_of word_of) options.now) }
+pub(crate) fn external_assembler(options: &Options<ArgData>) -> Option<bool>
+    ensures { result ≡ external_assembler options.now }
 {
-    match last_by(
-        options,
-        &OfKinds(&[Kind::IntegratedAs, Kind::NoIntegratedAs]),
-    ) {
+    match options.last_by(&OfKinds(&[Kind::IntegratedAs, Kind::NoIntegratedAs])) {
         Some(option) => Some(assembler_of(option)),
         None => None,
     }
@@ -85,8 +83,13 @@ struct Hidden;
 
 impl Test<ArgData> for Hidden {
     ghost use Rattle.scl_gnu.specs.Kinds.{is_too_hard};
+    ghost use Rattle.scl_gnu.specs.Sorts.{may_be_too_hard, too_hard_by_sort};
 
     ghost passes = { λ _. is_too_hard };
+
+    ghost may_pass = { λ _. may_be_too_hard };
+
+    ghost passes_by_sort = { λ _. too_hard_by_sort };
 
     fn passes(&self, option: &Argument<ArgData>) -> bool {
         match option {
@@ -97,11 +100,17 @@ impl Test<ArgData> for Hidden {
             _ => false,
         }
     }
+
+    fn may_pass(&self, sort: Sort<Kind>) -> bool
+        ensures { result ≡ may_be_too_hard sort }
+    {
+        sort == Sort::Known(Kind::PreprocessorArgument)
+    }
 }
 
 /// The flag of the last of those options.
-pub(crate) fn too_hard_flag(options: &[Argument<ArgData>]) -> Option<&'static str>
-    ensures { option_copied result ≡ too_hard_flag (map (seen kind_of word_of) options.now) }
+pub(crate) fn too_hard_flag(options: &Options<ArgData>) -> Option<&'static str>
+    ensures { option_copied result ≡ too_hard_flag options.now }
 {
-    last_flag(options, &Hidden)
+    options.last_flag(&Hidden)
 }

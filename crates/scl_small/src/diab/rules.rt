@@ -1,8 +1,14 @@
+ghost use Rattle.std.specs.Prelude.{◌≡◌, IfOk};
+ghost use Rattle.scl_args.specs.Options.{all_seen};
+ghost use Rattle.scl_text.specs.Records.{outcome_of};
+ghost use Rattle.scl_small.specs.DiabReading.{tested};
+ghost use Rattle.scl_small.specs.DiabValues.{kind_of, word_of};
+
 use super::args::{ArgData, Kind};
 use crate::finish::answer;
 use crate::place::{Place, Placed, refused_by_place};
 use crate::rules::Rules;
-use scl_args::{Argument, last_flag, names_file};
+use scl_args::{Argument, Options, names_file};
 use scl_text::Mem;
 use scl_text::reasons::UNEXPANDED_FILE;
 use scl_text::records::{CompilerArguments, ParsedArguments};
@@ -46,9 +52,12 @@ impl Rules for ArgData {
 
     fn test(
         alloc: Global,
-        options: &[Argument<ArgData>],
-    ) -> Mem<CompilerArguments<ParsedArguments>> {
-        match last_flag(options, &Place::CompileFlag) {
+        options: Vec<Argument<ArgData>>,
+    ) -> Mem<CompilerArguments<ParsedArguments>>
+        ensures { IfOk result (λ answer. outcome_of answer ≡ tested (all_seen kind_of word_of options)) }
+    {
+        let options = Options::new(alloc, options)?;
+        match options.last_flag(&Place::CompileFlag) {
             Some(flag) => answer(alloc, options, flag),
             None => Ok(CompilerArguments::NotCompilation),
         }

@@ -1,8 +1,14 @@
+ghost use Rattle.std.specs.Prelude.{◌≡◌, IfOk};
+ghost use Rattle.scl_args.specs.Options.{all_seen};
+ghost use Rattle.scl_text.specs.Records.{outcome_of};
+ghost use Rattle.scl_small.specs.TaskingReading.{tested};
+ghost use Rattle.scl_small.specs.TaskingValues.{kind_of, word_of};
+
 use super::args::{ArgData, Kind};
 use crate::finish::answer;
 use crate::place::{Place, Placed, refused_by_place};
 use crate::rules::Rules;
-use scl_args::{Argument, last_flag};
+use scl_args::{Argument, Options};
 use scl_text::Mem;
 use scl_text::records::{CompilerArguments, ParsedArguments};
 use scl_text::refusal::Refusal;
@@ -42,9 +48,12 @@ impl Rules for ArgData {
 
     fn test(
         alloc: Global,
-        options: &[Argument<ArgData>],
-    ) -> Mem<CompilerArguments<ParsedArguments>> {
-        match last_flag(options, &Place::CompileFlag) {
+        options: Vec<Argument<ArgData>>,
+    ) -> Mem<CompilerArguments<ParsedArguments>>
+        ensures { IfOk result (λ answer. outcome_of answer ≡ tested (all_seen kind_of word_of options)) }
+    {
+        let options = Options::new(alloc, options)?;
+        match options.last_flag(&Place::CompileFlag) {
             Some(_) => answer(alloc, options, "-c"),
             None => Ok(CompilerArguments::NotCompilation),
         }

@@ -4,7 +4,7 @@ use Rattle.scl_args.specs.Words.{words_of}
 use Rattle.scl_gnu.specs.Data.{kind_of, word_of}
 use Rattle.scl_gnu.specs.Kinds.{hashed}
 use Rattle.scl_gnu.specs.Recordings.{hash_path}
-use Rattle.scl_gnu.proofs.gcc.hash_files.hash_paths.Given as goal
+use Rattle.scl_gnu.proofs.gcc.hash_files.paths_of.Given as goal
 
 abbrev pub invariant-loop-option : goal.invariant-loop-option
 invariant-loop-option l =

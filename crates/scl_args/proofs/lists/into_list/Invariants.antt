@@ -1,0 +1,10 @@
+use Rattle.std.proofs.Common.{◌≡◌, map}
+use Rattle.scl_args.specs.Seen.{seen}
+use Rattle.scl_args.specs.Words.{words_of}
+use Rattle.scl_args.specs.Options.{list}
+use Rattle.scl_args.proofs.lists.into_list.Given as goal
+
+abbrev pub invariant-loop-option : goal.invariant-loop-option
+invariant-loop-option g l =
+    let see = seen g.T.ArgumentValue.kind_of g.T.IntoArg.word_of in
+    words_of l.words.items ≡ list (g.S.Sides.side l.sides) (g.P.Test.passes l.test) (map see l.yielded)

@@ -1,0 +1,157 @@
+//! A finished list of options, and the sorts that stand among them.
+ghost use Rattle.std.specs.Prelude.{◌≡◌, IfOk, IsTrue, filter, map};
+ghost use Rattle.std.specs.List.{list_any};
+ghost use Rattle.std.specs.Option.{option_map};
+ghost use Rattle.scl_args.specs.Seen.{seen};
+ghost use Rattle.scl_args.specs.Sorts.{AreSortsOf, IsAmong};
+ghost use Rattle.scl_args.specs.Words.{words_of};
+ghost use Rattle.scl_args.specs.Options.{all_seen, flag_of, text_of, is_behind_dashes, last_by, texts, list};
+
+use crate::argument::Argument;
+use crate::held::ReadArg;
+use crate::lists::{Sides, into_list, list};
+use crate::memory::Mem;
+use crate::options::{Test, any, is_behind_dashes, last_by, last_flag, last_text, texts};
+use crate::sort::{Sort, is_same, sort_of};
+use std::alloc::Global;
+use std::marker::Model;
+
+/// A finished list of options. It knows which sorts stand among them, so a filter for others walks over none.
+#[derive(Debug, Drop)]
+pub struct Options<T: ReadArg> {
+    options: Vec<Argument<T>>,
+    sorts: Vec<Sort<T::Kind>>,
+}
+
+impl<T: ReadArg> Model for Options<T> {
+    ghost use Rattle.std.specs.Prelude.{List, map};
+    ghost use Rattle.scl_args.specs.Seen.{Seen, seen};
+    ghost use Rattle.scl_args.specs.Sorts.{AreSortsOf};
+
+    ghost Value = { List (Seen T.Kind) };
+
+    ghost view = { λ o. map (seen T.kind_of T.word_of) o.options.items };
+
+    ghost invariant = { λ o. AreSortsOf o.sorts.items (map (seen T.kind_of T.word_of) o.options.items) };
+}
+
+/// Whether the sort is among these.
+fn is_among<T: ReadArg>(sorts: &[Sort<T::Kind>], sort: Sort<T::Kind>) -> bool
+    ensures { IsTrue result → IsAmong sort sorts.now }
+{
+    for other in sorts {
+        if is_same::<T>(*other, sort) {
+            return true;
+        }
+    }
+    false
+}
+
+/// The sorts of the options, each once.
+fn sorts_of<T: ReadArg>(alloc: Global, options: &[Argument<T>]) -> Mem<Vec<Sort<T::Kind>>>
+    ensures { IfOk result (λ sorts. AreSortsOf sorts.items (map (seen T.kind_of T.word_of) options.now)) }
+{
+    let mut sorts = Vec::new(alloc);
+    for option in options {
+        let sort = sort_of(option);
+        if !is_among::<T>(&sorts, sort) {
+            sorts.push(sort)?;
+        }
+    }
+    Ok(sorts)
+}
+
+/// Whether options of any of the sorts may pass.
+fn may_pass<T: ReadArg, P: Test<T>>(sorts: &[Sort<T::Kind>], test: &P) -> bool
+    ensures { result ≡ list_any (P.may_pass test.now) sorts.now }
+{
+    sorts.iter().any(|sort| test.may_pass(*sort))
+}
+
+impl<T: ReadArg> Options<T> {
+    /// The finished list. It fails only for want of memory.
+    pub fn new(alloc: Global, options: Vec<Argument<T>>) -> Mem<Options<T>>
+        ensures { IfOk result (λ made. made ≡ all_seen T.kind_of T.word_of options) }
+    {
+        let sorts = sorts_of(alloc, &options)?;
+        Ok(Options { options, sorts })
+    }
+
+    /// All options, or none where no option passes.
+    pub fn among<P: Test<T>>(&self, test: &P) -> &[Argument<T>]
+        ensures { filter (P.passes test.now) (map (seen T.kind_of T.word_of) result.now) ≡ filter (P.passes test.now) self.now }
+    {
+        if may_pass(&self.sorts, test) {
+            &self.options
+        } else {
+            &[]
+        }
+    }
+
+    /// The last option that passes.
+    pub fn last_by<P: Test<T>>(&self, test: &P) -> Option<&Argument<T>>
+        ensures { option_map (λ option. seen T.kind_of T.word_of option.now) result ≡ last_by (P.passes test.now) self.now }
+    {
+        last_by(self.among(test), test)
+    }
+
+    /// The flag of the last option that passes.
+    pub fn last_flag<P: Test<T>>(&self, test: &P) -> Option<&'static str>
+        ensures { option_map (λ flag. flag.now) result ≡ option_map flag_of (last_by (P.passes test.now) self.now) }
+    {
+        last_flag(self.among(test), test)
+    }
+
+    /// The text of the last option that passes.
+    pub fn last_text<P: Test<T>>(&self, test: &P) -> Option<&[u8]>
+        ensures { option_map (λ text. text.now) result ≡ option_map text_of (last_by (P.passes test.now) self.now) }
+    {
+        last_text(self.among(test), test)
+    }
+
+    /// Whether any option passes.
+    pub fn any<P: Test<T>>(&self, test: &P) -> bool
+        ensures { result ≡ list_any (P.passes test.now) self.now }
+    {
+        any(self.among(test), test)
+    }
+
+    /// The texts of the options that pass, in order. It fails only for want of memory.
+    pub fn texts<P: Test<T>>(&self, alloc: Global, test: &P) -> Mem<Vec<Vec<u8>>>
+        ensures { IfOk result (λ words. words_of words.items ≡ texts (P.passes test.now) self.now) }
+    {
+        texts(alloc, self.among(test), test)
+    }
+
+    /// The words of the options that pass, each option on the side of its flag (docs/RULES.md, Lists of options). It
+    /// fails only for want of memory.
+    pub fn list<S: Sides, P: Test<T>>(
+        &self,
+        alloc: Global,
+        sides: &S,
+        test: &P,
+    ) -> Mem<Vec<Vec<u8>>>
+        ensures { IfOk result (λ words. words_of words.items ≡ list (S.side sides.now) (P.passes test.now) self.now) }
+    {
+        list(alloc, self.among(test), sides, test)
+    }
+
+    /// The words of `list`; the options' memory is used again or given back as it goes.
+    pub fn into_list<S: Sides, P: Test<T>>(
+        self,
+        alloc: Global,
+        sides: &S,
+        test: &P,
+    ) -> Mem<Vec<Vec<u8>>>
+        ensures { IfOk result (λ words. words_of words.items ≡ list (S.side sides.now) (P.passes test.now) self) }
+    {
+        into_list(alloc, self.options, sides, test)
+    }
+
+    /// Whether a raw word `--` stands before any of the options that the test takes for inputs (docs/RULES.md, Readings).
+    pub fn is_behind_dashes<P: Test<T>>(&self, inputs: &P) -> bool
+        ensures { result ≡ is_behind_dashes (P.passes inputs.now) self.now }
+    {
+        is_behind_dashes(&self.options, inputs)
+    }
+}
