@@ -1,9 +1,6 @@
 -- What the sorts of options say of the options.
-use Rattle.std.proofs.Common.{◌≡◌, Bool, true, false, ◌||◌, List, [], ◌∷◌, ◌++◌, refl, ap, sym, ◌∙◌, filter, cond, ℕ, zero, suc, ◌<◌, length, get_or, arith}
+use Rattle.std.proofs.Common.{◌≡◌, Bool, true, false, ◌||◌, List, [], ◌∷◌, ◌++◌, refl, filter, cond, ℕ, zero, suc, ◌<◌, length, get_or, arith}
 use Rattle.std.specs.List.{list_any}
-use Rattle.scl_args.specs.Seen.{Seen}
-use Rattle.scl_args.specs.declared.sort.Sort.{Sort}
-use Rattle.scl_args.specs.Sorts.{sort_of, AreSortsOf}
 
 or-left : (a b : Bool) → (a || b) ≡ false → a ≡ false
 or-left true b e = e

@@ -1,6 +1,5 @@
 -- Fields, and bytes before what is left of one.
 use Rattle.std.proofs.Common.{◌≡◌, ℕ, List, [], ◌∷◌, ◌++◌, Option, Some, None, refl, ap, sym, ◌∙◌, append_assoc}
-use Rattle.std.specs.Option.{option_map}
 use Rattle.scl_cl.specs.Fields.{before, field_of}
 
 -- bytes before what is left of a field

@@ -1,13 +1,12 @@
 -- A request read line by line.
-use Rattle.std.proofs.Common.{◌≡◌, ℕ, ◌+◌, ◌-◌, ◌<◌, ◌≤◌, Bool, true, false, ◌||◌, cond, List, [], ◌∷◌, ◌++◌, reverse, length, Option, Some, None, Result, Ok, Err, refl, ap, sym, ◌∙◌, arith, append-nil, append_assoc}
+use Rattle.std.proofs.Common.{◌≡◌, ℕ, ◌+◌, ◌<◌, ◌≤◌, Bool, true, false, ◌||◌, cond, List, [], ◌∷◌, ◌++◌, reverse, length, Some, None, Err, refl, ap, sym, ◌∙◌, arith, append-nil, append_assoc}
 use Rattle.std.specs.List.{flat_map, filter_map, list_any, cons_option}
 use Rattle.std.specs.Option.{option_to_list, ok_or}
 use Rattle.std.proofs.lemmas.Grind.{flat_map-append, fold-append}
 use Rattle.std.proofs.lemmas.List.{reverse-append}
-use Rattle.scl_text.specs.Views.{Viewed}
 use Rattle.scl_cl.specs.Lines.{lines_of}
 use Rattle.scl_cl.specs.Sayings.{Said, Blank, Names, StandsIn, HasWord, HasFile, HasDirectory, HasPath, HasVariable, IsMultiarch, said}
-use Rattle.scl_cl.specs.Requests.{Request, Gathered, gathered, breaks, first_broken, request_in, request_of, request_unless, compiler_in, directory_in, word_in, variable_in, file_in, viewed_directory_in, path_in, is_multiarch}
+use Rattle.scl_cl.specs.Requests.{Gathered, gathered, breaks, first_broken, request_in, request_of, request_unless, viewed_directory_in, path_in}
 use Rattle.scl_cl.specs.Drafts.{with_line}
 
 or-comm : (a b : Bool) → a || b ≡ b || a

@@ -1,13 +1,12 @@
 -- What is written is read back.
-use Rattle.std.proofs.Common.{◌≡◌, ℕ, ◌+◌, ◌-◌, ◌*◌, ◌/◌, ◌%◌, ◌<◌, ◌≤◌, Bool, true, false, not, ◌&&◌, cond, List, [], ◌∷◌, ◌++◌, Option, Some, None, refl, ap, sym, ◌∙◌, arith, nat_eq, nat_lt, append_assoc, map, lit≤, lit<, codes}
+use Rattle.std.proofs.Common.{◌≡◌, ℕ, ◌+◌, ◌*◌, ◌/◌, ◌%◌, ◌<◌, ◌≤◌, Bool, true, false, cond, List, [], ◌∷◌, ◌++◌, Some, None, refl, ap, sym, ◌∙◌, arith, nat_eq, append_assoc, map, lit≤, lit<, codes}
 use Rattle.std.specs.List.{flat_map, filter_map, cons_option}
 use Rattle.std.proofs.lemmas.Bool.Decides.{nat_tests}
-use Rattle.scl_cl.specs.Fields.{is_plain, digit_value, digit_of, escaped_byte, before, field_of, escape, escaped, both, fields_of, two_fields}
+use Rattle.scl_cl.specs.Fields.{is_plain, digit_value, digit_of, before, field_of, escape, escaped, both, fields_of, two_fields}
 use Rattle.std.specs.Option.{option_map}
 use Rattle.scl_cl.specs.Lines.{cut_at, with_first, lines_of}
 use Rattle.scl_cl.specs.Sayings.{Said, Blank, Names, StandsIn, HasWord, HasFile, HasDirectory, HasPath, HasVariable, IsMultiarch, said, text_of as keyword_text, keyword_named}
-use Rattle.scl_cl.specs.Written.{AreBytes, ArePrintable, CanBeWritten, AllCanBeWritten, AreAllBytes, written, breaks_at}
-use Rattle.scl_cl.specs.Requests.{Gathered, gathered, breaks, first_broken}
+use Rattle.scl_cl.specs.Written.{AreBytes, ArePrintable, CanBeWritten, AllCanBeWritten, AreAllBytes, written}
 use Rattle.scl_cl.specs.Answers.{compiled, text_of, cacheable_text, line, arg_line}
 use Rattle.scl_cl.specs.Compilers.{name_of, compiler_named}
 use Rattle.scl_cl.specs.declared.compiler.Compiler.{Compiler}

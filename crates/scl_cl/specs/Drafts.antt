@@ -1,11 +1,8 @@
 -- The part of a request that lines so far make.
-use Rattle.std.specs.Prelude.{ℕ, Bool, ◌||◌, List, [], ◌∷◌, ◌++◌, map}
-use Rattle.std.specs.List.{flat_map}
-use Rattle.std.specs.Option.{option_map, option_to_list}
-use Rattle.scl_text.specs.Views.{Viewed}
+use Rattle.std.specs.Prelude.{◌||◌, ◌++◌, map}
+use Rattle.std.specs.Option.{option_to_list}
 use Rattle.scl_args.specs.Words.{words_of}
 use Rattle.scl_text.specs.Commands.{pairs_of}
-use Rattle.scl_cl.specs.declared.compiler.Compiler.{Compiler}
 use Rattle.scl_cl.specs.declared.draft.Draft.{Draft}
 use Rattle.scl_cl.specs.declared.draft.Request as code
 use Rattle.scl_cl.specs.Sayings.{Said}

@@ -1,11 +1,10 @@
 -- The request that lines make, or the number of the first line that breaks a rule.
-use Rattle.std.specs.Prelude.{ℕ, ◌+◌, ◌<◌, ◌≤◌, ◌≡◌, Bool, true, false, List, [], ◌∷◌, ◌++◌, fold, reverse, length, Option, Some, None, Result, Ok, Err, if◌then◌else◌, take}
+use Rattle.std.specs.Prelude.{ℕ, ◌+◌, Bool, true, false, List, [], ◌∷◌, ◌++◌, fold, reverse, length, Option, Some, None, Result, Err, if◌then◌else◌}
 use Rattle.std.specs.List.{flat_map, filter_map, list_any}
-use Rattle.std.specs.Option.{option_map, option_to_list, ok_or}
+use Rattle.std.specs.Option.{option_to_list, ok_or}
 use Rattle.scl_text.specs.Views.{Viewed, File, put_file}
 use Rattle.scl_cl.specs.declared.compiler.Compiler.{Compiler}
-use Rattle.scl_cl.specs.Lines.{lines_of}
-use Rattle.scl_cl.specs.Sayings.{Said, Blank, Names, StandsIn, HasWord, HasFile, HasDirectory, HasPath, HasVariable, IsMultiarch, said}
+use Rattle.scl_cl.specs.Sayings.{Said, Names, StandsIn, HasWord, HasFile, HasDirectory, HasPath, HasVariable, IsMultiarch, said}
 
 -- what a request asks for
 pub record Request : Type 0 where

@@ -1,5 +1,5 @@
 -- What reading all and writing a whole text leave.
-use Rattle.std.specs.Prelude.{ℕ, ◌^◌, ◌≤◌, ◌≡◌, List, length, take, Option, Result, Ok, Err, Vec, ◌⊎◌}
+use Rattle.std.specs.Prelude.{ℕ, ◌^◌, ◌≤◌, List, length, take, Option, Result, Ok, Err, Vec, ◌⊎◌}
 use Rattle.std.specs.declared.alloc.Global.{Global}
 use Rattle.std.specs.Io.KnownBytes.{Consumes, IsAtEnd, Appends}
 use Rattle.scl_args.specs.Counts.{HasFailed}

@@ -1,5 +1,5 @@
 -- What an option says against caching, after those before it.
-use Rattle.std.specs.Prelude.{ℕ, Bool, false, not, ◌==◌, ◌&&◌, List, [], ◌∷◌, Option, None, Some, codes, if◌then◌else◌}
+use Rattle.std.specs.Prelude.{ℕ, Bool, not, ◌==◌, ◌&&◌, List, [], ◌∷◌, Option, None, Some, codes, if◌then◌else◌}
 use Rattle.std.specs.Str.{bytes_eq}
 use Rattle.scl_args.specs.Seen.{Seen, Raw, Unknown, Known}
 use Rattle.scl_args.specs.Options.{names_file, or_else}

@@ -1,5 +1,5 @@
 -- What a command line says to Diab or TaskingVX: a first verdict, and filters over the finished list of its options.
-use Rattle.std.specs.Prelude.{ℕ, false, List, [], ◌∷◌, Option, None, Some, Result, Ok, Err, map, codes}
+use Rattle.std.specs.Prelude.{ℕ, false, List, [], ◌∷◌, Option, None, Some, Result, Ok, map, codes}
 use Rattle.std.specs.Option.{option_map}
 use Rattle.scl_args.specs.Cuts.{Cutting, is_dangling}
 use Rattle.scl_args.specs.Seen.{Seen, shown}

@@ -5,6 +5,7 @@ mod cutting;
 mod error;
 mod laws;
 mod lists;
+mod options;
 mod printing;
 mod search;
 mod split;

@@ -3,7 +3,7 @@ ghost use Rattle.std.specs.Prelude.{◌≡◌, IsOkAnd, true, false};
 
 use scl_args::{
     ArgDisposition, ArgParseResult, ArgRow, ArgToStringResult, Argument, ArgumentValue, ExactArg,
-    FlagTable, IntoArg, Mem,
+    FlagTable, Held, IntoArg, Mem, ReadArg,
 };
 use std::alloc::Global;
 use std::test::Fail;
@@ -58,6 +58,20 @@ impl ExactArg for Value {
     ghost exact = { λ kind word made holds gives. gives };
 
     ghost keeps = { λ kind word value gives. gives };
+}
+
+impl ReadArg for Value {
+    fn kind(&self) -> Kind {
+        self.kind
+    }
+
+    fn is_same_kind(kind: Kind, other: Kind) -> bool {
+        kind == other
+    }
+
+    fn held(&self) -> Held<'_> {
+        Held::Word(&self.word)
+    }
 }
 
 /// An option as a test writes it.

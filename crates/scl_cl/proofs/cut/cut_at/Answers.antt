@@ -1,4 +1,3 @@
-use Rattle.std.proofs.Common.{arith}
 use Rattle.scl_cl.proofs.CutLaws.{cut_at-place, cut_at-further}
 use Rattle.scl_cl.proofs.cut.cut_at.Goals as goal
 

@@ -1,4 +1,4 @@
-use Rattle.std.proofs.Common.{◌≡◌, arith, take, drop, ◌++◌, rules, subst, sym, ◌∙◌, ap}
+use Rattle.std.proofs.Common.{arith, take, ◌++◌, subst, sym, ◌∙◌, ap}
 use Rattle.std.proofs.KnownBytes.{Appends-trans}
 use Rattle.std.proofs.Math.Seq.{take-add}
 use Rattle.std.proofs.lemmas.Grind.{common_steps}
