@@ -2,7 +2,7 @@
 use super::cutting::SHAPES;
 use super::values::{Kind, Value, table_of, words_of};
 use scl_args::{
-    Argument, OfKinds, Options, ShortFlagsJoined, any, cut_options, is_dashes, last_by, last_flag,
+    Argument, OfKinds, Options, ShortFlagsJoined, any, cut_words, is_dashes, last_by, last_flag,
     last_option, last_text, list, names_file, texts,
 };
 use std::alloc::Global;
@@ -12,7 +12,8 @@ static WORDS: [&str; 7] = ["-foo", "@a", "-bar", "b", "-new", "-hoge@c", "--"];
 
 fn options(alloc: Global) -> Result<Vec<Argument<Value>>, Fail> {
     let table = table_of(&SHAPES)?;
-    Ok(cut_options(alloc, words_of(alloc, &WORDS)?, table, false)?.options)
+    let (options, _end) = cut_words(alloc, words_of(alloc, &WORDS)?, table, false)?;
+    Ok(options)
 }
 
 #[test]
