@@ -1,5 +1,5 @@
 -- What follows from the definitions of tables, cutting and printing, in the subject's own words.
-use Rattle.std.specs.Prelude.{◌≡◌, ℕ, ◌*◌, ◌+◌, ◌^◌, ◌<◌, ◌≤◌, Bool, true, false, List, ◌∷◌, ◌++◌, length, map, filter, slice_index_or, Option, Some, MatchOption, ◌⊎◌, ◌↔◌}
+use Rattle.std.specs.Prelude.{◌≡◌, ℕ, ◌*◌, ◌+◌, ◌^◌, ◌<◌, ◌≤◌, Bool, true, false, List, ◌∷◌, ◌++◌, length, map, slice_index_or, Option, Some, MatchOption, ◌⊎◌, ◌↔◌}
 use Rattle.std.specs.Cmp.Lexicographic.{slice_cmp}
 use Rattle.std.specs.Ordering.{nat_cmp}
 use Rattle.std.specs.declared.cmp.Ordering.TheVariants.{Less}
@@ -10,12 +10,10 @@ use Rattle.scl_args.specs.Tables.{is_table, owner, owner_in, all_rows}
 use Rattle.scl_args.specs.Probes.{bits, looks_in}
 use Rattle.scl_args.specs.Cuts.{Cutting, cut}
 use Rattle.scl_args.specs.Relation.{CutsInto}
-use Rattle.scl_args.specs.Seen.{Seen, seen, shown, plain_seen}
+use Rattle.scl_args.specs.Seen.{Seen, seen}
 use Rattle.scl_args.specs.Spell.{spelled}
 use Rattle.scl_args.specs.Texts.{items_shown, word_shown}
-use Rattle.scl_args.specs.Options.{normal_on, list}
-use Rattle.scl_args.specs.Again.{keeps_flags, joins_safely, is_changing, is_joining, is_last, next_is_clear, Reads}
-use Rattle.scl_args.specs.Origins.{AllCame, IsClear, IsKept}
+use Rattle.scl_args.specs.Options.{normal_on}
 use Rattle.scl_args.specs.Printed.{AllCutFrom, IsLeftAt}
 use Rattle.scl_args.specs.Each.{Each, Has}
 
@@ -96,22 +94,3 @@ TextsAreWords K T = (is_path : T → Bool) (kind_of : T → K) (word_of : T → 
 -- an option that was moved to its side stays there, whatever side it is moved to
 abbrev pub StaysOnItsSide : Type 0 → Type 0
 StaysOnItsSide K = (side other : List ℕ → NormalizedDisposition) (option : Seen K) → normal_on other (normal_on side option) ≡ normal_on side option
-
--- ---- printing and cutting again
-
--- by tables that pass both checks, a list of options of a cutting, printed, is cut into those options again, whatever words follow
-abbrev pub PrintsAgain : Type 0 → Type 0
-PrintsAgain K = (tables : List (List (Row K))) (dashes : Bool) (kept : K → Bool) (to : List ℕ → NormalizedDisposition) →
-    keeps_flags (is_changing kept) (all_rows tables) ≡ true → joins_safely (is_joining to) (all_rows tables) (all_rows tables) ≡ true →
-    (words : List (List ℕ)) (p : Seen K → Bool) →
-    let options = (cut (owner_in tables) dashes words).options in
-    Each IsClear options → Each (λ c. p (shown c) ≡ true → IsKept dashes kept c) options →
-    Reads (owner_in tables) dashes (list to p (map shown options)) (map plain_seen (filter p (map shown options)))
-
--- each option of a cutting came from a word of its row or of none, up to the mark; it and what stands behind it are raw
-abbrev pub OptionsCame : Type 0 → Type 0
-OptionsCame K = (tables : List (List (Row K))) (dashes : Bool) (words : List (List ℕ)) → AllCame (owner_in tables) dashes (cut (owner_in tables) dashes words).options
-
--- in a table, no flag goes on after a flag where the next greater one does not
-abbrev pub NextFlagSuffices : Type 0 → Type 0
-NextFlagSuffices K = (rows : List (Row K)) → is_table rows ≡ true → (f : List ℕ) → next_is_clear f rows ≡ true → is_last f rows ≡ true

@@ -17,11 +17,6 @@ is_raw (Raw w) = true
 is_raw (Unknown w) = false
 is_raw (Known f k v h) = false
 
-abbrev pub is_unknown : {K : Type 0} → Seen K → Bool
-is_unknown (Raw w) = false
-is_unknown (Unknown w) = true
-is_unknown (Known f k v h) = false
-
 -- whether the option is one of a kind that passes the test
 abbrev pub is_of : {K : Type 0} → (K → Bool) → Seen K → Bool
 is_of p (Raw w) = false

@@ -20,6 +20,9 @@ pub record Row (K : Type 0) : Type 0 where
   pub kind : K
   pub shape : Shape
 
+abbrev pub row : {K : Type 0} → List ℕ → K → Shape → Row K
+row flag kind shape = record { flag = flag; kind = kind; shape = shape }
+
 abbrev pub shape_of : ArgDisposition → Shape
 shape_of how.Separated = apart
 shape_of (how.CanBeConcatenated d) = either d

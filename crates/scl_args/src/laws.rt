@@ -1,5 +1,5 @@
 //! What follows from the definitions that the other contracts cite. Each law is the contract of a function that does nothing.
-ghost use Rattle.scl_args.specs.Laws.{FlagsRise, OwnerIsLongestFit, FitsAreUnique, LongestFitOwns, LastFitOwns, OwnerIsOfAllRows, LastTableWins, CountsDigits, LooksAddUp, CutsByCases, PrintsWhatWasCut, PrintsOneOrTwo, TextsAreWords, StaysOnItsSide, PrintsAgain, OptionsCame, NextFlagSuffices};
+ghost use Rattle.scl_args.specs.Laws.{FlagsRise, OwnerIsLongestFit, FitsAreUnique, LongestFitOwns, LastFitOwns, OwnerIsOfAllRows, LastTableWins, CountsDigits, LooksAddUp, CutsByCases, PrintsWhatWasCut, PrintsOneOrTwo, TextsAreWords, StaysOnItsSide};
 
 /// The flags of a table rise strictly by bytes (docs/RULES.md, Rows and tables).
 pub fn flags_rise<K>()
@@ -71,21 +71,4 @@ pub fn texts_are_words<K, T>()
 /// Moving an option to a side a second time, to either side, changes nothing (docs/RULES.md, Printing).
 pub fn stays_on_its_side<K>()
     ensures { StaysOnItsSide K }
-{}
-
-/// Each option that words are cut into came from a word of its row, with its value, or from a word of none; but the mark
-/// `--`, where it ends the options, and the words after it are raw (docs/RULES.md, Cutting again).
-pub fn options_came<K>()
-    ensures { OptionsCame K }
-{}
-
-/// In a table, no flag goes on after a flag where the next greater one does not (docs/RULES.md, Cutting again).
-pub fn next_flag_suffices<K>()
-    ensures { NextFlagSuffices K }
-{}
-
-/// By tables that pass two checks, a list of options that words were cut into, printed, is cut into those options again,
-/// whatever words follow (docs/RULES.md, Cutting again).
-pub fn prints_again<K>()
-    ensures { PrintsAgain K }
 {}

@@ -23,6 +23,7 @@ mod strings;
 mod table;
 mod value;
 mod words;
+mod wrapped;
 
 pub use argument::{ArgDisposition, ArgInfo, ArgRow, Argument, Delimiter, NormalizedDisposition};
 pub use counted::Counted;
@@ -45,3 +46,4 @@ pub use split::split_os_string_arg;
 pub use strings::IterStrings;
 pub use value::{ArgumentValue, ExactArg, FromArg, IntoArg, PathArg};
 pub use words::{CutWords, cut_options, cut_words};
+pub use wrapped::{WrappedApart, WrappedJoined, Wrapper, push_wrapped};

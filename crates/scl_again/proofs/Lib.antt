@@ -1,0 +1,16 @@
+pub mod AgainChecks
+pub mod AgainLaws
+pub mod CommandLaws
+pub mod EmptyLaws
+pub mod FoundLaws
+pub mod FreshLaws
+pub mod InputLaws
+pub mod ListLaws
+pub mod MarkLaws
+pub mod NextFlagLaws
+pub mod OriginLaws
+pub mod OtherValueLaws
+pub mod OutcomeLaws
+pub mod RawLaws
+pub mod ReadsLaws
+pub mod ValuesLaws

@@ -1,0 +1,34 @@
+-- What follows for words that are printed and cut again.
+use Rattle.std.specs.Prelude.{◌≡◌, ℕ, Bool, true, List, ◌++◌, map, filter}
+use Rattle.scl_args.specs.declared.argument.NormalizedDisposition.{NormalizedDisposition}
+use Rattle.scl_args.specs.Row.{Row}
+use Rattle.scl_args.specs.Tables.{is_table, owner_in}
+use Rattle.scl_args.specs.Cuts.{Cut, raw, cut}
+use Rattle.scl_args.specs.Seen.{Seen, shown, plain_seen}
+use Rattle.scl_args.specs.Options.{list}
+use Rattle.scl_args.specs.Each.{Each}
+use Rattle.scl_again.specs.Reads.{Reads}
+use Rattle.scl_again.specs.Checks.{PassChecks, is_last, next_is_clear}
+use Rattle.scl_again.specs.Origins.{AllCame, BeginsWithMark, HasNoOwner, IsClear, IsKept}
+
+-- each option of a cutting came from a word of its row or of none, up to the mark; it and what stands behind it are raw
+abbrev pub OptionsCame : Type 0 → Type 0
+OptionsCame K = (tables : List (List (Row K))) (dashes : Bool) (words : List (List ℕ)) → AllCame (owner_in tables) dashes (cut (owner_in tables) dashes words).options
+
+-- an unknown word has no owner, nor has a raw one before the mark
+abbrev pub RawAndUnknownWordsHaveNoOwner : Type 0 → Type 0
+RawAndUnknownWordsHaveNoOwner K = (tables : List (List (Row K))) (dashes : Bool) (words : List (List ℕ)) →
+    (unmarked : List (Cut K)) × (marked : List (List ℕ)) × ((cut (owner_in tables) dashes words).options ≡ unmarked ++ map raw marked)
+    × BeginsWithMark dashes marked × Each (HasNoOwner (owner_in tables)) unmarked
+
+-- in a table, no flag goes on after a flag where the next greater one does not
+abbrev pub NextFlagSuffices : Type 0 → Type 0
+NextFlagSuffices K = (rows : List (Row K)) → is_table rows ≡ true → (f : List ℕ) → next_is_clear f rows ≡ true → is_last f rows ≡ true
+
+-- by tables that pass both checks, a list of options of a cutting, printed, is cut into those options again, whatever words follow
+abbrev pub PrintsAgain : Type 0 → Type 0
+PrintsAgain K = (tables : List (List (Row K))) (dashes : Bool) (kept : K → Bool) (to : List ℕ → NormalizedDisposition) → PassChecks tables kept to →
+    (words : List (List ℕ)) (p : Seen K → Bool) →
+    let options = (cut (owner_in tables) dashes words).options in
+    Each IsClear options → Each (λ c. p (shown c) ≡ true → IsKept dashes kept c) options →
+    Reads (owner_in tables) dashes (list to p (map shown options)) (map plain_seen (filter p (map shown options)))

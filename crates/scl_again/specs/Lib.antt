@@ -1,0 +1,8 @@
+-- What contracts cite.
+pub mod Checks
+pub mod Commands
+pub mod Laws
+pub mod Origins
+pub mod Reads
+-- For the test of empty values: no contract cites it yet.
+pub mod Empties

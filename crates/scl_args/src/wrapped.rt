@@ -1,0 +1,68 @@
+//! Words that are handed on, each behind a wrapper.
+ghost use Rattle.std.specs.Prelude.{◌≡◌, ◌++◌, OnOk};
+ghost use Rattle.std.specs.List.{flat_map};
+ghost use Rattle.scl_args.specs.Words.{words_of};
+
+use crate::memory::Mem;
+use std::alloc::Global;
+
+/// What a word that is handed on becomes (docs/RULES.md, Lists of options).
+pub trait Wrapper {
+    ghost use Rattle.std.specs.Prelude.{ℕ, List};
+
+    ghost wrapped: { Self → List ℕ → List (List ℕ) };
+
+    /// Puts what the word becomes behind other words. It fails only for want of memory, and a part of it may then stand
+    /// there.
+    fn push_word(&self, alloc: Global, words: &mut Vec<Vec<u8>>, word: &[u8]) -> Mem<()>
+        ensures { OnOk result (words_of words.new.items ≡ words_of words.old.items ++ wrapped self.now word.now) };
+}
+
+/// The wrapper stands as a word of its own before each.
+#[derive(Clone, Copy, Debug)]
+pub struct WrappedApart(pub &'static str);
+
+impl Wrapper for WrappedApart {
+    ghost use Rattle.scl_args.specs.Wrapped.{wrapped_apart};
+
+    ghost wrapped = { λ wrapper. wrapped_apart wrapper.0.now };
+
+    fn push_word(&self, alloc: Global, words: &mut Vec<Vec<u8>>, word: &[u8]) -> Mem<()> {
+        words.push(Vec::from_slice(alloc, self.0.as_bytes())?)?;
+        words.push(Vec::from_slice(alloc, word)?)?;
+        Ok(())
+    }
+}
+
+/// Each is joined to the wrapper.
+#[derive(Clone, Copy, Debug)]
+pub struct WrappedJoined(pub &'static str);
+
+impl Wrapper for WrappedJoined {
+    ghost use Rattle.scl_args.specs.Wrapped.{wrapped_joined};
+
+    ghost wrapped = { λ wrapper. wrapped_joined wrapper.0.now };
+
+    fn push_word(&self, alloc: Global, words: &mut Vec<Vec<u8>>, word: &[u8]) -> Mem<()> {
+        let mut joined = Vec::from_slice(alloc, self.0.as_bytes())?;
+        joined.extend_from_slice(word)?;
+        words.push(joined)?;
+        Ok(())
+    }
+}
+
+/// Puts the words of an inner command line, each behind the wrapper, behind others (docs/RULES.md, Lists of options). It
+/// fails only for want of memory, and some may then stand there.
+pub fn push_wrapped<W: Wrapper>(
+    alloc: Global,
+    words: &mut Vec<Vec<u8>>,
+    inner: &[Vec<u8>],
+    wrapper: &W,
+) -> Mem<()>
+    ensures { OnOk result (words_of words.new.items ≡ words_of words.old.items ++ flat_map (W.wrapped wrapper.now) (words_of inner.now)) }
+{
+    for word in inner {
+        wrapper.push_word(alloc, words, word)?;
+    }
+    Ok(())
+}
