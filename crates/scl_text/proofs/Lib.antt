@@ -12,6 +12,7 @@ pub mod GnuLemmas
 pub mod MsvcLaws
 pub mod MsvcLemmas
 pub mod OpenLemmas
+pub mod OutputLaws
 pub mod OutputLemmas
 pub mod PathLaws
 pub mod PathLemmas

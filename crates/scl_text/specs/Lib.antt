@@ -1,3 +1,4 @@
+-- What contracts of public functions cite.
 pub mod Characters
 pub mod Commands
 pub mod Compilers
@@ -5,16 +6,11 @@ pub mod Decoding
 pub mod DiabText
 pub mod Expand
 pub mod ExpansionLaws
-pub mod ExpansionState
-pub mod GnuReader
 pub mod GnuText
+pub mod JudgedWords
 pub mod Languages
-pub mod MsvcReader
 pub mod MsvcText
-pub mod Orders
 pub mod Outputs
-pub mod PathEntries
-pub mod PathMaps
 pub mod Paths
 pub mod Reasons
 pub mod Records
@@ -23,3 +19,10 @@ pub mod ResponseFiles
 pub mod Views
 pub use Rattle.scl_args.specs.Words
 pub mod WordsToCome
+-- What only contracts of private functions cite: how the code keeps and reads what those above speak of.
+pub mod ExpansionState
+pub mod GnuReader
+pub mod MsvcReader
+pub mod Orders
+pub mod PathEntries
+pub mod PathMaps

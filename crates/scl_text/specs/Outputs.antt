@@ -1,9 +1,10 @@
 -- The outputs of a compilation, in the order of their names.
-use Rattle.std.specs.Prelude.{ℕ, List, [], ◌∷◌, Option, Some, None, if◌then◌else◌}
+use Rattle.std.specs.Prelude.{ℕ, Bool, true, false, List, [], ◌∷◌, Option, Some, None, if◌then◌else◌}
+use Rattle.std.specs.Option.{option_map, option_to_list}
 use Rattle.std.specs.Str.{bytes_eq}
 use Rattle.std.specs.Ordering.{nat_cmp, match_ordering}
 use Rattle.std.specs.Cmp.Lexicographic.{slice_cmp}
-use Rattle.scl_text.specs.Records.{Artifact}
+use Rattle.scl_text.specs.Records.{Artifact, artifact}
 
 -- the outputs with one more, at its place; one of the same name gives way
 abbrev pub put_output : List Artifact → Artifact → List Artifact
@@ -14,3 +15,16 @@ put_output (b ∷ bs) a = match_ordering (slice_cmp nat_cmp a.name b.name) (a �
 abbrev pub path_at : List Artifact → List ℕ → Option (List ℕ)
 path_at [] name = None
 path_at (a ∷ rest) name = if bytes_eq name a.name then Some a.path else path_at rest name
+
+-- the output of this name, if there is a path for it
+abbrev pub output_at : List ℕ → Bool → Option (List ℕ) → List Artifact
+output_at name optional path = option_to_list (option_map (λ p. artifact name p optional) path)
+
+-- the outputs with that of this name, if there is a path for it
+abbrev pub put_optional : List Artifact → List ℕ → Bool → Option (List ℕ) → List Artifact
+put_optional old name optional None = old
+put_optional old name optional (Some path) = put_output old (artifact name path optional)
+
+abbrev pub only_if : Bool → List ℕ → Option (List ℕ)
+only_if true path = Some path
+only_if false path = None

@@ -1,9 +1,11 @@
 //! The outputs of a compilation, by their names.
-ghost use Rattle.std.specs.Prelude.{◌≡◌, OnOk, OnErr};
+ghost use Rattle.std.specs.Prelude.{◌≡◌, IfOk, OnOk, OnErr};
 ghost use Rattle.std.specs.Option.{option_copied};
-ghost use Rattle.scl_text.specs.Outputs.{path_at, put_output};
-ghost use Rattle.scl_text.specs.Records.{artifact, artifacts};
+ghost use Rattle.scl_text.specs.Outputs.{only_if, path_at, put_optional, put_output};
+ghost use Rattle.scl_text.specs.Paths.{with_extension};
+ghost use Rattle.scl_text.specs.Records.{artifact, artifacts, path_of};
 
+use crate::path::with_extension;
 use crate::records::ArtifactDescriptor;
 use scl_args::Mem;
 use std::alloc::Global;
@@ -35,4 +37,45 @@ pub fn output_path<'a>(
     ensures { option_copied result ≡ path_at (artifacts outputs.now) name.now }
 {
     Some(&outputs.get(name)?.path)
+}
+
+/// Puts an output at its name, if there is a path for it. It fails only for want of memory (docs/RULES.md, Records).
+pub fn put_optional(
+    alloc: Global,
+    outputs: &mut BTreeMap<String, ArtifactDescriptor>,
+    name: &str,
+    optional: bool,
+    path: Option<Vec<u8>>,
+) -> Mem<()>
+    ensures { OnOk result (artifacts outputs.new ≡ put_optional (artifacts outputs.old) name.now optional (path_of path)) }
+{
+    match path {
+        Some(path) => put_output(alloc, outputs, name, path, optional),
+        None => Ok(()),
+    }
+}
+
+/// A copy of the path, if there is one. It fails only for want of memory.
+pub fn copied_path(alloc: Global, path: Option<&[u8]>) -> Mem<Option<Vec<u8>>>
+    ensures { IfOk result (λ copy. path_of copy ≡ option_copied path.entry) }
+{
+    match path {
+        Some(path) => Ok(Some(Vec::from_slice(alloc, path)?)),
+        None => Ok(None),
+    }
+}
+
+/// The path with this extension, if it is wanted. It fails only for want of memory.
+pub fn extended_if(
+    alloc: Global,
+    is_wanted: bool,
+    path: &[u8],
+    extension: &[u8],
+) -> Mem<Option<Vec<u8>>>
+    ensures { IfOk result (λ whole. path_of whole ≡ only_if is_wanted (with_extension path.now extension.now)) }
+{
+    if !is_wanted {
+        return Ok(None);
+    }
+    Ok(Some(with_extension(alloc, path, extension)?))
 }
