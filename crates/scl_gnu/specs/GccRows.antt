@@ -1,11 +1,8 @@
 -- Gcc's table.
-use Rattle.std.specs.Prelude.{ℕ, List, [], ◌∷◌, None, Some, codes}
-use Rattle.scl_args.specs.Row.{Row, Shape, bare, apart, joined, either}
+use Rattle.std.specs.Prelude.{List, [], ◌∷◌, None, Some, codes}
+use Rattle.scl_args.specs.Row.{Row, row, bare, apart, joined, either}
 use Rattle.scl_gnu.specs.declared.gcc.data.Kind.{Kind}
 use Rattle.scl_gnu.specs.declared.gcc.data.Kind.TheVariants as kind
-
-abbrev row : List ℕ → Kind → Shape → Row Kind
-row flag kind shape = record { flag = flag; kind = kind; shape = shape }
 
 -- the rows of Gcc's table
 unfoldable pub gcc_rows : List (Row Kind)

@@ -1,6 +1,6 @@
 -- What the kinds of options mean, and what the last of some options says.
 use Rattle.std.specs.Prelude.{ℕ, Bool, true, false, not, ◌&&◌, ◌||◌, List, [], ◌∷◌, Option, None, Some, codes, if◌then◌else◌}
-use Rattle.std.specs.List.{list_any, filter_map}
+use Rattle.std.specs.List.{list_any}
 use Rattle.std.specs.Option.{option_map}
 use Rattle.std.specs.Str.{bytes_eq}
 use Rattle.scl_args.specs.Seen.{Seen, Raw, Unknown, Known}
@@ -12,6 +12,7 @@ use Rattle.scl_gnu.specs.declared.gcc.data.Kind.TheVariants as kind
 use Rattle.scl_gnu.specs.contracts.gcc.data.KindPartialEq.TheImpl.{ghosts}
 use Rattle.scl_gnu.specs.declared.gcc.hash_files.HashRole.{HashRole}
 use Rattle.scl_gnu.specs.declared.gcc.hash_files.HashRole.TheVariants as roles
+use Rattle.scl_gnu.specs.Hashes.{Hashed, hashed_as}
 
 -- whether the option is of one of the kinds
 abbrev pub of : List Kind → Seen Kind → Bool
@@ -64,22 +65,9 @@ hash_role kind.ExtraHashFileClangModuleFile = Some roles.Module
 hash_role kind.ClangProfileUse = Some roles.Profile
 hash_role _ = None
 
--- such a file: how it is named, and the text
-pub record Hashed : Type 0 where
-  pub role : HashRole
-  pub text : List ℕ
-
-abbrev pub named_by : List ℕ → HashRole → Hashed
-named_by text role = record { role = role; text = text }
-
-abbrev pub hashed_by : Seen Kind → Option Hashed
-hashed_by (Raw w) = None
-hashed_by (Unknown w) = None
-hashed_by (Known f k v how) = option_map (named_by v) (hash_role k)
-
 -- the files on whose contents the outcome depends, as the options name them
 abbrev pub hashed : List (Seen Kind) → List Hashed
-hashed os = filter_map hashed_by os
+hashed os = hashed_as hash_role os
 
 -- ---- what the last of some options says
 

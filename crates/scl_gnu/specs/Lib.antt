@@ -1,11 +1,17 @@
+pub mod Again
 pub mod Building
+pub mod ClangRows
 pub mod Data
 pub mod FixedTests
 pub mod FoundBy
 pub mod GccRows
+pub mod Hashes
+pub mod Inners
 pub mod Kinds
 pub mod Places
+pub mod ReadAgain
 pub mod Readings
 pub mod Recordings
 pub mod Sorts
 pub mod Verdicts
+pub mod Versions

@@ -1,7 +1,7 @@
 -- The record of a compilation.
 use Rattle.std.specs.Prelude.{ℕ, ◌+◌, ◌==◌, Bool, true, false, not, ◌&&◌, List, [], ◌∷◌, ◌++◌, Option, None, Some, map, codes, nat_eq, drop, position, unwrap_or, is_some}
 use Rattle.std.specs.List.{starts_with}
-use Rattle.std.specs.Option.{option_map, option_to_list}
+use Rattle.std.specs.Option.{option_map}
 use Rattle.scl_args.specs.Options.{is_behind_dashes}
 use Rattle.scl_args.specs.Seen.{Seen}
 use Rattle.scl_text.specs.declared.records.CCompilerKind.{CCompilerKind}
@@ -9,24 +9,23 @@ use Rattle.scl_text.specs.declared.records.CCompilerKind.TheVariants as compiler
 use Rattle.scl_text.specs.declared.records.ColorMode.TheVariants as colors
 use Rattle.scl_text.specs.declared.language.Language.{Language}
 use Rattle.scl_text.specs.Languages.{needs_c_preprocessing}
-use Rattle.scl_text.specs.Outputs.{put_output}
+use Rattle.scl_text.specs.Outputs.{only_if, output_at}
 use Rattle.scl_text.specs.Paths.{join, with_extension}
-use Rattle.scl_text.specs.Records.{Artifact, artifact, Parsed}
+use Rattle.scl_text.specs.Records.{Artifact, Parsed}
 use Rattle.scl_text.specs.Views.{Viewed, is_directory}
 use Rattle.scl_gnu.specs.declared.gcc.hash_files.HashRole.{HashRole}
 use Rattle.scl_gnu.specs.declared.gcc.hash_files.HashRole.TheVariants as roles
 use Rattle.scl_gnu.specs.FixedTests.{Found}
+use Rattle.scl_gnu.specs.Hashes.{Hashed}
 use Rattle.scl_gnu.specs.declared.gcc.data.Kind.{Kind}
 use Rattle.scl_gnu.specs.declared.gcc.data.Kind.TheVariants as kind
+use Rattle.scl_gnu.specs.declared.gcc.place.Place.{Place}
 use Rattle.scl_gnu.specs.declared.gcc.place.Place.TheVariants as places
-use Rattle.scl_gnu.specs.Kinds.{Hashed, hashed, any, last_text, last_flag, is_input, color_mode, external_assembler, too_hard_flag}
+use Rattle.scl_gnu.specs.Kinds.{hashed, any, last_text, last_flag, is_input, color_mode, external_assembler, too_hard_flag}
+use Rattle.scl_gnu.specs.Inners.{inner_words_at}
 use Rattle.scl_gnu.specs.Places.{words_at}
 
 -- ---- outputs
-
-abbrev pub only_if : Bool → List ℕ → Option (List ℕ)
-only_if true path = Some path
-only_if false path = None
 
 abbrev pub unless_absent : Bool → Option (List ℕ) → Option (List ℕ)
 unless_absent true path = path
@@ -51,18 +50,11 @@ output_paths os f = record {
   object = f.object;
 }
 
-abbrev pub output_at : List ℕ → Bool → Option (List ℕ) → List Artifact
-output_at name optional path = option_to_list (option_map (λ p. artifact name p optional) path)
-
 -- those that there are, in the order of their names; `dwo` alone may be missing
 abbrev pub outputs : OutputPaths → List Artifact
 outputs o =
     output_at (codes "d") false o.depfile ++ output_at (codes "dia") false o.diagnostics ++ output_at (codes "dwo") true o.dwo
     ++ output_at (codes "gcno") false o.gcno ++ output_at (codes "module") false o.module_path ++ output_at (codes "obj") false (Some o.object)
-
-abbrev pub put_optional : List Artifact → List ℕ → Bool → Option (List ℕ) → List Artifact
-put_optional old name optional None = old
-put_optional old name optional (Some path) = put_output old (artifact name path optional)
 
 -- ---- added options
 
@@ -129,28 +121,33 @@ suppresses_rewritten_includes compiler os = (is_gcc compiler && any (kind.Pedant
 abbrev pub needs_target : Language → List (Seen Kind) → Bool
 needs_target language os = needs_c_preprocessing language && any (kind.NeedDepTarget ∷ []) os
 
+-- the words at a place: those of the outer options, then those of the inner ones
+abbrev pub all_words_at : Place → List (Seen Kind) → List (Seen Kind) → List (List ℕ)
+all_words_at there os inner = words_at there os ++ inner_words_at there inner
+
 -- the words about dependencies, and those that are added where a target is needed
-abbrev pub dependency_words : List (Seen Kind) → Found → List (List ℕ)
-dependency_words os f =
-    words_at places.Dependency os
+abbrev pub dependency_words : List (Seen Kind) → List (Seen Kind) → Found → List (List ℕ)
+dependency_words os inner f =
+    all_words_at places.Dependency os inner
     ++ added_dependency (needs_target f.language os) (is_some (last_text (kind.DepArgumentPath ∷ []) os))
     (last_flag (kind.DepTarget ∷ []) os) (last_text (kind.DepTarget ∷ []) os) f.object
 
-abbrev pub record_of : CCompilerKind → List ℕ → Viewed → List (Seen Kind) → Found → Parsed
-record_of compiler directory view os f = record {
+-- inner options give words and hashed files alone
+abbrev pub record_of : CCompilerKind → List ℕ → Viewed → List (Seen Kind) → List (Seen Kind) → Found → Parsed
+record_of compiler directory view os inner f = record {
   input = f.input;
   double_dash_input = is_behind_dashes is_input os;
   language = f.language;
   compilation_flag = f.compile_flag;
   depfile = None;
   outputs = outputs (output_paths os f);
-  dependency_args = dependency_words os f;
-  preprocessor_args = words_at places.Preprocessor os;
-  common_args = words_at places.Common os ++ added_common (any (kind.SplitDwarf ∷ []) os) f.object;
-  arch_args = words_at places.Arch os;
-  unhashed_args = words_at places.Unhashed os;
+  dependency_args = dependency_words os inner f;
+  preprocessor_args = all_words_at places.Preprocessor os inner;
+  common_args = all_words_at places.Common os inner ++ added_common (any (kind.SplitDwarf ∷ []) os) f.object;
+  arch_args = all_words_at places.Arch os inner;
+  unhashed_args = all_words_at places.Unhashed os inner;
   extra_dist_files = [];
-  extra_hash_files = map (hash_path directory view) (hashed os);
+  extra_hash_files = map (hash_path directory view) (hashed os ++ hashed inner);
   uses_external_assembler = unwrap_or (external_assembler os) (not (is_clang compiler));
   msvc_show_includes = false;
   msvc_explicit_language = false;

@@ -1,4 +1,4 @@
-//! The command lines of Gcc.
+//! The command lines of Gcc, and what Clang shares with it.
 
 mod added_words;
 mod args;
@@ -8,6 +8,7 @@ mod data;
 mod fixed_tests;
 mod hash_files;
 mod hash_paths;
+mod inner;
 mod inputs;
 mod judge;
 mod outputs;
@@ -20,6 +21,8 @@ pub use args::{ARCH_FLAG, ARGS, table};
 pub use command::{generate_compile_commands, language_to_gcc_arg};
 pub use compiler::Gcc;
 pub use data::{ArgData, Kind};
+pub use hash_files::{HashRole, NamesHashed, push_hashed};
 pub use hash_paths::{module_file_path, resolve_profile_use_path};
+pub use inner::read_inner;
 pub use parse::parse_arguments;
 pub use scl_text::GnuExpand as ExpandIncludeFile;

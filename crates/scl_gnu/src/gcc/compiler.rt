@@ -1,11 +1,10 @@
 //! Gcc.
-ghost use Rattle.std.specs.Prelude.{◌≡◌, IfOk, None};
-ghost use Rattle.std.specs.Option.{option_map};
-ghost use Rattle.std.specs.String.{string_bytes};
+ghost use Rattle.std.specs.Prelude.{◌≡◌, None};
 
 use super::args::table;
 use super::command::{generate_compile_commands, language_to_gcc_arg};
 use super::parse::parse_arguments;
+use crate::copied::copied_text;
 use scl_args::Mem;
 use scl_text::CCompilerImpl;
 use scl_text::records::{
@@ -35,15 +34,6 @@ impl Gcc {
             version: None,
             assembler_digest: None,
         }
-    }
-}
-
-fn copied_text(alloc: Global, text: &Option<String>) -> Mem<Option<String>>
-    ensures { IfOk result (λ copy. option_map string_bytes copy ≡ option_map string_bytes text.now) }
-{
-    match text {
-        Some(text) => Ok(Some(String::from_str(alloc, text.as_str())?)),
-        None => Ok(None),
     }
 }
 

@@ -3,10 +3,9 @@ ghost use Rattle.std.specs.Prelude.{◌≡◌, ◌++◌, OnOk, IfOk, map};
 ghost use Rattle.std.specs.Option.{option_map, option_to_list};
 ghost use Rattle.scl_args.specs.Seen.{seen};
 ghost use Rattle.scl_args.specs.Words.{words_of};
-ghost use Rattle.scl_gnu.specs.Data.{kind_of, word_of};
-ghost use Rattle.scl_gnu.specs.Kinds.{hash_role, hashed_by, hashed};
+ghost use Rattle.scl_gnu.specs.Hashes.{hashed_by, hashed_as, may_name_hashed};
+ghost use Rattle.scl_gnu.specs.Kinds.{hashed};
 ghost use Rattle.scl_gnu.specs.Recordings.{hash_path};
-ghost use Rattle.scl_gnu.specs.Sorts.{may_name_hashed};
 
 use super::data::{ArgData, Kind};
 use super::hash_paths::path_as;
@@ -25,31 +24,47 @@ pub enum HashRole {
     Profile,
 }
 
-fn hash_role(kind: Kind) -> Option<HashRole>
-    ensures { result ≡ hash_role kind }
-{
-    match kind {
-        Kind::ExtraHashFile => Some(HashRole::File),
-        Kind::ExtraHashFileClangModuleFile => Some(HashRole::Module),
-        Kind::ClangProfileUse => Some(HashRole::Profile),
-        _ => None,
+/// A value whose kind says how its options name files on whose contents the outcome depends (docs/RULES.md, Gcc).
+pub trait NamesHashed: ReadArg {
+    ghost use Rattle.std.specs.Prelude.{Option};
+    ghost use Rattle.scl_gnu.specs.declared.gcc.hash_files.HashRole.{HashRole};
+
+    ghost role: { Self.Kind → Option HashRole };
+
+    /// How options of the kind name such a file, if they do.
+    fn hash_role(kind: Self::Kind) -> Option<HashRole>
+        ensures { result ≡ role kind };
+}
+
+impl NamesHashed for ArgData {
+    ghost use Rattle.scl_gnu.specs.Kinds.{hash_role};
+
+    ghost role = { hash_role };
+
+    fn hash_role(kind: Kind) -> Option<HashRole> {
+        match kind {
+            Kind::ExtraHashFile => Some(HashRole::File),
+            Kind::ExtraHashFileClangModuleFile => Some(HashRole::Module),
+            Kind::ClangProfileUse => Some(HashRole::Profile),
+            _ => None,
+        }
     }
 }
 
-fn push_path(
+fn push_path<T: NamesHashed>(
     alloc: Global,
     paths: &mut Vec<Vec<u8>>,
-    option: &Argument<ArgData>,
+    option: &Argument<T>,
     cwd: &[u8],
     view: &View,
 ) -> Mem<()>
     ensures { OnOk result (words_of paths.new.items ≡ words_of paths.old.items
-        ++ option_to_list (option_map (hash_path cwd.now view.now) (hashed_by (seen kind_of word_of option.now)))) }
+        ++ option_to_list (option_map (hash_path cwd.now view.now) (hashed_by T.role (seen T.kind_of T.word_of option.now)))) }
 {
     match option {
         Argument::Raw(_) | Argument::UnknownFlag(_) => Ok(()),
         Argument::Flag(_, value) | Argument::WithValue(_, value, _) => {
-            if let Some(role) = hash_role(value.kind()) {
+            if let Some(role) = T::hash_role(value.kind()) {
                 paths.push(path_as(alloc, role, value.word(), cwd, view)?)?;
             }
             Ok(())
@@ -60,57 +75,78 @@ fn push_path(
 /// The options that name such files.
 struct Hashed;
 
-impl Test<ArgData> for Hashed {
-    ghost use Rattle.scl_gnu.specs.Sorts.{names_hashed, may_name_hashed, hashed_by_sort};
+impl<T: NamesHashed> Test<T> for Hashed {
+    ghost use Rattle.scl_gnu.specs.Hashes.{names_hashed, may_name_hashed, hashed_by_sort};
 
-    ghost passes = { λ _. names_hashed };
+    ghost passes = { λ _. names_hashed T.role };
 
-    ghost may_pass = { λ _. may_name_hashed };
+    ghost may_pass = { λ _. may_name_hashed T.role };
 
-    ghost passes_by_sort = { λ _. hashed_by_sort };
+    ghost passes_by_sort = { λ _. hashed_by_sort T.role };
 
-    fn passes(&self, option: &Argument<ArgData>) -> bool {
+    fn passes(&self, option: &Argument<T>) -> bool {
         match option {
             Argument::Raw(_) | Argument::UnknownFlag(_) => false,
             Argument::Flag(_, value) | Argument::WithValue(_, value, _) => {
-                hash_role(value.kind()).is_some()
+                T::hash_role(value.kind()).is_some()
             }
         }
     }
 
-    fn may_pass(&self, sort: Sort<Kind>) -> bool
-        ensures { result ≡ may_name_hashed sort }
+    fn may_pass(&self, sort: Sort<T::Kind>) -> bool
+        ensures { result ≡ may_name_hashed T.role sort }
     {
         match sort {
             Sort::Raw | Sort::Unknown => false,
-            Sort::Known(kind) => hash_role(kind).is_some(),
+            Sort::Known(kind) => T::hash_role(kind).is_some(),
         }
     }
 }
 
-fn paths_of(
+fn push_paths<T: NamesHashed>(
     alloc: Global,
-    options: &[Argument<ArgData>],
+    paths: &mut Vec<Vec<u8>>,
+    options: &[Argument<T>],
     cwd: &[u8],
     view: &View,
-) -> Mem<Vec<Vec<u8>>>
-    ensures { IfOk result (λ paths. words_of paths.items ≡ map (hash_path cwd.now view.now) (hashed (map (seen kind_of word_of) options.now))) }
+) -> Mem<()>
+    ensures { OnOk result (words_of paths.new.items ≡ words_of paths.old.items
+        ++ map (hash_path cwd.now view.now) (hashed_as T.role (map (seen T.kind_of T.word_of) options.now))) }
 {
-    let mut paths = Vec::new(alloc);
     for option in options {
-        push_path(alloc, &mut paths, option, cwd, view)?;
+        push_path(alloc, paths, option, cwd, view)?;
     }
-    Ok(paths)
+    Ok(())
 }
 
-/// The paths of the files that the options name, from the directory.
+/// Puts the paths of the files that the options name, from the directory, behind others (docs/RULES.md, Gcc). It fails
+/// only for want of memory, and some may then stand there.
+pub fn push_hashed<T: NamesHashed>(
+    alloc: Global,
+    paths: &mut Vec<Vec<u8>>,
+    options: &Options<T>,
+    cwd: &[u8],
+    view: &View,
+) -> Mem<()>
+    ensures { OnOk result (words_of paths.new.items ≡ words_of paths.old.items
+        ++ map (hash_path cwd.now view.now) (hashed_as T.role options.now)) }
+{
+    push_paths(alloc, paths, options.among(&Hashed), cwd, view)
+}
+
+/// The paths of the files that the options name, from the directory: first the outer options, then the inner ones.
 pub(crate) fn hash_paths(
     alloc: Global,
     options: &Options<ArgData>,
+    inner: &Options<ArgData>,
     cwd: &[u8],
     view: &View,
 ) -> Mem<Vec<Vec<u8>>>
-    ensures { IfOk result (λ paths. words_of paths.items ≡ map (hash_path cwd.now view.now) (hashed options.now)) }
+    ensures { IfOk result (λ paths. words_of paths.items
+        ≡ map (hash_path cwd.now view.now) (hashed options.now ++ hashed inner.now)) }
 {
-    paths_of(alloc, options.among(&Hashed), cwd, view)
+    let mut paths = Vec::new(alloc);
+    push_hashed(alloc, &mut paths, options, cwd, view)?;
+    push_hashed(alloc, &mut paths, inner, cwd, view)?;
+    Ok(paths)
 }

@@ -20,10 +20,11 @@ use scl_text::reasons::UNEXPANDED_FILE;
 use scl_text::refusal::{Refusal, argument_parse};
 use std::alloc::Global;
 
-fn judged_flag(flag: &'static str, value: &ArgData) -> Option<Refusal>
-    ensures { option_map verdict_of result ≡ flag_verdict (place (kind_of value.now)) flag.now }
+/// The refusal of an option by its flag, where its place is that of refused ones.
+pub(crate) fn judged_flag(place: Place, flag: &'static str) -> Option<Refusal>
+    ensures { option_map verdict_of result ≡ flag_verdict place flag.now }
 {
-    match place_of_kind(value.kind()) {
+    match place {
         Place::Refused => Some(Refusal::CannotCache(flag, None)),
         _ => None,
     }
@@ -92,7 +93,7 @@ fn judged_known(
     ensures { IfOk result (λ said. option_map verdict_of said
         ≡ or_else (flag_verdict (place (kind_of value.now)) flag.now) (value_verdict multiarch (last_text (Kind.Arch ∷ []) (map (seen kind_of word_of) before.now)) (kind_of value.now) (word_of value.now))) }
 {
-    match judged_flag(flag, value) {
+    match judged_flag(place_of_kind(value.kind()), flag) {
         Some(refusal) => Ok(Some(refusal)),
         None => judged_value(alloc, multiarch, before, value),
     }

@@ -1,16 +1,14 @@
 //! The outputs of a compilation.
-ghost use Rattle.std.specs.Prelude.{◌≡◌, IfOk, OnOk};
+ghost use Rattle.std.specs.Prelude.{◌≡◌, IfOk};
 ghost use Rattle.std.specs.Option.{option_copied};
-ghost use Rattle.scl_text.specs.Paths.{with_extension};
 ghost use Rattle.scl_text.specs.Records.{artifacts, path_of};
 ghost use Rattle.scl_gnu.specs.FoundBy.{found_of, paths_of};
-ghost use Rattle.scl_gnu.specs.Recordings.{only_if, unless_absent, output_paths, outputs, put_optional};
+ghost use Rattle.scl_gnu.specs.Recordings.{unless_absent, output_paths, outputs};
 
 use super::data::{ArgData, Kind};
 use super::fixed_tests::Finding;
 use scl_args::{Mem, OfKinds, Options};
-use scl_text::outputs::put_output;
-use scl_text::path::with_extension;
+use scl_text::outputs::{copied_path, extended_if, put_optional};
 use scl_text::records::ArtifactDescriptor;
 use std::alloc::Global;
 use std::collections::BTreeMap;
@@ -26,36 +24,13 @@ pub(crate) struct OutputFiles {
     pub(crate) object: Vec<u8>,
 }
 
-fn extended_if(
-    alloc: Global,
-    is_wanted: bool,
-    path: &[u8],
-    extension: &[u8],
-) -> Mem<Option<Vec<u8>>>
-    ensures { IfOk result (λ whole. path_of whole ≡ only_if is_wanted (with_extension path.now extension.now)) }
-{
-    if !is_wanted {
-        return Ok(None);
-    }
-    Ok(Some(with_extension(alloc, path, extension)?))
-}
-
-fn copied(alloc: Global, path: Option<&[u8]>) -> Mem<Option<Vec<u8>>>
-    ensures { IfOk result (λ copy. path_of copy ≡ option_copied path.entry) }
-{
-    match path {
-        Some(path) => Ok(Some(Vec::from_slice(alloc, path)?)),
-        None => Ok(None),
-    }
-}
-
 fn copied_if(alloc: Global, is_wanted: bool, path: Option<&[u8]>) -> Mem<Option<Vec<u8>>>
     ensures { IfOk result (λ copy. path_of copy ≡ unless_absent is_wanted (option_copied path.entry)) }
 {
     if !is_wanted {
         return Ok(None);
     }
-    copied(alloc, path)
+    copied_path(alloc, path)
 }
 
 /// Where the compilation puts what it makes.
@@ -73,30 +48,15 @@ pub(crate) fn output_files(
     let has_notes = options.any(&OfKinds(&[Kind::Coverage, Kind::TestCoverage]));
     Ok(OutputFiles {
         depfile: copied_if(alloc, has_depfile, dep_path)?,
-        diagnostics: copied(alloc, diagnostics)?,
+        diagnostics: copied_path(alloc, diagnostics)?,
         dwo: extended_if(alloc, has_dwo, &found.object, b"dwo")?,
         gcno: extended_if(alloc, has_notes, &found.object, b"gcno")?,
-        module_path: copied(
+        module_path: copied_path(
             alloc,
             found.module_path.as_ref().map(|path| path.as_slice()),
         )?,
         object: Vec::from_slice(alloc, &found.object)?,
     })
-}
-
-fn put_optional(
-    alloc: Global,
-    outputs: &mut BTreeMap<String, ArtifactDescriptor>,
-    name: &str,
-    optional: bool,
-    path: Option<Vec<u8>>,
-) -> Mem<()>
-    ensures { OnOk result (artifacts outputs.new ≡ put_optional (artifacts outputs.old) name.now optional (path_of path)) }
-{
-    match path {
-        Some(path) => put_output(alloc, outputs, name, path, optional),
-        None => Ok(()),
-    }
 }
 
 impl OutputFiles {

@@ -1,89 +1,65 @@
-//! The parser of Gcc's command lines.
-ghost use Rattle.std.specs.Prelude.{◌≡◌, IfOk, IsTrue, map};
-ghost use Rattle.scl_args.specs.Cuts.{cut};
-ghost use Rattle.scl_args.specs.Seen.{seen};
-ghost use Rattle.scl_args.specs.Tables.{owner_in, tables_hold_values};
-ghost use Rattle.scl_text.specs.Records.{outcome_of};
+//! The parser of the command lines of Gcc and Clang.
+ghost use Rattle.std.specs.Prelude.{◌≡◌, IfOk, IsTrue};
+ghost use Rattle.scl_args.specs.Tables.{tables_hold_values};
 ghost use Rattle.scl_args.specs.Words.{words_of};
-ghost use Rattle.scl_gnu.specs.Data.{holds_value, kind_of, word_of};
-ghost use Rattle.scl_gnu.specs.Readings.{recorded, read, read_cut, reading, tables_lack_inner};
-ghost use Rattle.scl_gnu.specs.Recordings.{is_clang};
+ghost use Rattle.scl_text.specs.Records.{outcome_of};
+ghost use Rattle.scl_gnu.specs.Data.{holds_value};
+ghost use Rattle.scl_gnu.specs.Readings.{recorded, read, reading};
 
-use super::data::ArgData;
+use super::data::{ArgData, Kind};
 use super::fixed_tests::find;
+use super::inner::{ByInnerVerdict, read_inner};
 use super::judge::ByVerdict;
 use super::record::{is_clang, record_of};
-use scl_args::{CutWords, Mem, Options, SearchableArgInfo, cut_options, judge_all};
+use scl_args::{Mem, OfKinds, Options, SearchableArgInfo};
 use scl_text::records::{CCompilerKind, CompilerArguments, ParsedArguments};
 use scl_text::view::View;
-use scl_text::{ExpansionKind, expand_all};
+use scl_text::{ExpansionKind, judge_words};
 use std::alloc::Global;
 
 /// The tests of options that are not refused, and the record of what they find.
 fn answer(
     alloc: Global,
     options: Options<ArgData>,
+    inner: Options<ArgData>,
     kind: CCompilerKind,
     plusplus: bool,
     cwd: &[u8],
     view: &View,
 ) -> Mem<CompilerArguments<ParsedArguments>>
-    ensures { IfOk result (λ answer. outcome_of answer ≡ recorded kind plusplus cwd.now view.now options) }
+    ensures { IfOk result (λ answer. outcome_of answer ≡ recorded kind plusplus cwd.now view.now options inner) }
 {
     match find(alloc, &options, plusplus)? {
         Ok(found) => {
-            let record = record_of(alloc, options, found, kind, cwd, view)?;
+            let record = record_of(alloc, options, &inner, found, kind, cwd, view)?;
             Ok(CompilerArguments::Ok(record))
         }
         Err(refusal) => Ok(refusal.into_answer()),
     }
 }
 
-/// What the options say.
+/// What options that are not refused say, with the inner ones that they hand on.
 fn read(
     alloc: Global,
-    cut: CutWords<ArgData>,
+    options: Options<ArgData>,
     cwd: &[u8],
     plusplus: bool,
     kind: CCompilerKind,
     view: &View,
 ) -> Mem<CompilerArguments<ParsedArguments>>
-    ensures { IfOk result (λ answer. outcome_of answer
-        ≡ read kind plusplus cwd.now view.now (map (seen kind_of word_of) cut.options.items) cut.is_dangling) }
+    ensures { IfOk result (λ answer. outcome_of answer ≡ read kind plusplus cwd.now view.now options) }
 {
-    let judge = ByVerdict {
-        multiarch: view.multiarch(),
-    };
-    match judge_all(alloc, &judge, cut)? {
-        Ok(options) => {
-            let options = Options::new(alloc, options)?;
-            answer(alloc, options, kind, plusplus, cwd, view)
-        }
+    let words = options.texts(alloc, &OfKinds(&[Kind::XClang]))?;
+    match read_inner(alloc, &words, cwd, &ByInnerVerdict, view)? {
+        Ok(inner) => answer(alloc, options, inner, kind, plusplus, cwd, view),
         Err(refusal) => Ok(refusal.into_answer()),
     }
 }
 
-/// What words without response files say.
-fn parse_words<S: SearchableArgInfo<ArgData> + Drop>(
-    alloc: Global,
-    words: Vec<Vec<u8>>,
-    cwd: &[u8],
-    arg_info: S,
-    plusplus: bool,
-    kind: CCompilerKind,
-    view: &View,
-) -> Mem<CompilerArguments<ParsedArguments>>
-    requires { IsTrue (tables_hold_values holds_value (S.tables arg_info)) }
-    ensures { IfOk result (λ answer. outcome_of answer
-        ≡ read_cut kind plusplus cwd.now view.now (cut (owner_in (S.tables arg_info)) (is_clang kind) (words_of words.items))) }
-{
-    let cut = cut_options(alloc, words, arg_info, is_clang(kind))?;
-    read(alloc, cut, cwd, plusplus, kind, view)
-}
-
-/// What a command line says, by tables without inner lists: the record; or the first verdict in option order, that
-/// of a last flag without its value or of the tests after it (docs/RULES.md, Gcc). Paths and words are bytes; the
-/// directory and the view answer what is asked of files. The error is the refusal of memory.
+/// What a command line says by the tables handed in: the record; or the first verdict in option order, that of a last
+/// flag without its value, the same of the inner options, or that of the tests after them (docs/RULES.md, Gcc, and
+/// Inner command lines). Paths and words are bytes; the directory and the view answer what is asked of files. The error
+/// is the refusal of memory.
 pub fn parse_arguments<S: SearchableArgInfo<ArgData> + Drop>(
     alloc: Global,
     arguments: &[Vec<u8>],
@@ -93,10 +69,24 @@ pub fn parse_arguments<S: SearchableArgInfo<ArgData> + Drop>(
     kind: CCompilerKind,
     view: &View,
 ) -> Mem<CompilerArguments<ParsedArguments>>
-    requires values { IsTrue (tables_hold_values holds_value (S.tables arg_info)) }
-    requires no_inner_lists { IsTrue (tables_lack_inner (S.tables arg_info)) }
+    requires { IsTrue (tables_hold_values holds_value (S.tables arg_info)) }
     ensures { IfOk result (λ answer. outcome_of answer ≡ reading kind plusplus (S.tables arg_info) cwd.now view.now (words_of arguments.now)) }
 {
-    let words = expand_all(alloc, ExpansionKind::Gnu, cwd, arguments, view)?;
-    parse_words(alloc, words, cwd, arg_info, plusplus, kind, view)
+    let judge = ByVerdict {
+        multiarch: view.multiarch(),
+    };
+    let dashes = is_clang(kind);
+    match judge_words(
+        alloc,
+        ExpansionKind::Gnu,
+        arguments,
+        cwd,
+        arg_info,
+        dashes,
+        &judge,
+        view,
+    )? {
+        Ok(options) => read(alloc, options, cwd, plusplus, kind, view),
+        Err(refusal) => Ok(refusal.into_answer()),
+    }
 }

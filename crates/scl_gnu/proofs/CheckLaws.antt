@@ -1,0 +1,24 @@
+use Rattle.std.proofs.Common.{◌≡◌, true, [], ◌∷◌, refl}
+use Rattle.std.specs.Prelude.{codes}
+use Rattle.scl_args.specs.Options.{side_of_flag}
+use Rattle.scl_args.specs.Tables.{all_rows}
+use Rattle.scl_again.specs.Checks.{PassChecks, has_no_kept}
+use Rattle.scl_gnu.specs.Again.{carried, carried_inner}
+use Rattle.scl_gnu.specs.ClangRows.{clang_rows, clang_tables}
+use Rattle.scl_gnu.specs.GccRows.{gcc_rows}
+
+pub gcc_passes : PassChecks (gcc_rows ∷ []) carried side_of_flag
+unfolding gcc_rows clang_rows
+gcc_passes = record { keeps = refl; safe = refl }
+
+pub clang_passes : PassChecks clang_tables carried side_of_flag
+unfolding gcc_rows clang_rows
+clang_passes = record { keeps = refl; safe = refl }
+
+pub inner_passes : PassChecks clang_tables carried_inner side_of_flag
+unfolding gcc_rows clang_rows
+inner_passes = record { keeps = refl; safe = refl }
+
+pub xclang_alone : has_no_kept carried (codes "-Xclang") (all_rows clang_tables) ≡ true
+unfolding gcc_rows clang_rows
+xclang_alone = refl

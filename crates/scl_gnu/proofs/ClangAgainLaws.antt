@@ -1,0 +1,97 @@
+use Rattle.std.proofs.Common.{ℕ, true, List, [], ◌∷◌, ◌++◌, map, Option, None, Some, refl}
+use Rattle.std.proofs.lemmas.List.{append-nil}
+use Rattle.std.specs.Prelude.{codes}
+use Rattle.scl_args.specs.Each.{Each}
+use Rattle.scl_args.specs.Options.{side_of_flag, texts}
+use Rattle.scl_args.specs.Row.{Row, row, apart, joined, either}
+use Rattle.scl_args.specs.Seen.{Seen, Plain, shown}
+use Rattle.scl_args.specs.Seen as plain
+use Rattle.scl_args.specs.Tables.{owner_in, all_rows}
+use Rattle.scl_args.proofs.OwnerLaws.{owner_in-is}
+use Rattle.scl_again.specs.Checks.{is_changing, is_joining}
+use Rattle.scl_again.specs.Origins.{IsClear}
+use Rattle.scl_again.specs.Reads.{Reads}
+use Rattle.scl_again.proofs.FreshLaws.{fresh-either}
+use Rattle.scl_again.proofs.OriginLaws.{has_row}
+use Rattle.scl_again.proofs.ReadsLaws.{reads-apart, reads-either_apart, reads-joined}
+use Rattle.scl_text.specs.declared.expand.ExpansionKind.TheVariants as expansions
+use Rattle.scl_text.specs.declared.records.CCompilerKind.TheVariants as compilers
+use Rattle.scl_text.specs.Expand.{expand}
+use Rattle.scl_text.specs.Languages.{clang_text}
+use Rattle.scl_text.specs.Views.{Viewed}
+use Rattle.scl_gnu.specs.declared.gcc.data.Kind.{Kind}
+use Rattle.scl_gnu.specs.declared.gcc.data.Kind.TheVariants as kind
+use Rattle.scl_gnu.specs.Again.{carried}
+use Rattle.scl_gnu.specs.ClangRows.{clang_rows, clang_tables}
+use Rattle.scl_gnu.specs.GccRows.{gcc_rows}
+use Rattle.scl_gnu.specs.Kinds.{of}
+use Rattle.scl_gnu.specs.ReadAgain.{options_of, inner_options_of, behind_xclang, ClangCommandsAreReadAgain}
+use Rattle.scl_gnu.proofs.CheckLaws.{clang_passes, xclang_alone}
+use Rattle.scl_gnu.proofs.OwnWordsLaws.{OwnWords, AreInners}
+use Rattle.scl_gnu.proofs.ReadAgainLaws.{commands-again}
+
+abbrev own : List ℕ → Option (Row Kind)
+own = owner_in clang_tables
+
+language_row : Row Kind
+language_row = row (codes "-x") kind.Language (either None)
+
+output_row : Row Kind
+output_row = row (codes "-o") kind.Output (either None)
+
+color_row : Row Kind
+color_row = row (codes "-fdiagnostics-color") kind.DiagnosticsColor (joined (Some 61))
+
+define_row : Row Kind
+define_row = row (codes "-D") kind.PassThrough (either None)
+
+depfile_row : Row Kind
+depfile_row = row (codes "-MF") kind.DepArgumentPath (either None)
+
+target_row : Row Kind
+target_row = row (codes "-MT") kind.DepTarget (either None)
+
+xclang_row : Row Kind
+xclang_row = row (codes "-Xclang") kind.XClang apart
+
+own_words : OwnWords clang_tables true
+unfolding gcc_rows clang_rows language_row output_row color_row define_row depfile_row target_row
+own_words = record {
+  pass = clang_passes;
+  language = λ text. reads-either_apart own true language_row None text refl (record { is = refl; no_mark = refl });
+  output = λ object. reads-either_apart own true output_row None object refl (record { is = refl; no_mark = refl });
+  color = reads-joined own true color_row (Some 61) (codes "always") refl (record { is = refl; no_mark = refl });
+  define = λ path. fresh-either own true (all_rows clang_tables) (owner_in-is clang_tables) (is_changing carried) (is_joining side_of_flag) clang_passes.keeps clang_passes.safe define_row
+      (has_row own true (all_rows clang_tables) (owner_in-is clang_tables) define_row (codes "-D") (record { is = refl; no_mark = refl })) refl refl refl 95 (codes "gsplit_dwarf_path=" ++ path);
+  depfile = λ path. reads-either_apart own true depfile_row None path refl (record { is = refl; no_mark = refl });
+  target = λ path. reads-either_apart own true target_row None path refl (record { is = refl; no_mark = refl });
+  compile_flags = refl;
+  target_flags = refl;
+  other_flags = refl;
+}
+
+reads-wrapped : (w : List ℕ) → Reads own true (codes "-Xclang" ∷ w ∷ []) (plain.value (codes "-Xclang") kind.XClang w ∷ [])
+unfolding gcc_rows clang_rows xclang_row
+reads-wrapped w = reads-apart own true xclang_row w refl (record { is = refl; no_mark = refl })
+
+handed : (directory : List ℕ) (view : Viewed) (words : List (List ℕ)) →
+    let inner = inner_options_of directory view (map shown (options_of clang_tables true directory view words)) in
+    Each IsClear inner → AreInners clang_tables true (map shown inner) (behind_xclang inner ∷ [])
+handed directory view words clear =
+    let os = map shown (options_of clang_tables true directory view words) in
+    record {
+      are = (
+        record {
+          clear = record { words = expand expansions.Gnu directory view.files (texts (of (kind.XClang ∷ [])) os); are = refl; clear = clear };
+          wraps = reads-wrapped;
+          alone = xclang_alone;
+        },
+        tt,
+      );
+      own_flags = (tt, tt);
+      flags = (refl, tt);
+      words_are = λ there. append-nil _;
+    }
+
+pub commands_again : ClangCommandsAreReadAgain
+commands_again = commands-again compilers.Clang clang_tables own_words clang_text (λ inner. behind_xclang inner ∷ []) handed

@@ -1,0 +1,104 @@
+use Rattle.std.proofs.Common.{◌≡◌, ℕ, true, false, List, [], ◌∷◌, ◌++◌, map, Option, None, Some, refl, sym, ap, ◌∙◌}
+use Rattle.std.specs.List.{list_all}
+use Rattle.std.specs.Prelude.{codes, not, ◌||◌}
+use Rattle.scl_args.specs.Cuts.{cut}
+use Rattle.scl_args.specs.Each.{Each}
+use Rattle.scl_args.specs.Options.{side_of_flag, text_of}
+use Rattle.scl_args.specs.Row.{Row, row, apart, joined, either}
+use Rattle.scl_args.specs.Seen.{Seen, shown}
+use Rattle.scl_args.specs.Tables.{owner_in, all_rows}
+use Rattle.scl_args.proofs.OwnerLaws.{owner_in-is}
+use Rattle.scl_again.specs.Checks.{is_changing, is_joining}
+use Rattle.scl_again.specs.Origins.{IsClear}
+use Rattle.scl_again.proofs.FoundLaws.{IsFound, found}
+use Rattle.scl_again.proofs.FreshLaws.{fresh-either}
+use Rattle.scl_again.proofs.OriginLaws.{has_row}
+use Rattle.scl_again.proofs.OtherValueLaws.{flag-so}
+use Rattle.scl_again.proofs.ReadsLaws.{reads-apart, reads-either_apart, reads-joined}
+use Rattle.scl_text.proofs.ExpandLemmas.{expand-nil}
+use Rattle.scl_text.specs.declared.expand.ExpansionKind.TheVariants as expansions
+use Rattle.scl_text.specs.declared.records.CCompilerKind.TheVariants as compilers
+use Rattle.scl_text.specs.Expand.{expand}
+use Rattle.scl_text.specs.Languages.{gcc_text}
+use Rattle.scl_text.specs.Views.{Viewed}
+use Rattle.scl_gnu.specs.declared.gcc.data.Kind.{Kind}
+use Rattle.scl_gnu.specs.declared.gcc.data.Kind.TheVariants as kind
+use Rattle.scl_gnu.specs.Again.{carried}
+use Rattle.scl_gnu.specs.ClangRows.{clang_tables}
+use Rattle.scl_gnu.specs.GccRows.{gcc_rows}
+use Rattle.scl_gnu.specs.Inners.{inner_words_at}
+use Rattle.scl_gnu.specs.Kinds.{of}
+use Rattle.scl_gnu.specs.ReadAgain.{options_of, inner_options_of, GccCommandsAreReadAgain}
+use Rattle.scl_gnu.proofs.CheckLaws.{gcc_passes}
+use Rattle.scl_gnu.proofs.KeptLaws.{is_kind}
+use Rattle.scl_gnu.proofs.OwnWordsLaws.{OwnWords, AreInners}
+use Rattle.scl_gnu.proofs.ReadAgainLaws.{commands-again}
+
+abbrev tables : List (List (Row Kind))
+tables = gcc_rows ∷ []
+
+abbrev own : List ℕ → Option (Row Kind)
+own = owner_in tables
+
+language_row : Row Kind
+language_row = row (codes "-x") kind.Language (either None)
+
+output_row : Row Kind
+output_row = row (codes "-o") kind.Output (either None)
+
+color_row : Row Kind
+color_row = row (codes "-fdiagnostics-color") kind.DiagnosticsColor (joined (Some 61))
+
+define_row : Row Kind
+define_row = row (codes "-D") kind.PassThrough (either None)
+
+depfile_row : Row Kind
+depfile_row = row (codes "-MF") kind.DepArgumentPath apart
+
+target_row : Row Kind
+target_row = row (codes "-MT") kind.DepTarget apart
+
+own_words : OwnWords tables false
+unfolding gcc_rows language_row output_row color_row define_row depfile_row target_row
+own_words = record {
+  pass = gcc_passes;
+  language = λ text. reads-either_apart own false language_row None text refl (record { is = refl; no_mark = refl });
+  output = λ object. reads-either_apart own false output_row None object refl (record { is = refl; no_mark = refl });
+  color = reads-joined own false color_row (Some 61) (codes "always") refl (record { is = refl; no_mark = refl });
+  define = λ path. fresh-either own false (all_rows tables) (owner_in-is tables) (is_changing carried) (is_joining side_of_flag) gcc_passes.keeps gcc_passes.safe define_row
+      (has_row own false (all_rows tables) (owner_in-is tables) define_row (codes "-D") (record { is = refl; no_mark = refl })) refl refl refl 95 (codes "gsplit_dwarf_path=" ++ path);
+  depfile = λ path. reads-apart own false depfile_row path refl (record { is = refl; no_mark = refl });
+  target = λ path. reads-apart own false target_row path refl (record { is = refl; no_mark = refl });
+  compile_flags = refl;
+  target_flags = refl;
+  other_flags = refl;
+}
+
+-- ---- no row hands words on
+
+no_row : list_all (λ row. not (is_kind kind.XClang row.kind) || false) (all_rows tables) ≡ true
+unfolding gcc_rows
+no_row = refl
+
+none-found : (os : List (Seen Kind)) → Each (IsFound tables false (of (kind.XClang ∷ []))) os → map text_of os ≡ []
+none-found [] h = refl
+none-found (o ∷ os) h = absurd (let no : false ≡ true = flag-so tables false (is_kind kind.XClang) (λ f. false) no_row (of (kind.XClang ∷ [])) (λ x. refl) o h.0 in cc)
+
+no_inner : (directory : List ℕ) (view : Viewed) (words : List (List ℕ)) → map shown (inner_options_of directory view (map shown (options_of tables false directory view words))) ≡ []
+no_inner directory view words =
+    let none = none-found _ (found tables false (of (kind.XClang ∷ [])) (expand expansions.Gnu directory view.files words)) in
+    ap (λ ws. map shown (options_of clang_tables false directory view ws)) none
+    ∙ ap (λ ws. map shown (cut (owner_in clang_tables) false ws).options) (expand-nil expansions.Gnu directory view.files)
+
+handed : (directory : List ℕ) (view : Viewed) (words : List (List ℕ)) →
+    let inner = inner_options_of directory view (map shown (options_of tables false directory view words)) in
+    Each IsClear inner → AreInners tables false (map shown inner) []
+handed directory view words clear = record {
+  are = tt;
+  own_flags = tt;
+  flags = tt;
+  words_are = λ there. sym (ap (inner_words_at there) (no_inner directory view words));
+}
+
+pub commands_again : GccCommandsAreReadAgain
+commands_again = commands-again compilers.Gcc tables own_words gcc_text (λ inner. []) handed

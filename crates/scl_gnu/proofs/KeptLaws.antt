@@ -1,0 +1,87 @@
+-- Lists carry options of the kinds that the checks of tables are for, and unknown ones.
+use Rattle.std.proofs.Common.{◌≡◌, Bool, true, false, List, [], ◌∷◌, refl}
+use Rattle.std.specs.List.{list_any}
+use Rattle.scl_args.specs.Cuts.{Cut, raw, unknown, flag, with_value}
+use Rattle.scl_args.specs.Each.{Each}
+use Rattle.scl_args.specs.Options.{side_of_flag}
+use Rattle.scl_args.specs.Row.{Row}
+use Rattle.scl_args.specs.Seen.{Plain, shown}
+use Rattle.scl_args.specs.Wrapped.{wrapped_apart}
+use Rattle.scl_again.specs.Commands.{Inner, values_at, raw_words}
+use Rattle.scl_again.specs.Origins.{IsKept}
+use Rattle.scl_again.proofs.CommandLaws.{IsList}
+use Rattle.scl_again.proofs.RawLaws.{HasNoRaws}
+use Rattle.std.specs.Prelude.{codes}
+use Rattle.scl_gnu.specs.declared.gcc.data.Kind.{Kind}
+use Rattle.scl_gnu.specs.declared.gcc.data.Kind.TheVariants as kind
+use Rattle.scl_gnu.specs.contracts.gcc.data.KindPartialEq.TheImpl as kinds
+use Rattle.scl_gnu.specs.contracts.gcc.place.PlacePartialEq.TheImpl.{ghosts}
+use Rattle.scl_gnu.specs.declared.gcc.place.Place.{Place}
+use Rattle.scl_gnu.specs.declared.gcc.place.Place.TheVariants as places
+use Rattle.scl_gnu.specs.Again.{is_list, carried, carried_inner}
+use Rattle.scl_gnu.specs.ClangRows.{clang_tables}
+use Rattle.scl_gnu.specs.Inners.{inner_place, goes_inside_to}
+use Rattle.scl_gnu.specs.Places.{place, goes_to}
+use Rattle.scl_gnu.specs.ReadAgain.{list_of}
+
+-- ---- places
+
+same-list : (a there : Place) → is_list there ≡ true → ghosts.eq a there ≡ true → is_list a ≡ true
+same-list places.Preprocessor there l e = refl
+same-list places.Dependency there l e = refl
+same-list places.Unhashed there l e = refl
+same-list places.Common there l e = refl
+same-list places.Arch there l e = refl
+same-list places.Nowhere places.Nowhere l e = l
+same-list places.Nowhere places.Refused l e = l
+same-list places.Nowhere places.Preprocessor l e = absurd (cc)
+same-list places.Nowhere places.Dependency l e = absurd (cc)
+same-list places.Nowhere places.Unhashed l e = absurd (cc)
+same-list places.Nowhere places.Common l e = absurd (cc)
+same-list places.Nowhere places.Arch l e = absurd (cc)
+same-list places.Refused places.Nowhere l e = l
+same-list places.Refused places.Refused l e = l
+same-list places.Refused places.Preprocessor l e = absurd (cc)
+same-list places.Refused places.Dependency l e = absurd (cc)
+same-list places.Refused places.Unhashed l e = absurd (cc)
+same-list places.Refused places.Common l e = absurd (cc)
+same-list places.Refused places.Arch l e = absurd (cc)
+
+module _ (there : Place) (lists : is_list there ≡ true) where
+  keeps : (dashes : Bool) (c : Cut Kind) → goes_to there (shown c) ≡ true → IsKept dashes carried c
+  keeps dashes (raw w) e = absurd (let no : false ≡ true = same-list places.Nowhere there lists e in cc)
+  keeps dashes (unknown w) e = tt
+  keeps dashes (flag row) e = tt
+  keeps dashes (with_value row v h) e = same-list (place row.kind) there lists e
+
+  keeps_inner : (c : Cut Kind) → goes_inside_to there (shown c) ≡ true → IsKept false carried_inner c
+  keeps_inner (raw w) e = refl
+  keeps_inner (unknown w) e = tt
+  keeps_inner (flag row) e = tt
+  keeps_inner (with_value row v h) e = same-list (inner_place row.kind) there lists e
+
+  nowhere : ghosts.eq places.Nowhere there ≡ false
+  nowhere = elim (ghosts.eq places.Nowhere there) as (λ b. ghosts.eq places.Nowhere there ≡ b → b ≡ false) [
+    | true ↦ λ e. absurd (let no : false ≡ true = same-list places.Nowhere there lists e in cc)
+    | false ↦ λ e. refl
+  ] refl
+
+  pub no-raws : (added : List (Plain Kind)) → raw_words added ≡ [] → HasNoRaws (list_of there added)
+  no-raws added none = record { carries_none = λ w. nowhere; adds_none = none }
+
+  pub is-list : (tables : List (List (Row Kind))) (dashes : Bool) (inners : List (Inner Kind Kind)) (added : List (Plain Kind)) → Each (λ i. values_at i.flag added ≡ []) inners
+      → IsList tables dashes clang_tables carried carried_inner side_of_flag (λ i w. wrapped_apart (codes "-Xclang") w) inners (list_of there added)
+  is-list tables dashes inners added none = record { keeps = keeps dashes; keeps_inner = keeps_inner; adds_none = none }
+
+-- ---- kinds
+
+abbrev pub is_kind : Kind → Kind → Bool
+is_kind k other = list_any (λ x. kinds.ghosts.eq x other) (k ∷ [])
+
+pub compiles-alone : (x : Kind) → is_kind kind.DoCompilation x ≡ true → x ≡ kind.DoCompilation
+compiles-alone kind.DoCompilation e = refl
+compiles-alone _ e = absurd (cc)
+
+pub target-alone : (x : Kind) → is_kind kind.DepTarget x ≡ true → x ≡ kind.DepTarget
+target-alone kind.DepTarget e = refl
+target-alone _ e = absurd (cc)

@@ -1,0 +1,124 @@
+-- What an outcome Ok says of the options of a command line.
+use Rattle.std.proofs.Common.{◌≡◌, ℕ, Bool, true, false, List, [], ◌∷◌, ◌++◌, map, Option, None, Some, Ok, refl, ap, ◌∙◌, cond}
+use Rattle.std.specs.Prelude.{codes}
+use Rattle.std.specs.Str.{bytes_eq}
+use Rattle.scl_args.specs.Cuts.{cut, is_dangling}
+use Rattle.scl_args.specs.Options.{texts, wanted}
+use Rattle.scl_args.specs.Row.{Row}
+use Rattle.scl_args.specs.Seen.{Seen, shown}
+use Rattle.scl_args.specs.Tables.{owner_in}
+use Rattle.scl_again.proofs.OutcomeLaws.{bind-ok, wanted-ok, judged-ok}
+use Rattle.scl_text.specs.declared.expand.ExpansionKind.TheVariants as expansions
+use Rattle.scl_text.specs.declared.records.CCompilerKind.{CCompilerKind}
+use Rattle.scl_text.specs.Commands.{object_of}
+use Rattle.scl_text.specs.Expand.{expand}
+use Rattle.scl_text.specs.JudgedWords.{judged_words}
+use Rattle.scl_text.specs.Outputs.{output_at, path_at}
+use Rattle.scl_text.specs.Reasons.{argument_parse, invalid_input_file, unknown_source_language}
+use Rattle.scl_text.specs.Records.{Artifact, Parsed, NotCompilation}
+use Rattle.scl_text.specs.Refusals.{the_input}
+use Rattle.scl_text.specs.Views.{Viewed}
+use Rattle.scl_gnu.specs.declared.gcc.data.Kind.{Kind}
+use Rattle.scl_gnu.specs.declared.gcc.data.Kind.TheVariants as kind
+use Rattle.scl_gnu.specs.ClangRows.{clang_tables}
+use Rattle.scl_gnu.specs.FixedTests as tests
+use Rattle.scl_gnu.specs.FixedTests.{Found, found, language_of, module_path_unless}
+use Rattle.scl_gnu.specs.Inners.{inner_reading, inner_verdict}
+use Rattle.scl_gnu.specs.Kinds.{of, any, is_input, last_flag, last_text}
+use Rattle.scl_gnu.specs.ReadAgain.{options_of, inner_options_of}
+use Rattle.scl_gnu.specs.Readings.{read, reading, recorded}
+use Rattle.scl_gnu.specs.Recordings.{is_clang, record_of, OutputPaths, outputs, output_paths}
+use Rattle.scl_gnu.specs.Verdicts.{verdict}
+
+-- ---- what the tests found
+
+the_input-ok : (xs : List (List ℕ)) (x : List ℕ) → the_input xs ≡ Ok x → xs ≡ x ∷ []
+the_input-ok [] x e = absurd (cc)
+the_input-ok (y ∷ []) x e = cc
+the_input-ok (y ∷ z ∷ ys) x e = absurd (cc)
+
+pub record HasFound (os : List (Seen Kind)) (f : Found) : Type 0 where
+  pub flag_is : last_flag (kind.DoCompilation ∷ []) os ≡ Some f.compile_flag
+  pub input_is : texts is_input os ≡ f.input ∷ []
+
+pub has-found : (plusplus : Bool) (os : List (Seen Kind)) (f : Found) → found plusplus os ≡ Ok f → HasFound os f
+has-found plusplus os f e =
+    let a = bind-ok (wanted (last_flag (kind.DoCompilation ∷ []) os) NotCompilation) _ f e in
+    let b = bind-ok (the_input (texts is_input os)) _ f a.2 in
+    let c = bind-ok (wanted (language_of plusplus (last_text (kind.Language ∷ []) os) b.0) unknown_source_language) _ f b.2 in
+    let d = bind-ok (wanted (tests.object_of (last_text (kind.Output ∷ []) os) b.0) invalid_input_file) _ f c.2 in
+    let m = bind-ok (module_path_unless (any (kind.ModuleOnlyFlag ∷ []) os) (last_text (kind.ClangModuleOutput ∷ []) os) b.0 d.0) _ f d.2 in
+    let made : Found = record { compile_flag = a.0; input = b.0; language = c.0; object = d.0; module_path = m.0 } in
+    let is : made ≡ f = cc (m.2) in
+    record {
+      flag_is = wanted-ok (last_flag (kind.DoCompilation ∷ []) os) NotCompilation a.0 a.1 ∙ ap (λ x. Some x.compile_flag) is;
+      input_is = the_input-ok (texts is_input os) b.0 b.1 ∙ ap (λ x. x.input ∷ []) is;
+    }
+
+-- ---- what was read
+
+module _ (compiler : CCompilerKind) (plusplus : Bool) (tables : List (List (Row Kind))) (directory : List ℕ) (view : Viewed) (words : List (List ℕ)) (p : Parsed) where
+  abbrev os : List (Seen Kind)
+  os = map shown (options_of tables (is_clang compiler) directory view words)
+
+  abbrev inner : List (Seen Kind)
+  inner = map shown (inner_options_of directory view os)
+
+  pub record IsRead : Type 0 where
+    pub tested : Found
+    pub has : HasFound os tested
+    pub is : record_of compiler directory view os inner tested ≡ p
+
+  pub is-read : reading compiler plusplus tables directory view words ≡ Ok p → IsRead
+  is-read e =
+      let c = cut (owner_in tables) (is_clang compiler) (expand expansions.Gnu directory view.files words) in
+      let handed = texts (of (kind.XClang ∷ [])) os in
+      let d = cut (owner_in clang_tables) false (expand expansions.Gnu directory view.files handed) in
+      let a = bind-ok (judged_words expansions.Gnu (verdict view.is_multiarch) argument_parse tables (is_clang compiler) directory view words) (read compiler plusplus directory view) p e in
+      let r : read compiler plusplus directory view os ≡ Ok p =
+      ap (read compiler plusplus directory view) (judged-ok (verdict view.is_multiarch) argument_parse os (is_dangling c.end) a.0 a.1) ∙ a.2 in
+      let b = bind-ok (inner_reading inner_verdict argument_parse directory view handed) (recorded compiler plusplus directory view os) p r in
+      let i : recorded compiler plusplus directory view os inner ≡ Ok p =
+      ap (recorded compiler plusplus directory view os) (judged-ok inner_verdict argument_parse inner (is_dangling d.end) b.0 b.1) ∙ b.2 in
+      let t = bind-ok (found plusplus os) _ p i in
+      record { tested = t.0; has = has-found plusplus os t.0 t.1; is = cc (t.2) }
+
+-- ---- the object of a record
+
+path-behind : (xs ys : List Artifact) (name : List ℕ) → path_at xs name ≡ None → path_at (xs ++ ys) name ≡ path_at ys name
+path-behind [] ys name e = refl
+path-behind (a ∷ xs) ys name e = elim (bytes_eq name a.name) as (λ b. cond b (Some a.path) (path_at xs name) ≡ None → cond b (Some a.path) (path_at (xs ++ ys) name) ≡ path_at ys name) [
+  | true ↦ λ n. absurd (cc)
+  | false ↦ λ n. path-behind xs ys name n
+] e
+
+module _ (name : List ℕ) where
+  no-path : (other : List ℕ) (optional : Bool) (path : Option (List ℕ)) → bytes_eq name other ≡ false → path_at (output_at other optional path) name ≡ None
+  no-path other optional None e = refl
+  no-path other optional (Some path) e = rw e refl
+
+  no-path-behind : (xs : List Artifact) (other : List ℕ) (optional : Bool) (path : Option (List ℕ)) → bytes_eq name other ≡ false → path_at xs name ≡ None → path_at (xs ++ output_at other optional path) name ≡ None
+  no-path-behind xs other optional path e none = path-behind xs (output_at other optional path) name none ∙ no-path other optional path e
+
+module _ (o : OutputPaths) where
+  abbrev two : List Artifact
+  two = output_at (codes "d") false o.depfile ++ output_at (codes "dia") false o.diagnostics
+
+  abbrev three : List Artifact
+  three = two ++ output_at (codes "dwo") true o.dwo
+
+  abbrev four : List Artifact
+  four = three ++ output_at (codes "gcno") false o.gcno
+
+  none-before : path_at (four ++ output_at (codes "module") false o.module_path) (codes "obj") ≡ None
+  none-before =
+      no-path-behind (codes "obj") four (codes "module") false o.module_path refl
+      (no-path-behind (codes "obj") three (codes "gcno") false o.gcno refl
+      (no-path-behind (codes "obj") two (codes "dwo") true o.dwo refl
+      (no-path-behind (codes "obj") (output_at (codes "d") false o.depfile) (codes "dia") false o.diagnostics refl (no-path (codes "obj") (codes "d") false o.depfile refl))))
+
+  object-is : path_at (outputs o) (codes "obj") ≡ Some o.object
+  object-is = path-behind (four ++ output_at (codes "module") false o.module_path) (output_at (codes "obj") false (Some o.object)) (codes "obj") none-before
+
+pub object-found : (compiler : CCompilerKind) (directory : List ℕ) (view : Viewed) (os inside : List (Seen Kind)) (f : Found) → object_of (record_of compiler directory view os inside f) ≡ Some f.object
+object-found compiler directory view os inside f = object-is (output_paths os f)

@@ -1,0 +1,113 @@
+-- Commands of Gcc and Clang that are read again.
+use Rattle.std.specs.Prelude.{◌≡◌, ℕ, Bool, true, false, List, [], ◌∷◌, ◌++◌, map, codes, Option, None, Some, Ok, unwrap_or, is_some}
+use Rattle.scl_args.specs.Cuts.{Cut, cut}
+use Rattle.scl_args.specs.Each.{Each}
+use Rattle.scl_args.specs.Options.{texts}
+use Rattle.scl_args.specs.Row.{Row}
+use Rattle.scl_args.specs.Seen.{Seen, Plain, shown}
+use Rattle.scl_args.specs.Seen as plain
+use Rattle.scl_args.specs.Tables.{owner_in}
+use Rattle.scl_again.specs.Commands.{Inner, CommandList, Parts, IsReadAgain}
+use Rattle.scl_again.specs.Origins.{IsClear, input_words}
+use Rattle.scl_text.specs.declared.expand.ExpansionKind.TheVariants as expansions
+use Rattle.scl_text.specs.declared.language.Language.{Language}
+use Rattle.scl_text.specs.declared.records.CCompilerKind.{CCompilerKind}
+use Rattle.scl_text.specs.declared.records.CCompilerKind.TheVariants as compilers
+use Rattle.scl_text.specs.declared.records.ColorMode.{ColorMode}
+use Rattle.scl_text.specs.declared.records.ColorMode.TheVariants as colors
+use Rattle.scl_text.specs.Commands.{object_of}
+use Rattle.scl_text.specs.Expand.{expand}
+use Rattle.scl_text.specs.Languages.{gcc_text, clang_text}
+use Rattle.scl_text.specs.Paths.{with_extension}
+use Rattle.scl_text.specs.Records.{Parsed}
+use Rattle.scl_text.specs.Views.{Viewed}
+use Rattle.scl_gnu.specs.declared.gcc.data.Kind.{Kind}
+use Rattle.scl_gnu.specs.declared.gcc.data.Kind.TheVariants as kind
+use Rattle.scl_gnu.specs.declared.gcc.place.Place.{Place}
+use Rattle.scl_gnu.specs.declared.gcc.place.Place.TheVariants as places
+use Rattle.scl_gnu.specs.Building.{command_words}
+use Rattle.scl_gnu.specs.ClangRows.{clang_tables}
+use Rattle.scl_gnu.specs.GccRows.{gcc_rows}
+use Rattle.scl_gnu.specs.Inners.{goes_inside_to}
+use Rattle.scl_gnu.specs.Kinds.{of, any, last_flag, last_text}
+use Rattle.scl_gnu.specs.Places.{goes_to}
+use Rattle.scl_gnu.specs.Readings.{reading}
+use Rattle.scl_gnu.specs.Recordings.{is_clang, needs_target}
+
+-- ---- what a command is made of
+
+abbrev pub language_option : Option (List ℕ) → List (Plain Kind)
+language_option None = []
+language_option (Some text) = plain.value (codes "-x") kind.Language text ∷ []
+
+abbrev pub color_option : ColorMode → List (Plain Kind)
+color_option colors.Off = []
+color_option colors.On = plain.value (codes "-fdiagnostics-color") kind.DiagnosticsColor (codes "always") ∷ []
+color_option colors.Auto = plain.value (codes "-fdiagnostics-color") kind.DiagnosticsColor (codes "always") ∷ []
+
+-- where split debug information goes, where that is asked for
+abbrev pub split_dwarf_option : Bool → List ℕ → List (Plain Kind)
+split_dwarf_option true object = plain.value (codes "-D") kind.PassThrough (codes "_gsplit_dwarf_path=" ++ with_extension object (codes "dwo")) ∷ []
+split_dwarf_option false object = []
+
+-- where the dependency file goes, unless that was said
+abbrev pub depfile_option : Bool → List ℕ → List (Plain Kind)
+depfile_option true object = []
+depfile_option false object = plain.value (codes "-MF") kind.DepArgumentPath (with_extension object (codes "d")) ∷ []
+
+-- the target of dependencies and their file, where a target is needed
+abbrev pub target_options : (is_needed has_path : Bool) (flag target : Option (List ℕ)) → List ℕ → List (Plain Kind)
+target_options true has_path flag target object = plain.value (unwrap_or flag (codes "-MT")) kind.DepTarget (unwrap_or target object) ∷ depfile_option has_path object
+target_options false has_path flag target object = []
+
+-- the list of the outer and inner options that go to the place, and of what is added
+abbrev pub list_of : Place → List (Plain Kind) → CommandList Kind Kind
+list_of there added = record { carries = goes_to there; carries_inner = goes_inside_to there; added = added }
+
+-- of a record's command with this text for the language and this object file, where these are the options of the command line
+abbrev pub parts : Option (List ℕ) → List (Seen Kind) → Parsed → List ℕ → Parts Kind Kind
+parts text os p object = record {
+  front = language_option text ++ plain.flag p.compilation_flag kind.DoCompilation ∷ plain.value (codes "-o") kind.Output object ∷ [];
+  lists =
+      list_of places.Preprocessor [] ∷
+      list_of places.Dependency (target_options (needs_target p.language os) (is_some (last_text (kind.DepArgumentPath ∷ []) os))
+      (last_flag (kind.DepTarget ∷ []) os) (last_text (kind.DepTarget ∷ []) os) object) ∷
+      list_of places.Unhashed [] ∷
+      list_of places.Common (split_dwarf_option (any (kind.SplitDwarf ∷ []) os) object) ∷
+      list_of places.Arch [] ∷ [];
+  back = color_option p.color_mode ++ map plain.raw (input_words p.double_dash_input p.input);
+}
+
+-- ---- what a command line says
+
+-- what words with response files put in place are cut into
+abbrev pub options_of : List (List (Row Kind)) → Bool → List ℕ → Viewed → List (List ℕ) → List (Cut Kind)
+options_of tables dashes directory view words = (cut (owner_in tables) dashes (expand expansions.Gnu directory view.files words)).options
+
+-- the inner options that the options hand on
+abbrev pub inner_options_of : List ℕ → Viewed → List (Seen Kind) → List (Cut Kind)
+inner_options_of directory view os = options_of clang_tables false directory view (texts (of (kind.XClang ∷ [])) os)
+
+-- the inner command line of these options
+abbrev pub behind_xclang : List (Cut Kind) → Inner Kind Kind
+behind_xclang inner = record { flag = codes "-Xclang"; kind = kind.XClang; options = map shown inner }
+
+-- ---- the command read again
+
+-- where words without empty either values, inner ones too, have a record, by these tables, its command with this text for the language is read again
+abbrev pub CommandsAreReadAgain : CCompilerKind → List (List (Row Kind)) → (Language → Option (List ℕ)) → (List (Cut Kind) → List (Inner Kind Kind)) → Type 0
+CommandsAreReadAgain compiler tables text handed_on =
+    (plusplus : Bool) (directory : List ℕ) (view : Viewed) (words : List (List ℕ)) (p : Parsed) (object : List ℕ) →
+    reading compiler plusplus tables directory view words ≡ Ok p → object_of p ≡ Some object →
+    let options = options_of tables (is_clang compiler) directory view words in
+    let inner = inner_options_of directory view (map shown options) in
+    Each IsClear options → Each IsClear inner →
+    IsReadAgain tables (is_clang compiler) clang_tables (record { options = map shown options; inners = handed_on inner })
+    (parts (text p.language) (map shown options) p object) (command_words (text p.language) p object)
+
+-- Gcc has no flag that hands words on
+abbrev pub GccCommandsAreReadAgain : Type 0
+GccCommandsAreReadAgain = CommandsAreReadAgain compilers.Gcc (gcc_rows ∷ []) gcc_text (λ inner. [])
+
+abbrev pub ClangCommandsAreReadAgain : Type 0
+ClangCommandsAreReadAgain = CommandsAreReadAgain compilers.Clang clang_tables clang_text (λ inner. behind_xclang inner ∷ [])

@@ -1,0 +1,52 @@
+-- Which versions of Clang are new enough.
+use Rattle.std.specs.Prelude.{◌≡◌, ℕ, ◌==◌, Bool, true, false, cond, List, [], ◌∷◌, Option, find, refl}
+use Rattle.std.specs.List.{list_any, slice_split}
+use Rattle.std.specs.Option.{option_and_then, option_map_or}
+use Rattle.std.specs.Ordering.{is_ge, nat_cmp, ordering_then}
+use Rattle.std.specs.Result.{result_ok}
+use Rattle.std.specs.declared.cmp.Ordering.{Ordering}
+use Rattle.semver.specs.declared.Version.{Version}
+use Rattle.semver.specs.Eval.{precedence_cmp}
+use Rattle.semver.specs.Identifiers.{parts_of}
+use Rattle.semver.specs.Order.{pre_cmp}
+use Rattle.semver.specs.Parse.{Parts, version_parts}
+
+abbrev pub is_space : ℕ → Bool
+is_space byte = byte == 32
+
+abbrev pub is_quote : ℕ → Bool
+is_quote byte = byte == 34
+
+abbrev pub has_dot : List ℕ → Bool
+has_dot text = list_any (λ byte. byte == 46) text
+
+-- a byte before what is kept of the bytes behind it: a quote at the end goes
+abbrev pub keep : ℕ → List ℕ → List ℕ
+keep byte [] = cond (is_quote byte) [] (byte ∷ [])
+keep byte (next ∷ rest) = byte ∷ next ∷ rest
+
+-- the text without the quotes at its end
+abbrev pub without_quotes : List ℕ → List ℕ
+without_quotes [] = []
+without_quotes (byte ∷ rest) = keep byte (without_quotes rest)
+
+-- the semantic version that a text names: the first part between spaces that holds a dot, without the quotes at its end
+abbrev pub version_in : List ℕ → Option Parts
+version_in text = option_and_then (λ part. result_ok (version_parts (without_quotes part))) (find has_dot (slice_split is_space text))
+
+-- the order of precedence, which build metadata has no part in
+abbrev pub precedence : Parts → Parts → Ordering
+precedence a b = ordering_then (nat_cmp a.0 b.0) (ordering_then (nat_cmp a.1 b.1) (ordering_then (nat_cmp a.2 b.2) (pre_cmp a.3 b.3)))
+
+-- it is the order of semver's versions
+pub precedence_is : (a b : Version) → precedence (parts_of a) (parts_of b) ≡ precedence_cmp a b
+precedence_is a b = refl
+
+-- whether a text names a version that is at least `major`.0.0
+abbrev pub names_at_least : ℕ → List ℕ → Bool
+names_at_least major text = option_map_or (λ version. is_ge (precedence version (major, 0, 0, [], []))) (version_in text) false
+
+-- whether Clang's version is at least `major`.0.0; never of Apple's clang, whose versions are others
+abbrev pub is_minversion : (is_apple : Bool) → Option (List ℕ) → ℕ → Bool
+is_minversion true version major = false
+is_minversion false version major = option_map_or (names_at_least major) version false

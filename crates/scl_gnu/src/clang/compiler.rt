@@ -1,0 +1,150 @@
+//! Clang.
+ghost use Rattle.std.specs.Prelude.{◌≡◌, IfOk, None, false};
+ghost use Rattle.std.specs.Option.{option_copied, option_map};
+ghost use Rattle.std.specs.String.{string_bytes};
+ghost use Rattle.scl_text.specs.Languages.{clang_text};
+ghost use Rattle.scl_gnu.specs.Versions.{is_minversion};
+
+use super::tables::BothTables;
+use super::version::names_at_least;
+use crate::copied::copied_text;
+use crate::gcc;
+use scl_args::Mem;
+use scl_text::CCompilerImpl;
+use scl_text::language::Language;
+use scl_text::records::{
+    CCompilerKind, Cacheable, CommandError, CompilerArguments, ParsedArguments,
+    SingleCompileCommand,
+};
+use scl_text::view::View;
+use std::alloc::Global;
+
+/// The text that clang's `-x` takes for the language, if there is one (docs/RULES.md, Languages).
+pub fn language_to_clang_arg(language: Language) -> Option<&'static str>
+    ensures { option_copied result ≡ clang_text language }
+{
+    language.to_clang_arg()
+}
+
+/// Clang, as its driver for C or for C++, Apple's or not, with its version and the digest of its assembler if they
+/// are known (docs/RULES.md, Clang).
+#[derive(Debug, Drop)]
+pub struct Clang {
+    pub clangplusplus: bool,
+    pub is_appleclang: bool,
+    pub version: Option<String>,
+    pub assembler_digest: Option<String>,
+}
+
+impl Clang {
+    /// Clang's driver for C, or for C++, which is not Apple's, and of which no version and no assembler is known.
+    pub fn new(clangplusplus: bool) -> Clang
+        ensures driver { result.clangplusplus ≡ clangplusplus }
+        ensures maker { result.is_appleclang ≡ false }
+        ensures unknown { (result.version ≡ None) × (result.assembler_digest ≡ None) }
+    {
+        Clang {
+            clangplusplus,
+            is_appleclang: false,
+            version: None,
+            assembler_digest: None,
+        }
+    }
+
+    /// Whether the version is at least `major`.0.0: false of Apple's clang, where no version is known, and where its
+    /// text names none (docs/RULES.md, Clang). The error is the refusal of memory.
+    pub fn is_minversion(&self, alloc: Global, major: u64) -> Mem<bool>
+        ensures { IfOk result (λ is_new. is_new ≡ is_minversion self.now.is_appleclang (option_map string_bytes self.now.version) major) }
+    {
+        if self.is_appleclang {
+            return Ok(false);
+        }
+        match &self.version {
+            Some(version) => names_at_least(alloc, version.as_str(), major),
+            None => Ok(false),
+        }
+    }
+}
+
+impl CCompilerImpl for Clang {
+    ghost use Rattle.std.specs.Option.{option_map};
+    ghost use Rattle.std.specs.String.{string_bytes};
+    ghost use Rattle.scl_text.specs.declared.records.CCompilerKind.TheVariants as compilers;
+    ghost use Rattle.scl_text.specs.declared.records.Cacheable.TheVariants as cacheables;
+    ghost use Rattle.scl_text.specs.Languages.{clang_text};
+    ghost use Rattle.scl_gnu.specs.Building.{command_words};
+    ghost use Rattle.scl_gnu.specs.ClangRows.{clang_tables};
+    ghost use Rattle.scl_gnu.specs.Readings.{reading};
+
+    ghost kind_of = { λ _. compilers.Clang };
+
+    ghost plusplus_of = { λ clang. clang.clangplusplus };
+
+    ghost version_of = { λ clang. option_map string_bytes clang.version };
+
+    ghost digest_of = { λ clang. option_map string_bytes clang.assembler_digest };
+
+    ghost reading = { λ clang words directory env_vars view. reading compilers.Clang clang.clangplusplus clang_tables directory view words };
+
+    ghost command = { λ _ parsed. command_words (clang_text parsed.language) parsed };
+
+    ghost environment = { λ _ env_vars. env_vars };
+
+    ghost cacheable = { λ _ parsed directory view. cacheables.Yes };
+
+    fn kind(&self) -> CCompilerKind {
+        CCompilerKind::Clang
+    }
+
+    fn plusplus(&self) -> bool {
+        self.clangplusplus
+    }
+
+    fn version(&self, alloc: Global) -> Mem<Option<String>> {
+        copied_text(alloc, &self.version)
+    }
+
+    fn parse_arguments(
+        &self,
+        alloc: Global,
+        arguments: &[Vec<u8>],
+        cwd: &[u8],
+        _env_vars: &[(Vec<u8>, Vec<u8>)],
+        view: &View,
+    ) -> Mem<CompilerArguments<ParsedArguments>> {
+        gcc::parse_arguments(
+            alloc,
+            arguments,
+            cwd,
+            BothTables::new(),
+            self.clangplusplus,
+            CCompilerKind::Clang,
+            view,
+        )
+    }
+
+    fn generate_compile_commands(
+        &self,
+        alloc: Global,
+        executable: &[u8],
+        parsed: &ParsedArguments,
+        cwd: &[u8],
+        env_vars: &[(Vec<u8>, Vec<u8>)],
+        view: &View,
+    ) -> Result<(SingleCompileCommand, Cacheable), CommandError> {
+        gcc::generate_compile_commands(
+            alloc,
+            executable,
+            parsed,
+            cwd,
+            env_vars,
+            CCompilerKind::Clang,
+            view,
+            language_to_clang_arg,
+        )
+    }
+
+    fn assembler_digest(&self, alloc: Global) -> Mem<Option<String>> {
+        copied_text(alloc, &self.assembler_digest)
+    }
+}

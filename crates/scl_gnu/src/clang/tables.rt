@@ -1,0 +1,46 @@
+//! Clang's tables, by which a word is looked up in Gcc's table as well.
+ghost use Rattle.std.specs.Prelude.{◌≡◌, IsTrue};
+ghost use Rattle.scl_args.specs.Tables.{tables_hold_values};
+ghost use Rattle.scl_gnu.specs.ClangRows.{clang_tables};
+ghost use Rattle.scl_gnu.specs.Data.{holds_value};
+
+use super::args::table;
+use crate::gcc::{self, ArgData};
+use scl_args::{ArgInfo, FlagTable, Probes, SearchableArgInfo};
+use std::marker::Model;
+
+/// Gcc's table and Clang's; where both have a flag, Clang's row owns it (docs/RULES.md, Clang).
+#[derive(Drop)]
+pub struct BothTables {
+    pair: (FlagTable<'static, ArgData>, FlagTable<'static, ArgData>),
+}
+
+impl Model for BothTables {
+    ghost use Rattle.std.specs.Prelude.{List, [], ◌∷◌};
+    ghost use Rattle.scl_args.specs.Row.{Row};
+    ghost use Rattle.scl_gnu.specs.declared.gcc.data.Kind.{Kind};
+
+    ghost Value = { List (List (Row Kind)) };
+
+    ghost view = { λ tables. tables.pair.0 ∷ tables.pair.1 ∷ [] };
+}
+
+impl BothTables {
+    /// The two tables.
+    pub fn new() -> BothTables
+        ensures tables { result ≡ clang_tables }
+        ensures values { IsTrue (tables_hold_values holds_value result) }
+    {
+        BothTables {
+            pair: (gcc::table(), table()),
+        }
+    }
+}
+
+impl SearchableArgInfo<ArgData> for BothTables {
+    ghost tables = { λ tables. tables };
+
+    fn search_counted(&self, key: &[u8], probes: &mut Probes) -> Option<&ArgInfo<ArgData>> {
+        self.pair.search_counted(key, probes)
+    }
+}

@@ -1,0 +1,42 @@
+//! What follows for the tables of Gcc and Clang. Each law is the contract of a function that does nothing.
+ghost use Rattle.std.specs.Prelude.{◌≡◌, ◌∷◌, [], true, codes};
+ghost use Rattle.scl_args.specs.Options.{side_of_flag};
+ghost use Rattle.scl_args.specs.Tables.{all_rows};
+ghost use Rattle.scl_again.specs.Checks.{PassChecks, has_no_kept};
+ghost use Rattle.scl_gnu.specs.Again.{carried, carried_inner};
+ghost use Rattle.scl_gnu.specs.ClangRows.{clang_tables};
+ghost use Rattle.scl_gnu.specs.GccRows.{gcc_rows};
+ghost use Rattle.scl_gnu.specs.ReadAgain.{GccCommandsAreReadAgain, ClangCommandsAreReadAgain};
+
+/// Gcc's table passes both checks for the kinds that lists carry (docs/RULES.md, Cutting again).
+pub fn gcc_table_passes_both_checks()
+    ensures { PassChecks (gcc_rows ∷ []) carried side_of_flag }
+{}
+
+/// Clang's tables pass both checks for the kinds that lists carry (docs/RULES.md, Cutting again).
+pub fn clang_tables_pass_both_checks()
+    ensures { PassChecks clang_tables carried side_of_flag }
+{}
+
+/// Clang's tables pass both checks for the kinds of inner options that lists carry (docs/RULES.md, Cutting again).
+pub fn clang_tables_pass_both_checks_inside()
+    ensures { PassChecks clang_tables carried_inner side_of_flag }
+{}
+
+/// No list carries an outer option with the flag `-Xclang` (docs/RULES.md, Cutting again).
+pub fn xclang_alone_hands_words_on()
+    ensures { has_no_kept carried (codes "-Xclang") (all_rows clang_tables) ≡ true }
+{}
+
+/// The command of a record of Gcc, cut again by its table, gives its own words, the carried options and those that are
+/// added, with unchanged values, and the input (docs/RULES.md, Cutting again).
+pub fn gcc_commands_are_read_again()
+    ensures { GccCommandsAreReadAgain }
+{}
+
+/// The command of a record of Clang, cut again by its tables, gives its own words, the carried options and those that
+/// are added, with unchanged values, and the input; and the words behind `-Xclang`, cut again, give the inner options,
+/// list by list (docs/RULES.md, Cutting again).
+pub fn clang_commands_are_read_again()
+    ensures { ClangCommandsAreReadAgain }
+{}
