@@ -1,0 +1,3 @@
+pub mod DiabAgainLaws
+pub mod ReadAgainLaws
+pub mod TaskingAgainLaws

@@ -3,6 +3,7 @@ pub mod DiabReading
 pub mod DiabTable
 pub mod DiabValues
 pub mod Places
+pub mod ReadAgain
 pub mod Readings
 pub mod Sorts
 pub mod TaskingReading

@@ -1,11 +1,8 @@
 -- TaskingVX's table.
-use Rattle.std.specs.Prelude.{ℕ, List, [], ◌∷◌, None, Some, codes}
-use Rattle.scl_args.specs.Row.{Row, Shape, bare, apart, joined, either}
+use Rattle.std.specs.Prelude.{List, [], ◌∷◌, None, Some, codes}
+use Rattle.scl_args.specs.Row.{Row, row, bare, apart, joined, either}
 use Rattle.scl_small.specs.declared.tasking_vx.args.Kind.{Kind}
 use Rattle.scl_small.specs.declared.tasking_vx.args.Kind.TheVariants as kinds
-
-abbrev row : List ℕ → Kind → Shape → Row Kind
-row flag kind shape = record { flag = flag; kind = kind; shape = shape }
 
 unfoldable pub rows : List (Row Kind)
 rows =

@@ -4,6 +4,7 @@
 mod command;
 pub mod diab;
 mod finish;
+pub mod laws;
 mod place;
 mod reading;
 mod rules;

@@ -1,3 +1,5 @@
+ghost use Rattle.std.specs.Prelude.{◌≡◌, None};
+
 use super::args::table;
 use super::{generate_compile_commands, parse_arguments};
 use scl_text::records::{
@@ -11,6 +13,15 @@ use std::alloc::Global;
 #[derive(Debug, Drop)]
 pub struct Diab {
     pub version: Option<String>,
+}
+
+impl Diab {
+    /// Diab, of which no version is known.
+    pub fn new() -> Diab
+        ensures { result.version ≡ None }
+    {
+        Diab { version: None }
+    }
 }
 
 impl CCompilerImpl for Diab {

@@ -1,0 +1,82 @@
+use Rattle.std.proofs.Common.{◌≡◌, ℕ, true, false, not, ◌||◌, List, [], ◌∷◌, map, refl, subst, ◌∙◌, ap}
+use Rattle.std.specs.List.{list_all}
+use Rattle.std.specs.Prelude.{codes, Ok}
+use Rattle.scl_args.specs.Cuts.{cut, is_dangling}
+use Rattle.scl_args.specs.Options.{is_of, judged, side_of_flag, wanted}
+use Rattle.scl_args.specs.Row.{Row, row, apart}
+use Rattle.scl_args.specs.Seen.{Seen, Raw, Unknown, Known, shown}
+use Rattle.scl_args.specs.Seen as plain
+use Rattle.scl_args.specs.Tables.{owner_in, all_rows}
+use Rattle.scl_again.specs.Checks.{PassChecks}
+use Rattle.scl_again.specs.Reads.{Reads}
+use Rattle.scl_again.proofs.FoundLaws.{last-flag, flag-again, is_bare}
+use Rattle.scl_again.proofs.OutcomeLaws.{bind-ok, wanted-ok, judged-ok}
+use Rattle.scl_again.proofs.ReadsLaws.{reads-apart}
+use Rattle.scl_text.specs.Reasons.{argument_parse}
+use Rattle.scl_text.specs.Records.{NotCompilation}
+use Rattle.scl_small.specs.Places.{goes_to}
+use Rattle.scl_small.specs.ReadAgain.{every_kind, CommandsAreReadAgain}
+use Rattle.scl_small.specs.Readings.{last_flag_at}
+use Rattle.scl_small.specs.DiabTable.{rows}
+use Rattle.scl_small.specs.DiabReading.{place, verdict, tested, reading}
+use Rattle.scl_small.specs.contracts.place.PlacePartialEq.TheImpl.{ghosts}
+use Rattle.scl_small.specs.declared.place.Place.TheVariants as places
+use Rattle.scl_small.specs.declared.diab.args.Kind.{Kind}
+use Rattle.scl_small.specs.declared.diab.args.Kind.TheVariants as kinds
+use Rattle.scl_small.proofs.ReadAgainLaws.{is-record, record-again}
+
+pub passes : PassChecks (rows ∷ []) every_kind side_of_flag
+unfolding rows
+passes = record { keeps = refl; safe = refl }
+
+no_inputs : (k : Kind) → ghosts.eq (place k) places.Input ≡ false
+no_inputs kinds.TooHardFlag = refl
+no_inputs kinds.TooHard = refl
+no_inputs kinds.DoCompilation = refl
+no_inputs kinds.Output = refl
+no_inputs kinds.PassThrough = refl
+no_inputs kinds.PreprocessorArgument = refl
+no_inputs kinds.PreprocessorArgumentPath = refl
+no_inputs kinds.DepArgumentFlag = refl
+no_inputs kinds.DepArgument = refl
+no_inputs kinds.DepArgumentPath = refl
+
+only : (k : Kind) → ghosts.eq (place k) places.CompileFlag ≡ true → k ≡ kinds.DoCompilation
+only kinds.TooHardFlag e = absurd (cc)
+only kinds.TooHard e = absurd (cc)
+only kinds.DoCompilation e = refl
+only kinds.Output e = absurd (cc)
+only kinds.PassThrough e = absurd (cc)
+only kinds.PreprocessorArgument e = absurd (cc)
+only kinds.PreprocessorArgumentPath e = absurd (cc)
+only kinds.DepArgumentFlag e = absurd (cc)
+only kinds.DepArgument e = absurd (cc)
+only kinds.DepArgumentPath e = absurd (cc)
+
+by_kind : (o : Seen Kind) → goes_to place places.CompileFlag o ≡ is_of (λ k. ghosts.eq (place k) places.CompileFlag) o
+by_kind (Raw w) = refl
+by_kind (Unknown w) = refl
+by_kind (Known f k v h) = refl
+
+output_row : Row Kind
+output_row = row (codes "-o") kinds.Output apart
+
+reads_output : (object : List ℕ) → Reads (owner_in (rows ∷ [])) false (codes "-o" ∷ object ∷ []) (plain.value (codes "-o") kinds.Output object ∷ [])
+unfolding rows output_row
+reads_output object = reads-apart (owner_in (rows ∷ [])) false output_row object refl (record { is = refl; no_mark = refl })
+
+bare_rows : list_all (λ row. not (ghosts.eq (place row.kind) places.CompileFlag) || is_bare row.shape) (all_rows (rows ∷ [])) ≡ true
+unfolding rows
+bare_rows = refl
+
+pub commands_again : CommandsAreReadAgain place kinds.DoCompilation kinds.Output rows reading
+commands_again words p object e clear =
+    let c = cut (owner_in (rows ∷ [])) false words in
+    let a = bind-ok (judged (λ before. verdict) argument_parse (map shown c.options) (is_dangling c.end)) tested p e in
+    let t : tested (map shown c.options) ≡ Ok p = ap tested (judged-ok (λ before. verdict) argument_parse (map shown c.options) (is_dangling c.end) a.0 a.1) ∙ a.2 in
+    let b = bind-ok (wanted (last_flag_at place places.CompileFlag (map shown c.options)) NotCompilation) _ p t in
+    let f = last-flag (rows ∷ []) false (goes_to place places.CompileFlag) words b.0 (wanted-ok (last_flag_at place places.CompileFlag (map shown c.options)) NotCompilation b.0 b.1) in
+    let r = flag-again (rows ∷ []) false (λ k. ghosts.eq (place k) places.CompileFlag) bare_rows kinds.DoCompilation only (goes_to place places.CompileFlag) by_kind f.0 f.1 in
+    record-again place kinds.DoCompilation kinds.Output rows passes no_inputs reads_output words p object b.0 clear
+    (is-record place (map shown c.options) b.0 p b.2)
+    (subst (λ x. Reads (owner_in (rows ∷ [])) false (x ∷ []) (plain.flag x kinds.DoCompilation ∷ [])) f.2 r)

@@ -1,0 +1,62 @@
+use Rattle.std.proofs.Common.{◌≡◌, ℕ, false, List, [], ◌∷◌, map, refl, ◌∙◌, ap}
+use Rattle.std.specs.Prelude.{codes, Ok}
+use Rattle.scl_args.specs.Cuts.{cut, is_dangling}
+use Rattle.scl_args.specs.Options.{judged, side_of_flag, wanted}
+use Rattle.scl_args.specs.Row.{Row, row, bare, apart}
+use Rattle.scl_args.specs.Seen.{Seen, Raw, Unknown, Known, shown}
+use Rattle.scl_args.specs.Seen as plain
+use Rattle.scl_args.specs.Tables.{owner_in}
+use Rattle.scl_again.specs.Checks.{PassChecks}
+use Rattle.scl_again.specs.Reads.{Reads}
+use Rattle.scl_again.proofs.OutcomeLaws.{bind-ok, judged-ok}
+use Rattle.scl_again.proofs.ReadsLaws.{reads-apart, reads-flag}
+use Rattle.scl_text.specs.Reasons.{argument_parse}
+use Rattle.scl_text.specs.Records.{NotCompilation}
+use Rattle.scl_small.specs.ReadAgain.{every_kind, CommandsAreReadAgain}
+use Rattle.scl_small.specs.Readings.{last_flag_at}
+use Rattle.scl_small.specs.TaskingTable.{rows}
+use Rattle.scl_small.specs.TaskingReading.{place, verdict, tested, reading}
+use Rattle.scl_small.specs.contracts.place.PlacePartialEq.TheImpl.{ghosts}
+use Rattle.scl_small.specs.declared.place.Place.TheVariants as places
+use Rattle.scl_small.specs.declared.tasking_vx.args.Kind.{Kind}
+use Rattle.scl_small.specs.declared.tasking_vx.args.Kind.TheVariants as kinds
+use Rattle.scl_small.proofs.ReadAgainLaws.{is-record, record-again}
+
+pub passes : PassChecks (rows ∷ []) every_kind side_of_flag
+unfolding rows
+passes = record { keeps = refl; safe = refl }
+
+no_inputs : (k : Kind) → ghosts.eq (place k) places.Input ≡ false
+no_inputs kinds.TooHardFlag = refl
+no_inputs kinds.TooHard = refl
+no_inputs kinds.NotCompilationFlag = refl
+no_inputs kinds.NotCompilation = refl
+no_inputs kinds.DoCompilation = refl
+no_inputs kinds.Output = refl
+no_inputs kinds.PassThrough = refl
+no_inputs kinds.PreprocessorArgument = refl
+no_inputs kinds.PreprocessorArgumentPath = refl
+no_inputs kinds.DepFile = refl
+
+compile_row : Row Kind
+compile_row = row (codes "-c") kinds.DoCompilation bare
+
+reads_compile : Reads (owner_in (rows ∷ [])) false (codes "-c" ∷ []) (plain.flag (codes "-c") kinds.DoCompilation ∷ [])
+unfolding rows compile_row
+reads_compile = reads-flag (owner_in (rows ∷ [])) false compile_row refl (record { is = refl; no_mark = refl })
+
+output_row : Row Kind
+output_row = row (codes "-o") kinds.Output apart
+
+reads_output : (object : List ℕ) → Reads (owner_in (rows ∷ [])) false (codes "-o" ∷ object ∷ []) (plain.value (codes "-o") kinds.Output object ∷ [])
+unfolding rows output_row
+reads_output object = reads-apart (owner_in (rows ∷ [])) false output_row object refl (record { is = refl; no_mark = refl })
+
+pub commands_again : CommandsAreReadAgain place kinds.DoCompilation kinds.Output rows reading
+commands_again words p object e clear =
+    let c = cut (owner_in (rows ∷ [])) false words in
+    let a = bind-ok (judged (λ before. verdict) argument_parse (map shown c.options) (is_dangling c.end)) tested p e in
+    let t : tested (map shown c.options) ≡ Ok p = ap tested (judged-ok (λ before. verdict) argument_parse (map shown c.options) (is_dangling c.end) a.0 a.1) ∙ a.2 in
+    let b = bind-ok (wanted (last_flag_at place places.CompileFlag (map shown c.options)) NotCompilation) _ p t in
+    record-again place kinds.DoCompilation kinds.Output rows passes no_inputs reads_output words p object (codes "-c") clear
+    (is-record place (map shown c.options) (codes "-c") p b.2) reads_compile

@@ -1,0 +1,38 @@
+-- Commands of Diab and TaskingVX that are read again.
+use Rattle.std.specs.Prelude.{◌≡◌, ℕ, Bool, true, false, List, [], ◌∷◌, map, codes, Option, Result, Ok}
+use Rattle.scl_args.specs.Cuts.{cut}
+use Rattle.scl_args.specs.Each.{Each}
+use Rattle.scl_args.specs.Row.{Row}
+use Rattle.scl_args.specs.Seen.{shown}
+use Rattle.scl_args.specs.Seen as plain
+use Rattle.scl_args.specs.Tables.{owner_in}
+use Rattle.scl_again.specs.Commands.{CommandList, Parts, IsReadAgain}
+use Rattle.scl_again.specs.Origins.{IsClear}
+use Rattle.scl_text.specs.Records.{Parsed, Verdict}
+use Rattle.scl_small.specs.Command.{command_words}
+use Rattle.scl_small.specs.Places.{goes_to}
+use Rattle.scl_small.specs.declared.place.Place.{Place}
+use Rattle.scl_small.specs.declared.place.Place.TheVariants as places
+
+-- each kind is of some list or passes the checks as if it were
+abbrev pub every_kind : {K : Type 0} → K → Bool
+every_kind k = true
+
+module _ {K : Type 0} (place : K → Place) (compile output : K) where
+  -- the list of the options that go to the place
+  abbrev pub list_of : Place → CommandList K K
+  list_of there = record { carries = goes_to place there; carries_inner = λ o. false; added = [] }
+
+  -- of a record's command with this object file: the flag of a compilation, the input, the object file, and two lists
+  abbrev pub parts : Parsed → List ℕ → Parts K K
+  parts p object = record {
+    front = plain.flag p.compilation_flag compile ∷ plain.raw p.input ∷ plain.value (codes "-o") output object ∷ [];
+    lists = list_of places.Preprocessor ∷ list_of places.Common ∷ [];
+    back = [];
+  }
+
+  -- where words without empty either values have a record, by these rows and this reading, its command is read again
+  abbrev pub CommandsAreReadAgain : List (Row K) → ((List ℕ → Option (Row K)) → List (List ℕ) → Result Parsed Verdict) → Type 0
+  CommandsAreReadAgain rows reading = (words : List (List ℕ)) (p : Parsed) (object : List ℕ) → reading (owner_in (rows ∷ [])) words ≡ Ok p →
+      let options = (cut (owner_in (rows ∷ [])) false words).options in
+      Each IsClear options → IsReadAgain (rows ∷ []) false [] (record { options = map shown options; inners = [] }) (parts p object) (command_words p object)

@@ -1,0 +1,33 @@
+//! What follows for the commands of Diab and TaskingVX. Each law is the contract of a function that does nothing.
+ghost use Rattle.std.specs.Prelude.{◌∷◌, []};
+ghost use Rattle.scl_args.specs.Options.{side_of_flag};
+ghost use Rattle.scl_again.specs.Checks.{PassChecks};
+ghost use Rattle.scl_small.specs.ReadAgain.{every_kind, CommandsAreReadAgain};
+ghost use Rattle.scl_small.specs.DiabTable as diab_table;
+ghost use Rattle.scl_small.specs.DiabReading as diab;
+ghost use Rattle.scl_small.specs.TaskingTable as tasking_table;
+ghost use Rattle.scl_small.specs.TaskingReading as tasking;
+ghost use Rattle.scl_small.specs.declared.diab.args.Kind.TheVariants as diab_kinds;
+ghost use Rattle.scl_small.specs.declared.tasking_vx.args.Kind.TheVariants as tasking_kinds;
+
+/// Diab's table passes both checks (docs/RULES.md, Cutting again).
+pub fn diab_table_passes_both_checks()
+    ensures { PassChecks (diab_table.rows ∷ []) every_kind side_of_flag }
+{}
+
+/// TaskingVX's table passes both checks (docs/RULES.md, Cutting again).
+pub fn tasking_table_passes_both_checks()
+    ensures { PassChecks (tasking_table.rows ∷ []) every_kind side_of_flag }
+{}
+
+/// The command of a record of Diab, cut again by its table, gives its own words, the carried options with unchanged
+/// values, and the input (docs/RULES.md, Cutting again).
+pub fn diab_commands_are_read_again()
+    ensures { CommandsAreReadAgain diab.place diab_kinds.DoCompilation diab_kinds.Output diab_table.rows diab.reading }
+{}
+
+/// The command of a record of TaskingVX, cut again by its table, gives its own words, the carried options with unchanged
+/// values, and the input (docs/RULES.md, Cutting again).
+pub fn tasking_commands_are_read_again()
+    ensures { CommandsAreReadAgain tasking.place tasking_kinds.DoCompilation tasking_kinds.Output tasking_table.rows tasking.reading }
+{}
