@@ -1,0 +1,3 @@
+pub mod EnvironmentLemmas
+pub mod OutputLaws
+pub mod TableLaws

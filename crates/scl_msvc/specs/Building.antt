@@ -1,0 +1,44 @@
+-- The words of a compile command, and whether its outcome may be kept.
+use Rattle.std.specs.Prelude.{ℕ, Bool, true, false, List, [], ◌∷◌, ◌++◌, Option, None, Some, codes, if◌then◌else◌}
+use Rattle.scl_text.specs.declared.language.Language.{Language}
+use Rattle.scl_text.specs.declared.language.Language.TheVariants as languages
+use Rattle.scl_text.specs.declared.records.Cacheable.{Cacheable}
+use Rattle.scl_text.specs.declared.records.Cacheable.TheVariants as cacheables
+use Rattle.scl_text.specs.Commands.{command_by}
+use Rattle.scl_text.specs.Outputs.{path_at}
+use Rattle.scl_text.specs.Paths.{join}
+use Rattle.scl_text.specs.Records.{Parsed}
+use Rattle.scl_text.specs.Views.{Viewed, exists}
+
+abbrev pub list_words : Parsed → List (List ℕ)
+list_words p = p.preprocessor_args ++ p.dependency_args ++ p.unhashed_args ++ p.common_args
+
+abbrev pub dash_words : Bool → List (List ℕ)
+dash_words true = codes "--" ∷ []
+dash_words false = []
+
+-- the flag that says that an input has the language
+abbrev pub language_flag : Language → List ℕ
+language_flag languages.C = codes "-Tc"
+language_flag languages.Cxx = codes "-Tp"
+language_flag _ = []
+
+-- the input, together with the flag of its language where a flag said that
+abbrev pub input_word : Parsed → List ℕ
+input_word p = if p.msvc_explicit_language then language_flag p.language ++ p.input else p.input
+
+-- with this object
+abbrev pub command_words : Parsed → List ℕ → List (List ℕ)
+command_words p object = p.compilation_flag ∷ (codes "-Fo" ++ object) ∷ list_words p ++ dash_words p.double_dash_input ++ input_word p ∷ []
+
+-- the words of the command, where the record has an object
+abbrev pub command : Parsed → Option (List (List ℕ))
+command p = command_by command_words p
+
+-- the outcome may not be kept where debug information would be added to a file
+abbrev pub kept_unless : Option (List ℕ) → List ℕ → Viewed → Cacheable
+kept_unless None directory view = cacheables.Yes
+kept_unless (Some database) directory view = if exists (join directory database) view then cacheables.No else cacheables.Yes
+
+abbrev pub cacheable : Parsed → List ℕ → Viewed → Cacheable
+cacheable p directory view = kept_unless (path_at p.outputs (codes "pdb")) directory view

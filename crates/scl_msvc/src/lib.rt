@@ -1,0 +1,4 @@
+//! The command lines of Msvc's cl and of clang-cl.
+#![tactic(auto)]
+
+pub mod msvc;

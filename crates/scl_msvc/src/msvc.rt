@@ -1,0 +1,26 @@
+//! The command lines of Msvc's cl and of clang-cl.
+
+mod args;
+mod command;
+mod compiler;
+mod data;
+mod environment;
+mod fixed_tests;
+mod hash_files;
+mod inner;
+mod inputs;
+mod judge;
+mod outputs;
+mod parse;
+mod place;
+mod record;
+mod tables;
+
+pub use args::{ARGS, SLASH_ARGS, slash_table, table};
+pub use command::generate_compile_commands;
+pub use compiler::Msvc;
+pub use data::{ArgData, Kind};
+pub use environment::without_cl_env_vars;
+pub use parse::parse_arguments;
+pub use scl_text::MsvcExpand as ExpandIncludeFile;
+pub use tables::BothTables;

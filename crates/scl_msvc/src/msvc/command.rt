@@ -1,0 +1,123 @@
+//! The builder of Msvc's compile commands.
+ghost use Rattle.std.specs.Prelude.{◌≡◌, ◌++◌, ◌↔◌, IfOk, OnOk, Err, None, codes};
+ghost use Rattle.scl_args.specs.Words.{words_of};
+ghost use Rattle.scl_text.specs.Commands.{pairs_of, object_of};
+ghost use Rattle.scl_text.specs.Compilers.{IsAnswer};
+ghost use Rattle.scl_text.specs.Records.{parsed_of};
+ghost use Rattle.scl_msvc.specs.Building.{list_words, dash_words, language_flag, input_word, command, cacheable};
+ghost use Rattle.scl_msvc.specs.Environment.{without_cl_env_vars};
+
+use super::environment::without_cl_env_vars;
+use scl_args::Mem;
+use scl_text::command::{CommandWords, compile_command, push_word, push_words};
+use scl_text::language::Language;
+use scl_text::outputs::output_path;
+use scl_text::path::join;
+use scl_text::records::{Cacheable, CommandError, ParsedArguments, SingleCompileCommand};
+use scl_text::view::View;
+use std::alloc::Global;
+
+fn push_lists(alloc: Global, words: &mut Vec<Vec<u8>>, parsed: &ParsedArguments) -> Mem<()>
+    ensures { OnOk result (words_of words.new.items ≡ words_of words.old.items ++ list_words (parsed_of parsed.now)) }
+{
+    push_words(alloc, words, &parsed.preprocessor_args)?;
+    push_words(alloc, words, &parsed.dependency_args)?;
+    push_words(alloc, words, &parsed.unhashed_args)?;
+    push_words(alloc, words, &parsed.common_args)
+}
+
+fn push_dashes(alloc: Global, words: &mut Vec<Vec<u8>>, is_behind_dashes: bool) -> Mem<()>
+    ensures { OnOk result (words_of words.new.items ≡ words_of words.old.items ++ dash_words is_behind_dashes) }
+{
+    if is_behind_dashes {
+        push_word(alloc, words, b"--")?;
+    }
+    Ok(())
+}
+
+/// The flag that says that an input has the language.
+fn language_flag(language: Language) -> &'static [u8]
+    ensures { result.now ≡ language_flag language }
+{
+    match language {
+        Language::C => b"-Tc",
+        Language::Cxx => b"-Tp",
+        _ => b"",
+    }
+}
+
+fn input_word(alloc: Global, parsed: &ParsedArguments) -> Mem<Vec<u8>>
+    ensures { IfOk result (λ word. word.items ≡ input_word (parsed_of parsed.now)) }
+{
+    if !parsed.msvc_explicit_language {
+        return Vec::from_slice(alloc, &parsed.input);
+    }
+    let mut word = Vec::from_slice(alloc, language_flag(parsed.language))?;
+    word.extend_from_slice(&parsed.input)?;
+    Ok(word)
+}
+
+fn object_word(alloc: Global, object: &[u8]) -> Mem<Vec<u8>>
+    ensures { IfOk result (λ word. word.items ≡ codes "-Fo" ++ object.now) }
+{
+    let mut word = Vec::from_slice(alloc, b"-Fo")?;
+    word.extend_from_slice(object)?;
+    Ok(word)
+}
+
+/// The words of Msvc's compile commands.
+struct Command;
+
+impl CommandWords for Command {
+    ghost use Rattle.scl_msvc.specs.Building.{command_words};
+
+    ghost words = { λ _. command_words };
+
+    fn words(&self, alloc: Global, parsed: &ParsedArguments, object: &[u8]) -> Mem<Vec<Vec<u8>>> {
+        let mut words = Vec::new(alloc);
+        push_word(alloc, &mut words, &parsed.compilation_flag)?;
+        words.push(object_word(alloc, object)?)?;
+        push_lists(alloc, &mut words, parsed)?;
+        push_dashes(alloc, &mut words, parsed.double_dash_input)?;
+        words.push(input_word(alloc, parsed)?)?;
+        Ok(words)
+    }
+}
+
+/// Whether the outcome may be kept: not where debug information would be added to a file.
+fn cacheable(alloc: Global, parsed: &ParsedArguments, cwd: &[u8], view: &View) -> Mem<Cacheable>
+    ensures { IfOk result (λ kept. kept ≡ cacheable (parsed_of parsed.now) cwd.now view.now) }
+{
+    let Some(database) = output_path(&parsed.outputs, "pdb") else {
+        return Ok(Cacheable::Yes);
+    };
+    if view.exists(&join(alloc, cwd, database)?) {
+        Ok(Cacheable::No)
+    } else {
+        Ok(Cacheable::Yes)
+    }
+}
+
+/// The compile command of a record, in the environment without `CL` and `_CL_`, and whether its outcome may be kept: not
+/// where debug information goes to a file that is there. `MissingObj` exactly where the record has no output `obj`
+/// (docs/RULES.md, Msvc).
+pub fn generate_compile_commands(
+    alloc: Global,
+    executable: &[u8],
+    parsed: &ParsedArguments,
+    cwd: &[u8],
+    env_vars: &[(Vec<u8>, Vec<u8>)],
+    view: &View,
+) -> Result<(SingleCompileCommand, Cacheable), CommandError>
+    ensures command { IfOk result (λ built. IsAnswer built.0 built.1 (command (parsed_of parsed.now)) executable.now (without_cl_env_vars (pairs_of env_vars.now)) cwd.now (cacheable (parsed_of parsed.now) cwd.now view.now)) }
+    ensures missing { (result ≡ Err CommandError.MissingObj) ↔ (object_of (parsed_of parsed.now) ≡ None) }
+{
+    if output_path(&parsed.outputs, "obj").is_none() {
+        return Err(CommandError::MissingObj);
+    }
+    let cacheable = cacheable(alloc, parsed, cwd, view)?;
+    let env_vars = without_cl_env_vars(alloc, env_vars)?;
+    compile_command(
+        alloc, &Command, executable, parsed, cwd, &env_vars, cacheable,
+    )
+}

@@ -1,0 +1,127 @@
+//! Msvc.
+ghost use Rattle.std.specs.Prelude.{◌≡◌, IfOk, None};
+ghost use Rattle.scl_args.specs.Words.{words_of};
+ghost use Rattle.scl_text.specs.Commands.{pairs_of};
+ghost use Rattle.scl_text.specs.Records.{outcome_of};
+ghost use Rattle.scl_msvc.specs.Readings.{reading_within};
+
+use super::command::generate_compile_commands;
+use super::environment::surrounded;
+use super::parse::parse_arguments;
+use scl_args::Mem;
+use scl_text::CCompilerImpl;
+use scl_text::records::{
+    CCompilerKind, Cacheable, CommandError, CompilerArguments, ParsedArguments,
+    SingleCompileCommand,
+};
+use scl_text::view::View;
+use std::alloc::Global;
+
+/// Microsoft's cl, or clang-cl, with its version if it is known, and the prefix of the lines in which it names included
+/// files (docs/RULES.md, Msvc).
+#[derive(Debug, PartialEq, Eq, Drop)]
+pub struct Msvc {
+    pub includes_prefix: String,
+    pub is_clang: bool,
+    pub version: Option<String>,
+}
+
+impl Msvc {
+    /// cl, or clang-cl, which names included files in lines with this prefix, and of which no version is known.
+    pub fn new(is_clang: bool, includes_prefix: String) -> Msvc
+        ensures compiler { result.is_clang ≡ is_clang }
+        ensures prefix { result.includes_prefix ≡ includes_prefix }
+        ensures unknown { result.version ≡ None }
+    {
+        Msvc {
+            includes_prefix,
+            is_clang,
+            version: None,
+        }
+    }
+}
+
+/// What the words say between those that the environment gives.
+fn parse_within(
+    alloc: Global,
+    arguments: &[Vec<u8>],
+    cwd: &[u8],
+    env_vars: &[(Vec<u8>, Vec<u8>)],
+    is_clang: bool,
+    view: &View,
+) -> Mem<CompilerArguments<ParsedArguments>>
+    ensures { IfOk result (λ answer. outcome_of answer ≡ reading_within is_clang cwd.now (pairs_of env_vars.now) view.now (words_of arguments.now)) }
+{
+    match surrounded(alloc, arguments, env_vars)? {
+        Ok(words) => parse_arguments(alloc, &words, cwd, is_clang, view),
+        Err(refusal) => Ok(refusal.into_answer()),
+    }
+}
+
+impl CCompilerImpl for Msvc {
+    ghost use Rattle.std.specs.Prelude.{false};
+    ghost use Rattle.std.specs.Option.{option_map};
+    ghost use Rattle.std.specs.String.{string_bytes};
+    ghost use Rattle.scl_text.specs.declared.records.CCompilerKind.TheVariants as compilers;
+    ghost use Rattle.scl_msvc.specs.Building.{command_words, cacheable};
+    ghost use Rattle.scl_msvc.specs.Environment.{without_cl_env_vars};
+    ghost use Rattle.scl_msvc.specs.Readings.{reading_within};
+
+    ghost kind_of = { λ _. compilers.Msvc };
+
+    ghost plusplus_of = { λ _. false };
+
+    ghost version_of = { λ msvc. option_map string_bytes msvc.version };
+
+    ghost digest_of = { λ _. None };
+
+    ghost reading = { λ msvc words directory env_vars view. reading_within msvc.is_clang directory env_vars view words };
+
+    ghost command = { λ _. command_words };
+
+    ghost environment = { λ _. without_cl_env_vars };
+
+    ghost cacheable = { λ _. cacheable };
+
+    fn kind(&self) -> CCompilerKind {
+        CCompilerKind::Msvc
+    }
+
+    fn plusplus(&self) -> bool {
+        false
+    }
+
+    fn version(&self, alloc: Global) -> Mem<Option<String>> {
+        match &self.version {
+            Some(version) => Ok(Some(String::from_str(alloc, version.as_str())?)),
+            None => Ok(None),
+        }
+    }
+
+    fn parse_arguments(
+        &self,
+        alloc: Global,
+        arguments: &[Vec<u8>],
+        cwd: &[u8],
+        env_vars: &[(Vec<u8>, Vec<u8>)],
+        view: &View,
+    ) -> Mem<CompilerArguments<ParsedArguments>> {
+        parse_within(alloc, arguments, cwd, env_vars, self.is_clang, view)
+    }
+
+    fn generate_compile_commands(
+        &self,
+        alloc: Global,
+        executable: &[u8],
+        parsed: &ParsedArguments,
+        cwd: &[u8],
+        env_vars: &[(Vec<u8>, Vec<u8>)],
+        view: &View,
+    ) -> Result<(SingleCompileCommand, Cacheable), CommandError> {
+        generate_compile_commands(alloc, executable, parsed, cwd, env_vars, view)
+    }
+
+    fn assembler_digest(&self, _alloc: Global) -> Mem<Option<String>> {
+        Ok(None)
+    }
+}

@@ -1,0 +1,125 @@
+//! What a command line has from its environment: words before and behind its own.
+ghost use Rattle.std.specs.Prelude.{◌≡◌, ◌∷◌, ◌++◌, [], IfOk, OnOk, codes};
+ghost use Rattle.std.specs.Option.{option_copied, option_map};
+ghost use Rattle.scl_args.specs.Options.{result_by};
+ghost use Rattle.scl_args.specs.Words.{words_of};
+ghost use Rattle.scl_text.specs.Commands.{pairs_of};
+ghost use Rattle.scl_text.specs.Records.{CannotCache};
+ghost use Rattle.scl_text.specs.Refusals.{verdict_of};
+ghost use Rattle.scl_msvc.specs.Environment.{is_variable, without_cl_env_vars, value_of, with_equals, words_in, variable_words, surrounded};
+
+use scl_args::Mem;
+use scl_text::command::push_words;
+use scl_text::refusal::Refusal;
+use scl_text::{from_local_codepage, msvc_words};
+use std::alloc::Global;
+
+/// The variable whose words stand before those of a command line.
+const FRONT_VARIABLE: &[u8] = b"CL";
+
+/// The variable whose words stand behind those of a command line.
+const BACK_VARIABLE: &[u8] = b"_CL_";
+
+fn is_variable(key: &[u8]) -> bool
+    ensures { result ≡ is_variable key.now }
+{
+    key == FRONT_VARIABLE || key == BACK_VARIABLE
+}
+
+/// The environment of a compile command: the pairs whose key is neither `CL` nor `_CL_`, to the letter (docs/RULES.md,
+/// Msvc). It fails only for want of memory.
+pub fn without_cl_env_vars(
+    alloc: Global,
+    pairs: &[(Vec<u8>, Vec<u8>)],
+) -> Mem<Vec<(Vec<u8>, Vec<u8>)>>
+    ensures { IfOk result (λ kept. pairs_of kept.items ≡ without_cl_env_vars (pairs_of pairs.now)) }
+{
+    let mut kept = Vec::new(alloc);
+    for (key, value) in pairs {
+        if !is_variable(key) {
+            let key = Vec::from_slice(alloc, key)?;
+            kept.push((key, Vec::from_slice(alloc, value)?))?;
+        }
+    }
+    Ok(kept)
+}
+
+/// The value of the first pair with the key.
+fn value_of<'a>(pairs: &'a [(Vec<u8>, Vec<u8>)], key: &[u8]) -> Option<&'a [u8]>
+    ensures { option_copied result ≡ value_of key.now (pairs_of pairs.now) }
+{
+    for (name, value) in pairs {
+        if name.as_slice() == key {
+            return Some(value);
+        }
+    }
+    None
+}
+
+/// Puts `=` in the place of the first `#`.
+#[tactic(auto, using(crate::proofs::EnvironmentLemmas::equals_put))]
+fn put_equals(word: &mut [u8])
+    ensures { word.new ≡ with_equals word.old }
+{
+    for byte in word {
+        if *byte == b'#' {
+            *byte = b'=';
+            return;
+        }
+    }
+}
+
+/// The words of a value, if it is a text.
+fn words_in(alloc: Global, value: &[u8]) -> Mem<Option<Vec<Vec<u8>>>>
+    ensures { IfOk result (λ words. option_map (λ w. words_of w.items) words ≡ words_in value.now) }
+{
+    let Some(text) = from_local_codepage(alloc, value)? else {
+        return Ok(None);
+    };
+    let mut words = msvc_words(alloc, &text)?;
+    for word in words.iter_mut() {
+        put_equals(word);
+    }
+    Ok(Some(words))
+}
+
+/// The words of a variable; refused with this reason where its value is no text.
+fn variable_words(
+    alloc: Global,
+    value: Option<&[u8]>,
+    broken: &'static str,
+) -> Mem<Result<Vec<Vec<u8>>, Refusal>>
+    ensures { IfOk result (λ made. result_by (λ words. words_of words.items) verdict_of made ≡ variable_words (CannotCache broken.now) (option_copied value.entry)) }
+{
+    let Some(value) = value else {
+        return Ok(Ok(Vec::new(alloc)));
+    };
+    match words_in(alloc, value)? {
+        Some(words) => Ok(Ok(words)),
+        None => Ok(Err(Refusal::CannotCache(broken, None))),
+    }
+}
+
+/// The words of a command line between those that its environment gives: of `CL` before and of `_CL_` behind them;
+/// refused where a value is no text.
+pub(crate) fn surrounded(
+    alloc: Global,
+    arguments: &[Vec<u8>],
+    pairs: &[(Vec<u8>, Vec<u8>)],
+) -> Mem<Result<Vec<Vec<u8>>, Refusal>>
+    ensures { IfOk result (λ made. result_by (λ words. words_of words.items) verdict_of made ≡ surrounded (pairs_of pairs.now) (words_of arguments.now)) }
+{
+    let front = value_of(pairs, FRONT_VARIABLE);
+    let mut words = match variable_words(alloc, front, "CL environment variable value broken")? {
+        Ok(words) => words,
+        Err(refusal) => return Ok(Err(refusal)),
+    };
+    let back = value_of(pairs, BACK_VARIABLE);
+    let back = match variable_words(alloc, back, "_CL_ environment variable value broken")? {
+        Ok(words) => words,
+        Err(refusal) => return Ok(Err(refusal)),
+    };
+    push_words(alloc, &mut words, arguments)?;
+    push_words(alloc, &mut words, &back)?;
+    Ok(Ok(words))
+}
