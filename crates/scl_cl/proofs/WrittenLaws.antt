@@ -10,7 +10,7 @@ use Rattle.scl_cl.specs.Written.{AreBytes, ArePrintable, CanBeWritten, AllCanBeW
 use Rattle.scl_cl.specs.Answers.{compiled, text_of, cacheable_text, line, arg_line}
 use Rattle.scl_cl.specs.Compilers.{name_of, compiler_named}
 use Rattle.scl_cl.specs.declared.compiler.Compiler.{Compiler}
-use Rattle.scl_cl.specs.declared.compiler.Compiler.TheVariants.{Gcc, Gxx, Diab, Tasking}
+use Rattle.scl_cl.specs.declared.compiler.Compiler.TheVariants.{Gcc, Gxx, Clang, Clangxx, Cl, ClangCl, Diab, Tasking}
 use Rattle.scl_cl.specs.declared.keyword.Keyword as keywords
 use Rattle.scl_cl.specs.declared.keyword.Keyword.TheVariants as keyword
 use Rattle.scl_cl.proofs.CutLaws.{cut_at-mark, cut_at-append, lines_of-cut}
@@ -72,6 +72,10 @@ fields-written a b h k =
 pub name-back : (compiler : Compiler) → compiler_named (name_of compiler) ≡ Some compiler
 name-back Gcc = refl
 name-back Gxx = refl
+name-back Clang = refl
+name-back Clangxx = refl
+name-back Cl = refl
+name-back ClangCl = refl
 name-back Diab = refl
 name-back Tasking = refl
 
@@ -112,6 +116,10 @@ no-feed_pair front a b h k l =
 name-no-feed : (compiler : Compiler) → cut_at 10 (codes "compiler " ++ name_of compiler) ≡ None
 name-no-feed Gcc = refl
 name-no-feed Gxx = refl
+name-no-feed Clang = refl
+name-no-feed Clangxx = refl
+name-no-feed Cl = refl
+name-no-feed ClangCl = refl
 name-no-feed Diab = refl
 name-no-feed Tasking = refl
 

@@ -6,11 +6,15 @@ use Rattle.scl_text.specs.Records.{Parsed, Verdict, CannotCache, NotCompilation}
 use Rattle.scl_text.specs.declared.records.Cacheable.{Cacheable}
 use Rattle.scl_text.specs.declared.records.Cacheable.TheVariants as cacheable
 use Rattle.scl_args.specs.Tables.{owner_in}
-use Rattle.scl_text.specs.Languages.{gcc_text}
+use Rattle.scl_text.specs.Languages.{clang_text, gcc_text}
 use Rattle.scl_text.specs.declared.records.CCompilerKind.TheVariants as kinds
 use Rattle.scl_gnu.specs.Building as gcc
+use Rattle.scl_gnu.specs.ClangRows.{clang_tables}
 use Rattle.scl_gnu.specs.GccRows.{gcc_rows}
 use Rattle.scl_gnu.specs.Readings as gcc_reading
+use Rattle.scl_msvc.specs.Building as msvc
+use Rattle.scl_msvc.specs.Environment.{without_cl_env_vars}
+use Rattle.scl_msvc.specs.Readings as msvc_reading
 use Rattle.scl_small.specs.Command.{command}
 use Rattle.scl_small.specs.DiabReading as diab
 use Rattle.scl_small.specs.DiabTable as diab_table
@@ -59,10 +63,14 @@ answer_from command kept (Ok parsed) = answer_with (command parsed) (kept parsed
 answer_from command kept (Err (CannotCache reason)) = cannot_cache reason
 answer_from command kept (Err NotCompilation) = not_compilation
 
--- what a command line says to a compiler: its words, directory and files
+-- what a command line says to a compiler: its words, directory, environment and files
 abbrev pub reading_by : Compiler → Request → Result Parsed Verdict
 reading_by compilers.Gcc request = gcc_reading.reading kinds.Gcc false (gcc_rows ∷ []) request.directory request.view request.words
 reading_by compilers.Gxx request = gcc_reading.reading kinds.Gcc true (gcc_rows ∷ []) request.directory request.view request.words
+reading_by compilers.Clang request = gcc_reading.reading kinds.Clang false clang_tables request.directory request.view request.words
+reading_by compilers.Clangxx request = gcc_reading.reading kinds.Clang true clang_tables request.directory request.view request.words
+reading_by compilers.Cl request = msvc_reading.reading_within false request.directory request.environment request.view request.words
+reading_by compilers.ClangCl request = msvc_reading.reading_within true request.directory request.environment request.view request.words
 reading_by compilers.Diab request = diab.expanded_reading (owner_in (diab_table.rows ∷ [])) request.directory request.view.files request.words
 reading_by compilers.Tasking request = tasking.reading (owner_in (tasking_table.rows ∷ [])) request.words
 
@@ -70,16 +78,35 @@ reading_by compilers.Tasking request = tasking.reading (owner_in (tasking_table.
 abbrev pub command_by : Compiler → Parsed → Option (List (List ℕ))
 command_by compilers.Gcc parsed = gcc.command (gcc_text parsed.language) parsed
 command_by compilers.Gxx parsed = gcc.command (gcc_text parsed.language) parsed
+command_by compilers.Clang parsed = gcc.command (clang_text parsed.language) parsed
+command_by compilers.Clangxx parsed = gcc.command (clang_text parsed.language) parsed
+command_by compilers.Cl parsed = msvc.command parsed
+command_by compilers.ClangCl parsed = msvc.command parsed
 command_by compilers.Diab parsed = command parsed
 command_by compilers.Tasking parsed = command parsed
 
--- whether a compiler's outcome may be kept
-abbrev pub kept_by : Compiler → Cacheable
-kept_by compilers.Gcc = cacheable.Yes
-kept_by compilers.Gxx = cacheable.Yes
-kept_by compilers.Diab = cacheable.Yes
-kept_by compilers.Tasking = cacheable.Yes
+-- the environment that a compiler's command gets
+abbrev pub environment_by : Compiler → List (List ℕ × List ℕ) → List (List ℕ × List ℕ)
+environment_by compilers.Gcc pairs = pairs
+environment_by compilers.Gxx pairs = pairs
+environment_by compilers.Clang pairs = pairs
+environment_by compilers.Clangxx pairs = pairs
+environment_by compilers.Cl pairs = without_cl_env_vars pairs
+environment_by compilers.ClangCl pairs = without_cl_env_vars pairs
+environment_by compilers.Diab pairs = pairs
+environment_by compilers.Tasking pairs = pairs
+
+-- whether the outcome of what was read may be kept
+abbrev pub kept_by : Compiler → Request → Parsed → Cacheable
+kept_by compilers.Gcc request parsed = cacheable.Yes
+kept_by compilers.Gxx request parsed = cacheable.Yes
+kept_by compilers.Clang request parsed = cacheable.Yes
+kept_by compilers.Clangxx request parsed = cacheable.Yes
+kept_by compilers.Cl request parsed = msvc.cacheable parsed request.directory request.view
+kept_by compilers.ClangCl request parsed = msvc.cacheable parsed request.directory request.view
+kept_by compilers.Diab request parsed = cacheable.Yes
+kept_by compilers.Tasking request parsed = cacheable.Yes
 
 -- the answer to a request
 abbrev pub answer_to : Request → Answer
-answer_to request = answer_from (command_by request.compiler) (λ parsed. kept_by request.compiler) (reading_by request.compiler request)
+answer_to request = answer_from (command_by request.compiler) (kept_by request.compiler request) (reading_by request.compiler request)

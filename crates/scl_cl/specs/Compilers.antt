@@ -2,11 +2,15 @@
 use Rattle.std.specs.Prelude.{ℕ, List, [], ◌∷◌, Option, codes, find}
 use Rattle.std.specs.Str.{bytes_eq}
 use Rattle.scl_cl.specs.declared.compiler.Compiler.{Compiler}
-use Rattle.scl_cl.specs.declared.compiler.Compiler.TheVariants.{Gcc, Gxx, Diab, Tasking}
+use Rattle.scl_cl.specs.declared.compiler.Compiler.TheVariants.{Gcc, Gxx, Clang, Clangxx, Cl, ClangCl, Diab, Tasking}
 
 abbrev pub name_of : Compiler → List ℕ
 name_of Gcc = codes "gcc"
 name_of Gxx = codes "g++"
+name_of Clang = codes "clang"
+name_of Clangxx = codes "clang++"
+name_of Cl = codes "cl"
+name_of ClangCl = codes "clang-cl"
 name_of Diab = codes "diab"
 name_of Tasking = codes "tasking"
 
@@ -15,6 +19,10 @@ abbrev pub served : List Compiler
 served =
     Gcc
     ∷ Gxx
+    ∷ Clang
+    ∷ Clangxx
+    ∷ Cl
+    ∷ ClangCl
     ∷ Diab
     ∷ Tasking
     ∷ []

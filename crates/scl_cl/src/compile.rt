@@ -4,11 +4,13 @@ ghost use Rattle.scl_text.specs.Records.{parsed_of};
 ghost use Rattle.scl_args.specs.Words.{words_of};
 ghost use Rattle.scl_text.specs.Commands.{pairs_of, command_by};
 ghost use Rattle.scl_cl.specs.Requests.{asked};
-ghost use Rattle.scl_cl.specs.Answers.{answer_to, answer_from, answer_with, reading_by};
+ghost use Rattle.scl_cl.specs.Answers.{answer_to, answer_from, answer_with, environment_by, reading_by};
 ghost use Rattle.scl_cl.specs.AnswersGiven.{answer_of, HasParts};
 
 use crate::compiler::Compiler;
+use scl_gnu::clang::Clang;
 use scl_gnu::gcc::Gcc;
+use scl_msvc::msvc::Msvc;
 use scl_small::diab::Diab;
 use scl_small::tasking_vx::TaskingVX;
 use scl_text::records::{
@@ -94,30 +96,35 @@ impl Compiler {
     ) -> Mem<CompilerArguments<Compilation>>
         ensures answer { IfOk result (λ answer. answer_of answer ≡ answer_to (asked self (words_of words.now) cwd.now (pairs_of env_vars.now) view.now)) }
         ensures parts { IfOk result (λ answer. HasParts (reading_by self (asked self (words_of words.now) cwd.now (pairs_of env_vars.now) view.now))
-            executable.now (pairs_of env_vars.now) cwd.now answer) }
+            executable.now (environment_by self (pairs_of env_vars.now)) cwd.now answer) }
     {
         match self {
-            Compiler::Gcc => answer_by(
-                alloc,
-                &Gcc::new(false),
-                executable,
-                words,
-                cwd,
-                env_vars,
-                view,
-            ),
-            Compiler::Gxx => answer_by(
-                alloc,
-                &Gcc::new(true),
-                executable,
-                words,
-                cwd,
-                env_vars,
-                view,
-            ),
+            Compiler::Gcc => {
+                let gcc = Gcc::new(false);
+                answer_by(alloc, &gcc, executable, words, cwd, env_vars, view)
+            }
+            Compiler::Gxx => {
+                let gxx = Gcc::new(true);
+                answer_by(alloc, &gxx, executable, words, cwd, env_vars, view)
+            }
+            Compiler::Clang => {
+                let clang = Clang::new(false);
+                answer_by(alloc, &clang, executable, words, cwd, env_vars, view)
+            }
+            Compiler::Clangxx => {
+                let clangxx = Clang::new(true);
+                answer_by(alloc, &clangxx, executable, words, cwd, env_vars, view)
+            }
+            Compiler::Cl => {
+                let cl = Msvc::new(false, String::new(alloc));
+                answer_by(alloc, &cl, executable, words, cwd, env_vars, view)
+            }
+            Compiler::ClangCl => {
+                let clang_cl = Msvc::new(true, String::new(alloc));
+                answer_by(alloc, &clang_cl, executable, words, cwd, env_vars, view)
+            }
             Compiler::Diab => {
-                let diab = Diab { version: None };
-                answer_by(alloc, &diab, executable, words, cwd, env_vars, view)
+                answer_by(alloc, &Diab::new(), executable, words, cwd, env_vars, view)
             }
             Compiler::Tasking => {
                 answer_by(alloc, &TaskingVX, executable, words, cwd, env_vars, view)

@@ -9,6 +9,14 @@ pub enum Compiler {
     Gcc,
     /// Gcc, as its driver for C++.
     Gxx,
+    /// Clang, as its driver for C.
+    Clang,
+    /// Clang, as its driver for C++.
+    Clangxx,
+    /// Microsoft's cl.
+    Cl,
+    /// Clang, as a driver in the place of cl.
+    ClangCl,
     /// Diab.
     Diab,
     /// TaskingVX.
@@ -16,9 +24,13 @@ pub enum Compiler {
 }
 
 /// The compilers: a new one is a variant, a name and a line here, and as much in the definitions.
-static SERVED: [Compiler; 4] = [
+static SERVED: [Compiler; 8] = [
     Compiler::Gcc,
     Compiler::Gxx,
+    Compiler::Clang,
+    Compiler::Clangxx,
+    Compiler::Cl,
+    Compiler::ClangCl,
     Compiler::Diab,
     Compiler::Tasking,
 ];
@@ -37,6 +49,10 @@ impl Compiler {
         match self {
             Compiler::Gcc => "gcc",
             Compiler::Gxx => "g++",
+            Compiler::Clang => "clang",
+            Compiler::Clangxx => "clang++",
+            Compiler::Cl => "cl",
+            Compiler::ClangCl => "clang-cl",
             Compiler::Diab => "diab",
             Compiler::Tasking => "tasking",
         }

@@ -1,5 +1,4 @@
 //! Tests of `scl_args`: worked rows, and each call once.
-mod clang;
 mod counted;
 mod cutting;
 mod error;

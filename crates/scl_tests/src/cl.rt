@@ -1,6 +1,7 @@
 //! The program over memory: what the contracts do not say.
 mod besides;
 mod devices;
+mod msvc_rows;
 mod outcomes;
 mod requests;
 mod rows;

@@ -1,5 +1,6 @@
-//! Calls of Gcc's module.
-mod kinds;
+//! Calls of the modules of Gcc and Clang.
+mod clang;
+mod tables;
 
 use crate::words::{cut, joined};
 use scl_args::{ArgParseError, ArgumentValue, Mem, PathArg, SearchableArgInfo, looks};
@@ -21,18 +22,10 @@ fn bytes_of(rt: &HostRuntime, text: &[u8]) -> Mem<Vec<u8>> {
     Vec::from_slice(rt.alloc(), text)
 }
 
-fn driver(gplusplus: bool) -> Gcc {
-    Gcc {
-        gplusplus,
-        version: None,
-        assembler_digest: None,
-    }
-}
-
 /// What Gcc reads in the directory `/w`.
 fn record_of(alloc: Global, text: &[u8]) -> Result<ParsedArguments, Fail> {
     let words = cut(alloc, text)?;
-    match driver(false).parse_arguments(alloc, &words, b"/w", &[], &View::new(alloc))? {
+    match Gcc::new(false).parse_arguments(alloc, &words, b"/w", &[], &View::new(alloc))? {
         CompilerArguments::Ok(record) => Ok(record),
         CompilerArguments::CannotCache(reason, _) => Err(reason)?,
         CompilerArguments::NotCompilation => Err("no compilation")?,
@@ -134,7 +127,7 @@ fn a_record_without_an_object_has_no_command(rt: HostRuntime) -> Result<(), Fail
         bytes_of(&rt, b"-c")?,
     );
     let view = View::new(rt.alloc());
-    let command = driver(false).generate_compile_commands(
+    let command = Gcc::new(false).generate_compile_commands(
         rt.alloc(),
         b"gcc",
         &record,

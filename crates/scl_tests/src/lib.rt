@@ -2,13 +2,19 @@
 #![tactic(auto)]
 
 #[cfg(test)]
+mod again;
+#[cfg(test)]
 mod args;
 #[cfg(test)]
 mod cl;
 #[cfg(test)]
 mod gnu;
 #[cfg(test)]
+mod msvc;
+#[cfg(test)]
 mod small;
+#[cfg(test)]
+mod tables;
 #[cfg(test)]
 mod text;
 #[cfg(test)]

@@ -61,14 +61,14 @@ static SAVED: &[u8] = b"-c foo.c -fabc -Xmake-dependency-savefile=bar -o foo.o";
 
 #[test]
 fn diab_saves_no_dependency_file(rt: HostRuntime) -> Result<(), Fail> {
-    let path = depfile(rt.alloc(), &Diab { version: None }, SAVED)?;
+    let path = depfile(rt.alloc(), &Diab::new(), SAVED)?;
     assert!(rt; path.is_none());
     Ok(())
 }
 
 #[test]
 fn words_stand_in_their_lists(rt: HostRuntime) -> Result<(), Fail> {
-    let saved = parsed(rt.alloc(), &Diab { version: None }, SAVED)?;
+    let saved = parsed(rt.alloc(), &Diab::new(), SAVED)?;
     let dependency = joined(rt.alloc(), &saved.dependency_args)?;
     assert_eq!(rt;
         dependency.as_slice(),

@@ -18,7 +18,4 @@ fn laws_may_be_called() {
     laws::prints_one_or_two::<Kind>();
     laws::texts_are_words::<Kind, Value>();
     laws::stays_on_its_side::<Kind>();
-    laws::options_came::<Kind>();
-    laws::next_flag_suffices::<Kind>();
-    laws::prints_again::<Kind>();
 }

@@ -1,10 +1,9 @@
 //! What a search finds, and how often it looks.
-use super::clang::CLANG;
 use super::values::{Kind, Value, table_of};
 use scl_args::ArgDisposition::{CanBeSeparated, Concatenated};
 use scl_args::ArgRow::{Flag, TakeArg};
 use scl_args::{ArgRow, ArgumentValue, FlagTable, SearchableArgInfo, looks};
-use scl_gnu::gcc;
+use scl_gnu::{clang, gcc};
 use std::test::Fail;
 
 /// Whether a search for the key finds the row of the flag.
@@ -18,7 +17,7 @@ fn finds<T: ArgumentValue, S: SearchableArgInfo<T>>(table: &S, key: &str, flag: 
 #[test]
 fn the_written_rows_make_tables(rt: HostRuntime) {
     assert!(rt; FlagTable::<gcc::ArgData>::new(&gcc::ARGS).is_some());
-    assert!(rt; FlagTable::<gcc::ArgData>::new(&CLANG).is_some());
+    assert!(rt; FlagTable::<clang::ArgData>::new(&clang::ARGS).is_some());
 }
 
 #[test]
@@ -55,13 +54,12 @@ fn nothing_is_found_without_rows(rt: HostRuntime) -> Result<(), Fail> {
 }
 
 #[test]
-fn the_longest_flag_is_found(rt: HostRuntime) -> Result<(), Fail> {
+fn the_longest_flag_is_found(rt: HostRuntime) {
     let table = gcc::table();
     assert!(rt; finds(&table, "-include-pch", "-include"));
     assert!(rt; finds(&table, "-iwithprefixdir", "-iwithprefix"));
-    let clang = FlagTable::new(&CLANG).ok_or("the rows make no table")?;
-    assert!(rt; finds(&(table, clang), "-include-pch", "-include-pch"));
-    Ok(())
+    let pair = (table, clang::table());
+    assert!(rt; finds(&pair, "-include-pch", "-include-pch"));
 }
 
 static INCLUDE: [ArgRow<Kind>; 1] = [TakeArg("-include", Kind::Valued, Concatenated(None))];

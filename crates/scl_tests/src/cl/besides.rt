@@ -8,7 +8,7 @@ use std::test::Fail;
 /// Words, and the reason for which they are refused, with the text beside it in parentheses.
 type Row = (Compiler, &'static [u8], &'static str);
 
-static REFUSALS: [Row; 22] = [
+static REFUSALS: [Row; 29] = [
     (
         Compiler::Gcc,
         b"-c a.c b.c c\xff\\.c",
@@ -24,6 +24,41 @@ static REFUSALS: [Row; 22] = [
     (Compiler::Gcc, b"-c a.c -x y", "-x"),
     (Compiler::Gcc, b"-c a.c -I @b", "@"),
     (Compiler::Gcc, b"-c a.xyz", "unknown source language"),
+    (
+        Compiler::Clang,
+        b"-c a.c -Xclang broken",
+        "Can't handle Raw arguments with -Xclang (broken)",
+    ),
+    (
+        Compiler::Clang,
+        b"-c a.c -Xclang \xff",
+        "Can't handle Raw arguments with -Xclang ()",
+    ),
+    (
+        Compiler::Clang,
+        b"-c a.c -Xclang -fabc",
+        "Can't handle UnknownFlag arguments with -Xclang (-fabc)",
+    ),
+    (
+        Compiler::Clang,
+        b"-c a.c -Xclang -f\xff",
+        "Can't handle UnknownFlag arguments with -Xclang ()",
+    ),
+    (
+        Compiler::Clang,
+        b"-c a.c -Xclang -load",
+        "argument parse (Unexpected end of args)",
+    ),
+    (
+        Compiler::Clang,
+        b"-c a.cppm -fmodule-outputx",
+        "unknown module output format (\"x\")",
+    ),
+    (
+        Compiler::Clang,
+        b"-c a.c -Xclang -no-integrated-as",
+        "-no-integrated-as",
+    ),
     (Compiler::Diab, b"-@@foo", "-@"),
     (Compiler::Diab, b"-c a.xyz", "unknown source language"),
     (Compiler::Diab, b"-c ..", "unknown source language"),

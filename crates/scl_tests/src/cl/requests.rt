@@ -11,8 +11,8 @@ static ANSWERED: [&str; 12] = [
     "compiler tasking\n",
     "compiler gcc\nword \n",
     "\n\nword a\n\ncompiler g++\n",
-    "compiler gcc\ncwd /work\n",
-    "cwd \ncompiler gcc\n",
+    "compiler clang\ncwd /work\n",
+    "cwd \ncompiler clang++\n",
     "compiler gcc\nfile a.h\tint\\x20a;\\x0a\n",
     "compiler gcc\nfile \t\nfile a\t\n",
     "compiler gcc\ndir include\nexists a.pdb\n",
@@ -52,7 +52,7 @@ static FIELDS: [(&str, u64); 8] = [
 ];
 
 /// A compiler that stands twice, not at all, or is not served.
-static COMPILERS: [(&str, u64); 11] = [
+static COMPILERS: [(&str, u64); 13] = [
     ("", 1),
     ("\n\n", 3),
     ("word a\nword b", 3),
@@ -62,6 +62,8 @@ static COMPILERS: [(&str, u64); 11] = [
     ("compiler\n", 1),
     ("compiler \n", 1),
     ("compiler icc\n", 1),
+    ("compiler nvcc\n", 1),
+    ("compiler clang-cl \n", 1),
     ("compiler gcc \n", 1),
     ("compiler \\x67cc\n", 1),
 ];

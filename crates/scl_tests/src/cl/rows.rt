@@ -6,7 +6,7 @@ use std::process::Abort;
 use std::test::Fail;
 
 /// Lines of the request besides words, the words, and the command's words or the answer's one line.
-type Row = (&'static str, &'static str, &'static str);
+pub(super) type Row = (&'static str, &'static str, &'static str);
 
 /// Of Diab.
 static DIAB: [Row; 18] = [
@@ -194,6 +194,113 @@ static GXX: [Row; 2] = [
     ),
 ];
 
+/// Of Clang, as its driver for C.
+static CLANG: [Row; 21] = [
+    (
+        "",
+        "-c -Xclang -include -Xclang pch.h -- -a.c",
+        "-x c -c -o -a.o -Xclang -include -Xclang pch.h -fdiagnostics-color=always -- -a.c",
+    ),
+    (
+        "",
+        "-include-pch x.pch -c a.c",
+        "-x c -c -o a.o -include-pch x.pch -fdiagnostics-color=always a.c",
+    ),
+    (
+        "",
+        "-c foo.cxx -arch xyz -fabc -I include -o foo.o -include file /winsysroot../some/dir",
+        "-x c++ -c -o foo.o -Iinclude -include file -fabc /winsysroot ../some/dir -arch xyz -fdiagnostics-color=always foo.cxx",
+    ),
+    (
+        "",
+        "-c foo.c -o foo.o -Xclang -load",
+        "cannot-cache argument parse",
+    ),
+    (
+        "",
+        "-c foo.c -o foo.o -Xclang broken",
+        "cannot-cache Can't handle Raw arguments with -Xclang",
+    ),
+    (
+        "",
+        "-c foo.c -o foo.o -Xclang -fabc",
+        "cannot-cache Can't handle UnknownFlag arguments with -Xclang",
+    ),
+    (
+        "",
+        "-c a.c --serialize-diagnostics x.dia",
+        "-x c -c -o a.o --serialize-diagnostics x.dia -fdiagnostics-color=always a.c",
+    ),
+    (
+        "",
+        "-c a.c -MFx.d -MD",
+        "-x c -c -o a.o -MF x.d -MD -MT a.o -fdiagnostics-color=always a.c",
+    ),
+    (
+        "",
+        "-c a.cppm -fmodule-output",
+        "-x c++-module -c -o a.o -fmodule-output -fdiagnostics-color=always a.cppm",
+    ),
+    (
+        "",
+        "-c a.cppm -fmodule-outputx",
+        "cannot-cache unknown module output format",
+    ),
+    (
+        "",
+        "-c -Xclang -plugin-arg-foo -Xclang bar a.c",
+        "-x c -c -o a.o -Xclang -plugin-arg-foo -Xclang bar -fdiagnostics-color=always a.c",
+    ),
+    (
+        "",
+        "-c foo.cpp -x cu --cuda-gpu-arch=sm_50 -o foo.o",
+        "-x cuda -c -o foo.o --cuda-gpu-arch=sm_50 -fdiagnostics-color=always foo.cpp",
+    ),
+    (
+        "",
+        "-c foo.hip -parallel-jobs=5 --hip-path=/usr",
+        "-x hip -c -o foo.o -parallel-jobs=5 --hip-path=/usr -fdiagnostics-color=always foo.hip",
+    ),
+    (
+        "",
+        "-c foo.c -Xclang -no-integrated-as",
+        "cannot-cache -no-integrated-as",
+    ),
+    ("", "-c a.c --config", "cannot-cache argument parse"),
+    ("", "-c -x c /", "cannot-cache invalid input file"),
+    (
+        "",
+        "-c -- a.c",
+        "-x c -c -o a.o -fdiagnostics-color=always -- a.c",
+    ),
+    (
+        "",
+        "-c a.c --",
+        "-x c -c -o a.o -fdiagnostics-color=always a.c",
+    ),
+    ("", "-c a.c -Xclang -c -E", "cannot-cache -E"),
+    ("", "-o foo.o foo.c", "not-compilation"),
+    (
+        "",
+        "-o foo.o foo.c -Xclang broken",
+        "cannot-cache Can't handle Raw arguments with -Xclang",
+    ),
+];
+
+/// Of Clang, as its driver for C++.
+static CLANGXX: [Row; 2] = [
+    (
+        "",
+        "-c a.c",
+        "-x c++ -c -o a.o -fdiagnostics-color=always a.c",
+    ),
+    (
+        "",
+        "-c -x c a.c",
+        "-x c -c -o a.o -fdiagnostics-color=always a.c",
+    ),
+];
+
 /// Appends a line for each word of a text.
 fn push_lines(lines: &mut String, keyword: &str, words: &str) -> Mem<()> {
     if words.is_empty() {
@@ -239,7 +346,7 @@ fn expect_row(
     Ok(())
 }
 
-fn expect_rows(
+pub(super) fn expect_rows(
     rt: &(impl Abort + Alloc<A = Global>),
     compiler: Compiler,
     rows: &[Row],
@@ -268,6 +375,16 @@ fn gcc_answers_its_rows(rt: HostRuntime) -> Result<(), Fail> {
 #[test]
 fn gcc_for_cxx_answers_its_rows(rt: HostRuntime) -> Result<(), Fail> {
     expect_rows(&rt, Compiler::Gxx, &GXX)
+}
+
+#[test]
+fn clang_answers_its_rows(rt: HostRuntime) -> Result<(), Fail> {
+    expect_rows(&rt, Compiler::Clang, &CLANG)
+}
+
+#[test]
+fn clang_for_cxx_answers_its_rows(rt: HostRuntime) -> Result<(), Fail> {
+    expect_rows(&rt, Compiler::Clangxx, &CLANGXX)
 }
 
 /// `file` lines of so many files from f0 on, each of which names the next so many times, and a last one of this text.

@@ -1,65 +1,18 @@
-//! Kinds that no row of Gcc's own table has, by a table of their own.
-ghost use Rattle.std.specs.Prelude.{IsTrue, [], ◌∷◌};
-ghost use Rattle.scl_args.specs.Tables.{tables_hold_values};
-ghost use Rattle.scl_gnu.specs.Data.{holds_value};
-ghost use Rattle.scl_gnu.specs.Readings.{tables_lack_inner};
-
+//! Calls of Clang's module.
 use super::bytes_of;
 use crate::words::{cut, joined};
-use scl_args::ArgDisposition::{CanBeSeparated, Concatenated, Separated};
-use scl_args::ArgRow::{Flag, TakeArg};
-use scl_args::{ArgInfo, FlagTable, Mem};
-use scl_gnu::gcc::{ArgData, Kind, parse_arguments};
+use scl_gnu::clang::{Clang, language_to_clang_arg};
+use scl_text::language::Language;
 use scl_text::outputs::output_path;
 use scl_text::records::{CCompilerKind, ColorMode, CompilerArguments, ParsedArguments};
 use scl_text::view::View;
+use scl_text::{CCompilerImpl, Mem};
 use std::test::Fail;
 
-static ROWS: [ArgInfo<ArgData>; 12] = [
-    Flag("--precompile", Kind::ModuleOnlyFlag),
-    Flag("-c", Kind::DoCompilation),
-    Flag("-fcolor-diagnostics", Kind::DiagnosticsColorFlag),
-    Flag("-fintegrated-as", Kind::IntegratedAs),
-    TakeArg(
-        "-fmodule-file",
-        Kind::ExtraHashFileClangModuleFile,
-        Concatenated(Some(b'=')),
-    ),
-    TakeArg(
-        "-fmodule-output",
-        Kind::ClangModuleOutput,
-        Concatenated(None),
-    ),
-    Flag("-fno-color-diagnostics", Kind::NoDiagnosticsColorFlag),
-    Flag("-fno-integrated-as", Kind::NoIntegratedAs),
-    TakeArg(
-        "-fprofile-use",
-        Kind::ClangProfileUse,
-        Concatenated(Some(b'=')),
-    ),
-    TakeArg("-load", Kind::ExtraHashFile, Separated),
-    TakeArg("-o", Kind::Output, CanBeSeparated(None)),
-    TakeArg("-parallel-jobs", Kind::Unhashed, Concatenated(Some(b'='))),
-];
-
-fn table() -> FlagTable<'static, ArgData>
-    ensures values { IsTrue (tables_hold_values holds_value (result ∷ [])) }
-    ensures no_inner_lists { IsTrue (tables_lack_inner (result ∷ [])) }
-{
-    FlagTable::new(&ROWS).unwrap()
-}
-
+/// What Clang reads in the directory `/w`.
 fn read(rt: &HostRuntime, text: &[u8], view: &View) -> Mem<CompilerArguments<ParsedArguments>> {
     let words = cut(rt.alloc(), text)?;
-    parse_arguments(
-        rt.alloc(),
-        &words,
-        b"/w",
-        table(),
-        false,
-        CCompilerKind::Clang,
-        view,
-    )
+    Clang::new(false).parse_arguments(rt.alloc(), &words, b"/w", &[], view)
 }
 
 fn record_of(rt: &HostRuntime, text: &[u8]) -> Mem<Option<ParsedArguments>> {
@@ -106,10 +59,11 @@ fn a_module_goes_where_its_option_says(rt: HostRuntime) -> Result<(), Fail> {
 
 #[test]
 fn files_that_options_name_are_hashed_in_order(rt: HostRuntime) -> Result<(), Fail> {
-    let text = b"-c a.c -load p.so -fprofile-use -fmodule-file=n=m.pcm -load /q.so";
+    let text =
+        b"-c a.c -Xclang -load -Xclang r.so -load p.so -fprofile-use -fmodule-file=n=m.pcm -load /q.so";
     let record = record_of(&rt, text)?.ok_or("no record")?;
     let files = joined(rt.alloc(), &record.extra_hash_files)?;
-    let want = b"/w/p.so /w/default.profdata /w/m.pcm /q.so";
+    let want = b"/w/p.so /w/default.profdata /w/m.pcm /q.so /w/r.so";
     assert_eq!(rt; files.as_slice(), want.as_slice());
     Ok(())
 }
@@ -150,5 +104,80 @@ fn dashes_end_the_options_of_clang(rt: HostRuntime) -> Result<(), Fail> {
     let before = record_of(&rt, b"-c a.c --")?.ok_or("no record")?;
     assert_eq!(rt; before.input.as_slice(), b"a.c".as_slice());
     assert!(rt; !before.double_dash_input);
+    Ok(())
+}
+
+#[test]
+fn the_second_table_wins(rt: HostRuntime) -> Result<(), Fail> {
+    let record = record_of(&rt, b"-c a.c --serialize-diagnostics x.dia")?.ok_or("no record")?;
+    assert_eq!(rt; output_path(&record.outputs, "dia"), None);
+    let common = joined(rt.alloc(), &record.common_args)?;
+    assert_eq!(rt;
+        common.as_slice(),
+        b"--serialize-diagnostics x.dia".as_slice()
+    );
+    Ok(())
+}
+
+#[test]
+fn inner_options_choose_nothing(rt: HostRuntime) -> Result<(), Fail> {
+    let text = b"-c a.c -MD -Xclang -dependency-file -Xclang x.d -Xclang -fno-color-diagnostics";
+    let record = record_of(&rt, text)?.ok_or("no record")?;
+    assert_eq!(rt; output_path(&record.outputs, "d"), None);
+    assert_eq!(rt; record.color_mode, ColorMode::Auto);
+    let dependency = joined(rt.alloc(), &record.dependency_args)?;
+    let want = b"-MD -Xclang -dependency-file -Xclang x.d -MT a.o -MF a.d";
+    assert_eq!(rt; dependency.as_slice(), want.as_slice());
+    Ok(())
+}
+
+/// A version's text, and whether it is at least 14.0.0.
+static VERSIONS: [(&str, bool); 12] = [
+    ("clang 14.0.0", true),
+    ("clang 14.0", false),
+    ("clang 14.0.0-rc1", false),
+    ("\"Ubuntu Clang 14.0.0\"", true),
+    ("clang 14.0.0+build", true),
+    ("clang 15.0.0-rc1", true),
+    ("clang 13.9.9", false),
+    ("14.0.1\"\"", true),
+    ("clang version", false),
+    ("", false),
+    ("v.x 14.0.0", false),
+    ("clang 18446744073709551616.0.0", false),
+];
+
+fn of_version(rt: &HostRuntime, is_appleclang: bool, version: &str) -> Mem<Clang> {
+    Ok(Clang {
+        clangplusplus: true,
+        is_appleclang,
+        version: Some(String::from_str(rt.alloc(), version)?),
+        assembler_digest: Some(String::from_str(rt.alloc(), "d")?),
+    })
+}
+
+#[test]
+fn versions_are_new_enough_or_not(rt: HostRuntime) -> Result<(), Fail> {
+    for (version, want) in VERSIONS {
+        let clang = of_version(&rt, false, version)?;
+        let is_new = clang.is_minversion(rt.alloc(), 14)?;
+        assert_eq!(rt; is_new, want, "of {version}");
+    }
+    let apple = of_version(&rt, true, "clang 14.0.0")?;
+    assert!(rt; !apple.is_minversion(rt.alloc(), 14)?);
+    assert!(rt; !Clang::new(false).is_minversion(rt.alloc(), 0)?);
+    Ok(())
+}
+
+#[test]
+fn clang_says_what_it_is(rt: HostRuntime) -> Result<(), Fail> {
+    let clang = of_version(&rt, false, "v")?;
+    assert_eq!(rt; clang.kind(), CCompilerKind::Clang);
+    assert!(rt; clang.plusplus());
+    let version = clang.version(rt.alloc())?.ok_or("no version")?;
+    assert_eq!(rt; version.as_str(), "v");
+    let digest = clang.assembler_digest(rt.alloc())?.ok_or("no digest")?;
+    assert_eq!(rt; digest.as_str(), "d");
+    assert_eq!(rt; language_to_clang_arg(Language::Cuda), Some("cuda"));
     Ok(())
 }

@@ -1,0 +1,29 @@
+//! Tests of laws of commands that are read again: each may be called.
+use scl_again::laws;
+use scl_small::diab::Kind;
+
+#[test]
+fn laws_of_any_tables_may_be_called() {
+    laws::options_came::<Kind>();
+    laws::raw_and_unknown_words_have_no_owner::<Kind>();
+    laws::next_flag_suffices::<Kind>();
+    laws::prints_again::<Kind>();
+}
+
+#[test]
+fn laws_of_the_written_tables_may_be_called() {
+    scl_small::laws::diab_table_passes_both_checks();
+    scl_small::laws::tasking_table_passes_both_checks();
+    scl_gnu::laws::gcc_table_passes_both_checks();
+    scl_gnu::laws::clang_tables_pass_both_checks();
+    scl_gnu::laws::clang_tables_pass_both_checks_inside();
+    scl_gnu::laws::xclang_alone_hands_words_on();
+}
+
+#[test]
+fn laws_of_commands_may_be_called() {
+    scl_small::laws::diab_commands_are_read_again();
+    scl_small::laws::tasking_commands_are_read_again();
+    scl_gnu::laws::gcc_commands_are_read_again();
+    scl_gnu::laws::clang_commands_are_read_again();
+}

@@ -1,0 +1,140 @@
+//! Calls of Msvc's module.
+use crate::words::{cut, joined};
+use scl_args::{Mem, SearchableArgInfo, looks};
+use scl_msvc::msvc::{ARGS, BothTables, Msvc, SLASH_ARGS, without_cl_env_vars};
+use scl_text::outputs::output_path;
+use scl_text::records::{CCompilerKind, Cacheable, CompilerArguments, ParsedArguments};
+use scl_text::{CCompilerImpl, View};
+use std::alloc::Global;
+use std::test::Fail;
+
+fn compiler(alloc: Global, is_clang: bool) -> Mem<Msvc> {
+    Ok(Msvc::new(is_clang, String::from_str(alloc, "Note: ")?))
+}
+
+/// What is read in the directory `/w`.
+fn record_of(alloc: Global, words: &[u8], is_clang: bool) -> Result<ParsedArguments, Fail> {
+    let msvc = compiler(alloc, is_clang)?;
+    let words = cut(alloc, words)?;
+    match msvc.parse_arguments(alloc, &words, b"/w", &[], &View::new(alloc))? {
+        CompilerArguments::Ok(record) => Ok(record),
+        CompilerArguments::CannotCache(reason, _) => Err(reason)?,
+        CompilerArguments::NotCompilation => Err("no compilation")?,
+    }
+}
+
+#[test]
+fn fields_of_msvc_say_what_the_options_say(rt: HostRuntime) -> Result<(), Fail> {
+    let text =
+        b"/c /Tpd/a.cpp /Foo/a /fmodule-file=n=m.pcm -fsanitize-blacklist=b /showIncludes -depsx -depsy -Xclang -fprofile-generate -Xclang -load -Xclang p.so -clang:-fprofile-use=q";
+    let record = record_of(rt.alloc(), text, true)?;
+    let paths = joined(rt.alloc(), &record.extra_hash_files)?;
+    assert_eq!(rt; paths.as_slice(), b"/w/m.pcm /w/b /w/p.so /w/q".as_slice());
+    assert_eq!(rt; record.depfile, Some(Vec::from_slice(rt.alloc(), b"y")?));
+    assert!(rt; record.msvc_show_includes);
+    assert!(rt; record.msvc_explicit_language);
+    assert!(rt; record.profile_generate);
+    let rows: [(&str, &[u8], bool); 3] = [
+        ("obj", b"o/a.obj", false),
+        ("tlh", b"o/a.tlh", true),
+        ("tli", b"o/a.tli", true),
+    ];
+    for (name, want, optional) in rows {
+        assert_eq!(rt; output_path(&record.outputs, name), Some(want), "of {name}");
+        let output = record.outputs.get(name).ok_or("no output")?;
+        assert_eq!(rt; output.optional, optional, "of {name}");
+    }
+    assert_eq!(rt; record.outputs.len(), 3);
+    let plain = record_of(rt.alloc(), b"/c a.c -Zi -Fdp -Fdq", false)?;
+    assert_eq!(rt;
+        output_path(&plain.outputs, "pdb"),
+        Some(b"q.pdb".as_slice())
+    );
+    assert!(rt; !plain.profile_generate && !plain.msvc_show_includes);
+    assert!(rt; !plain.msvc_explicit_language && !plain.uses_external_assembler);
+    let module = record_of(
+        rt.alloc(),
+        b"-c a.cppm -xc++-module -fmodule-output=m",
+        true,
+    )?;
+    assert_eq!(rt;
+        output_path(&module.outputs, "module"),
+        Some(b"m".as_slice())
+    );
+    Ok(())
+}
+
+#[test]
+fn shared_debug_information_is_not_kept(rt: HostRuntime) -> Result<(), Fail> {
+    let msvc = compiler(rt.alloc(), false)?;
+    let record = record_of(rt.alloc(), b"-c a.c -Zi -Fdp", false)?;
+    let mut view = View::new(rt.alloc());
+    let (_, kept) = msvc.generate_compile_commands(rt.alloc(), b"cl", &record, b"/w", &[], &view)?;
+    assert_eq!(rt; kept, Cacheable::Yes);
+    view.add_existing(Vec::from_slice(rt.alloc(), b"/w/p.pdb")?)?;
+    let (command, kept) = msvc.generate_compile_commands(
+        rt.alloc(),
+        b"cl",
+        &record,
+        b"/w",
+        &[],
+        &view,
+    )?;
+    assert_eq!(rt; kept, Cacheable::No);
+    let words = joined(rt.alloc(), &command.arguments)?;
+    assert_eq!(rt; words.as_slice(), b"-c -Foa.obj -Zi -Fdp a.c".as_slice());
+    Ok(())
+}
+
+#[test]
+fn environments_lose_two_variables(rt: HostRuntime) -> Result<(), Fail> {
+    let mut pairs = Vec::new(rt.alloc());
+    for key in ["CL", "Cl", "_CL_"] {
+        let key = Vec::from_slice(rt.alloc(), key.as_bytes())?;
+        pairs.push((key, Vec::from_slice(rt.alloc(), b"v")?))?;
+    }
+    let kept = without_cl_env_vars(rt.alloc(), &pairs)?;
+    assert_eq!(rt; Some(kept.as_slice()), pairs.get(1..2));
+    let record = record_of(rt.alloc(), b"/c a.c", false)?;
+    let msvc = compiler(rt.alloc(), false)?;
+    let view = View::new(rt.alloc());
+    let (command, _) = msvc.generate_compile_commands(
+        rt.alloc(),
+        b"cl",
+        &record,
+        b"",
+        &pairs,
+        &view,
+    )?;
+    assert_eq!(rt; command.env_vars.as_slice(), &pairs[1..2]);
+    Ok(())
+}
+
+#[test]
+fn msvc_says_what_it_is(rt: HostRuntime) -> Result<(), Fail> {
+    let msvc = Msvc {
+        includes_prefix: String::from_str(rt.alloc(), "Note: ")?,
+        is_clang: true,
+        version: Some(String::from_str(rt.alloc(), "v")?),
+    };
+    assert_eq!(rt; msvc.kind(), CCompilerKind::Msvc);
+    assert!(rt; !msvc.plusplus());
+    let version = msvc.version(rt.alloc())?.ok_or("no version")?;
+    assert_eq!(rt; version.as_str(), "v");
+    assert_eq!(rt; msvc.assembler_digest(rt.alloc())?, None);
+    Ok(())
+}
+
+#[test]
+fn both_tables_have_the_same_flags(rt: HostRuntime) {
+    let tables = BothTables::new();
+    for (row, slash) in ARGS.iter().zip(SLASH_ARGS.iter()) {
+        for row in [row, slash] {
+            let found = tables
+                .search(row.flag().as_bytes())
+                .map(|found| found.flag());
+            assert_eq!(rt; found, Some(row.flag()));
+            assert!(rt; looks(&tables, row.flag().as_bytes()) <= 20 * 28);
+        }
+    }
+}
