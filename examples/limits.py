@@ -2,7 +2,7 @@
 """Tries the rows of docs/LIMITS.md: runs the compile command of each row as it is given and as ccline builds it, in
 folders of their own, prints what differs, and compares it with what the row says.
 
-usage: examples/limits.py PATH_OF_CCLINE [ROW ..]   (it needs gcc 12; without rows: all)
+usage: examples/limits.py PATH_OF_CCLINE [ROW ..]   (it needs gcc 12 and clang 14; without rows: all)
 
 Status 0: all that was seen is as the rows say; 1: a row differs; 64: called wrongly.
 """
@@ -16,46 +16,60 @@ import tempfile
 DOCS = os.path.join(os.path.dirname(os.path.realpath(__file__)), "..", "docs", "LIMITS.md")
 
 SOURCE = "int main(void) { return 0; }\n"
-FILES = {"a.c": SOURCE, "t.c": 'char x[] = "??=";\n', "a.h": "#define A 1\n", "b.h": "#define B 1\n", "a.cu": SOURCE,
+FILES = {"a.c": SOURCE, "t.c": 'char x[] = "??=";\n', "a.h": "#define A 1\n", "b.h": "#define B 1\n", "a.cu": SOURCE, "a.hp": SOURCE,
          "p.h": "static int p(void) { return 1; }\n", "u.c": "int main(void) { return p(); }\n",
          "in/q.h": "#define Q 1\n", "on/q.h": "#define Q 2\n"}
 
 # What else a row's files hold.
 FILES_OF = {
-    3: {"r": "-c a.c '-DX=\"C:\\\\\\\\dir\"'", "a.c": "const char *s = X;\n"},
-    8: {"a.c": "#include <q.h>\nint q = Q;\n"},
-    9: {"a.h": "#ifndef B\n#define A_FIRST 1\n#endif\n", "a.c": "#ifdef A_FIRST\nint a_first;\n#else\nint b_first;\n#endif\n"},
-    11: {"r": '-c a.c ""'},
-    22: {"a.c": "int size = sizeof('a');\n"},
+    5: {"r": "-c a.c '-DX=\"C:\\\\\\\\dir\"'", "a.c": "const char *s = X;\n"},
+    11: {"a.c": "#include <q.h>\nint q = Q;\n"},
+    12: {"a.h": "#ifndef B\n#define A_FIRST 1\n#endif\n", "a.c": "#ifdef A_FIRST\nint a_first;\n#else\nint b_first;\n#endif\n"},
+    14: {"a.s": ".globl x\nx: .long 1\n"},
+    16: {"r": "\ufeffa.c -c"},
+    20: {"r": '-c a.c ""'},
+    33: {"a.c": "int size = sizeof('a');\n"},
 }
 
 # A command before the row's own.
-BEFORE = {1: "-g -gsplit-dwarf -x c-header -c p.h -o p.h.gch"}
+BEFORE = {1: "-g -gsplit-dwarf -x c-header -c p.h -o p.h.gch", 2: "-g -gsplit-dwarf -x c-header -c p.h -o p.pch"}
 
 # What the row says that one sees, and its words that say so.
 SAYS = {
     1: (["status 0 -> 1", "p.h.gch differs", "u.dwo given only", "u.o given only"], "the compilation stops"),
-    2: (["a.dwo differs"], "the `.dwo` differs"),
-    3: (["a.o differs"], "twice the backslashes"),
-    4: (["t.o differs"], "4 bytes in place of 2"),
-    5: (["standard output given only", "a.o built only"], "into `a.o` and not to standard output"),
-    6: (["a.o built only", "a.s given only"], "`a.o` holds what belongs into `a.s`"),
-    7: (["a.h.gch given only", "a.o built only"], "writes `a.o` and not `a.h.gch`"),
-    8: (["a.o differs"], "`on` is searched before `in`"),
-    9: (["a.o differs"], "`b.h` is read before `a.h`"),
-    10: (["status 0 -> 1"], "language not recognized"),
-    11: (["status 1 -> 0"], "compiles, where gcc alone stops"),
-    12: (["a.d: one two -> two"], "| `one two: ..` | `two: ..` |"),
-    13: (["a$b.d: a$$b.o -> a$b.o"], "| `a$$b.o: ..` | `a$b.o: ..`"),
-    14: (["x.d: one -> a.o"], "| `one: ..` | `a.o: ..`"),
-    15: (["a.d: one -> a.o one"], "| `one: ..` | `a.o one: ..`"),
-    16: (["x.d built only", "y.d given only"], "| `y.d` | `x.d`"),
-    17: ([".d given only", ".hidden.d built only"], "| writes `.d` | writes `.hidden.d` |"),
-    18: (["status 1 -> 0", "a.o built only"], "| stops: -M or -MM must be given | compiles |"),
-    19: (["a.o differs"], "in the new order"),
-    20: (["a.h.gch differs"], "the stored colour option"),
-    21: ([], "nothing in files"),
-    22: (["a.o differs"], "the built command compiles C++"),
+    2: (["status 0 -> 1", "p.pch differs", "u.dwo given only", "u.o given only"], "clang stops"),
+    3: (["a.dwo differs"], "the `.dwo` differs"),
+    4: (["a.dwo differs"], "the `.dwo` differs"),
+    5: (["a.o differs"], "twice the backslashes"),
+    6: (["t.o differs"], "4 bytes in place of 2"),
+    7: (["standard output given only", "a.o built only"], "into `a.o` and not to standard output"),
+    8: (["a.o built only", "a.s given only"], "`a.o` holds what belongs into `a.s`"),
+    9: (["a.bc given only", "a.o built only"], "`a.o` holds what belongs into `a.bc`"),
+    10: (["a.h.gch given only", "a.o built only"], "writes `a.o` and not `a.h.gch`"),
+    11: (["a.o differs"], "`on` is searched before `in`"),
+    12: (["a.o differs"], "`b.h` is read before `a.h`"),
+    13: (["status 0 -> 1", "a.o given only"], "clang stops"),
+    14: (["status 0 -> 1", "a.o given only"], "clang stops"),
+    15: (["status 0 -> 1", "a.o given only"], "clang stops"),
+    16: (["status 0 -> 1", "a.o given only"], "no such file"),
+    17: (["a.o given only", "bject built only"], "writes `bject`"),
+    18: (["status 0 -> 1"], "language not recognized"),
+    19: (["a.o built only"], "compiles what clang alone leaves"),
+    20: (["status 1 -> 0"], "compiles, where gcc alone stops"),
+    21: (["a.d: one two -> two"], "| `one two: ..` | `two: ..` |"),
+    22: (["a$b.d: a$$b.o -> a$b.o"], "| `a$$b.o: ..` | `a$b.o: ..`"),
+    23: (["x.d: one -> a.o"], "| `one: ..` | `a.o: ..`"),
+    24: (["a.d built only", "x.d given only"], "| writes `x.d` | writes `a.d`"),
+    25: (["a.d: one -> a.o one"], "| `one: ..` | `a.o one: ..`"),
+    26: (["x.d built only", "y.d given only"], "| `y.d` | `x.d`"),
+    27: ([".d given only", ".hidden.d built only"], "| writes `.d` | writes `.hidden.d` |"),
+    28: (["status 1 -> 0", "a.o built only"], "| stops: -M or -MM must be given | compiles |"),
+    29: (["a.o differs"], "the recorded command line"),
+    30: (["a.o differs"], "in the new order"),
+    31: (["a.h.gch differs"], "the stored colour option"),
+    32: ([], "nothing in files"),
+    33: (["a.o differs"], "the built command compiles C++"),
+    34: ([], "nothing in files"),
 }
 
 
@@ -64,18 +78,18 @@ def escaped(data):
 
 
 def rows_of(text):
-    """The rows of the tables by their numbers: the words of the first command, and the row's text."""
+    """The rows of the tables by their numbers: the compilers, the words of the first command, and the row's text."""
     rows = {}
     for line in text.splitlines():
-        row = re.match(r"\| (\d+) \| `gcc ([^`]*)`", line)
+        row = re.match(r"\| (\d+) \| ([a-z+, ]*) \| `([^`]*)`", line)
         if row:
-            rows[int(row[1])] = (shlex.split(row[2]), line)
+            rows[int(row[1])] = (row[2].split(", "), shlex.split(row[3]), line)
     return rows
 
 
-def built(program, words, folder, files):
+def built(program, compiler, words, folder, files):
     """The words of the built command, or None and the first line of the answer."""
-    lines = ["compiler gcc", "cwd " + escaped(folder.encode())]
+    lines = ["compiler " + compiler, "cwd " + escaped(folder.encode())]
     if "r" in files:
         lines.append("file " + escaped(os.path.join(folder, "r").encode()) + "\t" + escaped(files["r"].encode()))
     lines += ["word " + escaped(word.encode()) for word in words]
@@ -90,12 +104,12 @@ def all_files(folder):
     return {os.path.relpath(os.path.join(at, name), folder) for at, _, names in os.walk(folder) for name in names}
 
 
-def run(commands, folder):
+def run(compiler, commands, folder):
     """The last status, standard output, and the new files with their bytes."""
     before = all_files(folder)
     status, printed = 0, b""
     for words in commands:
-        done = subprocess.run(["gcc"] + words, cwd=folder, capture_output=True)
+        done = subprocess.run([compiler] + words, cwd=folder, capture_output=True)
         status, printed = done.returncode, printed + done.stdout
     made = {}
     for name in all_files(folder) - before:
@@ -104,8 +118,8 @@ def run(commands, folder):
     return status, printed, made
 
 
-def tried(commands, files, base, program=None):
-    """What commands do in a new folder, or, with a program, what the commands do that it builds for them."""
+def tried(compiler, commands, files, base, program=None):
+    """What a compiler's commands do in a new folder, or, with a program, what the commands do that it builds for them."""
     folder = os.path.join(base, "work")
     with tempfile.TemporaryDirectory(dir=base) as other:
         os.rename(other, folder)
@@ -114,14 +128,14 @@ def tried(commands, files, base, program=None):
             with open(os.path.join(folder, name), "w") as file:
                 file.write(text)
         if program:
-            answers = [built(program, words, folder, files) for words in commands]
+            answers = [built(program, compiler, words, folder, files) for words in commands]
             refused = [why for words, why in answers if words is None]
             if refused:
                 os.rename(folder, other)
                 return None, refused[0]
             commands = [words for words, _ in answers]
-        print("  ", "built:" if program else "given:", "; ".join(shlex.join(["gcc"] + words) for words in commands))
-        result = run(commands, folder)
+        print("  ", "built:" if program else "given:", "; ".join(shlex.join([compiler] + words) for words in commands))
+        result = run(compiler, commands, folder)
         os.rename(folder, other)
     return result, "ok"
 
@@ -148,23 +162,29 @@ def seen(given, built_one):
     return found
 
 
-def try_row(program, number, row):
-    """Tries a row and gives what is not as it says."""
-    words, text = row
-    wanted, quote = SAYS[number]
-    faults = [] if quote in text else [f"the row no longer says: {quote}"]
+def try_with(compiler, program, number, words):
+    """Tries a row's command with a compiler and gives what is not as the row says."""
+    wanted, _ = SAYS[number]
     commands = [shlex.split(BEFORE[number])] if number in BEFORE else []
     commands.append(words)
     files = dict(FILES, **FILES_OF.get(number, {}))
     with tempfile.TemporaryDirectory() as base:
-        given, _ = tried(commands, files, base)
-        made, why = tried(commands, files, base, program)
+        given, _ = tried(compiler, commands, files, base)
+        made, why = tried(compiler, commands, files, base, program)
     if made is None:
-        return faults + [f"ccline built no command: {why}"]
+        return [f"ccline built no command: {why}"]
     found = seen(given, made)
     print("   seen:", "; ".join(found) or "the same files")
-    if sorted(found) != sorted(wanted):
-        faults.append("the row says: " + ("; ".join(wanted) or "the same files"))
+    return [] if sorted(found) == sorted(wanted) else ["the row says: " + ("; ".join(wanted) or "the same files")]
+
+
+def try_row(program, number, row):
+    """Tries a row with each of its compilers and gives what is not as it says."""
+    compilers, words, text = row
+    _, quote = SAYS[number]
+    faults = [] if quote in text else [f"the row no longer says: {quote}"]
+    for compiler in compilers:
+        faults += try_with(compiler, program, number, words)
     return faults
 
 

@@ -66,6 +66,7 @@ REQUESTS = [
     b"compiler gcc\ncwd /w\nenv A\tB\ndir d\nexists e\nword -c\nword src/foo.cc\nword -stdlib=libc++\nword -MMD\nword -gsplit-dwarf\n",
     b"compiler gcc\nfile r\t-c\\x20a.c\nword @r\nword -Idir\n",
     b"compiler gcc\nword -c\nword a.c\nword b.c\n",
+    b"compiler clang\ncwd /w\nword -c\nword a.c\nword -Xclang\nword -load\nword -Xclang\nword p.so\nword -MD\n",
 ]
 
 

@@ -6,14 +6,14 @@
 set -euo pipefail
 
 usage() {
-    echo "usage: examples/gcc_object.sh PATH_OF_CCLINE [gcc|g++]" >&2
+    echo "usage: examples/same_object.sh PATH_OF_CCLINE [gcc|g++|clang|clang++]" >&2
     exit 64
 }
 [ $# -eq 1 ] || [ $# -eq 2 ] || usage
-[ -x "$1" ] || { echo "examples/gcc_object.sh: $1: no program" >&2; usage; }
+[ -x "$1" ] || { echo "examples/same_object.sh: $1: no program" >&2; usage; }
 ccline=$(realpath "$1")
 compiler=${2:-gcc}
-case $compiler in gcc | g++) ;; *) usage ;; esac
+case $compiler in gcc | g++ | clang | clang++) ;; *) usage ;; esac
 folder=$(mktemp -d)
 trap 'rm -rf "$folder"' EXIT
 cd "$folder"
