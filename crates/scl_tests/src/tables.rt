@@ -1,12 +1,14 @@
 //! The public rows of each compiler are those of its table.
-ghost use Rattle.std.specs.Prelude.{◌≡◌};
+ghost use Rattle.std.specs.Prelude.{◌≡◌, codes};
 ghost use Rattle.scl_gnu.specs.ClangRows.{clang_rows};
 ghost use Rattle.scl_gnu.specs.GccRows.{gcc_rows};
+ghost use Rattle.scl_msvc.specs.Rows.{msvc_rows};
 ghost use Rattle.scl_small.specs.DiabTable.{rows as diab_rows};
 ghost use Rattle.scl_small.specs.TaskingTable.{rows as tasking_rows};
 
 use scl_args::{FlagTable, SearchableArgInfo};
 use scl_gnu::{clang, gcc};
+use scl_msvc::msvc;
 use scl_small::{diab, tasking_vx};
 
 #[tactic(auto, unfolding(scl_gnu::specs::GccRows::gcc_rows))]
@@ -37,6 +39,18 @@ fn tasking_args() -> FlagTable<'static, tasking_vx::ArgData>
     FlagTable::new(&tasking_vx::ARGS).unwrap()
 }
 
+fn msvc_args() -> FlagTable<'static, msvc::ArgData>
+    ensures { result ≡ msvc_rows (codes "-") }
+{
+    FlagTable::new(&msvc::ARGS).unwrap()
+}
+
+fn msvc_slash_args() -> FlagTable<'static, msvc::ArgData>
+    ensures { result ≡ msvc_rows (codes "/") }
+{
+    FlagTable::new(&msvc::SLASH_ARGS).unwrap()
+}
+
 #[test]
 fn public_rows_are_searched(rt: HostRuntime) {
     let found = gcc_args().search(b"-MF").map(|row| row.kind());
@@ -47,4 +61,8 @@ fn public_rows_are_searched(rt: HostRuntime) {
     assert_eq!(rt; found, Some(diab::Kind::DoCompilation));
     let found = tasking_args().search(b"-c").map(|row| row.kind());
     assert_eq!(rt; found, Some(tasking_vx::Kind::DoCompilation));
+    let found = msvc_args().search(b"-Fo").map(|row| row.kind());
+    assert_eq!(rt; found, Some(msvc::Kind::Output));
+    let found = msvc_slash_args().search(b"/Fo").map(|row| row.kind());
+    assert_eq!(rt; found, Some(msvc::Kind::Output));
 }
