@@ -3,6 +3,7 @@ mod besides;
 mod devices;
 mod msvc_rows;
 mod outcomes;
+mod read_again;
 mod requests;
 mod rows;
 

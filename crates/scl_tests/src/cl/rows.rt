@@ -315,7 +315,12 @@ fn push_lines(lines: &mut String, keyword: &str, words: &str) -> Mem<()> {
 }
 
 /// The request of a row.
-fn request_of(alloc: Global, compiler: Compiler, lines: &str, words: &str) -> Result<String, Fail> {
+pub(super) fn request_of(
+    alloc: Global,
+    compiler: Compiler,
+    lines: &str,
+    words: &str,
+) -> Result<String, Fail> {
     let mut request = format!(in alloc; "compiler {}\n{lines}", compiler.name())?;
     push_lines(&mut request, "word ", words)?;
     Ok(request)

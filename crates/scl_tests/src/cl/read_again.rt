@@ -1,0 +1,216 @@
+//! Commands that the program answers, cut again by the tables of their compiler.
+use super::rows::request_of;
+use super::run_over;
+use scl_args::{Argument, ArgumentValue, SearchableArgInfo, cut_words};
+use scl_cl::{Compiler, Mem, Outcome};
+use scl_gnu::{clang, gcc};
+use scl_msvc::msvc;
+use scl_small::diab;
+use std::alloc::Global;
+use std::process::Abort;
+use std::test::Fail;
+
+/// Lines of the request besides words, the words, and the options of the command: a word that is no option stands
+/// between angles, an unknown flag behind a question mark, a value behind its flag.
+type Row = (Compiler, &'static str, &'static str, &'static str);
+
+static ROWS: [Row; 14] = [
+    (
+        Compiler::Diab,
+        "",
+        "-c foo.cxx -fabc -I include -o foo.o -include file",
+        "-c, <foo.cxx>, -o foo.o, -I include, -include file, ?-fabc",
+    ),
+    (
+        Compiler::Diab,
+        "file foo\t-c\\x20foo.c\\x20-o\\x20foo.o\n",
+        "-@foo",
+        "-c, <foo.c>, -o foo.o",
+    ),
+    (
+        Compiler::Gcc,
+        "",
+        "-o foo.o -c foo.c",
+        "-x c, -c, -o foo.o, -fdiagnostics-color always, <foo.c>",
+    ),
+    (
+        Compiler::Gcc,
+        "",
+        "-c src/foo.cc -stdlib=libc++ -MMD",
+        "-x c++, -c, -o foo.o, -stdlib libc++, -MMD, -MT foo.o, -MF foo.d, -fdiagnostics-color always, <src/foo.cc>",
+    ),
+    (
+        Compiler::Gcc,
+        "",
+        "-c a.c -gsplit-dwarf -pipe",
+        "-x c, -c, -o a.o, -pipe, -gsplit-dwarf, -D _gsplit_dwarf_path=a.dwo, -fdiagnostics-color always, <a.c>",
+    ),
+    (
+        Compiler::Gcc,
+        "multiarch\n",
+        "-c a.c -arch i386 -arch x86_64",
+        "-x c, -c, -o a.o, -arch i386, -arch x86_64, -fdiagnostics-color always, <a.c>",
+    ),
+    (
+        Compiler::Clang,
+        "",
+        "-c -Xclang -include -Xclang pch.h -- -a.c",
+        "-x c, -c, -o -a.o, -Xclang -include, -Xclang pch.h, -fdiagnostics-color always, <-->, <-a.c>",
+    ),
+    (
+        Compiler::Clang,
+        "",
+        "-include-pch x.pch -c a.c",
+        "-x c, -c, -o a.o, -include-pch x.pch, -fdiagnostics-color always, <a.c>",
+    ),
+    (
+        Compiler::Clang,
+        "",
+        "-c foo.cxx -arch xyz -fabc -I include -o foo.o -include file /winsysroot../some/dir",
+        "-x c++, -c, -o foo.o, -I include, -include file, ?-fabc, /winsysroot ../some/dir, -arch xyz, -fdiagnostics-color always, <foo.cxx>",
+    ),
+    (
+        Compiler::Cl,
+        "",
+        "/c /Tpfoo.c /MP4 /D A=1",
+        "/c, -Fo foo.obj, /D A=1, -Tp foo.c",
+    ),
+    (
+        Compiler::ClangCl,
+        "",
+        "/c -- -x.c",
+        "/c, -Fo -x.obj, <-->, <-x.c>",
+    ),
+    (
+        Compiler::Cl,
+        "env CL\t/DA#1\\x20/O2\n",
+        "/c x.c",
+        "/c, -Fo x.obj, /D A=1, /O2, <x.c>",
+    ),
+    (
+        Compiler::Cl,
+        "",
+        "-c a.c -Zi -Fdp",
+        "-c, -Fo a.obj, -Zi, -Fd p, <a.c>",
+    ),
+    // without the premise: an empty value takes the next word
+    (
+        Compiler::Gcc,
+        "",
+        "-c a.c -I",
+        "-x c, -c, -o a.o, -I -fdiagnostics-color=always, <a.c>",
+    ),
+];
+
+/// Appends an option as a row writes it.
+fn push_option<T: ArgumentValue>(
+    alloc: Global,
+    text: &mut Vec<u8>,
+    option: &Argument<T>,
+) -> Mem<()> {
+    match option {
+        Argument::Raw(word) => {
+            text.push(b'<')?;
+            text.extend_from_slice(word)?;
+            text.push(b'>')?;
+            Ok(())
+        }
+        Argument::UnknownFlag(word) => {
+            text.push(b'?')?;
+            text.extend_from_slice(word)
+        }
+        Argument::Flag(flag, _) => text.extend_from_slice(flag.as_bytes()),
+        Argument::WithValue(flag, value, _) => {
+            text.extend_from_slice(flag.as_bytes())?;
+            text.push(b' ')?;
+            text.extend_from_slice(&value.into_arg_os_string(alloc)?)
+        }
+    }
+}
+
+/// The options that the words are cut into; a last flag without its value ends them with three dots.
+fn options_of<T: ArgumentValue, S: SearchableArgInfo<T> + Drop>(
+    alloc: Global,
+    words: Vec<Vec<u8>>,
+    tables: S,
+    dashes: bool,
+) -> Mem<Vec<u8>> {
+    let (options, end) = cut_words(alloc, words, tables, dashes)?;
+    let mut text = Vec::new(alloc);
+    for option in &options {
+        if !text.is_empty() {
+            text.extend_from_slice(b", ")?;
+        }
+        push_option(alloc, &mut text, option)?;
+    }
+    if end.is_some() {
+        text.extend_from_slice(b"...")?;
+    }
+    Ok(text)
+}
+
+/// The same by the tables of a compiler that a row names.
+fn cut_again(alloc: Global, compiler: Compiler, words: Vec<Vec<u8>>) -> Result<Vec<u8>, Fail> {
+    match compiler {
+        Compiler::Diab => Ok(options_of(alloc, words, diab::table(), false)?),
+        Compiler::Gcc => Ok(options_of(alloc, words, gcc::table(), false)?),
+        Compiler::Clang => Ok(options_of(alloc, words, clang::BothTables::new(), true)?),
+        Compiler::Cl => Ok(options_of(alloc, words, msvc::BothTables::new(), false)?),
+        Compiler::ClangCl => Ok(options_of(alloc, words, msvc::BothTables::new(), true)?),
+        Compiler::Gxx | Compiler::Clangxx | Compiler::Tasking => Err("no row names it")?,
+    }
+}
+
+/// The words of the command that an answer's text has.
+fn command_of(alloc: Global, text: &[u8]) -> Mem<Vec<Vec<u8>>> {
+    let mut words = Vec::new(alloc);
+    for line in text.split(|byte| *byte == b'\n') {
+        if let Some(word) = line.strip_prefix(b"arg ") {
+            words.push(Vec::from_slice(alloc, word)?)?;
+        }
+    }
+    Ok(words)
+}
+
+fn expect_row(rt: &(impl Abort + Alloc<A = Global>), row: Row) -> Result<(), Fail> {
+    let (compiler, lines, words, options) = row;
+    let request = request_of(rt.alloc(), compiler, lines, words)?;
+    let (outcome, written) = run_over(rt.alloc(), request.as_bytes());
+    assert_eq!(rt; outcome, Outcome::Answered, "of {request:?}");
+    let command = command_of(rt.alloc(), &written)?;
+    let cut = cut_again(rt.alloc(), compiler, command)?;
+    assert_eq!(rt; cut.as_slice(), options.as_bytes(), "of {request:?}");
+    Ok(())
+}
+
+#[test]
+fn commands_of_rows_are_cut_again(rt: HostRuntime) -> Result<(), Fail> {
+    for row in &ROWS {
+        expect_row(&rt, *row)?;
+    }
+    Ok(())
+}
+
+#[test]
+fn words_that_a_command_hands_on_are_cut_again(rt: HostRuntime) -> Result<(), Fail> {
+    let request = request_of(
+        rt.alloc(),
+        Compiler::Clang,
+        "",
+        "-c -Xclang -include -Xclang pch.h -- -a.c",
+    )?;
+    let (_, written) = run_over(rt.alloc(), request.as_bytes());
+    let mut inner = Vec::new(rt.alloc());
+    let mut is_wrapped = false;
+    for word in command_of(rt.alloc(), &written)? {
+        if is_wrapped {
+            inner.push(word)?;
+            is_wrapped = false;
+        } else {
+            is_wrapped = word.as_slice() == b"-Xclang".as_slice();
+        }
+    }
+    let options = options_of(rt.alloc(), inner, clang::BothTables::new(), false)?;
+    assert_eq!(rt; options.as_slice(), b"-include pch.h".as_slice());
+    Ok(())
+}
