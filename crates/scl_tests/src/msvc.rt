@@ -3,7 +3,9 @@ use crate::words::{cut, joined};
 use scl_args::{Mem, SearchableArgInfo, looks};
 use scl_msvc::msvc::{ARGS, BothTables, Msvc, SLASH_ARGS, without_cl_env_vars};
 use scl_text::outputs::output_path;
-use scl_text::records::{CCompilerKind, Cacheable, CompilerArguments, ParsedArguments};
+use scl_text::records::{
+    CCompilerKind, Cacheable, CompilerArguments, ParsedArguments, SingleCompileCommand,
+};
 use scl_text::{CCompilerImpl, View};
 use std::alloc::Global;
 use std::test::Fail;
@@ -64,25 +66,28 @@ fn fields_of_msvc_say_what_the_options_say(rt: HostRuntime) -> Result<(), Fail> 
     Ok(())
 }
 
+/// The command of a compilation whose debug information goes to a file beside the object.
+fn debug_command(alloc: Global, view: &View) -> Result<(SingleCompileCommand, Cacheable), Fail> {
+    let msvc = compiler(alloc, false)?;
+    let record = record_of(alloc, b"-c a.c -Zi -Fdp", false)?;
+    Ok(msvc.generate_compile_commands(alloc, b"cl", &record, b"/w", &[], view)?)
+}
+
 #[test]
-fn shared_debug_information_is_not_kept(rt: HostRuntime) -> Result<(), Fail> {
-    let msvc = compiler(rt.alloc(), false)?;
-    let record = record_of(rt.alloc(), b"-c a.c -Zi -Fdp", false)?;
-    let mut view = View::new(rt.alloc());
-    let (_, kept) = msvc.generate_compile_commands(rt.alloc(), b"cl", &record, b"/w", &[], &view)?;
+fn debug_information_of_its_own_is_kept(rt: HostRuntime) -> Result<(), Fail> {
+    let (command, kept) = debug_command(rt.alloc(), &View::new(rt.alloc()))?;
     assert_eq!(rt; kept, Cacheable::Yes);
-    view.add_existing(Vec::from_slice(rt.alloc(), b"/w/p.pdb")?)?;
-    let (command, kept) = msvc.generate_compile_commands(
-        rt.alloc(),
-        b"cl",
-        &record,
-        b"/w",
-        &[],
-        &view,
-    )?;
-    assert_eq!(rt; kept, Cacheable::No);
     let words = joined(rt.alloc(), &command.arguments)?;
     assert_eq!(rt; words.as_slice(), b"-c -Foa.obj -Zi -Fdp a.c".as_slice());
+    Ok(())
+}
+
+#[test]
+fn shared_debug_information_is_not_kept(rt: HostRuntime) -> Result<(), Fail> {
+    let mut view = View::new(rt.alloc());
+    view.add_existing(Vec::from_slice(rt.alloc(), b"/w/p.pdb")?)?;
+    let (_, kept) = debug_command(rt.alloc(), &view)?;
+    assert_eq!(rt; kept, Cacheable::No);
     Ok(())
 }
 

@@ -72,13 +72,10 @@ fn a_flush_is_passed_on_and_not_counted(rt: HostRuntime) {
 #[test]
 fn taking_none_of_some_bytes_is_a_failure(rt: HostRuntime) -> Result<(), Fail> {
     let mut device = Counted::new(Takes(3));
-    assert_eq!(rt; device.write(b"ab")?, 2);
-    assert_eq!(rt; device.write(b"cd")?, 1);
-    assert_eq!(rt; device.failures(), 0);
-    assert_eq!(rt; device.write(b"d")?, 0);
-    assert_eq!(rt; device.failures(), 1);
-    assert_eq!(rt; device.write(b"")?, 0);
-    assert_eq!(rt; device.failures(), 1);
+    for (bytes, taken, failures) in [("ab", 2, 0), ("cd", 1, 0), ("d", 0, 1), ("", 0, 1)] {
+        assert_eq!(rt; device.write(bytes.as_bytes())?, taken, "of {bytes}");
+        assert_eq!(rt; device.failures(), failures, "of {bytes}");
+    }
     Ok(())
 }
 

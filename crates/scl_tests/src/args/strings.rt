@@ -183,17 +183,26 @@ fn a_raw_word_that_is_no_text_ends_the_texts(rt: HostRuntime) -> Result<(), Fail
 }
 
 #[test]
-fn words_are_made_and_printed(rt: HostRuntime) -> Result<(), Fail> {
+fn a_flag_alone_is_printed(rt: HostRuntime) -> Result<(), Fail> {
     let option = Argument::Flag("-c", Value::make(rt.alloc(), false, Vec::new(rt.alloc()))?);
     assert_eq!(rt; texts(&rt, &option, None)?.0.as_str(), "-c\n");
+    Ok(())
+}
+
+#[test]
+fn texts_are_made_and_printed(rt: HostRuntime) -> Result<(), Fail> {
     let text = String::process(rt.alloc(), Vec::from_slice(rt.alloc(), b"a")?)?;
     assert_eq!(rt; text.as_str(), "a");
-    assert_eq!(rt;
-        text.into_arg_os_string(rt.alloc())?.as_slice(),
-        b"a".as_slice()
-    );
+    let word = text.into_arg_os_string(rt.alloc())?;
+    assert_eq!(rt; word.as_slice(), b"a".as_slice());
     let mut none = |_path: &[u8]| None;
     assert_eq!(rt; text.into_arg_string(rt.alloc(), &mut none)?.as_str(), "a");
+    Ok(())
+}
+
+#[test]
+fn nothing_is_printed_of_no_value(rt: HostRuntime) -> Result<(), Fail> {
+    let mut none = |_path: &[u8]| None;
     assert_eq!(rt; ().into_arg_string(rt.alloc(), &mut none)?.as_str(), "");
     assert_eq!(rt; ().into_arg_os_string(rt.alloc())?.len(), 0);
     Ok(())

@@ -1,6 +1,6 @@
 //! The texts beside reasons.
 use crate::words::cut;
-use scl_cl::{Compiler, CompilerArguments, View};
+use scl_cl::{Compilation, Compiler, CompilerArguments, Mem, View};
 use std::alloc::Global;
 use std::process::Abort;
 use std::test::Fail;
@@ -84,10 +84,19 @@ static REFUSALS: [Row; 29] = [
     ),
 ];
 
+fn answer_to(
+    alloc: Global,
+    compiler: Compiler,
+    words: &[u8],
+) -> Mem<CompilerArguments<Compilation>> {
+    let words = cut(alloc, words)?;
+    let view = View::new(alloc);
+    compiler.answer(alloc, b"cc", &words, b"", &[], &view)
+}
+
 /// The reason for which words are refused, with the text beside it in parentheses.
 fn refusal(alloc: Global, compiler: Compiler, words: &[u8]) -> Result<String, Fail> {
-    let words = cut(alloc, words)?;
-    match compiler.answer(alloc, b"cc", &words, b"", &[], &View::new(alloc))? {
+    match answer_to(alloc, compiler, words)? {
         CompilerArguments::CannotCache(reason, Some(text)) => {
             Ok(format!(in alloc; "{reason} ({text})")?)
         }
@@ -105,8 +114,8 @@ fn expect_refusal(rt: &(impl Abort + Alloc<A = Global>), row: Row) -> Result<(),
 
 #[test]
 fn a_text_stands_beside_a_reason(rt: HostRuntime) -> Result<(), Fail> {
-    for row in REFUSALS {
-        expect_refusal(&rt, row)?;
+    for row in &REFUSALS {
+        expect_refusal(&rt, *row)?;
     }
     Ok(())
 }

@@ -9,7 +9,7 @@ use scl_args::ArgRow::TakeArg;
 use scl_args::{ArgInfo, FlagTable, Probes, SearchableArgInfo};
 use scl_gnu::clang::BothTables;
 use scl_gnu::gcc::{ArgData, Gcc, Kind, parse_arguments};
-use scl_text::records::{CCompilerKind, CompilerArguments};
+use scl_text::records::{CCompilerKind, CompilerArguments, ParsedArguments};
 use scl_text::{CCompilerImpl, View};
 use std::alloc::Global;
 use std::test::Fail;
@@ -43,16 +43,19 @@ fn three_tables() -> ThreeTables
     }
 }
 
-fn command_line(alloc: Global, text: &[u8]) -> Result<Vec<u8>, Fail> {
+fn record_of(alloc: Global, text: &[u8], view: &View) -> Result<ParsedArguments, Fail> {
     let words = cut(alloc, text)?;
-    let view = View::new(alloc);
     let tables = three_tables();
-    let said = parse_arguments(alloc, &words, b"", tables, false, CCompilerKind::Gcc, &view)?;
-    let record = match said {
-        CompilerArguments::Ok(record) => record,
+    match parse_arguments(alloc, &words, b"", tables, false, CCompilerKind::Gcc, view)? {
+        CompilerArguments::Ok(record) => Ok(record),
         CompilerArguments::CannotCache(reason, _) => Err(reason)?,
         CompilerArguments::NotCompilation => Err("no compilation")?,
-    };
+    }
+}
+
+fn command_line(alloc: Global, text: &[u8]) -> Result<Vec<u8>, Fail> {
+    let view = View::new(alloc);
+    let record = record_of(alloc, text, &view)?;
     let gcc = Gcc::new(false);
     let (command, _) = gcc.generate_compile_commands(alloc, b"gcc", &record, b"", &[], &view)?;
     Ok(joined(alloc, &command.arguments)?)

@@ -134,38 +134,54 @@ fn numbered(alloc: Global, name: &str, number: u32) -> Mem<Vec<u8>> {
     Ok(format!(in alloc; "{name}{number}")?.into_bytes())
 }
 
-#[test]
-fn ten_files_that_double_give_a_thousand_words(rt: HostRuntime) -> Result<(), Fail> {
-    let alloc = rt.alloc();
+/// The words that the word `@f0` gives.
+fn words_of_the_first(alloc: Global, view: &View) -> Words {
+    let words = cut(alloc, b"@f0")?;
+    expand_all(alloc, ExpansionKind::Gnu, b"", &words, view)
+}
+
+/// A word that names the file of the number twice.
+fn twice(alloc: Global, number: u32) -> Mem<Vec<u8>> {
+    let mut bytes = numbered(alloc, "@f", number)?;
+    bytes.extend_from_slice(b" ")?;
+    bytes.extend_from_slice(&numbered(alloc, "@f", number)?)?;
+    Ok(bytes)
+}
+
+fn doubling_files(alloc: Global) -> Mem<View> {
     let mut view = View::new(alloc);
     for number in 0..10u32 {
-        let mut bytes = numbered(alloc, "@f", number + 1)?;
-        bytes.push(b' ')?;
-        bytes.extend_from_slice(&numbered(alloc, "@f", number + 1)?)?;
-        view.add_file(numbered(alloc, "f", number)?, bytes)?;
+        let path = numbered(alloc, "f", number)?;
+        view.add_file(path, twice(alloc, number + 1)?)?;
     }
     view.add_file(bytes_of(alloc, b"f10")?, bytes_of(alloc, b"-DA")?)?;
-    let words = cut(alloc, b"@f0")?;
-    let all = expand_all(alloc, ExpansionKind::Gnu, b"", &words, &view)?;
+    Ok(view)
+}
+
+#[test]
+fn ten_files_that_double_give_a_thousand_words(rt: HostRuntime) -> Result<(), Fail> {
+    let view = doubling_files(rt.alloc())?;
+    let all = words_of_the_first(rt.alloc(), &view)?;
     assert_eq!(rt; all.len(), 1024);
     assert!(rt; all.iter().all(|word| word.as_slice() == b"-DA".as_slice()));
     Ok(())
 }
 
-#[test]
-fn a_chain_of_a_thousand_files_ends(rt: HostRuntime) -> Result<(), Fail> {
-    let alloc = rt.alloc();
+fn chained_files(alloc: Global) -> Mem<View> {
     let mut view = View::new(alloc);
     for number in 0..999u32 {
-        view.add_file(
-            numbered(alloc, "f", number)?,
-            numbered(alloc, "@f", number + 1)?,
-        )?;
+        let path = numbered(alloc, "f", number)?;
+        view.add_file(path, numbered(alloc, "@f", number + 1)?)?;
     }
     view.add_file(bytes_of(alloc, b"f999")?, bytes_of(alloc, b"-c a.c")?)?;
-    let words = cut(alloc, b"@f0")?;
-    let all = expand_all(alloc, ExpansionKind::Gnu, b"", &words, &view)?;
-    let line = joined(alloc, &all)?;
+    Ok(view)
+}
+
+#[test]
+fn a_chain_of_a_thousand_files_ends(rt: HostRuntime) -> Result<(), Fail> {
+    let view = chained_files(rt.alloc())?;
+    let all = words_of_the_first(rt.alloc(), &view)?;
+    let line = joined(rt.alloc(), &all)?;
     assert_eq!(rt; line.as_slice(), b"-c a.c".as_slice());
     Ok(())
 }
