@@ -1,3 +1,4 @@
 pub mod EnvironmentLemmas
 pub mod OutputLaws
+pub mod PromiseLaws
 pub mod TableLaws
