@@ -45,5 +45,11 @@ text-again : (bytes text : List ℕ) (r : Result Request ℕ) → request_in (li
 text-again bytes text (Ok request) e is = record { request = request; request_is = e; text_is = sym (cc); read_again = answers_again request }
 text-again bytes text (Err n) e is = absurd (cc)
 
-pub answer-again : (bytes text : List ℕ) → answer bytes ≡ Ok text → IsTextReadAgain bytes text
+answer-again : (bytes text : List ℕ) → answer bytes ≡ Ok text → IsTextReadAgain bytes text
 answer-again bytes text is = text-again bytes text (request_in (lines_of bytes)) refl is
+
+-- where there are bytes, and the text of their answer is as it should be, a command in it is read again
+pub text-answers-again : (given : Option (List ℕ)) (IsWritten : List ℕ → Type 0) →
+    IfSome given (λ bytes. (text : List ℕ) × (answer bytes ≡ Ok text) × IsWritten text) → IfSome given (λ bytes. (text : List ℕ) × IsTextReadAgain bytes text × IsWritten text)
+text-answers-again None IsWritten h = tt
+text-answers-again (Some bytes) IsWritten h = (h.0, answer-again bytes h.0 h.1, h.2)
