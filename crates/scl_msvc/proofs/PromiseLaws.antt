@@ -9,12 +9,10 @@ use Rattle.scl_gnu.specs.ClangRows.{clang_tables}
 use Rattle.scl_msvc.specs.Building.{command, command_words}
 use Rattle.scl_msvc.specs.Environment.{surrounded}
 use Rattle.scl_msvc.specs.Promises.{msvc_line, MsvcReadsAgain}
-use Rattle.scl_msvc.specs.ReadAgain.{parts, MsvcCommandsAreReadAgain}
+use Rattle.scl_msvc.specs.ReadAgain.{parts}
 use Rattle.scl_msvc.specs.Readings.{reading_within}
 use Rattle.scl_msvc.specs.Rows.{msvc_tables}
-
-commands_again : MsvcCommandsAreReadAgain
-commands_again = ?
+use Rattle.scl_msvc.proofs.ReadAgainLaws.{commands_again}
 
 if-ok : {A E : Type 0} (r : Result A E) (P : A → Type 0) → ((a : A) → r ≡ Ok a → P a) → IfOk r P
 if-ok (Ok a) P h = h a refl
@@ -24,8 +22,8 @@ pub command_kept : (is_clang : Bool) (directory : List ℕ) (pairs : List (List 
     IfCommand command (MsvcReadsAgain is_clang directory pairs view words) (reading_within is_clang directory pairs view words)
 command_kept is_clang directory pairs view words =
     let again : Parsed → List ℕ → List (List ℕ) → List (List ℕ) → Type 0 =
-        λ p object words all. IsReadAgainUnlessEmpty msvc_tables is_clang clang_tables (msvc_line is_clang directory view all) (parts p object) words in
-    command-kept command_words (λ p object words'. IfOk (surrounded pairs words) (again p object words'))
+        λ p object built all. IsReadAgainUnlessEmpty msvc_tables is_clang clang_tables (msvc_line is_clang directory view all) (parts p object) built in
+    command-kept command_words (λ p object built. IfOk (surrounded pairs words) (again p object built))
     (reading_within is_clang directory pairs view words)
     (λ p object e o. if-ok (surrounded pairs words) (again p object (command_words p object))
         (λ all s clear. commands_again is_clang directory pairs view words all p object s e o clear.outer clear.inner.0 clear.inner.1.0))
