@@ -3,6 +3,7 @@ pub mod Checks
 pub mod Commands
 pub mod Laws
 pub mod Origins
+pub mod Promises
 pub mod Reads
 -- For the test of empty values: no contract cites it yet.
 pub mod Empties

@@ -3,6 +3,7 @@ pub mod EnvironmentLemmas
 pub mod InputLaws
 pub mod KeptLaws
 pub mod OutputLaws
+pub mod PromiseLaws
 pub mod ReadAgainLaws
 pub mod ReadingLaws
 pub mod TableLaws

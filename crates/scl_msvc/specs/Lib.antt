@@ -9,6 +9,7 @@ pub mod InnerSorts
 pub mod Inners
 pub mod Kinds
 pub mod Places
+pub mod Promises
 pub mod ReadAgain
 pub mod Readings
 pub mod Recordings
