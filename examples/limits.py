@@ -41,6 +41,10 @@ FILES_OF = {
     49: {"r": "a.c -DX='\"a b\"'", "a.c": "const char *s = X;\n"},
     51: {"a.c": "#include <q.h>\nint q = Q;\n"},
     55: {"a.S": ".globl x\nx: .long 1\n"},
+    59: {"o.c": "@class A;\n"},
+    61: {"r": "-c x.c -DY\f-DX"},
+    62: {"r": "-c x.c -DY\v-DX"},
+    63: {"r": 'x.c "/DX'},
 }
 
 # What stands in the environment of a row's command.
@@ -115,6 +119,11 @@ SAYS = {
     56: (["status 1 -> 0", "a.obj built only"], "compiles, where clang-cl alone stops"),
     57: (["status 1 -> 0", "a.obj built only"], "compiles, where clang-cl alone stops"),
     58: (["a.obj differs"], "the recorded command line"),
+    59: (["status 0 -> 1", "o.o given only"], "clang stops"),
+    60: (["status 1 -> 0", "a.o built only"], "compiles, where the compilers alone stop"),
+    61: (["x.o differs"], "`X` is defined"),
+    62: (["x.o differs"], "`X` is not defined"),
+    63: (["x.obj differs"], "`X` is defined"),
 }
 
 
