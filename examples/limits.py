@@ -2,13 +2,16 @@
 """Tries the rows of docs/LIMITS.md: runs the compile command of each row as it is given and as ccline builds it, in
 folders of their own, prints what differs, and compares it with what the row says.
 
-usage: examples/limits.py PATH_OF_CCLINE [ROW ..]   (it needs gcc 12 and clang 14; without rows: all)
+usage: examples/limits.py PATH_OF_CCLINE [ROW ..]   (it needs gcc 12, clang 14 and clang-cl 14; without rows: all)
+
+Objects of clang-cl are compared without the time that stands in them.
 
 Status 0: all that was seen is as the rows say; 1: a row differs; 64: called wrongly.
 """
 import os
 import re
 import shlex
+import shutil
 import subprocess
 import sys
 import tempfile
@@ -18,7 +21,7 @@ DOCS = os.path.join(os.path.dirname(os.path.realpath(__file__)), "..", "docs", "
 SOURCE = "int main(void) { return 0; }\n"
 FILES = {"a.c": SOURCE, "t.c": 'char x[] = "??=";\n', "a.h": "#define A 1\n", "b.h": "#define B 1\n", "a.cu": SOURCE, "a.hp": SOURCE,
          "p.h": "static int p(void) { return 1; }\n", "u.c": "int main(void) { return p(); }\n",
-         "in/q.h": "#define Q 1\n", "on/q.h": "#define Q 2\n"}
+         "in/q.h": "#define Q 1\n", "on/q.h": "#define Q 2\n", "x.c": "#ifdef X\nint x;\n#endif\n", "sub/a.c": SOURCE}
 
 # What else a row's files hold.
 FILES_OF = {
@@ -29,7 +32,29 @@ FILES_OF = {
     16: {"r": "\ufeffa.c -c"},
     20: {"r": '-c a.c ""'},
     33: {"a.c": "int size = sizeof('a');\n"},
+    43: {"b.c": "int b;\n"},
+    44: {"r": "-DX"},
+    45: {"r": "/DX"},
+    46: {"r": 'a.c "/DX=""q"""', "a.c": "const char *s = X;\n"},
+    47: {"r": "\u00e9.c", "\u00e9.c": SOURCE},
+    48: {"r": "x.c /I @s", "s": "in /DX"},
+    49: {"r": "a.c -DX='\"a b\"'", "a.c": "const char *s = X;\n"},
+    51: {"a.c": "#include <q.h>\nint q = Q;\n"},
+    55: {"a.S": ".globl x\nx: .long 1\n"},
+    59: {"o.c": "@class A;\n"},
+    61: {"r": "-c x.c -DY\f-DX"},
+    62: {"r": "-c x.c -DY\v-DX"},
+    63: {"r": 'x.c "/DX'},
 }
+
+# What stands in the environment of a row's command.
+ENVIRONMENT_OF = {45: {"CL": "@r"}}
+
+# Names under which a compiler may be found.
+NAMES = {"clang-cl": ["clang-cl", "clang-cl-14"]}
+
+# What an object of clang-cl begins with; its time follows, in four bytes.
+OBJECT_MARK = b"\x64\x86"
 
 # A command before the row's own.
 BEFORE = {1: "-g -gsplit-dwarf -x c-header -c p.h -o p.h.gch", 2: "-g -gsplit-dwarf -x c-header -c p.h -o p.pch"}
@@ -70,6 +95,35 @@ SAYS = {
     32: ([], "nothing in files"),
     33: (["a.o differs"], "the built command compiles C++"),
     34: ([], "nothing in files"),
+    35: (["status 0 -> 1", "a.o given only"], "clang stops"),
+    36: (["x.o differs"], "`X` is not defined"),
+    37: (["status 1 -> 0", "a.o built only"], "compiles, where the compilers alone stop"),
+    38: (["status 0 -> 1", "a.o given only"], "clang stops"),
+    39: (["status 0 -> 1", "a.obj given only"], "stops: no input files"),
+    40: (["x.obj differs"], "`X` is not defined"),
+    41: (["status 1 -> 0", "a.obj built only"], "compiles, where clang-cl alone stops"),
+    42: (["status 0 -> 1", "a.obj given only"], "stops: unknown argument"),
+    43: (["status 0 -> 1", "a.obj given only", "b.obj given only"], "stops: one object for several files"),
+    44: (["x.obj differs"], "`X` is defined"),
+    45: (["x.obj differs"], "`X` is defined"),
+    46: (["status 0 -> 1", "a.obj given only"], 'is `q` and not `"q"`'),
+    47: (["status 0 -> 1", "\u00e9.obj given only"], "no such file"),
+    48: (["status 0 -> 1", "x.obj given only"], "stops: `/DX` is no file"),
+    49: (["a.obj differs"], "single quotes stay"),
+    50: (["t.obj differs"], "4 bytes in place of 2"),
+    51: (["a.obj differs"], "`on` is searched before `in`"),
+    52: (["a.obj given only", "sub/a.obj built only"], "writes `sub/a.obj` and not `a.obj`"),
+    53: ([".hidden given only", ".hidden.obj built only"], "writes `.hidden.obj` and not `.hidden`"),
+    54: (["status 0 -> 1", "sub\\.obj given only"], "where clang-cl alone writes `sub\\.obj`"),
+    55: (["a.asm built only"], "writes `a.asm` too"),
+    56: (["status 1 -> 0", "a.obj built only"], "compiles, where clang-cl alone stops"),
+    57: (["status 1 -> 0", "a.obj built only"], "compiles, where clang-cl alone stops"),
+    58: (["a.obj differs"], "the recorded command line"),
+    59: (["status 0 -> 1", "o.o given only"], "clang stops"),
+    60: (["status 1 -> 0", "a.o built only"], "compiles, where the compilers alone stop"),
+    61: (["x.o differs"], "`X` is defined"),
+    62: (["x.o differs"], "`X` is not defined"),
+    63: (["x.obj differs"], "`X` is defined"),
 }
 
 
@@ -81,44 +135,51 @@ def rows_of(text):
     """The rows of the tables by their numbers: the compilers, the words of the first command, and the row's text."""
     rows = {}
     for line in text.splitlines():
-        row = re.match(r"\| (\d+) \| ([a-z+, ]*) \| `([^`]*)`", line)
+        row = re.match(r"\| (\d+) \| ([a-z+, -]*) \| `([^`]*)`", line)
         if row:
             rows[int(row[1])] = (row[2].split(", "), shlex.split(row[3]), line)
     return rows
 
 
-def built(program, compiler, words, folder, files):
+def built(program, compiler, words, folder, files, environment):
     """The words of the built command, or None and the first line of the answer."""
     lines = ["compiler " + compiler, "cwd " + escaped(folder.encode())]
-    if "r" in files:
-        lines.append("file " + escaped(os.path.join(folder, "r").encode()) + "\t" + escaped(files["r"].encode()))
+    for name in {"r", "s"} & files.keys():
+        lines.append("file " + escaped(os.path.join(folder, name).encode()) + "\t" + escaped(files[name].encode()))
+    lines += ["env " + key + "\t" + escaped(value.encode()) for key, value in environment.items()]
     lines += ["word " + escaped(word.encode()) for word in words]
     done = subprocess.run([program], input=("\n".join(lines) + "\n").encode(), stdout=subprocess.PIPE)
     answer = done.stdout.decode().splitlines()
     if done.returncode != 0 or answer[0] != "ok":
         return None, answer[0] if answer else f"status {done.returncode}"
-    return [line[4:].encode().decode("unicode_escape") for line in answer if line.startswith("arg ")], "ok"
+    fields = [line[4:] for line in answer if line.startswith("arg ")]
+    return [field.encode().decode("unicode_escape").encode("latin-1").decode() for field in fields], "ok"
 
 
 def all_files(folder):
     return {os.path.relpath(os.path.join(at, name), folder) for at, _, names in os.walk(folder) for name in names}
 
 
-def run(compiler, commands, folder):
+def without_time(data):
+    return data[:4] + data[8:] if data.startswith(OBJECT_MARK) else data
+
+
+def run(compiler, commands, folder, environment):
     """The last status, standard output, and the new files with their bytes."""
     before = all_files(folder)
     status, printed = 0, b""
+    executable = next(filter(shutil.which, NAMES.get(compiler, [compiler])), compiler)
     for words in commands:
-        done = subprocess.run([compiler] + words, cwd=folder, capture_output=True)
+        done = subprocess.run([executable] + words, cwd=folder, capture_output=True, env=dict(os.environ, **environment))
         status, printed = done.returncode, printed + done.stdout
     made = {}
     for name in all_files(folder) - before:
         with open(os.path.join(folder, name), "rb") as file:
-            made[name] = file.read()
+            made[name] = without_time(file.read())
     return status, printed, made
 
 
-def tried(compiler, commands, files, base, program=None):
+def tried(compiler, commands, files, environment, base, program=None):
     """What a compiler's commands do in a new folder, or, with a program, what the commands do that it builds for them."""
     folder = os.path.join(base, "work")
     with tempfile.TemporaryDirectory(dir=base) as other:
@@ -128,14 +189,14 @@ def tried(compiler, commands, files, base, program=None):
             with open(os.path.join(folder, name), "w") as file:
                 file.write(text)
         if program:
-            answers = [built(program, compiler, words, folder, files) for words in commands]
+            answers = [built(program, compiler, words, folder, files, environment) for words in commands]
             refused = [why for words, why in answers if words is None]
             if refused:
                 os.rename(folder, other)
                 return None, refused[0]
             commands = [words for words, _ in answers]
         print("  ", "built:" if program else "given:", "; ".join(shlex.join([compiler] + words) for words in commands))
-        result = run(compiler, commands, folder)
+        result = run(compiler, commands, folder, {} if program else environment)
         os.rename(folder, other)
     return result, "ok"
 
@@ -168,9 +229,10 @@ def try_with(compiler, program, number, words):
     commands = [shlex.split(BEFORE[number])] if number in BEFORE else []
     commands.append(words)
     files = dict(FILES, **FILES_OF.get(number, {}))
+    environment = ENVIRONMENT_OF.get(number, {})
     with tempfile.TemporaryDirectory() as base:
-        given, _ = tried(compiler, commands, files, base)
-        made, why = tried(compiler, commands, files, base, program)
+        given, _ = tried(compiler, commands, files, environment, base)
+        made, why = tried(compiler, commands, files, environment, base, program)
     if made is None:
         return [f"ccline built no command: {why}"]
     found = seen(given, made)
@@ -196,6 +258,8 @@ def main():
     if not os.access(program, os.X_OK):
         print(f"examples/limits.py: {program}: no program", file=sys.stderr)
         return 64
+    for variable in ("CL", "_CL_"):
+        os.environ.pop(variable, None)
     with open(DOCS) as docs:
         rows = rows_of(docs.read())
     differs = 0

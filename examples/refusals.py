@@ -67,6 +67,8 @@ REQUESTS = [
     b"compiler gcc\nfile r\t-c\\x20a.c\nword @r\nword -Idir\n",
     b"compiler gcc\nword -c\nword a.c\nword b.c\n",
     b"compiler clang\ncwd /w\nword -c\nword a.c\nword -Xclang\nword -load\nword -Xclang\nword p.so\nword -MD\n",
+    b"compiler cl\ncwd /w\nenv CL\t/DA#1\nenv B\tC\nenv _CL_\t/O2\nfile /w/r\t/Zi\\x20/Fdx\nexists /w/x.pdb\nword /c\nword /Tpa\nword @r\n",
+    b"compiler clang-cl\ncwd /w\nword /c\nword a.cc\nword /Foout/\nword -Xclang\nword -load\nword -Xclang\nword p.so\nword -clang:-MD\n",
 ]
 
 

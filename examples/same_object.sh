@@ -6,14 +6,16 @@
 set -euo pipefail
 
 usage() {
-    echo "usage: examples/same_object.sh PATH_OF_CCLINE [gcc|g++|clang|clang++]" >&2
+    echo "usage: examples/same_object.sh PATH_OF_CCLINE [gcc|g++|clang|clang++|clang-cl]" >&2
     exit 64
 }
 [ $# -eq 1 ] || [ $# -eq 2 ] || usage
 [ -x "$1" ] || { echo "examples/same_object.sh: $1: no program" >&2; usage; }
 ccline=$(realpath "$1")
 compiler=${2:-gcc}
-case $compiler in gcc | g++ | clang | clang++) ;; *) usage ;; esac
+case $compiler in gcc | g++ | clang | clang++ | clang-cl) ;; *) usage ;; esac
+executable=$compiler
+command -v "$executable" > /dev/null || executable=$compiler-14
 folder=$(mktemp -d)
 trap 'rm -rf "$folder"' EXIT
 cd "$folder"
@@ -23,7 +25,11 @@ cat > include/greeting.h <<'C'
 #define TIMES 3
 C
 cat > src/main.c <<'C'
+#ifdef _WIN32
+int printf(const char *, ...);
+#else
 #include <stdio.h>
+#endif
 #include "greeting.h"
 
 int main(void) {
@@ -32,7 +38,12 @@ int main(void) {
     return 0;
 }
 C
+object=main.o
 words=(-O2 -g -Wall -I include '-DGREETING="hello, \"world\""' -fno-common -MMD -o build/main.o -c src/main.c)
+if [ "$compiler" = clang-cl ]; then
+    object=main.obj
+    words=(/O2 /Z7 /W3 /I include '/DGREETING="hello, \"world\""' -clang:-MD -clang:-MFbuild/main.d /Brepro /Fobuild/ /c src/main.c)
+fi
 
 # each byte of a word as \xHH
 escaped() {
@@ -67,12 +78,12 @@ while IFS= read -r line; do
     esac
 done < answer
 
-"$compiler" "${words[@]}"
+"$executable" "${words[@]}"
 mv build asked
 mkdir build
-"$compiler" "${built[@]}"
+"$executable" "${built[@]}"
 printf 'asked: %s' "$compiler"; printf ' %q' "${words[@]}"; echo
 printf 'built: %s' "$compiler"; printf ' %q' "${built[@]}"; echo
-cmp asked/main.o build/main.o
+cmp "asked/$object" "build/$object"
 cmp asked/main.d build/main.d
-echo "the objects are the same $(wc -c < build/main.o) bytes"
+echo "the objects are the same $(wc -c < "build/$object") bytes"
