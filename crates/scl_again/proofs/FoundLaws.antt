@@ -3,7 +3,7 @@ use Rattle.std.specs.List.{list_all}
 use Rattle.std.specs.Option.{option_map}
 use Rattle.scl_args.specs.declared.argument.ArgDisposition.{ArgDisposition}
 use Rattle.scl_args.specs.Each.{Each, Has}
-use Rattle.scl_args.specs.Options.{is_of, is_raw, flag_of, text_of, last, last_by, texts, or_else}
+use Rattle.scl_args.specs.Options.{is_of, is_raw, flag_of, text_of, last_by, texts}
 use Rattle.scl_args.specs.Row.{Row, Shape, bare, apart, joined, either}
 use Rattle.scl_args.specs.Tables.{owner_in, all_rows}
 use Rattle.scl_args.specs.Cuts.{Cut, raw, unknown, flag, with_value, cut}
@@ -14,6 +14,7 @@ use Rattle.scl_args.proofs.PrefixLemmas.{both}
 use Rattle.scl_again.specs.Origins.{ValueCame}
 use Rattle.scl_again.specs.Reads.{Reads}
 use Rattle.scl_again.proofs.AgainChecks.{implied}
+use Rattle.scl_again.proofs.FilterLaws.{from-last}
 use Rattle.scl_again.proofs.OriginLaws.{CameUnmarked, all_unmarked, cut_came, value_row}
 use Rattle.scl_again.proofs.ReadsLaws.{reads-flag, reads-raw}
 
@@ -40,17 +41,6 @@ module _ {K : Type 0} (tables : List (List (Row K))) (dashes : Bool) where
   pub found : (p : Seen K → Bool) (words : List (List ℕ)) → Each (IsFound p) (filter p (seen_in words))
   found p words = let cs = (cut (owner_in tables) dashes words).options in
       found-filter p cs (all_unmarked (owner_in tables) dashes cs (cut_came (owner_in tables) dashes (all_rows tables) (owner_in-is tables) words))
-
-  last-nil : (P : Seen K → Type 0) (x o : Seen K) → or_else None (Some x) ≡ Some o → P x → P o
-  last-nil P x o e h = let same : x ≡ o = cc in subst P same h
-
-  from-last : (P : Seen K → Type 0) (os : List (Seen K)) (o : Seen K) → Each P os → last os ≡ Some o → P o
-  from-last P [] o h e = absurd (cc)
-  from-last P (x ∷ os) o h e =
-      elim (last os) as (λ l. last os ≡ l → or_else l (Some x) ≡ Some o → P o) [
-        | None ↦ λ _ k. last-nil P x o k h.0
-        | Some y ↦ λ l k. let same : y ≡ o = cc in from-last P os o h.1 (l ∙ ap (λ z. let s : Option (Seen K) = Some z in s) same)
-      ] refl e
 
   from-flag : (p : Seen K → Bool) (o : Option (Seen K)) (f : List ℕ) → ((x : Seen K) → o ≡ Some x → IsFound p x) → option_map flag_of o ≡ Some f → (x : Seen K) × IsFound p x × (flag_of x ≡ f)
   from-flag p None f h e = absurd (cc)

@@ -38,8 +38,12 @@ module _ {K : Type 0} (own : List ℕ → Option (Row K)) (dashes : Bool) (rows 
   pub fresh-either : row.shape ≡ either None → (x : ℕ) (xs : List ℕ) → Reads own dashes ((row.flag ++ (x ∷ xs)) ∷ []) (plain.value row.flag row.kind (x ∷ xs) ∷ [])
   fresh-either s x xs = reads-either_joined own dashes row None x xs s (owns-rest (x ∷ xs) (ap (λ h. joins h (x ∷ xs)) s))
 
--- an own word: a flag that joins safely, with any value
-pub own-joined : {K : Type 0} (tables : List (List (Row K))) (dashes : Bool) (flags : List (List ℕ)) → JoinSafely tables flags → (row : Row K) → Has (all_rows tables) row → has_one_of flags row ≡ true
-    → row.shape ≡ joined None → (v : List ℕ) → Reads (owner_in tables) dashes ((row.flag ++ v) ∷ []) (plain.value row.flag row.kind v ∷ [])
-own-joined tables dashes flags pass row has one shape v =
-    fresh-joined (owner_in tables) dashes (all_rows tables) (owner_in-is tables) (has_one_of flags) (has_one_of flags) pass.keeps pass.safe row has one one shape v
+-- own words: a flag that joins safely, with any value, or with one that is not empty
+module _ {K : Type 0} (tables : List (List (Row K))) (dashes : Bool) (flags : List (List ℕ)) (pass : JoinSafely tables flags) (row : Row K) (has : Has (all_rows tables) row) (one : has_one_of flags row ≡ true) where
+  pub own-joined : row.shape ≡ joined None → (v : List ℕ) → Reads (owner_in tables) dashes ((row.flag ++ v) ∷ []) (plain.value row.flag row.kind v ∷ [])
+  own-joined shape v =
+      fresh-joined (owner_in tables) dashes (all_rows tables) (owner_in-is tables) (has_one_of flags) (has_one_of flags) pass.keeps pass.safe row has one one shape v
+
+  pub own-either : row.shape ≡ either None → (x : ℕ) (xs : List ℕ) → Reads (owner_in tables) dashes ((row.flag ++ (x ∷ xs)) ∷ []) (plain.value row.flag row.kind (x ∷ xs) ∷ [])
+  own-either shape x xs =
+      fresh-either (owner_in tables) dashes (all_rows tables) (owner_in-is tables) (has_one_of flags) (has_one_of flags) pass.keeps pass.safe row has one one shape x xs

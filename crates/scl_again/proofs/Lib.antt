@@ -2,6 +2,7 @@ pub mod AgainChecks
 pub mod AgainLaws
 pub mod CommandLaws
 pub mod EmptyLaws
+pub mod FilterLaws
 pub mod FoundLaws
 pub mod FreshLaws
 pub mod InputLaws

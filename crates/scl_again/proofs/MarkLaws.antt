@@ -1,16 +1,21 @@
-use Rattle.std.proofs.Common.{◌≡◌, ℕ, Bool, true, false, cond, not, ◌||◌, inl, inr, List, [], ◌∷◌, map, filter, Option, refl, sym, ap, ◌∙◌}
+use Rattle.std.proofs.Common.{◌≡◌, ℕ, Bool, true, false, cond, not, ◌&&◌, ◌||◌, inl, inr, List, [], ◌∷◌, ◌++◌, map, filter, Option, refl, sym, ap, subst, ◌∙◌}
+use Rattle.std.specs.List.{list_any}
 use Rattle.std.specs.Str.{bytes_eq}
 use Rattle.scl_args.specs.declared.argument.ArgDisposition.{ArgDisposition}
-use Rattle.scl_args.specs.Options.{first_is, is_behind_dashes, is_dashes, text_of, texts}
+use Rattle.scl_args.specs.Options.{first_is, is_behind_dashes, is_dashes, is_raw, text_of, texts}
 use Rattle.scl_args.specs.Row.{Row, Shape, bare, apart, joined, either}
-use Rattle.scl_args.specs.Cuts.{mark, Cut, raw, unknown, flag, with_value, starts_with_dash}
+use Rattle.scl_args.specs.Cuts.{mark, Cut, raw, unknown, flag, with_value, cut, starts_with_dash}
 use Rattle.scl_args.specs.Each.{Each}
-use Rattle.scl_args.specs.Seen.{Seen, Raw, Unknown, shown}
+use Rattle.scl_args.specs.Seen.{Seen, Raw, shown}
 use Rattle.scl_args.specs.Seen as plain
+use Rattle.scl_args.specs.Tables.{owner_in, all_rows}
+use Rattle.scl_args.proofs.OwnerLaws.{owner_in-is}
 use Rattle.scl_args.proofs.PrefixLemmas.{both}
-use Rattle.scl_again.specs.Origins.{FirstRaw, Owns, ValueCame, Came}
+use Rattle.scl_again.specs.Origins.{FirstRaw, IsInput, Owns, ValueCame, Came}
 use Rattle.scl_again.specs.Reads.{Reads}
-use Rattle.scl_again.proofs.OriginLaws.{owned_word, CameUnmarked}
+use Rattle.scl_again.proofs.FilterLaws.{not-passed}
+use Rattle.scl_again.proofs.InputLaws.{first_raw}
+use Rattle.scl_again.proofs.OriginLaws.{owned_word, CameUnmarked, all_unmarked, cut_came}
 use Rattle.scl_again.proofs.ReadsLaws.{reads-apart, reads-either_apart}
 
 no-mark : (w : List ℕ) → starts_with_dash w ≡ false → bytes_eq w mark ≡ false
@@ -22,56 +27,35 @@ module _ {K : Type 0} (o : Seen K) (os : List (Seen K)) where
   first-text true x t e = cc
   first-text false x t e = absurd (cc)
 
-  later-texts : (b : Bool) (x : List ℕ) → b ≡ false → map text_of (cond b (o ∷ os) os) ≡ x ∷ [] → map text_of os ≡ x ∷ []
-  later-texts true x f e = absurd (cc)
-  later-texts false x f e = e
-
-  later-first : (b : Bool) → b ≡ false → first_is is_dashes (cond b (o ∷ os) os) ≡ false → first_is is_dashes os ≡ false
-  later-first true f e = absurd (cc)
-  later-first false f e = e
-
   no-first : (b : Bool) → b ≡ true → is_dashes o ≡ true → first_is is_dashes (cond b (o ∷ os) os) ≡ false → ⊥
   no-first true t d e = let no : true ≡ false = sym d ∙ e in cc
   no-first false t d e = cc
 
--- inputs are raw words other than the mark, and options of some kinds
-module _ {K : Type 0} (own : List ℕ → Option (Row K)) (dashes : Bool) (p : Seen K → Bool)
-    (of_raw : (w : List ℕ) → p (Raw w) ≡ not (bytes_eq w mark)) (of_unknown : (w : List ℕ) → p (Unknown w) ≡ false) where
-  -- the option that has the one input, which came from a word of its owner or of none
-  pub record IsInputOption (x : List ℕ) : Type 0 where
-    pub option : Cut K
-    pub passes : p (shown option) ≡ true
-    pub text : text_of (shown option) ≡ x
-    pub came : Came own dashes option
+-- a raw word other than the mark
+abbrev pub raw_input : {K : Type 0} → Seen K → Bool
+raw_input o = is_raw o && not (is_dashes o)
 
+module _ {K : Type 0} (own : List ℕ → Option (Row K)) (dashes : Bool) where
   abbrev counts : Seen K → Bool
-  counts o = is_dashes o || p o
+  counts o = is_dashes o || raw_input o
 
   raw-dashes : (w : List ℕ) → bytes_eq w mark ≡ true → counts (Raw w) ≡ true
   raw-dashes w e = rw e refl
 
-  -- the one input before which no mark stands
-  pub one-input : (cs : List (Cut K)) (x : List ℕ) → FirstRaw own dashes cs → Each (CameUnmarked own dashes) cs → is_behind_dashes p (map shown cs) ≡ false → texts p (map shown cs) ≡ x ∷ [] → IsInputOption x
-  one-input [] x f came first t = absurd (cc)
-  one-input (raw w ∷ cs) x (inl i) came first t =
-      let is : p (Raw w) ≡ true = of_raw w ∙ ap not (no-mark w i.no_dash) in
-      record { option = raw w; passes = is; text = first-text (Raw w) (filter p (map shown cs)) (p (Raw w)) x is t; came = i }
-  one-input (raw w ∷ cs) x (inr m) came first t =
+  one-raw : (cs : List (Cut K)) (x : List ℕ) → FirstRaw own dashes cs → is_behind_dashes raw_input (map shown cs) ≡ false → texts raw_input (map shown cs) ≡ x ∷ [] → IsInput own dashes x
+  one-raw [] x f first t = absurd (cc)
+  one-raw (raw w ∷ cs) x (inl i) first t = subst (λ y. IsInput own dashes y) (first-text (Raw w) (filter raw_input (map shown cs)) (raw_input {K = K} (Raw w)) x (ap not (no-mark w i.no_dash)) t) i
+  one-raw (raw w ∷ cs) x (inr m) first t =
       let d : bytes_eq w mark ≡ true = (both dashes (bytes_eq w mark) m).1 in
       absurd (no-first (Raw w) (filter counts (map shown cs)) (counts (Raw w)) (raw-dashes w d) d first)
-  one-input (unknown w ∷ cs) x f came first t =
-      one-input cs x f came.1 (later-first (Unknown w) (filter counts (map shown cs)) (counts (Unknown w)) (of_unknown w) first)
-      (later-texts (Unknown w) (filter p (map shown cs)) (p (Unknown w)) x (of_unknown w) t)
-  one-input (flag row ∷ cs) x f came first t = elim (p (shown (flag row))) as (λ b. p (shown (flag row)) ≡ b → IsInputOption x) [
-    | true ↦ λ e. record { option = flag row; passes = e; text = first-text (shown (flag row)) (filter p (map shown cs)) (p (shown (flag row))) x e t; came = came.0 }
-    | false ↦ λ e. one-input cs x f came.1 (later-first (shown (flag row)) (filter counts (map shown cs)) (counts (shown (flag row))) e first)
-        (later-texts (shown (flag row)) (filter p (map shown cs)) (p (shown (flag row))) x e t)
-  ] refl
-  one-input (with_value row v h ∷ cs) x f came first t = elim (p (shown (with_value row v h))) as (λ b. p (shown (with_value row v h)) ≡ b → IsInputOption x) [
-    | true ↦ λ e. record { option = with_value row v h; passes = e; text = first-text (shown (with_value row v h)) (filter p (map shown cs)) (p (shown (with_value row v h))) x e t; came = came.0 }
-    | false ↦ λ e. one-input cs x f came.1 (later-first (shown (with_value row v h)) (filter counts (map shown cs)) (counts (shown (with_value row v h))) e first)
-        (later-texts (shown (with_value row v h)) (filter p (map shown cs)) (p (shown (with_value row v h))) x e t)
-  ] refl
+  one-raw (unknown w ∷ cs) x f first t = one-raw cs x f first t
+  one-raw (flag row ∷ cs) x f first t = one-raw cs x f first t
+  one-raw (with_value row v h ∷ cs) x f first t = one-raw cs x f first t
+
+  -- the one raw word before which no mark stands has no owner
+  pub raw-is_input : (ws : List (List ℕ)) (x : List ℕ) → let os = map shown (cut own dashes ws).options in
+      texts raw_input os ≡ x ∷ [] → is_behind_dashes raw_input os ≡ false → IsInput own dashes x
+  raw-is_input ws x t first = one-raw (cut own dashes ws).options x (first_raw own dashes ws) first t
 
 -- the flag of an option with another value, printed apart
 module _ {K : Type 0} (own : List ℕ → Option (Row K)) (dashes : Bool) (rows : List (Row K)) (changing joining : Row K → Bool)
@@ -92,9 +76,51 @@ module _ {K : Type 0} (own : List ℕ → Option (Row K)) (dashes : Bool) (unmar
   no-dashes (flag row) came = refl
   no-dashes (with_value row v h) came = refl
 
-  pub no-first_dashes : (cs : List (Cut K)) → Each (CameUnmarked own dashes) cs → first_is is_dashes (filter q (map shown cs)) ≡ false
+  no-first_dashes : (cs : List (Cut K)) → Each (CameUnmarked own dashes) cs → first_is is_dashes (filter q (map shown cs)) ≡ false
   no-first_dashes [] came = refl
   no-first_dashes (c ∷ cs) came = elim (q (shown c)) as (λ b. first_is is_dashes (cond b (shown c ∷ filter q (map shown cs)) (filter q (map shown cs))) ≡ false) [
     | true ↦ no-dashes c came.0
     | false ↦ no-first_dashes cs came.1
   ]
+
+-- an input stands behind the mark only where a mark ends the options
+pub marked-dashes : {K : Type 0} (tables : List (List (Row K))) (dashes : Bool) (ws : List (List ℕ)) (p : Seen K → Bool) →
+    is_behind_dashes p (map shown (cut (owner_in tables) dashes ws).options) ≡ true → dashes ≡ true
+marked-dashes tables dashes ws p m = elim dashes as (λ b. dashes ≡ b → b ≡ true) [
+  | true ↦ λ e. refl
+  | false ↦ λ e. let cs = (cut (owner_in tables) dashes ws).options in
+      sym (no-first_dashes (owner_in tables) dashes e (λ o. is_dashes o || p o) cs
+      (all_unmarked (owner_in tables) dashes cs (cut_came (owner_in tables) dashes (all_rows tables) (owner_in-is tables) ws))) ∙ m
+] refl
+
+-- an option of a kind stands before the mark and all that is raw behind it
+module _ {K : Type 0} (tables : List (List (Row K))) (dashes : Bool) (q p : Seen K → Bool) (of_raw : (w : List ℕ) → q (Raw w) ≡ false) (implies : (o : Seen K) → q o ≡ true → p o ≡ true) where
+  none-marked : (ws : List (List ℕ)) → list_any q (map shown (map raw ws)) ≡ true → ⊥
+  none-marked [] e = cc
+  none-marked (w ∷ ws) e = none-marked ws (sym (ap (λ b. b || list_any q (map shown (map raw ws))) (of_raw w)) ∙ e)
+
+  not-dashes : (c : Cut K) → Came (owner_in tables) dashes c → is_dashes (shown c) ≡ false
+  not-dashes (raw w) came = no-mark w came.no_dash
+  not-dashes (unknown w) came = refl
+  not-dashes (flag row) came = refl
+  not-dashes (with_value row v h) came = refl
+
+  abbrev seen_first : List (Seen K) → Bool
+  seen_first os = first_is is_dashes (filter (λ o. is_dashes o || p o) os)
+
+  first-known : (cs : List (Cut K)) (ws : List (List ℕ)) → Each (Came (owner_in tables) dashes) cs → list_any q (map shown (cs ++ map raw ws)) ≡ true → seen_first (map shown (cs ++ map raw ws)) ≡ false
+  first-known [] ws came e = absurd (none-marked ws e)
+  first-known (c ∷ cs) ws came e =
+      let none : is_dashes (shown c) ≡ false = not-dashes c came.0 in
+      let rest : List (Seen K) = map shown (cs ++ map raw ws) in
+      ap (λ b. first_is is_dashes (cond (b || p (shown c)) (shown c ∷ filter (λ o. is_dashes o || p o) rest) (filter (λ o. is_dashes o || p o) rest))) none
+      ∙ (elim (p (shown c)) as (λ b. p (shown c) ≡ b → first_is is_dashes (cond b (shown c ∷ filter (λ o. is_dashes o || p o) rest) (filter (λ o. is_dashes o || p o) rest)) ≡ false) [
+        | true ↦ λ f. none
+        | false ↦ λ f. first-known cs ws came.1 (sym (ap (λ b. b || list_any q rest) (not-passed q p implies (shown c) f)) ∙ e)
+      ] refl)
+
+  -- so no mark stands before the first of them
+  pub known-first : (ws : List (List ℕ)) → let os = map shown (cut (owner_in tables) dashes ws).options in list_any q os ≡ true → is_behind_dashes p os ≡ false
+  known-first ws e =
+      let all = cut_came (owner_in tables) dashes (all_rows tables) (owner_in-is tables) ws in
+      ap (λ cs. seen_first (map shown cs)) all.in_order ∙ first-known all.unmarked all.marked all.came (ap (λ cs. list_any q (map shown cs)) (sym all.in_order) ∙ e)

@@ -1,5 +1,6 @@
-use Rattle.std.proofs.Common.{◌≡◌, Bool, true, false, cond, List, Option, None, Some, Result, Ok, Err, refl}
-use Rattle.scl_args.specs.Options.{first_verdict, judged, unless, wanted, ◌>>=◌}
+use Rattle.std.proofs.Common.{◌≡◌, Bool, true, false, cond, List, [], ◌∷◌, ◌++◌, Option, None, Some, Result, Ok, Err, refl, sym, ◌∙◌}
+use Rattle.scl_args.specs.Each.{Each}
+use Rattle.scl_args.specs.Options.{first_verdict, judged, or_else, unless, wanted, ◌>>=◌}
 use Rattle.scl_args.specs.Seen.{Seen}
 
 -- ---- what an outcome Ok says, step by step
@@ -16,6 +17,14 @@ pub unless-ok : {A V : Type 0} (v : Option V) (r : Result A V) (a : A) → unles
 unless-ok None r a e = e
 unless-ok (Some v) r a e = absurd (cc)
 
+pub unless-none : {A V : Type 0} (v : Option V) (r : Result A V) (a : A) → unless v r ≡ Ok a → v ≡ None
+unless-none None r a e = refl
+unless-none (Some v) r a e = absurd (cc)
+
+pub or_else-none : {A : Type 0} (x y : Option A) → or_else x y ≡ None → (x ≡ None) × (y ≡ None)
+or_else-none None y e = (refl, e)
+or_else-none (Some a) y e = absurd (cc)
+
 if-ok : {A V : Type 0} (dangles : Bool) (v : V) (x a : A) → cond dangles (Err v) (Ok x) ≡ Ok a → x ≡ a
 if-ok true v x a e = absurd (cc)
 if-ok false v x a e = cc
@@ -23,3 +32,14 @@ if-ok false v x a e = cc
 -- options that are judged and not refused are handed on
 pub judged-ok : {K V : Type 0} (verdict : List (Seen K) → Seen K → Option V) (dangling : V) (os : List (Seen K)) (dangles : Bool) (xs : List (Seen K)) → judged verdict dangling os dangles ≡ Ok xs → os ≡ xs
 judged-ok verdict dangling os dangles xs e = if-ok dangles dangling os xs (unless-ok (first_verdict verdict _ os) _ xs e)
+
+-- and nothing is said against any of them, where what is said does not go by the options before
+module _ {K V : Type 0} (verdict : List (Seen K) → Seen K → Option V) (alone : (before : List (Seen K)) (o : Seen K) → verdict before o ≡ verdict [] o) where
+  none-refused : (before os : List (Seen K)) → first_verdict verdict before os ≡ None → Each (λ o. verdict [] o ≡ None) os
+  none-refused before [] e = tt
+  none-refused before (o ∷ os) e =
+      let both = or_else-none (verdict before o) (first_verdict verdict (before ++ o ∷ []) os) e in
+      (sym (alone before o) ∙ both.0, none-refused (before ++ o ∷ []) os both.1)
+
+  pub judged-none : (dangling : V) (os : List (Seen K)) (dangles : Bool) (xs : List (Seen K)) → judged verdict dangling os dangles ≡ Ok xs → Each (λ o. verdict [] o ≡ None) os
+  judged-none dangling os dangles xs e = none-refused [] os (unless-none (first_verdict verdict [] os) _ xs e)

@@ -1,26 +1,24 @@
 -- The command of a record of Gcc or Clang is read again.
-use Rattle.std.proofs.Common.{◌≡◌, ℕ, Bool, true, false, not, ◌||◌, List, [], ◌∷◌, ◌++◌, map, Option, None, Some, refl, sym, ap, subst, ◌∙◌, append_assoc}
+use Rattle.std.proofs.Common.{◌≡◌, ℕ, Bool, true, false, not, List, [], ◌∷◌, ◌++◌, map, Option, None, Some, refl, sym, ap, subst, ◌∙◌, append_assoc}
 use Rattle.std.proofs.lemmas.List.{append-nil}
 use Rattle.std.specs.List.{flat_map}
 use Rattle.std.specs.Prelude.{codes, is_some, unwrap_or}
 use Rattle.std.specs.Str.{bytes_eq}
-use Rattle.scl_args.specs.Cuts.{Cut, raw, unknown, flag, with_value, cut}
+use Rattle.scl_args.specs.Cuts.{Cut, cut}
 use Rattle.scl_args.specs.Each.{Each}
-use Rattle.scl_args.specs.Options.{flag_of, is_behind_dashes, side_of_flag, text_of, texts, is_dashes}
+use Rattle.scl_args.specs.Options.{flag_of, is_behind_dashes, side_of_flag, texts}
 use Rattle.scl_args.specs.Row.{Row}
 use Rattle.scl_args.specs.Seen.{Seen, Plain, shown}
 use Rattle.scl_args.specs.Seen as plain
-use Rattle.scl_args.specs.Tables.{owner_in, all_rows}
-use Rattle.scl_args.proofs.OwnerLaws.{owner_in-is}
+use Rattle.scl_args.specs.Tables.{owner_in}
 use Rattle.scl_again.specs.Commands.{Inner, Said, carried, values_at, IsReadAgain}
 use Rattle.scl_again.specs.Commands as command
-use Rattle.scl_again.specs.Origins.{Came, IsClear, IsInput, AreClear, input_words}
+use Rattle.scl_again.specs.Origins.{IsClear, AreClear, input_words}
 use Rattle.scl_again.specs.Reads.{read, cleanly, Reads}
 use Rattle.scl_again.proofs.CommandLaws.{list-again, command-again}
 use Rattle.scl_again.proofs.FoundLaws.{last-flag, flag-again}
-use Rattle.scl_again.proofs.InputLaws.{first_raw, ends-input}
-use Rattle.scl_again.proofs.MarkLaws.{one-input, no-first_dashes}
-use Rattle.scl_again.proofs.OriginLaws.{all_unmarked, cut_came}
+use Rattle.scl_again.proofs.InputLaws.{ends-input}
+use Rattle.scl_again.proofs.MarkLaws.{marked-dashes, raw-is_input}
 use Rattle.scl_again.proofs.OtherValueLaws.{other-value, flag-so}
 use Rattle.scl_again.proofs.ReadsLaws.{reads-append, reads-nil}
 use Rattle.scl_again.proofs.ValuesLaws.{each-map}
@@ -132,28 +130,7 @@ module _ (compiler : CCompilerKind) (tables : List (List (Row Kind))) (own_words
 
   -- ---- behind
 
-  first_is-raw : (c : Cut Kind) (x : List ℕ) → is_input (shown c) ≡ true → text_of (shown c) ≡ x → Came own dashes c → IsInput own dashes x
-  first_is-raw (raw w) x e t came = subst (λ y. IsInput own dashes y) t came
-  first_is-raw (unknown w) x e t came = absurd (cc)
-  first_is-raw (flag row) x e t came = absurd (cc)
-  first_is-raw (with_value row v h) x e t came = absurd (cc)
-
   module _ (x : List ℕ) (is_text : texts is_input os ≡ x ∷ []) where
-    is-input : is_behind_dashes is_input os ≡ false → IsInput own dashes x
-    is-input first =
-        let o = one-input own dashes is_input (λ w. refl) (λ w. refl) cs x (first_raw own dashes ws)
-        (all_unmarked own dashes cs (cut_came own dashes (all_rows tables) (owner_in-is tables) ws)) first is_text in
-        first_is-raw o.option x o.passes o.text o.came
-
-    is-marked : is_behind_dashes is_input os ≡ true → dashes ≡ true
-    is-marked m = elim dashes as (λ b. dashes ≡ b → b ≡ true) [
-      | true ↦ λ e. refl
-      | false ↦ λ e.
-          let none : is_behind_dashes is_input os ≡ false = no-first_dashes own dashes e (λ o. is_dashes o || is_input o) cs
-          (all_unmarked own dashes cs (cut_came own dashes (all_rows tables) (owner_in-is tables) ws)) in
-          sym none ∙ m
-    ] refl
-
     reads-color : (color : ColorMode) → Printed (color_words color) (color_option color)
     reads-color colors.Off = reads-nil own dashes
     reads-color colors.On = own_words.color
@@ -168,7 +145,7 @@ module _ (compiler : CCompilerKind) (tables : List (List (Row Kind))) (own_words
     reads-back color =
         let marked = is_behind_dashes is_input os in
         ap (read own dashes) (append_assoc (color_words color) (dash_words marked) (x ∷ []) ∙ ap (λ w. color_words color ++ w) (marks marked))
-        ∙ ends-input own dashes (color_words color) (color_option color) marked x (reads-color color) is-marked is-input
+        ∙ ends-input own dashes (color_words color) (color_option color) marked x (reads-color color) (marked-dashes tables dashes ws is_input) (raw-is_input own dashes ws x is_text)
 
   -- ---- the lists
 

@@ -1,3 +1,4 @@
+pub mod Again
 pub mod Building
 pub mod Data
 pub mod Environment
@@ -8,6 +9,7 @@ pub mod InnerSorts
 pub mod Inners
 pub mod Kinds
 pub mod Places
+pub mod ReadAgain
 pub mod Readings
 pub mod Recordings
 pub mod Rows

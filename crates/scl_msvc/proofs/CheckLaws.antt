@@ -1,0 +1,30 @@
+use Rattle.std.proofs.Common.{◌≡◌, true, [], ◌∷◌, refl}
+use Rattle.std.specs.Prelude.{codes}
+use Rattle.scl_args.specs.Options as listed
+use Rattle.scl_args.specs.Tables.{all_rows}
+use Rattle.scl_again.specs.Checks.{PassChecks, JoinSafely, has_no_kept}
+use Rattle.scl_gnu.specs.ClangRows.{clang_rows, clang_tables}
+use Rattle.scl_gnu.specs.GccRows.{gcc_rows}
+use Rattle.scl_msvc.specs.Again.{carried, carried_inner}
+use Rattle.scl_msvc.specs.Places.{side_of_flag}
+use Rattle.scl_msvc.specs.Rows.{msvc_rows, msvc_tables}
+
+pub msvc_passes : PassChecks msvc_tables carried side_of_flag
+unfolding msvc_rows
+msvc_passes = record { keeps = refl; safe = refl }
+
+pub own_joins : JoinSafely msvc_tables (codes "-Fo" ∷ codes "-Tc" ∷ codes "-Tp" ∷ codes "-clang:" ∷ [])
+unfolding msvc_rows
+own_joins = record { keeps = refl; safe = refl }
+
+pub inner_passes : PassChecks clang_tables carried_inner listed.side_of_flag
+unfolding gcc_rows clang_rows
+inner_passes = record { keeps = refl; safe = refl }
+
+pub xclang_alone : has_no_kept carried (codes "-Xclang") (all_rows msvc_tables) ≡ true
+unfolding msvc_rows
+xclang_alone = refl
+
+pub clang_alone : has_no_kept carried (codes "-clang:") (all_rows msvc_tables) ≡ true
+unfolding msvc_rows
+clang_alone = refl
