@@ -84,7 +84,7 @@ none-found : (os : List (Seen Kind)) → Each (IsFound tables false (of (kind.XC
 none-found [] h = refl
 none-found (o ∷ os) h = absurd (let no : false ≡ true = flag-so tables false (is_kind kind.XClang) (λ f. false) no_row (of (kind.XClang ∷ [])) (λ x. refl) o h.0 in cc)
 
-no_inner : (directory : List ℕ) (view : Viewed) (words : List (List ℕ)) → map shown (inner_options_of directory view (map shown (options_of tables false directory view words))) ≡ []
+pub no_inner : (directory : List ℕ) (view : Viewed) (words : List (List ℕ)) → map shown (inner_options_of directory view (map shown (options_of tables false directory view words))) ≡ []
 no_inner directory view words =
     let none = none-found _ (found tables false (of (kind.XClang ∷ [])) (expand expansions.Gnu directory view.files words)) in
     ap (λ ws. map shown (options_of clang_tables false directory view ws)) none

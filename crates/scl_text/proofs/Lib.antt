@@ -11,6 +11,7 @@ pub mod GnuLaws
 pub mod GnuLemmas
 pub mod MsvcLaws
 pub mod MsvcLemmas
+pub mod NoFileLaws
 pub mod OpenLemmas
 pub mod OutputLaws
 pub mod OutputLemmas
