@@ -4,6 +4,7 @@ pub mod Commands
 pub mod Laws
 pub mod NoFiles
 pub mod Origins
+pub mod Promises
 pub mod Reads
 -- For the test of empty values: no contract cites it yet.
 pub mod Empties

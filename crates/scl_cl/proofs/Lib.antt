@@ -1,3 +1,4 @@
+pub mod AgainLaws
 pub mod CutLaws
 pub mod FieldLaws
 pub mod RequestLaws

@@ -1,5 +1,5 @@
 -- The answer to a request, and its text.
-use Rattle.std.specs.Prelude.{ℕ, Bool, true, false, List, [], ◌∷◌, ◌++◌, codes, Option, None, Some, Result, Ok, Err}
+use Rattle.std.specs.Prelude.{◌≡◌, ℕ, Bool, true, false, List, [], ◌∷◌, ◌++◌, codes, Option, None, Some, Result, Ok, Err}
 use Rattle.std.specs.List.{flat_map}
 use Rattle.scl_cl.specs.Fields.{escaped}
 use Rattle.scl_text.specs.Records.{Parsed, Verdict, CannotCache, NotCompilation}
@@ -11,13 +11,17 @@ use Rattle.scl_text.specs.declared.records.CCompilerKind.TheVariants as kinds
 use Rattle.scl_gnu.specs.Building as gcc
 use Rattle.scl_gnu.specs.ClangRows.{clang_tables}
 use Rattle.scl_gnu.specs.GccRows.{gcc_rows}
+use Rattle.scl_gnu.specs.ReadAgain.{GccReadsAgain, ClangReadsAgain}
 use Rattle.scl_gnu.specs.Readings as gcc_reading
 use Rattle.scl_msvc.specs.Building as msvc
 use Rattle.scl_msvc.specs.Environment.{without_cl_env_vars}
+use Rattle.scl_msvc.specs.Promises.{MsvcReadsAgain}
 use Rattle.scl_msvc.specs.Readings as msvc_reading
 use Rattle.scl_small.specs.Command.{command}
+use Rattle.scl_small.specs.DiabAgain.{DiabReadsAgain}
 use Rattle.scl_small.specs.DiabReading as diab
 use Rattle.scl_small.specs.DiabTable as diab_table
+use Rattle.scl_small.specs.TaskingAgain.{TaskingReadsAgain}
 use Rattle.scl_small.specs.TaskingReading as tasking
 use Rattle.scl_small.specs.TaskingTable as tasking_table
 use Rattle.scl_cl.specs.declared.compiler.Compiler.{Compiler}
@@ -110,3 +114,27 @@ kept_by compilers.Tasking request parsed = cacheable.Yes
 -- the answer to a request
 abbrev pub answer_to : Request → Answer
 answer_to request = answer_from (command_by request.compiler) (kept_by request.compiler request) (reading_by request.compiler request)
+
+-- what it is for the words of a compiler's command for what was read to be read again
+abbrev pub read_again_by : Compiler → Request → Parsed → List (List ℕ) → Type 0
+read_again_by compilers.Gcc request = GccReadsAgain request.directory request.view request.words
+read_again_by compilers.Gxx request = GccReadsAgain request.directory request.view request.words
+read_again_by compilers.Clang request = ClangReadsAgain request.directory request.view request.words
+read_again_by compilers.Clangxx request = ClangReadsAgain request.directory request.view request.words
+read_again_by compilers.Cl request = MsvcReadsAgain false request.directory request.environment request.view request.words
+read_again_by compilers.ClangCl request = MsvcReadsAgain true request.directory request.environment request.view request.words
+read_again_by compilers.Diab request = DiabReadsAgain request.directory request.view.files request.words
+read_again_by compilers.Tasking request = TaskingReadsAgain request.words
+
+-- where the answer is a command, what was read is a record, and the two keep the promise
+abbrev pub Keeps : (Parsed → List (List ℕ) → Type 0) → Result Parsed Verdict → Answer → Type 0
+Keeps promise said (compiled words is_cacheable) = (parsed : Parsed) × (said ≡ Ok parsed) × promise parsed words
+Keeps promise said (cannot_cache reason) = Unit {0}
+Keeps promise said not_compilation = Unit {0}
+
+-- where the answer to the request is a command, it is read again
+abbrev pub AnswerIsReadAgain : Request → Type 0
+AnswerIsReadAgain request = Keeps (read_again_by request.compiler request) (reading_by request.compiler request) (answer_to request)
+
+abbrev pub AnswersAreReadAgain : Type 0
+AnswersAreReadAgain = (request : Request) → AnswerIsReadAgain request

@@ -20,3 +20,9 @@ HasParts reading executable env_vars cwd (outcomes.Ok compilation) =
     (reading ≡ Ok (parsed_of compilation.parsed)) × Builds compilation.command executable (words_of compilation.command.arguments.items) env_vars cwd
 HasParts reading executable env_vars cwd (outcomes.CannotCache reason text) = Unit {0}
 HasParts reading executable env_vars cwd outcomes.NotCompilation = Unit {0}
+
+-- where there is a command, what was read and its words keep the promise
+abbrev pub IfCompiled : (Parsed → List (List ℕ) → Type 0) → CompilerArguments Compilation → Type 0
+IfCompiled promise (outcomes.Ok compilation) = promise (parsed_of compilation.parsed) (words_of compilation.command.arguments.items)
+IfCompiled promise (outcomes.CannotCache reason text) = Unit {0}
+IfCompiled promise outcomes.NotCompilation = Unit {0}

@@ -1,11 +1,12 @@
 //! The answer to a command line, by its compiler.
-ghost use Rattle.std.specs.Prelude.{◌≡◌, IfOk, Ok};
+ghost use Rattle.std.specs.Prelude.{◌≡◌, ℕ, List, IfOk, Ok};
 ghost use Rattle.scl_text.specs.Records.{parsed_of};
+ghost use Rattle.scl_text.specs.Views.{Viewed};
 ghost use Rattle.scl_args.specs.Words.{words_of};
 ghost use Rattle.scl_text.specs.Commands.{pairs_of, command_by};
 ghost use Rattle.scl_cl.specs.Requests.{asked};
-ghost use Rattle.scl_cl.specs.Answers.{answer_to, answer_from, answer_with, environment_by, reading_by};
-ghost use Rattle.scl_cl.specs.AnswersGiven.{answer_of, HasParts};
+ghost use Rattle.scl_cl.specs.Answers.{answer_to, answer_from, answer_with, environment_by, reading_by, read_again_by};
+ghost use Rattle.scl_cl.specs.AnswersGiven.{answer_of, HasParts, IfCompiled};
 
 use crate::compiler::Compiler;
 use scl_gnu::clang::Clang;
@@ -40,6 +41,8 @@ fn answer_record<C: CCompilerImpl>(
 ) -> Mem<CompilerArguments<Compilation>>
     ensures answer { IfOk result (λ answer. answer_of answer ≡ answer_with (command_by (C.command compiler.now) (parsed_of parsed)) (C.cacheable compiler.now (parsed_of parsed) cwd.now view.now)) }
     ensures parts { IfOk result (λ answer. HasParts (Ok (parsed_of parsed)) executable.now (C.environment compiler.now (pairs_of env_vars.now)) cwd.now answer) }
+    ensures read_again { IfOk result (λ answer. (line : List (List ℕ)) (directory : List ℕ) (pairs : List (List ℕ × List ℕ)) (files : Viewed) →
+        C.reading compiler.now line directory pairs files ≡ Ok (parsed_of parsed) → IfCompiled (C.is_read_again compiler.now line directory pairs files) answer) }
 {
     let built = compiler.generate_compile_commands(alloc, executable, &parsed, cwd, env_vars, view);
     match built {
@@ -70,6 +73,7 @@ fn answer_by<C: CCompilerImpl>(
         (C.reading compiler.now (words_of words.now) cwd.now (pairs_of env_vars.now) view.now)) }
     ensures parts { IfOk result (λ answer. HasParts (C.reading compiler.now (words_of words.now) cwd.now (pairs_of env_vars.now) view.now)
         executable.now (C.environment compiler.now (pairs_of env_vars.now)) cwd.now answer) }
+    ensures read_again { IfOk result (λ answer. IfCompiled (C.is_read_again compiler.now (words_of words.now) cwd.now (pairs_of env_vars.now) view.now) answer) }
 {
     match compiler.parse_arguments(alloc, words, cwd, env_vars, view)? {
         CompilerArguments::Ok(parsed) => {
@@ -84,7 +88,8 @@ fn answer_by<C: CCompilerImpl>(
 
 impl Compiler {
     /// What a command line is answered: the words behind the program `executable`, read in the
-    /// directory `cwd` with the files of `view`. All are bytes (docs/RULES.md, Answers).
+    /// directory `cwd` with the files of `view`. All are bytes. Where the answer is a command, it is read again
+    /// (docs/RULES.md, Answers, and Cutting again).
     pub fn answer(
         self,
         alloc: Global,
@@ -97,6 +102,7 @@ impl Compiler {
         ensures answer { IfOk result (λ answer. answer_of answer ≡ answer_to (asked self (words_of words.now) cwd.now (pairs_of env_vars.now) view.now)) }
         ensures parts { IfOk result (λ answer. HasParts (reading_by self (asked self (words_of words.now) cwd.now (pairs_of env_vars.now) view.now))
             executable.now (environment_by self (pairs_of env_vars.now)) cwd.now answer) }
+        ensures read_again { IfOk result (λ answer. IfCompiled (read_again_by self (asked self (words_of words.now) cwd.now (pairs_of env_vars.now) view.now)) answer) }
     {
         match self {
             Compiler::Gcc => {

@@ -1,4 +1,5 @@
 //! Laws of the definitions of requests and answers, each the contract of a function without a body.
+ghost use Rattle.scl_cl.specs.Answers.{AnswersAreReadAgain};
 ghost use Rattle.scl_cl.specs.Written.{FieldReadsBack, FieldIsPrintable, LineReadsBack, RequestReadsBack, LinesEndAtFeeds, AnswerHasLines, BadLineIsFirst, NamesReadBack};
 
 /// A field that is written is read back, whatever its bytes (docs/RULES.md, Fields).
@@ -41,4 +42,9 @@ pub fn bad_line_is_first()
 /// the lists that are searched (docs/RULES.md, Requests).
 pub fn names_read_back()
     ensures { NamesReadBack }
+{}
+
+/// A command that answers a request is read again (docs/RULES.md, Cutting again).
+pub fn answers_are_read_again()
+    ensures { AnswersAreReadAgain }
 {}

@@ -6,7 +6,7 @@ ghost use Rattle.scl_cl.specs.Transfers.{Gave};
 ghost use Rattle.scl_cl.specs.Drafts.{asked_by};
 ghost use Rattle.scl_cl.specs.Answers.{answer_to, text_of};
 ghost use Rattle.scl_cl.specs.Outcomes.{IsSilent};
-ghost use Rattle.scl_cl.specs.Runs.{answer};
+ghost use Rattle.scl_cl.specs.Runs.{answer, IsTextReadAgain};
 
 use crate::answer::answer_text;
 use crate::draft::Request;
@@ -54,6 +54,9 @@ pub fn run<R: Read, W: Write>(
     // What is answered is the answer to all that the reader had, and it is written whole.
     ensures answered { result ≡ Outcome.Answered → IfSome (R.remaining reader.old.device) (λ bytes.
         (text : List ℕ) × (answer bytes ≡ Ok text) × Appends (W.contents writer.old.device) (W.contents writer.new.device) text) }
+    // A command in the answer is read again.
+    ensures read_again { result ≡ Outcome.Answered → IfSome (R.remaining reader.old.device) (λ bytes.
+        (text : List ℕ) × IsTextReadAgain bytes text × Appends (W.contents writer.old.device) (W.contents writer.new.device) text) }
     ensures bad_line { (n : ℕ) → result ≡ Outcome.BadLine n → IfSome (R.remaining reader.old.device) (λ bytes. answer bytes ≡ Err n) }
     ensures read_failed { result ≡ Outcome.ReadFailed → HasFailed reader.old.failed reader.new.failed
         ⊎ Gave (R.remaining reader.old.device) (R.remaining reader.new.device) (2 ^ 40) }

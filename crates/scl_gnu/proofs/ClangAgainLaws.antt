@@ -1,4 +1,4 @@
-use Rattle.std.proofs.Common.{ℕ, true, List, [], ◌∷◌, ◌++◌, map, Option, None, Some, refl}
+use Rattle.std.proofs.Common.{ℕ, Bool, true, List, [], ◌∷◌, ◌++◌, map, Option, None, Some, refl}
 use Rattle.std.proofs.lemmas.List.{append-nil}
 use Rattle.std.specs.Prelude.{codes}
 use Rattle.scl_args.specs.Each.{Each}
@@ -10,22 +10,28 @@ use Rattle.scl_args.specs.Tables.{owner_in, all_rows}
 use Rattle.scl_args.proofs.OwnerLaws.{owner_in-is}
 use Rattle.scl_again.specs.Checks.{is_changing, is_joining}
 use Rattle.scl_again.specs.Origins.{IsClear}
+use Rattle.scl_again.specs.Promises.{IsReadAgainUnlessEmpty}
 use Rattle.scl_again.specs.Reads.{Reads}
 use Rattle.scl_again.proofs.FreshLaws.{fresh-either}
 use Rattle.scl_again.proofs.OriginLaws.{has_row}
 use Rattle.scl_again.proofs.ReadsLaws.{reads-apart, reads-either_apart, reads-joined}
+use Rattle.scl_text.proofs.CompilerLaws.{command-kept}
 use Rattle.scl_text.specs.declared.expand.ExpansionKind.TheVariants as expansions
 use Rattle.scl_text.specs.declared.records.CCompilerKind.TheVariants as compilers
+use Rattle.scl_text.specs.Commands.{command_by}
+use Rattle.scl_text.specs.Compilers.{IfCommand}
 use Rattle.scl_text.specs.Expand.{expand}
 use Rattle.scl_text.specs.Languages.{clang_text}
 use Rattle.scl_text.specs.Views.{Viewed}
 use Rattle.scl_gnu.specs.declared.gcc.data.Kind.{Kind}
 use Rattle.scl_gnu.specs.declared.gcc.data.Kind.TheVariants as kind
 use Rattle.scl_gnu.specs.Again.{carried}
+use Rattle.scl_gnu.specs.Building.{command_words}
 use Rattle.scl_gnu.specs.ClangRows.{clang_rows, clang_tables}
 use Rattle.scl_gnu.specs.GccRows.{gcc_rows}
 use Rattle.scl_gnu.specs.Kinds.{of}
-use Rattle.scl_gnu.specs.ReadAgain.{options_of, inner_options_of, behind_xclang, ClangCommandsAreReadAgain}
+use Rattle.scl_gnu.specs.ReadAgain.{options_of, inner_options_of, behind_xclang, parts, clang_line, ClangCommandsAreReadAgain, ClangReadsAgain}
+use Rattle.scl_gnu.specs.Readings.{reading}
 use Rattle.scl_gnu.proofs.CheckLaws.{clang_passes, xclang_alone}
 use Rattle.scl_gnu.proofs.OwnWordsLaws.{OwnWords, AreInners}
 use Rattle.scl_gnu.proofs.ReadAgainLaws.{commands-again}
@@ -95,3 +101,14 @@ handed directory view words clear =
 
 pub commands_again : ClangCommandsAreReadAgain
 commands_again = commands-again compilers.Clang clang_tables own_words clang_text (λ inner. behind_xclang inner ∷ []) handed
+
+-- ---- the promise of a command
+
+pub command_kept : (plusplus : Bool) (directory : List ℕ) (view : Viewed) (words : List (List ℕ)) →
+    IfCommand (command_by (λ p. command_words (clang_text p.language) p)) (ClangReadsAgain directory view words) (reading compilers.Clang plusplus clang_tables directory view words)
+command_kept plusplus directory view words =
+    let line = clang_line directory view words in
+    command-kept (λ p. command_words (clang_text p.language) p)
+    (λ p object again. IsReadAgainUnlessEmpty clang_tables true clang_tables line (parts (clang_text p.language) (map shown line.options) p object) again)
+    (reading compilers.Clang plusplus clang_tables directory view words)
+    (λ p object e o clear. commands_again plusplus directory view words p object e o clear.outer (clear.inner.0))

@@ -1,7 +1,7 @@
-use Rattle.std.proofs.Common.{◌≡◌, ℕ, true, false, List, [], ◌∷◌, ◌++◌, map, Option, None, Some, refl, sym, ap, ◌∙◌}
+use Rattle.std.proofs.Common.{◌≡◌, ℕ, Bool, true, false, List, [], ◌∷◌, ◌++◌, map, Option, None, Some, refl, sym, ap, ◌∙◌}
 use Rattle.std.specs.List.{list_all}
 use Rattle.std.specs.Prelude.{codes, not, ◌||◌}
-use Rattle.scl_args.specs.Cuts.{cut}
+use Rattle.scl_args.specs.Cuts.{Cut, cut}
 use Rattle.scl_args.specs.Each.{Each}
 use Rattle.scl_args.specs.Options.{side_of_flag, text_of}
 use Rattle.scl_args.specs.Row.{Row, row, apart, joined, either}
@@ -10,25 +10,31 @@ use Rattle.scl_args.specs.Tables.{owner_in, all_rows}
 use Rattle.scl_args.proofs.OwnerLaws.{owner_in-is}
 use Rattle.scl_again.specs.Checks.{is_changing, is_joining}
 use Rattle.scl_again.specs.Origins.{IsClear}
+use Rattle.scl_again.specs.Promises.{IsReadAgainUnlessEmpty}
 use Rattle.scl_again.proofs.FoundLaws.{IsFound, found}
 use Rattle.scl_again.proofs.FreshLaws.{fresh-either}
 use Rattle.scl_again.proofs.OriginLaws.{has_row}
 use Rattle.scl_again.proofs.OtherValueLaws.{flag-so}
 use Rattle.scl_again.proofs.ReadsLaws.{reads-apart, reads-either_apart, reads-joined}
+use Rattle.scl_text.proofs.CompilerLaws.{command-kept}
 use Rattle.scl_text.proofs.ExpandLemmas.{expand-nil}
 use Rattle.scl_text.specs.declared.expand.ExpansionKind.TheVariants as expansions
 use Rattle.scl_text.specs.declared.records.CCompilerKind.TheVariants as compilers
+use Rattle.scl_text.specs.Commands.{command_by}
+use Rattle.scl_text.specs.Compilers.{IfCommand}
 use Rattle.scl_text.specs.Expand.{expand}
 use Rattle.scl_text.specs.Languages.{gcc_text}
 use Rattle.scl_text.specs.Views.{Viewed}
 use Rattle.scl_gnu.specs.declared.gcc.data.Kind.{Kind}
 use Rattle.scl_gnu.specs.declared.gcc.data.Kind.TheVariants as kind
 use Rattle.scl_gnu.specs.Again.{carried}
+use Rattle.scl_gnu.specs.Building.{command_words}
 use Rattle.scl_gnu.specs.ClangRows.{clang_tables}
 use Rattle.scl_gnu.specs.GccRows.{gcc_rows}
 use Rattle.scl_gnu.specs.Inners.{inner_words_at}
 use Rattle.scl_gnu.specs.Kinds.{of}
-use Rattle.scl_gnu.specs.ReadAgain.{options_of, inner_options_of, GccCommandsAreReadAgain}
+use Rattle.scl_gnu.specs.ReadAgain.{options_of, inner_options_of, parts, gcc_line, GccCommandsAreReadAgain, GccReadsAgain}
+use Rattle.scl_gnu.specs.Readings.{reading}
 use Rattle.scl_gnu.proofs.CheckLaws.{gcc_passes}
 use Rattle.scl_gnu.proofs.KeptLaws.{is_kind}
 use Rattle.scl_gnu.proofs.OwnWordsLaws.{OwnWords, AreInners}
@@ -102,3 +108,18 @@ handed directory view words clear = record {
 
 pub commands_again : GccCommandsAreReadAgain
 commands_again = commands-again compilers.Gcc tables own_words gcc_text (λ inner. []) handed
+
+-- ---- the promise of a command
+
+none-clear : (cs : List (Cut Kind)) → map shown cs ≡ [] → Each IsClear cs
+none-clear [] e = tt
+none-clear (c ∷ cs) e = absurd (cc)
+
+pub command_kept : (plusplus : Bool) (directory : List ℕ) (view : Viewed) (words : List (List ℕ)) →
+    IfCommand (command_by (λ p. command_words (gcc_text p.language) p)) (GccReadsAgain directory view words) (reading compilers.Gcc plusplus tables directory view words)
+command_kept plusplus directory view words =
+    let line = gcc_line directory view words in
+    command-kept (λ p. command_words (gcc_text p.language) p)
+    (λ p object again. IsReadAgainUnlessEmpty tables false clang_tables line (parts (gcc_text p.language) (map shown line.options) p object) again)
+    (reading compilers.Gcc plusplus tables directory view words)
+    (λ p object e o clear. commands_again plusplus directory view words p object e o clear.outer (none-clear _ (no_inner directory view words)))

@@ -1,5 +1,5 @@
 -- Commands of Gcc and Clang that are read again.
-use Rattle.std.specs.Prelude.{◌≡◌, ℕ, Bool, true, false, List, [], ◌∷◌, ◌++◌, map, codes, Option, None, Some, Ok, unwrap_or, is_some}
+use Rattle.std.specs.Prelude.{◌≡◌, ℕ, Bool, true, false, List, [], ◌∷◌, ◌++◌, map, codes, Option, None, Some, Ok, IfSome, unwrap_or, is_some}
 use Rattle.scl_args.specs.Cuts.{Cut, cut}
 use Rattle.scl_args.specs.Each.{Each}
 use Rattle.scl_args.specs.Options.{texts}
@@ -9,6 +9,7 @@ use Rattle.scl_args.specs.Seen as plain
 use Rattle.scl_args.specs.Tables.{owner_in}
 use Rattle.scl_again.specs.Commands.{Inner, CommandList, Parts, IsReadAgain}
 use Rattle.scl_again.specs.Origins.{IsClear, input_words}
+use Rattle.scl_again.specs.Promises.{HandedOn, Line, IsReadAgainUnlessEmpty}
 use Rattle.scl_text.specs.declared.expand.ExpansionKind.TheVariants as expansions
 use Rattle.scl_text.specs.declared.language.Language.{Language}
 use Rattle.scl_text.specs.declared.records.CCompilerKind.{CCompilerKind}
@@ -111,3 +112,28 @@ GccCommandsAreReadAgain = CommandsAreReadAgain compilers.Gcc (gcc_rows ∷ []) g
 
 abbrev pub ClangCommandsAreReadAgain : Type 0
 ClangCommandsAreReadAgain = CommandsAreReadAgain compilers.Clang clang_tables clang_text (λ inner. behind_xclang inner ∷ [])
+
+-- ---- the promise of a command
+
+-- what the compiler cuts a command line into, and what it hands on behind `-Xclang`
+abbrev pub gcc_line : List ℕ → Viewed → List (List ℕ) → Line Kind Kind
+gcc_line directory view words = record { options = options_of (gcc_rows ∷ []) false directory view words; handed_on = [] }
+
+abbrev pub handed_by_xclang : List ℕ → Viewed → List (Cut Kind) → HandedOn Kind Kind
+handed_by_xclang directory view options = record { flag = codes "-Xclang"; kind = kind.XClang; options = inner_options_of directory view (map shown options) }
+
+abbrev pub clang_line : List ℕ → Viewed → List (List ℕ) → Line Kind Kind
+clang_line directory view words =
+    let options = options_of clang_tables true directory view words in
+    record { options = options; handed_on = handed_by_xclang directory view options ∷ [] }
+
+-- what it is for the words of the command of a record, which these words have, to be read again
+abbrev pub GccReadsAgain : List ℕ → Viewed → List (List ℕ) → Parsed → List (List ℕ) → Type 0
+GccReadsAgain directory view words p command = IfSome (object_of p) (λ object.
+    let line = gcc_line directory view words in
+    IsReadAgainUnlessEmpty (gcc_rows ∷ []) false clang_tables line (parts (gcc_text p.language) (map shown line.options) p object) command)
+
+abbrev pub ClangReadsAgain : List ℕ → Viewed → List (List ℕ) → Parsed → List (List ℕ) → Type 0
+ClangReadsAgain directory view words p command = IfSome (object_of p) (λ object.
+    let line = clang_line directory view words in
+    IsReadAgainUnlessEmpty clang_tables true clang_tables line (parts (clang_text p.language) (map shown line.options) p object) command)

@@ -4,6 +4,7 @@ pub mod InputLaws
 pub mod KeptLaws
 pub mod NoFileLaws
 pub mod OutputLaws
+pub mod PromiseLaws
 pub mod ReadAgainLaws
 pub mod ReadingLaws
 pub mod TableLaws

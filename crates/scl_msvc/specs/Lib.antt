@@ -10,6 +10,7 @@ pub mod Inners
 pub mod Kinds
 pub mod NoFiles
 pub mod Places
+pub mod Promises
 pub mod ReadAgain
 pub mod Readings
 pub mod Recordings

@@ -14,16 +14,22 @@ use Rattle.scl_again.proofs.OutcomeLaws.{bind-ok, wanted-ok, judged-ok}
 use Rattle.scl_again.proofs.ReadsLaws.{reads-apart}
 use Rattle.scl_text.specs.Reasons.{argument_parse}
 use Rattle.scl_text.specs.Records.{NotCompilation}
+use Rattle.scl_text.specs.Expand.{expand}
+use Rattle.scl_text.specs.Views.{File}
+use Rattle.scl_text.specs.declared.expand.ExpansionKind.TheVariants as expansions
 use Rattle.scl_small.specs.Places.{goes_to}
+use Rattle.scl_text.specs.Compilers.{IfCommand}
+use Rattle.scl_small.specs.Command.{command}
+use Rattle.scl_small.specs.DiabAgain.{DiabReadsAgain}
 use Rattle.scl_small.specs.ReadAgain.{every_kind, CommandsAreReadAgain}
 use Rattle.scl_small.specs.Readings.{last_flag_at}
 use Rattle.scl_small.specs.DiabTable.{rows}
-use Rattle.scl_small.specs.DiabReading.{place, verdict, tested, reading}
+use Rattle.scl_small.specs.DiabReading.{place, verdict, tested, reading, expanded_reading}
 use Rattle.scl_small.specs.contracts.place.PlacePartialEq.TheImpl.{ghosts}
 use Rattle.scl_small.specs.declared.place.Place.TheVariants as places
 use Rattle.scl_small.specs.declared.diab.args.Kind.{Kind}
 use Rattle.scl_small.specs.declared.diab.args.Kind.TheVariants as kinds
-use Rattle.scl_small.proofs.ReadAgainLaws.{is-record, record-again}
+use Rattle.scl_small.proofs.ReadAgainLaws.{is-record, record-again, command-kept-again}
 
 pub passes : PassChecks (rows ∷ []) every_kind side_of_flag
 unfolding rows
@@ -80,3 +86,6 @@ commands_again words p object e clear =
     record-again place kinds.DoCompilation kinds.Output rows passes no_inputs reads_output words p object b.0 clear
     (is-record place (map shown c.options) b.0 p b.2)
     (subst (λ x. Reads (owner_in (rows ∷ [])) false (x ∷ []) (plain.flag x kinds.DoCompilation ∷ [])) f.2 r)
+
+pub command_kept : (directory : List ℕ) (files : List File) (words : List (List ℕ)) → IfCommand command (DiabReadsAgain directory files words) (expanded_reading (owner_in (rows ∷ [])) directory files words)
+command_kept directory files words = command-kept-again place kinds.DoCompilation kinds.Output rows reading commands_again (expand expansions.Diab directory files words)

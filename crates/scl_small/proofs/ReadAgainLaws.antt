@@ -1,4 +1,4 @@
-use Rattle.std.proofs.Common.{◌≡◌, ℕ, true, false, List, [], ◌∷◌, ◌++◌, map, filter, Option, Ok, refl, sym, ap, subst, ◌∙◌, append_assoc}
+use Rattle.std.proofs.Common.{◌≡◌, ℕ, true, false, List, [], ◌∷◌, ◌++◌, map, filter, Option, Result, Ok, refl, sym, ap, subst, ◌∙◌, append_assoc}
 use Rattle.std.specs.Prelude.{codes}
 use Rattle.std.proofs.lemmas.List.{append-nil}
 use Rattle.std.specs.List.{flat_map}
@@ -18,13 +18,16 @@ use Rattle.scl_again.proofs.FoundLaws.{one-text, raw-again}
 use Rattle.scl_again.proofs.ListLaws.{listed-again}
 use Rattle.scl_again.proofs.OutcomeLaws.{bind-ok}
 use Rattle.scl_again.proofs.ReadsLaws.{reads-append}
+use Rattle.scl_again.specs.Promises.{IsReadAgainUnlessEmpty}
+use Rattle.scl_text.proofs.CompilerLaws.{command-kept}
+use Rattle.scl_text.specs.Compilers.{IfCommand}
 use Rattle.scl_text.specs.Languages.{language_of_file_name}
 use Rattle.scl_text.specs.Reasons.{unknown_source_language}
-use Rattle.scl_text.specs.Records.{Parsed}
+use Rattle.scl_text.specs.Records.{Parsed, Verdict}
 use Rattle.scl_text.specs.Refusals.{the_input}
-use Rattle.scl_small.specs.Command.{command_words}
+use Rattle.scl_small.specs.Command.{command_words, command}
 use Rattle.scl_small.specs.Places.{goes_to}
-use Rattle.scl_small.specs.ReadAgain.{every_kind, list_of, parts}
+use Rattle.scl_small.specs.ReadAgain.{every_kind, list_of, line_of, parts, CommandsAreReadAgain, CommandIsReadAgain}
 use Rattle.scl_small.specs.Readings.{list_at, record_of, recorded}
 use Rattle.scl_small.specs.contracts.place.PlacePartialEq.TheImpl.{ghosts}
 use Rattle.scl_small.specs.declared.place.Place.{Place}
@@ -129,3 +132,12 @@ module _ {K : Type 0} (place : K → Place) (compile output : K) (rows : List (R
         (command-again (rows ∷ []) false [] every_kind every_kind side_of_flag (λ i w. []) pass (record { keeps = refl; safe = refl }) said are_clear tt tt
         (parts place compile output p object) front lists []
         (record { lists = (is-list places.Preprocessor, (is-list places.Common, tt)); no_raws = (record { carries_none = λ w. refl; adds_none = refl }, (record { carries_none = λ w. refl; adds_none = refl }, tt)); front_read = reads-front; back_read = refl; none_in_front = tt; none_behind = tt }) reads-lists)
+
+-- ---- the promise of a command
+
+pub command-kept-again : {K : Type 0} (place : K → Place) (compile output : K) (rows : List (Row K)) (reading : (List ℕ → Option (Row K)) → List (List ℕ) → Result Parsed Verdict) →
+    CommandsAreReadAgain place compile output rows reading → (words : List (List ℕ)) →
+    IfCommand command (CommandIsReadAgain place compile output rows words) (reading (owner_in (rows ∷ [])) words)
+command-kept-again place compile output rows reading all words =
+    command-kept command_words (λ p object again. IsReadAgainUnlessEmpty (rows ∷ []) false [] (line_of rows words) (parts place compile output p object) again)
+    (reading (owner_in (rows ∷ [])) words) (λ p object e o clear. all words p object e clear.outer)

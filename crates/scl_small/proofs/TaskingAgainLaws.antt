@@ -12,6 +12,9 @@ use Rattle.scl_again.proofs.OutcomeLaws.{bind-ok, judged-ok}
 use Rattle.scl_again.proofs.ReadsLaws.{reads-apart, reads-flag}
 use Rattle.scl_text.specs.Reasons.{argument_parse}
 use Rattle.scl_text.specs.Records.{NotCompilation}
+use Rattle.scl_text.specs.Compilers.{IfCommand}
+use Rattle.scl_small.specs.Command.{command}
+use Rattle.scl_small.specs.TaskingAgain.{TaskingReadsAgain}
 use Rattle.scl_small.specs.ReadAgain.{every_kind, CommandsAreReadAgain}
 use Rattle.scl_small.specs.Readings.{last_flag_at}
 use Rattle.scl_small.specs.TaskingTable.{rows}
@@ -20,7 +23,7 @@ use Rattle.scl_small.specs.contracts.place.PlacePartialEq.TheImpl.{ghosts}
 use Rattle.scl_small.specs.declared.place.Place.TheVariants as places
 use Rattle.scl_small.specs.declared.tasking_vx.args.Kind.{Kind}
 use Rattle.scl_small.specs.declared.tasking_vx.args.Kind.TheVariants as kinds
-use Rattle.scl_small.proofs.ReadAgainLaws.{is-record, record-again}
+use Rattle.scl_small.proofs.ReadAgainLaws.{is-record, record-again, command-kept-again}
 
 pub passes : PassChecks (rows ∷ []) every_kind side_of_flag
 unfolding rows
@@ -60,3 +63,6 @@ commands_again words p object e clear =
     let b = bind-ok (wanted (last_flag_at place places.CompileFlag (map shown c.options)) NotCompilation) _ p t in
     record-again place kinds.DoCompilation kinds.Output rows passes no_inputs reads_output words p object (codes "-c") clear
     (is-record place (map shown c.options) (codes "-c") p b.2) reads_compile
+
+pub command_kept : (words : List (List ℕ)) → IfCommand command (TaskingReadsAgain words) (reading (owner_in (rows ∷ [])) words)
+command_kept = command-kept-again place kinds.DoCompilation kinds.Output rows reading commands_again

@@ -1,4 +1,5 @@
 pub mod Command
+pub mod DiabAgain
 pub mod DiabReading
 pub mod DiabTable
 pub mod DiabValues
@@ -6,6 +7,7 @@ pub mod Places
 pub mod ReadAgain
 pub mod Readings
 pub mod Sorts
+pub mod TaskingAgain
 pub mod TaskingReading
 pub mod TaskingTable
 pub mod TaskingValues

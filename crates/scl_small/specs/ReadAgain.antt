@@ -1,5 +1,5 @@
 -- Commands of Diab and TaskingVX that are read again.
-use Rattle.std.specs.Prelude.{◌≡◌, ℕ, Bool, true, false, List, [], ◌∷◌, map, codes, Option, Result, Ok}
+use Rattle.std.specs.Prelude.{◌≡◌, ℕ, Bool, true, false, List, [], ◌∷◌, map, codes, Option, Result, Ok, IfSome}
 use Rattle.scl_args.specs.Cuts.{cut}
 use Rattle.scl_args.specs.Each.{Each}
 use Rattle.scl_args.specs.Row.{Row}
@@ -8,6 +8,8 @@ use Rattle.scl_args.specs.Seen as plain
 use Rattle.scl_args.specs.Tables.{owner_in}
 use Rattle.scl_again.specs.Commands.{CommandList, Parts, IsReadAgain}
 use Rattle.scl_again.specs.Origins.{IsClear}
+use Rattle.scl_again.specs.Promises.{Line, IsReadAgainUnlessEmpty}
+use Rattle.scl_text.specs.Commands.{object_of}
 use Rattle.scl_text.specs.Records.{Parsed, Verdict}
 use Rattle.scl_small.specs.Command.{command_words}
 use Rattle.scl_small.specs.Places.{goes_to}
@@ -17,6 +19,10 @@ use Rattle.scl_small.specs.declared.place.Place.TheVariants as places
 -- each kind is of some list or passes the checks as if it were
 abbrev pub every_kind : {K : Type 0} → K → Bool
 every_kind k = true
+
+-- what words are cut into by these rows; none of them are handed on
+abbrev pub line_of : {K : Type 0} → List (Row K) → List (List ℕ) → Line K K
+line_of rows words = record { options = (cut (owner_in (rows ∷ [])) false words).options; handed_on = [] }
 
 module _ {K : Type 0} (place : K → Place) (compile output : K) where
   -- the list of the options that go to the place
@@ -36,3 +42,7 @@ module _ {K : Type 0} (place : K → Place) (compile output : K) where
   CommandsAreReadAgain rows reading = (words : List (List ℕ)) (p : Parsed) (object : List ℕ) → reading (owner_in (rows ∷ [])) words ≡ Ok p →
       let options = (cut (owner_in (rows ∷ [])) false words).options in
       Each IsClear options → IsReadAgain (rows ∷ []) false [] (record { options = map shown options; inners = [] }) (parts p object) (command_words p object)
+
+  -- what it is for the words of the command of a record, which these words have by these rows, to be read again
+  abbrev pub CommandIsReadAgain : List (Row K) → List (List ℕ) → Parsed → List (List ℕ) → Type 0
+  CommandIsReadAgain rows words p command = IfSome (object_of p) (λ object. IsReadAgainUnlessEmpty (rows ∷ []) false [] (line_of rows words) (parts p object) command)

@@ -18,6 +18,10 @@ fn laws_of_the_written_tables_may_be_called() {
     scl_gnu::laws::clang_tables_pass_both_checks();
     scl_gnu::laws::clang_tables_pass_both_checks_inside();
     scl_gnu::laws::xclang_alone_hands_words_on();
+    scl_msvc::laws::msvc_tables_pass_both_checks();
+    scl_msvc::laws::own_flags_join_safely();
+    scl_msvc::laws::clang_tables_pass_both_checks_inside();
+    scl_msvc::laws::no_other_option_hands_words_on();
 }
 
 #[test]
@@ -26,4 +30,5 @@ fn laws_of_commands_may_be_called() {
     scl_small::laws::tasking_commands_are_read_again();
     scl_gnu::laws::gcc_commands_are_read_again();
     scl_gnu::laws::clang_commands_are_read_again();
+    scl_msvc::laws::msvc_commands_are_read_again();
 }

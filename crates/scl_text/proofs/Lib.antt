@@ -1,4 +1,5 @@
 pub mod ArchLemmas
+pub mod CompilerLaws
 pub mod DecodeLaws
 pub mod DecodeLemmas
 pub mod DiabLaws

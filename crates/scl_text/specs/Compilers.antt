@@ -1,7 +1,8 @@
 -- What the methods of a compiler answer, as its own definitions say.
-use Rattle.std.specs.Prelude.{◌≡◌, ℕ, List, Option, Some}
+use Rattle.std.specs.Prelude.{◌≡◌, ℕ, List, Option, Some, IfSome, Result, Ok, Err}
 use Rattle.scl_args.specs.Words.{words_of}
 use Rattle.scl_text.specs.Commands.{Builds}
+use Rattle.scl_text.specs.Records.{Parsed, Verdict}
 use Rattle.scl_text.specs.declared.records.SingleCompileCommand.{SingleCompileCommand}
 use Rattle.scl_text.specs.declared.records.Cacheable.{Cacheable}
 
@@ -10,3 +11,8 @@ pub record IsAnswer (command : SingleCompileCommand) (cacheable : Cacheable) (wo
   pub words_are : words ≡ Some (words_of command.arguments.items)
   pub builds : Builds command executable (words_of command.arguments.items) env_vars cwd
   pub kept_is : cacheable ≡ kept
+
+-- where the outcome is a record that has a command, the two keep the promise
+abbrev pub IfCommand : (Parsed → Option (List (List ℕ))) → (Parsed → List (List ℕ) → Type 0) → Result Parsed Verdict → Type 0
+IfCommand command promise (Ok p) = IfSome (command p) (promise p)
+IfCommand command promise (Err verdict) = Unit {0}

@@ -8,16 +8,17 @@ use scl_args::Mem;
 use std::alloc::Global;
 
 /// A compiler whose command lines are read and built. The ghost members are its own definitions:
-/// the outcome of a command line, the words of the command that makes a record's object, the environment that the command gets, and whether its outcome may be kept
+/// the outcome of a command line, the words of the command that makes a record's object, the environment that the command gets, whether its outcome may be kept,
+/// and what it is for the words of a command to be read again, given the command line (words, directory, environment, view), its record and those words
 /// (docs/RULES.md, Compilers).
 pub trait CCompilerImpl {
-    ghost use Rattle.std.specs.Prelude.{◌≡◌, ◌↔◌, ℕ, Bool, List, Option, None, Result, IfOk};
+    ghost use Rattle.std.specs.Prelude.{◌≡◌, ◌↔◌, ℕ, Bool, List, Option, None, Result, Ok, IfOk};
     ghost use Rattle.std.specs.Option.{option_map};
     ghost use Rattle.std.specs.String.{string_bytes};
     ghost use Rattle.scl_args.specs.Words.{words_of};
     ghost use Rattle.scl_text.specs.Views.{Viewed};
     ghost use Rattle.scl_text.specs.Commands.{pairs_of, object_of, command_by};
-    ghost use Rattle.scl_text.specs.Compilers.{IsAnswer};
+    ghost use Rattle.scl_text.specs.Compilers.{IsAnswer, IfCommand};
     ghost use Rattle.scl_text.specs.Records.{Parsed, Verdict, parsed_of, outcome_of};
     ghost use Rattle.scl_text.specs.declared.records.CCompilerKind.{CCompilerKind};
     ghost use Rattle.scl_text.specs.declared.records.Cacheable.{Cacheable};
@@ -38,6 +39,8 @@ pub trait CCompilerImpl {
 
     ghost cacheable: { Self → Parsed → List ℕ → Viewed → Cacheable };
 
+    ghost is_read_again: { Self → List (List ℕ) → List ℕ → List (List ℕ × List ℕ) → Viewed → Parsed → List (List ℕ) → Type 0 };
+
     /// Which compiler it is (docs/RULES.md, Compilers).
     fn kind(&self) -> CCompilerKind
         ensures { result ≡ kind_of self.now };
@@ -51,7 +54,7 @@ pub trait CCompilerImpl {
         ensures { IfOk result (λ version. option_map string_bytes version ≡ version_of self.now) };
 
     /// What the words of a command line say; the directory and the view answer what they ask of
-    /// files (docs/RULES.md, Compilers).
+    /// files. Where they have a record with an output `obj`, its command is read again (docs/RULES.md, Compilers, and Cutting again).
     fn parse_arguments(
         &self,
         alloc: Global,
@@ -60,10 +63,11 @@ pub trait CCompilerImpl {
         env_vars: &[(Vec<u8>, Vec<u8>)],
         view: &View,
     ) -> Mem<CompilerArguments<ParsedArguments>>
-        ensures { IfOk result (λ answer. outcome_of answer ≡ reading self.now (words_of arguments.now) cwd.now (pairs_of env_vars.now) view.now) };
+        ensures outcome { IfOk result (λ answer. outcome_of answer ≡ reading self.now (words_of arguments.now) cwd.now (pairs_of env_vars.now) view.now) }
+        ensures read_again { IfOk result (λ answer. IfCommand (command_by (command self.now)) (is_read_again self.now (words_of arguments.now) cwd.now (pairs_of env_vars.now) view.now) (outcome_of answer)) };
 
     /// The command of a record, and whether its outcome may be kept; `MissingObj` exactly where
-    /// the record has no output `obj` (docs/RULES.md, Compilers).
+    /// the record has no output `obj`. The command of a record that was read is read again (docs/RULES.md, Compilers, and Cutting again).
     fn generate_compile_commands(
         &self,
         alloc: Global,
@@ -74,6 +78,8 @@ pub trait CCompilerImpl {
         view: &View,
     ) -> Result<(SingleCompileCommand, Cacheable), CommandError>
         ensures command { IfOk result (λ answer. IsAnswer answer.0 answer.1 (command_by (command self.now) (parsed_of parsed.now)) executable.now (environment self.now (pairs_of env_vars.now)) cwd.now (cacheable self.now (parsed_of parsed.now) cwd.now view.now)) }
+        ensures read_again { IfOk result (λ answer. (line : List (List ℕ)) (directory : List ℕ) (pairs : List (List ℕ × List ℕ)) (files : Viewed) →
+            reading self.now line directory pairs files ≡ Ok (parsed_of parsed.now) → is_read_again self.now line directory pairs files (parsed_of parsed.now) (words_of answer.0.arguments.items)) }
         ensures missing { (result ≡ Err CommandError.MissingObj) ↔ (object_of (parsed_of parsed.now) ≡ None) };
 
     /// A copy of the assembler's digest, if it is known (docs/RULES.md, Compilers).

@@ -74,6 +74,7 @@ impl CCompilerImpl for Clang {
     ghost use Rattle.scl_text.specs.Languages.{clang_text};
     ghost use Rattle.scl_gnu.specs.Building.{command_words};
     ghost use Rattle.scl_gnu.specs.ClangRows.{clang_tables};
+    ghost use Rattle.scl_gnu.specs.ReadAgain.{ClangReadsAgain};
     ghost use Rattle.scl_gnu.specs.Readings.{reading};
 
     ghost kind_of = { λ _. compilers.Clang };
@@ -91,6 +92,8 @@ impl CCompilerImpl for Clang {
     ghost environment = { λ _ env_vars. env_vars };
 
     ghost cacheable = { λ _ parsed directory view. cacheables.Yes };
+
+    ghost is_read_again = { λ _ words directory env_vars view. ClangReadsAgain directory view words };
 
     fn kind(&self) -> CCompilerKind {
         CCompilerKind::Clang

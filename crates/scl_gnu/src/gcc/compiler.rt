@@ -46,6 +46,7 @@ impl CCompilerImpl for Gcc {
     ghost use Rattle.scl_text.specs.Languages.{gcc_text};
     ghost use Rattle.scl_gnu.specs.Building.{command_words};
     ghost use Rattle.scl_gnu.specs.GccRows.{gcc_rows};
+    ghost use Rattle.scl_gnu.specs.ReadAgain.{GccReadsAgain};
     ghost use Rattle.scl_gnu.specs.Readings.{reading};
 
     ghost kind_of = { λ _. compilers.Gcc };
@@ -63,6 +64,8 @@ impl CCompilerImpl for Gcc {
     ghost environment = { λ _ env_vars. env_vars };
 
     ghost cacheable = { λ _ parsed directory view. cacheables.Yes };
+
+    ghost is_read_again = { λ _ words directory env_vars view. GccReadsAgain directory view words };
 
     fn kind(&self) -> CCompilerKind {
         CCompilerKind::Gcc

@@ -65,6 +65,7 @@ impl CCompilerImpl for Msvc {
     ghost use Rattle.scl_text.specs.declared.records.CCompilerKind.TheVariants as compilers;
     ghost use Rattle.scl_msvc.specs.Building.{command_words, cacheable};
     ghost use Rattle.scl_msvc.specs.Environment.{without_cl_env_vars};
+    ghost use Rattle.scl_msvc.specs.Promises.{MsvcReadsAgain};
     ghost use Rattle.scl_msvc.specs.Readings.{reading_within};
 
     ghost kind_of = { λ _. compilers.Msvc };
@@ -82,6 +83,8 @@ impl CCompilerImpl for Msvc {
     ghost environment = { λ _. without_cl_env_vars };
 
     ghost cacheable = { λ _. cacheable };
+
+    ghost is_read_again = { λ msvc words directory env_vars view. MsvcReadsAgain msvc.is_clang directory env_vars view words };
 
     fn kind(&self) -> CCompilerKind {
         CCompilerKind::Msvc

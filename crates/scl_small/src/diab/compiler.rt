@@ -29,6 +29,7 @@ impl CCompilerImpl for Diab {
     ghost use Rattle.std.specs.Option.{option_map};
     ghost use Rattle.std.specs.String.{string_bytes};
     ghost use Rattle.scl_args.specs.Tables.{owner_in};
+    ghost use Rattle.scl_small.specs.DiabAgain.{DiabReadsAgain};
     ghost use Rattle.scl_small.specs.DiabTable.{rows};
     ghost use Rattle.scl_small.specs.DiabReading.{expanded_reading};
     ghost use Rattle.scl_small.specs.Command.{command_words};
@@ -50,6 +51,8 @@ impl CCompilerImpl for Diab {
     ghost environment = { λ _ env_vars. env_vars };
 
     ghost cacheable = { λ _ parsed cwd view. answers.Yes };
+
+    ghost is_read_again = { λ _ words cwd env_vars view. DiabReadsAgain cwd view.files words };
 
     fn kind(&self) -> CCompilerKind {
         CCompilerKind::Diab

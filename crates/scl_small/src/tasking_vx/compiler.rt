@@ -14,6 +14,7 @@ pub struct TaskingVX;
 impl CCompilerImpl for TaskingVX {
     ghost use Rattle.std.specs.Prelude.{false, None, [], ◌∷◌};
     ghost use Rattle.scl_args.specs.Tables.{owner_in};
+    ghost use Rattle.scl_small.specs.TaskingAgain.{TaskingReadsAgain};
     ghost use Rattle.scl_small.specs.TaskingTable.{rows};
     ghost use Rattle.scl_small.specs.TaskingReading.{reading};
     ghost use Rattle.scl_small.specs.Command.{command_words};
@@ -35,6 +36,8 @@ impl CCompilerImpl for TaskingVX {
     ghost environment = { λ _ env_vars. env_vars };
 
     ghost cacheable = { λ _ parsed cwd view. answers.Yes };
+
+    ghost is_read_again = { λ _ words cwd env_vars view. TaskingReadsAgain words };
 
     fn kind(&self) -> CCompilerKind {
         CCompilerKind::TaskingVX

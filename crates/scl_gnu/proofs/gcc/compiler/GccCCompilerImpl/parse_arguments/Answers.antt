@@ -1,8 +1,19 @@
+use Rattle.scl_text.proofs.CompilerLaws.{parsed-kept}
+use Rattle.scl_text.specs.Commands.{command_by}
+use Rattle.scl_text.specs.Languages.{gcc_text}
+use Rattle.scl_gnu.specs.Building.{command_words}
+use Rattle.scl_gnu.specs.ReadAgain.{GccReadsAgain}
+use Rattle.scl_gnu.proofs.GccAgainLaws.{command_kept}
 use Rattle.scl_gnu.proofs.TableLaws.{gcc_rows_hold_values}
 use Rattle.scl_gnu.proofs.gcc.compiler.GccCCompilerImpl.parse_arguments.Goals as goal
 
 pub parse_arguments-requires : goal.parse_arguments-requires
 parse_arguments-requires c = gcc_rows_hold_values _ c.table.ensures
 
-pub returns : goal.returns
-returns c = rw c.table.ensures at c.parse_arguments.ensures
+pub returns-clause-outcome : goal.returns-clause-outcome
+returns-clause-outcome c = rw c.table.ensures at c.parse_arguments.ensures
+
+pub returns-clause-read_again : goal.returns-clause-read_again
+returns-clause-read_again c =
+    parsed-kept (command_by (λ p. command_words (gcc_text p.language) p)) (GccReadsAgain c.args.cwd.now c.args.view.now _) _
+    (command_kept c.args.self.now.gplusplus c.args.cwd.now c.args.view.now _) _ (returns-clause-outcome c)

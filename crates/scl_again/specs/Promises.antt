@@ -1,0 +1,37 @@
+-- What is promised of a command: it is read again, unless an option of an either row has an empty value.
+use Rattle.std.specs.Prelude.{ℕ, Bool, List, map}
+use Rattle.scl_args.specs.Cuts.{Cut}
+use Rattle.scl_args.specs.Each.{Each}
+use Rattle.scl_args.specs.Row.{Row}
+use Rattle.scl_args.specs.Seen.{shown}
+use Rattle.scl_again.specs.Commands.{Inner, Said, Parts, IsReadAgain}
+use Rattle.scl_again.specs.Origins.{IsClear}
+
+-- words that are handed on to an inner command line, each as the value of an option with this flag and kind: what they are cut into
+pub record HandedOn (K J : Type 0) : Type 0 where
+  pub flag : List ℕ
+  pub kind : K
+  pub options : List (Cut J)
+
+-- what a command line is cut into, and the words that it hands on
+pub record Line (K J : Type 0) : Type 0 where
+  pub options : List (Cut K)
+  pub handed_on : List (HandedOn K J)
+
+module _ {K J : Type 0} where
+  abbrev pub inner_of : HandedOn K J → Inner K J
+  inner_of h = record { flag = h.flag; kind = h.kind; options = map shown h.options }
+
+  -- what the command line says
+  abbrev pub said_by : Line K J → Said K J
+  said_by line = record { options = map shown line.options; inners = map inner_of line.handed_on }
+
+  -- no option of an either row, outer or inner, has an empty value
+  pub record HasNoEmpty (line : Line K J) : Type 0 where
+    pub outer : Each IsClear line.options
+    pub inner : Each (λ h. Each IsClear h.options) line.handed_on
+
+  -- unless an option of an either row has an empty value, the words of the command are read again
+  abbrev pub IsReadAgainUnlessEmpty : List (List (Row K)) → Bool → List (List (Row J)) → Line K J → Parts K J → List (List ℕ) → Type 0
+  IsReadAgainUnlessEmpty tables dashes inner_tables line parts words =
+      HasNoEmpty line → IsReadAgain tables dashes inner_tables (said_by line) parts words

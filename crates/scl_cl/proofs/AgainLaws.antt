@@ -1,0 +1,55 @@
+use Rattle.std.proofs.Common.{◌≡◌, ℕ, true, false, List, Option, None, Some, Result, Ok, Err, refl, sym}
+use Rattle.std.specs.Prelude.{IfSome}
+use Rattle.scl_text.specs.Compilers.{IfCommand}
+use Rattle.scl_text.specs.Records.{Parsed, Verdict, CannotCache, NotCompilation}
+use Rattle.scl_text.specs.declared.records.Cacheable.{Cacheable}
+use Rattle.scl_gnu.proofs.ClangAgainLaws as clang
+use Rattle.scl_gnu.proofs.GccAgainLaws as gcc
+use Rattle.scl_msvc.proofs.PromiseLaws as msvc
+use Rattle.scl_small.proofs.DiabAgainLaws as diab
+use Rattle.scl_small.proofs.TaskingAgainLaws as tasking
+use Rattle.scl_cl.specs.declared.compiler.Compiler.{Compiler}
+use Rattle.scl_cl.specs.declared.compiler.Compiler.TheVariants as compilers
+use Rattle.scl_cl.specs.Answers.{answer_with, answer_from, reading_by, command_by, kept_by, read_again_by, Keeps, AnswersAreReadAgain}
+use Rattle.scl_cl.specs.Lines.{lines_of}
+use Rattle.scl_cl.specs.Requests.{Request, request_in}
+use Rattle.scl_cl.specs.Runs.{text_for, answer, IsTextReadAgain}
+
+answer-with : (promise : Parsed → List (List ℕ) → Type 0) (p : Parsed) (words : Option (List (List ℕ))) (kept : Cacheable) → IfSome words (promise p) → Keeps promise (Ok p) (answer_with words kept)
+answer-with promise p None kept h = tt
+answer-with promise p (Some words) kept h = (p, refl, h)
+
+answer-from : (command : Parsed → Option (List (List ℕ))) (kept : Parsed → Cacheable) (promise : Parsed → List (List ℕ) → Type 0) (said : Result Parsed Verdict) →
+    IfCommand command promise said → Keeps promise said (answer_from command kept said)
+answer-from command kept promise (Ok p) h = answer-with promise p (command p) (kept p) h
+answer-from command kept promise (Err (CannotCache reason)) h = tt
+answer-from command kept promise (Err NotCompilation) h = tt
+
+command_kept : (compiler : Compiler) (request : Request) → IfCommand (command_by compiler) (read_again_by compiler request) (reading_by compiler request)
+command_kept compilers.Gcc request = gcc.command_kept false request.directory request.view request.words
+command_kept compilers.Gxx request = gcc.command_kept true request.directory request.view request.words
+command_kept compilers.Clang request = clang.command_kept false request.directory request.view request.words
+command_kept compilers.Clangxx request = clang.command_kept true request.directory request.view request.words
+command_kept compilers.Cl request = msvc.command_kept false request.directory request.environment request.view request.words
+command_kept compilers.ClangCl request = msvc.command_kept true request.directory request.environment request.view request.words
+command_kept compilers.Diab request = diab.command_kept request.directory request.view.files request.words
+command_kept compilers.Tasking request = tasking.command_kept request.words
+
+pub answers_again : AnswersAreReadAgain
+answers_again request =
+    answer-from (command_by request.compiler) (kept_by request.compiler request) (read_again_by request.compiler request) (reading_by request.compiler request) (command_kept request.compiler request)
+
+-- ---- the text of an answer
+
+text-again : (bytes text : List ℕ) (r : Result Request ℕ) → request_in (lines_of bytes) ≡ r → text_for r ≡ Ok text → IsTextReadAgain bytes text
+text-again bytes text (Ok request) e is = record { request = request; request_is = e; text_is = sym (cc); read_again = answers_again request }
+text-again bytes text (Err n) e is = absurd (cc)
+
+answer-again : (bytes text : List ℕ) → answer bytes ≡ Ok text → IsTextReadAgain bytes text
+answer-again bytes text is = text-again bytes text (request_in (lines_of bytes)) refl is
+
+-- where there are bytes, and the text of their answer is as it should be, a command in it is read again
+pub text-answers-again : (given : Option (List ℕ)) (IsWritten : List ℕ → Type 0) →
+    IfSome given (λ bytes. (text : List ℕ) × (answer bytes ≡ Ok text) × IsWritten text) → IfSome given (λ bytes. (text : List ℕ) × IsTextReadAgain bytes text × IsWritten text)
+text-answers-again None IsWritten h = tt
+text-answers-again (Some bytes) IsWritten h = (h.0, answer-again bytes h.0 h.1, h.2)

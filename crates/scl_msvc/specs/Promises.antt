@@ -1,0 +1,30 @@
+-- What is promised of a command of Msvc: it is read again, unless an option of an either row has an empty value.
+use Rattle.std.specs.Prelude.{ℕ, Bool, List, [], ◌∷◌, map, codes, IfOk, IfSome}
+use Rattle.scl_args.specs.Cuts.{Cut}
+use Rattle.scl_args.specs.Seen.{shown}
+use Rattle.scl_again.specs.Promises.{HandedOn, Line, IsReadAgainUnlessEmpty}
+use Rattle.scl_text.specs.Commands.{object_of}
+use Rattle.scl_text.specs.Records.{Parsed}
+use Rattle.scl_text.specs.Views.{Viewed}
+use Rattle.scl_gnu.specs.declared.gcc.data.Kind as gnu
+use Rattle.scl_gnu.specs.ClangRows.{clang_tables}
+use Rattle.scl_msvc.specs.declared.msvc.data.Kind.{Kind}
+use Rattle.scl_msvc.specs.declared.msvc.data.Kind.TheVariants as kind
+use Rattle.scl_msvc.specs.Environment.{surrounded}
+use Rattle.scl_msvc.specs.ReadAgain.{parts, options_of, inner_options_of}
+use Rattle.scl_msvc.specs.Rows.{msvc_tables}
+
+-- what these options hand on by a flag of this kind
+abbrev pub handed_by : List ℕ → Kind → List ℕ → Viewed → List (Cut Kind) → HandedOn Kind gnu.Kind
+handed_by flag k directory view options = record { flag = flag; kind = k; options = inner_options_of k directory view (map shown options) }
+
+-- what words are cut into, and what they hand on behind `-Xclang` and `-clang:`
+abbrev pub msvc_line : Bool → List ℕ → Viewed → List (List ℕ) → Line Kind gnu.Kind
+msvc_line is_clang directory view words =
+    let options = options_of is_clang directory view words in
+    record { options = options; handed_on = handed_by (codes "-Xclang") kind.XClang directory view options ∷ handed_by (codes "-clang:") kind.Clang directory view options ∷ [] }
+
+-- what it is for the words of the command of a record, which these words have between those of the environment, to be read again
+abbrev pub MsvcReadsAgain : Bool → List ℕ → List (List ℕ × List ℕ) → Viewed → List (List ℕ) → Parsed → List (List ℕ) → Type 0
+MsvcReadsAgain is_clang directory pairs view words p command = IfSome (object_of p) (λ object. IfOk (surrounded pairs words) (λ all.
+    IsReadAgainUnlessEmpty msvc_tables is_clang clang_tables (msvc_line is_clang directory view all) (parts p object) command))

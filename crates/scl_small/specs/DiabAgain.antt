@@ -1,0 +1,14 @@
+-- What it is for a command of Diab to be read again.
+use Rattle.std.specs.Prelude.{ℕ, List}
+use Rattle.scl_text.specs.Expand.{expand}
+use Rattle.scl_text.specs.Records.{Parsed}
+use Rattle.scl_text.specs.Views.{File}
+use Rattle.scl_text.specs.declared.expand.ExpansionKind.TheVariants as expansions
+use Rattle.scl_small.specs.DiabReading.{place}
+use Rattle.scl_small.specs.DiabTable.{rows}
+use Rattle.scl_small.specs.ReadAgain.{CommandIsReadAgain}
+use Rattle.scl_small.specs.declared.diab.args.Kind.TheVariants as kinds
+
+-- of a record of these words, whose response files, from the directory, are put in place
+abbrev pub DiabReadsAgain : List ℕ → List File → List (List ℕ) → Parsed → List (List ℕ) → Type 0
+DiabReadsAgain directory files words = CommandIsReadAgain place kinds.DoCompilation kinds.Output rows (expand expansions.Diab directory files words)
