@@ -38,7 +38,7 @@ use Rattle.scl_gnu.specs.NoFiles.{CommandsNameNoFile, GccCommandsNameNoFile, Cla
 use Rattle.scl_gnu.specs.Places.{place, goes_to}
 use Rattle.scl_gnu.specs.ReadAgain.{options_of, inner_options_of, behind_xclang}
 use Rattle.scl_gnu.specs.Recordings.{is_clang, needs_target, added_common, added_depfile, added_dependency, all_words_at, dependency_words, record_of}
-use Rattle.scl_gnu.proofs.GccAgainLaws.{no_inner}
+use Rattle.scl_gnu.proofs.InnerLaws.{no_inner}
 use Rattle.scl_gnu.proofs.KeptLaws.{is_kind, same-list}
 use Rattle.scl_gnu.proofs.ReadingLaws.{HasFound, is-read, object-found}
 
