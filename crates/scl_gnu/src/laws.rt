@@ -43,13 +43,13 @@ pub fn clang_commands_are_read_again()
 {}
 
 /// No word of the command of a record of Gcc begins with `@`, where no option's value, no input, no unknown flag and not
-/// the object does (docs/RULES.md, Words that name files).
+/// the object does (docs/RULES.md, Words that name response files).
 pub fn gcc_commands_name_no_file()
     ensures { GccCommandsNameNoFile }
 {}
 
 /// No word of the command of a record of Clang begins with `@`, where no option's value, no input, no unknown flag, outer
-/// or inner, and not the object does (docs/RULES.md, Words that name files).
+/// or inner, and not the object does (docs/RULES.md, Words that name response files).
 pub fn clang_commands_name_no_file()
     ensures { ClangCommandsNameNoFile }
 {}

@@ -40,7 +40,7 @@ pub fn msvc_commands_are_read_again()
 {}
 
 /// No word of the command of a record of Msvc begins with `@`, where no option's value, no input, no unknown flag, outer
-/// or inner, and not the object does (docs/RULES.md, Words that name files).
+/// or inner, and not the object does (docs/RULES.md, Words that name response files).
 pub fn msvc_commands_name_no_file()
     ensures { MsvcCommandsNameNoFile }
 {}
