@@ -2,6 +2,7 @@
 pub mod Checks
 pub mod Commands
 pub mod Laws
+pub mod NoFiles
 pub mod Origins
 pub mod Promises
 pub mod Reads

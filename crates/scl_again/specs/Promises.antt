@@ -1,10 +1,11 @@
--- What is promised of a command: it is read again, unless an option of an either row has an empty value.
+-- What is promised of a command: it is read again, unless an option of an either row has an empty value; and it names no response file of its own.
 use Rattle.std.specs.Prelude.{ℕ, Bool, List, map}
 use Rattle.scl_args.specs.Cuts.{Cut}
 use Rattle.scl_args.specs.Each.{Each}
 use Rattle.scl_args.specs.Row.{Row}
 use Rattle.scl_args.specs.Seen.{shown}
 use Rattle.scl_again.specs.Commands.{Inner, Said, Parts, IsReadAgain}
+use Rattle.scl_again.specs.NoFiles.{NamesNoFileOfItsOwn}
 use Rattle.scl_again.specs.Origins.{IsClear}
 
 -- words that are handed on to an inner command line, each as the value of an option with this flag and kind: what they are cut into
@@ -35,3 +36,8 @@ module _ {K J : Type 0} where
   abbrev pub IsReadAgainUnlessEmpty : List (List (Row K)) → Bool → List (List (Row J)) → Line K J → Parts K J → List (List ℕ) → Type 0
   IsReadAgainUnlessEmpty tables dashes inner_tables line parts words =
       HasNoEmpty line → IsReadAgain tables dashes inner_tables (said_by line) parts words
+
+  -- so they are, and they name no response file, where neither the command line nor the object does
+  pub record IsFaithful (tables : List (List (Row K))) (dashes : Bool) (inner_tables : List (List (Row J))) (line : Line K J) (parts : Parts K J) (object : List ℕ) (words : List (List ℕ)) : Type 0 where
+    pub again : IsReadAgainUnlessEmpty tables dashes inner_tables line parts words
+    pub no_file : NamesNoFileOfItsOwn (said_by line) object words

@@ -10,7 +10,7 @@ use Rattle.scl_args.specs.Tables.{owner_in, all_rows}
 use Rattle.scl_args.proofs.OwnerLaws.{owner_in-is}
 use Rattle.scl_again.specs.Checks.{is_changing, is_joining}
 use Rattle.scl_again.specs.Origins.{IsClear}
-use Rattle.scl_again.specs.Promises.{IsReadAgainUnlessEmpty}
+use Rattle.scl_again.specs.Promises.{IsFaithful}
 use Rattle.scl_again.specs.Reads.{Reads}
 use Rattle.scl_again.proofs.FreshLaws.{fresh-either}
 use Rattle.scl_again.proofs.OriginLaws.{has_row}
@@ -33,6 +33,7 @@ use Rattle.scl_gnu.specs.Kinds.{of}
 use Rattle.scl_gnu.specs.ReadAgain.{options_of, inner_options_of, behind_xclang, parts, clang_line, ClangCommandsAreReadAgain, ClangReadsAgain}
 use Rattle.scl_gnu.specs.Readings.{reading}
 use Rattle.scl_gnu.proofs.CheckLaws.{clang_passes, xclang_alone}
+use Rattle.scl_gnu.proofs.NoFileLaws.{clang_none}
 use Rattle.scl_gnu.proofs.OwnWordsLaws.{OwnWords, AreInners}
 use Rattle.scl_gnu.proofs.ReadAgainLaws.{commands-again}
 
@@ -109,6 +110,9 @@ pub command_kept : (plusplus : Bool) (directory : List ℕ) (view : Viewed) (wor
 command_kept plusplus directory view words =
     let line = clang_line directory view words in
     command-kept (λ p. command_words (clang_text p.language) p)
-    (λ p object again. IsReadAgainUnlessEmpty clang_tables true clang_tables line (parts (clang_text p.language) (map shown line.options) p object) again)
+    (λ p object built. IsFaithful clang_tables true clang_tables line (parts (clang_text p.language) (map shown line.options) p object) object built)
     (reading compilers.Clang plusplus clang_tables directory view words)
-    (λ p object e o clear. commands_again plusplus directory view words p object e o clear.outer (clear.inner.0))
+    (λ p object e o. record {
+      again = λ clear. commands_again plusplus directory view words p object e o clear.outer (clear.inner.0);
+      no_file = clang_none plusplus directory view words p object e o;
+    })

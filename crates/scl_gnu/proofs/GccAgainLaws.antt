@@ -10,7 +10,7 @@ use Rattle.scl_args.specs.Tables.{owner_in, all_rows}
 use Rattle.scl_args.proofs.OwnerLaws.{owner_in-is}
 use Rattle.scl_again.specs.Checks.{is_changing, is_joining}
 use Rattle.scl_again.specs.Origins.{IsClear}
-use Rattle.scl_again.specs.Promises.{IsReadAgainUnlessEmpty}
+use Rattle.scl_again.specs.Promises.{IsFaithful}
 use Rattle.scl_again.proofs.FoundLaws.{IsFound, found}
 use Rattle.scl_again.proofs.FreshLaws.{fresh-either}
 use Rattle.scl_again.proofs.OriginLaws.{has_row}
@@ -36,6 +36,8 @@ use Rattle.scl_gnu.specs.Kinds.{of}
 use Rattle.scl_gnu.specs.ReadAgain.{options_of, inner_options_of, parts, gcc_line, GccCommandsAreReadAgain, GccReadsAgain}
 use Rattle.scl_gnu.specs.Readings.{reading}
 use Rattle.scl_gnu.proofs.CheckLaws.{gcc_passes}
+use Rattle.scl_gnu.proofs.InnerLaws.{no_inner}
+use Rattle.scl_gnu.proofs.NoFileLaws.{gcc_none}
 use Rattle.scl_gnu.proofs.KeptLaws.{is_kind}
 use Rattle.scl_gnu.proofs.OwnWordsLaws.{OwnWords, AreInners}
 use Rattle.scl_gnu.proofs.ReadAgainLaws.{commands-again}
@@ -80,21 +82,7 @@ own_words = record {
   other_flags = refl;
 }
 
--- ---- no row hands words on
-
-no_row : list_all (λ row. not (is_kind kind.XClang row.kind) || false) (all_rows tables) ≡ true
-unfolding gcc_rows
-no_row = refl
-
-none-found : (os : List (Seen Kind)) → Each (IsFound tables false (of (kind.XClang ∷ []))) os → map text_of os ≡ []
-none-found [] h = refl
-none-found (o ∷ os) h = absurd (let no : false ≡ true = flag-so tables false (is_kind kind.XClang) (λ f. false) no_row (of (kind.XClang ∷ [])) (λ x. refl) o h.0 in cc)
-
-no_inner : (directory : List ℕ) (view : Viewed) (words : List (List ℕ)) → map shown (inner_options_of directory view (map shown (options_of tables false directory view words))) ≡ []
-no_inner directory view words =
-    let none = none-found _ (found tables false (of (kind.XClang ∷ [])) (expand expansions.Gnu directory view.files words)) in
-    ap (λ ws. map shown (options_of clang_tables false directory view ws)) none
-    ∙ ap (λ ws. map shown (cut (owner_in clang_tables) false ws).options) (expand-nil expansions.Gnu directory view.files)
+-- ---- inner command lines
 
 handed : (directory : List ℕ) (view : Viewed) (words : List (List ℕ)) →
     let inner = inner_options_of directory view (map shown (options_of tables false directory view words)) in
@@ -120,6 +108,9 @@ pub command_kept : (plusplus : Bool) (directory : List ℕ) (view : Viewed) (wor
 command_kept plusplus directory view words =
     let line = gcc_line directory view words in
     command-kept (λ p. command_words (gcc_text p.language) p)
-    (λ p object again. IsReadAgainUnlessEmpty tables false clang_tables line (parts (gcc_text p.language) (map shown line.options) p object) again)
+    (λ p object built. IsFaithful tables false clang_tables line (parts (gcc_text p.language) (map shown line.options) p object) object built)
     (reading compilers.Gcc plusplus tables directory view words)
-    (λ p object e o clear. commands_again plusplus directory view words p object e o clear.outer (none-clear _ (no_inner directory view words)))
+    (λ p object e o. record {
+      again = λ clear. commands_again plusplus directory view words p object e o clear.outer (none-clear _ (no_inner directory view words));
+      no_file = gcc_none plusplus directory view words p object e o;
+    })

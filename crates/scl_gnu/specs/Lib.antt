@@ -8,6 +8,7 @@ pub mod GccRows
 pub mod Hashes
 pub mod Inners
 pub mod Kinds
+pub mod NoFiles
 pub mod Places
 pub mod ReadAgain
 pub mod Readings

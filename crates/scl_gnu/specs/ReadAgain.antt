@@ -9,7 +9,7 @@ use Rattle.scl_args.specs.Seen as plain
 use Rattle.scl_args.specs.Tables.{owner_in}
 use Rattle.scl_again.specs.Commands.{Inner, CommandList, Parts, IsReadAgain}
 use Rattle.scl_again.specs.Origins.{IsClear, input_words}
-use Rattle.scl_again.specs.Promises.{HandedOn, Line, IsReadAgainUnlessEmpty}
+use Rattle.scl_again.specs.Promises.{HandedOn, Line, IsFaithful}
 use Rattle.scl_text.specs.declared.expand.ExpansionKind.TheVariants as expansions
 use Rattle.scl_text.specs.declared.language.Language.{Language}
 use Rattle.scl_text.specs.declared.records.CCompilerKind.{CCompilerKind}
@@ -131,9 +131,9 @@ clang_line directory view words =
 abbrev pub GccReadsAgain : List ℕ → Viewed → List (List ℕ) → Parsed → List (List ℕ) → Type 0
 GccReadsAgain directory view words p command = IfSome (object_of p) (λ object.
     let line = gcc_line directory view words in
-    IsReadAgainUnlessEmpty (gcc_rows ∷ []) false clang_tables line (parts (gcc_text p.language) (map shown line.options) p object) command)
+    IsFaithful (gcc_rows ∷ []) false clang_tables line (parts (gcc_text p.language) (map shown line.options) p object) object command)
 
 abbrev pub ClangReadsAgain : List ℕ → Viewed → List (List ℕ) → Parsed → List (List ℕ) → Type 0
 ClangReadsAgain directory view words p command = IfSome (object_of p) (λ object.
     let line = clang_line directory view words in
-    IsReadAgainUnlessEmpty clang_tables true clang_tables line (parts (clang_text p.language) (map shown line.options) p object) command)
+    IsFaithful clang_tables true clang_tables line (parts (clang_text p.language) (map shown line.options) p object) object command)

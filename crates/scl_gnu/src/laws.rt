@@ -6,6 +6,7 @@ ghost use Rattle.scl_again.specs.Checks.{PassChecks, has_no_kept};
 ghost use Rattle.scl_gnu.specs.Again.{carried, carried_inner};
 ghost use Rattle.scl_gnu.specs.ClangRows.{clang_tables};
 ghost use Rattle.scl_gnu.specs.GccRows.{gcc_rows};
+ghost use Rattle.scl_gnu.specs.NoFiles.{GccCommandsNameNoFile, ClangCommandsNameNoFile};
 ghost use Rattle.scl_gnu.specs.ReadAgain.{GccCommandsAreReadAgain, ClangCommandsAreReadAgain};
 
 /// Gcc's table passes both checks for the kinds that lists carry (docs/RULES.md, Cutting again).
@@ -39,4 +40,16 @@ pub fn gcc_commands_are_read_again()
 /// list by list (docs/RULES.md, Cutting again).
 pub fn clang_commands_are_read_again()
     ensures { ClangCommandsAreReadAgain }
+{}
+
+/// No word of the command of a record of Gcc begins with `@`, where no option's value, no input, no unknown flag and not
+/// the object does (docs/RULES.md, Words that name response files).
+pub fn gcc_commands_name_no_file()
+    ensures { GccCommandsNameNoFile }
+{}
+
+/// No word of the command of a record of Clang begins with `@`, where no option's value, no input, no unknown flag, outer
+/// or inner, and not the object does (docs/RULES.md, Words that name response files).
+pub fn clang_commands_name_no_file()
+    ensures { ClangCommandsNameNoFile }
 {}

@@ -8,6 +8,7 @@ pub mod InnerBy
 pub mod InnerSorts
 pub mod Inners
 pub mod Kinds
+pub mod NoFiles
 pub mod Places
 pub mod Promises
 pub mod ReadAgain

@@ -2,7 +2,7 @@
 use Rattle.std.specs.Prelude.{ℕ, Bool, List, [], ◌∷◌, map, codes, IfOk, IfSome}
 use Rattle.scl_args.specs.Cuts.{Cut}
 use Rattle.scl_args.specs.Seen.{shown}
-use Rattle.scl_again.specs.Promises.{HandedOn, Line, IsReadAgainUnlessEmpty}
+use Rattle.scl_again.specs.Promises.{HandedOn, Line, IsFaithful}
 use Rattle.scl_text.specs.Commands.{object_of}
 use Rattle.scl_text.specs.Records.{Parsed}
 use Rattle.scl_text.specs.Views.{Viewed}
@@ -27,4 +27,4 @@ msvc_line is_clang directory view words =
 -- what it is for the words of the command of a record, which these words have between those of the environment, to be read again
 abbrev pub MsvcReadsAgain : Bool → List ℕ → List (List ℕ × List ℕ) → Viewed → List (List ℕ) → Parsed → List (List ℕ) → Type 0
 MsvcReadsAgain is_clang directory pairs view words p command = IfSome (object_of p) (λ object. IfOk (surrounded pairs words) (λ all.
-    IsReadAgainUnlessEmpty msvc_tables is_clang clang_tables (msvc_line is_clang directory view all) (parts p object) command))
+    IsFaithful msvc_tables is_clang clang_tables (msvc_line is_clang directory view all) (parts p object) object command))

@@ -5,6 +5,7 @@ ghost use Rattle.scl_args.specs.Options as listed;
 ghost use Rattle.scl_again.specs.Checks.{PassChecks, JoinSafely, has_no_kept};
 ghost use Rattle.scl_gnu.specs.ClangRows.{clang_tables};
 ghost use Rattle.scl_msvc.specs.Again.{carried, carried_inner};
+ghost use Rattle.scl_msvc.specs.NoFiles.{MsvcCommandsNameNoFile};
 ghost use Rattle.scl_msvc.specs.Places.{side_of_flag};
 ghost use Rattle.scl_msvc.specs.ReadAgain.{MsvcCommandsAreReadAgain, MsvcCommandsHaveOneInput};
 ghost use Rattle.scl_msvc.specs.Rows.{msvc_tables};
@@ -42,4 +43,10 @@ pub fn msvc_commands_are_read_again()
 /// of its language (docs/RULES.md, Cutting again).
 pub fn msvc_commands_have_one_input()
     ensures { MsvcCommandsHaveOneInput }
+{}
+
+/// No word of the command of a record of Msvc begins with `@`, where no option's value, no input, no unknown flag, outer
+/// or inner, and not the object does (docs/RULES.md, Words that name response files).
+pub fn msvc_commands_name_no_file()
+    ensures { MsvcCommandsNameNoFile }
 {}

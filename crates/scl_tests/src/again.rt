@@ -32,4 +32,7 @@ fn laws_of_commands_may_be_called() {
     scl_gnu::laws::clang_commands_are_read_again();
     scl_msvc::laws::msvc_commands_are_read_again();
     scl_msvc::laws::msvc_commands_have_one_input();
+    scl_gnu::laws::gcc_commands_name_no_file();
+    scl_gnu::laws::clang_commands_name_no_file();
+    scl_msvc::laws::msvc_commands_name_no_file();
 }

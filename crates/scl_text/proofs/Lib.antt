@@ -12,6 +12,7 @@ pub mod GnuLaws
 pub mod GnuLemmas
 pub mod MsvcLaws
 pub mod MsvcLemmas
+pub mod NoFileLaws
 pub mod OpenLemmas
 pub mod OutputLaws
 pub mod OutputLemmas

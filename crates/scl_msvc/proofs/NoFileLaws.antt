@@ -1,0 +1,139 @@
+-- The command of a record of Msvc names no response file where none was given.
+use Rattle.std.proofs.Common.{◌≡◌, ℕ, Bool, true, false, List, [], ◌∷◌, ◌++◌, map, Some, Ok, refl, sym, ap, subst, ◌∙◌, if◌then◌else◌}
+use Rattle.std.specs.Prelude.{codes, unwrap_or}
+use Rattle.scl_args.specs.Cuts.{cut}
+use Rattle.scl_args.specs.Each.{Each}
+use Rattle.scl_args.specs.Options.{flag_of, texts, ◌>>=◌}
+use Rattle.scl_args.specs.Options as listed
+use Rattle.scl_args.specs.Seen.{Seen, shown}
+use Rattle.scl_args.specs.Tables.{owner_in, all_rows}
+use Rattle.scl_again.specs.NoFiles.{NamesNoFile, GivesNoFile}
+use Rattle.scl_again.proofs.NoFileLaws.{each-append, has_plain_flags, HasPlainFlag, flag-none, plain-found, listed-none, one-none, apart-none, joined-none, last-none}
+use Rattle.scl_text.specs.declared.expand.ExpansionKind.TheVariants as expansions
+use Rattle.scl_text.specs.declared.language.Language.{Language}
+use Rattle.scl_text.specs.declared.language.Language.TheVariants as languages
+use Rattle.scl_text.specs.Commands.{object_of}
+use Rattle.scl_text.specs.Expand.{expand}
+use Rattle.scl_text.specs.Records.{Parsed}
+use Rattle.scl_text.specs.Views.{Viewed}
+use Rattle.scl_gnu.specs.ClangRows.{clang_rows, clang_tables}
+use Rattle.scl_gnu.specs.GccRows.{gcc_rows}
+use Rattle.scl_msvc.specs.declared.msvc.data.Kind.{Kind}
+use Rattle.scl_msvc.specs.declared.msvc.data.Kind.TheVariants as kind
+use Rattle.scl_msvc.specs.declared.msvc.place.Place.{Place}
+use Rattle.scl_msvc.specs.declared.msvc.place.Place.TheVariants as places
+use Rattle.scl_msvc.specs.Again.{is_list, carried, carried_inner}
+use Rattle.scl_msvc.specs.Building.{command_words, dash_words, input_word, language_flag, list_words}
+use Rattle.scl_msvc.specs.FixedTests.{Found}
+use Rattle.scl_msvc.specs.Inners.{Inner, inner_list, inner_place, inner_words_at, goes_inside_to}
+use Rattle.scl_msvc.specs.Kinds.{of, is_input}
+use Rattle.scl_msvc.specs.NoFiles.{CommandNamesNoFile, MsvcCommandsNameNoFile}
+use Rattle.scl_msvc.specs.Places.{place, goes_to, side_of_flag}
+use Rattle.scl_msvc.specs.ReadAgain.{options_of, inner_options_of}
+use Rattle.scl_msvc.specs.Readings.{reading}
+use Rattle.scl_msvc.specs.Recordings.{all_words_at, record_of}
+use Rattle.scl_msvc.specs.Rows.{msvc_rows, msvc_tables}
+use Rattle.scl_msvc.proofs.KeptLaws.{is_kind, same-list}
+use Rattle.scl_msvc.proofs.ReadingLaws.{HasFound, is-read, object-found}
+
+abbrev NameNone : List (List ℕ) → Type 0
+NameNone words = Each NamesNoFile words
+
+append : (xs ys : List (List ℕ)) → NameNone xs → NameNone ys → NameNone (xs ++ ys)
+append xs ys = each-append NamesNoFile xs ys
+
+-- ---- flags
+
+carries : has_plain_flags carried (all_rows msvc_tables) ≡ true
+unfolding msvc_rows
+carries = refl
+
+compiles : has_plain_flags (is_kind kind.DoCompilation) (all_rows msvc_tables) ≡ true
+unfolding msvc_rows
+compiles = refl
+
+inner-flags : has_plain_flags carried_inner (all_rows clang_tables) ≡ true
+unfolding gcc_rows clang_rows
+inner-flags = refl
+
+-- ---- words of a compiler's own
+
+dash-none : (marked : Bool) → NameNone (dash_words marked)
+dash-none true = (refl, tt)
+dash-none false = tt
+
+flagged-none : (l : Language) (input : List ℕ) → NamesNoFile input → NamesNoFile (language_flag l ++ input)
+flagged-none languages.C input n = refl
+flagged-none languages.Cxx input n = refl
+flagged-none _ input n = n
+
+input-none : (p : Parsed) → NamesNoFile p.input → NamesNoFile (input_word p)
+input-none p n = elim (p.msvc_explicit_language) as (λ b. NamesNoFile (if b then language_flag p.language ++ p.input else p.input)) [
+  | true ↦ flagged-none p.language p.input n
+  | false ↦ n
+]
+
+-- ---- the command of a record
+
+-- the words of an inner list
+inside-none : (there : Place) → is_list there ≡ true → (words : List (List ℕ)) →
+    let os = map shown (cut (owner_in clang_tables) false words).options in
+    Each GivesNoFile os → NameNone (inner_list there os)
+inside-none there lists words none =
+    listed-none (goes_inside_to there) listed.side_of_flag _ none
+    (plain-found clang_tables false carried_inner inner-flags (goes_inside_to there) (λ f k v h e. same-list (inner_place k) there lists e) words)
+
+module _ (is_clang : Bool) (ws : List (List ℕ)) where
+  abbrev os : List (Seen Kind)
+  os = map shown (cut (owner_in msvc_tables) is_clang ws).options
+
+  module _ (none : Each GivesNoFile os) (inner : Inner) (inside : (there : Place) → is_list there ≡ true → NameNone (inner_words_at there inner)) where
+    at-none : (there : Place) → is_list there ≡ true → NameNone (all_words_at there os inner)
+    at-none there lists =
+        let p = goes_to there in
+        append _ _ (listed-none p side_of_flag os none (plain-found msvc_tables is_clang carried carries p (λ f k v h e. same-list (place k) there lists e) ws)) (inside there lists)
+
+    module _ (directory : List ℕ) (view : Viewed) (f : Found) (has : HasFound os f) where
+      abbrev record_is : Parsed
+      record_is = record_of directory view os inner f
+
+      lists-none : NameNone (list_words record_is)
+      lists-none =
+          append _ _ (append _ _ (append _ _ (at-none places.Preprocessor refl) (at-none places.Dependency refl)) (at-none places.Unhashed refl)) (at-none places.Common refl)
+
+      compile-none : NamesNoFile f.compile_flag
+      compile-none =
+          let p = of (kind.DoCompilation ∷ []) in
+          subst (λ o. NamesNoFile (unwrap_or o [])) has.flag_is
+          (last-none HasPlainFlag flag_of flag-none p os [] (plain-found msvc_tables is_clang (is_kind kind.DoCompilation) compiles p (λ f x v h e. e) ws) refl)
+
+      pub record-none : NameNone (command_words record_is f.object)
+      record-none =
+          let front = f.compile_flag ∷ (codes "-Fo" ++ f.object) ∷ [] in
+          let front_none : NameNone front = (compile-none, (refl, tt)) in
+          let dashes = dash_words record_is.double_dash_input in
+          append (front ++ list_words record_is ++ dashes) (input_word record_is ∷ [])
+          (append (front ++ list_words record_is) dashes (append front (list_words record_is) front_none lists-none) (dash-none record_is.double_dash_input))
+          (input-none record_is (one-none is_input os f.input none has.input_is), tt)
+
+-- ---- the command of a reading
+
+command-none : (is_clang : Bool) (directory : List ℕ) (view : Viewed) (words : List (List ℕ)) (p : Parsed) (object : List ℕ) → reading is_clang directory view words ≡ Ok p → object_of p ≡ Some object
+    → CommandNamesNoFile is_clang directory view words p object
+command-none is_clang directory view words p object e has_object none inner_none unnamed =
+    let r = is-read is_clang directory view words p e in
+    let os = map shown (options_of is_clang directory view words) in
+    let inner : Inner = record { xclang = map shown (inner_options_of kind.XClang directory view os); clang = map shown (inner_options_of kind.Clang directory view os) } in
+    let found = object-found directory view os inner r.tested in
+    let both : Some r.tested.object ≡ Some object = sym found ∙ (ap object_of r.is ∙ has_object) in
+    let same : r.tested.object ≡ object = cc in
+    let words_of = λ (k : Kind). expand expansions.Gnu directory view.files (texts (of (k ∷ [])) os) in
+    subst (λ x. NameNone (command_words p x)) same
+    (subst (λ q. NameNone (command_words q r.tested.object)) r.is
+    (record-none is_clang (expand expansions.Msvc directory view.files words) none inner
+    (λ there lists. append _ _ (apart-none (codes "-Xclang") refl _ (inside-none there lists (words_of kind.XClang) inner_none.0)) (joined-none (codes "-clang:") refl _))
+    directory view r.tested r.has))
+
+pub commands_none : MsvcCommandsNameNoFile
+commands_none is_clang directory pairs view words all p object all_words e has_object =
+    command-none is_clang directory view all p object (sym (ap (λ w. w >>= reading is_clang directory view) all_words) ∙ e) has_object
