@@ -1,10 +1,16 @@
 //! The parser of the command lines of Gcc and Clang.
 ghost use Rattle.std.specs.Prelude.{◌≡◌, IfOk, IsTrue};
+ghost use Rattle.scl_args.specs.Options.{result_by};
 ghost use Rattle.scl_args.specs.Tables.{tables_hold_values};
 ghost use Rattle.scl_args.specs.Words.{words_of};
+ghost use Rattle.scl_text.specs.JudgedWords.{judged_words};
+ghost use Rattle.scl_text.specs.Reasons.{argument_parse};
 ghost use Rattle.scl_text.specs.Records.{outcome_of};
+ghost use Rattle.scl_text.specs.Refusals.{verdict_of};
 ghost use Rattle.scl_gnu.specs.Data.{holds_value};
 ghost use Rattle.scl_gnu.specs.Readings.{recorded, read, reading};
+ghost use Rattle.scl_gnu.specs.Recordings.{is_clang};
+ghost use Rattle.scl_gnu.specs.Verdicts.{verdict};
 
 use super::data::{ArgData, Kind};
 use super::fixed_tests::find;
@@ -13,6 +19,7 @@ use super::judge::ByVerdict;
 use super::record::{is_clang, record_of};
 use scl_args::{Mem, OfKinds, Options, SearchableArgInfo};
 use scl_text::records::{CCompilerKind, CompilerArguments, ParsedArguments};
+use scl_text::refusal::Refusal;
 use scl_text::view::View;
 use scl_text::{ExpansionKind, judge_words};
 use std::alloc::Global;
@@ -56,6 +63,35 @@ fn read(
     }
 }
 
+/// The options of a command line by the tables handed in, where none is refused.
+fn judged<S: SearchableArgInfo<ArgData> + Drop>(
+    alloc: Global,
+    arguments: &[Vec<u8>],
+    cwd: &[u8],
+    arg_info: S,
+    kind: CCompilerKind,
+    view: &View,
+) -> Mem<Result<Options<ArgData>, Refusal>>
+    requires { IsTrue (tables_hold_values holds_value (S.tables arg_info)) }
+    ensures { IfOk result (λ said. result_by (λ options. options) verdict_of said
+        ≡ judged_words ExpansionKind.Gnu (verdict view.now.is_multiarch) argument_parse (S.tables arg_info) (is_clang kind) cwd.now view.now (words_of arguments.now)) }
+{
+    let judge = ByVerdict {
+        multiarch: view.multiarch(),
+    };
+    let dashes = is_clang(kind);
+    judge_words(
+        alloc,
+        ExpansionKind::Gnu,
+        arguments,
+        cwd,
+        arg_info,
+        dashes,
+        &judge,
+        view,
+    )
+}
+
 /// What a command line says by the tables handed in: the record; or the first verdict in option order, that of a last
 /// flag without its value, the same of the inner options, or that of the tests after them (docs/RULES.md, Gcc, and
 /// Inner command lines). Paths and words are bytes; the directory and the view answer what is asked of files. The error
@@ -72,20 +108,7 @@ pub fn parse_arguments<S: SearchableArgInfo<ArgData> + Drop>(
     requires { IsTrue (tables_hold_values holds_value (S.tables arg_info)) }
     ensures { IfOk result (λ answer. outcome_of answer ≡ reading kind plusplus (S.tables arg_info) cwd.now view.now (words_of arguments.now)) }
 {
-    let judge = ByVerdict {
-        multiarch: view.multiarch(),
-    };
-    let dashes = is_clang(kind);
-    match judge_words(
-        alloc,
-        ExpansionKind::Gnu,
-        arguments,
-        cwd,
-        arg_info,
-        dashes,
-        &judge,
-        view,
-    )? {
+    match judged(alloc, arguments, cwd, arg_info, kind, view)? {
         Ok(options) => read(alloc, options, cwd, plusplus, kind, view),
         Err(refusal) => Ok(refusal.into_answer()),
     }
