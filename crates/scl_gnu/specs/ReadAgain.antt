@@ -127,7 +127,7 @@ clang_line directory view words =
     let options = options_of clang_tables true directory view words in
     record { options = options; handed_on = handed_by_xclang directory view options ∷ [] }
 
--- what it is for the words of the command of a record, which these words have, to be read again
+-- what it is for the words of the command of a record, which these words have, to be read again and to name no response file of their own
 abbrev pub GccReadsAgain : List ℕ → Viewed → List (List ℕ) → Parsed → List (List ℕ) → Type 0
 GccReadsAgain directory view words p command = IfSome (object_of p) (λ object.
     let line = gcc_line directory view words in

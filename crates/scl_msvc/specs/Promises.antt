@@ -1,4 +1,4 @@
--- What is promised of a command of Msvc: it is read again, unless an option of an either row has an empty value.
+-- What is promised of a command of Msvc: it is read again, unless an option of an either row has an empty value; and it names no response file of its own.
 use Rattle.std.specs.Prelude.{ℕ, Bool, List, [], ◌∷◌, map, codes, IfOk, IfSome}
 use Rattle.scl_args.specs.Cuts.{Cut}
 use Rattle.scl_args.specs.Seen.{shown}
@@ -24,7 +24,7 @@ msvc_line is_clang directory view words =
     let options = options_of is_clang directory view words in
     record { options = options; handed_on = handed_by (codes "-Xclang") kind.XClang directory view options ∷ handed_by (codes "-clang:") kind.Clang directory view options ∷ [] }
 
--- what it is for the words of the command of a record, which these words have between those of the environment, to be read again
+-- what it is for the words of the command of a record, which these words have between those of the environment, to be read again and to name no response file of their own
 abbrev pub MsvcReadsAgain : Bool → List ℕ → List (List ℕ × List ℕ) → Viewed → List (List ℕ) → Parsed → List (List ℕ) → Type 0
 MsvcReadsAgain is_clang directory pairs view words p command = IfSome (object_of p) (λ object. IfOk (surrounded pairs words) (λ all.
     IsFaithful msvc_tables is_clang clang_tables (msvc_line is_clang directory view all) (parts p object) object command))
