@@ -118,12 +118,13 @@ SAYS = {
     55: (["a.asm built only"], "writes `a.asm` too"),
     56: (["status 1 -> 0", "a.obj built only"], "compiles, where clang-cl alone stops"),
     57: (["status 1 -> 0", "a.obj built only"], "compiles, where clang-cl alone stops"),
-    58: (["a.obj differs"], "the recorded command line"),
+    58: (["a.obj differs"], "nothing but the recorded command line"),
     59: (["status 0 -> 1", "o.o given only"], "clang stops"),
     60: (["status 1 -> 0", "a.o built only"], "compiles, where the compilers alone stop"),
     61: (["x.o differs"], "`X` is defined"),
     62: (["x.o differs"], "`X` is not defined"),
     63: (["x.obj differs"], "`X` is defined"),
+    64: ([], "nothing in files"),
 }
 
 
