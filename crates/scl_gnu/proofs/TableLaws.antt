@@ -4,7 +4,7 @@ use Rattle.std.specs.Bool.{IsTrue}
 use Rattle.scl_args.specs.Row.{Row}
 use Rattle.scl_args.specs.Tables.{tables_hold_values}
 use Rattle.scl_gnu.specs.declared.gcc.data.Kind.{Kind}
-use Rattle.scl_gnu.specs.ClangRows.{clang_rows, clang_tables}
+use Rattle.scl_gnu.specs.ClangRows.{clang_rows}
 use Rattle.scl_gnu.specs.Data.{holds_value}
 use Rattle.scl_gnu.specs.GccRows.{gcc_rows}
 
@@ -12,6 +12,6 @@ pub gcc_rows_hold_values : (rows : List (Row Kind)) → rows ≡ gcc_rows → Is
 unfolding gcc_rows
 gcc_rows_hold_values rows e = subst (λ (r : List (Row Kind)). IsTrue (tables_hold_values holds_value (r ∷ []))) (sym e) refl
 
-pub clang_tables_hold_values : IsTrue (tables_hold_values holds_value clang_tables)
+pub both_tables_hold_values : (gcc clang : List (Row Kind)) → gcc ≡ gcc_rows → clang ≡ clang_rows → IsTrue (tables_hold_values holds_value (gcc ∷ clang ∷ []))
 unfolding gcc_rows clang_rows
-clang_tables_hold_values = refl
+both_tables_hold_values gcc clang of_gcc of_clang = rw (of_gcc, of_clang) refl

@@ -10,4 +10,6 @@ pub returns-in-Some-clause-shorter : goal.returns-in-Some-clause-shorter
 returns-in-Some-clause-shorter c = cut_at-shorter 10 c.args.bytes.now _ c.in-Some.ensures
 
 pub returns-in-None-clause-lines : goal.returns-in-None-clause-lines
-returns-in-None-clause-lines c = lines_of-only c.args.bytes.now (grind (arith, common_steps)) c.in-None.ensures
+returns-in-None-clause-lines c =
+    let only = lines_of-only c.args.bytes.now (grind (arith, common_steps)) c.in-None.ensures in
+    grind (arith, common_steps)

@@ -1,5 +1,6 @@
-use Rattle.scl_gnu.proofs.TableLaws.{clang_tables_hold_values}
+use Rattle.std.proofs.Common.{rules}
+use Rattle.scl_gnu.proofs.TableLaws.{both_tables_hold_values}
 use Rattle.scl_gnu.proofs.clang.tables.BothTables.new.Goals as goal
 
 pub returns-clause-values : goal.returns-clause-values
-returns-clause-values c = rw (c.table.ensures, c.table-2.ensures) clang_tables_hold_values
+returns-clause-values c = search (rules, both_tables_hold_values)
