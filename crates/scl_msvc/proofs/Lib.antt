@@ -1,3 +1,4 @@
+pub mod DepfileLemmas
 pub mod EnvironmentLemmas
 pub mod OutputLaws
 pub mod TableLaws

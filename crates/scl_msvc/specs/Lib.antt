@@ -1,5 +1,6 @@
 pub mod Building
 pub mod Data
+pub mod Depfile
 pub mod Environment
 pub mod FixedTests
 pub mod FoundBy

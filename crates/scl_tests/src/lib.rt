@@ -8,6 +8,8 @@ mod args;
 #[cfg(test)]
 mod cl;
 #[cfg(test)]
+mod depfile;
+#[cfg(test)]
 mod gnu;
 #[cfg(test)]
 mod msvc;
