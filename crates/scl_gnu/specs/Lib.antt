@@ -8,6 +8,8 @@ pub mod GccRows
 pub mod Hashes
 pub mod Inners
 pub mod Kinds
+pub mod OutputFiles
+pub mod Passes
 pub mod Places
 pub mod ReadAgain
 pub mod Readings

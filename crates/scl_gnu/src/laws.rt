@@ -6,6 +6,7 @@ ghost use Rattle.scl_again.specs.Checks.{PassChecks, has_no_kept};
 ghost use Rattle.scl_gnu.specs.Again.{carried, carried_inner};
 ghost use Rattle.scl_gnu.specs.ClangRows.{clang_tables};
 ghost use Rattle.scl_gnu.specs.GccRows.{gcc_rows};
+ghost use Rattle.scl_gnu.specs.OutputFiles.{OutputFilesAreLeftOut};
 ghost use Rattle.scl_gnu.specs.ReadAgain.{GccCommandsAreReadAgain, ClangCommandsAreReadAgain};
 
 /// Gcc's table passes both checks for the kinds that lists carry (docs/RULES.md, Cutting again).
@@ -39,4 +40,10 @@ pub fn gcc_commands_are_read_again()
 /// list by list (docs/RULES.md, Cutting again).
 pub fn clang_commands_are_read_again()
     ensures { ClangCommandsAreReadAgain }
+{}
+
+/// What is left of words without those that make the preprocessor write a file is what the rule leaves, and nothing else
+/// is; the words stand in their order (docs/RULES.md, Preprocessing).
+pub fn output_files_are_left_out()
+    ensures { OutputFilesAreLeftOut }
 {}
