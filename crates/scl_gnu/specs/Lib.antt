@@ -8,9 +8,11 @@ pub mod GccRows
 pub mod Hashes
 pub mod Inners
 pub mod Kinds
+pub mod ListsOf
 pub mod OutputFiles
 pub mod Passes
 pub mod Places
+pub mod Preprocess
 pub mod ReadAgain
 pub mod Readings
 pub mod Recordings

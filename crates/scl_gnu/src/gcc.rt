@@ -16,8 +16,10 @@ mod outputs;
 mod parse;
 mod passes;
 mod place;
+mod preprocess;
 mod record;
 mod switches;
+mod words;
 
 pub use args::{ARCH_FLAG, ARGS, table};
 pub use command::{generate_compile_commands, language_to_gcc_arg};
@@ -29,4 +31,6 @@ pub use inner::read_inner;
 pub use output_files::without_output_files;
 pub use parse::parse_arguments;
 pub use passes::join_passes;
+pub(crate) use preprocess::line_flags;
+pub use preprocess::preprocess_passes;
 pub use scl_text::GnuExpand as ExpandIncludeFile;

@@ -84,7 +84,7 @@ or_none false false c e = rw (← e) refl
 pub has-more : (old new : BTreeSet (Vec ℕ Global)) (key : Vec ℕ Global) (words : List (List ℕ)) → HasWords old words → new.keys ≡ insert_key vec_cmp old.keys key → HasWords new (words ++ key.items ∷ [])
 has-more old new key words h e = record {
   are_the_same = λ word. ap (λ keys. list_any (bytes_eq word) (words_of keys)) e ∙ any-insert_key word old.keys key
-    ∙ or_none _ (bytes_eq word key.items) _ (h.are_the_same word) ∙ sym (list_any-append (bytes_eq word) words (key.items ∷ []));
+      ∙ or_none _ (bytes_eq word key.items) _ (h.are_the_same word) ∙ sym (list_any-append (bytes_eq word) words (key.items ∷ []));
 }
 
 not_true : (b : Bool) → false ≡ not b → b ≡ true

@@ -9,6 +9,7 @@ pub mod InnerSorts
 pub mod Inners
 pub mod Kinds
 pub mod Places
+pub mod Preprocess
 pub mod Readings
 pub mod Recordings
 pub mod Rows

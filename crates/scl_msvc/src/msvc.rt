@@ -14,8 +14,10 @@ mod judge;
 mod outputs;
 mod parse;
 mod place;
+mod preprocess;
 mod record;
 mod tables;
+mod words;
 
 pub use args::{ARGS, SLASH_ARGS, slash_table, table};
 pub use command::generate_compile_commands;

@@ -14,6 +14,8 @@ mod gnu;
 #[cfg(test)]
 mod msvc;
 #[cfg(test)]
+mod preprocess;
+#[cfg(test)]
 mod small;
 #[cfg(test)]
 mod tables;

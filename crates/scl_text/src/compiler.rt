@@ -8,8 +8,8 @@ use scl_args::Mem;
 use std::alloc::Global;
 
 /// A compiler whose command lines are read and built. The ghost members are its own definitions:
-/// the outcome of a command line, the words of the command that makes a record's object, the environment that the command gets, and whether its outcome may be kept
-/// (docs/RULES.md, Compilers).
+/// the outcome of a command line, the words of the command that makes a record's object, the environment that the command gets, whether its outcome may be kept,
+/// and the runs of the preprocessor (docs/RULES.md, Compilers).
 pub trait CCompilerImpl {
     ghost use Rattle.std.specs.Prelude.{◌≡◌, ◌↔◌, ℕ, Bool, List, Option, None, Result, IfOk};
     ghost use Rattle.std.specs.Option.{option_map};
@@ -19,6 +19,7 @@ pub trait CCompilerImpl {
     ghost use Rattle.scl_text.specs.Commands.{pairs_of, object_of, command_by};
     ghost use Rattle.scl_text.specs.Compilers.{IsAnswer};
     ghost use Rattle.scl_text.specs.Records.{Parsed, Verdict, parsed_of, outcome_of};
+    ghost use Rattle.scl_text.specs.Runs.{runs_of};
     ghost use Rattle.scl_text.specs.declared.records.CCompilerKind.{CCompilerKind};
     ghost use Rattle.scl_text.specs.declared.records.Cacheable.{Cacheable};
 
@@ -37,6 +38,8 @@ pub trait CCompilerImpl {
     ghost environment: { Self → List (List ℕ × List ℕ) → List (List ℕ × List ℕ) };
 
     ghost cacheable: { Self → Parsed → List ℕ → Viewed → Cacheable };
+
+    ghost passes: { Self → (may_dist rewrites cache_mode : Bool) → Parsed → List (List (List ℕ)) };
 
     /// Which compiler it is (docs/RULES.md, Compilers).
     fn kind(&self) -> CCompilerKind
@@ -79,4 +82,16 @@ pub trait CCompilerImpl {
     /// A copy of the assembler's digest, if it is known (docs/RULES.md, Compilers).
     fn assembler_digest(&self, alloc: Global) -> Mem<Option<String>>
         ensures { IfOk result (λ digest. option_map string_bytes digest ≡ digest_of self.now) };
+
+    /// The words of the runs of the preprocessor for a record, in order: for a distant compiler or not, with macros left in
+    /// place where that is asked, for a cache of preprocessor runs or not (docs/RULES.md, Preprocessing).
+    fn preprocess_passes(
+        &self,
+        alloc: Global,
+        parsed: &ParsedArguments,
+        may_dist: bool,
+        rewrite_includes_only: bool,
+        cache_mode: bool,
+    ) -> Mem<Vec<Vec<Vec<u8>>>>
+        ensures { IfOk result (λ runs. runs_of runs.items ≡ passes self.now may_dist rewrite_includes_only cache_mode (parsed_of parsed.now)) };
 }

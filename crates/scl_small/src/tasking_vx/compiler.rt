@@ -1,5 +1,6 @@
 use super::args::table;
 use super::{generate_compile_commands, parse_arguments};
+use crate::preprocess::tasking_passes;
 use scl_text::records::{
     CCompilerKind, Cacheable, CommandError, CompilerArguments, ParsedArguments,
     SingleCompileCommand,
@@ -16,7 +17,7 @@ impl CCompilerImpl for TaskingVX {
     ghost use Rattle.scl_args.specs.Tables.{owner_in};
     ghost use Rattle.scl_small.specs.TaskingTable.{rows};
     ghost use Rattle.scl_small.specs.TaskingReading.{reading};
-    ghost use Rattle.scl_small.specs.Command.{command_words};
+    ghost use Rattle.scl_small.specs.Command.{command_words, tasking_passes};
     ghost use Rattle.scl_text.specs.declared.records.CCompilerKind.TheVariants as kinds;
     ghost use Rattle.scl_text.specs.declared.records.Cacheable.TheVariants as answers;
 
@@ -35,6 +36,8 @@ impl CCompilerImpl for TaskingVX {
     ghost environment = { λ _ env_vars. env_vars };
 
     ghost cacheable = { λ _ parsed cwd view. answers.Yes };
+
+    ghost passes = { λ _ may_dist rewrites cache_mode. tasking_passes };
 
     fn kind(&self) -> CCompilerKind {
         CCompilerKind::TaskingVX
@@ -73,5 +76,16 @@ impl CCompilerImpl for TaskingVX {
 
     fn assembler_digest(&self, _alloc: Global) -> Mem<Option<String>> {
         Ok(None)
+    }
+
+    fn preprocess_passes(
+        &self,
+        alloc: Global,
+        parsed: &ParsedArguments,
+        _may_dist: bool,
+        _rewrite_includes_only: bool,
+        _cache_mode: bool,
+    ) -> Mem<Vec<Vec<Vec<u8>>>> {
+        tasking_passes(alloc, parsed)
     }
 }

@@ -11,7 +11,7 @@ returns c = record {
   are_in_order = record {
     ascend = c.in_ok-sorted.ensures.order;
     are_the_same = λ word. ap (λ ws. list_any (bytes_eq word) (words_of ws)) c.in_ok-sorted.ensures.words
-      ∙ c.in_ok-names.ensures.set.are_the_same word ∙ ap (list_any (bytes_eq word)) c.in_ok-names.ensures.names;
+        ∙ c.in_ok-names.ensures.set.are_the_same word ∙ ap (list_any (bytes_eq word)) c.in_ok-names.ensures.names;
   };
   text_is = grind (arith, common_steps, c.in_ok-rules.ensures, c.in_ok-names.ensures.names);
   kept_is = grind (arith, common_steps, c.in_ok-kept_text.ensures);

@@ -18,7 +18,7 @@ pub loop-line-preserved-in_ok-push_word : goal.loop-line-preserved-in_ok-push_wo
 loop-line-preserved-in_ok-push_word c =
     let key = c.in_ok-from_slice.field-0 in
     let unseen = subst (λ w. list_any (bytes_eq w) (words_of c.loop-line.names.items) ≡ false) c.in_ok-from_slice.ensures.items
-        (was-unseen c.loop-line.seen key _ c.loop-line.invariant.set (sym c.if-branch.true ∙ c.in_ok-insert.ensures.added)) in
+    (was-unseen c.loop-line.seen key _ c.loop-line.invariant.set (sym c.if-branch.true ∙ c.in_ok-insert.ensures.added)) in
     record {
       names = grind (arith, common_steps, new_words-unseen, unseen);
       set = subst (λ ws. HasWords c.insert.new.self ws) (ap (λ w. words_of c.loop-line.names.items ++ w ∷ []) c.in_ok-from_slice.ensures.items ∙ sym c.in_ok-push_word.ensures.ok)
@@ -29,7 +29,7 @@ pub loop-line-preserved : goal.loop-line-preserved
 loop-line-preserved c =
     let key = c.in_ok-from_slice.field-0 in
     let seen = subst (λ w. list_any (bytes_eq w) (words_of c.loop-line.names.items) ≡ true) c.in_ok-from_slice.ensures.items
-        (was-seen c.loop-line.seen key _ c.loop-line.invariant.set (sym c.if-branch.false ∙ c.in_ok-insert.ensures.added)) in
+    (was-seen c.loop-line.seen key _ c.loop-line.invariant.set (sym c.if-branch.false ∙ c.in_ok-insert.ensures.added)) in
     record {
       names = grind (arith, common_steps, new_words-seen, seen);
       set = has-unchanged c.loop-line.seen c.insert.new.self _ c.loop-line.invariant.set (grind (arith, common_steps, c.in_ok-insert.ensures.unchanged, c.if-branch.false));
