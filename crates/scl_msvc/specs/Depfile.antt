@@ -1,5 +1,5 @@
 -- The text of a dependency file, from the lines in which an error output names included files.
-use Rattle.std.specs.Prelude.{ℕ, ◌≡◌, Bool, true, false, not, ◌||◌, nat_eq, if◌then◌else◌, List, [], ◌∷◌, ◌++◌, length, map, filter, drop, Option, None, Some, Result, Ok, Err, Vec, codes}
+use Rattle.std.specs.Prelude.{ℕ, ◌≡◌, Bool, not, ◌||◌, nat_eq, if◌then◌else◌, List, [], ◌∷◌, ◌++◌, length, map, filter, drop, Option, None, Some, Result, Ok, Err, Vec, codes}
 use Rattle.std.specs.BTreeSet.{BTreeSet}
 use Rattle.std.specs.Char.{is_whitespace}
 use Rattle.std.specs.Cmp.Lexicographic.{slice_cmp}

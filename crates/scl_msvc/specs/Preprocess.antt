@@ -1,5 +1,5 @@
 -- The words of the one run of the preprocessor.
-use Rattle.std.specs.Prelude.{ℕ, Bool, true, false, not, ◌&&◌, ◌||◌, if◌then◌else◌, List, [], ◌∷◌, ◌++◌, Option, None, Some, codes}
+use Rattle.std.specs.Prelude.{ℕ, Bool, ◌&&◌, ◌||◌, if◌then◌else◌, List, [], ◌∷◌, ◌++◌, Option, None, Some, codes}
 use Rattle.scl_text.specs.Records.{Parsed}
 use Rattle.scl_msvc.specs.Building.{lists_with, input_words}
 

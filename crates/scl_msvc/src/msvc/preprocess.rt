@@ -3,7 +3,7 @@ ghost use Rattle.std.specs.Prelude.{◌≡◌, ◌++◌, IfOk, OnOk};
 ghost use Rattle.scl_args.specs.Words.{words_of};
 ghost use Rattle.scl_text.specs.Records.{parsed_of};
 ghost use Rattle.scl_text.specs.Runs.{runs_of};
-ghost use Rattle.scl_msvc.specs.Preprocess.{first_word, include_words, rewriting, preprocess_words, passes};
+ghost use Rattle.scl_msvc.specs.Preprocess.{first_word, shown_includes, written_includes, include_words, rewriting, preprocess_words, passes};
 
 use super::words::{push_input, push_lists};
 use scl_args::Mem;
@@ -21,6 +21,28 @@ fn first_word(parsed: &ParsedArguments, may_dist: bool) -> &'static [u8]
     }
 }
 
+/// Puts the flag behind words by which clang names included files, where a dependency file is wanted and they are not
+/// named anyway.
+fn push_shown(alloc: Global, words: &mut Vec<Vec<u8>>, parsed: &ParsedArguments) -> Mem<()>
+    ensures { OnOk result (words_of words.new.items ≡ words_of words.old.items ++ shown_includes (parsed_of parsed.now).depfile parsed.now.msvc_show_includes) }
+{
+    if parsed.depfile.is_some() && !parsed.msvc_show_includes {
+        push_word(alloc, words, b"-showIncludes")?;
+    }
+    Ok(())
+}
+
+/// Puts the words behind others by which cl writes its own file of dependencies, if one is wanted.
+fn push_written(alloc: Global, words: &mut Vec<Vec<u8>>, parsed: &ParsedArguments) -> Mem<()>
+    ensures { OnOk result (words_of words.new.items ≡ words_of words.old.items ++ written_includes (parsed_of parsed.now).depfile) }
+{
+    if let Some(depfile) = &parsed.depfile {
+        push_word(alloc, words, b"/sourceDependencies")?;
+        push_word(alloc, words, depfile)?;
+    }
+    Ok(())
+}
+
 /// Puts the words behind others that ask for the names of included files.
 fn push_includes(
     alloc: Global,
@@ -31,16 +53,11 @@ fn push_includes(
     ensures { OnOk result (words_of words.new.items ≡ words_of words.old.items ++ include_words is_clang (parsed_of parsed.now)) }
 {
     if is_clang {
-        if parsed.depfile.is_some() && !parsed.msvc_show_includes {
-            push_word(alloc, words, b"-showIncludes")?;
-        }
-        return Ok(());
+        push_shown(alloc, words, parsed)
+    } else {
+        push_written(alloc, words, parsed)?;
+        push_word(alloc, words, b"/WX-")
     }
-    if let Some(depfile) = &parsed.depfile {
-        push_word(alloc, words, b"/sourceDependencies")?;
-        push_word(alloc, words, depfile)?;
-    }
-    push_word(alloc, words, b"/WX-")
 }
 
 /// Puts the flag behind words that leaves macros in place, if it is asked of clang.
