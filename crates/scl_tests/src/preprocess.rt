@@ -2,7 +2,9 @@
 use crate::words::{cut, joined};
 use scl_args::Mem;
 use scl_gnu::clang::Clang;
-use scl_gnu::gcc::{Gcc, join_passes, language_to_gcc_arg, preprocess_passes, without_output_files};
+use scl_gnu::gcc::{
+    Gcc, join_passes, language_to_gcc_arg, preprocess_passes, without_output_files,
+};
 use scl_msvc::msvc::Msvc;
 use scl_small::diab::Diab;
 use scl_small::tasking_vx::TaskingVX;
@@ -68,10 +70,14 @@ fn gcc_has_a_run_for_each_architecture(rt: HostRuntime) -> Result<(), Fail> {
         b"-x c -E -P -arch i386 a.c\n-x c -E -P -MMD -MT a.o -MF a.d -arch x86_64 a.c\n".as_slice();
     assert_eq!(rt; runs.as_slice(), want);
     let cached = runs_of(rt.alloc(), &gcc, words, true)?;
-    let want = b"-x c -E -arch i386 a.c\n-x c -E -MMD -MT a.o -MF a.d -arch x86_64 a.c\n".as_slice();
+    let want =
+        b"-x c -E -arch i386 a.c\n-x c -E -MMD -MT a.o -MF a.d -arch x86_64 a.c\n".as_slice();
     assert_eq!(rt; cached.as_slice(), want);
     let one = runs_of(rt.alloc(), &gcc, b"-c a.c -arch i386 -arch i386", false)?;
-    assert_eq!(rt; one.as_slice(), b"-x c -E -P -arch i386 -arch i386 a.c\n".as_slice());
+    assert_eq!(rt;
+        one.as_slice(),
+        b"-x c -E -P -arch i386 -arch i386 a.c\n".as_slice()
+    );
     Ok(())
 }
 
@@ -80,8 +86,18 @@ fn lines_are_told_apart_for_others_and_for_profiles(rt: HostRuntime) -> Result<(
     let gcc = Gcc::new(false);
     let rows: [(&[u8], bool, bool, &[u8]); 5] = [
         (b"-c a.c", true, false, b"-x c -E a.c\n"),
-        (b"-c a.c", false, true, b"-x c -E -P -fdirectives-only a.c\n"),
-        (b"-c a.c -pedantic", false, true, b"-x c -E -P -pedantic a.c\n"),
+        (
+            b"-c a.c",
+            false,
+            true,
+            b"-x c -E -P -fdirectives-only a.c\n",
+        ),
+        (
+            b"-c a.c -pedantic",
+            false,
+            true,
+            b"-x c -E -P -pedantic a.c\n",
+        ),
         (
             b"-c a.c -fprofile-generate",
             false,
@@ -109,7 +125,10 @@ fn any_text_names_the_language(rt: HostRuntime) -> Result<(), Fail> {
     let record = record_of(rt.alloc(), &Gcc::new(false), b"-c a.c")?;
     let ignorable = cut(rt.alloc(), b"-P -Q")?;
     let kinds = [
-        (CCompilerKind::Gcc, b"-x c -E -P -Q -fdirectives-only a.c\n".as_slice()),
+        (
+            CCompilerKind::Gcc,
+            b"-x c -E -P -Q -fdirectives-only a.c\n".as_slice(),
+        ),
         (CCompilerKind::Msvc, b"-x c -E -P -Q a.c\n".as_slice()),
     ];
     for (kind, want) in kinds {
@@ -165,7 +184,10 @@ fn clang_minimizes_white_space_from_version_14_on(rt: HostRuntime) -> Result<(),
     let record = record_of(rt.alloc(), &Clang::new(false), b"-c a.c")?;
     let runs = Clang::new(false).preprocess_passes(rt.alloc(), &record, true, true, false)?;
     let lines = lines_of(rt.alloc(), &runs)?;
-    assert_eq!(rt; lines.as_slice(), b"-x c -E -frewrite-includes a.c\n".as_slice());
+    assert_eq!(rt;
+        lines.as_slice(),
+        b"-x c -E -frewrite-includes a.c\n".as_slice()
+    );
     Ok(())
 }
 
@@ -189,7 +211,11 @@ fn msvc_has_one_run(rt: HostRuntime) -> Result<(), Fail> {
             b"-EP -nologo /showIncludes x.c\n",
         ),
         (true, b"-c /DA -- -x.c", b"-EP -nologo /DA -- -x.c\n"),
-        (false, b"/c /Tpx.c /O2 /MP", b"-EP -nologo /O2 /WX- -Tpx.c\n"),
+        (
+            false,
+            b"/c /Tpx.c /O2 /MP",
+            b"-EP -nologo /O2 /WX- -Tpx.c\n",
+        ),
     ];
     for (is_clang, words, want) in rows {
         let msvc = cl(rt.alloc(), is_clang)?;
@@ -198,7 +224,10 @@ fn msvc_has_one_run(rt: HostRuntime) -> Result<(), Fail> {
     }
     for (is_clang, want) in [
         (false, b"-E -nologo /WX- x.c\n".as_slice()),
-        (true, b"-E -nologo -clang:-frewrite-includes x.c\n".as_slice()),
+        (
+            true,
+            b"-E -nologo -clang:-frewrite-includes x.c\n".as_slice(),
+        ),
     ] {
         let msvc = cl(rt.alloc(), is_clang)?;
         let record = record_of(rt.alloc(), &msvc, b"-c x.c")?;
@@ -217,7 +246,10 @@ fn diab_has_one_run_and_tasking_two(rt: HostRuntime) -> Result<(), Fail> {
         b"-c a.c -Xmake-dependency -DA -fx",
         false,
     )?;
-    assert_eq!(rt; diab.as_slice(), b"-E a.c -Xmake-dependency -DA -fx\n".as_slice());
+    assert_eq!(rt;
+        diab.as_slice(),
+        b"-E a.c -Xmake-dependency -DA -fx\n".as_slice()
+    );
     let tasking = runs_of(rt.alloc(), &TaskingVX, b"-c a.c --dep-file", false)?;
     assert_eq!(rt; tasking.as_slice(), b"-Em -o a.d a.c\n-E a.c\n".as_slice());
     let plain = runs_of(rt.alloc(), &TaskingVX, b"-c a.c -DA -x", true)?;
@@ -229,7 +261,10 @@ fn diab_has_one_run_and_tasking_two(rt: HostRuntime) -> Result<(), Fail> {
 fn words_that_write_files_are_left_out(rt: HostRuntime) -> Result<(), Fail> {
     let rows: [(&[u8], &[u8]); 14] = [
         (b"-Xpreprocessor -MF -Xpreprocessor x -DA", b"-DA"),
-        (b"-Xpreprocessor -MD -Xpreprocessor -DB", b"-Xpreprocessor -DB"),
+        (
+            b"-Xpreprocessor -MD -Xpreprocessor -DB",
+            b"-Xpreprocessor -DB",
+        ),
         (b"-Xpreprocessor -MT -DA", b"-DA"),
         (b"-Xpreprocessor -MQ -Xpreprocessor", b""),
         (b"-Xpreprocessor -MF", b""),
@@ -238,7 +273,10 @@ fn words_that_write_files_are_left_out(rt: HostRuntime) -> Result<(), Fail> {
         (b"--serialize-diagnostics a -DA", b"-DA"),
         (b"-DA --serialize-diagnostics", b"-DA"),
         (b"-Wp,-MD,a.d -Wp,-DM -Wp,-DA,-MMD", b"-Wp,-DM"),
-        (b"-Wp,-M\xff -Xpreprocessor -M\xff", b"-Wp,-M\xff -Xpreprocessor -M\xff"),
+        (
+            b"-Wp,-M\xff -Xpreprocessor -M\xff",
+            b"-Wp,-M\xff -Xpreprocessor -M\xff",
+        ),
         (
             b"-Xpreprocessor -MF -Xpreprocessor --serialize-diagnostics a",
             b"a",
@@ -277,7 +315,8 @@ fn passes_are_joined(rt: HostRuntime) -> Result<(), Fail> {
     passes.push(pass(rt.alloc(), b"arm64", 0, b"b\n", b"v")?)?;
     passes.push(pass(rt.alloc(), b"\xff", 0, b"", b"")?)?;
     let made = join_passes(rt.alloc(), passes)?;
-    let want = b"#pragma sccache arch x86_64 1\na\n#pragma sccache arch arm64 1\nb\n#pragma sccache arch \xff 1\n\n".as_slice();
+    let want =
+        b"#pragma sccache arch x86_64 1\na\n#pragma sccache arch arm64 1\nb\n#pragma sccache arch \xff 1\n\n".as_slice();
     assert_eq!(rt; made.stdout.as_slice(), want);
     assert_eq!(rt; made.stderr.as_slice(), b"wv".as_slice());
     assert_eq!(rt; made.status, 0);
