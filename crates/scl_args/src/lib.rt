@@ -24,6 +24,7 @@ mod table;
 mod value;
 mod words;
 mod wrapped;
+mod write;
 
 pub use argument::{ArgDisposition, ArgInfo, ArgRow, Argument, Delimiter, NormalizedDisposition};
 pub use counted::Counted;
@@ -47,3 +48,4 @@ pub use strings::IterStrings;
 pub use value::{ArgumentValue, ExactArg, FromArg, IntoArg, PathArg};
 pub use words::{CutWords, cut_options, cut_words};
 pub use wrapped::{WrappedApart, WrappedJoined, Wrapper, push_wrapped};
+pub use write::{WriteFault, write_whole};

@@ -1,7 +1,7 @@
--- What reading all and writing a whole text leave.
-use Rattle.std.specs.Prelude.{ℕ, ◌^◌, ◌≤◌, List, length, take, Option, Result, Ok, Err, Vec, ◌⊎◌}
+-- What reading all leaves.
+use Rattle.std.specs.Prelude.{ℕ, ◌^◌, ◌≤◌, List, length, Option, Result, Ok, Err, Vec, ◌⊎◌}
 use Rattle.std.specs.declared.alloc.Global.{Global}
-use Rattle.std.specs.Io.KnownBytes.{Consumes, IsAtEnd, Appends}
+use Rattle.std.specs.Io.KnownBytes.{Consumes, IsAtEnd}
 use Rattle.scl_args.specs.Counts.{HasFailed}
 use Rattle.scl_cl.specs.declared.transfer.ReadError.{ReadError}
 use Rattle.scl_cl.specs.declared.transfer.ReadError.TheVariants.{Memory, Device}
@@ -15,8 +15,3 @@ abbrev pub ReadEnds : Option (List ℕ) → Option (List ℕ) → ℕ → ℕ �
 ReadEnds old new before after (Ok bytes) = Consumes old new bytes.items × IsAtEnd new
 ReadEnds old new before after (Err Memory) = Unit {0}
 ReadEnds old new before after (Err Device) = HasFailed before after ⊎ Gave old new (2 ^ 40)
-
--- The whole text was written; or a beginning of it, and the writer failed.
-abbrev pub WriteEnds : Option (List ℕ) → Option (List ℕ) → ℕ → ℕ → List ℕ → Result (Unit {0}) ℕ → Type 0
-WriteEnds old new before after text (Ok done) = Appends old new text
-WriteEnds old new before after text (Err n) = Appends old new (take n text) × (n ≤ length text) × HasFailed before after

@@ -1,10 +1,10 @@
-//! Reading all there is, and writing a whole text.
+//! Reading all there is.
 ghost use Rattle.std.specs.Prelude.{◌<◌, length};
-ghost use Rattle.scl_cl.specs.Transfers.{ReadEnds, WriteEnds};
+ghost use Rattle.scl_cl.specs.Transfers.{ReadEnds};
 
 use scl_args::Counted;
 use std::alloc::{AllocError, Global};
-use std::io::{Read, Write};
+use std::io::Read;
 
 /// How many reads are made at most.
 const READS: u64 = 1 << 40;
@@ -61,23 +61,4 @@ pub fn read_all<R: Read>(alloc: Global, reader: &mut Counted<R>) -> Result<Vec<u
 {
     let mut block = vec![in alloc; 0u8; BLOCK]?;
     read_blocks(alloc, reader, &mut block)
-}
-
-/// Writes a whole text, or tells how much of it went out.
-pub fn write_whole<W: Write>(writer: &mut Counted<W>, text: &[u8]) -> Result<(), u64>
-    ensures { WriteEnds (W.contents writer.old.device) (W.contents writer.new.device) writer.old.failed writer.new.failed text.now result }
-{
-    let mut written = 0;
-    while written < text.len() {
-        let (_, rest) = text.split_at(written);
-        let taken = match writer.write(rest) {
-            Ok(taken) => taken,
-            Err(_) => return Err(written as u64),
-        };
-        if taken == 0 {
-            return Err(written as u64);
-        }
-        written += taken;
-    }
-    Ok(())
 }

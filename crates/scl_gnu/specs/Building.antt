@@ -22,8 +22,14 @@ dash_words false = []
 abbrev pub front_words : Option (List ℕ) → List ℕ → Parsed → List (List ℕ)
 front_words text object p = language_words text ++ p.compilation_flag ∷ codes "-o" ∷ object ∷ []
 
+abbrev pub lists_in_order : (preprocessor dependency unhashed common arch : List (List ℕ)) → List (List ℕ)
+lists_in_order preprocessor dependency unhashed common arch = preprocessor ++ dependency ++ unhashed ++ common ++ arch
+
 abbrev pub list_words : Parsed → List (List ℕ)
-list_words p = p.preprocessor_args ++ p.dependency_args ++ p.unhashed_args ++ p.common_args ++ p.arch_args
+list_words p = lists_in_order p.preprocessor_args p.dependency_args p.unhashed_args p.common_args p.arch_args
+
+abbrev pub input_words : Parsed → List (List ℕ)
+input_words p = dash_words p.double_dash_input ++ p.input ∷ []
 
 abbrev pub back_words : Parsed → List (List ℕ)
 back_words p = color_words p.color_mode ++ dash_words p.double_dash_input ++ p.input ∷ []

@@ -9,7 +9,11 @@ pub mod Hashes
 pub mod Inners
 pub mod Kinds
 pub mod NoFiles
+pub mod ListsOf
+pub mod OutputFiles
+pub mod Passes
 pub mod Places
+pub mod Preprocess
 pub mod ReadAgain
 pub mod Readings
 pub mod Recordings

@@ -2,6 +2,7 @@
 
 mod args;
 mod compiler;
+mod preprocess;
 mod tables;
 mod version;
 

@@ -7,6 +7,8 @@ ghost use Rattle.scl_gnu.specs.Again.{carried, carried_inner};
 ghost use Rattle.scl_gnu.specs.ClangRows.{clang_tables};
 ghost use Rattle.scl_gnu.specs.GccRows.{gcc_rows};
 ghost use Rattle.scl_gnu.specs.NoFiles.{GccCommandsNameNoFile, ClangCommandsNameNoFile};
+ghost use Rattle.scl_gnu.specs.OutputFiles.{OutputFilesAreLeftOut};
+ghost use Rattle.scl_gnu.specs.Preprocess.{OneArchitectureHasOneRun, EachArchitectureHasItsRun};
 ghost use Rattle.scl_gnu.specs.ReadAgain.{GccCommandsAreReadAgain, ClangCommandsAreReadAgain};
 
 /// Gcc's table passes both checks for the kinds that lists carry (docs/RULES.md, Cutting again).
@@ -52,4 +54,21 @@ pub fn gcc_commands_name_no_file()
 /// or inner, and not the object does (docs/RULES.md, Words that name response files).
 pub fn clang_commands_name_no_file()
     ensures { ClangCommandsNameNoFile }
+{}
+
+/// What is left of words without those that make the preprocessor write a file is what the rule leaves, and nothing else
+/// is; the words stand in their order (docs/RULES.md, Preprocessing).
+pub fn output_files_are_left_out()
+    ensures { OutputFilesAreLeftOut }
+{}
+
+/// A record of one architecture, or of none, has one run of the preprocessor (docs/RULES.md, Preprocessing).
+pub fn one_architecture_has_one_run()
+    ensures { OneArchitectureHasOneRun }
+{}
+
+/// The runs of several architectures differ in the words of their architecture, and in what the last one alone has
+/// (docs/RULES.md, Preprocessing).
+pub fn each_architecture_has_its_run()
+    ensures { EachArchitectureHasItsRun }
 {}

@@ -1,4 +1,5 @@
 pub mod CheckLaws
+pub mod DepfileLemmas
 pub mod EnvironmentLemmas
 pub mod InputLaws
 pub mod KeptLaws

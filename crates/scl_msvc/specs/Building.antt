@@ -10,8 +10,11 @@ use Rattle.scl_text.specs.Paths.{join}
 use Rattle.scl_text.specs.Records.{Parsed}
 use Rattle.scl_text.specs.Views.{Viewed, exists}
 
+abbrev pub lists_with : (unhashed : List (List ℕ)) → Parsed → List (List ℕ)
+lists_with unhashed p = p.preprocessor_args ++ p.dependency_args ++ unhashed ++ p.common_args
+
 abbrev pub list_words : Parsed → List (List ℕ)
-list_words p = p.preprocessor_args ++ p.dependency_args ++ p.unhashed_args ++ p.common_args
+list_words p = lists_with p.unhashed_args p
 
 abbrev pub dash_words : Bool → List (List ℕ)
 dash_words true = codes "--" ∷ []
@@ -26,6 +29,9 @@ language_flag _ = []
 -- the input, together with the flag of its language where a flag said that
 abbrev pub input_word : Parsed → List ℕ
 input_word p = if p.msvc_explicit_language then language_flag p.language ++ p.input else p.input
+
+abbrev pub input_words : Parsed → List (List ℕ)
+input_words p = dash_words p.double_dash_input ++ input_word p ∷ []
 
 -- with this object
 abbrev pub command_words : Parsed → List ℕ → List (List ℕ)

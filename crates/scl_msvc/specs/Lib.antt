@@ -1,6 +1,7 @@
 pub mod Again
 pub mod Building
 pub mod Data
+pub mod Depfile
 pub mod Environment
 pub mod FixedTests
 pub mod FoundBy
@@ -12,6 +13,7 @@ pub mod NoFiles
 pub mod Places
 pub mod Promises
 pub mod ReadAgain
+pub mod Preprocess
 pub mod Readings
 pub mod Recordings
 pub mod Rows

@@ -1,11 +1,32 @@
 -- The compile command of Diab and TaskingVX.
-use Rattle.std.specs.Prelude.{ℕ, List, [], ◌∷◌, ◌++◌, Option, codes}
+use Rattle.std.specs.Prelude.{ℕ, List, [], ◌∷◌, ◌++◌, Option, None, Some, codes}
 use Rattle.scl_text.specs.Commands.{command_by}
 use Rattle.scl_text.specs.Records.{Parsed}
 
 -- the words of a record with this object file
 abbrev pub command_words : Parsed → List ℕ → List (List ℕ)
 command_words p object = (p.compilation_flag ∷ p.input ∷ codes "-o" ∷ object ∷ []) ++ p.preprocessor_args ++ p.unhashed_args ++ p.common_args
+
+-- ---- the runs of the preprocessor
+
+-- Diab's run
+abbrev pub diab_words : Parsed → List (List ℕ)
+diab_words p = (codes "-E" ∷ p.input ∷ []) ++ p.dependency_args ++ p.preprocessor_args ++ p.common_args
+
+abbrev pub diab_passes : Parsed → List (List (List ℕ))
+diab_passes p = diab_words p ∷ []
+
+-- what both runs of TaskingVX end with
+abbrev pub input_words : Parsed → List (List ℕ)
+input_words p = p.input ∷ [] ++ p.preprocessor_args ++ p.common_args
+
+-- the run that writes the dependency file, if the record has one
+abbrev pub depfile_passes : Option (List ℕ) → Parsed → List (List (List ℕ))
+depfile_passes None p = []
+depfile_passes (Some depfile) p = ((codes "-Em" ∷ codes "-o" ∷ depfile ∷ []) ++ input_words p) ∷ []
+
+abbrev pub tasking_passes : Parsed → List (List (List ℕ))
+tasking_passes p = depfile_passes p.depfile p ++ ((codes "-E" ∷ []) ++ input_words p) ∷ []
 
 -- the words of a record, none where it has no object file
 abbrev pub command : Parsed → Option (List (List ℕ))

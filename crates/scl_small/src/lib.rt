@@ -6,6 +6,7 @@ pub mod diab;
 mod finish;
 pub mod laws;
 mod place;
+mod preprocess;
 mod reading;
 mod rules;
 pub mod tasking_vx;

@@ -8,9 +8,13 @@ mod args;
 #[cfg(test)]
 mod cl;
 #[cfg(test)]
+mod depfile;
+#[cfg(test)]
 mod gnu;
 #[cfg(test)]
 mod msvc;
+#[cfg(test)]
+mod preprocess;
 #[cfg(test)]
 mod small;
 #[cfg(test)]

@@ -16,6 +16,7 @@ pub mod Reasons
 pub mod Records
 pub mod Refusals
 pub mod ResponseFiles
+pub mod Runs
 pub mod Views
 pub use Rattle.scl_args.specs.Words
 pub mod WordsToCome

@@ -9,8 +9,8 @@ use std::alloc::Global;
 
 /// A compiler whose command lines are read and built. The ghost members are its own definitions:
 /// the outcome of a command line, the words of the command that makes a record's object, the environment that the command gets, whether its outcome may be kept,
-/// and what it is for the words of a command to be read again, given the command line (words, directory, environment, view), its record and those words
-/// (docs/RULES.md, Compilers).
+/// what it is for the words of a command to be read again, given the command line (words, directory, environment, view), its record and those words,
+/// and the runs of the preprocessor (docs/RULES.md, Compilers).
 pub trait CCompilerImpl {
     ghost use Rattle.std.specs.Prelude.{◌≡◌, ◌↔◌, ℕ, Bool, List, Option, None, Result, Ok, IfOk};
     ghost use Rattle.std.specs.Option.{option_map};
@@ -20,6 +20,7 @@ pub trait CCompilerImpl {
     ghost use Rattle.scl_text.specs.Commands.{pairs_of, object_of, command_by};
     ghost use Rattle.scl_text.specs.Compilers.{IsAnswer, IfCommand};
     ghost use Rattle.scl_text.specs.Records.{Parsed, Verdict, parsed_of, outcome_of};
+    ghost use Rattle.scl_text.specs.Runs.{runs_of};
     ghost use Rattle.scl_text.specs.declared.records.CCompilerKind.{CCompilerKind};
     ghost use Rattle.scl_text.specs.declared.records.Cacheable.{Cacheable};
 
@@ -40,6 +41,8 @@ pub trait CCompilerImpl {
     ghost cacheable: { Self → Parsed → List ℕ → Viewed → Cacheable };
 
     ghost is_read_again: { Self → List (List ℕ) → List ℕ → List (List ℕ × List ℕ) → Viewed → Parsed → List (List ℕ) → Type 0 };
+
+    ghost passes: { Self → (may_dist rewrites cache_mode : Bool) → Parsed → List (List (List ℕ)) };
 
     /// Which compiler it is (docs/RULES.md, Compilers).
     fn kind(&self) -> CCompilerKind
@@ -85,4 +88,16 @@ pub trait CCompilerImpl {
     /// A copy of the assembler's digest, if it is known (docs/RULES.md, Compilers).
     fn assembler_digest(&self, alloc: Global) -> Mem<Option<String>>
         ensures { IfOk result (λ digest. option_map string_bytes digest ≡ digest_of self.now) };
+
+    /// The words of the runs of the preprocessor for a record, in order: for a distant compiler or not, with macros left in
+    /// place where that is asked, for a cache of preprocessor runs or not (docs/RULES.md, Preprocessing).
+    fn preprocess_passes(
+        &self,
+        alloc: Global,
+        parsed: &ParsedArguments,
+        may_dist: bool,
+        rewrite_includes_only: bool,
+        cache_mode: bool,
+    ) -> Mem<Vec<Vec<Vec<u8>>>>
+        ensures { IfOk result (λ runs. runs_of runs.items ≡ passes self.now may_dist rewrite_includes_only cache_mode (parsed_of parsed.now)) };
 }

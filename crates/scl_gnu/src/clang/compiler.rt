@@ -5,6 +5,7 @@ ghost use Rattle.std.specs.String.{string_bytes};
 ghost use Rattle.scl_text.specs.Languages.{clang_text};
 ghost use Rattle.scl_gnu.specs.Versions.{is_minversion};
 
+use super::preprocess::clang_passes;
 use super::tables::BothTables;
 use super::version::names_at_least;
 use crate::copied::copied_text;
@@ -74,6 +75,7 @@ impl CCompilerImpl for Clang {
     ghost use Rattle.scl_text.specs.Languages.{clang_text};
     ghost use Rattle.scl_gnu.specs.Building.{command_words};
     ghost use Rattle.scl_gnu.specs.ClangRows.{clang_tables};
+    ghost use Rattle.scl_gnu.specs.Preprocess.{clang_passes};
     ghost use Rattle.scl_gnu.specs.ReadAgain.{ClangReadsAgain};
     ghost use Rattle.scl_gnu.specs.Readings.{reading};
 
@@ -94,6 +96,8 @@ impl CCompilerImpl for Clang {
     ghost cacheable = { λ _ parsed directory view. cacheables.Yes };
 
     ghost is_read_again = { λ _ words directory env_vars view. ClangReadsAgain directory view words };
+
+    ghost passes = { λ clang. clang_passes clang.is_appleclang (option_map string_bytes clang.version) };
 
     fn kind(&self) -> CCompilerKind {
         CCompilerKind::Clang
@@ -149,5 +153,23 @@ impl CCompilerImpl for Clang {
 
     fn assembler_digest(&self, alloc: Global) -> Mem<Option<String>> {
         copied_text(alloc, &self.assembler_digest)
+    }
+
+    fn preprocess_passes(
+        &self,
+        alloc: Global,
+        parsed: &ParsedArguments,
+        may_dist: bool,
+        rewrite_includes_only: bool,
+        cache_mode: bool,
+    ) -> Mem<Vec<Vec<Vec<u8>>>> {
+        clang_passes(
+            alloc,
+            self,
+            parsed,
+            may_dist,
+            rewrite_includes_only,
+            cache_mode,
+        )
     }
 }

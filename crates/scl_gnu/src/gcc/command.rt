@@ -6,10 +6,11 @@ ghost use Rattle.scl_text.specs.Compilers.{IsAnswer};
 ghost use Rattle.scl_text.specs.Languages.{gcc_text};
 ghost use Rattle.scl_text.specs.Records.{parsed_of};
 ghost use Rattle.scl_args.specs.Words.{words_of};
-ghost use Rattle.scl_gnu.specs.Building.{front_words, list_words, color_words, dash_words, back_words, command};
+ghost use Rattle.scl_gnu.specs.Building.{front_words, color_words, back_words, command};
 
+use super::words::{Lists, push_input, push_language, push_lists};
 use scl_args::Mem;
-use scl_text::command::{CommandWords, compile_command, push_word, push_words};
+use scl_text::command::{CommandWords, compile_command, push_word};
 use scl_text::language::Language;
 use scl_text::records::{
     CCompilerKind, Cacheable, ColorMode, CommandError, ParsedArguments, SingleCompileCommand,
@@ -34,24 +35,11 @@ fn front_words(
     ensures { IfOk result (λ words. words_of words.items ≡ front_words (option_copied text.entry) object.now (parsed_of parsed.now)) }
 {
     let mut words = Vec::new(alloc);
-    if let Some(text) = text {
-        push_word(alloc, &mut words, b"-x")?;
-        push_word(alloc, &mut words, text.as_bytes())?;
-    }
+    push_language(alloc, &mut words, text)?;
     push_word(alloc, &mut words, &parsed.compilation_flag)?;
     push_word(alloc, &mut words, b"-o")?;
     push_word(alloc, &mut words, object)?;
     Ok(words)
-}
-
-fn push_lists(alloc: Global, words: &mut Vec<Vec<u8>>, parsed: &ParsedArguments) -> Mem<()>
-    ensures { OnOk result (words_of words.new.items ≡ words_of words.old.items ++ list_words (parsed_of parsed.now)) }
-{
-    push_words(alloc, words, &parsed.preprocessor_args)?;
-    push_words(alloc, words, &parsed.dependency_args)?;
-    push_words(alloc, words, &parsed.unhashed_args)?;
-    push_words(alloc, words, &parsed.common_args)?;
-    push_words(alloc, words, &parsed.arch_args)
 }
 
 fn push_color(alloc: Global, words: &mut Vec<Vec<u8>>, mode: ColorMode) -> Mem<()>
@@ -65,21 +53,11 @@ fn push_color(alloc: Global, words: &mut Vec<Vec<u8>>, mode: ColorMode) -> Mem<(
     }
 }
 
-fn push_dashes(alloc: Global, words: &mut Vec<Vec<u8>>, is_behind_dashes: bool) -> Mem<()>
-    ensures { OnOk result (words_of words.new.items ≡ words_of words.old.items ++ dash_words is_behind_dashes) }
-{
-    if is_behind_dashes {
-        push_word(alloc, words, b"--")?;
-    }
-    Ok(())
-}
-
 fn push_back_words(alloc: Global, words: &mut Vec<Vec<u8>>, parsed: &ParsedArguments) -> Mem<()>
     ensures { OnOk result (words_of words.new.items ≡ words_of words.old.items ++ back_words (parsed_of parsed.now)) }
 {
     push_color(alloc, words, parsed.color_mode)?;
-    push_dashes(alloc, words, parsed.double_dash_input)?;
-    push_word(alloc, words, &parsed.input)
+    push_input(alloc, words, parsed)
 }
 
 /// The compile command with this text for the language.
@@ -94,7 +72,7 @@ impl<'a> CommandWords for Command<'a> {
 
     fn words(&self, alloc: Global, parsed: &ParsedArguments, object: &[u8]) -> Mem<Vec<Vec<u8>>> {
         let mut words = front_words(alloc, self.0, object, parsed)?;
-        push_lists(alloc, &mut words, parsed)?;
+        push_lists(alloc, &mut words, Lists::of_command(parsed))?;
         push_back_words(alloc, &mut words, parsed)?;
         Ok(words)
     }

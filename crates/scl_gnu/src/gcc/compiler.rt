@@ -4,6 +4,7 @@ ghost use Rattle.std.specs.Prelude.{◌≡◌, None};
 use super::args::table;
 use super::command::{generate_compile_commands, language_to_gcc_arg};
 use super::parse::parse_arguments;
+use super::preprocess::gcc_passes;
 use crate::copied::copied_text;
 use scl_args::Mem;
 use scl_text::CCompilerImpl;
@@ -46,6 +47,7 @@ impl CCompilerImpl for Gcc {
     ghost use Rattle.scl_text.specs.Languages.{gcc_text};
     ghost use Rattle.scl_gnu.specs.Building.{command_words};
     ghost use Rattle.scl_gnu.specs.GccRows.{gcc_rows};
+    ghost use Rattle.scl_gnu.specs.Preprocess.{gcc_passes};
     ghost use Rattle.scl_gnu.specs.ReadAgain.{GccReadsAgain};
     ghost use Rattle.scl_gnu.specs.Readings.{reading};
 
@@ -66,6 +68,8 @@ impl CCompilerImpl for Gcc {
     ghost cacheable = { λ _ parsed directory view. cacheables.Yes };
 
     ghost is_read_again = { λ _ words directory env_vars view. GccReadsAgain directory view words };
+
+    ghost passes = { λ _. gcc_passes };
 
     fn kind(&self) -> CCompilerKind {
         CCompilerKind::Gcc
@@ -121,5 +125,16 @@ impl CCompilerImpl for Gcc {
 
     fn assembler_digest(&self, alloc: Global) -> Mem<Option<String>> {
         copied_text(alloc, &self.assembler_digest)
+    }
+
+    fn preprocess_passes(
+        &self,
+        alloc: Global,
+        parsed: &ParsedArguments,
+        may_dist: bool,
+        rewrite_includes_only: bool,
+        cache_mode: bool,
+    ) -> Mem<Vec<Vec<Vec<u8>>>> {
+        gcc_passes(alloc, parsed, may_dist, rewrite_includes_only, cache_mode)
     }
 }

@@ -1,61 +1,20 @@
 //! The builder of Msvc's compile commands.
-ghost use Rattle.std.specs.Prelude.{◌≡◌, ◌++◌, ◌↔◌, IfOk, OnOk, Err, None, codes};
-ghost use Rattle.scl_args.specs.Words.{words_of};
+ghost use Rattle.std.specs.Prelude.{◌≡◌, ◌++◌, ◌↔◌, IfOk, Err, None, codes};
 ghost use Rattle.scl_text.specs.Commands.{pairs_of, object_of};
 ghost use Rattle.scl_text.specs.Compilers.{IsAnswer};
 ghost use Rattle.scl_text.specs.Records.{parsed_of};
-ghost use Rattle.scl_msvc.specs.Building.{list_words, dash_words, language_flag, input_word, command, cacheable};
+ghost use Rattle.scl_msvc.specs.Building.{command, cacheable};
 ghost use Rattle.scl_msvc.specs.Environment.{without_cl_env_vars};
 
 use super::environment::without_cl_env_vars;
+use super::words::{push_input, push_lists};
 use scl_args::Mem;
-use scl_text::command::{CommandWords, compile_command, push_word, push_words};
-use scl_text::language::Language;
+use scl_text::command::{CommandWords, compile_command, push_word};
 use scl_text::outputs::output_path;
 use scl_text::path::join;
 use scl_text::records::{Cacheable, CommandError, ParsedArguments, SingleCompileCommand};
 use scl_text::view::View;
 use std::alloc::Global;
-
-fn push_lists(alloc: Global, words: &mut Vec<Vec<u8>>, parsed: &ParsedArguments) -> Mem<()>
-    ensures { OnOk result (words_of words.new.items ≡ words_of words.old.items ++ list_words (parsed_of parsed.now)) }
-{
-    push_words(alloc, words, &parsed.preprocessor_args)?;
-    push_words(alloc, words, &parsed.dependency_args)?;
-    push_words(alloc, words, &parsed.unhashed_args)?;
-    push_words(alloc, words, &parsed.common_args)
-}
-
-fn push_dashes(alloc: Global, words: &mut Vec<Vec<u8>>, is_behind_dashes: bool) -> Mem<()>
-    ensures { OnOk result (words_of words.new.items ≡ words_of words.old.items ++ dash_words is_behind_dashes) }
-{
-    if is_behind_dashes {
-        push_word(alloc, words, b"--")?;
-    }
-    Ok(())
-}
-
-/// The flag that says that an input has the language.
-fn language_flag(language: Language) -> &'static [u8]
-    ensures { result.now ≡ language_flag language }
-{
-    match language {
-        Language::C => b"-Tc",
-        Language::Cxx => b"-Tp",
-        _ => b"",
-    }
-}
-
-fn input_word(alloc: Global, parsed: &ParsedArguments) -> Mem<Vec<u8>>
-    ensures { IfOk result (λ word. word.items ≡ input_word (parsed_of parsed.now)) }
-{
-    if !parsed.msvc_explicit_language {
-        return Vec::from_slice(alloc, &parsed.input);
-    }
-    let mut word = Vec::from_slice(alloc, language_flag(parsed.language))?;
-    word.extend_from_slice(&parsed.input)?;
-    Ok(word)
-}
 
 fn object_word(alloc: Global, object: &[u8]) -> Mem<Vec<u8>>
     ensures { IfOk result (λ word. word.items ≡ codes "-Fo" ++ object.now) }
@@ -77,9 +36,8 @@ impl CommandWords for Command {
         let mut words = Vec::new(alloc);
         push_word(alloc, &mut words, &parsed.compilation_flag)?;
         words.push(object_word(alloc, object)?)?;
-        push_lists(alloc, &mut words, parsed)?;
-        push_dashes(alloc, &mut words, parsed.double_dash_input)?;
-        words.push(input_word(alloc, parsed)?)?;
+        push_lists(alloc, &mut words, parsed, &parsed.unhashed_args)?;
+        push_input(alloc, &mut words, parsed)?;
         Ok(words)
     }
 }

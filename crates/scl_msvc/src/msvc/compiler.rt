@@ -8,6 +8,7 @@ ghost use Rattle.scl_msvc.specs.Readings.{reading_within};
 use super::command::generate_compile_commands;
 use super::environment::surrounded;
 use super::parse::parse_arguments;
+use super::preprocess::passes;
 use scl_args::Mem;
 use scl_text::CCompilerImpl;
 use scl_text::records::{
@@ -65,6 +66,7 @@ impl CCompilerImpl for Msvc {
     ghost use Rattle.scl_text.specs.declared.records.CCompilerKind.TheVariants as compilers;
     ghost use Rattle.scl_msvc.specs.Building.{command_words, cacheable};
     ghost use Rattle.scl_msvc.specs.Environment.{without_cl_env_vars};
+    ghost use Rattle.scl_msvc.specs.Preprocess.{passes};
     ghost use Rattle.scl_msvc.specs.Promises.{MsvcReadsAgain};
     ghost use Rattle.scl_msvc.specs.Readings.{reading_within};
 
@@ -85,6 +87,8 @@ impl CCompilerImpl for Msvc {
     ghost cacheable = { λ _. cacheable };
 
     ghost is_read_again = { λ msvc words directory env_vars view. MsvcReadsAgain msvc.is_clang directory env_vars view words };
+
+    ghost passes = { λ msvc may_dist rewrites _. passes msvc.is_clang may_dist rewrites };
 
     fn kind(&self) -> CCompilerKind {
         CCompilerKind::Msvc
@@ -126,5 +130,22 @@ impl CCompilerImpl for Msvc {
 
     fn assembler_digest(&self, _alloc: Global) -> Mem<Option<String>> {
         Ok(None)
+    }
+
+    fn preprocess_passes(
+        &self,
+        alloc: Global,
+        parsed: &ParsedArguments,
+        may_dist: bool,
+        rewrite_includes_only: bool,
+        _cache_mode: bool,
+    ) -> Mem<Vec<Vec<Vec<u8>>>> {
+        passes(
+            alloc,
+            parsed,
+            self.is_clang,
+            may_dist,
+            rewrite_includes_only,
+        )
     }
 }

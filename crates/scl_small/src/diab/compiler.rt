@@ -2,6 +2,7 @@ ghost use Rattle.std.specs.Prelude.{◌≡◌, None};
 
 use super::args::table;
 use super::{generate_compile_commands, parse_arguments};
+use crate::preprocess::diab_passes;
 use scl_text::records::{
     CCompilerKind, Cacheable, CommandError, CompilerArguments, ParsedArguments,
     SingleCompileCommand,
@@ -32,7 +33,7 @@ impl CCompilerImpl for Diab {
     ghost use Rattle.scl_small.specs.DiabAgain.{DiabReadsAgain};
     ghost use Rattle.scl_small.specs.DiabTable.{rows};
     ghost use Rattle.scl_small.specs.DiabReading.{expanded_reading};
-    ghost use Rattle.scl_small.specs.Command.{command_words};
+    ghost use Rattle.scl_small.specs.Command.{command_words, diab_passes};
     ghost use Rattle.scl_text.specs.declared.records.CCompilerKind.TheVariants as kinds;
     ghost use Rattle.scl_text.specs.declared.records.Cacheable.TheVariants as answers;
 
@@ -53,6 +54,8 @@ impl CCompilerImpl for Diab {
     ghost cacheable = { λ _ parsed cwd view. answers.Yes };
 
     ghost is_read_again = { λ _ words cwd env_vars view. DiabReadsAgain cwd view.files words };
+
+    ghost passes = { λ _ may_dist rewrites cache_mode. diab_passes };
 
     fn kind(&self) -> CCompilerKind {
         CCompilerKind::Diab
@@ -94,5 +97,16 @@ impl CCompilerImpl for Diab {
 
     fn assembler_digest(&self, _alloc: Global) -> Mem<Option<String>> {
         Ok(None)
+    }
+
+    fn preprocess_passes(
+        &self,
+        alloc: Global,
+        parsed: &ParsedArguments,
+        _may_dist: bool,
+        _rewrite_includes_only: bool,
+        _cache_mode: bool,
+    ) -> Mem<Vec<Vec<Vec<u8>>>> {
+        diab_passes(alloc, parsed)
     }
 }

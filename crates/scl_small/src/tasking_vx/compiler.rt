@@ -1,5 +1,6 @@
 use super::args::table;
 use super::{generate_compile_commands, parse_arguments};
+use crate::preprocess::tasking_passes;
 use scl_text::records::{
     CCompilerKind, Cacheable, CommandError, CompilerArguments, ParsedArguments,
     SingleCompileCommand,
@@ -17,7 +18,7 @@ impl CCompilerImpl for TaskingVX {
     ghost use Rattle.scl_small.specs.TaskingAgain.{TaskingReadsAgain};
     ghost use Rattle.scl_small.specs.TaskingTable.{rows};
     ghost use Rattle.scl_small.specs.TaskingReading.{reading};
-    ghost use Rattle.scl_small.specs.Command.{command_words};
+    ghost use Rattle.scl_small.specs.Command.{command_words, tasking_passes};
     ghost use Rattle.scl_text.specs.declared.records.CCompilerKind.TheVariants as kinds;
     ghost use Rattle.scl_text.specs.declared.records.Cacheable.TheVariants as answers;
 
@@ -38,6 +39,8 @@ impl CCompilerImpl for TaskingVX {
     ghost cacheable = { λ _ parsed cwd view. answers.Yes };
 
     ghost is_read_again = { λ _ words cwd env_vars view. TaskingReadsAgain words };
+
+    ghost passes = { λ _ may_dist rewrites cache_mode. tasking_passes };
 
     fn kind(&self) -> CCompilerKind {
         CCompilerKind::TaskingVX
@@ -76,5 +79,16 @@ impl CCompilerImpl for TaskingVX {
 
     fn assembler_digest(&self, _alloc: Global) -> Mem<Option<String>> {
         Ok(None)
+    }
+
+    fn preprocess_passes(
+        &self,
+        alloc: Global,
+        parsed: &ParsedArguments,
+        _may_dist: bool,
+        _rewrite_includes_only: bool,
+        _cache_mode: bool,
+    ) -> Mem<Vec<Vec<Vec<u8>>>> {
+        tasking_passes(alloc, parsed)
     }
 }

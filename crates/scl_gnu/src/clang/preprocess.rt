@@ -1,0 +1,62 @@
+//! The words of the runs of Clang's preprocessor.
+ghost use Rattle.std.specs.Prelude.{◌≡◌, IfOk};
+ghost use Rattle.std.specs.Option.{option_map};
+ghost use Rattle.std.specs.String.{string_bytes};
+ghost use Rattle.scl_args.specs.Words.{words_of};
+ghost use Rattle.scl_text.specs.Records.{parsed_of};
+ghost use Rattle.scl_text.specs.Runs.{runs_of};
+ghost use Rattle.scl_gnu.specs.Preprocess.{is_preprocessed_assembler, clang_flags, clang_passes};
+
+use super::compiler::{Clang, language_to_clang_arg};
+use crate::gcc;
+use scl_args::Mem;
+use scl_text::command::push_word;
+use scl_text::language::Language;
+use scl_text::records::{CCompilerKind, ParsedArguments};
+use std::alloc::Global;
+
+fn is_preprocessed_assembler(language: Language) -> bool
+    ensures { result ≡ is_preprocessed_assembler language }
+{
+    matches!(language, Language::AssemblerToPreprocess)
+}
+
+/// The flags that leave out what may be ignored: lines, and white space where clang is new enough and the language is not
+/// assembler.
+fn ignorable_flags(
+    alloc: Global,
+    clang: &Clang,
+    language: Language,
+    cache_mode: bool,
+) -> Mem<Vec<Vec<u8>>>
+    ensures { IfOk result (λ made. words_of made.items ≡ clang_flags clang.now.is_appleclang (option_map string_bytes clang.now.version) language cache_mode) }
+{
+    let mut flags = gcc::line_flags(alloc, cache_mode)?;
+    if clang.is_minversion(alloc, 14)? && !is_preprocessed_assembler(language) {
+        push_word(alloc, &mut flags, b"-fminimize-whitespace")?;
+    }
+    Ok(flags)
+}
+
+/// The words of the runs, in order.
+pub(super) fn clang_passes(
+    alloc: Global,
+    clang: &Clang,
+    parsed: &ParsedArguments,
+    may_dist: bool,
+    rewrite_includes_only: bool,
+    cache_mode: bool,
+) -> Mem<Vec<Vec<Vec<u8>>>>
+    ensures { IfOk result (λ runs. runs_of runs.items ≡ clang_passes clang.now.is_appleclang (option_map string_bytes clang.now.version) may_dist rewrite_includes_only cache_mode (parsed_of parsed.now)) }
+{
+    let ignorable = ignorable_flags(alloc, clang, parsed.language, cache_mode)?;
+    gcc::preprocess_passes(
+        alloc,
+        parsed,
+        may_dist,
+        CCompilerKind::Clang,
+        rewrite_includes_only,
+        &ignorable,
+        language_to_clang_arg,
+    )
+}

@@ -1,0 +1,150 @@
+//! Words that make the preprocessor write a file.
+ghost use Rattle.std.specs.Prelude.{◌≡◌, IfOk, drop};
+ghost use Rattle.std.specs.Str.{is_utf8};
+ghost use Rattle.scl_args.specs.Words.{words_of};
+ghost use Rattle.scl_gnu.specs.OutputFiles.{asks_for_rules, is_diagnostics, is_front, some_asks, has_value, hands_on_rules, value_words, flag_words, file_words, without_output_files};
+
+use scl_args::Mem;
+use scl_text::command::push_word;
+use std::alloc::Global;
+use std::str::from_utf8;
+
+/// The flag in front of a word for the preprocessor.
+const FRONT: &[u8] = b"-Xpreprocessor";
+
+/// The flag whose value is a file of diagnostics.
+const DIAGNOSTICS: &[u8] = b"--serialize-diagnostics";
+
+#[tactic(auto, using(crate::proofs::OutputFileLemmas::text_rules))]
+fn is_text(word: &[u8]) -> bool
+    ensures { result ≡ is_utf8 word.now }
+{
+    match from_utf8(word) {
+        Ok(_) => true,
+        Err(_) => false,
+    }
+}
+
+#[tactic(auto, unfolding(crate::specs::OutputFiles::asks_for_rules))]
+fn asks_for_rules(text: &[u8]) -> bool
+    ensures { result ≡ asks_for_rules text.now }
+{
+    text.starts_with(b"-M")
+}
+
+#[tactic(auto, unfolding(crate::specs::OutputFiles::has_value))]
+fn has_value(flag: &[u8]) -> bool
+    ensures { result ≡ has_value flag.now }
+{
+    matches!(flag, b"-MF" | b"-MT" | b"-MQ")
+}
+
+/// Whether one of the texts between commas asks for rules.
+fn some_asks(texts: &[u8]) -> bool
+    ensures { result ≡ some_asks texts.now }
+{
+    texts
+        .split(|byte| *byte == b',')
+        .any(|text| asks_for_rules(text))
+}
+
+#[tactic(auto, unfolding(crate::specs::OutputFiles::hands_on_rules))]
+fn hands_on_rules(word: &[u8]) -> bool
+    ensures { result ≡ hands_on_rules word.now }
+{
+    if !is_text(word) {
+        return false;
+    }
+    match word.strip_prefix(b"-Wp,") {
+        Some(texts) => some_asks(texts),
+        None => false,
+    }
+}
+
+#[tactic(auto, unfolding(crate::specs::OutputFiles::is_front))]
+fn is_front(word: &[u8]) -> bool
+    ensures { result ≡ is_front word.now }
+{
+    word == FRONT
+}
+
+#[tactic(auto, unfolding(crate::specs::OutputFiles::is_diagnostics))]
+fn is_diagnostics(word: &[u8]) -> bool
+    ensures { result ≡ is_diagnostics word.now }
+{
+    word == DIAGNOSTICS
+}
+
+fn value_words(flag: &[u8], words: &[Vec<u8>]) -> usize
+    ensures { result ≡ value_words flag.now (words_of words.now) }
+{
+    let [word, ..] = words else {
+        return 0;
+    };
+    if has_value(flag) && is_front(word) {
+        2
+    } else {
+        0
+    }
+}
+
+fn flag_words(words: &[Vec<u8>]) -> usize
+    ensures { result ≡ flag_words (words_of words.now) }
+{
+    let [flag, rest @ ..] = words else {
+        return 0;
+    };
+    if is_text(flag) && asks_for_rules(flag) {
+        2 + value_words(flag, rest)
+    } else {
+        0
+    }
+}
+
+/// How many words at the front make the preprocessor write one file.
+#[tactic(auto, unfolding(crate::specs::OutputFiles::file_words))]
+fn file_words(words: &[Vec<u8>]) -> usize
+    ensures { result ≡ file_words (words_of words.now) }
+{
+    let [word, rest @ ..] = words else {
+        return 0;
+    };
+    if is_diagnostics(word) {
+        return 2;
+    }
+    if is_front(word) {
+        return flag_words(rest);
+    }
+    if hands_on_rules(word) { 1 } else { 0 }
+}
+
+/// The words behind so many of these.
+fn behind(words: &[Vec<u8>], count: usize) -> &[Vec<u8>]
+    ensures { result.now ≡ drop count words.now }
+{
+    if count < words.len() {
+        &words[count..]
+    } else {
+        &[]
+    }
+}
+
+/// The words without those that make the preprocessor write a file, as they stand for the preprocessor or among the common
+/// words (docs/RULES.md, Preprocessing). It fails only for want of memory.
+#[tactic(auto, using(crate::proofs::OutputFileLemmas::left_first))]
+pub fn without_output_files(alloc: Global, words: &[Vec<u8>]) -> Mem<Vec<Vec<u8>>>
+    ensures { IfOk result (λ kept. words_of kept.items ≡ without_output_files (words_of words.now)) }
+{
+    let mut kept = Vec::new(alloc);
+    let mut rest = words;
+    while let [word, ..] = rest {
+        let dropped = file_words(rest);
+        if dropped == 0 {
+            push_word(alloc, &mut kept, word)?;
+            rest = behind(rest, 1);
+        } else {
+            rest = behind(rest, dropped);
+        }
+    }
+    Ok(kept)
+}

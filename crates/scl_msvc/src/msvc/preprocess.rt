@@ -1,0 +1,111 @@
+//! The words of the one run of Msvc's preprocessor.
+ghost use Rattle.std.specs.Prelude.{◌≡◌, ◌++◌, IfOk, OnOk};
+ghost use Rattle.scl_args.specs.Words.{words_of};
+ghost use Rattle.scl_text.specs.Records.{parsed_of};
+ghost use Rattle.scl_text.specs.Runs.{runs_of};
+ghost use Rattle.scl_msvc.specs.Preprocess.{first_word, shown_includes, written_includes, include_words, rewriting, preprocess_words, passes};
+
+use super::words::{push_input, push_lists};
+use scl_args::Mem;
+use scl_text::command::push_word;
+use scl_text::records::ParsedArguments;
+use std::alloc::Global;
+
+fn first_word(parsed: &ParsedArguments, may_dist: bool) -> &'static [u8]
+    ensures { result.now ≡ first_word may_dist (parsed_of parsed.now) }
+{
+    if may_dist || parsed.profile_generate {
+        b"-E"
+    } else {
+        b"-EP"
+    }
+}
+
+/// Puts the flag behind words by which clang names included files, where a dependency file is wanted and they are not
+/// named anyway.
+fn push_shown(alloc: Global, words: &mut Vec<Vec<u8>>, parsed: &ParsedArguments) -> Mem<()>
+    ensures { OnOk result (words_of words.new.items ≡ words_of words.old.items ++ shown_includes (parsed_of parsed.now).depfile parsed.now.msvc_show_includes) }
+{
+    if parsed.depfile.is_some() && !parsed.msvc_show_includes {
+        push_word(alloc, words, b"-showIncludes")?;
+    }
+    Ok(())
+}
+
+/// Puts the words behind others by which cl writes its own file of dependencies, if one is wanted.
+fn push_written(alloc: Global, words: &mut Vec<Vec<u8>>, parsed: &ParsedArguments) -> Mem<()>
+    ensures { OnOk result (words_of words.new.items ≡ words_of words.old.items ++ written_includes (parsed_of parsed.now).depfile) }
+{
+    if let Some(depfile) = &parsed.depfile {
+        push_word(alloc, words, b"/sourceDependencies")?;
+        push_word(alloc, words, depfile)?;
+    }
+    Ok(())
+}
+
+/// Puts the words behind others that ask for the names of included files.
+fn push_includes(
+    alloc: Global,
+    words: &mut Vec<Vec<u8>>,
+    parsed: &ParsedArguments,
+    is_clang: bool,
+) -> Mem<()>
+    ensures { OnOk result (words_of words.new.items ≡ words_of words.old.items ++ include_words is_clang (parsed_of parsed.now)) }
+{
+    if is_clang {
+        push_shown(alloc, words, parsed)
+    } else {
+        push_written(alloc, words, parsed)?;
+        push_word(alloc, words, b"/WX-")
+    }
+}
+
+/// Puts the flag behind words that leaves macros in place, if it is asked of clang.
+fn push_rewriting(
+    alloc: Global,
+    words: &mut Vec<Vec<u8>>,
+    is_clang: bool,
+    is_asked: bool,
+) -> Mem<()>
+    ensures { OnOk result (words_of words.new.items ≡ words_of words.old.items ++ rewriting is_clang is_asked) }
+{
+    if is_asked && is_clang {
+        push_word(alloc, words, b"-clang:-frewrite-includes")?;
+    }
+    Ok(())
+}
+
+fn preprocess_words(
+    alloc: Global,
+    parsed: &ParsedArguments,
+    is_clang: bool,
+    may_dist: bool,
+    rewrite_includes_only: bool,
+) -> Mem<Vec<Vec<u8>>>
+    ensures { IfOk result (λ made. words_of made.items ≡ preprocess_words is_clang may_dist rewrite_includes_only (parsed_of parsed.now)) }
+{
+    let mut words = Vec::new(alloc);
+    push_word(alloc, &mut words, first_word(parsed, may_dist))?;
+    push_word(alloc, &mut words, b"-nologo")?;
+    push_lists(alloc, &mut words, parsed, &[])?;
+    push_includes(alloc, &mut words, parsed, is_clang)?;
+    push_rewriting(alloc, &mut words, is_clang, rewrite_includes_only)?;
+    push_input(alloc, &mut words, parsed)?;
+    Ok(words)
+}
+
+/// The words of the one run.
+pub(super) fn passes(
+    alloc: Global,
+    parsed: &ParsedArguments,
+    is_clang: bool,
+    may_dist: bool,
+    rewrite_includes_only: bool,
+) -> Mem<Vec<Vec<Vec<u8>>>>
+    ensures { IfOk result (λ runs. runs_of runs.items ≡ passes is_clang may_dist rewrite_includes_only (parsed_of parsed.now)) }
+{
+    let words = preprocess_words(alloc, parsed, is_clang, may_dist, rewrite_includes_only)?;
+    let mut runs = Vec::new(alloc);
+    runs.push(words)?;
+    Ok(runs)
+}

@@ -1,0 +1,70 @@
+//! What compile commands and runs of the preprocessor share: the lists in their order, and the input.
+ghost use Rattle.std.specs.Prelude.{◌≡◌, ◌++◌, IfOk, OnOk};
+ghost use Rattle.scl_args.specs.Words.{words_of};
+ghost use Rattle.scl_text.specs.Records.{parsed_of};
+ghost use Rattle.scl_msvc.specs.Building.{lists_with, dash_words, language_flag, input_word, input_words};
+
+use scl_args::Mem;
+use scl_text::command::{push_word, push_words};
+use scl_text::language::Language;
+use scl_text::records::ParsedArguments;
+use std::alloc::Global;
+
+/// Puts the lists of a record behind words, in their order, with these for the words that do not change the outcome.
+pub(super) fn push_lists(
+    alloc: Global,
+    words: &mut Vec<Vec<u8>>,
+    parsed: &ParsedArguments,
+    unhashed: &[Vec<u8>],
+) -> Mem<()>
+    ensures { OnOk result (words_of words.new.items ≡ words_of words.old.items ++ lists_with (words_of unhashed.now) (parsed_of parsed.now)) }
+{
+    push_words(alloc, words, &parsed.preprocessor_args)?;
+    push_words(alloc, words, &parsed.dependency_args)?;
+    push_words(alloc, words, unhashed)?;
+    push_words(alloc, words, &parsed.common_args)
+}
+
+fn push_dashes(alloc: Global, words: &mut Vec<Vec<u8>>, is_behind_dashes: bool) -> Mem<()>
+    ensures { OnOk result (words_of words.new.items ≡ words_of words.old.items ++ dash_words is_behind_dashes) }
+{
+    if is_behind_dashes {
+        push_word(alloc, words, b"--")?;
+    }
+    Ok(())
+}
+
+/// The flag that says that an input has the language.
+fn language_flag(language: Language) -> &'static [u8]
+    ensures { result.now ≡ language_flag language }
+{
+    match language {
+        Language::C => b"-Tc",
+        Language::Cxx => b"-Tp",
+        _ => b"",
+    }
+}
+
+fn input_word(alloc: Global, parsed: &ParsedArguments) -> Mem<Vec<u8>>
+    ensures { IfOk result (λ word. word.items ≡ input_word (parsed_of parsed.now)) }
+{
+    if !parsed.msvc_explicit_language {
+        return Vec::from_slice(alloc, &parsed.input);
+    }
+    let mut word = Vec::from_slice(alloc, language_flag(parsed.language))?;
+    word.extend_from_slice(&parsed.input)?;
+    Ok(word)
+}
+
+/// Puts the input behind words, and `--` before it where it stands behind that.
+pub(super) fn push_input(
+    alloc: Global,
+    words: &mut Vec<Vec<u8>>,
+    parsed: &ParsedArguments,
+) -> Mem<()>
+    ensures { OnOk result (words_of words.new.items ≡ words_of words.old.items ++ input_words (parsed_of parsed.now)) }
+{
+    push_dashes(alloc, words, parsed.double_dash_input)?;
+    words.push(input_word(alloc, parsed)?)?;
+    Ok(())
+}

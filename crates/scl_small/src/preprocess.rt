@@ -1,0 +1,74 @@
+//! The words of the runs of the preprocessor.
+ghost use Rattle.std.specs.Prelude.{◌≡◌, ◌++◌, IfOk, OnOk};
+ghost use Rattle.scl_args.specs.Words.{words_of};
+ghost use Rattle.scl_text.specs.Records.{parsed_of};
+ghost use Rattle.scl_text.specs.Runs.{runs_of};
+ghost use Rattle.scl_small.specs.Command.{diab_words, diab_passes, input_words, depfile_passes, tasking_passes};
+
+use scl_text::Mem;
+use scl_text::command::{push_word, push_words};
+use scl_text::records::ParsedArguments;
+use std::alloc::Global;
+
+fn diab_words(alloc: Global, parsed: &ParsedArguments) -> Mem<Vec<Vec<u8>>>
+    ensures { IfOk result (λ made. words_of made.items ≡ diab_words (parsed_of parsed.now)) }
+{
+    let mut words = Vec::new(alloc);
+    push_word(alloc, &mut words, b"-E")?;
+    push_word(alloc, &mut words, &parsed.input)?;
+    push_words(alloc, &mut words, &parsed.dependency_args)?;
+    push_words(alloc, &mut words, &parsed.preprocessor_args)?;
+    push_words(alloc, &mut words, &parsed.common_args)?;
+    Ok(words)
+}
+
+/// The words of Diab's one run.
+pub(crate) fn diab_passes(alloc: Global, parsed: &ParsedArguments) -> Mem<Vec<Vec<Vec<u8>>>>
+    ensures { IfOk result (λ runs. runs_of runs.items ≡ diab_passes (parsed_of parsed.now)) }
+{
+    let mut runs = Vec::new(alloc);
+    runs.push(diab_words(alloc, parsed)?)?;
+    Ok(runs)
+}
+
+/// Puts the input and the lists behind words.
+fn push_input(alloc: Global, words: &mut Vec<Vec<u8>>, parsed: &ParsedArguments) -> Mem<()>
+    ensures { OnOk result (words_of words.new.items ≡ words_of words.old.items ++ input_words (parsed_of parsed.now)) }
+{
+    push_word(alloc, words, &parsed.input)?;
+    push_words(alloc, words, &parsed.preprocessor_args)?;
+    push_words(alloc, words, &parsed.common_args)
+}
+
+/// Puts the run behind others that writes the dependency file, if the record has one.
+fn push_depfile_run(
+    alloc: Global,
+    runs: &mut Vec<Vec<Vec<u8>>>,
+    parsed: &ParsedArguments,
+) -> Mem<()>
+    ensures { OnOk result (runs_of runs.new.items ≡ runs_of runs.old.items ++ depfile_passes (parsed_of parsed.now).depfile (parsed_of parsed.now)) }
+{
+    let Some(depfile) = &parsed.depfile else {
+        return Ok(());
+    };
+    let mut words = Vec::new(alloc);
+    push_word(alloc, &mut words, b"-Em")?;
+    push_word(alloc, &mut words, b"-o")?;
+    push_word(alloc, &mut words, depfile)?;
+    push_input(alloc, &mut words, parsed)?;
+    runs.push(words)?;
+    Ok(())
+}
+
+/// The words of TaskingVX's runs: that which writes the dependency file, if there is one, and the one that preprocesses.
+pub(crate) fn tasking_passes(alloc: Global, parsed: &ParsedArguments) -> Mem<Vec<Vec<Vec<u8>>>>
+    ensures { IfOk result (λ runs. runs_of runs.items ≡ tasking_passes (parsed_of parsed.now)) }
+{
+    let mut runs = Vec::new(alloc);
+    push_depfile_run(alloc, &mut runs, parsed)?;
+    let mut words = Vec::new(alloc);
+    push_word(alloc, &mut words, b"-E")?;
+    push_input(alloc, &mut words, parsed)?;
+    runs.push(words)?;
+    Ok(runs)
+}
