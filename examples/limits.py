@@ -125,6 +125,7 @@ SAYS = {
     62: (["x.o differs"], "`X` is not defined"),
     63: (["x.obj differs"], "`X` is defined"),
     64: ([], "nothing in files"),
+    65: (["status 0 -> 1", "a.obj given only"], "stops: `in` is no file"),
 }
 
 
