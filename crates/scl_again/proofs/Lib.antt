@@ -9,6 +9,7 @@ pub mod InputLaws
 pub mod ListLaws
 pub mod MarkLaws
 pub mod NextFlagLaws
+pub mod NoneLaws
 pub mod OriginLaws
 pub mod OtherValueLaws
 pub mod OutcomeLaws

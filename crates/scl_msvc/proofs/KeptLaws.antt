@@ -26,7 +26,7 @@ use Rattle.scl_msvc.specs.Rows.{msvc_tables}
 
 -- ---- places
 
-same-list : (a there : Place) → is_list there ≡ true → ghosts.eq a there ≡ true → is_list a ≡ true
+pub same-list : (a there : Place) → is_list there ≡ true → ghosts.eq a there ≡ true → is_list a ≡ true
 same-list places.Preprocessor there l e = refl
 same-list places.Dependency there l e = refl
 same-list places.Unhashed there l e = refl

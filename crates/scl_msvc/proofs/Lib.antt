@@ -2,6 +2,7 @@ pub mod CheckLaws
 pub mod EnvironmentLemmas
 pub mod InputLaws
 pub mod KeptLaws
+pub mod OneInputLaws
 pub mod OutputLaws
 pub mod PromiseLaws
 pub mod ReadAgainLaws

@@ -58,7 +58,7 @@ is-said (Known f kind.CInput v h) e = (languages.C, refl)
 is-said (Known f kind.CxxInput v h) e = (languages.Cxx, refl)
 is-said (Known f _ v h) e = absurd (cc)
 
-each-tt : {A : Type 0} (xs : List A) → Each (λ x. Unit {0}) xs
+pub each-tt : {A : Type 0} (xs : List A) → Each (λ x. Unit {0}) xs
 each-tt [] = tt
 each-tt (x ∷ xs) = (tt, each-tt xs)
 

@@ -25,7 +25,7 @@ use Rattle.scl_msvc.specs.declared.msvc.place.Place.TheVariants as places
 use Rattle.scl_msvc.specs.Building.{command_words}
 use Rattle.scl_msvc.specs.Environment.{surrounded}
 use Rattle.scl_msvc.specs.Inners.{goes_inside_to}
-use Rattle.scl_msvc.specs.Kinds.{of}
+use Rattle.scl_msvc.specs.Kinds.{of, is_input}
 use Rattle.scl_msvc.specs.Places.{goes_to}
 use Rattle.scl_msvc.specs.Readings.{reading_within}
 use Rattle.scl_msvc.specs.Rows.{msvc_tables}
@@ -94,3 +94,17 @@ MsvcCommandsAreReadAgain =
     (is_clang : Bool) (directory : List ℕ) (pairs : List (List ℕ × List ℕ)) (view : Viewed) (words all : List (List ℕ)) (p : Parsed) (object : List ℕ) →
     surrounded pairs words ≡ Ok all → reading_within is_clang directory pairs view words ≡ Ok p → object_of p ≡ Some object →
     CommandIsReadAgain is_clang directory view all p object
+
+-- the command, read again, has the one input of the record, whether it is raw or the value of the flag of its language
+abbrev pub CommandHasOneInput : Bool → List ℕ → Viewed → List (List ℕ) → Parsed → List ℕ → Type 0
+CommandHasOneInput is_clang directory view words p object =
+    let options = options_of is_clang directory view words in
+    let os = map shown options in
+    Each IsClear options → Each IsClear (inner_options_of kind.XClang directory view os) → Each IsClear (inner_options_of kind.Clang directory view os) →
+    texts is_input (map shown (cut (owner_in msvc_tables) is_clang (command_words p object)).options) ≡ p.input ∷ []
+
+abbrev pub MsvcCommandsHaveOneInput : Type 0
+MsvcCommandsHaveOneInput =
+    (is_clang : Bool) (directory : List ℕ) (pairs : List (List ℕ × List ℕ)) (view : Viewed) (words all : List (List ℕ)) (p : Parsed) (object : List ℕ) →
+    surrounded pairs words ≡ Ok all → reading_within is_clang directory pairs view words ≡ Ok p → object_of p ≡ Some object →
+    CommandHasOneInput is_clang directory view all p object

@@ -6,7 +6,7 @@ ghost use Rattle.scl_again.specs.Checks.{PassChecks, JoinSafely, has_no_kept};
 ghost use Rattle.scl_gnu.specs.ClangRows.{clang_tables};
 ghost use Rattle.scl_msvc.specs.Again.{carried, carried_inner};
 ghost use Rattle.scl_msvc.specs.Places.{side_of_flag};
-ghost use Rattle.scl_msvc.specs.ReadAgain.{MsvcCommandsAreReadAgain};
+ghost use Rattle.scl_msvc.specs.ReadAgain.{MsvcCommandsAreReadAgain, MsvcCommandsHaveOneInput};
 ghost use Rattle.scl_msvc.specs.Rows.{msvc_tables};
 
 /// Msvc's tables pass both checks for the kinds that lists carry, each flag on its side (docs/RULES.md, Cutting again).
@@ -36,4 +36,10 @@ pub fn no_other_option_hands_words_on()
 /// list by list (docs/RULES.md, Cutting again).
 pub fn msvc_commands_are_read_again()
     ensures { MsvcCommandsAreReadAgain }
+{}
+
+/// The command of a record of Msvc, cut again by its tables, has one input, the record's, raw or as the value of the flag
+/// of its language (docs/RULES.md, Cutting again).
+pub fn msvc_commands_have_one_input()
+    ensures { MsvcCommandsHaveOneInput }
 {}

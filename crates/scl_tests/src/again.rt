@@ -31,4 +31,5 @@ fn laws_of_commands_may_be_called() {
     scl_gnu::laws::gcc_commands_are_read_again();
     scl_gnu::laws::clang_commands_are_read_again();
     scl_msvc::laws::msvc_commands_are_read_again();
+    scl_msvc::laws::msvc_commands_have_one_input();
 }
