@@ -32,7 +32,7 @@ abbrev pub input_words : Parsed → List (List ℕ)
 input_words p = dash_words p.double_dash_input ++ p.input ∷ []
 
 abbrev pub back_words : Parsed → List (List ℕ)
-back_words p = color_words p.color_mode ++ dash_words p.double_dash_input ++ p.input ∷ []
+back_words p = color_words p.color_mode ++ input_words p
 
 -- with this text for the language and this object
 abbrev pub command_words : Option (List ℕ) → Parsed → List ℕ → List (List ℕ)

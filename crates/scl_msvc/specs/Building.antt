@@ -35,7 +35,7 @@ input_words p = dash_words p.double_dash_input ++ input_word p ∷ []
 
 -- with this object
 abbrev pub command_words : Parsed → List ℕ → List (List ℕ)
-command_words p object = p.compilation_flag ∷ (codes "-Fo" ++ object) ∷ list_words p ++ dash_words p.double_dash_input ++ input_word p ∷ []
+command_words p object = p.compilation_flag ∷ (codes "-Fo" ++ object) ∷ list_words p ++ input_words p
 
 -- the words of the command, where the record has an object
 abbrev pub command : Parsed → Option (List (List ℕ))
