@@ -1,5 +1,5 @@
 //! A finished list of options, and the sorts that stand among them.
-ghost use Rattle.std.specs.Prelude.{◌≡◌, IfOk, IsTrue, filter, map};
+ghost use Rattle.std.specs.Prelude.{◌≡◌, [], false, IfOk, IsTrue, filter, map};
 ghost use Rattle.std.specs.List.{list_any};
 ghost use Rattle.std.specs.Option.{option_map};
 ghost use Rattle.scl_args.specs.Seen.{seen};
@@ -77,11 +77,18 @@ impl<T: ReadArg> Options<T> {
         Ok(Options { options, sorts })
     }
 
+    /// Whether options that pass may stand here; where this is false none does.
+    fn may_pass<P: Test<T>>(&self, test: &P) -> bool
+        ensures { result ≡ false → filter (P.passes test.now) self.now ≡ [] }
+    {
+        may_pass(&self.sorts, test)
+    }
+
     /// All options, or none where no option passes.
     pub fn among<P: Test<T>>(&self, test: &P) -> &[Argument<T>]
         ensures { filter (P.passes test.now) (map (seen T.kind_of T.word_of) result.now) ≡ filter (P.passes test.now) self.now }
     {
-        if may_pass(&self.sorts, test) {
+        if self.may_pass(test) {
             &self.options
         } else {
             &[]
