@@ -1,10 +1,6 @@
 use Rattle.std.proofs.Common.{◌≡◌, ℕ, Bool, List, Result, Ok, Err, refl}
 use Rattle.std.specs.Prelude.{IfOk}
-<<<<<<< HEAD
-use Rattle.scl_again.specs.Promises.{IsFaithful}
-=======
-use Rattle.scl_again.specs.Promises.{HasNoEmpty, IsReadAgainUnlessEmpty}
->>>>>>> 965bb3ad85a8f56223ea6dc91ec63d26a9f24632
+use Rattle.scl_again.specs.Promises.{HasNoEmpty, IsFaithful}
 use Rattle.scl_text.proofs.CompilerLaws.{command-kept}
 use Rattle.scl_text.specs.Compilers.{IfCommand}
 use Rattle.scl_text.specs.Records.{Parsed, Verdict}
@@ -16,11 +12,8 @@ use Rattle.scl_msvc.specs.Promises.{msvc_line, HasOneInput, MsvcReadsAgain}
 use Rattle.scl_msvc.specs.ReadAgain.{parts}
 use Rattle.scl_msvc.specs.Readings.{reading_within}
 use Rattle.scl_msvc.specs.Rows.{msvc_tables}
-<<<<<<< HEAD
 use Rattle.scl_msvc.proofs.NoFileLaws.{commands_none}
-=======
 use Rattle.scl_msvc.proofs.OneInputLaws.{one_input}
->>>>>>> 965bb3ad85a8f56223ea6dc91ec63d26a9f24632
 use Rattle.scl_msvc.proofs.ReadAgainLaws.{commands_again}
 
 if-ok : {A E : Type 0} (r : Result A E) (P : A → Type 0) → ((a : A) → r ≡ Ok a → P a) → IfOk r P
@@ -30,24 +23,15 @@ if-ok (Err e) P h = tt
 pub command_kept : (is_clang : Bool) (directory : List ℕ) (pairs : List (List ℕ × List ℕ)) (view : Viewed) (words : List (List ℕ)) →
     IfCommand command (MsvcReadsAgain is_clang directory pairs view words) (reading_within is_clang directory pairs view words)
 command_kept is_clang directory pairs view words =
-<<<<<<< HEAD
-    let again : Parsed → List ℕ → List (List ℕ) → List (List ℕ) → Type 0 =
-        λ p object built all. IsFaithful msvc_tables is_clang clang_tables (msvc_line is_clang directory view all) (parts p object) object built in
-    command-kept command_words (λ p object built. IfOk (surrounded pairs words) (again p object built))
-    (reading_within is_clang directory pairs view words)
-    (λ p object e o. if-ok (surrounded pairs words) (again p object (command_words p object))
-        (λ all s. record {
-          again = λ clear. commands_again is_clang directory pairs view words all p object s e o clear.outer clear.inner.0 clear.inner.1.0;
-          no_file = commands_none is_clang directory pairs view words all p object s e o;
-        }))
-=======
     let again : Parsed → List ℕ → List (List ℕ) → List (List ℕ) → Type 0 = λ p object built all.
-    IsReadAgainUnlessEmpty msvc_tables is_clang clang_tables (msvc_line is_clang directory view all) (parts p object) built
+    IsFaithful msvc_tables is_clang clang_tables (msvc_line is_clang directory view all) (parts p object) object built
     × (HasNoEmpty (msvc_line is_clang directory view all) → HasOneInput is_clang p built) in
     command-kept command_words (λ p object built. IfOk (surrounded pairs words) (again p object built))
     (reading_within is_clang directory pairs view words)
     (λ p object e o. if-ok (surrounded pairs words) (again p object (command_words p object)) (λ all s. (
-      λ clear. commands_again is_clang directory pairs view words all p object s e o clear.outer clear.inner.0 clear.inner.1.0,
+      record {
+        again = λ clear. commands_again is_clang directory pairs view words all p object s e o clear.outer clear.inner.0 clear.inner.1.0;
+        no_file = commands_none is_clang directory pairs view words all p object s e o;
+      },
       λ clear. one_input is_clang directory pairs view words all p object s e o clear.outer clear.inner.0 clear.inner.1.0,
     )))
->>>>>>> 965bb3ad85a8f56223ea6dc91ec63d26a9f24632

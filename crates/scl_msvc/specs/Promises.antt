@@ -1,18 +1,10 @@
-<<<<<<< HEAD
--- What is promised of a command of Msvc: it is read again, unless an option of an either row has an empty value; and it names no response file of its own.
-use Rattle.std.specs.Prelude.{ℕ, Bool, List, [], ◌∷◌, map, codes, IfOk, IfSome}
-use Rattle.scl_args.specs.Cuts.{Cut}
-use Rattle.scl_args.specs.Seen.{shown}
-use Rattle.scl_again.specs.Promises.{HandedOn, Line, IsFaithful}
-=======
--- What is promised of a command of Msvc: it is read again, and has one input, unless an option of an either row has an empty value.
+-- What is promised of a command of Msvc: it is read again, and has one input, unless an option of an either row has an empty value; and it names no response file of its own.
 use Rattle.std.specs.Prelude.{◌≡◌, ℕ, Bool, List, [], ◌∷◌, map, codes, IfOk, IfSome}
 use Rattle.scl_args.specs.Cuts.{Cut, cut}
 use Rattle.scl_args.specs.Options.{texts}
 use Rattle.scl_args.specs.Seen.{shown}
 use Rattle.scl_args.specs.Tables.{owner_in}
-use Rattle.scl_again.specs.Promises.{HandedOn, Line, HasNoEmpty, IsReadAgainUnlessEmpty}
->>>>>>> 965bb3ad85a8f56223ea6dc91ec63d26a9f24632
+use Rattle.scl_again.specs.Promises.{HandedOn, Line, HasNoEmpty, IsFaithful}
 use Rattle.scl_text.specs.Commands.{object_of}
 use Rattle.scl_text.specs.Records.{Parsed}
 use Rattle.scl_text.specs.Views.{Viewed}
@@ -35,19 +27,12 @@ msvc_line is_clang directory view words =
     let options = options_of is_clang directory view words in
     record { options = options; handed_on = handed_by (codes "-Xclang") kind.XClang directory view options ∷ handed_by (codes "-clang:") kind.Clang directory view options ∷ [] }
 
-<<<<<<< HEAD
--- what it is for the words of the command of a record, which these words have between those of the environment, to be read again and to name no response file of their own
-abbrev pub MsvcReadsAgain : Bool → List ℕ → List (List ℕ × List ℕ) → Viewed → List (List ℕ) → Parsed → List (List ℕ) → Type 0
-MsvcReadsAgain is_clang directory pairs view words p command = IfSome (object_of p) (λ object. IfOk (surrounded pairs words) (λ all.
-    IsFaithful msvc_tables is_clang clang_tables (msvc_line is_clang directory view all) (parts p object) object command))
-=======
 -- the words, cut again, have one input, the record's, raw or as the value of the flag of its language
 abbrev pub HasOneInput : Bool → Parsed → List (List ℕ) → Type 0
 HasOneInput is_clang p command = texts is_input (map shown (cut (owner_in msvc_tables) is_clang command).options) ≡ p.input ∷ []
 
--- what it is for the words of the command of a record, which these words have between those of the environment, to be read again
+-- what it is for the words of the command of a record, which these words have between those of the environment, to be read again and to name no response file of their own
 abbrev pub MsvcReadsAgain : Bool → List ℕ → List (List ℕ × List ℕ) → Viewed → List (List ℕ) → Parsed → List (List ℕ) → Type 0
 MsvcReadsAgain is_clang directory pairs view words p command = IfSome (object_of p) (λ object. IfOk (surrounded pairs words) (λ all.
     let line = msvc_line is_clang directory view all in
-    IsReadAgainUnlessEmpty msvc_tables is_clang clang_tables line (parts p object) command × (HasNoEmpty line → HasOneInput is_clang p command)))
->>>>>>> 965bb3ad85a8f56223ea6dc91ec63d26a9f24632
+    IsFaithful msvc_tables is_clang clang_tables line (parts p object) object command × (HasNoEmpty line → HasOneInput is_clang p command)))
