@@ -118,7 +118,7 @@ module _ (compiler : CCompilerKind) (tables : List (List (Row Kind))) (flags : P
           append _ _ language (compiles, (refl, (no, tt)))
 
       back-none : NameNone (back_words record_is)
-      back-none = append _ _ (append _ _ (color-none record_is.color_mode) (dash-none record_is.double_dash_input)) (one-none is_input os f.input none has.input_is, tt)
+      back-none = append _ _ (color-none record_is.color_mode) (append _ _ (dash-none record_is.double_dash_input) (one-none is_input os f.input none has.input_is, tt))
 
       pub record-none : NameNone (command_words text record_is f.object)
       record-none = append _ _ (append _ _ front-none lists-none) back-none

@@ -1,5 +1,5 @@
 -- The command of a record of Gcc or Clang is read again.
-use Rattle.std.proofs.Common.{◌≡◌, ℕ, Bool, true, false, not, List, [], ◌∷◌, ◌++◌, map, Option, None, Some, refl, sym, ap, subst, ◌∙◌, append_assoc}
+use Rattle.std.proofs.Common.{◌≡◌, ℕ, Bool, true, false, not, List, [], ◌∷◌, ◌++◌, map, Option, None, Some, refl, sym, ap, subst, ◌∙◌}
 use Rattle.std.proofs.lemmas.List.{append-nil}
 use Rattle.std.specs.List.{flat_map}
 use Rattle.std.specs.Prelude.{codes, is_some, unwrap_or}
@@ -141,10 +141,10 @@ module _ (compiler : CCompilerKind) (tables : List (List (Row Kind))) (own_words
     marks false = refl
 
     reads-back : (color : ColorMode) → let marked = is_behind_dashes is_input os in
-        read own dashes (color_words color ++ dash_words marked ++ x ∷ []) ≡ cleanly (color_option color ++ map plain.raw (input_words marked x))
+        read own dashes (color_words color ++ (dash_words marked ++ x ∷ [])) ≡ cleanly (color_option color ++ map plain.raw (input_words marked x))
     reads-back color =
         let marked = is_behind_dashes is_input os in
-        ap (read own dashes) (append_assoc (color_words color) (dash_words marked) (x ∷ []) ∙ ap (λ w. color_words color ++ w) (marks marked))
+        ap (λ w. read own dashes (color_words color ++ w)) (marks marked)
         ∙ ends-input own dashes (color_words color) (color_option color) marked x (reads-color color) (marked-dashes tables dashes ws is_input) (raw-is_input own dashes ws x is_text)
 
   -- ---- the lists

@@ -23,7 +23,7 @@ use Rattle.scl_msvc.specs.declared.msvc.data.Kind.TheVariants as kind
 use Rattle.scl_msvc.specs.declared.msvc.place.Place.{Place}
 use Rattle.scl_msvc.specs.declared.msvc.place.Place.TheVariants as places
 use Rattle.scl_msvc.specs.Again.{is_list, carried, carried_inner}
-use Rattle.scl_msvc.specs.Building.{command_words, dash_words, input_word, language_flag, list_words}
+use Rattle.scl_msvc.specs.Building.{command_words, dash_words, input_word, input_words, language_flag, list_words}
 use Rattle.scl_msvc.specs.FixedTests.{Found}
 use Rattle.scl_msvc.specs.Inners.{Inner, inner_list, inner_place, inner_words_at, goes_inside_to}
 use Rattle.scl_msvc.specs.Kinds.{of, is_input}
@@ -112,9 +112,8 @@ module _ (is_clang : Bool) (ws : List (List ℕ)) where
           let front = f.compile_flag ∷ (codes "-Fo" ++ f.object) ∷ [] in
           let front_none : NameNone front = (compile-none, (refl, tt)) in
           let dashes = dash_words record_is.double_dash_input in
-          append (front ++ list_words record_is ++ dashes) (input_word record_is ∷ [])
-          (append (front ++ list_words record_is) dashes (append front (list_words record_is) front_none lists-none) (dash-none record_is.double_dash_input))
-          (input-none record_is (one-none is_input os f.input none has.input_is), tt)
+          append (front ++ list_words record_is) (input_words record_is) (append front (list_words record_is) front_none lists-none)
+          (append dashes (input_word record_is ∷ []) (dash-none record_is.double_dash_input) (input-none record_is (one-none is_input os f.input none has.input_is), tt))
 
 -- ---- the command of a reading
 

@@ -33,7 +33,7 @@ use Rattle.scl_msvc.specs.declared.msvc.data.Kind.TheVariants as kind
 use Rattle.scl_msvc.specs.declared.msvc.place.Place.{Place}
 use Rattle.scl_msvc.specs.declared.msvc.place.Place.TheVariants as places
 use Rattle.scl_msvc.specs.Again as again
-use Rattle.scl_msvc.specs.Building.{command_words, dash_words, input_word, list_words}
+use Rattle.scl_msvc.specs.Building.{command_words, input_words, list_words}
 use Rattle.scl_msvc.specs.FixedTests.{Found}
 use Rattle.scl_msvc.specs.Inners as inners
 use Rattle.scl_msvc.specs.Inners.{inner_list}
@@ -157,14 +157,10 @@ module _ (is_clang : Bool) (ws : List (List ℕ)) (xclang clang : List (Cut gnu.
       abbrev front : List (List ℕ)
       front = f.compile_flag ∷ (codes "-Fo" ++ f.object) ∷ []
 
-      abbrev back : List (List ℕ)
-      back = dash_words record_is.double_dash_input ++ input_word record_is ∷ []
-
       pub record-again : IsReadAgain msvc_tables is_clang clang_tables said made (command_words record_is f.object)
-      record-again = subst (λ vs. IsReadAgain msvc_tables is_clang clang_tables said made vs)
-          (sym (append_assoc (front ++ list_words record_is) (dash_words record_is.double_dash_input) (input_word record_is ∷ [])))
-          (command-again msvc_tables is_clang clang_tables again.carried again.carried_inner side_of_flag wrapped msvc_passes inner_passes said are_clear are-inners own-flags
-          made front (list_words record_is) back
+      record-again =
+          command-again msvc_tables is_clang clang_tables again.carried again.carried_inner side_of_flag wrapped msvc_passes inner_passes said are_clear are-inners own-flags
+          made front (list_words record_is) (input_words record_is)
           (record {
             lists = (
               is-list places.Preprocessor refl is_clang xclang clang,
@@ -178,7 +174,7 @@ module _ (is_clang : Bool) (ws : List (List ℕ)) (xclang clang : List (Cut gnu.
             back_read = reads-input is_clang ws f.language f.input has.input_is unrefused has.language_is;
             none_in_front = (refl, (refl, tt));
             none_behind = none-behind record_is.double_dash_input record_is.msvc_explicit_language f.language f.input;
-          }) reads-lists)
+          }) reads-lists
 
 -- ---- the command of a reading
 
