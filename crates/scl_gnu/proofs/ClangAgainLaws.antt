@@ -4,7 +4,7 @@ use Rattle.std.specs.Prelude.{codes}
 use Rattle.scl_args.specs.Each.{Each}
 use Rattle.scl_args.specs.Options.{side_of_flag, texts}
 use Rattle.scl_args.specs.Row.{Row, row, apart, joined, either}
-use Rattle.scl_args.specs.Seen.{Seen, Plain, shown}
+use Rattle.scl_args.specs.Seen.{shown}
 use Rattle.scl_args.specs.Seen as plain
 use Rattle.scl_args.specs.Tables.{owner_in, all_rows}
 use Rattle.scl_args.proofs.OwnerLaws.{owner_in-is}

@@ -3,7 +3,7 @@ use Rattle.std.specs.Prelude.{IfOk}
 use Rattle.scl_again.specs.Promises.{HasNoEmpty, IsFaithful}
 use Rattle.scl_text.proofs.CompilerLaws.{command-kept}
 use Rattle.scl_text.specs.Compilers.{IfCommand}
-use Rattle.scl_text.specs.Records.{Parsed, Verdict}
+use Rattle.scl_text.specs.Records.{Parsed}
 use Rattle.scl_text.specs.Views.{Viewed}
 use Rattle.scl_gnu.specs.ClangRows.{clang_tables}
 use Rattle.scl_msvc.specs.Building.{command, command_words}

@@ -6,7 +6,7 @@ use Rattle.scl_args.specs.Cuts.{Cut, raw, unknown, flag, with_value, cut}
 use Rattle.scl_args.specs.Each.{Each}
 use Rattle.scl_args.specs.Options.{wanted, is_raw, texts, side_of_flag}
 use Rattle.scl_args.specs.Row.{Row}
-use Rattle.scl_args.specs.Seen.{Seen, Raw, Unknown, Known, Plain, shown, plain_seen}
+use Rattle.scl_args.specs.Seen.{Seen, Raw, Unknown, Known, shown, plain_seen}
 use Rattle.scl_args.specs.Seen as plain
 use Rattle.scl_args.specs.Tables.{owner_in}
 use Rattle.scl_again.specs.Checks.{PassChecks}

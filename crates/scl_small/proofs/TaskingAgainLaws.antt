@@ -3,7 +3,7 @@ use Rattle.std.specs.Prelude.{codes, Ok}
 use Rattle.scl_args.specs.Cuts.{cut, is_dangling}
 use Rattle.scl_args.specs.Options.{judged, side_of_flag, wanted}
 use Rattle.scl_args.specs.Row.{Row, row, bare, apart}
-use Rattle.scl_args.specs.Seen.{Seen, Raw, Unknown, Known, shown}
+use Rattle.scl_args.specs.Seen.{shown}
 use Rattle.scl_args.specs.Seen as plain
 use Rattle.scl_args.specs.Tables.{owner_in}
 use Rattle.scl_again.specs.Checks.{PassChecks}
