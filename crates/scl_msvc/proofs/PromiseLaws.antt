@@ -3,7 +3,7 @@ use Rattle.std.specs.Prelude.{IfOk}
 use Rattle.scl_again.specs.Promises.{IsFaithful}
 use Rattle.scl_text.proofs.CompilerLaws.{command-kept}
 use Rattle.scl_text.specs.Compilers.{IfCommand}
-use Rattle.scl_text.specs.Records.{Parsed, Verdict}
+use Rattle.scl_text.specs.Records.{Parsed}
 use Rattle.scl_text.specs.Views.{Viewed}
 use Rattle.scl_gnu.specs.ClangRows.{clang_tables}
 use Rattle.scl_msvc.specs.Building.{command, command_words}
@@ -23,11 +23,11 @@ pub command_kept : (is_clang : Bool) (directory : List ℕ) (pairs : List (List 
     IfCommand command (MsvcReadsAgain is_clang directory pairs view words) (reading_within is_clang directory pairs view words)
 command_kept is_clang directory pairs view words =
     let again : Parsed → List ℕ → List (List ℕ) → List (List ℕ) → Type 0 =
-        λ p object built all. IsFaithful msvc_tables is_clang clang_tables (msvc_line is_clang directory view all) (parts p object) object built in
+    λ p object built all. IsFaithful msvc_tables is_clang clang_tables (msvc_line is_clang directory view all) (parts p object) object built in
     command-kept command_words (λ p object built. IfOk (surrounded pairs words) (again p object built))
     (reading_within is_clang directory pairs view words)
     (λ p object e o. if-ok (surrounded pairs words) (again p object (command_words p object))
-        (λ all s. record {
-          again = λ clear. commands_again is_clang directory pairs view words all p object s e o clear.outer clear.inner.0 clear.inner.1.0;
-          no_file = commands_none is_clang directory pairs view words all p object s e o;
-        }))
+    (λ all s. record {
+      again = λ clear. commands_again is_clang directory pairs view words all p object s e o clear.outer clear.inner.0 clear.inner.1.0;
+      no_file = commands_none is_clang directory pairs view words all p object s e o;
+    }))

@@ -32,7 +32,7 @@ pub built-kept : {E : Type 0} (command : Parsed → Option (List (List ℕ))) (p
     (p : Parsed) (executable : List ℕ) (env_vars : List (List ℕ × List ℕ)) (cwd : List ℕ) (cacheable : Cacheable) (r : Result (SingleCompileCommand × Cacheable) E) →
     IfOk r (λ answer. IsAnswer answer.0 answer.1 (command p) executable env_vars cwd cacheable) →
     IfOk r (λ answer. (words : List (List ℕ)) (directory : List ℕ) (pairs : List (List ℕ × List ℕ)) (view : Viewed) →
-        said words directory pairs view ≡ Ok p → promise words directory pairs view p (words_of answer.0.arguments.items))
+    said words directory pairs view ≡ Ok p → promise words directory pairs view p (words_of answer.0.arguments.items))
 built-kept command promise said kept p executable env_vars cwd cacheable (Ok answer) is = λ words directory pairs view e.
     words-kept command (promise words directory pairs view) (said words directory pairs view) (kept words directory pairs view) p (words_of answer.0.arguments.items) is.words_are e
 built-kept command promise said kept p executable env_vars cwd cacheable (Err e) is = tt
@@ -48,4 +48,3 @@ module _ (words : Parsed → List ℕ → List (List ℕ)) (promise : Parsed →
       IfCommand (command_by words) (λ p command. IfSome (object_of p) (λ object. promise p object command)) said
   command-kept (Ok p) kept = for_object p (object_of p) (λ object o. kept p object refl o)
   command-kept (Err verdict) kept = tt
-
