@@ -1,28 +1,22 @@
-use Rattle.std.proofs.Common.{◌≡◌, ℕ, Bool, true, false, List, [], ◌∷◌, ◌++◌, map, Option, None, Some, refl, sym, ap, ◌∙◌}
-use Rattle.std.specs.List.{list_all}
-use Rattle.std.specs.Prelude.{codes, not, ◌||◌}
-use Rattle.scl_args.specs.Cuts.{Cut, cut}
+use Rattle.std.proofs.Common.{◌≡◌, ℕ, Bool, false, List, [], ◌∷◌, ◌++◌, map, Option, None, Some, refl, sym, ap}
+use Rattle.std.specs.Prelude.{codes}
+use Rattle.scl_args.specs.Cuts.{Cut}
 use Rattle.scl_args.specs.Each.{Each}
-use Rattle.scl_args.specs.Options.{side_of_flag, text_of}
+use Rattle.scl_args.specs.Options.{side_of_flag}
 use Rattle.scl_args.specs.Row.{Row, row, apart, joined, either}
-use Rattle.scl_args.specs.Seen.{Seen, shown}
+use Rattle.scl_args.specs.Seen.{shown}
 use Rattle.scl_args.specs.Tables.{owner_in, all_rows}
 use Rattle.scl_args.proofs.OwnerLaws.{owner_in-is}
 use Rattle.scl_again.specs.Checks.{is_changing, is_joining}
 use Rattle.scl_again.specs.Origins.{IsClear}
 use Rattle.scl_again.specs.Promises.{IsFaithful}
-use Rattle.scl_again.proofs.FoundLaws.{IsFound, found}
 use Rattle.scl_again.proofs.FreshLaws.{fresh-either}
 use Rattle.scl_again.proofs.OriginLaws.{has_row}
-use Rattle.scl_again.proofs.OtherValueLaws.{flag-so}
 use Rattle.scl_again.proofs.ReadsLaws.{reads-apart, reads-either_apart, reads-joined}
 use Rattle.scl_text.proofs.CompilerLaws.{command-kept}
-use Rattle.scl_text.proofs.ExpandLemmas.{expand-nil}
-use Rattle.scl_text.specs.declared.expand.ExpansionKind.TheVariants as expansions
 use Rattle.scl_text.specs.declared.records.CCompilerKind.TheVariants as compilers
 use Rattle.scl_text.specs.Commands.{command_by}
 use Rattle.scl_text.specs.Compilers.{IfCommand}
-use Rattle.scl_text.specs.Expand.{expand}
 use Rattle.scl_text.specs.Languages.{gcc_text}
 use Rattle.scl_text.specs.Views.{Viewed}
 use Rattle.scl_gnu.specs.declared.gcc.data.Kind.{Kind}
@@ -32,13 +26,11 @@ use Rattle.scl_gnu.specs.Building.{command_words}
 use Rattle.scl_gnu.specs.ClangRows.{clang_tables}
 use Rattle.scl_gnu.specs.GccRows.{gcc_rows}
 use Rattle.scl_gnu.specs.Inners.{inner_words_at}
-use Rattle.scl_gnu.specs.Kinds.{of}
 use Rattle.scl_gnu.specs.ReadAgain.{options_of, inner_options_of, parts, gcc_line, GccCommandsAreReadAgain, GccReadsAgain}
 use Rattle.scl_gnu.specs.Readings.{reading}
 use Rattle.scl_gnu.proofs.CheckLaws.{gcc_passes}
 use Rattle.scl_gnu.proofs.InnerLaws.{no_inner}
 use Rattle.scl_gnu.proofs.NoFileLaws.{gcc_none}
-use Rattle.scl_gnu.proofs.KeptLaws.{is_kind}
 use Rattle.scl_gnu.proofs.OwnWordsLaws.{OwnWords, AreInners}
 use Rattle.scl_gnu.proofs.ReadAgainLaws.{commands-again}
 
