@@ -1,4 +1,4 @@
-use Rattle.std.proofs.Common.{◌∙◌, sym}
+use Rattle.std.proofs.Common.{◌∙◌, sym, rules}
 use Rattle.scl_text.specs.ExpansionState.{words_left}
 use Rattle.scl_text.proofs.OpenLemmas.{is_shut-compared, is_shut-msvc}
 use Rattle.scl_text.proofs.expand.engine.Expansion.is_shut.Goals as goal
@@ -9,6 +9,4 @@ returns-in-Gnu c =
     c.contains.ensures ∙ sym (is_shut-compared self.kind c.args.path.now (words_left self.inner) self.open_files c.in-Gnu.is)
 
 pub returns-in-Msvc : goal.returns-in-Msvc
-returns-in-Msvc c =
-    let self = c.args.self.now in
-    rw c.in-Msvc.is (sym (is_shut-msvc c.args.path.now (words_left self.inner) self.open_files c.is_empty.result c.is_empty.ensures))
+returns-in-Msvc c = rw c.in-Msvc.is (sym (search (rules, is_shut-msvc)))
