@@ -2,9 +2,7 @@
 use crate::words::{cut, joined};
 use scl_args::Mem;
 use scl_gnu::clang::Clang;
-use scl_gnu::gcc::{
-    Gcc, join_passes, language_to_gcc_arg, preprocess_passes, without_output_files,
-};
+use scl_gnu::gcc::{Gcc, join_passes, preprocess_passes, without_output_files};
 use scl_msvc::msvc::Msvc;
 use scl_small::diab::Diab;
 use scl_small::tasking_vx::TaskingVX;
@@ -127,9 +125,9 @@ fn any_text_names_the_language(rt: HostRuntime) -> Result<(), Fail> {
     let kinds = [
         (
             CCompilerKind::Gcc,
-            b"-x c -E -P -Q -fdirectives-only a.c\n".as_slice(),
+            b"-x zz -E -P -Q -fdirectives-only a.c\n".as_slice(),
         ),
-        (CCompilerKind::Msvc, b"-x c -E -P -Q a.c\n".as_slice()),
+        (CCompilerKind::Msvc, b"-x zz -E -P -Q a.c\n".as_slice()),
     ];
     for (kind, want) in kinds {
         let runs = preprocess_passes(
@@ -139,7 +137,7 @@ fn any_text_names_the_language(rt: HostRuntime) -> Result<(), Fail> {
             kind,
             true,
             &ignorable,
-            language_to_gcc_arg,
+            |_| Some("zz"),
         )?;
         let lines = lines_of(rt.alloc(), &runs)?;
         assert_eq!(rt; lines.as_slice(), want);
