@@ -1,0 +1,70 @@
+//! Prints with which words the preprocessor is run for the request on standard input: a line `run` for each run, and one
+//! for each of its words (docs/RULES.md, Preprocessing).
+#![tactic(auto)]
+
+use bstr::ByteSlice;
+use scl_cl::clang::Clang;
+use scl_cl::diab::Diab;
+use scl_cl::gcc::Gcc;
+use scl_cl::msvc::Msvc;
+use scl_cl::tasking_vx::TaskingVX;
+use scl_cl::{CCompilerImpl, Compiler, CompilerArguments, Mem, Request, read_request};
+use std::alloc::Global;
+use std::io::{self, Read};
+
+/// The runs of one compile command; none where the words give no record.
+fn runs_by<C: CCompilerImpl>(
+    alloc: Global,
+    compiler: &C,
+    request: &Request,
+) -> Mem<Option<Vec<Vec<Vec<u8>>>>> {
+    let said = compiler.parse_arguments(
+        alloc,
+        &request.words,
+        &request.directory,
+        &request.environment,
+        &request.view,
+    )?;
+    match &said {
+        CompilerArguments::Ok(record) => Ok(Some(compiler.preprocess_passes(
+            alloc, record, false, false, false,
+        )?)),
+        CompilerArguments::CannotCache(_, _) | CompilerArguments::NotCompilation => Ok(None),
+    }
+}
+
+fn runs_of(alloc: Global, request: &Request) -> Mem<Option<Vec<Vec<Vec<u8>>>>> {
+    match request.compiler {
+        Compiler::Gcc => runs_by(alloc, &Gcc::new(false), request),
+        Compiler::Gxx => runs_by(alloc, &Gcc::new(true), request),
+        Compiler::Clang => runs_by(alloc, &Clang::new(false), request),
+        Compiler::Clangxx => runs_by(alloc, &Clang::new(true), request),
+        Compiler::Cl => runs_by(alloc, &Msvc::new(false, String::new(alloc)), request),
+        Compiler::ClangCl => runs_by(alloc, &Msvc::new(true, String::new(alloc)), request),
+        Compiler::Diab => runs_by(alloc, &Diab::new(), request),
+        Compiler::Tasking => runs_by(alloc, &TaskingVX, request),
+    }
+}
+
+fn print_runs(rt: &impl Print, runs: &[Vec<Vec<u8>>]) -> io::Result<()> {
+    for run in runs {
+        println!(rt; "run")?;
+        for word in run {
+            println!(rt; "    {}", word.as_slice().as_bstr())?;
+        }
+    }
+    Ok(())
+}
+
+fn main(rt: HostRuntime) -> io::Result<()> {
+    let alloc = rt.alloc();
+    let mut bytes = Vec::new(alloc);
+    rt.stdin().read_to_end(&mut bytes)?;
+    match read_request(alloc, &bytes)? {
+        Ok(request) => match runs_of(alloc, &request)? {
+            Some(runs) => print_runs(&rt, &runs),
+            None => println!(rt; "no record"),
+        },
+        Err(number) => println!(rt; "bad line {number}"),
+    }
+}
