@@ -1,0 +1,57 @@
+#!/usr/bin/env bash
+# Preprocesses a C and a C++ file with the words that the program `preprocess` gives for a compile command, and with the
+# given words themselves, with -E and -P in the place of -c and its output, and compares the two texts byte for byte.
+#
+# Status 0: they are the same; 1: they differ, or there are no words; 64: called wrongly.
+set -euo pipefail
+
+usage() {
+    echo "usage: examples/same_preprocessed.sh PATH_OF_PREPROCESS" >&2
+    exit 64
+}
+[ $# -eq 1 ] || usage
+[ -x "$1" ] || { echo "examples/same_preprocessed.sh: $1: no program" >&2; usage; }
+program=$(realpath "$1")
+folder=$(mktemp -d)
+trap 'rm -rf "$folder"' EXIT
+cd "$folder"
+
+mkdir include src build
+cat > include/greeting.h <<'C'
+#define TIMES 3
+C
+cat > src/main.c <<'C'
+#include "greeting.h"
+
+#ifdef LOUD
+const char *greeting = GREETING "!";
+#else
+const char *greeting = GREETING;
+#endif
+int times = TIMES;
+C
+sed 's/^const/static const/' src/main.c > src/main.cc
+
+same() {
+    compiler=$1
+    input=$2
+    given=(-Iinclude '-DGREETING="hi"' -DLOUD -O2 -std="$3" -Wall)
+    {
+        echo "compiler $compiler"
+        printf 'word %s\n' -c "$input" "${given[@]}" -o build/main.o
+    } > request
+    "$program" < request > answer
+    [ "$(head -n 1 answer)" = run ] || { echo "$compiler: $(cat answer)" >&2; exit 1; }
+    [ "$(grep -c '^run$' answer)" = 1 ] || { echo "$compiler: more runs than one" >&2; exit 1; }
+    mapfile -t words < <(sed -n 's/^    //p' answer)
+    "$compiler" "${words[@]}" > by_runs.i
+    "$compiler" -E -P "$input" "${given[@]}" > by_given.i
+    cmp by_runs.i by_given.i || { echo "$compiler: the texts differ for $input" >&2; exit 1; }
+    [ -s by_given.i ] || { echo "$compiler: no text" >&2; exit 1; }
+    echo "$compiler, $input: the same $(wc -c < by_given.i) bytes, by: ${words[*]}"
+}
+
+same gcc src/main.c gnu11
+same g++ src/main.cc gnu++17
+same clang src/main.c gnu11
+same clang++ src/main.cc gnu++17
