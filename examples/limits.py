@@ -45,6 +45,7 @@ FILES_OF = {
     61: {"r": "-c x.c -DY\f-DX"},
     62: {"r": "-c x.c -DY\v-DX"},
     63: {"r": 'x.c "/DX'},
+    66: {"sub/@a.c": SOURCE, "a.o": "b.o"},
 }
 
 # What stands in the environment of a row's command.
@@ -126,6 +127,7 @@ SAYS = {
     63: (["x.obj differs"], "`X` is defined"),
     64: ([], "nothing in files"),
     65: (["status 0 -> 1", "a.obj given only"], "stops: `in` is no file"),
+    66: (["@a.o given only", "b.o built only"], "writes `b.o` and not `@a.o`"),
 }
 
 
