@@ -1,7 +1,6 @@
 pub mod AgainChecks
 pub mod AgainLaws
 pub mod CommandLaws
-pub mod EmptyLaws
 pub mod FilterLaws
 pub mod FoundLaws
 pub mod FreshLaws

@@ -6,5 +6,3 @@ pub mod NoFiles
 pub mod Origins
 pub mod Promises
 pub mod Reads
--- For the test of empty values: no contract cites it yet.
-pub mod Empties
