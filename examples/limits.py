@@ -127,7 +127,7 @@ SAYS = {
     63: (["x.obj differs"], "`X` is defined"),
     64: ([], "nothing in files"),
     65: (["status 0 -> 1", "a.obj given only"], "stops: `in` is no file"),
-    66: (["@a.o given only", "b.o built only"], "writes `b.o` and not `@a.o`"),
+    66: (["status 1 -> 0", "b.o built only"], "writes `b.o`, where gcc alone stops"),
 }
 
 
