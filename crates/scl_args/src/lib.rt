@@ -5,6 +5,7 @@ mod argument;
 mod counted;
 mod error;
 mod escaped;
+mod failing;
 mod finished;
 mod held;
 mod iter;
@@ -30,6 +31,7 @@ pub use argument::{ArgDisposition, ArgInfo, ArgRow, Argument, Delimiter, Normali
 pub use counted::Counted;
 pub use error::{ArgParseError, ArgParseResult, ArgToStringError, ArgToStringResult};
 pub use escaped::{Escaped, quoted, quoted_list};
+pub use failing::{FailingReader, FailingWriter};
 pub use finished::Options;
 pub use held::{Held, ReadArg, without_value};
 pub use iter::ArgsIter;
