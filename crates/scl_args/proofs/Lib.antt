@@ -14,4 +14,5 @@ pub mod RelationLaws
 pub mod SortLaws
 pub mod SplitLemmas
 pub mod TablesLemmas
+pub mod TiesLaws
 pub mod WordsLemmas
