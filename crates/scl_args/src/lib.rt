@@ -24,6 +24,7 @@ mod split;
 mod strings;
 mod table;
 mod tables;
+mod tree;
 mod value;
 mod words;
 mod wrapped;
@@ -45,7 +46,7 @@ pub use options::{
     OfKinds, Test, any, is_behind_dashes, is_dashes, last_by, last_flag, last_option, last_text,
     names_file, texts,
 };
-pub use rows::{FlagTable, Probes, RowStore, SearchableArgInfo, looks};
+pub use rows::{FlagTable, FlagTree, Probes, RowStore, SearchableArgInfo, looks};
 pub use sort::Sort;
 pub use spell::Iter;
 pub use split::split_os_string_arg;
