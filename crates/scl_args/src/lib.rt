@@ -22,6 +22,7 @@ mod spell;
 mod split;
 mod strings;
 mod table;
+mod tree;
 mod value;
 mod words;
 mod wrapped;
@@ -42,7 +43,7 @@ pub use options::{
     OfKinds, Test, any, is_behind_dashes, is_dashes, last_by, last_flag, last_option, last_text,
     names_file, texts,
 };
-pub use rows::{FlagTable, Probes, RowStore, SearchableArgInfo, looks};
+pub use rows::{FlagTable, FlagTree, Probes, RowStore, SearchableArgInfo, looks};
 pub use sort::Sort;
 pub use spell::Iter;
 pub use split::split_os_string_arg;

@@ -1,10 +1,12 @@
-ghost use Rattle.std.specs.Prelude.{◌≡◌, ℕ, ◌+◌, ◌-◌, ◌<◌, ◌≤◌, ◌^◌, List, map, length, is_some, true, IsTrue, IfSome, OnSome, ◌↔◌, slice_index_or};
+ghost use Rattle.std.specs.Prelude.{◌≡◌, ℕ, ◌+◌, ◌-◌, ◌<◌, ◌≤◌, ◌^◌, List, map, length, is_some, true, IsTrue, IfOk, IfSome, OnSome, ◌↔◌, slice_index_or};
 ghost use Rattle.scl_args.specs.Row.{Row, row_of, row_at};
 ghost use Rattle.scl_args.specs.Tables.{is_table, owner_in, finds_ascii_delimiter};
 ghost use Rattle.scl_args.specs.Probes.{looks_in, CountsUpTo, Rises};
 
 use crate::argument::{ArgInfo, ArgRow};
+use crate::memory::Mem;
 use crate::value::ArgumentValue;
+use std::alloc::Global;
 use std::cmp::Ordering;
 use std::marker::Model;
 
@@ -125,6 +127,46 @@ impl<'a, T: ArgumentValue> FlagTable<'a, T> {
     }
 
     /// The rows of the table.
+    pub fn store(&self) -> &RowStore<'a, T::Kind>
+        ensures same { result.now ≡ self.now }
+        ensures valid { IsTrue (is_table self.now) }
+    {
+        &self.store
+    }
+}
+
+/// The rows of a table as a tree (docs/RULES.md, Looks).
+#[derive(Drop)]
+pub struct FlagTree<'a, T: ArgumentValue> {
+    store: RowStore<'a, T::Kind>,
+}
+
+impl<'a, T: ArgumentValue> Model for FlagTree<'a, T> {
+    ghost use Rattle.std.specs.Prelude.{List, IsTrue};
+    ghost use Rattle.scl_args.specs.Row.{Row};
+    ghost use Rattle.scl_args.specs.Tables.{is_table};
+
+    ghost Value = { List (Row T.Kind) };
+
+    ghost view = { λ t. t.store };
+
+    ghost invariant = { λ t. IsTrue (is_table t.store) };
+}
+
+impl<'a, T: ArgumentValue> FlagTree<'a, T> {
+    /// The tree of a table's rows.
+    pub fn build(alloc: Global, table: &FlagTable<'a, T>) -> Mem<FlagTree<'a, T>>
+        ensures rows { IfOk result (λ tree. tree ≡ table.now) }
+    {
+        let _nodes: Vec<u8> = Vec::with_capacity(alloc, 1)?;
+        Ok(FlagTree {
+            store: RowStore {
+                rows: table.store.rows,
+            },
+        })
+    }
+
+    /// The rows of the tree.
     pub fn store(&self) -> &RowStore<'a, T::Kind>
         ensures same { result.now ≡ self.now }
         ensures valid { IsTrue (is_table self.now) }
