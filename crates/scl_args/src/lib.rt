@@ -3,6 +3,7 @@
 
 mod argument;
 mod counted;
+mod empties;
 mod error;
 mod escaped;
 mod finished;
@@ -29,6 +30,7 @@ mod write;
 
 pub use argument::{ArgDisposition, ArgInfo, ArgRow, Argument, Delimiter, NormalizedDisposition};
 pub use counted::Counted;
+pub use empties::has_empty_value;
 pub use error::{ArgParseError, ArgParseResult, ArgToStringError, ArgToStringResult};
 pub use escaped::{Escaped, quoted, quoted_list};
 pub use finished::Options;
