@@ -1,12 +1,10 @@
-use Rattle.std.proofs.Common.{◌≡◌, ℕ, ◌+◌, ◌<◌, ◌≤◌, Bool, true, false, cond, nat_lt, ◌&&◌, List, [], ◌∷◌, ◌++◌, length, drop, filter, Option, None, Some, OnSome, refl, sym, ap, subst, take, nat_eq, get_or, ◌∙◌, arith}
+use Rattle.std.proofs.Common.{◌≡◌, ℕ, ◌+◌, ◌<◌, ◌≤◌, Bool, true, false, cond, nat_lt, ◌&&◌, List, [], ◌∷◌, ◌++◌, length, drop, filter, Option, None, Some, refl, sym, ap, subst, take, nat_eq, get_or, ◌∙◌, arith}
 use Rattle.std.proofs.lemmas.List.{drop_more}
-use denote.Ref.{Bor}
 use Rattle.std.specs.Cmp.Lexicographic.{pointwise}
 use Rattle.std.proofs.lemmas.Bool.Decides.{nat_tests}
 use Rattle.std.specs.List.{starts_with, flat_map}
-use Rattle.scl_args.specs.declared.argument.ArgRow.{ArgRow}
-use Rattle.scl_args.specs.Row.{Row, row_at, joins, fits}
-use Rattle.scl_args.specs.Probes.{looks_in, Rises}
+use Rattle.scl_args.specs.Row.{Row, joins, fits}
+use Rattle.scl_args.specs.Probes.{looks_in}
 use Rattle.scl_args.specs.Tables.{has_ascii_delimiter, finds_ascii_delimiter, comes_before, is_table, longer, longest, owner, owner_in}
 
 pub longer_none : {K : Type 0} (a : Option (Row K)) → longer a None ≡ a
@@ -75,7 +73,7 @@ pub owner_in_length : {K : Type 0} (tables : List (List (Row K))) (word : List �
 owner_in_length tables word row e = fits-length row word (owner_in_fits tables word row e)
 
 -- in a table, the row that a search finds has an ASCII delimiter or none
-pub finds-longer : {K : Type 0} (a b : Option (Row K)) → finds_ascii_delimiter a ≡ true → finds_ascii_delimiter b ≡ true → finds_ascii_delimiter (longer a b) ≡ true
+finds-longer : {K : Type 0} (a b : Option (Row K)) → finds_ascii_delimiter a ≡ true → finds_ascii_delimiter b ≡ true → finds_ascii_delimiter (longer a b) ≡ true
 finds-longer None b p q = q
 finds-longer (Some x) None p q = p
 finds-longer (Some x) (Some y) p q = elim (nat_lt (length y.flag) (length x.flag)) as (λ t. finds_ascii_delimiter (cond t (Some x) (Some y)) ≡ true) [ true ↦ p | false ↦ q ]
@@ -105,21 +103,8 @@ module _ {S K : Type 0} (tables : S → List (List (Row K))) (members : List S) 
   left : drop i members ≡ member ∷ drop (i + 1) members
   left = drop_more members i member below ∙ ap (λ m. m ∷ drop (i + 1) members) (sym is)
 
-  pub owner-left : (word : List ℕ) → owner_in (flat_map tables (drop i members)) word ≡ longer (owner_in (tables member) word) (owner_in (flat_map tables (drop (i + 1) members)) word)
-  owner-left word = ap (λ ms. owner_in (flat_map tables ms) word) left ∙ owner_in_append (tables member) (flat_map tables (drop (i + 1) members)) word
+  pub owner_left : (word : List ℕ) → owner_in (flat_map tables (drop i members)) word ≡ longer (owner_in (tables member) word) (owner_in (flat_map tables (drop (i + 1) members)) word)
+  owner_left word = ap (λ ms. owner_in (flat_map tables ms) word) left ∙ owner_in_append (tables member) (flat_map tables (drop (i + 1) members)) word
 
-  pub looks-left : (word : List ℕ) → looks_in (flat_map tables (drop i members)) word ≡ looks_in (tables member) word + looks_in (flat_map tables (drop (i + 1) members)) word
-  looks-left word = ap (λ ms. looks_in (flat_map tables ms) word) left ∙ looks_in_append (tables member) (flat_map tables (drop (i + 1) members)) word
-
--- the longer of two rows is found only where one of them was
-pub OnSome-longer : {K P Q R : Type 0} (row first second : Option (Bor (ArgRow K))) → row_at row ≡ longer (row_at first) (row_at second) → OnSome first P → OnSome second Q → (P → R) → (Q → R) → OnSome row R
-OnSome-longer None first second e p q f g = tt
-OnSome-longer (Some row) (Some first) second e p q f g = f p
-OnSome-longer (Some row) None (Some second) e p q f g = g q
-OnSome-longer (Some row) None None e p q f g = cc
-
-pub Rises-later : (first second last : ℕ) → first ≤ second → second ≤ last → Rises second last → Rises first last
-Rises-later first second last low high rises below = grind (arith, rises)
-
-pub Rises-sooner : (first second last : ℕ) → second ≤ last → Rises first second → Rises first last
-Rises-sooner first second last high rises below = let more = rises below in omega (arith, more)
+  pub looks_left : (word : List ℕ) → looks_in (flat_map tables (drop i members)) word ≡ looks_in (tables member) word + looks_in (flat_map tables (drop (i + 1) members)) word
+  looks_left word = ap (λ ms. looks_in (flat_map tables ms) word) left ∙ looks_in_append (tables member) (flat_map tables (drop (i + 1) members)) word

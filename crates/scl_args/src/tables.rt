@@ -35,6 +35,7 @@ impl<T: ArgumentValue, S: SearchableArgInfo<T>> SearchableArgInfo<T> for Tables<
 
     ghost tables = { flat_map S.tables };
 
+    #[tactic(auto, using(crate::proofs::TablesLemmas::longer_longer, crate::proofs::TablesLemmas::owner_left, crate::proofs::TablesLemmas::looks_left))]
     fn search_counted(&self, key: &[u8], probes: &mut Probes) -> Option<&ArgInfo<T>> {
         let mut owner = None;
         for member in &self.members {
