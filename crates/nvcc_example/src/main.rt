@@ -25,7 +25,7 @@ static NVCC: [ArgInfo<ArgData>; 4] = [
     TakeArg("--threads", Kind::Unhashed, Separated),
     // A device's architecture is a word that the command keeps.
     TakeArg("-arch", Kind::PassThrough, Separated),
-    // So are code for several of them, and words for the host's compiler; the value may stand behind `=`.
+    // So is what is made, and for which devices; the value may stand behind `=`.
     TakeArg("-code", Kind::PassThrough, CanBeSeparated(Some(b'='))),
     TakeArg("-gencode", Kind::PassThrough, CanBeSeparated(Some(b'='))),
 ];
