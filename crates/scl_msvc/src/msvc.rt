@@ -28,4 +28,4 @@ pub use environment::without_cl_env_vars;
 pub use parse::parse_arguments;
 pub use scl_args::WriteFault;
 pub use scl_text::MsvcExpand as ExpandIncludeFile;
-pub use tables::BothTables;
+pub use tables::{BothTables, BothTrees};
