@@ -8,8 +8,8 @@ use crate::words::{cut, joined};
 use scl_args::ArgDisposition::Separated;
 use scl_args::ArgRow::TakeArg;
 use scl_args::{ArgInfo, FlagTable, Mem, Tables};
-use scl_gnu::gcc::{self, ArgData, Gcc, Kind};
 use scl_gnu::clang;
+use scl_gnu::gcc::{self, ArgData, Gcc, Kind};
 use scl_text::records::{CCompilerKind, CompilerArguments, ParsedArguments};
 use scl_text::{CCompilerImpl, View};
 use std::alloc::Global;
@@ -22,10 +22,7 @@ static CUDA: [ArgInfo<ArgData>; 2] = [
 
 /// The tables of Gcc and Clang, and a third where it is asked for.
 #[tactic(auto, unfolding(scl_gnu::specs::GccRows::gcc_rows, scl_gnu::specs::ClangRows::clang_rows))]
-fn tables_with(
-    alloc: Global,
-    third: bool,
-) -> Mem<Tables<FlagTable<'static, ArgData>>>
+fn tables_with(alloc: Global, third: bool) -> Mem<Tables<FlagTable<'static, ArgData>>>
     ensures { IfOk result (λ tables. IsTrue (tables_hold_values holds_value (flat_map (λ table. table ∷ []) tables))) }
 {
     let mut list = vec![in alloc; gcc::table(), clang::table()]?;
@@ -85,7 +82,10 @@ fn without_it_two_architectures_are_refused(rt: HostRuntime) -> Result<(), Fail>
     else {
         return Err("not refused")?;
     };
-    assert_eq!(rt; reason, "multiple different -arch, and SCCACHE_CACHE_MULTIARCH not set");
+    assert_eq!(rt;
+        reason,
+        "multiple different -arch, and SCCACHE_CACHE_MULTIARCH not set"
+    );
     assert!(rt; beside.is_none());
     Ok(())
 }
