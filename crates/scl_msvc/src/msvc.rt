@@ -30,5 +30,4 @@ pub use parse::parse_arguments;
 pub use scl_args::WriteFault;
 pub use scl_text::MsvcExpand as ExpandIncludeFile;
 pub use tables::{BothTables, BothTrees};
-pub use tables::BothTables;
 pub use within::has_at_most;
