@@ -30,10 +30,8 @@ fn finish<T: ReadArg, S: SearchableArgInfo<T>, J: Judge<T>>(
     }
 }
 
-/// The options of words without response files, where none is refused and the last flag has its value; else the first
-/// refusal, of an empty value or the judge's, or that of a dangling end (docs/RULES.md, Readings). It fails only for want of
-/// memory.
-pub fn judge_cut<T: ExactArg + ReadArg, S: SearchableArgInfo<T> + Drop, J: Judge<T>>(
+/// What words without response files are cut into, judged.
+fn judge_cut<T: ExactArg + ReadArg, S: SearchableArgInfo<T> + Drop, J: Judge<T>>(
     alloc: Global,
     words: Vec<Vec<u8>>,
     arg_info: S,
