@@ -1,6 +1,7 @@
 //! Tests of `scl_args`: worked rows, and each call once.
 mod counted;
 mod cutting;
+mod empties;
 mod error;
 mod failing;
 mod laws;

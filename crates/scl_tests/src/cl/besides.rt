@@ -8,7 +8,7 @@ use std::test::Fail;
 /// Words, and the reason for which they are refused, with the text beside it in parentheses.
 type Row = (Compiler, &'static [u8], &'static str);
 
-static REFUSALS: [Row; 29] = [
+static REFUSALS: [Row; 30] = [
     (
         Compiler::Gcc,
         b"-c a.c b.c c\xff\\.c",
@@ -23,6 +23,7 @@ static REFUSALS: [Row; 29] = [
     (Compiler::Gcc, b"-E", "-E"),
     (Compiler::Gcc, b"-c a.c -x y", "-x"),
     (Compiler::Gcc, b"-c a.c -I @b", "@"),
+    (Compiler::Gcc, b"-c a.c -I", "empty value"),
     (Compiler::Gcc, b"-c a.xyz", "unknown source language"),
     (
         Compiler::Clang,

@@ -5,7 +5,7 @@ use scl_cl::{Compiler, Outcome};
 use std::test::Fail;
 
 /// Of cl.
-static CL: [Row; 76] = [
+static CL: [Row; 78] = [
     ("", "", "not-compilation"),
     ("", "-E -c foo.c", "not-compilation"),
     ("", "/c /EP foo.c b.c", "not-compilation"),
@@ -59,7 +59,7 @@ static CL: [Row; 76] = [
         "cannot-cache -x c++-module without -fmodule-output= or vice versa",
     ),
     ("", "/c", "cannot-cache no input file"),
-    ("", "/c /Tc", "cannot-cache no input file"),
+    ("", "/c /Tc", "cannot-cache empty value"),
     ("", "/c x.xyz", "cannot-cache unknown source language"),
     ("", "/c /Foout/ /Tc..", "cannot-cache invalid input file"),
     ("", "/c /Tc..", "/c -Fo.. -Tc.."),
@@ -72,7 +72,8 @@ static CL: [Row; 76] = [
     ),
     ("", "/c x.c /ifcOutput o", "cannot-cache /ifcOutput"),
     ("", "/c x.c @f", "cannot-cache @"),
-    ("", "/c x.c /FI", "/c -Fox.obj /FI x.c"),
+    ("", "/c x.c /FI", "cannot-cache empty value"),
+    ("", "/c x.c /U", "/c -Fox.obj /U x.c"),
     ("", "/c x.c /reference", "cannot-cache argument parse"),
     ("", "/c x.c -Xclang", "cannot-cache argument parse"),
     ("", "/c x.c -- -Y", "/c -Fox.obj -- -Y x.c"),
@@ -90,9 +91,10 @@ static CL: [Row; 76] = [
     ("", "/c x.c -clang:", "/c -Fox.obj -clang: x.c"),
     (
         "",
-        "/c x.c -Xclang y -Xclang -z",
-        "/c -Fox.obj -Xclang y -Xclang -z x.c",
+        "/c x.c -Xclang y -Xclang -Y",
+        "/c -Fox.obj -Xclang y -Xclang -Y x.c",
     ),
+    ("", "/c x.c -clang:-z", "cannot-cache empty value"),
     (
         "",
         "/c x.c -Xclang -I -Xclang i -Xclang -pipe -clang:-O2 -DA -Xclang -MD",

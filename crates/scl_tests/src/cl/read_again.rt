@@ -93,12 +93,11 @@ static ROWS: [Row; 14] = [
         "-c a.c -Zi -Fdp",
         "-c, -Fo a.obj, -Zi, -Fd p, <a.c>",
     ),
-    // without the premise: an empty value takes the next word
     (
         Compiler::Gcc,
         "",
-        "-c a.c -I",
-        "-x c, -c, -o a.o, -I -fdiagnostics-color=always, <a.c>",
+        "-c a.c -L ",
+        "-x c, -c, -o a.o, -L , -fdiagnostics-color always, <a.c>",
     ),
 ];
 

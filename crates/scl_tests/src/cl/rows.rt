@@ -9,7 +9,7 @@ use std::test::Fail;
 pub(super) type Row = (&'static str, &'static str, &'static str);
 
 /// Of Diab.
-static DIAB: [Row; 18] = [
+static DIAB: [Row; 19] = [
     (
         "",
         "-c foo.cxx -fabc -I include -o foo.o -include file",
@@ -40,6 +40,7 @@ static DIAB: [Row; 18] = [
     ("", "-c a.c b.c", "cannot-cache multiple input files"),
     ("", "-c a.c -o", "cannot-cache argument parse"),
     ("", "-c a.c -E -o", "cannot-cache -E"),
+    ("", "-c a.c -I", "cannot-cache empty value"),
 ];
 
 /// Of TaskingVX.
@@ -56,7 +57,7 @@ static TASKING: [Row; 14] = [
     ),
     ("", "--version -c a.c", "not-compilation"),
     ("", "-c a.c -L @x", "-c a.c -o a.o -L@x"),
-    ("", "-c a.c -L", "-c a.c -o a.o -L"),
+    ("", "-c a.c -L", "cannot-cache empty value"),
     ("", "-n -c foo.c", "cannot-cache -n"),
     ("", "-c foo.c --dep-file=dep -o foo.o", "-c foo.c -o foo.o"),
     ("", "--dep-file -c foo.c", "-c foo.c -o foo.o"),
@@ -69,7 +70,7 @@ static TASKING: [Row; 14] = [
 ];
 
 /// Of Gcc, as its driver for C.
-static GCC: [Row; 32] = [
+static GCC: [Row; 33] = [
     (
         "",
         "-o foo.o -c foo.c",
@@ -84,11 +85,8 @@ static GCC: [Row; 32] = [
         "-c src/foo.cc -stdlib=libc++ -MMD",
         "-x c++ -c -o foo.o -stdlib=libc++ -MMD -MT foo.o -MF foo.d -fdiagnostics-color=always src/foo.cc",
     ),
-    (
-        "",
-        "-c a.c -I",
-        "-x c -c -o a.o -I -fdiagnostics-color=always a.c",
-    ),
+    ("", "-c a.c -I", "cannot-cache empty value"),
+    ("", "-c a.c -I ", "cannot-cache empty value"),
     (
         "file r\t-c\\x20\"a\\x20b.c\"\\x20@r\n",
         "@r",
@@ -143,12 +141,8 @@ static GCC: [Row; 32] = [
         "-x c -c -o a.o -I\\xfe\\xff -fdiagnostics-color=always a.c",
     ),
     ("", "-c a.c -L", "cannot-cache argument parse"),
-    ("", "-c a.c -x", "cannot-cache -x"),
-    (
-        "",
-        "-c a.c -o",
-        "-x c -c -o  -fdiagnostics-color=always a.c",
-    ),
+    ("", "-c a.c -x", "cannot-cache empty value"),
+    ("", "-c a.c -o", "cannot-cache empty value"),
     (
         "cwd /w\nfile /w//r\t-c\\x20a.c\n",
         "@r",
@@ -195,7 +189,7 @@ static GXX: [Row; 2] = [
 ];
 
 /// Of Clang, as its driver for C.
-static CLANG: [Row; 21] = [
+static CLANG: [Row; 23] = [
     (
         "",
         "-c -Xclang -include -Xclang pch.h -- -a.c",
@@ -267,6 +261,8 @@ static CLANG: [Row; 21] = [
         "cannot-cache -no-integrated-as",
     ),
     ("", "-c a.c --config", "cannot-cache argument parse"),
+    ("", "-c a.c --config=", "cannot-cache empty value"),
+    ("", "-c a.c -Xclang -I", "cannot-cache empty value"),
     ("", "-c -x c /", "cannot-cache invalid input file"),
     (
         "",
