@@ -1,5 +1,6 @@
 pub mod BitsLemmas
 pub mod CutsLemmas
+pub mod DescentLemmas
 pub mod EscapedLemmas
 pub mod FitLaws
 pub mod HoldsLemmas
@@ -14,4 +15,5 @@ pub mod RelationLaws
 pub mod SortLaws
 pub mod SplitLemmas
 pub mod TablesLemmas
+pub mod TreeLemmas
 pub mod WordsLemmas

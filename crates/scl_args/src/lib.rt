@@ -13,6 +13,7 @@ mod judge;
 pub mod laws;
 mod lists;
 mod memory;
+mod nodes;
 mod options;
 mod piece;
 mod rows;
