@@ -1,6 +1,7 @@
 pub mod AgainChecks
 pub mod AgainLaws
 pub mod CommandLaws
+pub mod EmptyLaws
 pub mod FilterLaws
 pub mod FoundLaws
 pub mod FreshLaws

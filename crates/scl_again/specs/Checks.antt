@@ -6,6 +6,7 @@ use Rattle.std.specs.Ordering.{nat_cmp, is_lt}
 use Rattle.std.specs.Cmp.Lexicographic.{slice_cmp}
 use Rattle.scl_args.specs.declared.argument.NormalizedDisposition.{NormalizedDisposition}
 use Rattle.scl_args.specs.declared.argument.NormalizedDisposition.TheVariants as side
+use Rattle.scl_args.specs.Empties.{is_either}
 use Rattle.scl_args.specs.Row.{Row, Shape, bare, apart, joined, either}
 use Rattle.scl_args.specs.Tables.{all_rows}
 use Rattle.scl_args.specs.Cuts.{mark}
@@ -37,12 +38,6 @@ keeps_flags changing (row ∷ rows) = (not (changing row) || (no_flag row.flag r
 abbrev pub is_together : NormalizedDisposition → Bool
 is_together side.Separated = false
 is_together side.Concatenated = true
-
-abbrev pub is_either : Shape → Bool
-is_either bare = false
-is_either apart = false
-is_either (joined d) = false
-is_either (either d) = true
 
 -- whether the row's flag is printed together with a value that may have stood apart
 abbrev pub is_joining : {K : Type 0} → (List ℕ → NormalizedDisposition) → Row K → Bool

@@ -1,11 +1,12 @@
 -- What follows for words that are printed and cut again.
-use Rattle.std.specs.Prelude.{◌≡◌, ℕ, Bool, true, List, ◌++◌, map, filter}
+use Rattle.std.specs.Prelude.{◌≡◌, ℕ, Bool, true, false, List, ◌++◌, map, filter, Option, Ok, ◌↔◌}
 use Rattle.scl_args.specs.declared.argument.NormalizedDisposition.{NormalizedDisposition}
 use Rattle.scl_args.specs.Row.{Row}
 use Rattle.scl_args.specs.Tables.{is_table, owner_in}
-use Rattle.scl_args.specs.Cuts.{Cut, raw, cut}
+use Rattle.scl_args.specs.Cuts.{Cut, raw, is_dangling, cut}
+use Rattle.scl_args.specs.Empties.{has_empty_value, refusing_empty}
 use Rattle.scl_args.specs.Seen.{Seen, shown, plain_seen}
-use Rattle.scl_args.specs.Options.{list}
+use Rattle.scl_args.specs.Options.{judged, list}
 use Rattle.scl_args.specs.Each.{Each}
 use Rattle.scl_again.specs.Reads.{Reads}
 use Rattle.scl_again.specs.Checks.{PassChecks, is_last, next_is_clear}
@@ -20,6 +21,18 @@ abbrev pub RawAndUnknownWordsHaveNoOwner : Type 0 → Type 0
 RawAndUnknownWordsHaveNoOwner K = (tables : List (List (Row K))) (dashes : Bool) (words : List (List ℕ)) →
     (unmarked : List (Cut K)) × (marked : List (List ℕ)) × ((cut (owner_in tables) dashes words).options ≡ unmarked ++ map raw marked)
     × BeginsWithMark dashes marked × Each (HasNoOwner (owner_in tables)) unmarked
+
+-- an option of a cutting is seen to have an empty value of an either row exactly where it has one
+abbrev pub EmptyValuesAreSeen : Type 0 → Type 0
+EmptyValuesAreSeen K = (tables : List (List (Row K))) (dashes : Bool) (words : List (List ℕ)) →
+    Each (λ c. (has_empty_value (owner_in tables) (shown c) ≡ false) ↔ IsClear c) (cut (owner_in tables) dashes words).options
+
+-- the options of a cutting, where empty values are refused and none of the options is, are clear
+abbrev pub JudgedAreClear : Type 0 → Type 0 → Type 0
+JudgedAreClear K V = (tables : List (List (Row K))) (dashes : Bool) (words : List (List ℕ))
+    (empty : V) (verdict : List (Seen K) → Seen K → Option V) (dangling : V) (options : List (Seen K)) →
+    let c = cut (owner_in tables) dashes words in
+    judged (refusing_empty (owner_in tables) empty verdict) dangling (map shown c.options) (is_dangling c.end) ≡ Ok options → Each IsClear c.options
 
 -- in a table, no flag goes on after a flag where the next greater one does not
 abbrev pub NextFlagSuffices : Type 0 → Type 0

@@ -1,4 +1,4 @@
--- What is promised of a command: it is read again, unless an option of an either row has an empty value; and it names no response file of its own.
+-- What is promised of a command: it is read again, and it names no response file of its own.
 use Rattle.std.specs.Prelude.{ℕ, Bool, List, map}
 use Rattle.scl_args.specs.Cuts.{Cut}
 use Rattle.scl_args.specs.Each.{Each}
@@ -27,17 +27,12 @@ module _ {K J : Type 0} where
   abbrev pub said_by : Line K J → Said K J
   said_by line = record { options = map shown line.options; inners = map inner_of line.handed_on }
 
-  -- no option of an either row, outer or inner, has an empty value
+  -- no option of an either row, outer or inner, has an empty value; so it is with each line that is not refused
   pub record HasNoEmpty (line : Line K J) : Type 0 where
     pub outer : Each IsClear line.options
     pub inner : Each (λ h. Each IsClear h.options) line.handed_on
 
-  -- unless an option of an either row has an empty value, the words of the command are read again
-  abbrev pub IsReadAgainUnlessEmpty : List (List (Row K)) → Bool → List (List (Row J)) → Line K J → Parts K J → List (List ℕ) → Type 0
-  IsReadAgainUnlessEmpty tables dashes inner_tables line parts words =
-      HasNoEmpty line → IsReadAgain tables dashes inner_tables (said_by line) parts words
-
-  -- so they are, and they name no response file, where neither the command line nor the object does
+  -- the words of the command are read again, and they name no response file, where neither the command line nor the object does
   pub record IsFaithful (tables : List (List (Row K))) (dashes : Bool) (inner_tables : List (List (Row J))) (line : Line K J) (parts : Parts K J) (object : List ℕ) (words : List (List ℕ)) : Type 0 where
-    pub again : IsReadAgainUnlessEmpty tables dashes inner_tables line parts words
+    pub again : IsReadAgain tables dashes inner_tables (said_by line) parts words
     pub no_file : NamesNoFileOfItsOwn (said_by line) object words

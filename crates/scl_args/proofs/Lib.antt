@@ -15,5 +15,6 @@ pub mod RelationLaws
 pub mod SortLaws
 pub mod SplitLemmas
 pub mod TablesLemmas
+pub mod TiesLaws
 pub mod TreeLemmas
 pub mod WordsLemmas

@@ -3,8 +3,10 @@
 
 mod argument;
 mod counted;
+mod empties;
 mod error;
 mod escaped;
+mod failing;
 mod finished;
 mod held;
 mod iter;
@@ -22,6 +24,7 @@ mod spell;
 mod split;
 mod strings;
 mod table;
+mod tables;
 mod tree;
 mod value;
 mod words;
@@ -30,8 +33,10 @@ mod write;
 
 pub use argument::{ArgDisposition, ArgInfo, ArgRow, Argument, Delimiter, NormalizedDisposition};
 pub use counted::Counted;
+pub use empties::has_empty_value;
 pub use error::{ArgParseError, ArgParseResult, ArgToStringError, ArgToStringResult};
 pub use escaped::{Escaped, quoted, quoted_list};
+pub use failing::{FailingReader, FailingWriter};
 pub use finished::Options;
 pub use held::{Held, ReadArg, without_value};
 pub use iter::ArgsIter;
@@ -47,6 +52,7 @@ pub use sort::Sort;
 pub use spell::Iter;
 pub use split::split_os_string_arg;
 pub use strings::IterStrings;
+pub use tables::Tables;
 pub use value::{ArgumentValue, ExactArg, FromArg, IntoArg, PathArg};
 pub use words::{CutWords, cut_options, cut_words};
 pub use wrapped::{WrappedApart, WrappedJoined, Wrapper, push_wrapped};

@@ -113,6 +113,6 @@ command_kept plusplus directory view words =
     (λ p object built. IsFaithful clang_tables true clang_tables line (parts (clang_text p.language) (map shown line.options) p object) object built)
     (reading compilers.Clang plusplus clang_tables directory view words)
     (λ p object e o. record {
-      again = λ clear. commands_again plusplus directory view words p object e o clear.outer (clear.inner.0);
+      again = commands_again plusplus directory view words p object e o;
       no_file = clang_none plusplus directory view words p object e o;
     })

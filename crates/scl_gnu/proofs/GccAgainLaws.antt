@@ -1,6 +1,5 @@
-use Rattle.std.proofs.Common.{◌≡◌, ℕ, Bool, false, List, [], ◌∷◌, ◌++◌, map, Option, None, Some, refl, sym, ap}
+use Rattle.std.proofs.Common.{ℕ, Bool, false, List, [], ◌∷◌, ◌++◌, map, Option, None, Some, refl, sym, ap}
 use Rattle.std.specs.Prelude.{codes}
-use Rattle.scl_args.specs.Cuts.{Cut}
 use Rattle.scl_args.specs.Each.{Each}
 use Rattle.scl_args.specs.Options.{side_of_flag}
 use Rattle.scl_args.specs.Row.{Row, row, apart, joined, either}
@@ -91,10 +90,6 @@ commands_again = commands-again compilers.Gcc tables own_words gcc_text (λ inne
 
 -- ---- the promise of a command
 
-none-clear : (cs : List (Cut Kind)) → map shown cs ≡ [] → Each IsClear cs
-none-clear [] e = tt
-none-clear (c ∷ cs) e = absurd (cc)
-
 pub command_kept : (plusplus : Bool) (directory : List ℕ) (view : Viewed) (words : List (List ℕ)) →
     IfCommand (command_by (λ p. command_words (gcc_text p.language) p)) (GccReadsAgain directory view words) (reading compilers.Gcc plusplus tables directory view words)
 command_kept plusplus directory view words =
@@ -103,6 +98,6 @@ command_kept plusplus directory view words =
     (λ p object built. IsFaithful tables false clang_tables line (parts (gcc_text p.language) (map shown line.options) p object) object built)
     (reading compilers.Gcc plusplus tables directory view words)
     (λ p object e o. record {
-      again = λ clear. commands_again plusplus directory view words p object e o clear.outer (none-clear _ (no_inner directory view words));
+      again = commands_again plusplus directory view words p object e o;
       no_file = gcc_none plusplus directory view words p object e o;
     })

@@ -27,9 +27,9 @@ use Rattle.scl_gnu.specs.ReadAgain.{options_of, inner_options_of}
 use Rattle.scl_gnu.proofs.KeptLaws.{is_kind}
 
 -- where there are no words there are no options
-pub none_inside : {V : Type 0} (verdict : List (Seen Kind) → Seen Kind → Option V) (dangling : V) (directory : List ℕ) (view : Viewed) (words : List (Vec ℕ Global))
-    → (length words == 0) ≡ true → inner_reading verdict dangling directory view (words_of words) ≡ Ok []
-none_inside verdict dangling directory view words e = rw (nil_from_length words (eqb-true (length words) 0 e), expand-nil _ directory view.files) refl
+pub none_inside : {V : Type 0} (empty : V) (verdict : List (Seen Kind) → Seen Kind → Option V) (dangling : V) (directory : List ℕ) (view : Viewed) (words : List (Vec ℕ Global))
+    → (length words == 0) ≡ true → inner_reading empty verdict dangling directory view (words_of words) ≡ Ok []
+none_inside empty verdict dangling directory view words e = rw (nil_from_length words (eqb-true (length words) 0 e), expand-nil _ directory view.files) refl
 
 -- ---- no row of Gcc's hands words on
 

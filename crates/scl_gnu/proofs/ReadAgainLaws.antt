@@ -237,7 +237,7 @@ module _ (compiler : CCompilerKind) (tables : List (List (Row Kind))) (own_words
     let inner = inner_options_of directory view (map shown (options_of tables (is_clang compiler) directory view words)) in
     Each IsClear inner → AreInners tables (is_clang compiler) (map shown inner) (handed_on inner)) where
   pub commands-again : CommandsAreReadAgain compiler tables text handed_on
-  commands-again plusplus directory view words p object e has_object clear inner_clear =
+  commands-again plusplus directory view words p object e has_object =
       let r = is-read compiler plusplus tables directory view words p e in
       let os = map shown (options_of tables (is_clang compiler) directory view words) in
       let inner = inner_options_of directory view os in
@@ -246,5 +246,5 @@ module _ (compiler : CCompilerKind) (tables : List (List (Row Kind))) (own_words
       let same : r.tested.object ≡ object = cc in
       subst (λ x. IsReadAgain tables (is_clang compiler) clang_tables (record { options = os; inners = handed_on inner }) (parts (text p.language) os p x) (command_words (text p.language) p x)) same
       (subst (λ q. IsReadAgain tables (is_clang compiler) clang_tables (record { options = os; inners = handed_on inner }) (parts (text q.language) os q r.tested.object) (command_words (text q.language) q r.tested.object)) r.is
-      (record-again compiler tables own_words (expand expansions.Gnu directory view.files words) (map shown inner) (handed_on inner) (handed directory view words inner_clear)
-      clear directory view r.tested r.has (text r.tested.language)))
+      (record-again compiler tables own_words (expand expansions.Gnu directory view.files words) (map shown inner) (handed_on inner) (handed directory view words r.inner_clear)
+      r.clear directory view r.tested r.has (text r.tested.language)))

@@ -3,10 +3,14 @@ use Rattle.std.proofs.Common.{◌≡◌, ℕ, Bool, true, false, List, [], ◌�
 use Rattle.std.specs.Prelude.{codes}
 use Rattle.std.specs.Str.{bytes_eq}
 use Rattle.scl_args.specs.Cuts.{cut, is_dangling}
+use Rattle.scl_args.specs.Each.{Each}
+use Rattle.scl_args.specs.Empties.{refusing_empty}
 use Rattle.scl_args.specs.Options.{texts, wanted}
 use Rattle.scl_args.specs.Row.{Row}
 use Rattle.scl_args.specs.Seen.{Seen, shown}
 use Rattle.scl_args.specs.Tables.{owner_in}
+use Rattle.scl_again.specs.Origins.{IsClear}
+use Rattle.scl_again.proofs.EmptyLaws.{judged-clear}
 use Rattle.scl_again.proofs.OutcomeLaws.{bind-ok, wanted-ok, judged-ok}
 use Rattle.scl_text.specs.declared.expand.ExpansionKind.TheVariants as expansions
 use Rattle.scl_text.specs.declared.records.CCompilerKind.{CCompilerKind}
@@ -14,7 +18,7 @@ use Rattle.scl_text.specs.Commands.{object_of}
 use Rattle.scl_text.specs.Expand.{expand}
 use Rattle.scl_text.specs.JudgedWords.{judged_words}
 use Rattle.scl_text.specs.Outputs.{output_at, path_at}
-use Rattle.scl_text.specs.Reasons.{argument_parse, invalid_input_file, unknown_source_language}
+use Rattle.scl_text.specs.Reasons.{argument_parse, empty_value, invalid_input_file, unknown_source_language}
 use Rattle.scl_text.specs.Records.{Artifact, Parsed, NotCompilation}
 use Rattle.scl_text.specs.Refusals.{the_input}
 use Rattle.scl_text.specs.Views.{Viewed}
@@ -68,20 +72,28 @@ module _ (compiler : CCompilerKind) (plusplus : Bool) (tables : List (List (Row 
     pub tested : Found
     pub has : HasFound os tested
     pub is : record_of compiler directory view os inner tested ≡ p
+    pub clear : Each IsClear (options_of tables (is_clang compiler) directory view words)
+    pub inner_clear : Each IsClear (inner_options_of directory view os)
 
   pub is-read : reading compiler plusplus tables directory view words ≡ Ok p → IsRead
   is-read e =
       let c = cut (owner_in tables) (is_clang compiler) (expand expansions.Gnu directory view.files words) in
       let handed = texts (of (kind.XClang ∷ [])) os in
       let d = cut (owner_in clang_tables) false (expand expansions.Gnu directory view.files handed) in
-      let a = bind-ok (judged_words expansions.Gnu (verdict view.is_multiarch) argument_parse tables (is_clang compiler) directory view words) (read compiler plusplus directory view) p e in
+      let a = bind-ok (judged_words expansions.Gnu empty_value (verdict view.is_multiarch) argument_parse tables (is_clang compiler) directory view words) (read compiler plusplus directory view) p e in
       let r : read compiler plusplus directory view os ≡ Ok p =
-      ap (read compiler plusplus directory view) (judged-ok (verdict view.is_multiarch) argument_parse os (is_dangling c.end) a.0 a.1) ∙ a.2 in
-      let b = bind-ok (inner_reading inner_verdict argument_parse directory view handed) (recorded compiler plusplus directory view os) p r in
+      ap (read compiler plusplus directory view) (judged-ok (refusing_empty (owner_in tables) empty_value (verdict view.is_multiarch)) argument_parse os (is_dangling c.end) a.0 a.1) ∙ a.2 in
+      let b = bind-ok (inner_reading empty_value inner_verdict argument_parse directory view handed) (recorded compiler plusplus directory view os) p r in
       let i : recorded compiler plusplus directory view os inner ≡ Ok p =
-      ap (recorded compiler plusplus directory view os) (judged-ok inner_verdict argument_parse inner (is_dangling d.end) b.0 b.1) ∙ b.2 in
+      ap (recorded compiler plusplus directory view os) (judged-ok (refusing_empty (owner_in clang_tables) empty_value inner_verdict) argument_parse inner (is_dangling d.end) b.0 b.1) ∙ b.2 in
       let t = bind-ok (found plusplus os) _ p i in
-      record { tested = t.0; has = has-found plusplus os t.0 t.1; is = cc (t.2) }
+      record {
+        tested = t.0;
+        has = has-found plusplus os t.0 t.1;
+        is = cc (t.2);
+        clear = judged-clear tables (is_clang compiler) (expand expansions.Gnu directory view.files words) empty_value (verdict view.is_multiarch) argument_parse a.0 a.1;
+        inner_clear = judged-clear clang_tables false (expand expansions.Gnu directory view.files handed) empty_value inner_verdict argument_parse b.0 b.1;
+      }
 
 -- ---- the object of a record
 

@@ -1,14 +1,13 @@
 -- Commands of Gcc and Clang that are read again.
 use Rattle.std.specs.Prelude.{◌≡◌, ℕ, Bool, true, false, List, [], ◌∷◌, ◌++◌, map, codes, Option, None, Some, Ok, IfSome, unwrap_or, is_some}
 use Rattle.scl_args.specs.Cuts.{Cut, cut}
-use Rattle.scl_args.specs.Each.{Each}
 use Rattle.scl_args.specs.Options.{texts}
 use Rattle.scl_args.specs.Row.{Row}
 use Rattle.scl_args.specs.Seen.{Seen, Plain, shown}
 use Rattle.scl_args.specs.Seen as plain
 use Rattle.scl_args.specs.Tables.{owner_in}
 use Rattle.scl_again.specs.Commands.{Inner, CommandList, Parts, IsReadAgain}
-use Rattle.scl_again.specs.Origins.{IsClear, input_words}
+use Rattle.scl_again.specs.Origins.{input_words}
 use Rattle.scl_again.specs.Promises.{HandedOn, Line, IsFaithful}
 use Rattle.scl_text.specs.declared.expand.ExpansionKind.TheVariants as expansions
 use Rattle.scl_text.specs.declared.language.Language.{Language}
@@ -95,14 +94,13 @@ behind_xclang inner = record { flag = codes "-Xclang"; kind = kind.XClang; optio
 
 -- ---- the command read again
 
--- where words without empty either values, inner ones too, have a record, by these tables, its command with this text for the language is read again
+-- where words have a record, by these tables, its command with this text for the language is read again
 abbrev pub CommandsAreReadAgain : CCompilerKind → List (List (Row Kind)) → (Language → Option (List ℕ)) → (List (Cut Kind) → List (Inner Kind Kind)) → Type 0
 CommandsAreReadAgain compiler tables text handed_on =
     (plusplus : Bool) (directory : List ℕ) (view : Viewed) (words : List (List ℕ)) (p : Parsed) (object : List ℕ) →
     reading compiler plusplus tables directory view words ≡ Ok p → object_of p ≡ Some object →
     let options = options_of tables (is_clang compiler) directory view words in
     let inner = inner_options_of directory view (map shown options) in
-    Each IsClear options → Each IsClear inner →
     IsReadAgain tables (is_clang compiler) clang_tables (record { options = map shown options; inners = handed_on inner })
     (parts (text p.language) (map shown options) p object) (command_words (text p.language) p object)
 

@@ -9,4 +9,4 @@ mod version;
 pub use crate::gcc::{ArgData, Kind};
 pub use args::{ARGS, table};
 pub use compiler::{Clang, language_to_clang_arg};
-pub use tables::BothTables;
+pub use tables::{BothTables, BothTrees};

@@ -4,12 +4,13 @@ use Rattle.std.specs.List.{flat_map}
 use Rattle.std.specs.Option.{option_and_then}
 use Rattle.scl_args.specs.Cuts.{Cut, raw, unknown, flag, with_value, cut}
 use Rattle.scl_args.specs.Each.{Each}
-use Rattle.scl_args.specs.Options.{text_of, texts, ◌>>=◌}
+use Rattle.scl_args.specs.Options.{text_of, texts}
 use Rattle.scl_args.specs.Seen.{Seen, Raw, Unknown, Known, Plain, plain, plain_seen, shown}
 use Rattle.scl_args.specs.Seen as plain
 use Rattle.scl_args.specs.Tables.{owner_in}
 use Rattle.scl_again.proofs.FilterLaws.{any-none, has-last}
 use Rattle.scl_again.proofs.NoneLaws.{HasNone, own-alone}
+use Rattle.scl_again.proofs.OutcomeLaws.{bind-ok}
 use Rattle.scl_text.specs.declared.language.Language.{Language}
 use Rattle.scl_text.specs.declared.language.Language.TheVariants as languages
 use Rattle.scl_msvc.specs.declared.msvc.data.Kind.{Kind}
@@ -18,6 +19,7 @@ use Rattle.scl_msvc.specs.declared.msvc.place.Place.{Place}
 use Rattle.scl_msvc.specs.declared.msvc.place.Place.TheVariants as places
 use Rattle.scl_msvc.specs.Again.{is_list}
 use Rattle.scl_msvc.specs.Building.{command_words}
+use Rattle.scl_msvc.specs.Environment.{surrounded}
 use Rattle.scl_msvc.specs.FixedTests.{Found}
 use Rattle.scl_msvc.specs.Inners.{Inner}
 use Rattle.scl_msvc.specs.Kinds.{any, is_input, language_said}
@@ -108,14 +110,16 @@ module _ (os : List (Seen Kind)) (f : Found) (has : HasFound os f) where
   marked-input false = ap (λ xs. xs ++ []) own-input
 
 pub one_input : MsvcCommandsHaveOneInput
-one_input is_clang directory pairs view words all p object all_words e has_object clear xclang_clear clang_clear =
-    let again = commands_again is_clang directory pairs view words all p object all_words e has_object clear xclang_clear clang_clear in
+one_input is_clang directory pairs view words p object e has_object =
+    let given = bind-ok (surrounded pairs words) (reading is_clang directory view) p e in
+    let all = given.0 in
+    let again = commands_again is_clang directory pairs view words all p object given.1 e has_object in
     let os = map shown (options_of is_clang directory view all) in
     let xclang = inner_options_of kind.XClang directory view os in
     let clang = inner_options_of kind.Clang directory view os in
     let inside : Inner = record { xclang = map shown xclang; clang = map shown clang } in
     let made = parts p object in
-    let r = is-read is_clang directory view all p (sym (ap (λ w. w >>= reading is_clang directory view) all_words) ∙ e) in
+    let r = is-read is_clang directory view all p given.2 in
     texts-named (cut (owner_in msvc_tables) is_clang (command_words p object)).options
     ∙ (ap (λ s. flat_map named_input s.options) again.outer
     ∙ (own-alone named_input (msvc.said os xclang clang) made.front made.back made.lists ((λ w. refl), ((λ w. refl), tt))

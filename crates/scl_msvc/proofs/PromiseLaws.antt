@@ -1,6 +1,6 @@
 use Rattle.std.proofs.Common.{◌≡◌, ℕ, Bool, List, Result, Ok, Err, refl}
 use Rattle.std.specs.Prelude.{IfOk}
-use Rattle.scl_again.specs.Promises.{HasNoEmpty, IsFaithful}
+use Rattle.scl_again.specs.Promises.{IsFaithful}
 use Rattle.scl_text.proofs.CompilerLaws.{command-kept}
 use Rattle.scl_text.specs.Compilers.{IfCommand}
 use Rattle.scl_text.specs.Records.{Parsed}
@@ -8,8 +8,8 @@ use Rattle.scl_text.specs.Views.{Viewed}
 use Rattle.scl_gnu.specs.ClangRows.{clang_tables}
 use Rattle.scl_msvc.specs.Building.{command, command_words}
 use Rattle.scl_msvc.specs.Environment.{surrounded}
-use Rattle.scl_msvc.specs.Promises.{msvc_line, HasOneInput, MsvcReadsAgain}
-use Rattle.scl_msvc.specs.ReadAgain.{parts}
+use Rattle.scl_msvc.specs.Promises.{msvc_line, MsvcReadsAgain}
+use Rattle.scl_msvc.specs.ReadAgain.{parts, HasOneInput}
 use Rattle.scl_msvc.specs.Readings.{reading_within}
 use Rattle.scl_msvc.specs.Rows.{msvc_tables}
 use Rattle.scl_msvc.proofs.NoFileLaws.{commands_none}
@@ -25,13 +25,13 @@ pub command_kept : (is_clang : Bool) (directory : List ℕ) (pairs : List (List 
 command_kept is_clang directory pairs view words =
     let again : Parsed → List ℕ → List (List ℕ) → List (List ℕ) → Type 0 = λ p object built all.
     IsFaithful msvc_tables is_clang clang_tables (msvc_line is_clang directory view all) (parts p object) object built
-    × (HasNoEmpty (msvc_line is_clang directory view all) → HasOneInput is_clang p built) in
+    × HasOneInput is_clang p built in
     command-kept command_words (λ p object built. IfOk (surrounded pairs words) (again p object built))
     (reading_within is_clang directory pairs view words)
     (λ p object e o. if-ok (surrounded pairs words) (again p object (command_words p object)) (λ all s. (
       record {
-        again = λ clear. commands_again is_clang directory pairs view words all p object s e o clear.outer clear.inner.0 clear.inner.1.0;
+        again = commands_again is_clang directory pairs view words all p object s e o;
         no_file = commands_none is_clang directory pairs view words all p object s e o;
       },
-      λ clear. one_input is_clang directory pairs view words all p object s e o clear.outer clear.inner.0 clear.inner.1.0,
+      one_input is_clang directory pairs view words p object e o,
     )))

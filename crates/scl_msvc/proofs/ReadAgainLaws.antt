@@ -180,7 +180,7 @@ module _ (is_clang : Bool) (ws : List (List ℕ)) (xclang clang : List (Cut gnu.
 
 command-read : (is_clang : Bool) (directory : List ℕ) (view : Viewed) (words : List (List ℕ)) (p : Parsed) (object : List ℕ) → reading is_clang directory view words ≡ Ok p → object_of p ≡ Some object
     → CommandIsReadAgain is_clang directory view words p object
-command-read is_clang directory view words p object e has_object clear xclang_clear clang_clear =
+command-read is_clang directory view words p object e has_object =
     let r = is-read is_clang directory view words p e in
     let os = map shown (options_of is_clang directory view words) in
     let xclang = inner_options_of kind.XClang directory view os in
@@ -192,8 +192,8 @@ command-read is_clang directory view words p object e has_object clear xclang_cl
     subst (λ x. IsReadAgain msvc_tables is_clang clang_tables (msvc.said os xclang clang) (parts p x) (command_words p x)) same
     (subst (λ q. IsReadAgain msvc_tables is_clang clang_tables (msvc.said os xclang clang) (parts q r.tested.object) (command_words q r.tested.object)) r.is
     (record-again is_clang (expand expansions.Msvc directory view.files words) xclang clang
-    (record { words = words_of kind.XClang; are = refl; clear = xclang_clear }) (record { words = words_of kind.Clang; are = refl; clear = clang_clear })
-    clear directory view r.tested r.has r.unrefused))
+    (record { words = words_of kind.XClang; are = refl; clear = r.xclang_clear }) (record { words = words_of kind.Clang; are = refl; clear = r.clang_clear })
+    r.clear directory view r.tested r.has r.unrefused))
 
 pub commands_again : MsvcCommandsAreReadAgain
 commands_again is_clang directory pairs view words all p object all_words e has_object =

@@ -4,9 +4,12 @@ use Rattle.std.specs.Option.{option_and_then}
 use Rattle.std.specs.Prelude.{codes}
 use Rattle.scl_args.specs.Cuts.{cut, is_dangling}
 use Rattle.scl_args.specs.Each.{Each}
+use Rattle.scl_args.specs.Empties.{refusing_empty}
 use Rattle.scl_args.specs.Options.{texts, wanted}
 use Rattle.scl_args.specs.Seen.{Seen, Raw, Unknown, Known, shown}
 use Rattle.scl_args.specs.Tables.{owner_in}
+use Rattle.scl_again.specs.Origins.{IsClear}
+use Rattle.scl_again.proofs.EmptyLaws.{judged-clear, judged-else}
 use Rattle.scl_again.proofs.FilterLaws.{has-last}
 use Rattle.scl_again.proofs.OutcomeLaws.{bind-ok, wanted-ok, unless-ok, unless-none, judged-ok, judged-none}
 use Rattle.scl_text.specs.declared.expand.ExpansionKind.TheVariants as expansions
@@ -16,7 +19,7 @@ use Rattle.scl_text.specs.Commands.{object_of}
 use Rattle.scl_text.specs.Expand.{expand}
 use Rattle.scl_text.specs.JudgedWords.{judged_words}
 use Rattle.scl_text.specs.Outputs.{path_at}
-use Rattle.scl_text.specs.Reasons.{argument_parse, invalid_input_file, unknown_source_language}
+use Rattle.scl_text.specs.Reasons.{empty_value, argument_parse, invalid_input_file, unknown_source_language}
 use Rattle.scl_text.specs.Records.{Parsed, Verdict, NotCompilation}
 use Rattle.scl_text.specs.Refusals.{the_input}
 use Rattle.scl_text.specs.Views.{Viewed}
@@ -115,6 +118,9 @@ module _ (is_clang : Bool) (directory : List ℕ) (view : Viewed) (words : List 
     pub tested : Found
     pub has : HasFound os tested
     pub unrefused : Each (λ o. verdict is_clang [] o ≡ None) os
+    pub clear : Each IsClear (options_of is_clang directory view words)
+    pub xclang_clear : Each IsClear (inner_options_of kind.XClang directory view os)
+    pub clang_clear : Each IsClear (inner_options_of kind.Clang directory view os)
     pub is : record_of directory view os inner tested ≡ p
 
   same-verdict : (before : List (Seen Kind)) (o : Seen Kind) → verdict is_clang before o ≡ verdict is_clang [] o
@@ -125,14 +131,20 @@ module _ (is_clang : Bool) (directory : List ℕ) (view : Viewed) (words : List 
   inner-ok : (k : Kind) (r : List (Seen gnu.Kind)) → inner_options k directory view os ≡ Ok r → map shown (inner_options_of k directory view os) ≡ r
   inner-ok k r e =
       let c = cut (owner_in clang_tables) false (expand expansions.Gnu directory view.files (texts (of (k ∷ [])) os)) in
-      judged-ok inner_verdict argument_parse (map shown c.options) (is_dangling c.end) r e
+      judged-ok (refusing_empty (owner_in clang_tables) empty_value inner_verdict) argument_parse (map shown c.options) (is_dangling c.end) r e
+
+  inner-clear : (k : Kind) (r : List (Seen gnu.Kind)) → inner_options k directory view os ≡ Ok r → Each IsClear (inner_options_of k directory view os)
+  inner-clear k r e = judged-clear clang_tables false (expand expansions.Gnu directory view.files (texts (of (k ∷ [])) os)) empty_value inner_verdict argument_parse r e
+
+  abbrev says : List (Seen Kind) → Seen Kind → Option Verdict
+  says = refusing_empty (owner_in msvc_tables) empty_value (verdict is_clang)
 
   pub is-read : reading is_clang directory view words ≡ Ok p → IsRead
   is-read e =
       let c = cut (owner_in msvc_tables) is_clang (expand expansions.Msvc directory view.files words) in
-      let a = bind-ok (judged_words expansions.Msvc (verdict is_clang) argument_parse msvc_tables is_clang directory view words) (read is_clang directory view) p e in
+      let a = bind-ok (judged_words expansions.Msvc empty_value (verdict is_clang) argument_parse msvc_tables is_clang directory view words) (read is_clang directory view) p e in
       let r : read is_clang directory view os ≡ Ok p =
-      ap (read is_clang directory view) (judged-ok (verdict is_clang) argument_parse os (is_dangling c.end) a.0 a.1) ∙ a.2 in
+      ap (read is_clang directory view) (judged-ok says argument_parse os (is_dangling c.end) a.0 a.1) ∙ a.2 in
       let b = bind-ok (both_inner directory view os) (recorded is_clang directory view os) p r in
       let x = bind-ok (inner_options kind.XClang directory view os) _ b.0 b.1 in
       let y = bind-ok (inner_options kind.Clang directory view os) _ b.0 x.2 in
@@ -146,7 +158,11 @@ module _ (is_clang : Bool) (directory : List ℕ) (view : Viewed) (words : List 
       record {
         tested = t.0;
         has = has-found is_clang os t.0 t.1;
-        unrefused = judged-none (verdict is_clang) same-verdict argument_parse os (is_dangling c.end) a.0 a.1;
+        unrefused = judged-none (verdict is_clang) same-verdict argument_parse os (is_dangling c.end) a.0
+            (judged-else (owner_in msvc_tables) empty_value (verdict is_clang) argument_parse os (is_dangling c.end) a.0 a.1);
+        clear = judged-clear msvc_tables is_clang (expand expansions.Msvc directory view.files words) empty_value (verdict is_clang) argument_parse a.0 a.1;
+        xclang_clear = inner-clear kind.XClang x.0 x.1;
+        clang_clear = inner-clear kind.Clang y.0 y.1;
         is = cc (t.2);
       }
 

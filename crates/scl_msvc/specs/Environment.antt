@@ -1,5 +1,5 @@
 -- What a command line has from its environment: words before and behind its own.
-use Rattle.std.specs.Prelude.{ℕ, ◌==◌, ◌||◌, not, Bool, List, [], ◌∷◌, ◌++◌, map, filter, Option, None, Some, Result, Ok, codes, if◌then◌else◌}
+use Rattle.std.specs.Prelude.{ℕ, ◌==◌, ◌||◌, not, Bool, List, [], ◌∷◌, ◌++◌, map, filter, Option, None, Some, is_some, Result, Ok, codes, if◌then◌else◌}
 use Rattle.std.specs.Option.{option_map}
 use Rattle.std.specs.Str.{bytes_eq, chars}
 use Rattle.scl_args.specs.Options.{wanted, ◌>>=◌}
@@ -25,6 +25,10 @@ without_cl_env_vars pairs = filter (λ pair. not (is_variable pair.0)) pairs
 abbrev pub value_of : List ℕ → List (List ℕ × List ℕ) → Option (List ℕ)
 value_of key [] = None
 value_of key (pair ∷ pairs) = if bytes_eq pair.0 key then Some pair.1 else value_of key pairs
+
+-- whether one of the two variables has a value
+abbrev pub gives_words : List (List ℕ × List ℕ) → Bool
+gives_words pairs = is_some (value_of front_variable pairs) || is_some (value_of back_variable pairs)
 
 -- the word, in which the first # stands for =
 abbrev pub with_equals : List ℕ → List ℕ

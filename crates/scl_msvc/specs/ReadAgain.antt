@@ -1,13 +1,11 @@
 -- Commands of Msvc that are read again.
 use Rattle.std.specs.Prelude.{◌≡◌, ℕ, Bool, true, false, List, [], ◌∷◌, ◌++◌, map, codes, Some, Ok}
 use Rattle.scl_args.specs.Cuts.{mark, Cut, cut}
-use Rattle.scl_args.specs.Each.{Each}
 use Rattle.scl_args.specs.Options.{texts}
 use Rattle.scl_args.specs.Seen.{Seen, Plain, shown}
 use Rattle.scl_args.specs.Seen as plain
 use Rattle.scl_args.specs.Tables.{owner_in}
 use Rattle.scl_again.specs.Commands.{Inner, Said, CommandList, Parts, IsReadAgain}
-use Rattle.scl_again.specs.Origins.{IsClear}
 use Rattle.scl_text.specs.declared.expand.ExpansionKind.TheVariants as expansions
 use Rattle.scl_text.specs.declared.language.Language.{Language}
 use Rattle.scl_text.specs.declared.language.Language.TheVariants as languages
@@ -78,14 +76,12 @@ said os xclang clang = record { options = os; inners = behind_xclang xclang ∷ 
 
 -- ---- the command read again
 
--- the command of the words' record with this object file is read again, unless an option of an either row, an inner one too, has an empty value
+-- the command of the words' record with this object file is read again
 abbrev pub CommandIsReadAgain : Bool → List ℕ → Viewed → List (List ℕ) → Parsed → List ℕ → Type 0
 CommandIsReadAgain is_clang directory view words p object =
-    let options = options_of is_clang directory view words in
-    let os = map shown options in
+    let os = map shown (options_of is_clang directory view words) in
     let xclang = inner_options_of kind.XClang directory view os in
     let clang = inner_options_of kind.Clang directory view os in
-    Each IsClear options → Each IsClear xclang → Each IsClear clang →
     IsReadAgain msvc_tables is_clang clang_tables (said os xclang clang) (parts p object) (command_words p object)
 
 -- where words, which with those of the environment are all these, have a record, its command is read again
@@ -95,16 +91,13 @@ MsvcCommandsAreReadAgain =
     surrounded pairs words ≡ Ok all → reading_within is_clang directory pairs view words ≡ Ok p → object_of p ≡ Some object →
     CommandIsReadAgain is_clang directory view all p object
 
--- the command, read again, has the one input of the record, whether it is raw or the value of the flag of its language
-abbrev pub CommandHasOneInput : Bool → List ℕ → Viewed → List (List ℕ) → Parsed → List ℕ → Type 0
-CommandHasOneInput is_clang directory view words p object =
-    let options = options_of is_clang directory view words in
-    let os = map shown options in
-    Each IsClear options → Each IsClear (inner_options_of kind.XClang directory view os) → Each IsClear (inner_options_of kind.Clang directory view os) →
-    texts is_input (map shown (cut (owner_in msvc_tables) is_clang (command_words p object)).options) ≡ p.input ∷ []
+-- the words, cut again, have one input, the record's, raw or as the value of the flag of its language
+abbrev pub HasOneInput : Bool → Parsed → List (List ℕ) → Type 0
+HasOneInput is_clang p command = texts is_input (map shown (cut (owner_in msvc_tables) is_clang command).options) ≡ p.input ∷ []
 
+-- where words have a record, its command has one input
 abbrev pub MsvcCommandsHaveOneInput : Type 0
 MsvcCommandsHaveOneInput =
-    (is_clang : Bool) (directory : List ℕ) (pairs : List (List ℕ × List ℕ)) (view : Viewed) (words all : List (List ℕ)) (p : Parsed) (object : List ℕ) →
-    surrounded pairs words ≡ Ok all → reading_within is_clang directory pairs view words ≡ Ok p → object_of p ≡ Some object →
-    CommandHasOneInput is_clang directory view all p object
+    (is_clang : Bool) (directory : List ℕ) (pairs : List (List ℕ × List ℕ)) (view : Viewed) (words : List (List ℕ)) (p : Parsed) (object : List ℕ) →
+    reading_within is_clang directory pairs view words ≡ Ok p → object_of p ≡ Some object →
+    HasOneInput is_clang p (command_words p object)

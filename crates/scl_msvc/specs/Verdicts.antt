@@ -1,6 +1,7 @@
 -- What an option says against caching.
-use Rattle.std.specs.Prelude.{ℕ, Bool, true, false, not, ◌&&◌, List, [], ◌∷◌, Option, None, Some, codes}
+use Rattle.std.specs.Prelude.{ℕ, Bool, true, false, not, ◌&&◌, List, Option, None, Some, codes}
 use Rattle.std.specs.Str.{bytes_eq}
+use Rattle.scl_args.specs.Empties.{is_empty}
 use Rattle.scl_args.specs.Options.{or_else}
 use Rattle.scl_args.specs.Seen.{Seen, Raw, Unknown, Known}
 use Rattle.scl_text.specs.Reasons.{no_input_file}
@@ -10,10 +11,6 @@ use Rattle.scl_msvc.specs.declared.msvc.data.Kind.TheVariants as kind
 use Rattle.scl_msvc.specs.declared.msvc.place.Place.{Place}
 use Rattle.scl_msvc.specs.declared.msvc.place.Place.TheVariants as places
 use Rattle.scl_msvc.specs.Places.{place}
-
-abbrev pub is_empty : List ℕ → Bool
-is_empty [] = true
-is_empty (byte ∷ bytes) = false
 
 abbrev pub refused_if : Bool → Verdict → Option Verdict
 refused_if true verdict = Some verdict

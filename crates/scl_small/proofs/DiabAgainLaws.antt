@@ -2,6 +2,7 @@ use Rattle.std.proofs.Common.{◌≡◌, ℕ, true, false, not, ◌||◌, List, 
 use Rattle.std.specs.List.{list_all}
 use Rattle.std.specs.Prelude.{codes, Ok}
 use Rattle.scl_args.specs.Cuts.{cut, is_dangling}
+use Rattle.scl_args.specs.Empties.{refusing_empty}
 use Rattle.scl_args.specs.Options.{is_of, judged, side_of_flag, wanted}
 use Rattle.scl_args.specs.Row.{Row, row, apart}
 use Rattle.scl_args.specs.Seen.{Seen, Raw, Unknown, Known, shown}
@@ -10,9 +11,10 @@ use Rattle.scl_args.specs.Tables.{owner_in, all_rows}
 use Rattle.scl_again.specs.Checks.{PassChecks}
 use Rattle.scl_again.specs.Reads.{Reads}
 use Rattle.scl_again.proofs.FoundLaws.{last-flag, flag-again, is_bare}
+use Rattle.scl_again.proofs.EmptyLaws.{judged-clear}
 use Rattle.scl_again.proofs.OutcomeLaws.{bind-ok, wanted-ok, judged-ok}
 use Rattle.scl_again.proofs.ReadsLaws.{reads-apart}
-use Rattle.scl_text.specs.Reasons.{argument_parse}
+use Rattle.scl_text.specs.Reasons.{empty_value, argument_parse}
 use Rattle.scl_text.specs.Records.{NotCompilation}
 use Rattle.scl_text.specs.Expand.{expand}
 use Rattle.scl_text.specs.Views.{File}
@@ -76,10 +78,12 @@ unfolding rows
 bare_rows = refl
 
 pub commands_again : CommandsAreReadAgain place kinds.DoCompilation kinds.Output rows reading
-commands_again words p object e clear =
+commands_again words p object e =
     let c = cut (owner_in (rows ∷ [])) false words in
-    let a = bind-ok (judged (λ before. verdict) argument_parse (map shown c.options) (is_dangling c.end)) tested p e in
-    let t : tested (map shown c.options) ≡ Ok p = ap tested (judged-ok (λ before. verdict) argument_parse (map shown c.options) (is_dangling c.end) a.0 a.1) ∙ a.2 in
+    let says = refusing_empty (owner_in (rows ∷ [])) empty_value (λ before. verdict) in
+    let a = bind-ok (judged says argument_parse (map shown c.options) (is_dangling c.end)) tested p e in
+    let clear = judged-clear (rows ∷ []) false words empty_value (λ before. verdict) argument_parse a.0 a.1 in
+    let t : tested (map shown c.options) ≡ Ok p = ap tested (judged-ok says argument_parse (map shown c.options) (is_dangling c.end) a.0 a.1) ∙ a.2 in
     let b = bind-ok (wanted (last_flag_at place places.CompileFlag (map shown c.options)) NotCompilation) _ p t in
     let f = last-flag (rows ∷ []) false (goes_to place places.CompileFlag) words b.0 (wanted-ok (last_flag_at place places.CompileFlag (map shown c.options)) NotCompilation b.0 b.1) in
     let r = flag-again (rows ∷ []) false (λ k. ghosts.eq (place k) places.CompileFlag) bare_rows kinds.DoCompilation only (goes_to place places.CompileFlag) by_kind f.0 f.1 in

@@ -18,7 +18,7 @@ use Rattle.scl_again.proofs.FoundLaws.{one-text, raw-again}
 use Rattle.scl_again.proofs.ListLaws.{listed-again}
 use Rattle.scl_again.proofs.OutcomeLaws.{bind-ok}
 use Rattle.scl_again.proofs.ReadsLaws.{reads-append}
-use Rattle.scl_again.specs.Promises.{IsReadAgainUnlessEmpty}
+use Rattle.scl_again.specs.Promises.{said_by}
 use Rattle.scl_text.proofs.CompilerLaws.{command-kept}
 use Rattle.scl_text.specs.Compilers.{IfCommand}
 use Rattle.scl_text.specs.Languages.{language_of_file_name}
@@ -139,5 +139,5 @@ pub command-kept-again : {K : Type 0} (place : K → Place) (compile output : K)
     CommandsAreReadAgain place compile output rows reading → (words : List (List ℕ)) →
     IfCommand command (CommandIsReadAgain place compile output rows words) (reading (owner_in (rows ∷ [])) words)
 command-kept-again place compile output rows reading all words =
-    command-kept command_words (λ p object again. IsReadAgainUnlessEmpty (rows ∷ []) false [] (line_of rows words) (parts place compile output p object) again)
-    (reading (owner_in (rows ∷ [])) words) (λ p object e o clear. all words p object e clear.outer)
+    command-kept command_words (λ p object again. IsReadAgain (rows ∷ []) false [] (said_by (line_of rows words)) (parts place compile output p object) again)
+    (reading (owner_in (rows ∷ [])) words) (λ p object e o. all words p object e)

@@ -1,6 +1,7 @@
 use Rattle.std.proofs.Common.{◌≡◌, ℕ, false, List, [], ◌∷◌, map, refl, ◌∙◌, ap}
 use Rattle.std.specs.Prelude.{codes, Ok}
 use Rattle.scl_args.specs.Cuts.{cut, is_dangling}
+use Rattle.scl_args.specs.Empties.{refusing_empty}
 use Rattle.scl_args.specs.Options.{judged, side_of_flag, wanted}
 use Rattle.scl_args.specs.Row.{Row, row, bare, apart}
 use Rattle.scl_args.specs.Seen.{shown}
@@ -8,9 +9,10 @@ use Rattle.scl_args.specs.Seen as plain
 use Rattle.scl_args.specs.Tables.{owner_in}
 use Rattle.scl_again.specs.Checks.{PassChecks}
 use Rattle.scl_again.specs.Reads.{Reads}
+use Rattle.scl_again.proofs.EmptyLaws.{judged-clear}
 use Rattle.scl_again.proofs.OutcomeLaws.{bind-ok, judged-ok}
 use Rattle.scl_again.proofs.ReadsLaws.{reads-apart, reads-flag}
-use Rattle.scl_text.specs.Reasons.{argument_parse}
+use Rattle.scl_text.specs.Reasons.{empty_value, argument_parse}
 use Rattle.scl_text.specs.Records.{NotCompilation}
 use Rattle.scl_text.specs.Compilers.{IfCommand}
 use Rattle.scl_small.specs.Command.{command}
@@ -56,10 +58,12 @@ unfolding rows output_row
 reads_output object = reads-apart (owner_in (rows ∷ [])) false output_row object refl (record { is = refl; no_mark = refl })
 
 pub commands_again : CommandsAreReadAgain place kinds.DoCompilation kinds.Output rows reading
-commands_again words p object e clear =
+commands_again words p object e =
     let c = cut (owner_in (rows ∷ [])) false words in
-    let a = bind-ok (judged (λ before. verdict) argument_parse (map shown c.options) (is_dangling c.end)) tested p e in
-    let t : tested (map shown c.options) ≡ Ok p = ap tested (judged-ok (λ before. verdict) argument_parse (map shown c.options) (is_dangling c.end) a.0 a.1) ∙ a.2 in
+    let says = refusing_empty (owner_in (rows ∷ [])) empty_value (λ before. verdict) in
+    let a = bind-ok (judged says argument_parse (map shown c.options) (is_dangling c.end)) tested p e in
+    let clear = judged-clear (rows ∷ []) false words empty_value (λ before. verdict) argument_parse a.0 a.1 in
+    let t : tested (map shown c.options) ≡ Ok p = ap tested (judged-ok says argument_parse (map shown c.options) (is_dangling c.end) a.0 a.1) ∙ a.2 in
     let b = bind-ok (wanted (last_flag_at place places.CompileFlag (map shown c.options)) NotCompilation) _ p t in
     record-again place kinds.DoCompilation kinds.Output rows passes no_inputs reads_output words p object (codes "-c") clear
     (is-record place (map shown c.options) (codes "-c") p b.2) reads_compile

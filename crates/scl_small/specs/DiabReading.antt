@@ -1,7 +1,6 @@
 -- What a command line says to Diab.
-use Rattle.std.specs.Prelude.{ℕ, false, List, Option, Some, Result, if◌then◌else◌}
+use Rattle.std.specs.Prelude.{ℕ, List, Option, Some, Result, if◌then◌else◌}
 use Rattle.scl_args.specs.Row.{Row}
-use Rattle.scl_args.specs.Cuts.{cut}
 use Rattle.scl_args.specs.Seen.{Seen}
 use Rattle.scl_args.specs.Options.{names_file, wanted, ◌>>=◌}
 use Rattle.scl_text.specs.Reasons.{unexpanded_file}
@@ -41,7 +40,7 @@ tested os = do
 
 -- what the words say, where `own` gives a word's owner
 abbrev pub reading : (List ℕ → Option (Row Kind)) → List (List ℕ) → Result Parsed Verdict
-reading own words = reads verdict tested (cut own false words)
+reading = reads verdict tested
 
 -- the same of words whose response files, from the directory, are put in place
 abbrev pub expanded_reading : (List ℕ → Option (Row Kind)) → List ℕ → List File → List (List ℕ) → Result Parsed Verdict

@@ -1,14 +1,11 @@
 -- Commands of Diab and TaskingVX that are read again.
-use Rattle.std.specs.Prelude.{◌≡◌, ℕ, Bool, true, false, List, [], ◌∷◌, map, codes, Option, Result, Ok, IfSome}
+use Rattle.std.specs.Prelude.{◌≡◌, ℕ, Bool, true, false, List, [], ◌∷◌, codes, Option, Result, Ok, IfSome}
 use Rattle.scl_args.specs.Cuts.{cut}
-use Rattle.scl_args.specs.Each.{Each}
 use Rattle.scl_args.specs.Row.{Row}
-use Rattle.scl_args.specs.Seen.{shown}
 use Rattle.scl_args.specs.Seen as plain
 use Rattle.scl_args.specs.Tables.{owner_in}
 use Rattle.scl_again.specs.Commands.{CommandList, Parts, IsReadAgain}
-use Rattle.scl_again.specs.Origins.{IsClear}
-use Rattle.scl_again.specs.Promises.{Line, IsReadAgainUnlessEmpty}
+use Rattle.scl_again.specs.Promises.{Line, said_by}
 use Rattle.scl_text.specs.Commands.{object_of}
 use Rattle.scl_text.specs.Records.{Parsed, Verdict}
 use Rattle.scl_small.specs.Command.{command_words}
@@ -37,12 +34,11 @@ module _ {K : Type 0} (place : K → Place) (compile output : K) where
     back = [];
   }
 
-  -- where words without empty either values have a record, by these rows and this reading, its command is read again
+  -- where words have a record, by these rows and this reading, its command is read again
   abbrev pub CommandsAreReadAgain : List (Row K) → ((List ℕ → Option (Row K)) → List (List ℕ) → Result Parsed Verdict) → Type 0
   CommandsAreReadAgain rows reading = (words : List (List ℕ)) (p : Parsed) (object : List ℕ) → reading (owner_in (rows ∷ [])) words ≡ Ok p →
-      let options = (cut (owner_in (rows ∷ [])) false words).options in
-      Each IsClear options → IsReadAgain (rows ∷ []) false [] (record { options = map shown options; inners = [] }) (parts p object) (command_words p object)
+      IsReadAgain (rows ∷ []) false [] (said_by (line_of rows words)) (parts p object) (command_words p object)
 
   -- what it is for the words of the command of a record, which these words have by these rows, to be read again
   abbrev pub CommandIsReadAgain : List (Row K) → List (List ℕ) → Parsed → List (List ℕ) → Type 0
-  CommandIsReadAgain rows words p command = IfSome (object_of p) (λ object. IsReadAgainUnlessEmpty (rows ∷ []) false [] (line_of rows words) (parts p object) command)
+  CommandIsReadAgain rows words p command = IfSome (object_of p) (λ object. IsReadAgain (rows ∷ []) false [] (said_by (line_of rows words)) (parts p object) command)

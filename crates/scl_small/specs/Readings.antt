@@ -1,13 +1,14 @@
 -- What a command line says to Diab or TaskingVX: a first verdict, and filters over the finished list of its options.
-use Rattle.std.specs.Prelude.{ℕ, false, List, [], ◌∷◌, Option, None, Some, Result, Ok, map, codes}
+use Rattle.std.specs.Prelude.{ℕ, false, List, [], ◌∷◌, Option, None, Some, Result, Ok, codes}
 use Rattle.std.specs.Option.{option_map}
-use Rattle.scl_args.specs.Cuts.{Cutting, is_dangling}
-use Rattle.scl_args.specs.Seen.{Seen, shown}
-use Rattle.scl_args.specs.Options.{flag_of, text_of, last_by, texts, list, side_of_flag, judged, wanted, ◌>>=◌}
+use Rattle.scl_args.specs.Row.{Row}
+use Rattle.scl_args.specs.Seen.{Seen}
+use Rattle.scl_args.specs.Options.{flag_of, text_of, last_by, texts, list, side_of_flag, wanted, ◌>>=◌}
 use Rattle.scl_text.specs.Paths.{with_extension}
 use Rattle.scl_text.specs.Languages.{language_of_file_name}
 use Rattle.scl_text.specs.Records.{Parsed, bare_record, artifact, Verdict}
-use Rattle.scl_text.specs.Reasons.{argument_parse, unknown_source_language}
+use Rattle.scl_text.specs.JudgedWords.{judged_cut}
+use Rattle.scl_text.specs.Reasons.{empty_value, argument_parse, unknown_source_language}
 use Rattle.scl_text.specs.Refusals.{the_input}
 use Rattle.scl_text.specs.declared.language.Language.{Language}
 use Rattle.scl_small.specs.Places.{goes_to}
@@ -27,10 +28,10 @@ module _ {K : Type 0} (place : K → Place) where
   abbrev pub list_at : Place → List (Seen K) → List (List ℕ)
   list_at there os = list side_of_flag (goes_to place there) os
 
--- the options, where they are not refused, each by itself, are tested and recorded
-abbrev pub reads : {K : Type 0} → (Seen K → Option Verdict) → (List (Seen K) → Result Parsed Verdict) → Cutting K → Result Parsed Verdict
-reads verdict tested c = do
-  options ← judged (λ before. verdict) argument_parse (map shown c.options) (is_dangling c.end)
+-- the options that words are cut into, where `own` gives a word's owner, are tested and recorded, where none is refused, each by itself
+abbrev pub reads : {K : Type 0} → (Seen K → Option Verdict) → (List (Seen K) → Result Parsed Verdict) → (List ℕ → Option (Row K)) → List (List ℕ) → Result Parsed Verdict
+reads verdict tested own words = do
+  options ← judged_cut empty_value (λ before. verdict) argument_parse own false words
   tested options
 
 -- ---- the fixed tests, and the record

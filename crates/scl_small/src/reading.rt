@@ -1,5 +1,4 @@
-ghost use Rattle.std.specs.Prelude.{◌≡◌, IfOk, IsTrue, false};
-ghost use Rattle.scl_args.specs.Cuts.{cut};
+ghost use Rattle.std.specs.Prelude.{◌≡◌, IfOk, IsTrue};
 ghost use Rattle.scl_args.specs.Tables.{owner_in, tables_hold_values};
 ghost use Rattle.scl_args.specs.Words.{words_of};
 ghost use Rattle.scl_text.specs.Records.{outcome_of};
@@ -18,10 +17,10 @@ pub(crate) fn read<T: Rules, S: SearchableArgInfo<T> + Drop>(
     arg_info: S,
 ) -> Mem<CompilerArguments<ParsedArguments>>
     requires { IsTrue (tables_hold_values T.holds_value (S.tables arg_info)) }
-    ensures { IfOk result (λ answer. outcome_of answer ≡ reads T.verdict T.tested (cut (owner_in (S.tables arg_info)) false (words_of words.items))) }
+    ensures { IfOk result (λ answer. outcome_of answer ≡ reads T.verdict T.tested (owner_in (S.tables arg_info)) (words_of words.items)) }
 {
-    let cut = cut_options(alloc, words, arg_info, false)?;
-    match judge_all(alloc, &ByRules, cut)? {
+    let cut = cut_options(alloc, words, &arg_info, false)?;
+    match judge_all(alloc, &ByRules, &arg_info, cut)? {
         Ok(options) => T::test(alloc, options),
         Err(refusal) => Ok(refusal.into_answer()),
     }

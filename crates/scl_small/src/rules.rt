@@ -7,6 +7,7 @@ ghost use Rattle.scl_text.specs.Refusals.{verdict_of};
 use crate::place::Placed;
 use scl_args::{ArgParseError, Argument, Judge};
 use scl_text::Mem;
+use scl_text::reasons::EMPTY_VALUE;
 use scl_text::records::{CompilerArguments, ParsedArguments};
 use scl_text::refusal::{Refusal, argument_parse};
 use std::alloc::Global;
@@ -31,7 +32,7 @@ pub(crate) struct ByRules;
 
 impl<T: Rules> Judge<T> for ByRules {
     ghost use Rattle.scl_text.specs.Records.{Verdict};
-    ghost use Rattle.scl_text.specs.Reasons.{argument_parse};
+    ghost use Rattle.scl_text.specs.Reasons.{empty_value, argument_parse};
     ghost use Rattle.scl_text.specs.Refusals.{verdict_of};
 
     type Refusal = Refusal;
@@ -42,6 +43,8 @@ impl<T: Rules> Judge<T> for ByRules {
 
     ghost verdict = { λ _ before. T.verdict };
 
+    ghost empty = { empty_value };
+
     ghost dangling = { argument_parse };
 
     fn judge(
@@ -51,6 +54,10 @@ impl<T: Rules> Judge<T> for ByRules {
         option: &Argument<T>,
     ) -> Mem<Option<Refusal>> {
         Ok(T::judge(option))
+    }
+
+    fn refuse_empty(&self) -> Refusal {
+        Refusal::CannotCache(EMPTY_VALUE, None)
     }
 
     fn refuse_dangling(&self, alloc: Global) -> Mem<Refusal> {

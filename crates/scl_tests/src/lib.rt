@@ -1,10 +1,8 @@
-//! Tests that cross the crates.
+//! Tests of the compilers and of the program, and of what crosses the crates.
 #![tactic(auto)]
 
 #[cfg(test)]
 mod again;
-#[cfg(test)]
-mod args;
 #[cfg(test)]
 mod cl;
 #[cfg(test)]
@@ -19,7 +17,5 @@ mod preprocess;
 mod small;
 #[cfg(test)]
 mod tables;
-#[cfg(test)]
-mod text;
 #[cfg(test)]
 mod words;

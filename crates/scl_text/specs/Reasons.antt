@@ -5,6 +5,9 @@ use Rattle.scl_text.specs.Records.{Verdict, CannotCache}
 abbrev pub unexpanded_file : Verdict
 unexpanded_file = CannotCache (codes "@")
 
+abbrev pub empty_value : Verdict
+empty_value = CannotCache (codes "empty value")
+
 abbrev pub argument_parse : Verdict
 argument_parse = CannotCache (codes "argument parse")
 

@@ -1,6 +1,6 @@
 //! The options of words, judged: those of a command line, and those of an inner one.
 ghost use Rattle.std.specs.Prelude.{◌≡◌, IfOk, IsTrue, map};
-ghost use Rattle.scl_args.specs.Cuts.{cut};
+ghost use Rattle.scl_args.specs.Empties.{refusing_empty};
 ghost use Rattle.scl_args.specs.Options.{judged, result_by};
 ghost use Rattle.scl_args.specs.Seen.{seen};
 ghost use Rattle.scl_args.specs.Tables.{owner_in, tables_hold_values};
@@ -14,16 +14,17 @@ use scl_args::{
 };
 use std::alloc::Global;
 
-/// The finished list of the options that words were cut into, where none is refused.
-fn finish<T: ReadArg, J: Judge<T>>(
+/// The finished list of the options that words were cut into by the tables, where none is refused.
+fn finish<T: ReadArg, S: SearchableArgInfo<T>, J: Judge<T>>(
     alloc: Global,
     judge: &J,
+    arg_info: &S,
     cut: CutWords<T>,
 ) -> Mem<Result<Options<T>, J::Refusal>>
     ensures { IfOk result (λ said. result_by (λ options. options) J.verdict_of said
-        ≡ judged (J.verdict judge.now) J.dangling (map (seen T.kind_of T.word_of) cut.options.items) cut.is_dangling) }
+        ≡ judged (refusing_empty (owner_in (S.tables arg_info.now)) J.empty (J.verdict judge.now)) J.dangling (map (seen T.kind_of T.word_of) cut.options.items) cut.is_dangling) }
 {
-    match judge_all(alloc, judge, cut)? {
+    match judge_all(alloc, judge, arg_info, cut)? {
         Ok(options) => Ok(Ok(Options::new(alloc, options)?)),
         Err(refusal) => Ok(Err(refusal)),
     }
@@ -39,14 +40,14 @@ fn judge_cut<T: ExactArg + ReadArg, S: SearchableArgInfo<T> + Drop, J: Judge<T>>
 ) -> Mem<Result<Options<T>, J::Refusal>>
     requires { IsTrue (tables_hold_values T.holds_value (S.tables arg_info)) }
     ensures { IfOk result (λ said. result_by (λ options. options) J.verdict_of said
-        ≡ judged_cut (J.verdict judge.now) J.dangling (cut (owner_in (S.tables arg_info)) double_dashes (words_of words.items))) }
+        ≡ judged_cut J.empty (J.verdict judge.now) J.dangling (owner_in (S.tables arg_info)) double_dashes (words_of words.items)) }
 {
-    let cut = cut_options(alloc, words, arg_info, double_dashes)?;
-    finish(alloc, judge, cut)
+    let cut = cut_options(alloc, words, &arg_info, double_dashes)?;
+    finish(alloc, judge, &arg_info, cut)
 }
 
-/// The options of the words, where none is refused and the last flag has its value; else the judge's first refusal, or
-/// that of a dangling end (docs/RULES.md, Readings). It fails only for want of memory.
+/// The options of the words, where none is refused and the last flag has its value; else the first refusal, of an empty
+/// value or the judge's, or that of a dangling end (docs/RULES.md, Readings). It fails only for want of memory.
 pub fn judge_words<T: ExactArg + ReadArg, S: SearchableArgInfo<T> + Drop, J: Judge<T>>(
     alloc: Global,
     kind: ExpansionKind,
@@ -59,7 +60,7 @@ pub fn judge_words<T: ExactArg + ReadArg, S: SearchableArgInfo<T> + Drop, J: Jud
 ) -> Mem<Result<Options<T>, J::Refusal>>
     requires { IsTrue (tables_hold_values T.holds_value (S.tables arg_info)) }
     ensures { IfOk result (λ said. result_by (λ options. options) J.verdict_of said
-        ≡ judged_words kind (J.verdict judge.now) J.dangling (S.tables arg_info) double_dashes cwd.now view.now (words_of words.now)) }
+        ≡ judged_words kind J.empty (J.verdict judge.now) J.dangling (S.tables arg_info) double_dashes cwd.now view.now (words_of words.now)) }
 {
     let words = expand_all(alloc, kind, cwd, words, view)?;
     judge_cut(alloc, words, arg_info, double_dashes, judge)

@@ -3,6 +3,9 @@
 /// A value names a response file that was not put in its place.
 pub const UNEXPANDED_FILE: &str = "@";
 
+/// A value is empty that its flag takes either way, joined or apart.
+pub const EMPTY_VALUE: &str = "empty value";
+
 /// The words can't be cut.
 pub const ARGUMENT_PARSE: &str = "argument parse";
 

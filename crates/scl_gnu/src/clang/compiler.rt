@@ -6,7 +6,7 @@ ghost use Rattle.scl_text.specs.Languages.{clang_text};
 ghost use Rattle.scl_gnu.specs.Versions.{is_minversion};
 
 use super::preprocess::clang_passes;
-use super::tables::BothTables;
+use super::tables::BothTrees;
 use super::version::names_at_least;
 use crate::copied::copied_text;
 use crate::gcc;
@@ -123,7 +123,7 @@ impl CCompilerImpl for Clang {
             alloc,
             arguments,
             cwd,
-            BothTables::new(),
+            BothTrees::build(alloc)?,
             self.clangplusplus,
             CCompilerKind::Clang,
             view,

@@ -1,12 +1,13 @@
-//! Clang's tables, by which a word is looked up in Gcc's table as well.
-ghost use Rattle.std.specs.Prelude.{◌≡◌, IsTrue};
+//! Clang's tables, by which a word is looked up in Gcc's table as well, and their trees.
+ghost use Rattle.std.specs.Prelude.{◌≡◌, IfOk, IsTrue};
 ghost use Rattle.scl_args.specs.Tables.{tables_hold_values};
 ghost use Rattle.scl_gnu.specs.ClangRows.{clang_tables};
 ghost use Rattle.scl_gnu.specs.Data.{holds_value};
 
 use super::args::table;
 use crate::gcc::{self, ArgData};
-use scl_args::{ArgInfo, FlagTable, Probes, SearchableArgInfo};
+use scl_args::{ArgInfo, FlagTable, FlagTree, Mem, Probes, SearchableArgInfo};
+use std::alloc::Global;
 use std::marker::Model;
 
 /// Gcc's table and Clang's; where both have a flag, Clang's row owns it (docs/RULES.md, Clang).
@@ -39,6 +40,46 @@ impl BothTables {
 
 impl SearchableArgInfo<ArgData> for BothTables {
     ghost tables = { λ tables. tables };
+
+    fn search_counted(&self, key: &[u8], probes: &mut Probes) -> Option<&ArgInfo<ArgData>> {
+        self.pair.search_counted(key, probes)
+    }
+}
+
+/// Prefix trees of the two tables; where both have a flag, Clang's row owns it (docs/RULES.md, Clang).
+#[derive(Drop)]
+pub struct BothTrees {
+    pair: (FlagTree<'static, ArgData>, FlagTree<'static, ArgData>),
+}
+
+impl Model for BothTrees {
+    ghost use Rattle.std.specs.Prelude.{List, [], ◌∷◌};
+    ghost use Rattle.scl_args.specs.Row.{Row};
+    ghost use Rattle.scl_gnu.specs.declared.gcc.data.Kind.{Kind};
+
+    ghost Value = { List (List (Row Kind)) };
+
+    ghost view = { λ trees. trees.pair.0 ∷ trees.pair.1 ∷ [] };
+}
+
+impl BothTrees {
+    /// The trees of the two tables. The error is the refusal of memory.
+    pub fn build(alloc: Global) -> Mem<BothTrees>
+        ensures tables { IfOk result (λ trees. trees ≡ clang_tables) }
+        ensures values { IfOk result (λ trees. IsTrue (tables_hold_values holds_value trees)) }
+    {
+        let (gcc, clang) = BothTables::new().pair;
+        Ok(BothTrees {
+            pair: (
+                FlagTree::build(alloc, &gcc)?,
+                FlagTree::build(alloc, &clang)?,
+            ),
+        })
+    }
+}
+
+impl SearchableArgInfo<ArgData> for BothTrees {
+    ghost tables = { λ trees. trees };
 
     fn search_counted(&self, key: &[u8], probes: &mut Probes) -> Option<&ArgInfo<ArgData>> {
         self.pair.search_counted(key, probes)

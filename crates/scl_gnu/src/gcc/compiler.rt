@@ -6,7 +6,7 @@ use super::command::{generate_compile_commands, language_to_gcc_arg};
 use super::parse::parse_arguments;
 use super::preprocess::gcc_passes;
 use crate::copied::copied_text;
-use scl_args::Mem;
+use scl_args::{FlagTree, Mem};
 use scl_text::CCompilerImpl;
 use scl_text::records::{
     CCompilerKind, Cacheable, CommandError, CompilerArguments, ParsedArguments,
@@ -95,7 +95,7 @@ impl CCompilerImpl for Gcc {
             alloc,
             arguments,
             cwd,
-            table(),
+            FlagTree::build(alloc, &table())?,
             self.gplusplus,
             CCompilerKind::Gcc,
             view,

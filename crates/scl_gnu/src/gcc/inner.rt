@@ -9,7 +9,7 @@ mod place;
 
 use super::data::ArgData;
 use super::place::Place;
-use crate::clang::BothTables;
+use crate::clang::BothTrees;
 pub(crate) use judge::ByInnerVerdict;
 use place::Inside;
 use scl_args::{Judge, Mem, Options, ShortFlagsJoined, WrappedApart, push_wrapped};
@@ -17,9 +17,9 @@ use scl_text::view::View;
 use scl_text::{ExpansionKind, judge_words};
 use std::alloc::Global;
 
-/// The options of an inner command line, whose words are cut by Clang's tables and never have double dashes; or the
-/// judge's first refusal, or that of a last flag without its value (docs/RULES.md, Inner command lines). The directory
-/// and the view answer what is asked of response files. It fails only for want of memory.
+/// The options of an inner command line, whose words are cut by Clang's tables and never have double dashes; or the first
+/// refusal, of an empty value or the judge's, or that of a last flag without its value (docs/RULES.md, Inner command
+/// lines). The directory and the view answer what is asked of response files. It fails only for want of memory.
 pub fn read_inner<J: Judge<ArgData>>(
     alloc: Global,
     words: &[Vec<u8>],
@@ -28,7 +28,7 @@ pub fn read_inner<J: Judge<ArgData>>(
     view: &View,
 ) -> Mem<Result<Options<ArgData>, J::Refusal>>
     ensures { IfOk result (λ said. result_by (λ options. options) J.verdict_of said
-        ≡ inner_reading (J.verdict judge.now) J.dangling cwd.now view.now (words_of words.now)) }
+        ≡ inner_reading J.empty (J.verdict judge.now) J.dangling cwd.now view.now (words_of words.now)) }
 {
     if words.is_empty() {
         return Ok(Ok(Options::new(alloc, Vec::new(alloc))?));
@@ -38,7 +38,7 @@ pub fn read_inner<J: Judge<ArgData>>(
         ExpansionKind::Gnu,
         words,
         cwd,
-        BothTables::new(),
+        BothTrees::build(alloc)?,
         false,
         judge,
         view,

@@ -16,7 +16,7 @@ use scl_args::{
     ArgParseError, Argument, Judge, Mem, OfKinds, ReadArg, last_text, names_file, quoted,
 };
 use scl_text::language::Language;
-use scl_text::reasons::UNEXPANDED_FILE;
+use scl_text::reasons::{EMPTY_VALUE, UNEXPANDED_FILE};
 use scl_text::refusal::{Refusal, argument_parse};
 use std::alloc::Global;
 
@@ -106,7 +106,7 @@ pub(crate) struct ByVerdict {
 }
 
 impl Judge<ArgData> for ByVerdict {
-    ghost use Rattle.scl_text.specs.Reasons.{argument_parse};
+    ghost use Rattle.scl_text.specs.Reasons.{argument_parse, empty_value};
     ghost use Rattle.scl_text.specs.Records.{Verdict};
     ghost use Rattle.scl_text.specs.Refusals.{verdict_of};
     ghost use Rattle.scl_gnu.specs.Verdicts.{verdict};
@@ -118,6 +118,8 @@ impl Judge<ArgData> for ByVerdict {
     ghost verdict_of = { verdict_of };
 
     ghost verdict = { λ judge. verdict judge.multiarch };
+
+    ghost empty = { empty_value };
 
     ghost dangling = { argument_parse };
 
@@ -136,6 +138,10 @@ impl Judge<ArgData> for ByVerdict {
                 judged_known(alloc, self.multiarch, before, flag, value)
             }
         }
+    }
+
+    fn refuse_empty(&self) -> Refusal {
+        Refusal::CannotCache(EMPTY_VALUE, None)
     }
 
     fn refuse_dangling(&self, alloc: Global) -> Mem<Refusal> {

@@ -4,7 +4,7 @@ ghost use Rattle.scl_args.specs.Options.{result_by};
 ghost use Rattle.scl_args.specs.Tables.{tables_hold_values};
 ghost use Rattle.scl_args.specs.Words.{words_of};
 ghost use Rattle.scl_text.specs.JudgedWords.{judged_words};
-ghost use Rattle.scl_text.specs.Reasons.{argument_parse};
+ghost use Rattle.scl_text.specs.Reasons.{argument_parse, empty_value};
 ghost use Rattle.scl_text.specs.Records.{outcome_of};
 ghost use Rattle.scl_text.specs.Refusals.{verdict_of};
 ghost use Rattle.scl_gnu.specs.Data.{holds_value};
@@ -74,7 +74,7 @@ fn judged<S: SearchableArgInfo<ArgData> + Drop>(
 ) -> Mem<Result<Options<ArgData>, Refusal>>
     requires { IsTrue (tables_hold_values holds_value (S.tables arg_info)) }
     ensures { IfOk result (λ said. result_by (λ options. options) verdict_of said
-        ≡ judged_words ExpansionKind.Gnu (verdict view.now.is_multiarch) argument_parse (S.tables arg_info) (is_clang kind) cwd.now view.now (words_of arguments.now)) }
+        ≡ judged_words ExpansionKind.Gnu empty_value (verdict view.now.is_multiarch) argument_parse (S.tables arg_info) (is_clang kind) cwd.now view.now (words_of arguments.now)) }
 {
     let judge = ByVerdict {
         multiarch: view.multiarch(),

@@ -6,7 +6,7 @@ ghost use Rattle.scl_text.specs.Records.{outcome_of};
 ghost use Rattle.scl_msvc.specs.Readings.{reading_within};
 
 use super::command::generate_compile_commands;
-use super::environment::surrounded;
+use super::environment::{gives_words, surrounded};
 use super::parse::parse_arguments;
 use super::preprocess::passes;
 use scl_args::Mem;
@@ -53,6 +53,9 @@ fn parse_within(
 ) -> Mem<CompilerArguments<ParsedArguments>>
     ensures { IfOk result (λ answer. outcome_of answer ≡ reading_within is_clang cwd.now (pairs_of env_vars.now) view.now (words_of arguments.now)) }
 {
+    if !gives_words(env_vars) {
+        return parse_arguments(alloc, arguments, cwd, is_clang, view);
+    }
     match surrounded(alloc, arguments, env_vars)? {
         Ok(words) => parse_arguments(alloc, &words, cwd, is_clang, view),
         Err(refusal) => Ok(refusal.into_answer()),

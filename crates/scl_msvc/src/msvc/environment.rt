@@ -6,7 +6,7 @@ ghost use Rattle.scl_args.specs.Words.{words_of};
 ghost use Rattle.scl_text.specs.Commands.{pairs_of};
 ghost use Rattle.scl_text.specs.Records.{CannotCache};
 ghost use Rattle.scl_text.specs.Refusals.{verdict_of};
-ghost use Rattle.scl_msvc.specs.Environment.{is_variable, without_cl_env_vars, value_of, with_equals, words_in, variable_words, surrounded};
+ghost use Rattle.scl_msvc.specs.Environment.{is_variable, without_cl_env_vars, value_of, gives_words, with_equals, words_in, variable_words, surrounded};
 
 use scl_args::Mem;
 use scl_text::command::push_words;
@@ -54,6 +54,13 @@ fn value_of<'a>(pairs: &'a [(Vec<u8>, Vec<u8>)], key: &[u8]) -> Option<&'a [u8]>
         }
     }
     None
+}
+
+/// Whether the environment has one of the two variables.
+pub(crate) fn gives_words(pairs: &[(Vec<u8>, Vec<u8>)]) -> bool
+    ensures { result ≡ gives_words (pairs_of pairs.now) }
+{
+    value_of(pairs, FRONT_VARIABLE).is_some() || value_of(pairs, BACK_VARIABLE).is_some()
 }
 
 /// Puts `=` in the place of the first `#`.

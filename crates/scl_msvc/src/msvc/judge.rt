@@ -11,7 +11,7 @@ ghost use Rattle.scl_msvc.specs.Verdicts.{refused_if, flag_verdict, value_verdic
 use super::data::ArgData;
 use super::place::{Place, place_of_kind};
 use scl_args::{ArgParseError, Argument, Judge, Mem, ReadArg};
-use scl_text::reasons::NO_INPUT_FILE;
+use scl_text::reasons::{EMPTY_VALUE, NO_INPUT_FILE};
 use scl_text::refusal::{Refusal, argument_parse};
 use std::alloc::Global;
 
@@ -76,7 +76,7 @@ pub(crate) struct ByVerdict {
 }
 
 impl Judge<ArgData> for ByVerdict {
-    ghost use Rattle.scl_text.specs.Reasons.{argument_parse};
+    ghost use Rattle.scl_text.specs.Reasons.{empty_value, argument_parse};
     ghost use Rattle.scl_text.specs.Records.{Verdict};
     ghost use Rattle.scl_text.specs.Refusals.{verdict_of};
     ghost use Rattle.scl_msvc.specs.Verdicts.{verdict};
@@ -88,6 +88,8 @@ impl Judge<ArgData> for ByVerdict {
     ghost verdict_of = { verdict_of };
 
     ghost verdict = { λ judge. verdict judge.is_clang };
+
+    ghost empty = { empty_value };
 
     ghost dangling = { argument_parse };
 
@@ -103,6 +105,10 @@ impl Judge<ArgData> for ByVerdict {
                 Ok(judged_known(self.is_clang, flag, value))
             }
         }
+    }
+
+    fn refuse_empty(&self) -> Refusal {
+        Refusal::CannotCache(EMPTY_VALUE, None)
     }
 
     fn refuse_dangling(&self, alloc: Global) -> Mem<Refusal> {

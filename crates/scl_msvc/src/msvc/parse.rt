@@ -10,7 +10,7 @@ use super::fixed_tests::find;
 use super::inner::{InnerOptions, both_inner};
 use super::judge::ByVerdict;
 use super::record::record_of;
-use super::tables::BothTables;
+use super::tables::BothTrees;
 use scl_args::{Mem, Options};
 use scl_text::records::{CompilerArguments, ParsedArguments};
 use scl_text::view::View;
@@ -71,7 +71,7 @@ pub fn parse_arguments(
         ExpansionKind::Msvc,
         arguments,
         cwd,
-        BothTables::new(),
+        BothTrees::build(alloc)?,
         is_clang,
         &judge,
         view,

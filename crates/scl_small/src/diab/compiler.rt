@@ -3,6 +3,7 @@ ghost use Rattle.std.specs.Prelude.{◌≡◌, None};
 use super::args::table;
 use super::{generate_compile_commands, parse_arguments};
 use crate::preprocess::diab_passes;
+use scl_args::FlagTree;
 use scl_text::records::{
     CCompilerKind, Cacheable, CommandError, CompilerArguments, ParsedArguments,
     SingleCompileCommand,
@@ -80,7 +81,8 @@ impl CCompilerImpl for Diab {
         _env_vars: &[(Vec<u8>, Vec<u8>)],
         view: &View,
     ) -> Mem<CompilerArguments<ParsedArguments>> {
-        parse_arguments(alloc, arguments, cwd, table(), view)
+        let tree = FlagTree::build(alloc, &table())?;
+        parse_arguments(alloc, arguments, cwd, tree, view)
     }
 
     fn generate_compile_commands(

@@ -1,6 +1,7 @@
 use super::args::table;
 use super::{generate_compile_commands, parse_arguments};
 use crate::preprocess::tasking_passes;
+use scl_args::FlagTree;
 use scl_text::records::{
     CCompilerKind, Cacheable, CommandError, CompilerArguments, ParsedArguments,
     SingleCompileCommand,
@@ -62,7 +63,8 @@ impl CCompilerImpl for TaskingVX {
         _env_vars: &[(Vec<u8>, Vec<u8>)],
         view: &View,
     ) -> Mem<CompilerArguments<ParsedArguments>> {
-        parse_arguments(alloc, arguments, cwd, table(), view)
+        let tree = FlagTree::build(alloc, &table())?;
+        parse_arguments(alloc, arguments, cwd, tree, view)
     }
 
     fn generate_compile_commands(

@@ -12,6 +12,7 @@ use super::place::inner_place_of_kind;
 use crate::gcc::data::ArgData;
 use crate::gcc::judge::judged_flag;
 use scl_args::{ArgParseError, Argument, Judge, Mem, ReadArg, last_option};
+use scl_text::reasons::EMPTY_VALUE;
 use scl_text::refusal::{Refusal, argument_parse};
 use std::alloc::Global;
 
@@ -48,7 +49,7 @@ fn judged_raw(alloc: Global, is_taken: bool, word: &[u8]) -> Mem<Option<Refusal>
 pub(crate) struct ByInnerVerdict;
 
 impl Judge<ArgData> for ByInnerVerdict {
-    ghost use Rattle.scl_text.specs.Reasons.{argument_parse};
+    ghost use Rattle.scl_text.specs.Reasons.{argument_parse, empty_value};
     ghost use Rattle.scl_text.specs.Records.{Verdict};
     ghost use Rattle.scl_text.specs.Refusals.{verdict_of};
     ghost use Rattle.scl_gnu.specs.Inners.{inner_verdict};
@@ -60,6 +61,8 @@ impl Judge<ArgData> for ByInnerVerdict {
     ghost verdict_of = { verdict_of };
 
     ghost verdict = { λ _. inner_verdict };
+
+    ghost empty = { empty_value };
 
     ghost dangling = { argument_parse };
 
@@ -79,6 +82,10 @@ impl Judge<ArgData> for ByInnerVerdict {
                 Ok(judged_flag(inner_place_of_kind(value.kind()), flag))
             }
         }
+    }
+
+    fn refuse_empty(&self) -> Refusal {
+        Refusal::CannotCache(EMPTY_VALUE, None)
     }
 
     fn refuse_dangling(&self, alloc: Global) -> Mem<Refusal> {

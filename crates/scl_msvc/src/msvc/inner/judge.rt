@@ -3,6 +3,7 @@ use super::place::inner_place_of_kind;
 use crate::msvc::judge::judged_flag;
 use scl_args::{ArgParseError, Argument, Judge, Mem, ReadArg};
 use scl_gnu::gcc::ArgData;
+use scl_text::reasons::EMPTY_VALUE;
 use scl_text::refusal::{Refusal, argument_parse};
 use std::alloc::Global;
 
@@ -11,7 +12,7 @@ use std::alloc::Global;
 pub(crate) struct ByInnerVerdict;
 
 impl Judge<ArgData> for ByInnerVerdict {
-    ghost use Rattle.scl_text.specs.Reasons.{argument_parse};
+    ghost use Rattle.scl_text.specs.Reasons.{empty_value, argument_parse};
     ghost use Rattle.scl_text.specs.Records.{Verdict};
     ghost use Rattle.scl_text.specs.Refusals.{verdict_of};
     ghost use Rattle.scl_msvc.specs.Inners.{inner_verdict};
@@ -23,6 +24,8 @@ impl Judge<ArgData> for ByInnerVerdict {
     ghost verdict_of = { verdict_of };
 
     ghost verdict = { λ _. inner_verdict };
+
+    ghost empty = { empty_value };
 
     ghost dangling = { argument_parse };
 
@@ -38,6 +41,10 @@ impl Judge<ArgData> for ByInnerVerdict {
                 Ok(judged_flag(inner_place_of_kind(value.kind()), flag))
             }
         }
+    }
+
+    fn refuse_empty(&self) -> Refusal {
+        Refusal::CannotCache(EMPTY_VALUE, None)
     }
 
     fn refuse_dangling(&self, alloc: Global) -> Mem<Refusal> {

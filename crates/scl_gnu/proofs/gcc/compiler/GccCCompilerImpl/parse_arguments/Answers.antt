@@ -1,3 +1,4 @@
+use Rattle.std.proofs.Common.{◌∙◌}
 use Rattle.scl_text.proofs.CompilerLaws.{parsed-kept}
 use Rattle.scl_text.specs.Commands.{command_by}
 use Rattle.scl_text.specs.Languages.{gcc_text}
@@ -8,10 +9,10 @@ use Rattle.scl_gnu.proofs.TableLaws.{gcc_rows_hold_values}
 use Rattle.scl_gnu.proofs.gcc.compiler.GccCCompilerImpl.parse_arguments.Goals as goal
 
 pub parse_arguments-requires : goal.parse_arguments-requires
-parse_arguments-requires c = gcc_rows_hold_values _ c.table.ensures
+parse_arguments-requires c = gcc_rows_hold_values _ (c.in_ok-build.ensures.rows ∙ c.table.ensures)
 
 pub returns-clause-outcome : goal.returns-clause-outcome
-returns-clause-outcome c = rw c.table.ensures at c.parse_arguments.ensures
+returns-clause-outcome c = rw (c.in_ok-build.ensures.rows ∙ c.table.ensures) at c.parse_arguments.ensures
 
 pub returns-clause-read_again : goal.returns-clause-read_again
 returns-clause-read_again c =

@@ -2,6 +2,7 @@
 mod counted;
 mod cutting;
 mod error;
+mod failing;
 mod laws;
 mod lists;
 mod options;

@@ -1,0 +1,7 @@
+//! Tests of tables, cutting, printing, texts, paths and expansions.
+#![tactic(auto)]
+
+#[cfg(test)]
+mod args;
+#[cfg(test)]
+mod text;
