@@ -4,9 +4,14 @@ program says: status 3 and nothing written where memory was refused, status 4 an
 and a beginning of the answer where a write failed.
 
 usage: examples/refusals.py PATH_OF_CCLINE [REQUEST_FILE ..]   (it needs cc; without files: requests of its own)
+       examples/refusals.py --calls PATH_OF_REFUSALS
+
+The second form refuses each request for memory of the program `refusals` in turn: the call that made it, and no other,
+says `out of memory`.
 
 Status 0: each run said what it should; 1: one did not, and what it said is printed; 64: called wrongly.
 """
+import itertools
 import os
 import subprocess
 import sys
@@ -62,6 +67,10 @@ ssize_t write(int file, const void *from, size_t size) {
 REQUESTS = [
     b"compiler diab\nword -c\nword foo.cxx\nword -fabc\nword -I\nword include\nword -o\nword foo.o\nword -include\nword file\n",
     b"compiler diab\nfile foo\t-c\\x20foo.c\\x20-o\\x20foo.o\nword -@foo\n",
+    b"compiler gcc\nword -c\nword src/foo.cc\nword -stdlib=libc++\nword -MMD\n",
+    b"compiler clang\nword -c\nword -Xclang\nword -include\nword -Xclang\nword pch.h\nword --\nword -a.c\n",
+    b"compiler cl\nenv CL\t/DA#1\\x20/O2\nword /c\nword x.c\n",
+    b"compiler gcc\nword -c\nword a.c\nword -gsplit-dwarf\nword -pipe\n",
     b"compiler tasking\nword --dep-file\nword -c\nword foo.c\n",
     b"compiler gcc\ncwd /w\nenv A\tB\ndir d\nexists e\nword -c\nword src/foo.cc\nword -stdlib=libc++\nword -MMD\nword -gsplit-dwarf\n",
     b"compiler gcc\nfile r\t-c\\x20a.c\nword @r\nword -Idir\n",
@@ -92,25 +101,65 @@ def tries(program, shim, request, whole, variable, status, text, check):
             return number - 1
 
 
-def main():
-    if len(sys.argv) < 2 or sys.argv[1].startswith("-") or not os.access(sys.argv[1], os.X_OK):
-        print(__doc__.split("\n\n")[1], file=sys.stderr)
-        return 64
-    program = os.path.realpath(sys.argv[1])
-    requests = [open(name, "rb").read() for name in sys.argv[2:]] or REQUESTS
+def calls(program, shim):
+    """Refuses each request for memory of the calls in turn, and prints how many requests each call made."""
+    whole = run(program, shim, b"")[1].splitlines()
+    names = [line.split(b": ")[0] for line in whole]
+    if not names or whole != [name + b": done" for name in names]:
+        sys.exit(f"without a refusal: {whole!r}")
+    refused = dict.fromkeys(names, 0)
+    for number in itertools.count(1):
+        got, out, err = run(program, shim, b"", REFUSE_MEMORY=str(number))
+        lines = out.splitlines()
+        if not err:
+            break
+        told = [name for name, line in zip(names, lines) if line == name + b": out of memory"]
+        rest = [line for line in lines if not line.endswith(b": out of memory")]
+        if got != 0 or err != b"#" or len(told) != 1 or len(lines) != len(whole) or any(line not in whole for line in rest):
+            sys.exit(f"REFUSE_MEMORY={number}: status {got}, standard output {out!r}, standard error {err!r}")
+        refused[told[0]] += 1
+    if got != 0 or lines != whole:
+        sys.exit(f"without a refusal: status {got}, standard output {out!r}")
+    for name in names:
+        print(f"{refused[name]} requests for memory refused: {name.decode()}")
+
+
+def with_shim(use):
+    """Builds the shim and calls this with its path."""
     with tempfile.TemporaryDirectory() as folder:
         shim = os.path.join(folder, "shim.so")
         with open(os.path.join(folder, "shim.c"), "w") as source:
             source.write(SHIM)
         subprocess.run(["cc", "-shared", "-fPIC", "-O1", "-o", shim, os.path.join(folder, "shim.c"), "-ldl"], check=True)
-        for request in requests:
-            status, whole, told = run(program, shim, request)
-            if status != 0:
-                sys.exit(f"a request is not answered: status {status}, {told.decode(errors='replace').strip()}")
-            memory = tries(program, shim, request, whole, "REFUSE_MEMORY", 3, b"out of memory", lambda out: out == b"")
-            reads = tries(program, shim, request, whole, "FAIL_READ", 4, b"read failed", lambda out: out == b"")
-            writes = tries(program, shim, request, whole, "FAIL_WRITE", 4, b"write failed", lambda out: out != whole and whole.startswith(out))
-            print(f"{memory} requests for memory refused, {reads} reads and {writes} writes failed: {whole.splitlines()[0].decode()}")
+        use(shim)
+
+
+def answers(program, shim, requests):
+    """Refuses and fails each call of each request in turn, and prints how many there were."""
+    for request in requests:
+        status, whole, told = run(program, shim, request)
+        if status != 0:
+            sys.exit(f"a request is not answered: status {status}, {told.decode(errors='replace').strip()}")
+        memory = tries(program, shim, request, whole, "REFUSE_MEMORY", 3, b"out of memory", lambda out: out == b"")
+        reads = tries(program, shim, request, whole, "FAIL_READ", 4, b"read failed", lambda out: out == b"")
+        writes = tries(program, shim, request, whole, "FAIL_WRITE", 4, b"write failed", lambda out: out != whole and whole.startswith(out))
+        print(f"{memory} requests for memory refused, {reads} reads and {writes} writes failed: {request.split()[1].decode()}, {whole.splitlines()[0].decode()}")
+
+
+def main():
+    words = sys.argv[1:]
+    of_calls = words[:1] == ["--calls"]
+    if of_calls:
+        words = words[1:]
+    if not words or words[0].startswith("-") or (of_calls and len(words) > 1) or not os.access(words[0], os.X_OK):
+        print(__doc__.split("\n\n")[1], file=sys.stderr)
+        return 64
+    program = os.path.realpath(words[0])
+    if of_calls:
+        with_shim(lambda shim: calls(program, shim))
+        return 0
+    requests = [open(name, "rb").read() for name in words[1:]] or REQUESTS
+    with_shim(lambda shim: answers(program, shim, requests))
     return 0
 
 

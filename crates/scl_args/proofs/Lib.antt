@@ -1,5 +1,6 @@
 pub mod BitsLemmas
 pub mod CutsLemmas
+pub mod DescentLemmas
 pub mod EscapedLemmas
 pub mod FitLaws
 pub mod HoldsLemmas
@@ -14,4 +15,6 @@ pub mod RelationLaws
 pub mod SortLaws
 pub mod SplitLemmas
 pub mod TablesLemmas
+pub mod TiesLaws
+pub mod TreeLemmas
 pub mod WordsLemmas

@@ -1,8 +1,9 @@
-use Rattle.std.proofs.Common.{◌≡◌, ℕ, ◌+◌, ◌≤◌, Bool, true, false, cond, nat_lt, ◌&&◌, List, [], ◌∷◌, ◌++◌, length, drop, filter, Option, None, Some, refl, sym, ap, subst, take, nat_eq, ◌∙◌, arith}
+use Rattle.std.proofs.Common.{◌≡◌, ℕ, ◌+◌, ◌<◌, ◌≤◌, Bool, true, false, cond, nat_lt, ◌&&◌, List, [], ◌∷◌, ◌++◌, length, drop, filter, Option, None, Some, refl, sym, ap, subst, take, nat_eq, get_or, ◌∙◌, arith}
+use Rattle.std.proofs.lemmas.List.{drop_more}
 use Rattle.std.specs.Cmp.Lexicographic.{pointwise}
 use Rattle.std.proofs.lemmas.Bool.Decides.{nat_tests}
+use Rattle.std.specs.List.{starts_with, flat_map}
 use Rattle.scl_args.specs.Row.{Row, joins, fits}
-use Rattle.std.specs.List.{starts_with}
 use Rattle.scl_args.specs.Probes.{looks_in}
 use Rattle.scl_args.specs.Tables.{has_ascii_delimiter, finds_ascii_delimiter, comes_before, is_table, longer, longest, owner, owner_in}
 
@@ -95,3 +96,15 @@ owner_finds_ascii_delimiter (row ∷ rows) word h =
 pub looks_in_append : {K : Type 0} (xs ys : List (List (Row K))) (word : List ℕ) → looks_in (xs ++ ys) word ≡ looks_in xs word + looks_in ys word
 looks_in_append [] ys word = omega arith
 looks_in_append (x ∷ xs) ys word = omega (arith, looks_in_append xs ys word)
+
+-- ---- any number of tables, member by member
+
+module _ {S K : Type 0} (tables : S → List (List (Row K))) (members : List S) (i : ℕ) (member : S) (below : i < length members) (is : member ≡ get_or members i member) where
+  left : drop i members ≡ member ∷ drop (i + 1) members
+  left = drop_more members i member below ∙ ap (λ m. m ∷ drop (i + 1) members) (sym is)
+
+  pub owner_left : (word : List ℕ) → owner_in (flat_map tables (drop i members)) word ≡ longer (owner_in (tables member) word) (owner_in (flat_map tables (drop (i + 1) members)) word)
+  owner_left word = ap (λ ms. owner_in (flat_map tables ms) word) left ∙ owner_in_append (tables member) (flat_map tables (drop (i + 1) members)) word
+
+  pub looks_left : (word : List ℕ) → looks_in (flat_map tables (drop i members)) word ≡ looks_in (tables member) word + looks_in (flat_map tables (drop (i + 1) members)) word
+  looks_left word = ap (λ ms. looks_in (flat_map tables ms) word) left ∙ looks_in_append (tables member) (flat_map tables (drop (i + 1) members)) word

@@ -1,12 +1,14 @@
 -- What follows from the definitions of tables, cutting and printing, in the subject's own words.
-use Rattle.std.specs.Prelude.{◌≡◌, ℕ, ◌*◌, ◌+◌, ◌^◌, ◌<◌, ◌≤◌, Bool, true, false, List, ◌∷◌, ◌++◌, length, map, slice_index_or, Option, Some, MatchOption, ◌⊎◌, ◌↔◌}
+use Rattle.std.specs.Prelude.{◌≡◌, ℕ, ◌*◌, ◌+◌, ◌^◌, ◌<◌, ◌≤◌, Bool, true, false, List, [], ◌∷◌, ◌++◌, length, map, IsPermutation, slice_index_or, Option, Some, MatchOption, ◌⊎◌, ◌↔◌}
 use Rattle.std.specs.Cmp.Lexicographic.{slice_cmp}
+use Rattle.std.specs.List.{flat_map}
+use Rattle.std.specs.Option.{option_map}
 use Rattle.std.specs.Ordering.{nat_cmp}
 use Rattle.std.specs.declared.cmp.Ordering.TheVariants.{Less}
 use Rattle.scl_args.specs.declared.argument.Argument.{Argument}
 use Rattle.scl_args.specs.declared.argument.NormalizedDisposition.{NormalizedDisposition}
 use Rattle.scl_args.specs.Row.{Row, fits}
-use Rattle.scl_args.specs.Tables.{is_table, owner, owner_in, all_rows}
+use Rattle.scl_args.specs.Tables.{is_table, longer, owner, owner_in, all_rows}
 use Rattle.scl_args.specs.Probes.{bits, looks_in}
 use Rattle.scl_args.specs.Cuts.{Cutting, cut}
 use Rattle.scl_args.specs.Relation.{CutsInto}
@@ -58,6 +60,22 @@ LastTableWins K = (earlier later : List (List (Row K))) (rows : List (Row K)) (w
     → Each (λ table. (other : Row K) → owner table word ≡ Some other → length other.flag ≤ length row.flag) earlier
     → Each (λ table. (other : Row K) → owner table word ≡ Some other → length other.flag < length row.flag) later
     → owner_in (earlier ++ rows ∷ later) word ≡ Some row
+
+-- with one member more, the owner is the longer of the one before and the member's, and at one length the member's; the bounds on looks add up
+abbrev pub LastMemberWins : Type 0 → Type 0 → Type 0
+LastMemberWins K S = (tables_of : S → List (List (Row K))) (members : List S) (member : S) (word : List ℕ) →
+    let before = flat_map tables_of members in
+    let after = flat_map tables_of (members ++ member ∷ []) in
+    (owner_in after word ≡ longer (owner_in before word) (owner_in (tables_of member) word)) × (looks_in after word ≡ looks_in before word + looks_in (tables_of member) word)
+
+-- rows of the tables that have one flag are one row
+abbrev pub ShareNoFlag : {K : Type 0} → List (List (Row K)) → Type 0
+ShareNoFlag {K = K} tables = (row other : Row K) → Has (all_rows tables) row → Has (all_rows tables) other → row.flag ≡ other.flag → row ≡ other
+
+-- tables in another order give owners with one flag, and where no two rows share a flag the same owner
+abbrev pub OrderCountsOnTies : Type 0 → Type 0
+OrderCountsOnTies K = (tables others : List (List (Row K))) (word : List ℕ) → IsPermutation tables others →
+    (option_map (λ row. row.flag) (owner_in tables word) ≡ option_map (λ row. row.flag) (owner_in others word)) × (ShareNoFlag tables → owner_in tables word ≡ owner_in others word)
 
 -- ---- the bound on looks
 

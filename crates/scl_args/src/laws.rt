@@ -1,5 +1,10 @@
 //! What follows from the definitions that the other contracts cite. Each law is the contract of a function that does nothing.
-ghost use Rattle.scl_args.specs.Laws.{FlagsRise, OwnerIsLongestFit, FitsAreUnique, LongestFitOwns, LastFitOwns, OwnerIsOfAllRows, LastTableWins, CountsDigits, LooksAddUp, CutsByCases, PrintsWhatWasCut, PrintsOneOrTwo, TextsAreWords, StaysOnItsSide};
+ghost use Rattle.std.specs.Prelude.{◌≡◌, [], ◌∷◌};
+ghost use Rattle.scl_args.specs.Laws.{FlagsRise, OwnerIsLongestFit, FitsAreUnique, LongestFitOwns, LastFitOwns, OwnerIsOfAllRows, LastTableWins, LastMemberWins, OrderCountsOnTies, CountsDigits, LooksAddUp, CutsByCases, PrintsWhatWasCut, PrintsOneOrTwo, TextsAreWords, StaysOnItsSide};
+
+use crate::rows::SearchableArgInfo;
+use crate::tables::Tables;
+use crate::value::ArgumentValue;
 
 /// The flags of a table rise strictly by bytes (docs/RULES.md, Rows and tables).
 pub fn flags_rise<K>()
@@ -35,6 +40,23 @@ pub fn owner_is_of_all_rows<K>()
 /// Of several tables the longest owner wins, and at one length the last table's (docs/RULES.md, Owners).
 pub fn last_table_wins<K>()
     ensures { LastTableWins K }
+{}
+
+/// `Tables` of two has the tables of the pair (docs/RULES.md, Owners).
+pub fn pair_is_tables_of_two<T: ArgumentValue, S: SearchableArgInfo<T>>()
+    ensures { (first second : S) → ⟦<Tables<S> as SearchableArgInfo<T>>⟧.tables (first ∷ second ∷ []) ≡ ⟦<(S, S) as SearchableArgInfo<T>>⟧.tables (first, second) }
+{}
+
+/// With one member more, `Tables` finds the longer of what was found before and what the member finds, and at one length
+/// the member's (docs/RULES.md, Owners).
+pub fn last_member_wins<K, S>()
+    ensures { LastMemberWins K S }
+{}
+
+/// Tables in another order find rows with one flag, and where no two rows share a flag the same row: the order counts on
+/// ties alone (docs/RULES.md, Owners).
+pub fn order_counts_on_ties<K>()
+    ensures { OrderCountsOnTies K }
 {}
 
 /// The count of a number's binary digits, which the bound on looks names, is that count (docs/RULES.md, Looks).

@@ -1,10 +1,13 @@
 ghost use Rattle.std.specs.Prelude.{◌≡◌, ℕ, ◌+◌, ◌-◌, ◌<◌, ◌≤◌, ◌^◌, List, map, length, is_some, true, IsTrue, IfOk, IfSome, OnSome, ◌↔◌, slice_index_or};
 ghost use Rattle.scl_args.specs.Row.{Row, row_of, row_at};
 ghost use Rattle.scl_args.specs.Tables.{is_table, owner_in, finds_ascii_delimiter};
+ghost use Rattle.scl_args.specs.Trees.{IsTree};
+ghost use Rattle.scl_args.specs.declared.nodes.Node.{Node};
 ghost use Rattle.scl_args.specs.Probes.{looks_in, CountsUpTo, Rises};
 
 use crate::argument::{ArgInfo, ArgRow};
 use crate::memory::Mem;
+use crate::nodes::{Node, nodes_of};
 use crate::value::ArgumentValue;
 use std::alloc::Global;
 use std::cmp::Ordering;
@@ -31,6 +34,17 @@ impl Probes {
     {
         Probes { looks: 0 }
     }
+}
+
+/// Reads an item and counts the read.
+fn read<'s, X>(items: &'s [X], index: usize, probes: &mut Probes) -> &'s X
+    requires { index < length items.now }
+    ensures item { (other : X) → slice_index_or items.now index other ≡ result.now }
+    ensures count { CountsUpTo probes.old probes.new 1 }
+    ensures rises { Rises probes.old probes.new }
+{
+    probes.looks = probes.looks.saturating_add(1);
+    &items[index]
 }
 
 /// Rows that are read one at a time, each read being counted (docs/RULES.md, Looks).
@@ -70,9 +84,7 @@ impl<'a, K> RowStore<'a, K> {
         ensures count { CountsUpTo probes.old probes.new 1 }
         ensures rises { Rises probes.old probes.new }
     {
-        probes.looks = probes.looks.saturating_add(1);
-        let rows = self.rows;
-        &rows[index]
+        read(self.rows, index, probes)
     }
 }
 
@@ -135,43 +147,74 @@ impl<'a, T: ArgumentValue> FlagTable<'a, T> {
     }
 }
 
-/// The rows of a table as a tree (docs/RULES.md, Looks).
+/// Nodes of a prefix tree that are read one at a time, each read being counted (docs/RULES.md, Looks).
+#[derive(Drop)]
+pub(crate) struct NodeStore {
+    nodes: Vec<Node>,
+}
+
+impl Model for NodeStore {
+    ghost use Rattle.std.specs.Prelude.{List};
+    ghost use Rattle.scl_args.specs.declared.nodes.Node.{Node};
+
+    ghost Value = { List Node };
+
+    ghost view = { λ s. s.nodes.items };
+}
+
+impl NodeStore {
+    /// Reads the node at an index, counted from 0, and counts the read.
+    pub(crate) fn look(&self, index: usize, probes: &mut Probes) -> &Node
+        requires { index < length self.now }
+        ensures node { (other : Node) → slice_index_or self.now index other ≡ result.now }
+        ensures count { CountsUpTo probes.old probes.new 1 }
+        ensures rises { Rises probes.old probes.new }
+    {
+        read(self.nodes.as_slice(), index, probes)
+    }
+}
+
+/// The rows of a table as a prefix tree: an edge is a byte, and children stand in the order of their bytes
+/// (docs/RULES.md, Looks).
 #[derive(Drop)]
 pub struct FlagTree<'a, T: ArgumentValue> {
     store: RowStore<'a, T::Kind>,
+    nodes: NodeStore,
 }
 
 impl<'a, T: ArgumentValue> Model for FlagTree<'a, T> {
     ghost use Rattle.std.specs.Prelude.{List, IsTrue};
     ghost use Rattle.scl_args.specs.Row.{Row};
     ghost use Rattle.scl_args.specs.Tables.{is_table};
+    ghost use Rattle.scl_args.specs.Trees.{IsTree};
 
     ghost Value = { List (Row T.Kind) };
 
     ghost view = { λ t. t.store };
 
-    ghost invariant = { λ t. IsTrue (is_table t.store) };
+    ghost invariant = { λ t. IsTrue (is_table t.store) × IsTree t.store t.nodes };
 }
 
 impl<'a, T: ArgumentValue> FlagTree<'a, T> {
-    /// The tree of a table's rows.
+    /// The tree of a table's rows. `AllocError` where memory for its nodes is refused.
     pub fn build(alloc: Global, table: &FlagTable<'a, T>) -> Mem<FlagTree<'a, T>>
         ensures rows { IfOk result (λ tree. tree ≡ table.now) }
     {
-        let _nodes: Vec<u8> = Vec::with_capacity(alloc, 1)?;
+        let rows = table.store.rows;
+        let nodes = nodes_of(alloc, rows)?;
         Ok(FlagTree {
-            store: RowStore {
-                rows: table.store.rows,
-            },
+            store: RowStore { rows },
+            nodes: NodeStore { nodes },
         })
     }
 
-    /// The rows of the tree.
-    pub fn store(&self) -> &RowStore<'a, T::Kind>
-        ensures same { result.now ≡ self.now }
+    /// The rows of the tree, and its nodes.
+    pub(crate) fn stores(&self) -> (&RowStore<'a, T::Kind>, &NodeStore)
+        ensures rows { result.0.now ≡ self.now }
+        ensures nodes { IsTree self.now result.1.now }
         ensures valid { IsTrue (is_table self.now) }
     {
-        &self.store
+        (&self.store, &self.nodes)
     }
 }
 

@@ -1,6 +1,8 @@
-ghost use Rattle.std.specs.Prelude.{[], ◌∷◌, ◌++◌};
+ghost use Rattle.std.specs.Prelude.{[], ◌∷◌, ◌++◌, ◌≡◌};
+ghost use Rattle.scl_args.specs.Row.{row_at};
+ghost use Rattle.scl_args.specs.Tables.{longer};
 
-use crate::argument::ArgInfo;
+use crate::argument::{ArgInfo, ArgRow};
 use crate::rows::{FlagTable, Probes, SearchableArgInfo};
 use crate::search::longest_fit;
 use crate::value::ArgumentValue;
@@ -22,6 +24,26 @@ impl<'a, T: ArgumentValue, S: SearchableArgInfo<T>> SearchableArgInfo<T> for &'a
     }
 }
 
+/// Of two rows the one with the longer flag, and at one length the second.
+pub(crate) fn longer<'a, K>(
+    first: Option<&'a ArgRow<K>>,
+    second: Option<&'a ArgRow<K>>,
+) -> Option<&'a ArgRow<K>>
+    ensures { row_at result ≡ longer (row_at first.entry) (row_at second.entry) }
+{
+    match (first, second) {
+        (Some(first), Some(second)) => {
+            if second.flag().len() < first.flag().len() {
+                Some(first)
+            } else {
+                Some(second)
+            }
+        }
+        (None, other) => other,
+        (other, None) => other,
+    }
+}
+
 impl<T: ArgumentValue, A: SearchableArgInfo<T>, B: SearchableArgInfo<T>> SearchableArgInfo<T>
     for (A, B) {
     ghost tables = { λ pair. A.tables pair.0 ++ B.tables pair.1 };
@@ -30,16 +52,6 @@ impl<T: ArgumentValue, A: SearchableArgInfo<T>, B: SearchableArgInfo<T>> Searcha
     fn search_counted(&self, key: &[u8], probes: &mut Probes) -> Option<&ArgInfo<T>> {
         let first = self.0.search_counted(key, probes);
         let second = self.1.search_counted(key, probes);
-        match (first, second) {
-            (Some(first), Some(second)) => {
-                if second.flag().len() < first.flag().len() {
-                    Some(first)
-                } else {
-                    Some(second)
-                }
-            }
-            (None, other) => other,
-            (other, None) => other,
-        }
+        longer(first, second)
     }
 }

@@ -3,6 +3,7 @@ mod counted;
 mod cutting;
 mod empties;
 mod error;
+mod failing;
 mod laws;
 mod lists;
 mod options;

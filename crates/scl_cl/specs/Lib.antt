@@ -10,4 +10,5 @@ pub mod AnswersGiven
 pub mod Transfers
 pub mod Written
 pub mod Runs
+pub mod Within
 pub mod Outcomes

@@ -14,6 +14,7 @@ mod outcome;
 mod program;
 mod request;
 mod transfer;
+mod within;
 
 pub use answer::answer_text;
 pub use compile::Compilation;
@@ -33,4 +34,4 @@ pub use scl_text::records::{
     ArtifactDescriptor, CCompilerKind, Cacheable, ColorMode, CommandError, CompilerArguments,
     ParsedArguments, SingleCompileCommand,
 };
-pub use scl_text::{CCompilerImpl, Mem, View, path};
+pub use scl_text::{CCompilerImpl, Mem, TooManyWords, View, path};

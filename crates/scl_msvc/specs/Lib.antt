@@ -19,3 +19,4 @@ pub mod Recordings
 pub mod Rows
 pub mod Sorts
 pub mod Verdicts
+pub mod Within

@@ -17,6 +17,7 @@ mod place;
 mod preprocess;
 mod record;
 mod tables;
+mod within;
 mod words;
 
 pub use args::{ARGS, SLASH_ARGS, slash_table, table};
@@ -29,3 +30,4 @@ pub use parse::parse_arguments;
 pub use scl_args::WriteFault;
 pub use scl_text::MsvcExpand as ExpandIncludeFile;
 pub use tables::{BothTables, BothTrees};
+pub use within::has_at_most;

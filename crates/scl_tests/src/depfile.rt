@@ -1,12 +1,11 @@
 //! The text of a dependency file, and writing it.
 use crate::words::cut;
-use scl_args::{Counted, Mem};
+use scl_args::{Counted, FailingWriter, Mem};
 use scl_msvc::msvc::{DepfileError, DepfileText, Msvc, WriteFault, depfile_text, write_depfile};
 use scl_text::records::{CompilerArguments, ParsedArguments};
 use scl_text::{CCompilerImpl, View};
 use std::alloc::Global;
-use std::io;
-use std::io::{ErrorKind, Write};
+use std::process::Abort;
 use std::test::Fail;
 
 /// What clang-cl reads.
@@ -94,49 +93,48 @@ fn only_clang_with_a_dependency_file_has_its_text(rt: HostRuntime) -> Result<(),
     Ok(())
 }
 
-/// Takes two bytes at a time, and fails at this write.
-#[derive(Drop)]
-struct Writer<'a> {
-    taken: &'a mut Vec<u8>,
-    writes_left: u32,
+/// What clang-cl's dependency file says of a run that names one file.
+static TEXT: &[u8] = b"x.obj: x.c a.h \nx.c:\na.h:\n";
+
+#[test]
+fn the_text_is_that_of_one_dependency(rt: HostRuntime) -> Result<(), Fail> {
+    let record = record_of(rt.alloc(), b"-c x.c -depsx.d")?;
+    let stderr = b"Note:  a.h\nwarn\nNote: b c.h\nNote: a.h";
+    let got = depfile_text(rt.alloc(), &record, true, "Note: ", stderr)?.ok_or("no text")?;
+    assert_eq!(rt; got.text.as_slice(), TEXT);
+    assert_eq!(rt; TEXT.len(), 26);
+    Ok(())
 }
 
-impl Write for Writer<'_> {
-    fn write(&mut self, buf: &[u8]) -> io::Result<usize> {
-        let Some(writes_left) = self.writes_left.checked_sub(1) else {
-            return Err(io::Error::from(ErrorKind::BrokenPipe));
-        };
-        self.writes_left = writes_left;
-        let taken = buf.len().min(2);
-        self.taken.extend_from_slice(&buf[..taken])?;
-        Ok(taken)
-    }
-
-    fn flush(&mut self) -> io::Result<()> {
-        Ok(())
-    }
+/// What a writer of so many calls, that takes so many bytes a call, is said to have taken.
+fn expect_fault(
+    rt: &(impl Abort + Alloc<A = Global>),
+    most: usize,
+    calls: u64,
+    want: Result<(), WriteFault>,
+    taken: &[u8],
+) {
+    let mut slice = [0; 32];
+    let mut writer = FailingWriter::new(&mut slice, most, calls);
+    let mut counted = Counted::new(&mut writer);
+    let answer = write_depfile(&mut counted, TEXT);
+    let failures = counted.failures();
+    drop(counted);
+    assert_eq!(rt; answer, want, "{most} a call, {calls} calls");
+    assert_eq!(rt; failures, u64::from(want.is_err()));
+    assert_eq!(rt; writer.taken(), taken);
 }
 
 #[test]
 fn a_fault_names_what_went_out(rt: HostRuntime) {
-    for writes_left in 0..6 {
-        let mut taken = Vec::new(rt.alloc());
-        let mut writer = Counted::new(Writer {
-            taken: &mut taken,
-            writes_left,
-        });
-        let answer = write_depfile(&mut writer, b"a: b \nb:");
-        let failures = writer.failures();
-        drop(writer);
-        let written = 8.min(2 * u64::from(writes_left));
-        let want = if written < 8 {
-            Err(WriteFault { written })
-        } else {
-            Ok(())
-        };
-        assert_eq!(rt; answer, want, "after {writes_left}");
-        assert_eq!(rt; failures, u64::from(written < 8));
-        assert_eq!(rt; taken.len() as u64, written);
-        assert!(rt; b"a: b \nb:".starts_with(&taken));
+    let ten = Err(WriteFault { written: 10 });
+    expect_fault(&rt, 10, 1, ten, b"x.obj: x.c");
+    expect_fault(&rt, 1, u64::MAX, Ok(()), TEXT);
+    for calls in 0..13 {
+        let written = 2 * calls;
+        let (taken, _) = TEXT.split_at(written as usize);
+        expect_fault(&rt, 2, calls, Err(WriteFault { written }), taken);
     }
+    expect_fault(&rt, 2, 13, Ok(()), TEXT);
+    expect_fault(&rt, 0, 9, Err(WriteFault { written: 0 }), b"");
 }

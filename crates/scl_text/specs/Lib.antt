@@ -18,6 +18,7 @@ pub mod Refusals
 pub mod ResponseFiles
 pub mod Runs
 pub mod Views
+pub mod Within
 pub use Rattle.scl_args.specs.Words
 pub mod WordsToCome
 -- What only contracts of private functions cite: how the code keeps and reads what those above speak of.

@@ -1,4 +1,4 @@
-ghost use Rattle.std.specs.Prelude.{◌≡◌, IfOk};
+ghost use Rattle.std.specs.Prelude.{◌≡◌, ◌<◌, ◌≤◌, length, IfOk, MatchResult};
 ghost use Rattle.scl_args.specs.Words.{words_of};
 ghost use Rattle.scl_text.specs.Expand.{expand};
 
@@ -40,4 +40,32 @@ pub fn expand_all(
         all.push(word?)?;
     }
     Ok(all)
+}
+
+/// That an expansion gives more words than were asked for.
+#[derive(Debug, Clone, Copy, PartialEq, Eq)]
+pub struct TooManyWords;
+
+/// The words that `expand_all` gives, where they are `most` or fewer; else `TooManyWords`, as soon as one more came
+/// (docs/RULES.md, Expansion).
+pub fn expand_at_most(
+    alloc: Global,
+    kind: ExpansionKind,
+    cwd: &[u8],
+    words: &[Vec<u8>],
+    view: &View,
+    most: usize,
+) -> Mem<Result<Vec<Vec<u8>>, TooManyWords>>
+    ensures { IfOk result (λ said. let all = expand kind cwd.now view.now.files (words_of words.now) in
+        MatchResult said (λ v. (words_of v.items ≡ all) × (length all ≤ most)) (λ _. most < length all)) }
+{
+    let mut all = Vec::new(alloc);
+    for word in Expand::new(alloc, kind, cwd, words, view) {
+        let word = word?;
+        if all.len() == most {
+            return Ok(Err(TooManyWords));
+        }
+        all.push(word)?;
+    }
+    Ok(Ok(all))
 }

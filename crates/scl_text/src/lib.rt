@@ -22,7 +22,9 @@ pub mod view;
 pub use compiler::CCompilerImpl;
 pub use decode::{from_local_codepage, read_text};
 pub use diab_text::split_diab;
-pub use expand::{ExpandAtArgs, ExpansionKind, GnuExpand, MsvcExpand, expand_all};
+pub use expand::{
+    ExpandAtArgs, ExpansionKind, GnuExpand, MsvcExpand, TooManyWords, expand_all, expand_at_most,
+};
 pub use gnu_text::split_gnu_response_file_args;
 pub use judged_words::judge_words;
 pub use language::Language;

@@ -1,6 +1,6 @@
 //! Each law may be called.
 use super::values::{Kind, Value};
-use scl_args::laws;
+use scl_args::{FlagTable, laws};
 
 #[test]
 fn laws_may_be_called() {
@@ -11,6 +11,9 @@ fn laws_may_be_called() {
     laws::last_fit_owns::<Kind>();
     laws::owner_is_of_all_rows::<Kind>();
     laws::last_table_wins::<Kind>();
+    laws::pair_is_tables_of_two::<Value, FlagTable<Value>>();
+    laws::last_member_wins::<Kind, Value>();
+    laws::order_counts_on_ties::<Kind>();
     laws::counts_digits();
     laws::looks_add_up::<Kind>();
     laws::cuts_by_cases::<Kind>();

@@ -2,7 +2,7 @@
 use super::values::{Kind, Value, table_of};
 use scl_args::ArgDisposition::{CanBeSeparated, Concatenated};
 use scl_args::ArgRow::{Flag, TakeArg};
-use scl_args::{ArgRow, ArgumentValue, FlagTable, SearchableArgInfo, looks};
+use scl_args::{ArgRow, ArgumentValue, FlagTable, SearchableArgInfo, Tables, looks};
 use scl_gnu::{clang, gcc};
 use std::test::Fail;
 
@@ -91,6 +91,36 @@ fn of_one_length_the_second_table_wins(rt: HostRuntime) -> Result<(), Fail> {
     let tied = (table_of(&INCLUDE)?, table_of(&OTHER_INCLUDE)?);
     assert_eq!(rt; kind_found(&tied, "-include"), Some(Kind::Alone));
     assert_eq!(rt; looks(&&tied, b"-include"), looks(&tied, b"-include"));
+    Ok(())
+}
+
+#[test]
+fn without_members_there_is_no_look(rt: HostRuntime) {
+    let tables = Tables::new(Vec::<FlagTable<Value>>::new(rt.alloc()));
+    assert!(rt; tables.search(b"-include").is_none());
+    assert_eq!(rt; looks(&tables, b"-include"), 0);
+}
+
+#[test]
+fn of_one_length_the_last_member_wins(rt: HostRuntime) -> Result<(), Fail> {
+    let (first, pch, last) = (
+        table_of(&INCLUDE)?,
+        table_of(&INCLUDE_PCH)?,
+        table_of(&OTHER_INCLUDE)?,
+    );
+    let tables = Tables::new(vec![in rt.alloc(); first, pch, last]?);
+    assert_eq!(rt; kind_found(&tables, "-include"), Some(Kind::Alone));
+    assert!(rt; finds(&tables, "-include-pch", "-include-pch"));
+    assert!(rt; tables.search(b"-inc").is_none());
+    Ok(())
+}
+
+#[test]
+fn pairs_are_members(rt: HostRuntime) -> Result<(), Fail> {
+    let first = (table_of(&INCLUDE_PCH)?, table_of(&OTHER_INCLUDE)?);
+    let last = (table_of(&INCLUDE)?, table_of(&INCLUDE_PCH)?);
+    let tables = Tables::new(vec![in rt.alloc(); first, last]?);
+    assert_eq!(rt; kind_found(&tables, "-include"), Some(Kind::Valued));
     Ok(())
 }
 

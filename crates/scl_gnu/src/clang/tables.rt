@@ -70,7 +70,10 @@ impl BothTrees {
     {
         let (gcc, clang) = BothTables::new().pair;
         Ok(BothTrees {
-            pair: (FlagTree::build(alloc, &gcc)?, FlagTree::build(alloc, &clang)?),
+            pair: (
+                FlagTree::build(alloc, &gcc)?,
+                FlagTree::build(alloc, &clang)?,
+            ),
         })
     }
 }

@@ -1,131 +1,79 @@
 //! Devices that fail.
 use super::run_over;
+use scl_args::{FailingReader, FailingWriter};
 use scl_cl::{Counted, Outcome, run};
 use std::alloc::Global;
-use std::io;
-use std::io::{ErrorKind, Read, Write};
 use std::process::Abort;
 
-/// Gives its bytes three at a time, and then fails or is at its end.
-#[derive(Drop)]
-struct Reader<'a> {
-    left: &'a [u8],
-    reads: u32,
-    fails_at: u32,
-}
+static REQUEST: &[u8] = b"compiler diab\nword -c\nword a.c\n";
 
-impl Read for Reader<'_> {
-    fn read(&mut self, buf: &mut [u8]) -> io::Result<usize> {
-        if self.reads == self.fails_at {
-            return Err(io::Error::from(ErrorKind::Interrupted));
-        }
-        self.reads = self.reads.saturating_add(1);
-        let taken = self.left.len().min(buf.len()).min(3);
-        buf[..taken].copy_from_slice(&self.left[..taken]);
-        self.left = &self.left[taken..];
-        Ok(taken)
-    }
-}
+static ANSWER: &[u8] = b"ok\narg -c\narg a.c\narg -o\narg a.o\ncacheable yes\n";
 
-/// Takes its bytes three at a time, and then fails or takes none.
-#[derive(Drop)]
-struct Writer<'a> {
-    taken: &'a mut Vec<u8>,
-    writes: u32,
-    fails_at: u32,
-    takes_none: bool,
-}
-
-impl Write for Writer<'_> {
-    fn write(&mut self, buf: &[u8]) -> io::Result<usize> {
-        if self.writes == self.fails_at {
-            if self.takes_none {
-                return Ok(0);
-            }
-            return Err(io::Error::from(ErrorKind::BrokenPipe));
-        }
-        self.writes = self.writes.saturating_add(1);
-        let taken = buf.len().min(3);
-        self.taken.extend_from_slice(&buf[..taken])?;
-        Ok(taken)
-    }
-
-    fn flush(&mut self) -> io::Result<()> {
-        Ok(())
-    }
+/// The outcome over a reader that gives three bytes a call and fails after so many calls, and what was written.
+fn run_reading(alloc: Global, request: &[u8], calls: u64) -> (Outcome, u64, Vec<u8>) {
+    let mut written = Vec::new(alloc);
+    let mut reader = Counted::new(FailingReader::new(request, 3, calls));
+    let outcome = run(alloc, &mut reader, &mut Counted::new(&mut written));
+    (outcome, reader.failures(), written)
 }
 
 #[test]
 fn a_reader_that_fails_at_any_read_leaves_nothing_written(rt: HostRuntime) {
-    let request = b"compiler diab\nword a\n";
-    for fails_at in 0..8 {
-        let mut written = Vec::new(rt.alloc());
-        let mut reader = Counted::new(Reader {
-            left: request,
-            reads: 0,
-            fails_at,
-        });
-        let outcome = run(rt.alloc(), &mut reader, &mut Counted::new(&mut written));
-        assert_eq!(rt; outcome, Outcome::ReadFailed, "at {fails_at}");
-        assert_eq!(rt; reader.failures(), 1);
+    // the bytes take eleven reads, and the end one more
+    for calls in 0..12 {
+        let (outcome, failures, written) = run_reading(rt.alloc(), REQUEST, calls);
+        assert_eq!(rt; outcome, Outcome::ReadFailed, "after {calls}");
+        assert_eq!(rt; failures, 1);
         assert!(rt; written.is_empty());
     }
+    let (outcome, failures, written) = run_reading(rt.alloc(), REQUEST, 12);
+    assert_eq!(rt; outcome, Outcome::Answered);
+    assert_eq!(rt; failures, 0);
+    assert_eq!(rt; written.as_slice(), ANSWER);
 }
 
 #[test]
 fn bytes_in_small_pieces_are_one_request(rt: HostRuntime) {
-    let mut written = Vec::new(rt.alloc());
-    let mut reader = Counted::new(Reader {
-        left: b"compiler diab\nword a b\n",
-        reads: 0,
-        fails_at: 100,
-    });
-    let outcome = run(rt.alloc(), &mut reader, &mut Counted::new(&mut written));
+    let request = b"compiler diab\nword a b\n";
+    let (outcome, failures, _written) = run_reading(rt.alloc(), request, 100);
     assert_eq!(rt; outcome, Outcome::BadLine(2));
-    assert_eq!(rt; reader.failures(), 0);
+    assert_eq!(rt; failures, 0);
 }
 
+/// A run over a writer that takes so many bytes a call into so much room, and fails after so many calls.
 fn expect_beginning(
     rt: &(impl Abort + Alloc<A = Global>),
-    whole: &[u8],
-    fails_at: u32,
-    takes_none: bool,
+    room: &mut [u8],
+    most: usize,
+    calls: u64,
 ) {
-    let mut taken = Vec::new(rt.alloc());
-    let mut writer = Counted::new(Writer {
-        taken: &mut taken,
-        writes: 0,
-        fails_at,
-        takes_none,
-    });
-    let outcome = run(
-        rt.alloc(),
-        &mut Counted::new(b"compiler diab".as_slice()),
-        &mut writer,
-    );
+    let all = most.saturating_mul(calls as usize).min(room.len());
+    let mut device = FailingWriter::new(room, most, calls);
+    let mut writer = Counted::new(&mut device);
+    let outcome = run(rt.alloc(), &mut Counted::new(REQUEST), &mut writer);
     let failures = writer.failures();
     drop(writer);
-    let fails = (fails_at as usize) * 3 < whole.len();
-    assert_eq!(rt;
-        outcome,
-        if fails {
-            Outcome::WriteFailed
-        } else {
-            Outcome::Answered
-        },
-        "at {fails_at}"
-    );
+    let (want, _) = ANSWER.split_at(all.min(ANSWER.len()));
+    let fails = want.len() < ANSWER.len();
+    assert_eq!(rt; outcome == Outcome::WriteFailed, fails, "after {calls}");
+    assert_eq!(rt; outcome == Outcome::Answered, !fails);
     assert_eq!(rt; failures, u64::from(fails));
-    assert!(rt; whole.starts_with(&taken));
-    assert_eq!(rt; taken.len(), whole.len().min(3 * (fails_at as usize)));
+    assert_eq!(rt; device.taken(), want);
 }
 
 #[test]
 fn a_writer_that_fails_at_any_write_has_taken_a_beginning(rt: HostRuntime) {
-    let (outcome, whole) = run_over(rt.alloc(), b"compiler diab");
+    let (outcome, whole) = run_over(rt.alloc(), REQUEST);
     assert_eq!(rt; outcome, Outcome::Answered);
-    for fails_at in 0..8 {
-        expect_beginning(&rt, &whole, fails_at, false);
-        expect_beginning(&rt, &whole, fails_at, true);
+    assert_eq!(rt; whole.as_slice(), ANSWER);
+    for calls in 0..18 {
+        expect_beginning(&rt, &mut [0; 64], 3, calls);
     }
+}
+
+#[test]
+fn a_writer_that_takes_none_has_taken_a_beginning(rt: HostRuntime) {
+    expect_beginning(&rt, &mut [0; 10], 3, 100);
+    expect_beginning(&rt, &mut [0; 0], 3, 100);
+    expect_beginning(&rt, &mut [0; 64], 0, 100);
 }

@@ -85,6 +85,35 @@ fn expect_bad_lines(rt: &(impl Abort + Alloc<A = Global>), rows: &[(&str, u64)])
     }
 }
 
+/// A request whose words are clang's own and inner ones.
+static INNER: &[u8] =
+    b"compiler clang\nword -c\nword -Xclang\nword -include\nword -Xclang\nword pch.h\nword --\nword -a.c\n";
+
+/// Whether a request is answered; else it has a bad line, and nothing is written of it.
+fn is_answered(rt: &(impl Abort + Alloc<A = Global>), request: &[u8]) -> bool {
+    let (outcome, written) = run_over(rt.alloc(), request);
+    let answered = outcome == Outcome::Answered;
+    assert!(rt;
+        answered || matches!(&outcome, Outcome::BadLine(_)),
+        "of {request:?}"
+    );
+    assert_eq!(rt; written.is_empty(), !answered, "of {request:?}");
+    answered
+}
+
+#[test]
+fn every_beginning_of_a_request_is_answered_or_has_a_bad_line(rt: HostRuntime) {
+    let mut answered = 0;
+    for length in 0..=INNER.len() {
+        let (beginning, _) = INNER.split_at(length);
+        if is_answered(&rt, beginning) {
+            answered += 1;
+        }
+    }
+    assert_eq!(rt; INNER.len(), 92);
+    assert_eq!(rt; answered, 52);
+}
+
 #[test]
 fn lines_of_each_kind_are_answered(rt: HostRuntime) {
     for request in ANSWERED {

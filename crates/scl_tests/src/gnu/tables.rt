@@ -1,14 +1,15 @@
 //! Gcc's parser over tables of a caller's own.
-ghost use Rattle.std.specs.Prelude.{[], ◌++◌, ◌∷◌, IsTrue};
+ghost use Rattle.std.specs.Prelude.{[], ◌∷◌, IsTrue, IfOk};
+ghost use Rattle.std.specs.List.{flat_map};
 ghost use Rattle.scl_args.specs.Tables.{tables_hold_values};
 ghost use Rattle.scl_gnu.specs.Data.{holds_value};
 
 use crate::words::{cut, joined};
 use scl_args::ArgDisposition::Separated;
 use scl_args::ArgRow::TakeArg;
-use scl_args::{ArgInfo, FlagTable, Probes, SearchableArgInfo};
-use scl_gnu::clang::BothTables;
-use scl_gnu::gcc::{ArgData, Gcc, Kind, parse_arguments};
+use scl_args::{ArgInfo, FlagTable, Mem, Tables};
+use scl_gnu::clang;
+use scl_gnu::gcc::{self, ArgData, Gcc, Kind};
 use scl_text::records::{CCompilerKind, CompilerArguments, ParsedArguments};
 use scl_text::{CCompilerImpl, View};
 use std::alloc::Global;
@@ -19,43 +20,36 @@ static CUDA: [ArgInfo<ArgData>; 2] = [
     TakeArg("-arch", Kind::PassThrough, Separated),
 ];
 
-/// The tables of Gcc and Clang, and a third.
-#[derive(Drop)]
-struct ThreeTables {
-    tables: (BothTables, FlagTable<'static, ArgData>),
-}
-
-impl SearchableArgInfo<ArgData> for ThreeTables {
-    ghost use Rattle.std.specs.Prelude.{[], ◌∷◌, ◌++◌};
-
-    ghost tables = { λ three. three.tables.0 ++ three.tables.1 ∷ [] };
-
-    fn search_counted(&self, key: &[u8], probes: &mut Probes) -> Option<&ArgInfo<ArgData>> {
-        self.tables.search_counted(key, probes)
-    }
-}
-
-fn three_tables() -> ThreeTables
-    ensures { IsTrue (tables_hold_values holds_value (result.tables.0 ++ result.tables.1 ∷ [])) }
+/// The tables of Gcc and Clang, and a third where it is asked for.
+#[tactic(auto, unfolding(scl_gnu::specs::GccRows::gcc_rows, scl_gnu::specs::ClangRows::clang_rows))]
+fn tables_with(alloc: Global, third: bool) -> Mem<Tables<FlagTable<'static, ArgData>>>
+    ensures { IfOk result (λ tables. IsTrue (tables_hold_values holds_value (flat_map (λ table. table ∷ []) tables))) }
 {
-    ThreeTables {
-        tables: (BothTables::new(), FlagTable::new(&CUDA).unwrap()),
+    let mut list = vec![in alloc; gcc::table(), clang::table()]?;
+    if third {
+        list.push(FlagTable::new(&CUDA).unwrap())?;
     }
+    Ok(Tables::new(list))
 }
 
-fn record_of(alloc: Global, text: &[u8], view: &View) -> Result<ParsedArguments, Fail> {
+fn answer(
+    alloc: Global,
+    text: &[u8],
+    third: bool,
+    view: &View,
+) -> Mem<CompilerArguments<ParsedArguments>> {
     let words = cut(alloc, text)?;
-    let tables = three_tables();
-    match parse_arguments(alloc, &words, b"", tables, false, CCompilerKind::Gcc, view)? {
-        CompilerArguments::Ok(record) => Ok(record),
-        CompilerArguments::CannotCache(reason, _) => Err(reason)?,
-        CompilerArguments::NotCompilation => Err("no compilation")?,
-    }
+    let tables = tables_with(alloc, third)?;
+    gcc::parse_arguments(alloc, &words, b"", tables, false, CCompilerKind::Gcc, view)
 }
 
 fn command_line(alloc: Global, text: &[u8]) -> Result<Vec<u8>, Fail> {
     let view = View::new(alloc);
-    let record = record_of(alloc, text, &view)?;
+    let record = match answer(alloc, text, true, &view)? {
+        CompilerArguments::Ok(record) => record,
+        CompilerArguments::CannotCache(reason, _) => Err(reason)?,
+        CompilerArguments::NotCompilation => Err("no compilation")?,
+    };
     let gcc = Gcc::new(false);
     let (command, _) = gcc.generate_compile_commands(alloc, b"gcc", &record, b"", &[], &view)?;
     Ok(joined(alloc, &command.arguments)?)
@@ -63,10 +57,35 @@ fn command_line(alloc: Global, text: &[u8]) -> Result<Vec<u8>, Fail> {
 
 #[test]
 fn a_third_table_has_the_last_word(rt: HostRuntime) -> Result<(), Fail> {
-    let text = b"-c a.c --threads 2 -arch sm_50 -arch sm_60 -include-pch x.pch";
-    let command = command_line(rt.alloc(), text)?;
-    let want =
-        b"-x c -c -o a.o -include-pch x.pch --threads 2 -arch sm_50 -arch sm_60 -fdiagnostics-color=always a.c";
-    assert_eq!(rt; command.as_slice(), want.as_slice());
+    let rows: [(&[u8], &[u8]); 2] = [
+        (
+            b"-c a.c --threads 2 -arch sm_50 -arch sm_60",
+            b"-x c -c -o a.o --threads 2 -arch sm_50 -arch sm_60 -fdiagnostics-color=always a.c",
+        ),
+        (
+            b"-c a.c -arch sm_50 -include-pch x.pch",
+            b"-x c -c -o a.o -include-pch x.pch -arch sm_50 -fdiagnostics-color=always a.c",
+        ),
+    ];
+    for (text, want) in rows {
+        let command = command_line(rt.alloc(), text)?;
+        assert_eq!(rt; command.as_slice(), want);
+    }
+    Ok(())
+}
+
+#[test]
+fn without_it_two_architectures_are_refused(rt: HostRuntime) -> Result<(), Fail> {
+    let view = View::new(rt.alloc());
+    let text = b"-c a.c --threads 2 -arch sm_50 -arch sm_60";
+    let CompilerArguments::CannotCache(reason, beside) = answer(rt.alloc(), text, false, &view)?
+    else {
+        return Err("not refused")?;
+    };
+    assert_eq!(rt;
+        reason,
+        "multiple different -arch, and SCCACHE_CACHE_MULTIARCH not set"
+    );
+    assert!(rt; beside.is_none());
     Ok(())
 }

@@ -1,0 +1,162 @@
+//! Calls of the libraries, each with what it is to give, and what it is to leave where memory is refused.
+use crate::Ended;
+use scl_cl::args::{ArgDisposition, ArgToStringError, Argument};
+use scl_cl::gcc::ArgData;
+use scl_cl::text::{ExpandAtArgs, GnuExpand, MsvcExpand, read_text};
+use scl_cl::{Compiler, CompilerArguments, Mem, TooManyWords, View};
+use std::alloc::{AllocError, Global};
+
+fn ended(is_right: Mem<bool>) -> Ended {
+    match is_right {
+        Ok(true) => Ended::Done,
+        Ok(false) => Ended::Wrong,
+        Err(AllocError) => Ended::Refused,
+    }
+}
+
+/// A view of the files `f` and `g`.
+fn view(alloc: Global, first: &[u8]) -> Mem<View> {
+    let mut view = View::new(alloc);
+    let path = Vec::from_slice(alloc, b"f")?;
+    view.add_file(path, Vec::from_slice(alloc, first)?)?;
+    let path = Vec::from_slice(alloc, b"g")?;
+    view.add_file(path, Vec::from_slice(alloc, b"-c a.c")?)?;
+    Ok(view)
+}
+
+fn words(alloc: Global, texts: &[&str]) -> Mem<Vec<Vec<u8>>> {
+    let mut words = Vec::new(alloc);
+    for text in texts {
+        words.push(Vec::from_slice(alloc, text.as_bytes())?)?;
+    }
+    Ok(words)
+}
+
+/// Whether an expansion gives so many words; after an error it is to give nothing.
+fn gives<I: Iterator<Item = Mem<Vec<u8>>>>(expansion: &mut I, count: u32) -> Mem<bool> {
+    let mut given = 0u32;
+    for _ in 0..16 {
+        match expansion.next() {
+            Some(Ok(word)) => {
+                drop(word);
+                given = given.saturating_add(1);
+            }
+            Some(Err(refused)) if expansion.next().is_none() => return Err(refused),
+            Some(Err(_)) => return Ok(false),
+            None => return Ok(given == count),
+        }
+    }
+    Ok(false)
+}
+
+fn gives_gnu(alloc: Global) -> Mem<bool> {
+    let (words, view) = (
+        words(alloc, &["@f", "-O2"])?,
+        view(alloc, b"-DA '-D B' @g")?,
+    );
+    gives(&mut GnuExpand::new(alloc, b"", &words, &view), 5)
+}
+
+/// The words of GNU files inside one another.
+pub(crate) fn expand_gnu(alloc: Global) -> Ended {
+    ended(gives_gnu(alloc))
+}
+
+fn gives_msvc(alloc: Global) -> Mem<bool> {
+    let text = b"\xff\xfe/\0c\0 \0@\0g\0";
+    let (words, view) = (words(alloc, &["@f", "x.c"])?, view(alloc, text)?);
+    gives(&mut MsvcExpand::new(alloc, b"", &words, &view), 3)
+}
+
+/// The words of an MSVC file in UTF-16.
+pub(crate) fn expand_msvc(alloc: Global) -> Ended {
+    ended(gives_msvc(alloc))
+}
+
+fn gives_diab(alloc: Global) -> Mem<bool> {
+    let (words, view) = (words(alloc, &["-@f", "-O"])?, view(alloc, b"-DA -@g")?);
+    gives(&mut ExpandAtArgs::new(alloc, b"", &words, &view), 4)
+}
+
+/// The words of Diab files inside one another.
+pub(crate) fn expand_diab(alloc: Global) -> Ended {
+    ended(gives_diab(alloc))
+}
+
+fn decodes(alloc: Global) -> Mem<bool> {
+    match read_text(alloc, b"\xff\xfea\0b\0")? {
+        Some(text) => Ok(text.as_str() == "ab"),
+        None => Ok(false),
+    }
+}
+
+/// The text of a file in UTF-16.
+pub(crate) fn decode(alloc: Global) -> Ended {
+    ended(decodes(alloc))
+}
+
+/// Whether the view has its first file, and has this one where it was added.
+fn has(view: &View, path: &[u8], was_added: bool) -> bool {
+    view.file(b"f") == Some(b"x".as_slice()) && view.file(path).is_some() == was_added
+}
+
+/// Whether the view is as it is to be behind a file more.
+fn adds(alloc: Global, view: &mut View, path: &[u8]) -> Mem<bool> {
+    let (name, bytes) = (Vec::from_slice(alloc, path)?, Vec::from_slice(alloc, b"y")?);
+    let added = view.add_file(name, bytes);
+    if !has(view, path, added.is_ok()) {
+        return Ok(false);
+    }
+    added?;
+    Ok(true)
+}
+
+fn adds_all(alloc: Global) -> Mem<bool> {
+    let mut view = view(alloc, b"x")?;
+    for path in ["a", "b/c", "d", "e", "h", "i/j/k", "l"] {
+        if !adds(alloc, &mut view, path.as_bytes())? {
+            return Ok(false);
+        }
+    }
+    Ok(true)
+}
+
+/// Files of a view, one after the other; a refused one leaves the view as it was.
+pub(crate) fn add_files(alloc: Global) -> Ended {
+    ended(adds_all(alloc))
+}
+
+/// Whether an option gives its two texts; after an error it is to give nothing.
+fn gives_texts(alloc: Global) -> Mem<bool> {
+    let value = ArgData::PassThrough(Vec::from_slice(alloc, b"x")?);
+    let option = Argument::WithValue("-D", value, ArgDisposition::Separated);
+    let mut texts = option.iter_strings(alloc, |_path: &[u8]| None);
+    for want in ["-D", "x"] {
+        match texts.next() {
+            Some(Ok(text)) if text.as_str() == want => {}
+            Some(Err(ArgToStringError::Memory)) if texts.next().is_none() => {
+                return Err(AllocError);
+            }
+            _ => return Ok(false),
+        }
+    }
+    Ok(texts.next().is_none())
+}
+
+/// The texts of an option.
+pub(crate) fn print_option(alloc: Global) -> Ended {
+    ended(gives_texts(alloc))
+}
+
+/// Whether a command line of two words more than it names is told to be too long, and is answered otherwise.
+fn answers_within(alloc: Global) -> Mem<bool> {
+    let (words, view) = (words(alloc, &["@f"])?, view(alloc, b"@g -DA")?);
+    let few = Compiler::Gcc.answer_within(alloc, b"", &words, b"", &[], &view, 2)?;
+    let enough = Compiler::Gcc.answer_within(alloc, b"", &words, b"", &[], &view, 3)?;
+    Ok(matches!(&few, Err(TooManyWords)) && matches!(&enough, Ok(CompilerArguments::Ok(_))))
+}
+
+/// A command line of three words, of which two may come, and three.
+pub(crate) fn answer_within(alloc: Global) -> Ended {
+    ended(answers_within(alloc))
+}

@@ -1,0 +1,32 @@
+-- Which words the command lines of a request have, given and inner ones, with response files put in place.
+use Rattle.std.specs.Prelude.{ℕ, Bool, true, false, List, [], ◌∷◌}
+use Rattle.scl_text.specs.declared.expand.ExpansionKind.{ExpansionKind}
+use Rattle.scl_text.specs.declared.expand.ExpansionKind.TheVariants as expansions
+use Rattle.scl_text.specs.Expand.{expand}
+use Rattle.scl_text.specs.Within.{are_within}
+use Rattle.scl_msvc.specs.Within as msvc
+use Rattle.scl_cl.specs.declared.compiler.Compiler.{Compiler}
+use Rattle.scl_cl.specs.declared.compiler.Compiler.TheVariants as compilers
+use Rattle.scl_cl.specs.Requests.{Request}
+
+-- the words of the request, with response files of the kind put in place
+abbrev pub expanded : ExpansionKind → Request → List (List ℕ)
+expanded kind request = expand kind request.directory request.view.files request.words
+
+abbrev pub msvc_lines : Bool → Request → List (List (List ℕ))
+msvc_lines is_clang request = msvc.lines is_clang request.directory request.environment request.view request.words
+
+-- the command lines in which response files are put in place; of Clang's inner words none names one, as its outer values may not
+abbrev pub lines_by : Compiler → Request → List (List (List ℕ))
+lines_by compilers.Gcc request = expanded expansions.Gnu request ∷ []
+lines_by compilers.Gxx request = expanded expansions.Gnu request ∷ []
+lines_by compilers.Clang request = expanded expansions.Gnu request ∷ []
+lines_by compilers.Clangxx request = expanded expansions.Gnu request ∷ []
+lines_by compilers.Cl request = msvc_lines false request
+lines_by compilers.ClangCl request = msvc_lines true request
+lines_by compilers.Diab request = expanded expansions.Diab request ∷ []
+lines_by compilers.Tasking request = request.words ∷ []
+
+-- whether each of them has at most so many words
+abbrev pub has_at_most : ℕ → Request → Bool
+has_at_most most request = are_within most (lines_by request.compiler request)

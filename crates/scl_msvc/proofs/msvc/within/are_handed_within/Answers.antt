@@ -1,0 +1,16 @@
+use Rattle.std.proofs.Common.{◌≡◌, IfOk, map, List, subst, ap, ◌∙◌}
+use Rattle.scl_args.specs.Seen.{Seen, seen}
+use Rattle.scl_args.specs.Words.{words_of}
+use Rattle.scl_text.specs.Within.{are_within}
+use Rattle.scl_msvc.specs.declared.msvc.data.Kind.{Kind}
+use Rattle.scl_msvc.specs.Data.{kind_of, word_of}
+use Rattle.scl_msvc.specs.Within.{options_of, inner_lines}
+use Rattle.scl_msvc.proofs.msvc.within.are_handed_within.Goals as goal
+
+pub returns : goal.returns
+returns c =
+    let cut_as = rw c.new.ensures.tables at c.in_ok-cut.ensures.options in
+    let options_are : map (seen kind_of word_of) c.deref.result.now ≡ options_of c.args.is_clang (words_of c.args.words.items) =
+    ap (map (seen kind_of word_of)) c.deref.ensures.value ∙ cut_as in
+    let P : List (Seen Kind) → Type 0 = λ os. IfOk c.are_inner_within.result (λ within. within ≡ are_within c.args.most (inner_lines c.args.cwd.now c.args.view.now os)) in
+    subst P options_are c.are_inner_within.ensures
