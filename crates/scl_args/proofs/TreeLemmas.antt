@@ -1,5 +1,5 @@
 -- Prefix trees over the rows of a table.
-use Rattle.std.proofs.Common.{◌≡◌, ◌≢◌, ℕ, zero, suc, ◌+◌, ◌<◌, ◌≤◌, Bool, true, false, nat_lt, ◌==◌, List, [], ◌∷◌, ◌++◌, length, map, drop, slice_index, slice_index_or, refl, sym, ap, subst, ◌∙◌, inl, inr, ◌⊎◌, set, arith, length-append}
+use Rattle.std.proofs.Common.{◌≡◌, ◌≢◌, ℕ, zero, suc, ◌+◌, ◌/◌, ◌<◌, ◌≤◌, Bool, true, false, nat_lt, ◌==◌, List, [], ◌∷◌, ◌++◌, length, map, drop, slice_index, slice_index_or, refl, sym, ap, subst, ◌∙◌, inl, inr, ◌⊎◌, set, arith, length-append}
 use Rattle.std.proofs.lemmas.Bool.Decides.{nat_tests}
 use Rattle.std.proofs.lemmas.List.{get_or_append_left, get_or-set_same, get_or-set_other, length-map, length-set}
 use Rattle.std.proofs.Math.Seq.{get_or-append_seam, map-set_same}
@@ -12,6 +12,8 @@ use Rattle.scl_args.specs.declared.nodes.Node.{Node}
 use Rattle.scl_args.specs.Row.{Row, row_of}
 use Rattle.scl_args.specs.Tables.{is_table}
 use Rattle.scl_args.specs.Trees.{Group, group_of, whole, RiseBehind, RiseIn, IsBelow, AreChildren, IsNode, IsTree, Grows, ChildrenRise}
+use Rattle.scl_args.specs.Probes.{bits}
+use Rattle.scl_args.proofs.BitsLemmas.{bits_half}
 use Rattle.scl_args.proofs.OrderLemmas.{cmp, head, rising}
 
 -- what holds from one place up to another, and there, holds up to the next
@@ -377,6 +379,10 @@ node_rises rows nodes index node rise l is = subst (RiseIn rows) (get_or-map gro
 
 pub order_is : (x y : ℕ) (o : Ordering) → o ≡ nat_cmp x y → MatchOrdering o (x < y) (x ≡ y) (y < x)
 order_is x y o e = subst (λ o. MatchOrdering o (x < y) (x ≡ y) (y < x)) (sym e) (head x y)
+
+-- a look at one of so many, of which at most half are left
+pub halved : (left all before after most : ℕ) → 0 < all → before + bits all ≤ most → after ≤ before + 1 → left ≤ all / 2 → after + bits left ≤ most
+halved left all before after most some b a l = let half = bits_half all left some l in omega (arith, half, b, a)
 
 module _ (nodes : List Node) (parent : Node) (rise : ChildrenRise nodes parent) (byte m : ℕ) (from : parent.first_child ≤ m) (to : m < parent.end_child) where
   pub less_to : ((other : Node) → (slice_index_or nodes m other).byte < byte) → (i : ℕ) (other : Node) → parent.first_child ≤ i → i < m + 1 → (slice_index_or nodes i other).byte < byte

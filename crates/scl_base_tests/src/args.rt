@@ -11,4 +11,5 @@ mod printing;
 mod search;
 mod split;
 mod strings;
+mod trees;
 mod values;

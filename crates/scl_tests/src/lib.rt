@@ -18,4 +18,6 @@ mod small;
 #[cfg(test)]
 mod tables;
 #[cfg(test)]
+mod trees;
+#[cfg(test)]
 mod words;

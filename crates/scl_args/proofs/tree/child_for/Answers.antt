@@ -1,30 +1,27 @@
 use Rattle.std.proofs.Common.{◌+◌, ◌-◌, ◌/◌, ◌<◌, slice_index_or, arith}
 use Rattle.scl_args.specs.declared.nodes.Node.{Node}
 use Rattle.scl_args.proofs.BitsLemmas.{bits_half}
-use Rattle.scl_args.proofs.TreeLemmas.{order_is, less_to, greater_from}
+use Rattle.scl_args.proofs.TreeLemmas.{order_is, halved, less_to, greater_from}
 use Rattle.scl_args.proofs.tree.child_for.Goals as goal
 
 pub loop-low-preserved-in-Less : goal.loop-low-preserved-in-Less
 loop-low-preserved-in-Less c =
     let inv = c.loop-low.invariant in
     let test = c.loop-low-test.true in
-    let middle = c.loop-low.low + (c.loop-low.high - c.loop-low.low) / 2 in
-    let less = order_is c.look-child.result.now.byte c.args.byte _ c.in-Less.ensures in
-    let here : (other : Node) → (slice_index_or c.args.nodes.now middle other).byte < c.args.byte = λ other. rw (c.look-child.ensures.node other) less in
-    let half = bits_half (c.loop-low.high - c.loop-low.low) (c.loop-low.high - (middle + 1)) (omega (arith, test)) (omega arith) in (
+    let less = order_is c.look-child.result.now.byte c.args.byte _ c.in-Less.ensures in (
       omega (arith, inv.0),
       inv.1,
-      λ i other p q. less_to c.args.nodes.now c.args.parent.now c.requires.rise c.args.byte middle (omega (arith, inv.0)) (omega (arith, inv.1, test)) here i other p q,
+      λ i other p q. less_to c.args.nodes.now c.args.parent.now c.requires.rise c.args.byte _ (omega (arith, inv.0)) (omega (arith, inv.1, test)) (λ other. rw (c.look-child.ensures.node other) less) i other p q,
       inv.3,
       omega (arith, inv.4, c.look-child.ensures.count.keeps),
-      omega (arith, half, inv.5, c.look-child.ensures.count.most),
+      halved _ (c.loop-low.high - c.loop-low.low) c.loop-low.probes c.look-child.new.probes _ (omega (arith, test)) inv.5 c.look-child.ensures.count.most (omega arith),
     )
 
 pub returns-in-Equal-clause-child : goal.returns-in-Equal-clause-child
 returns-in-Equal-clause-child c =
     let inv = c.loop-low.invariant in
     let test = c.loop-low-test.true in record {
-      place = c.loop-low.low + (c.loop-low.high - c.loop-low.low) / 2;
+      place = _;
       from = omega (arith, inv.0);
       to = omega (arith, inv.1, test);
       is = c.look-child.ensures.node;
@@ -42,14 +39,11 @@ pub loop-low-preserved : goal.loop-low-preserved
 loop-low-preserved c =
     let inv = c.loop-low.invariant in
     let test = c.loop-low-test.true in
-    let middle = c.loop-low.low + (c.loop-low.high - c.loop-low.low) / 2 in
-    let greater = order_is c.look-child.result.now.byte c.args.byte _ c.in-Greater.ensures in
-    let here : (other : Node) → c.args.byte < (slice_index_or c.args.nodes.now middle other).byte = λ other. rw (c.look-child.ensures.node other) greater in
-    let half = bits_half (c.loop-low.high - c.loop-low.low) (middle - c.loop-low.low) (omega (arith, test)) (omega arith) in (
+    let greater = order_is c.look-child.result.now.byte c.args.byte _ c.in-Greater.ensures in (
       inv.0,
       omega (arith, inv.1, test),
       inv.2,
-      λ i other p q. greater_from c.args.nodes.now c.args.parent.now c.requires.rise c.args.byte middle (omega (arith, inv.0)) (omega (arith, inv.1, test)) here i other p q,
+      λ i other p q. greater_from c.args.nodes.now c.args.parent.now c.requires.rise c.args.byte _ (omega (arith, inv.0)) (omega (arith, inv.1, test)) (λ other. rw (c.look-child.ensures.node other) greater) i other p q,
       omega (arith, inv.4, c.look-child.ensures.count.keeps),
-      omega (arith, half, inv.5, c.look-child.ensures.count.most),
+      halved _ (c.loop-low.high - c.loop-low.low) c.loop-low.probes c.look-child.new.probes _ (omega (arith, test)) inv.5 c.look-child.ensures.count.most (omega arith),
     )
