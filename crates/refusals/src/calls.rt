@@ -1,6 +1,9 @@
 //! Calls of the libraries, each with what it is to give, and what it is to leave where memory is refused.
+ghost use Rattle.std.specs.Prelude.{◌≡◌, true};
+ghost use Rattle.scl_args.specs.Texts.{is_delimited_by_ascii};
+
 use crate::Ended;
-use scl_cl::args::{ArgDisposition, ArgToStringError, Argument};
+use scl_cl::args::{ArgDisposition, ArgToStringResult, Argument};
 use scl_cl::gcc::ArgData;
 use scl_cl::text::{ExpandAtArgs, GnuExpand, MsvcExpand, read_text};
 use scl_cl::{Compiler, CompilerArguments, Mem, TooManyWords, View};
@@ -126,26 +129,38 @@ pub(crate) fn add_files(alloc: Global) -> Ended {
     ended(adds_all(alloc))
 }
 
-/// Whether an option gives its two texts; after an error it is to give nothing.
-fn gives_texts(alloc: Global) -> Mem<bool> {
-    let value = ArgData::PassThrough(Vec::from_slice(alloc, b"x")?);
-    let option = Argument::WithValue("-D", value, ArgDisposition::Separated);
-    let mut texts = option.iter_strings(alloc, |_path: &[u8]| None);
-    for want in ["-D", "x"] {
-        match texts.next() {
-            Some(Ok(text)) if text.as_str() == want => {}
-            Some(Err(ArgToStringError::Memory)) if texts.next().is_none() => {
+/// Whether the next text is this one; after an error there is to be none.
+fn gives_text<I: Iterator<Item = ArgToStringResult>>(texts: &mut I, want: &str) -> Mem<bool> {
+    match texts.next() {
+        Some(Ok(text)) => Ok(text.as_str() == want),
+        Some(Err(error)) => {
+            drop(error);
+            if texts.next().is_none() {
                 return Err(AllocError);
             }
-            _ => return Ok(false),
+            Ok(false)
         }
+        None => Ok(false),
     }
-    Ok(texts.next().is_none())
+}
+
+fn prints(alloc: Global, option: &Argument<ArgData>) -> Mem<bool>
+    requires { is_delimited_by_ascii option.now ≡ true }
+{
+    let mut texts = option.iter_strings(alloc, |_path: &[u8]| None);
+    let has_both = gives_text(&mut texts, "-D")? && gives_text(&mut texts, "x")?;
+    Ok(has_both && texts.next().is_none())
+}
+
+fn prints_flag(alloc: Global) -> Mem<bool> {
+    let value = ArgData::PassThrough(Vec::from_slice(alloc, b"x")?);
+    let option = Argument::WithValue("-D", value, ArgDisposition::Separated);
+    prints(alloc, &option)
 }
 
 /// The texts of an option.
 pub(crate) fn print_option(alloc: Global) -> Ended {
-    ended(gives_texts(alloc))
+    ended(prints_flag(alloc))
 }
 
 /// Whether a command line of two words more than it names is told to be too long, and is answered otherwise.

@@ -6,6 +6,7 @@ mod outcomes;
 mod read_again;
 mod requests;
 mod rows;
+mod within;
 
 use scl_cl::{Counted, Outcome, run};
 use std::alloc::Global;

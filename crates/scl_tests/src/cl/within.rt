@@ -1,0 +1,73 @@
+//! Answers to command lines of at most so many words.
+use crate::words::cut;
+use scl_cl::{Compilation, Compiler, CompilerArguments, Mem, TooManyWords, View};
+use std::alloc::Global;
+use std::process::Abort;
+use std::test::Fail;
+
+/// Files, each of which names the next twice, and the last of which has one word.
+fn doubling_files(alloc: Global, view: &mut View, files: u32) -> Result<(), Fail> {
+    for number in 0..files {
+        let path = format!(in alloc; "f{number}")?.into_bytes();
+        let next = u64::from(number) + 1;
+        view.add_file(path, format!(in alloc; "@f{next} @f{next}")?.into_bytes())?;
+    }
+    let path = format!(in alloc; "f{files}")?.into_bytes();
+    Ok(view.add_file(path, Vec::from_slice(alloc, b"-DA")?)?)
+}
+
+fn answer_within(
+    alloc: Global,
+    compiler: Compiler,
+    words: &[u8],
+    view: &View,
+    most: usize,
+) -> Mem<Result<CompilerArguments<Compilation>, TooManyWords>> {
+    let words = cut(alloc, words)?;
+    compiler.answer_within(alloc, b"", &words, b"", &[], view, most)
+}
+
+/// The words come up to so many, and no less may come.
+fn expect_words(
+    rt: &(impl Abort + Alloc<A = Global>),
+    compiler: Compiler,
+    words: &[u8],
+    view: &View,
+    count: usize,
+) -> Result<(), Fail> {
+    let enough = answer_within(rt.alloc(), compiler, words, view, count)?;
+    assert!(rt;
+        matches!(&enough, Ok(CompilerArguments::Ok(_))),
+        "of {words:?}"
+    );
+    let few = answer_within(rt.alloc(), compiler, words, view, count.saturating_sub(1))?;
+    assert!(rt; matches!(&few, Err(TooManyWords)), "of {words:?}");
+    Ok(())
+}
+
+#[test]
+fn words_are_counted_with_files_in_place(rt: HostRuntime) -> Result<(), Fail> {
+    let mut view = View::new(rt.alloc());
+    doubling_files(rt.alloc(), &mut view, 10)?;
+    expect_words(&rt, Compiler::Gcc, b"-c a.c @f0", &view, 1026)?;
+    expect_words(&rt, Compiler::Clang, b"-c a.c @f0", &view, 1026)?;
+    expect_words(&rt, Compiler::Tasking, b"-c a.c", &view, 2)?;
+    expect_words(&rt, Compiler::Diab, b"-c a.c -DA", &view, 3)
+}
+
+#[test]
+fn inner_words_are_counted(rt: HostRuntime) -> Result<(), Fail> {
+    let mut view = View::new(rt.alloc());
+    doubling_files(rt.alloc(), &mut view, 10)?;
+    expect_words(&rt, Compiler::ClangCl, b"/c a.c -clang:@f0", &view, 1024)?;
+    expect_words(&rt, Compiler::Cl, b"/c a.c /DA /DB", &view, 4)
+}
+
+#[test]
+fn an_expansion_past_its_bound_ends_at_once(rt: HostRuntime) -> Result<(), Fail> {
+    let mut view = View::new(rt.alloc());
+    doubling_files(rt.alloc(), &mut view, 200)?;
+    let few = answer_within(rt.alloc(), Compiler::Gcc, b"-c a.c @f0", &view, 1000)?;
+    assert!(rt; matches!(&few, Err(TooManyWords)));
+    Ok(())
+}
