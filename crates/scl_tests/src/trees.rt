@@ -72,13 +72,19 @@ fn trees_of_gcc_and_clang_find_what_their_tables_find(rt: HostRuntime) -> Result
 #[test]
 fn trees_of_diab_and_tasking_find_what_their_tables_find(rt: HostRuntime) -> Result<(), Fail> {
     assert_eq!(rt; agreeing(rt.alloc(), &diab::table(), &diab::ARGS)?, 23);
-    assert_eq!(rt; agreeing(rt.alloc(), &tasking_vx::table(), &tasking_vx::ARGS)?, 25);
+    assert_eq!(rt;
+        agreeing(rt.alloc(), &tasking_vx::table(), &tasking_vx::ARGS)?,
+        25
+    );
     Ok(())
 }
 
 #[test]
 fn trees_of_msvc_find_what_its_tables_find(rt: HostRuntime) -> Result<(), Fail> {
     assert_eq!(rt; agreeing(rt.alloc(), &msvc::table(), &msvc::ARGS)?, 257);
-    assert_eq!(rt; agreeing(rt.alloc(), &msvc::slash_table(), &msvc::SLASH_ARGS)?, 257);
+    assert_eq!(rt;
+        agreeing(rt.alloc(), &msvc::slash_table(), &msvc::SLASH_ARGS)?,
+        257
+    );
     Ok(())
 }
