@@ -103,11 +103,11 @@ fn is_answered(rt: &(impl Abort + Alloc<A = Global>), request: &[u8]) -> bool {
 
 #[test]
 fn every_beginning_of_a_request_is_answered_or_has_a_bad_line(rt: HostRuntime) {
-    let mut answered = 0;
+    let mut answered = 0u32;
     for length in 0..=INNER.len() {
         let (beginning, _) = INNER.split_at(length);
         if is_answered(&rt, beginning) {
-            answered += 1;
+            answered = answered.saturating_add(1);
         }
     }
     assert_eq!(rt; INNER.len(), 92);
