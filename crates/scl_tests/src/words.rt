@@ -3,7 +3,7 @@ use scl_cl::Mem;
 use std::alloc::Global;
 
 /// The words of a text; none where it is empty.
-pub fn cut(alloc: Global, text: &[u8]) -> Mem<Vec<Vec<u8>>> {
+pub(crate) fn cut(alloc: Global, text: &[u8]) -> Mem<Vec<Vec<u8>>> {
     let mut words = Vec::new(alloc);
     if text.is_empty() {
         return Ok(words);
@@ -15,7 +15,7 @@ pub fn cut(alloc: Global, text: &[u8]) -> Mem<Vec<Vec<u8>>> {
 }
 
 /// The text of words.
-pub fn joined(alloc: Global, words: &[Vec<u8>]) -> Mem<Vec<u8>> {
+pub(crate) fn joined(alloc: Global, words: &[Vec<u8>]) -> Mem<Vec<u8>> {
     let mut line = Vec::new(alloc);
     for (index, word) in words.iter().enumerate() {
         if index > 0 {
