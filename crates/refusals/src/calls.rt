@@ -1,10 +1,11 @@
 //! Calls of the libraries, each with what it is to give, and what it is to leave where memory is refused.
+ghost use Rattle.std.specs.Iterator.{IsFinite};
 ghost use Rattle.std.specs.Prelude.{◌≡◌, true};
 ghost use Rattle.scl_args.specs.Texts.{is_delimited_by_ascii};
 
 use crate::Ended;
-use scl_cl::args::{ArgDisposition, ArgToStringResult, Argument};
-use scl_cl::gcc::ArgData;
+use scl_cl::args::{ArgDisposition, ArgToStringResult, Argument, FlagTree, SearchableArgInfo};
+use scl_cl::gcc::{self, ArgData};
 use scl_cl::text::{ExpandAtArgs, GnuExpand, MsvcExpand, read_text};
 use scl_cl::{Compiler, CompilerArguments, Mem, TooManyWords, View};
 use std::alloc::{AllocError, Global};
@@ -36,7 +37,9 @@ fn words(alloc: Global, texts: &[&str]) -> Mem<Vec<Vec<u8>>> {
 }
 
 /// Whether an expansion gives so many words; after an error it is to give nothing.
-fn gives<I: Iterator<Item = Mem<Vec<u8>>>>(expansion: &mut I, count: u32) -> Mem<bool> {
+fn gives<I: Iterator<Item = Mem<Vec<u8>>>>(expansion: &mut I, count: u32) -> Mem<bool>
+    requires { I.can_next expansion.now × IsFinite (I.remaining expansion.now) }
+{
     let mut given = 0u32;
     for _ in 0..16 {
         match expansion.next() {
@@ -129,27 +132,40 @@ pub(crate) fn add_files(alloc: Global) -> Ended {
     ended(adds_all(alloc))
 }
 
-/// Whether the next text is this one; after an error there is to be none.
-fn gives_text<I: Iterator<Item = ArgToStringResult>>(texts: &mut I, want: &str) -> Mem<bool> {
-    match texts.next() {
-        Some(Ok(text)) => Ok(text.as_str() == want),
-        Some(Err(error)) => {
-            drop(error);
-            if texts.next().is_none() {
-                return Err(AllocError);
-            }
-            Ok(false)
-        }
-        None => Ok(false),
+/// Want of memory, if the iterator ended behind it.
+fn after_error(has_ended: bool) -> Mem<bool> {
+    if has_ended {
+        Err(AllocError)
+    } else {
+        Ok(false)
     }
+}
+
+/// Whether the texts are `-D` and `x`; after an error there is to be none.
+fn gives_texts<I: Iterator<Item = ArgToStringResult>>(texts: &mut I) -> Mem<bool>
+    requires { I.can_next texts.now × IsFinite (I.remaining texts.now) }
+{
+    for want in ["-D", "x"] {
+        match texts.next() {
+            Some(Ok(text)) => {
+                if text.as_str() != want {
+                    return Ok(false);
+                }
+            }
+            Some(Err(error)) => {
+                drop(error);
+                return after_error(texts.next().is_none());
+            }
+            None => return Ok(false),
+        }
+    }
+    Ok(texts.next().is_none())
 }
 
 fn prints(alloc: Global, option: &Argument<ArgData>) -> Mem<bool>
     requires { is_delimited_by_ascii option.now ≡ true }
 {
-    let mut texts = option.iter_strings(alloc, |_path: &[u8]| None);
-    let has_both = gives_text(&mut texts, "-D")? && gives_text(&mut texts, "x")?;
-    Ok(has_both && texts.next().is_none())
+    gives_texts(&mut option.iter_strings(alloc, |_path: &[u8]| None))
 }
 
 fn prints_flag(alloc: Global) -> Mem<bool> {
@@ -163,7 +179,8 @@ pub(crate) fn print_option(alloc: Global) -> Ended {
     ended(prints_flag(alloc))
 }
 
-/// Whether a command line of two words more than it names is told to be too long, and is answered otherwise.
+/// Whether a command line of three words, two of them in a file that a file names, is too long for two and is answered
+/// for three.
 fn answers_within(alloc: Global) -> Mem<bool> {
     let (words, view) = (words(alloc, &["@f"])?, view(alloc, b"@g -DA")?);
     let few = Compiler::Gcc.answer_within(alloc, b"", &words, b"", &[], &view, 2)?;
@@ -171,7 +188,20 @@ fn answers_within(alloc: Global) -> Mem<bool> {
     Ok(matches!(&few, Err(TooManyWords)) && matches!(&enough, Ok(CompilerArguments::Ok(_))))
 }
 
-/// A command line of three words, of which two may come, and three.
+/// A command line with a bound on its words.
 pub(crate) fn answer_within(alloc: Global) -> Ended {
     ended(answers_within(alloc))
+}
+
+fn finds_in_tree(alloc: Global) -> Mem<bool> {
+    let tree = FlagTree::build(alloc, &gcc::table())?;
+    match tree.search(b"-stdlib=libc++") {
+        Some(row) => Ok(row.flag() == "-stdlib"),
+        None => Ok(false),
+    }
+}
+
+/// The prefix tree of a table's rows.
+pub(crate) fn build_tree(alloc: Global) -> Ended {
+    ended(finds_in_tree(alloc))
 }

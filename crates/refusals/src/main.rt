@@ -38,5 +38,6 @@ fn main(rt: HostRuntime) -> io::Result<()> {
     println!(rt; "text of a file: {}", calls::decode(alloc))?;
     println!(rt; "file of a view: {}", calls::add_files(alloc))?;
     println!(rt; "texts of an option: {}", calls::print_option(alloc))?;
-    println!(rt; "bound on words: {}", calls::answer_within(alloc))
+    println!(rt; "bound on words: {}", calls::answer_within(alloc))?;
+    println!(rt; "prefix tree: {}", calls::build_tree(alloc))
 }
