@@ -1,5 +1,4 @@
-use Rattle.std.proofs.Common.{◌+◌, ◌-◌, ◌/◌, ◌<◌, slice_index_or, arith}
-use Rattle.scl_args.specs.declared.nodes.Node.{Node}
+use Rattle.std.proofs.Common.{◌-◌, arith}
 use Rattle.scl_args.proofs.BitsLemmas.{bits_half}
 use Rattle.scl_args.proofs.TreeLemmas.{order_is, halved, less_to, greater_from}
 use Rattle.scl_args.proofs.tree.child_for.Goals as goal
