@@ -1,0 +1,101 @@
+//! Searches words of command lines in a table or in its prefix tree, or builds the tree: `table_bench KIND ROUNDS`.
+//! It prints how many looks that took, and on standard error the processor time.
+#![tactic(auto)]
+
+use scl_args::{ArgumentValue, FlagTable, FlagTree, SearchableArgInfo, looks};
+use scl_gnu::{clang, gcc};
+use scl_msvc::msvc;
+use std::alloc::{AllocError, Global};
+use std::time::CpuClock;
+use std::{env, io};
+
+static GNU_WORDS: [&[u8]; 10] = [
+    b"-c",
+    b"-O2",
+    b"-g",
+    b"-Wall",
+    b"-DNDEBUG=1",
+    b"-I/usr/include/project",
+    b"-isystem",
+    b"-fPIC",
+    b"-std=c++17",
+    b"source/main.cpp",
+];
+
+static MSVC_WORDS: [&[u8]; 10] = [
+    b"-c",
+    b"-O2",
+    b"-Zi",
+    b"-W3",
+    b"-DNDEBUG=1",
+    b"-Iproject\\include",
+    b"-FoDebug\\main.obj",
+    b"-EHsc",
+    b"-std:c++17",
+    b"source\\main.cpp",
+];
+
+/// The looks of so many rounds of searches for each word.
+fn looked<T: ArgumentValue, S: SearchableArgInfo<T>>(
+    table: &S,
+    words: &[&[u8]],
+    rounds: u64,
+) -> u64 {
+    let mut sum: u64 = 0;
+    for _ in 0..rounds {
+        for word in words {
+            sum = sum.wrapping_add(looks(table, word));
+        }
+    }
+    sum
+}
+
+/// In how many rounds the tree of a table was built.
+fn built<T: ArgumentValue>(
+    alloc: Global,
+    table: &FlagTable<'static, T>,
+    rounds: u64,
+) -> Result<u64, AllocError> {
+    for _ in 0..rounds {
+        FlagTree::build(alloc, &*table)?;
+    }
+    Ok(rounds)
+}
+
+/// The looks of searches in a table or in its tree, or how often that was built.
+fn measured_in<T: ArgumentValue>(
+    alloc: Global,
+    table: &FlagTable<'static, T>,
+    words: &[&[u8]],
+    way: &str,
+    rounds: u64,
+) -> Result<u64, AllocError> {
+    match way {
+        "table" => Ok(looked(table, words, rounds)),
+        "tree" => Ok(looked(&FlagTree::build(alloc, &*table)?, words, rounds)),
+        _ => built(alloc, table, rounds),
+    }
+}
+
+/// The measurement that a kind names, as `clang-tree`.
+fn measured(alloc: Global, kind: &str, rounds: u64) -> Result<u64, AllocError> {
+    let (compiler, way) = kind.split_once('-').unwrap_or((kind, "build"));
+    match compiler {
+        "gcc" => measured_in(alloc, &gcc::table(), &GNU_WORDS, way, rounds),
+        "clang" => measured_in(alloc, &clang::table(), &GNU_WORDS, way, rounds),
+        _ => measured_in(alloc, &msvc::table(), &MSVC_WORDS, way, rounds),
+    }
+}
+
+fn main(rt: HostRuntime) -> io::Result<()> {
+    let mut words = env::args(&rt)?.skip(1);
+    let kind = words.next();
+    let kind = kind.as_ref().map_or("gcc-tree", |word| word.as_str());
+    let rounds = words.next().and_then(|word| word.parse::<u64>().ok());
+    let begin = rt.process_cpu_time()?;
+    let count = measured(rt.alloc(), kind, rounds.unwrap_or(1))?;
+    let took = rt.process_cpu_time()?.saturating_sub(begin);
+    let micros = took.as_micros();
+    eprintln!(rt; "{micros} microseconds")?;
+    println!(rt; "{kind}: {count}")
+}
