@@ -4,8 +4,8 @@
 
 ghost use Rattle.std.specs.Prelude.{[], ◌∷◌, IsTrue, IfOk};
 ghost use Rattle.std.specs.List.{flat_map};
-ghost use Rattle.scl_args.specs.Tables.{tables_hold_values};
-ghost use Rattle.scl_gnu.specs.Data.{holds_value};
+ghost use Rattle.scl_values.specs.Tables.{tables_hold_values};
+ghost use Rattle.scl_gnu_reading.specs.Data.{holds_value};
 
 use bstr::ByteSlice;
 use scl_args::ArgDisposition::{CanBeSeparated, Separated};
@@ -32,7 +32,7 @@ static NVCC: [ArgInfo<ArgData>; 4] = [
 
 /// The tables of Gcc and Clang, and the one above. The parser takes tables whose rows with a value have kinds that hold
 /// one, which the clause says of these.
-#[tactic(auto, unfolding(scl_gnu::specs::GccRows::gcc_rows, scl_gnu::specs::ClangRows::clang_rows))]
+#[tactic(auto, unfolding(scl_gnu_reading::specs::GccRows::gcc_rows, scl_gnu_reading::specs::ClangRows::clang_rows))]
 fn tables(alloc: Global) -> Mem<Tables<FlagTable<'static, ArgData>>>
     ensures { IfOk result (λ tables. IsTrue (tables_hold_values holds_value (flat_map (λ table. table ∷ []) tables))) }
 {

@@ -1,7 +1,7 @@
 //! Calls of the libraries, each with what it is to give, and what it is to leave where memory is refused.
 ghost use Rattle.std.specs.Iterator.{IsFinite};
 ghost use Rattle.std.specs.Prelude.{◌≡◌, true};
-ghost use Rattle.scl_args.specs.Texts.{is_delimited_by_ascii};
+ghost use Rattle.scl_values.specs.Texts.{is_delimited_by_ascii};
 
 use crate::Ended;
 use scl_cl::args::{ArgDisposition, ArgToStringResult, Argument, FlagTree, SearchableArgInfo};

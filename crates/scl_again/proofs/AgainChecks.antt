@@ -2,11 +2,11 @@ use Rattle.std.proofs.Common.{◌≡◌, ℕ, ◌<◌, ◌≤◌, Bool, true, fa
 use Rattle.std.proofs.lemmas.Bool.Decides.{nat_tests}
 use Rattle.std.proofs.lemmas.List.{append-nil}
 use Rattle.std.specs.List.{starts_with}
-use Rattle.scl_args.specs.Each.{Has}
-use Rattle.scl_args.specs.Row.{Row, joins, fits}
-use Rattle.scl_args.specs.Tables.{owner}
+use Rattle.scl_values.specs.Each.{Has}
+use Rattle.scl_values.specs.Row.{Row, joins, fits}
+use Rattle.scl_values.specs.Tables.{owner}
 use Rattle.scl_again.specs.Checks.{extends, no_flag, is_last, keeps_flags, joins_safely}
-use Rattle.scl_args.proofs.PrefixLemmas.{both, starts-append, starts-longer, starts-length, fits-starts, fits-append}
+use Rattle.scl_tables.proofs.PrefixLemmas.{both, starts-append, starts-longer, starts-length, fits-starts, fits-append}
 use Rattle.scl_args.proofs.OwnerLaws.{AtMost, Below, Wins, owner-wins}
 
 at_most : (m n : ℕ) → (n < m → ⊥) → m ≤ n

@@ -3,22 +3,22 @@ use Rattle.std.proofs.lemmas.Bool.Decides.{nat_tests}
 use Rattle.std.proofs.lemmas.List.{append-nil}
 use Rattle.std.specs.List.{starts_with, flat_map}
 use Rattle.std.specs.Str.{bytes_eq}
-use Rattle.scl_args.specs.declared.argument.NormalizedDisposition.{NormalizedDisposition}
-use Rattle.scl_args.specs.declared.argument.NormalizedDisposition.TheVariants as side
+use Rattle.scl_values.specs.declared.argument.NormalizedDisposition.{NormalizedDisposition}
+use Rattle.scl_values.specs.declared.argument.NormalizedDisposition.TheVariants as side
 use Rattle.scl_args.specs.Options.{spelled_on}
-use Rattle.scl_args.specs.Spell.{spell_value, normal_how, delimited}
-use Rattle.scl_args.specs.Each.{Each, Has}
-use Rattle.scl_args.specs.declared.argument.ArgDisposition.{ArgDisposition}
-use Rattle.scl_args.specs.declared.argument.ArgDisposition.TheVariants as how
-use Rattle.scl_args.specs.Row.{Row, Shape, bare, apart, joined, either, joins}
-use Rattle.scl_args.specs.Tables.{owner, owner_in, all_rows}
-use Rattle.scl_args.specs.Cuts.{Cut, raw, unknown, flag, with_value, after_delimiter}
-use Rattle.scl_args.specs.Seen.{Plain, plain, plain_seen, Seen, shown}
-use Rattle.scl_args.specs.Seen as plain
+use Rattle.scl_values.specs.Spell.{spell_value, normal_how, delimited}
+use Rattle.scl_values.specs.Each.{Each, Has}
+use Rattle.scl_values.specs.declared.argument.ArgDisposition.{ArgDisposition}
+use Rattle.scl_values.specs.declared.argument.ArgDisposition.TheVariants as how
+use Rattle.scl_values.specs.Row.{Row, Shape, bare, apart, joined, either, joins}
+use Rattle.scl_values.specs.Tables.{owner, owner_in, all_rows}
+use Rattle.scl_values.specs.Cuts.{Cut, raw, unknown, flag, with_value, after_delimiter}
+use Rattle.scl_values.specs.Seen.{Plain, plain, plain_seen, Seen, shown}
+use Rattle.scl_values.specs.Seen as plain
 use Rattle.scl_again.specs.Reads.{Reads}
 use Rattle.scl_again.specs.Checks.{extends, keeps_flags, joins_safely, is_changing, is_changing_shape, is_joining, is_together}
 use Rattle.scl_again.specs.Origins.{is_mark, Owns, StandsEither, ValueCame, HasSome, IsClear, IsKept}
-use Rattle.scl_args.proofs.PrefixLemmas.{both}
+use Rattle.scl_tables.proofs.PrefixLemmas.{both}
 use Rattle.scl_again.proofs.OriginLaws.{owned_word, has_row, CameUnmarked, all_unmarked, cut_came}
 use Rattle.scl_again.specs.Laws.{PrintsAgain}
 use Rattle.scl_args.proofs.OwnerLaws.{owner_in-is}

@@ -1,14 +1,14 @@
 use Rattle.std.proofs.Common.{◌≡◌, ℕ, Bool, true, false, List, [], ◌∷◌, ◌++◌, map, filter, refl, ap, ◌∙◌}
 use Rattle.std.proofs.lemmas.List.{append-nil}
 use Rattle.std.specs.List.{flat_map}
-use Rattle.scl_args.specs.declared.argument.NormalizedDisposition.{NormalizedDisposition}
-use Rattle.scl_args.specs.Each.{Each}
+use Rattle.scl_values.specs.declared.argument.NormalizedDisposition.{NormalizedDisposition}
+use Rattle.scl_values.specs.Each.{Each}
 use Rattle.scl_args.specs.Options.{list, side_of_flag}
-use Rattle.scl_args.specs.Row.{Row}
-use Rattle.scl_args.specs.Tables.{owner_in, all_rows}
-use Rattle.scl_args.specs.Cuts.{Cut}
-use Rattle.scl_args.specs.Seen.{Seen, Plain, shown, plain_seen}
-use Rattle.scl_args.specs.Seen as plain
+use Rattle.scl_values.specs.Row.{Row}
+use Rattle.scl_values.specs.Tables.{owner_in, all_rows}
+use Rattle.scl_values.specs.Cuts.{Cut}
+use Rattle.scl_values.specs.Seen.{Seen, Plain, shown, plain_seen}
+use Rattle.scl_values.specs.Seen as plain
 use Rattle.scl_again.specs.Checks.{PassChecks, has_no_kept}
 use Rattle.scl_again.specs.Commands.{Inner, Said, CommandList, Parts, handed_words, handed, carried, carried_inner, values_at, raw_words, IsReadAgain}
 use Rattle.scl_again.specs.Origins.{AreClear, IsKept}

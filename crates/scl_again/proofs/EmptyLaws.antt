@@ -1,15 +1,15 @@
 -- Empty values of either rows: they are seen, and options that are judged and not refused have none.
 use Rattle.std.proofs.Common.{◌≡◌, ℕ, Bool, true, false, cond, ◌&&◌, ◌↔◌, List, [], ◌∷◌, ◌++◌, map, Option, None, Some, Ok, Err, refl, sym, ap, subst, ◌∙◌, if◌then◌else◌}
 use Rattle.std.proofs.lemmas.List.{append-nil}
-use Rattle.scl_args.specs.declared.argument.ArgDisposition.{ArgDisposition}
-use Rattle.scl_args.specs.declared.argument.ArgDisposition.TheVariants as how
-use Rattle.scl_args.specs.Cuts.{Cut, raw, unknown, flag, with_value, after_delimiter, cut}
-use Rattle.scl_args.specs.Each.{Each}
+use Rattle.scl_values.specs.declared.argument.ArgDisposition.{ArgDisposition}
+use Rattle.scl_values.specs.declared.argument.ArgDisposition.TheVariants as how
+use Rattle.scl_values.specs.Cuts.{Cut, raw, unknown, flag, with_value, after_delimiter, cut}
+use Rattle.scl_values.specs.Each.{Each}
 use Rattle.scl_args.specs.Empties.{is_either, finds_either, is_empty, stands_either, has_empty_value, refusing_empty}
 use Rattle.scl_args.specs.Options.{first_verdict, judged, or_else, unless}
-use Rattle.scl_args.specs.Row.{Row, Shape, bare, apart, joined, either, joins}
-use Rattle.scl_args.specs.Seen.{Seen, shown}
-use Rattle.scl_args.specs.Tables.{all_rows, owner_in}
+use Rattle.scl_values.specs.Row.{Row, Shape, bare, apart, joined, either, joins}
+use Rattle.scl_values.specs.Seen.{Seen, shown}
+use Rattle.scl_values.specs.Tables.{all_rows, owner_in}
 use Rattle.scl_args.proofs.OwnerLaws.{owner_in-is}
 use Rattle.scl_again.specs.Laws.{EmptyValuesAreSeen, JudgedAreClear}
 use Rattle.scl_again.specs.Origins.{Owns, StandsEither, ValueCame, HasSome, IsClear}

@@ -1,9 +1,9 @@
 -- What filters over options find.
 use Rattle.std.proofs.Common.{◌≡◌, ℕ, Bool, true, false, cond, ◌||◌, List, [], ◌∷◌, map, filter, Option, None, Some, refl, sym, ap, subst, ◌∙◌}
 use Rattle.std.specs.List.{list_any}
-use Rattle.scl_args.specs.Each.{Each}
-use Rattle.scl_args.specs.Options.{last, or_else, text_of, texts}
-use Rattle.scl_args.specs.Seen.{Seen}
+use Rattle.scl_values.specs.Each.{Each}
+use Rattle.scl_args.specs.Options.{last, or_else, texts}
+use Rattle.scl_values.specs.Seen.{Seen, text_of}
 
 module _ {A : Type 0} where
   last-nil : (P : A → Type 0) (x y : A) → or_else None (Some x) ≡ Some y → P x → P y

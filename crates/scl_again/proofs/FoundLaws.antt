@@ -1,16 +1,16 @@
 use Rattle.std.proofs.Common.{◌≡◌, ℕ, Bool, true, false, cond, not, ◌||◌, inl, inr, List, [], ◌∷◌, map, filter, Option, None, Some, refl, sym, ap, subst, ◌∙◌}
 use Rattle.std.specs.List.{list_all}
 use Rattle.std.specs.Option.{option_map}
-use Rattle.scl_args.specs.declared.argument.ArgDisposition.{ArgDisposition}
-use Rattle.scl_args.specs.Each.{Each, Has}
-use Rattle.scl_args.specs.Options.{is_of, is_raw, flag_of, text_of, last_by, texts}
-use Rattle.scl_args.specs.Row.{Row, Shape, bare, apart, joined, either}
-use Rattle.scl_args.specs.Tables.{owner_in, all_rows}
-use Rattle.scl_args.specs.Cuts.{Cut, raw, unknown, flag, with_value, cut}
-use Rattle.scl_args.specs.Seen.{Seen, Raw, Unknown, Known, shown}
-use Rattle.scl_args.specs.Seen as plain
+use Rattle.scl_values.specs.declared.argument.ArgDisposition.{ArgDisposition}
+use Rattle.scl_values.specs.Each.{Each, Has}
+use Rattle.scl_args.specs.Options.{is_of, is_raw, last_by, texts}
+use Rattle.scl_values.specs.Row.{Row, Shape, bare, apart, joined, either}
+use Rattle.scl_values.specs.Tables.{owner_in, all_rows}
+use Rattle.scl_values.specs.Cuts.{Cut, raw, unknown, flag, with_value, cut}
+use Rattle.scl_values.specs.Seen.{Seen, Raw, Unknown, Known, shown, flag_of, text_of}
+use Rattle.scl_values.specs.Seen as plain
 use Rattle.scl_args.proofs.OwnerLaws.{owner_in-is}
-use Rattle.scl_args.proofs.PrefixLemmas.{both}
+use Rattle.scl_tables.proofs.PrefixLemmas.{both}
 use Rattle.scl_again.specs.Origins.{ValueCame}
 use Rattle.scl_again.specs.Reads.{Reads}
 use Rattle.scl_again.proofs.AgainChecks.{implied}

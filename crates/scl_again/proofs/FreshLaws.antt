@@ -1,10 +1,10 @@
 use Rattle.std.proofs.Common.{◌≡◌, ℕ, Bool, true, List, [], ◌∷◌, ◌++◌, Option, None, refl, sym, ap, subst, ◌∙◌}
-use Rattle.scl_args.specs.Spell.{delimited}
-use Rattle.scl_args.specs.Each.{Has}
-use Rattle.scl_args.specs.Row.{Row, joined, either, joins}
-use Rattle.scl_args.specs.Tables.{owner, owner_in, all_rows}
+use Rattle.scl_values.specs.Spell.{delimited}
+use Rattle.scl_values.specs.Each.{Has}
+use Rattle.scl_values.specs.Row.{Row, joined, either, joins}
+use Rattle.scl_values.specs.Tables.{owner, owner_in, all_rows}
 use Rattle.scl_args.proofs.OwnerLaws.{owner_in-is}
-use Rattle.scl_args.specs.Seen as plain
+use Rattle.scl_values.specs.Seen as plain
 use Rattle.scl_again.specs.Reads.{Reads}
 use Rattle.scl_again.specs.Checks.{keeps_flags, joins_safely, has_one_of, JoinSafely}
 use Rattle.scl_again.specs.Origins.{Owns}

@@ -1,9 +1,9 @@
 use Rattle.std.proofs.Common.{◌≡◌, ℕ, Bool, true, false, cond, inl, inr, List, [], ◌∷◌, ◌++◌, length, drop, map, Option, None, Some, refl, ap, ◌∙◌}
-use Rattle.scl_args.specs.declared.argument.ArgDisposition.{ArgDisposition}
-use Rattle.scl_args.specs.Row.{Row, Shape, bare, apart, joined, either}
-use Rattle.scl_args.specs.Cuts.{Cut, raw, unknown, flag, with_value, clean, Cutting, Piece, whole, needs_value, ends_options, piece_at, owned_piece, piece_of, before, cut, last_piece, all_raw, starts_with_dash}
-use Rattle.scl_args.specs.Seen.{Plain, plain}
-use Rattle.scl_args.specs.Seen as plain
+use Rattle.scl_values.specs.declared.argument.ArgDisposition.{ArgDisposition}
+use Rattle.scl_values.specs.Row.{Row, Shape, bare, apart, joined, either}
+use Rattle.scl_values.specs.Cuts.{Cut, raw, unknown, flag, with_value, clean, Cutting, Piece, whole, needs_value, ends_options, piece_at, owned_piece, piece_of, before, cut, last_piece, all_raw, starts_with_dash}
+use Rattle.scl_values.specs.Seen.{Plain, plain}
+use Rattle.scl_values.specs.Seen as plain
 use Rattle.scl_again.specs.Reads.{read, behind, Reads}
 use Rattle.scl_again.specs.Origins.{is_mark, IsInput, FirstRaw, input_words}
 use Rattle.scl_again.proofs.ReadsLaws.{reads-raw}

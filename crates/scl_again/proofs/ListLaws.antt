@@ -1,13 +1,13 @@
 use Rattle.std.proofs.Common.{◌≡◌, ℕ, Bool, true, false, cond, not, ◌&&◌, inl, inr, List, [], ◌∷◌, map, filter, refl, sym, ap, subst, ◌∙◌}
 use Rattle.std.specs.Str.{bytes_eq}
-use Rattle.scl_args.specs.declared.argument.NormalizedDisposition.{NormalizedDisposition}
-use Rattle.scl_args.specs.Each.{Each, Has}
+use Rattle.scl_values.specs.declared.argument.NormalizedDisposition.{NormalizedDisposition}
+use Rattle.scl_values.specs.Each.{Each, Has}
 use Rattle.scl_args.specs.Options.{list}
-use Rattle.scl_args.specs.Row.{Row}
-use Rattle.scl_args.specs.Tables.{owner_in, all_rows}
-use Rattle.scl_args.specs.Cuts.{Cut, raw, unknown, flag, with_value, cut}
-use Rattle.scl_args.specs.Seen.{Seen, shown, plain_seen}
-use Rattle.scl_args.proofs.PrefixLemmas.{both}
+use Rattle.scl_values.specs.Row.{Row}
+use Rattle.scl_values.specs.Tables.{owner_in, all_rows}
+use Rattle.scl_values.specs.Cuts.{Cut, raw, unknown, flag, with_value, cut}
+use Rattle.scl_values.specs.Seen.{Seen, shown, plain_seen}
+use Rattle.scl_tables.proofs.PrefixLemmas.{both}
 use Rattle.scl_args.proofs.OwnerLaws.{owner_in-is}
 use Rattle.scl_again.specs.Checks.{PassChecks, has_no_kept}
 use Rattle.scl_again.specs.Commands.{value_at, values_at}

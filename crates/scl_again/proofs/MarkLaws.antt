@@ -1,16 +1,16 @@
 use Rattle.std.proofs.Common.{◌≡◌, ℕ, Bool, true, false, cond, not, ◌&&◌, ◌||◌, inl, inr, List, [], ◌∷◌, ◌++◌, map, filter, Option, refl, sym, ap, subst, ◌∙◌}
 use Rattle.std.specs.List.{list_any}
 use Rattle.std.specs.Str.{bytes_eq}
-use Rattle.scl_args.specs.declared.argument.ArgDisposition.{ArgDisposition}
-use Rattle.scl_args.specs.Options.{first_is, is_behind_dashes, is_dashes, is_raw, text_of, texts}
-use Rattle.scl_args.specs.Row.{Row, Shape, bare, apart, joined, either}
-use Rattle.scl_args.specs.Cuts.{mark, Cut, raw, unknown, flag, with_value, cut, starts_with_dash}
-use Rattle.scl_args.specs.Each.{Each}
-use Rattle.scl_args.specs.Seen.{Seen, Raw, shown}
-use Rattle.scl_args.specs.Seen as plain
-use Rattle.scl_args.specs.Tables.{owner_in, all_rows}
+use Rattle.scl_values.specs.declared.argument.ArgDisposition.{ArgDisposition}
+use Rattle.scl_args.specs.Options.{first_is, is_behind_dashes, is_dashes, is_raw, texts}
+use Rattle.scl_values.specs.Row.{Row, Shape, bare, apart, joined, either}
+use Rattle.scl_values.specs.Cuts.{mark, Cut, raw, unknown, flag, with_value, cut, starts_with_dash}
+use Rattle.scl_values.specs.Each.{Each}
+use Rattle.scl_values.specs.Seen.{Seen, Raw, shown, text_of}
+use Rattle.scl_values.specs.Seen as plain
+use Rattle.scl_values.specs.Tables.{owner_in, all_rows}
 use Rattle.scl_args.proofs.OwnerLaws.{owner_in-is}
-use Rattle.scl_args.proofs.PrefixLemmas.{both}
+use Rattle.scl_tables.proofs.PrefixLemmas.{both}
 use Rattle.scl_again.specs.Origins.{FirstRaw, IsInput, Owns, ValueCame, Came}
 use Rattle.scl_again.specs.Reads.{Reads}
 use Rattle.scl_again.proofs.FilterLaws.{not-passed}

@@ -5,10 +5,10 @@ use Rattle.std.specs.Cmp.Lexicographic.{slice_cmp}
 use Rattle.std.specs.Ordering.{nat_cmp, is_lt, ordering_then}
 use Rattle.std.specs.declared.cmp.Ordering.{Ordering}
 use Rattle.std.specs.declared.cmp.Ordering.TheVariants.{Less, Equal, Greater}
-use Rattle.scl_args.specs.Row.{Row}
-use Rattle.scl_args.specs.Tables.{is_table, comes_before, has_ascii_delimiter}
+use Rattle.scl_values.specs.Row.{Row}
+use Rattle.scl_values.specs.Tables.{is_table, comes_before, has_ascii_delimiter}
 use Rattle.scl_again.specs.Checks.{extends, is_last, next_is_clear}
-use Rattle.scl_args.proofs.PrefixLemmas.{both}
+use Rattle.scl_tables.proofs.PrefixLemmas.{both}
 
 abbrev cmp : List ℕ → List ℕ → Ordering
 cmp = slice_cmp nat_cmp

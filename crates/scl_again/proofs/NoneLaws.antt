@@ -3,9 +3,9 @@ use Rattle.std.proofs.Common.{◌≡◌, ℕ, Bool, true, false, cond, List, [],
 use Rattle.std.proofs.lemmas.Grind.{flat_map-append}
 use Rattle.std.proofs.lemmas.List.{append-nil}
 use Rattle.std.specs.List.{flat_map}
-use Rattle.scl_args.specs.Each.{Each}
-use Rattle.scl_args.specs.Seen.{Seen, Plain, plain_seen}
-use Rattle.scl_args.specs.Seen as plain
+use Rattle.scl_values.specs.Each.{Each}
+use Rattle.scl_values.specs.Seen.{Seen, Plain, plain_seen}
+use Rattle.scl_values.specs.Seen as plain
 use Rattle.scl_again.specs.Commands.{Inner, Said, CommandList, handed_words, handed, carried}
 
 none-passed : {K X : Type 0} (has : Plain K → List X) (p : Seen K → Bool) → ((o : Seen K) → p o ≡ true → has (plain_seen o) ≡ []) → (os : List (Seen K)) → flat_map has (map plain_seen (filter p os)) ≡ []

@@ -2,14 +2,14 @@ use Rattle.std.proofs.Common.{◌≡◌, ℕ, Bool, true, false, cond, ◌&&◌,
 use Rattle.std.proofs.lemmas.List.{append-nil}
 use Rattle.std.specs.Str.{bytes_eq}
 use Rattle.scl_args.specs.Laws.{IsLongestFit}
-use Rattle.scl_args.specs.Each.{Each, Has}
-use Rattle.scl_args.specs.declared.argument.ArgDisposition.{ArgDisposition}
-use Rattle.scl_args.specs.declared.argument.ArgDisposition.TheVariants as how
-use Rattle.scl_args.specs.Row.{Row, Shape, bare, apart, joined, either, joins}
-use Rattle.scl_args.specs.Tables.{owner}
-use Rattle.scl_args.specs.Cuts.{Cut, raw, unknown, flag, with_value, clean, Cutting, Piece, whole, needs_value, ends_options, piece_at, owned_piece, piece_of, after_delimiter, without_value, before, cut, last_piece, all_raw, starts_with_dash}
+use Rattle.scl_values.specs.Each.{Each, Has}
+use Rattle.scl_values.specs.declared.argument.ArgDisposition.{ArgDisposition}
+use Rattle.scl_values.specs.declared.argument.ArgDisposition.TheVariants as how
+use Rattle.scl_values.specs.Row.{Row, Shape, bare, apart, joined, either, joins}
+use Rattle.scl_values.specs.Tables.{owner}
+use Rattle.scl_values.specs.Cuts.{Cut, raw, unknown, flag, with_value, clean, Cutting, Piece, whole, needs_value, ends_options, piece_at, owned_piece, piece_of, after_delimiter, without_value, before, cut, last_piece, all_raw, starts_with_dash}
 use Rattle.scl_again.specs.Origins.{is_mark, Owns, StandsEither, ValueCame, Came, HasNoOwner, BeginsWithMark, AllCame}
-use Rattle.scl_args.proofs.PrefixLemmas.{fits-split}
+use Rattle.scl_tables.proofs.PrefixLemmas.{fits-split}
 use Rattle.scl_args.proofs.OwnerLaws.{owner_is}
 
 -- the word that an either row owns

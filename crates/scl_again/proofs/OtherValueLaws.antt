@@ -1,16 +1,16 @@
 use Rattle.std.proofs.Common.{◌≡◌, ℕ, Bool, true, false, not, ◌||◌, inl, inr, List, [], ◌∷◌, Option, refl, sym, ap, subst, ◌∙◌}
 use Rattle.std.proofs.lemmas.List.{append-nil}
 use Rattle.std.specs.List.{list_all}
-use Rattle.scl_args.specs.declared.argument.NormalizedDisposition.{NormalizedDisposition}
-use Rattle.scl_args.specs.Each.{Has}
-use Rattle.scl_args.specs.Options.{is_of, flag_of}
-use Rattle.scl_args.specs.Row.{Row, Shape, bare, apart, joined, either}
-use Rattle.scl_args.specs.Tables.{owner_in, all_rows}
-use Rattle.scl_args.specs.Cuts.{Cut, raw, unknown, flag, with_value}
-use Rattle.scl_args.specs.Seen.{Seen, shown}
-use Rattle.scl_args.specs.Seen as plain
+use Rattle.scl_values.specs.declared.argument.NormalizedDisposition.{NormalizedDisposition}
+use Rattle.scl_values.specs.Each.{Has}
+use Rattle.scl_args.specs.Options.{is_of}
+use Rattle.scl_values.specs.Row.{Row, Shape, bare, apart, joined, either}
+use Rattle.scl_values.specs.Tables.{owner_in, all_rows}
+use Rattle.scl_values.specs.Cuts.{Cut, raw, unknown, flag, with_value}
+use Rattle.scl_values.specs.Seen.{Seen, shown, flag_of}
+use Rattle.scl_values.specs.Seen as plain
 use Rattle.scl_args.proofs.OwnerLaws.{owner_in-is}
-use Rattle.scl_args.proofs.PrefixLemmas.{both}
+use Rattle.scl_tables.proofs.PrefixLemmas.{both}
 use Rattle.scl_again.specs.Checks.{PassChecks, is_changing, is_changing_shape, is_joining}
 use Rattle.scl_again.specs.Origins.{is_mark, Owns}
 use Rattle.scl_again.specs.Reads.{Reads}

@@ -1,7 +1,7 @@
 use Rattle.std.proofs.Common.{◌≡◌, Bool, true, false, cond, List, [], ◌∷◌, ◌++◌, Option, None, Some, Result, Ok, Err, refl, sym, ◌∙◌}
-use Rattle.scl_args.specs.Each.{Each}
+use Rattle.scl_values.specs.Each.{Each}
 use Rattle.scl_args.specs.Options.{first_verdict, judged, or_else, unless, wanted, ◌>>=◌}
-use Rattle.scl_args.specs.Seen.{Seen}
+use Rattle.scl_values.specs.Seen.{Seen}
 
 -- ---- what an outcome Ok says, step by step
 

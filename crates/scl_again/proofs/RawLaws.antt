@@ -1,8 +1,8 @@
 -- Words that are no options: the lists of a command have none.
 use Rattle.std.proofs.Common.{◌≡◌, ℕ, Bool, true, false, List, [], ◌++◌, None, Some, refl, sym, ◌∙◌}
 use Rattle.std.specs.List.{flat_map}
-use Rattle.scl_args.specs.Each.{Each}
-use Rattle.scl_args.specs.Seen.{Seen, Raw, Unknown, Known, Plain, plain_seen}
+use Rattle.scl_values.specs.Each.{Each}
+use Rattle.scl_values.specs.Seen.{Seen, Raw, Unknown, Known, Plain, plain_seen}
 use Rattle.scl_again.specs.Commands.{Said, CommandList, carried, raw_word, raw_words}
 use Rattle.scl_again.proofs.NoneLaws.{HandsNone, HasNone, own-alone}
 use Rattle.scl_again.proofs.ValuesLaws.{each-all, each-map}

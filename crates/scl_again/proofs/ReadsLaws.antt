@@ -3,14 +3,14 @@ use Rattle.std.proofs.lemmas.Bool.Decides.{nat_tests}
 use Rattle.std.proofs.lemmas.List.{append-nil}
 use Rattle.std.proofs.Math.Seq.{drop-append_seam}
 use Rattle.std.specs.List.{flat_map}
-use Rattle.scl_args.specs.Spell.{delimited}
-use Rattle.scl_args.specs.Each.{Each}
-use Rattle.scl_args.specs.declared.argument.ArgDisposition.{ArgDisposition}
-use Rattle.scl_args.specs.declared.argument.ArgDisposition.TheVariants as how
-use Rattle.scl_args.specs.Row.{Row, bare, apart, joined, either}
-use Rattle.scl_args.specs.Cuts.{Cut, raw, unknown, flag, with_value, Piece, whole, needs_value, ends_options, piece_at, owned_piece, piece_of, after_delimiter, before, cut, starts_with_dash}
-use Rattle.scl_args.specs.Seen.{Plain, plain}
-use Rattle.scl_args.specs.Seen as plain
+use Rattle.scl_values.specs.Spell.{delimited}
+use Rattle.scl_values.specs.Each.{Each}
+use Rattle.scl_values.specs.declared.argument.ArgDisposition.{ArgDisposition}
+use Rattle.scl_values.specs.declared.argument.ArgDisposition.TheVariants as how
+use Rattle.scl_values.specs.Row.{Row, bare, apart, joined, either}
+use Rattle.scl_values.specs.Cuts.{Cut, raw, unknown, flag, with_value, Piece, whole, needs_value, ends_options, piece_at, owned_piece, piece_of, after_delimiter, before, cut, starts_with_dash}
+use Rattle.scl_values.specs.Seen.{Plain, plain}
+use Rattle.scl_values.specs.Seen as plain
 use Rattle.scl_again.specs.Reads.{Read, plainly, read, cleanly, behind, Reads}
 use Rattle.scl_again.specs.Origins.{is_mark, Owns}
 

@@ -4,9 +4,9 @@ use Rattle.std.proofs.lemmas.Grind.{flat_map-append}
 use Rattle.std.proofs.lemmas.List.{append-nil}
 use Rattle.std.specs.List.{flat_map}
 use Rattle.std.specs.Str.{bytes_eq}
-use Rattle.scl_args.specs.Each.{Each}
-use Rattle.scl_args.specs.Seen.{Plain, Seen, plain_seen}
-use Rattle.scl_args.specs.Seen as plain
+use Rattle.scl_values.specs.Each.{Each}
+use Rattle.scl_values.specs.Seen.{Plain, Seen, plain_seen}
+use Rattle.scl_values.specs.Seen as plain
 use Rattle.scl_again.specs.Commands.{Inner, CommandList, handed_words, handed, value_at, values_at}
 
 eq-itself : (f : List ℕ) → bytes_eq f f ≡ true

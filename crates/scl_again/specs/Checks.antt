@@ -4,12 +4,12 @@ use Rattle.std.specs.List.{list_all, list_any, starts_with}
 use Rattle.std.specs.Str.{bytes_eq}
 use Rattle.std.specs.Ordering.{nat_cmp, is_lt}
 use Rattle.std.specs.Cmp.Lexicographic.{slice_cmp}
-use Rattle.scl_args.specs.declared.argument.NormalizedDisposition.{NormalizedDisposition}
-use Rattle.scl_args.specs.declared.argument.NormalizedDisposition.TheVariants as side
+use Rattle.scl_values.specs.declared.argument.NormalizedDisposition.{NormalizedDisposition}
+use Rattle.scl_values.specs.declared.argument.NormalizedDisposition.TheVariants as side
 use Rattle.scl_args.specs.Empties.{is_either}
-use Rattle.scl_args.specs.Row.{Row, Shape, bare, apart, joined, either}
-use Rattle.scl_args.specs.Tables.{all_rows}
-use Rattle.scl_args.specs.Cuts.{mark}
+use Rattle.scl_values.specs.Row.{Row, Shape, bare, apart, joined, either}
+use Rattle.scl_values.specs.Tables.{all_rows}
+use Rattle.scl_values.specs.Cuts.{mark}
 
 -- whether the flag begins with the other
 abbrev pub extends : List ℕ → List ℕ → Bool

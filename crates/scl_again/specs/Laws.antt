@@ -1,13 +1,13 @@
 -- What follows for words that are printed and cut again.
 use Rattle.std.specs.Prelude.{◌≡◌, ℕ, Bool, true, false, List, ◌++◌, map, filter, Option, Ok, ◌↔◌}
-use Rattle.scl_args.specs.declared.argument.NormalizedDisposition.{NormalizedDisposition}
-use Rattle.scl_args.specs.Row.{Row}
-use Rattle.scl_args.specs.Tables.{is_table, owner_in}
-use Rattle.scl_args.specs.Cuts.{Cut, raw, is_dangling, cut}
+use Rattle.scl_values.specs.declared.argument.NormalizedDisposition.{NormalizedDisposition}
+use Rattle.scl_values.specs.Row.{Row}
+use Rattle.scl_values.specs.Tables.{is_table, owner_in}
+use Rattle.scl_values.specs.Cuts.{Cut, raw, is_dangling, cut}
 use Rattle.scl_args.specs.Empties.{has_empty_value, refusing_empty}
-use Rattle.scl_args.specs.Seen.{Seen, shown, plain_seen}
+use Rattle.scl_values.specs.Seen.{Seen, shown, plain_seen}
 use Rattle.scl_args.specs.Options.{judged, list}
-use Rattle.scl_args.specs.Each.{Each}
+use Rattle.scl_values.specs.Each.{Each}
 use Rattle.scl_again.specs.Reads.{Reads}
 use Rattle.scl_again.specs.Checks.{PassChecks, is_last, next_is_clear}
 use Rattle.scl_again.specs.Origins.{AllCame, BeginsWithMark, HasNoOwner, IsClear, IsKept}

@@ -1,8 +1,8 @@
 -- Words that name no response file: a compiler takes a word that begins with `@` for the name of a file with more words.
 use Rattle.std.specs.Prelude.{◌≡◌, ℕ, false, List}
-use Rattle.scl_args.specs.Each.{Each}
-use Rattle.scl_args.specs.Options.{begins_with_at, text_of}
-use Rattle.scl_args.specs.Seen.{Seen}
+use Rattle.scl_values.specs.Each.{Each}
+use Rattle.scl_args.specs.Options.{begins_with_at}
+use Rattle.scl_values.specs.Seen.{Seen, text_of}
 use Rattle.scl_again.specs.Commands.{Said}
 
 -- the word names none

@@ -1,12 +1,12 @@
 -- What is known of an option that words were cut into.
 use Rattle.std.specs.Prelude.{◌≡◌, ℕ, Bool, true, false, ◌&&◌, List, [], ◌∷◌, ◌++◌, map, Option, None, Some, ◌⊎◌}
 use Rattle.std.specs.Str.{bytes_eq}
-use Rattle.scl_args.specs.declared.argument.ArgDisposition.{ArgDisposition}
-use Rattle.scl_args.specs.declared.argument.ArgDisposition.TheVariants as how
-use Rattle.scl_args.specs.Row.{Row, Shape, bare, apart, joined, either, joins}
-use Rattle.scl_args.specs.Cuts.{mark, Cut, raw, unknown, flag, with_value, starts_with_dash, after_delimiter, cut}
-use Rattle.scl_args.specs.Seen.{Seen, shown}
-use Rattle.scl_args.specs.Each.{Each}
+use Rattle.scl_values.specs.declared.argument.ArgDisposition.{ArgDisposition}
+use Rattle.scl_values.specs.declared.argument.ArgDisposition.TheVariants as how
+use Rattle.scl_values.specs.Row.{Row, Shape, bare, apart, joined, either, joins}
+use Rattle.scl_values.specs.Cuts.{mark, Cut, raw, unknown, flag, with_value, starts_with_dash, after_delimiter, cut}
+use Rattle.scl_values.specs.Seen.{Seen, shown}
+use Rattle.scl_values.specs.Each.{Each}
 
 -- whether the word ends the options
 abbrev pub is_mark : Bool → List ℕ → Bool

@@ -1,9 +1,9 @@
 -- What is promised of a command: it is read again, and it names no response file of its own.
 use Rattle.std.specs.Prelude.{ℕ, Bool, List, map}
-use Rattle.scl_args.specs.Cuts.{Cut}
-use Rattle.scl_args.specs.Each.{Each}
-use Rattle.scl_args.specs.Row.{Row}
-use Rattle.scl_args.specs.Seen.{shown}
+use Rattle.scl_values.specs.Cuts.{Cut}
+use Rattle.scl_values.specs.Each.{Each}
+use Rattle.scl_values.specs.Row.{Row}
+use Rattle.scl_values.specs.Seen.{shown}
 use Rattle.scl_again.specs.Commands.{Inner, Said, Parts, IsReadAgain}
 use Rattle.scl_again.specs.NoFiles.{NamesNoFileOfItsOwn}
 use Rattle.scl_again.specs.Origins.{IsClear}

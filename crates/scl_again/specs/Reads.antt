@@ -1,8 +1,8 @@
 -- What words are read as, apart from how values stand.
 use Rattle.std.specs.Prelude.{◌≡◌, ℕ, Bool, List, ◌++◌, map, Option}
-use Rattle.scl_args.specs.Row.{Row}
-use Rattle.scl_args.specs.Cuts.{End, clean, Cutting, cut}
-use Rattle.scl_args.specs.Seen.{Plain, plain}
+use Rattle.scl_values.specs.Row.{Row}
+use Rattle.scl_values.specs.Cuts.{End, clean, Cutting, cut}
+use Rattle.scl_values.specs.Seen.{Plain, plain}
 
 -- what words are cut into, apart from how values stand
 pub record Read (K : Type 0) : Type 0 where

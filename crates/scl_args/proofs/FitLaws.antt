@@ -2,12 +2,12 @@
 use Rattle.std.proofs.Common.{◌≡◌, ℕ, ◌<◌, true, false, inl, inr, List, [], ◌∷◌, ◌++◌, length, take, None, Some, MatchOption, refl, sym, ap, subst, ◌∙◌, arith}
 use Rattle.std.proofs.lemmas.Cmp.{nat_list_cmp_total}
 use Rattle.std.specs.declared.cmp.Ordering.TheVariants.{Less}
-use Rattle.scl_args.specs.Row.{Row, fits}
-use Rattle.scl_args.specs.Tables.{is_table, comes_before, has_ascii_delimiter, owner}
-use Rattle.scl_args.specs.Each.{Each, Has}
+use Rattle.scl_values.specs.Row.{Row, fits}
+use Rattle.scl_values.specs.Tables.{is_table, comes_before, has_ascii_delimiter, owner}
+use Rattle.scl_values.specs.Each.{Each, Has}
 use Rattle.scl_args.specs.Laws.{IsLongestFit}
-use Rattle.scl_args.proofs.OrderLemmas.{cmp, is_less, fits_prefix, prefix_not_after, prefix_before}
-use Rattle.scl_args.proofs.PrefixLemmas.{both, starts-length, fits-starts}
+use Rattle.scl_tables.proofs.OrderLemmas.{cmp, is_less, fits_prefix, prefix_not_after, prefix_before}
+use Rattle.scl_tables.proofs.PrefixLemmas.{both, starts-length, fits-starts}
 use Rattle.scl_args.proofs.OwnerLaws.{owner-longest, owner-wins, AtMost, Below, Wins}
 
 -- of two fitting rows the one that comes first by bytes is shorter

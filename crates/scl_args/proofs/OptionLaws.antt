@@ -5,9 +5,9 @@ use Rattle.std.specs.Option.{option_map, option_copied}
 use Rattle.std.proofs.lemmas.List.Concat.{flat_map-append}
 use Rattle.std.proofs.lemmas.List.Elements.{filter-append}
 use Rattle.std.proofs.lemmas.List.{map-append}
-use Rattle.scl_args.specs.declared.argument.NormalizedDisposition.{NormalizedDisposition}
-use Rattle.scl_args.specs.Seen.{Seen}
-use Rattle.scl_args.specs.Options.{text_of, spelled_on, or_else, last, last_by, texts, list}
+use Rattle.scl_values.specs.declared.argument.NormalizedDisposition.{NormalizedDisposition}
+use Rattle.scl_values.specs.Seen.{Seen, text_of}
+use Rattle.scl_args.specs.Options.{spelled_on, or_else, last, last_by, texts, list}
 
 pub or_else-assoc : {A : Type 0} (a b c : Option A) → or_else (or_else a b) c ≡ or_else a (or_else b c)
 or_else-assoc None b c = refl

@@ -2,11 +2,11 @@
 use Rattle.std.proofs.Common.{◌≡◌, ℕ, ◌<◌, ◌≤◌, Bool, true, false, cond, nat_lt, ◌⊎◌, inl, inr, List, [], ◌∷◌, ◌++◌, length, filter, Option, None, Some, MatchOption, refl, sym, ap, subst, ◌∙◌, arith}
 use Rattle.std.proofs.lemmas.Bool.Decides.{nat_tests}
 use Rattle.std.proofs.lemmas.List.Elements.{filter-append}
-use Rattle.scl_args.specs.Row.{Row, fits}
-use Rattle.scl_args.specs.Tables.{longer, longest, owner, owner_in, all_rows}
-use Rattle.scl_args.specs.Each.{Each, Has}
+use Rattle.scl_values.specs.Row.{Row, fits}
+use Rattle.scl_values.specs.Tables.{longer, longest, owner, owner_in, all_rows}
+use Rattle.scl_values.specs.Each.{Each, Has}
 use Rattle.scl_args.specs.Laws.{IsLongestFit}
-use Rattle.scl_args.proofs.TablesLemmas.{longer_longer, owner_cons, owner_in_append}
+use Rattle.scl_tables.proofs.TablesLemmas.{longer_longer, owner_cons, owner_in_append}
 
 longest-append : {K : Type 0} (xs ys : List (Row K)) → longest (xs ++ ys) ≡ longer (longest xs) (longest ys)
 longest-append [] ys = refl

@@ -3,18 +3,18 @@ use Rattle.std.proofs.Common.{◌≡◌, ℕ, Bool, true, false, cond, ◌&&◌,
 use Rattle.std.proofs.lemmas.Bool.Decides.{nat_tests}
 use Rattle.std.proofs.lemmas.List.{append-nil}
 use Rattle.std.specs.Str.{bytes_eq}
-use Rattle.scl_args.specs.declared.argument.ArgDisposition.{ArgDisposition}
-use Rattle.scl_args.specs.declared.argument.ArgDisposition.TheVariants as how
-use Rattle.scl_args.specs.Row.{Row, Shape, bare, apart, joined, either, joins}
-use Rattle.scl_args.specs.Tables.{owner_in}
-use Rattle.scl_args.specs.Cuts.{Cut, raw, unknown, with_value, End, Piece, whole, needs_value, ends_options, piece_at, owned_piece, piece_of, after_delimiter, without_value, last_piece, starts_with_dash, cut}
-use Rattle.scl_args.specs.Relation.{CutsInto, nothing, option, option_and_value, last_word, ended}
-use Rattle.scl_args.specs.Seen.{shown}
-use Rattle.scl_args.specs.Spell.{spelled, delimited}
+use Rattle.scl_values.specs.declared.argument.ArgDisposition.{ArgDisposition}
+use Rattle.scl_values.specs.declared.argument.ArgDisposition.TheVariants as how
+use Rattle.scl_values.specs.Row.{Row, Shape, bare, apart, joined, either, joins}
+use Rattle.scl_values.specs.Tables.{owner_in}
+use Rattle.scl_values.specs.Cuts.{Cut, raw, unknown, with_value, End, Piece, whole, needs_value, ends_options, piece_at, owned_piece, piece_of, after_delimiter, without_value, last_piece, starts_with_dash, cut}
+use Rattle.scl_cutting.specs.Relation.{CutsInto, nothing, option, option_and_value, last_word, ended}
+use Rattle.scl_values.specs.Seen.{shown}
+use Rattle.scl_values.specs.Spell.{spelled, delimited}
 use Rattle.scl_args.specs.Printed.{CutFrom, as_printed, with_delimiter, AllCutFrom, IsLeftAt}
-use Rattle.scl_args.proofs.TablesLemmas.{owner_in_fits}
-use Rattle.scl_args.proofs.PrefixLemmas.{fits-split}
-use Rattle.scl_args.proofs.RelationLaws.{cuts}
+use Rattle.scl_tables.proofs.TablesLemmas.{owner_in_fits}
+use Rattle.scl_tables.proofs.PrefixLemmas.{fits-split}
+use Rattle.scl_cutting.proofs.RelationLaws.{cuts}
 
 equal : (x y : ℕ) → (x == y) ≡ true → x ≡ y
 equal x y h = grind (arith, nat_tests)

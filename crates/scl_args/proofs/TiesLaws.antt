@@ -5,13 +5,13 @@ use Rattle.std.proofs.lemmas.List.Concat.{flat_map-append}
 use Rattle.std.proofs.lemmas.List.Sorted.{All-permutation, IsPermutation-sym}
 use Rattle.std.specs.List.{flat_map}
 use Rattle.std.specs.Option.{option_map}
-use Rattle.scl_args.specs.Row.{Row, fits}
-use Rattle.scl_args.specs.Tables.{longer, owner, owner_in, all_rows}
-use Rattle.scl_args.specs.Probes.{looks_in}
-use Rattle.scl_args.specs.Each.{Has}
+use Rattle.scl_values.specs.Row.{Row, fits}
+use Rattle.scl_values.specs.Tables.{longer, owner, owner_in, all_rows}
+use Rattle.scl_tables.specs.Probes.{looks_in}
+use Rattle.scl_values.specs.Each.{Has}
 use Rattle.scl_args.specs.Laws.{IsLongestFit, ShareNoFlag}
-use Rattle.scl_args.proofs.PrefixLemmas.{fits-split}
-use Rattle.scl_args.proofs.TablesLemmas.{owner_in_append, looks_in_append}
+use Rattle.scl_tables.proofs.PrefixLemmas.{fits-split}
+use Rattle.scl_tables.proofs.TablesLemmas.{owner_in_append, looks_in_append}
 use Rattle.scl_args.proofs.OwnerLaws.{owner-longest, owner_in-is}
 
 -- ---- one member more

@@ -1,9 +1,9 @@
 -- Empty values of either rows, and the refusal of them.
 use Rattle.std.specs.Prelude.{ℕ, Bool, true, false, cond, ◌&&◌, List, [], ◌∷◌, Option, None, Some}
-use Rattle.scl_args.specs.declared.argument.ArgDisposition.{ArgDisposition}
-use Rattle.scl_args.specs.declared.argument.ArgDisposition.TheVariants as how
-use Rattle.scl_args.specs.Row.{Row, Shape, bare, apart, joined, either}
-use Rattle.scl_args.specs.Seen.{Seen, Raw, Unknown, Known}
+use Rattle.scl_values.specs.declared.argument.ArgDisposition.{ArgDisposition}
+use Rattle.scl_values.specs.declared.argument.ArgDisposition.TheVariants as how
+use Rattle.scl_values.specs.Row.{Row, Shape, bare, apart, joined, either}
+use Rattle.scl_values.specs.Seen.{Seen, Raw, Unknown, Known}
 
 abbrev pub is_either : Shape → Bool
 is_either bare = false

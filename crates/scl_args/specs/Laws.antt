@@ -5,19 +5,19 @@ use Rattle.std.specs.List.{flat_map}
 use Rattle.std.specs.Option.{option_map}
 use Rattle.std.specs.Ordering.{nat_cmp}
 use Rattle.std.specs.declared.cmp.Ordering.TheVariants.{Less}
-use Rattle.scl_args.specs.declared.argument.Argument.{Argument}
-use Rattle.scl_args.specs.declared.argument.NormalizedDisposition.{NormalizedDisposition}
-use Rattle.scl_args.specs.Row.{Row, fits}
-use Rattle.scl_args.specs.Tables.{is_table, longer, owner, owner_in, all_rows}
-use Rattle.scl_args.specs.Probes.{bits, looks_in}
-use Rattle.scl_args.specs.Cuts.{Cutting, cut}
-use Rattle.scl_args.specs.Relation.{CutsInto}
-use Rattle.scl_args.specs.Seen.{Seen, seen}
-use Rattle.scl_args.specs.Spell.{spelled}
-use Rattle.scl_args.specs.Texts.{items_shown, word_shown}
+use Rattle.scl_values.specs.declared.argument.Argument.{Argument}
+use Rattle.scl_values.specs.declared.argument.NormalizedDisposition.{NormalizedDisposition}
+use Rattle.scl_values.specs.Row.{Row, fits}
+use Rattle.scl_values.specs.Tables.{is_table, longer, owner, owner_in, all_rows}
+use Rattle.scl_tables.specs.Probes.{bits, looks_in}
+use Rattle.scl_values.specs.Cuts.{Cutting, cut}
+use Rattle.scl_cutting.specs.Relation.{CutsInto}
+use Rattle.scl_values.specs.Seen.{Seen, seen}
+use Rattle.scl_values.specs.Spell.{spelled}
+use Rattle.scl_values.specs.Texts.{items_shown, word_shown}
 use Rattle.scl_args.specs.Options.{normal_on}
 use Rattle.scl_args.specs.Printed.{AllCutFrom, IsLeftAt}
-use Rattle.scl_args.specs.Each.{Each, Has}
+use Rattle.scl_values.specs.Each.{Each, Has}
 
 -- ---- tables and owners
 

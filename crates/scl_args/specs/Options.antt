@@ -3,12 +3,12 @@ use Rattle.std.specs.Prelude.{ℕ, ◌==◌, ◌||◌, codes, Vec, Bool, true, f
 use Rattle.std.specs.List.{flat_map, list_any}
 use Rattle.std.specs.Str.{bytes_eq}
 use Rattle.std.specs.declared.alloc.Global.{Global}
-use Rattle.scl_args.specs.declared.argument.ArgDisposition.TheVariants as how
-use Rattle.scl_args.specs.declared.argument.Argument.{Argument}
-use Rattle.scl_args.specs.declared.argument.NormalizedDisposition.{NormalizedDisposition}
-use Rattle.scl_args.specs.declared.argument.NormalizedDisposition.TheVariants as side
-use Rattle.scl_args.specs.Seen.{Seen, Raw, Unknown, Known, seen}
-use Rattle.scl_args.specs.Spell.{normal_how, spelled}
+use Rattle.scl_values.specs.declared.argument.ArgDisposition.TheVariants as how
+use Rattle.scl_values.specs.declared.argument.Argument.{Argument}
+use Rattle.scl_values.specs.declared.argument.NormalizedDisposition.{NormalizedDisposition}
+use Rattle.scl_values.specs.declared.argument.NormalizedDisposition.TheVariants as side
+use Rattle.scl_values.specs.Seen.{Seen, Raw, Unknown, Known, seen, text_of}
+use Rattle.scl_values.specs.Spell.{normal_how, spelled}
 
 -- ---- one option
 
@@ -26,18 +26,6 @@ is_of p (Known f k v h) = p k
 -- whether the option is of one of the kinds
 abbrev pub of_kinds : {K : Type 0} → (K → K → Bool) → List K → Seen K → Bool
 of_kinds same kinds o = is_of (λ k. list_any (λ other. same other k) kinds) o
-
--- the flag, or nothing
-abbrev pub flag_of : {K : Type 0} → Seen K → List ℕ
-flag_of (Raw w) = []
-flag_of (Unknown w) = []
-flag_of (Known f k v h) = f
-
--- the word of an option that is none, the value of a known one
-abbrev pub text_of : {K : Type 0} → Seen K → List ℕ
-text_of (Raw w) = w
-text_of (Unknown w) = w
-text_of (Known f k v h) = v
 
 abbrev pub begins_with_at : List ℕ → Bool
 begins_with_at [] = false

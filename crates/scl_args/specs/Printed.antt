@@ -1,11 +1,11 @@
 -- Options and the words that they were cut from.
 use Rattle.std.specs.Prelude.{◌≡◌, ℕ, List, [], ◌∷◌, ◌++◌, Option, None, Some}
-use Rattle.scl_args.specs.declared.argument.ArgDisposition.{ArgDisposition}
-use Rattle.scl_args.specs.declared.argument.ArgDisposition.TheVariants as how
-use Rattle.scl_args.specs.Row.{Row}
-use Rattle.scl_args.specs.Cuts.{Cut, with_value, End, clean, dangling}
-use Rattle.scl_args.specs.Seen.{shown}
-use Rattle.scl_args.specs.Spell.{spelled}
+use Rattle.scl_values.specs.declared.argument.ArgDisposition.{ArgDisposition}
+use Rattle.scl_values.specs.declared.argument.ArgDisposition.TheVariants as how
+use Rattle.scl_values.specs.Row.{Row}
+use Rattle.scl_values.specs.Cuts.{Cut, with_value, End, clean, dangling}
+use Rattle.scl_values.specs.Seen.{shown}
+use Rattle.scl_values.specs.Spell.{spelled}
 
 -- the delimiter of a value that stands in its flag's word
 abbrev pub delimiter_of : ArgDisposition → Option ℕ

@@ -3,7 +3,7 @@ use Rattle.std.specs.Prelude.{◌≡◌, Bool, false, List}
 use Rattle.std.specs.List.{list_any}
 use Rattle.scl_args.specs.declared.sort.Sort.{Sort}
 use Rattle.scl_args.specs.declared.sort.Sort.TheVariants as sort
-use Rattle.scl_args.specs.Seen.{Seen, Raw, Unknown, Known}
+use Rattle.scl_values.specs.Seen.{Seen, Raw, Unknown, Known}
 use Rattle.scl_args.specs.Options.{of_kinds}
 
 abbrev pub sort_of : {K : Type 0} → Seen K → Sort K

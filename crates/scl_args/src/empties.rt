@@ -1,14 +1,14 @@
 //! Empty values of either rows.
 ghost use Rattle.std.specs.Prelude.{◌≡◌};
 ghost use Rattle.scl_args.specs.Empties.{finds_either, has_empty_value, stands_either};
-ghost use Rattle.scl_args.specs.Row.{row_at};
-ghost use Rattle.scl_args.specs.Seen.{seen};
-ghost use Rattle.scl_args.specs.Tables.{owner_in};
+ghost use Rattle.scl_values.specs.Row.{row_at};
+ghost use Rattle.scl_values.specs.Seen.{seen};
+ghost use Rattle.scl_values.specs.Tables.{owner_in};
 
-use crate::argument::{ArgDisposition, ArgInfo, ArgRow, Argument};
-use crate::held::ReadArg;
-use crate::rows::SearchableArgInfo;
-use crate::value::ArgumentValue;
+use scl_values::{ArgDisposition, ArgInfo, ArgRow, Argument};
+use scl_values::ReadArg;
+use scl_tables::SearchableArgInfo;
+use scl_values::ArgumentValue;
 
 /// Whether a row was found whose shape is either.
 fn finds_either<T: ArgumentValue>(row: Option<&ArgInfo<T>>) -> bool

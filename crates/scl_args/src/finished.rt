@@ -2,15 +2,15 @@
 ghost use Rattle.std.specs.Prelude.{◌≡◌, [], false, IfOk, IsTrue, filter, map};
 ghost use Rattle.std.specs.List.{list_any};
 ghost use Rattle.std.specs.Option.{option_map};
-ghost use Rattle.scl_args.specs.Seen.{seen};
+ghost use Rattle.scl_values.specs.Seen.{seen, flag_of, text_of};
 ghost use Rattle.scl_args.specs.Sorts.{AreSortsOf, IsAmong};
-ghost use Rattle.scl_args.specs.Words.{words_of};
-ghost use Rattle.scl_args.specs.Options.{all_seen, flag_of, text_of, is_behind_dashes, last_by, texts, list};
+ghost use Rattle.scl_values.specs.Words.{words_of};
+ghost use Rattle.scl_args.specs.Options.{all_seen, is_behind_dashes, last_by, texts, list};
 
-use crate::argument::Argument;
-use crate::held::ReadArg;
+use scl_values::Argument;
+use scl_values::ReadArg;
 use crate::lists::{Sides, into_list, list};
-use crate::memory::Mem;
+use scl_values::Mem;
 use crate::options::{Test, any, is_behind_dashes, last_by, last_flag, last_text, texts};
 use crate::sort::{Sort, is_same, sort_of};
 use std::alloc::Global;
@@ -25,7 +25,7 @@ pub struct Options<T: ReadArg> {
 
 impl<T: ReadArg> Model for Options<T> {
     ghost use Rattle.std.specs.Prelude.{List, map};
-    ghost use Rattle.scl_args.specs.Seen.{Seen, seen};
+    ghost use Rattle.scl_values.specs.Seen.{Seen, seen};
     ghost use Rattle.scl_args.specs.Sorts.{AreSortsOf};
 
     ghost Value = { List (Seen T.Kind) };

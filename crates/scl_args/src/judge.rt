@@ -2,23 +2,23 @@
 ghost use Rattle.std.specs.Prelude.{◌≡◌, List, [], map, IfOk};
 ghost use Rattle.std.specs.Option.{option_map};
 ghost use Rattle.scl_args.specs.Empties.{refusing_empty};
-ghost use Rattle.scl_args.specs.Seen.{seen};
+ghost use Rattle.scl_values.specs.Seen.{seen};
 ghost use Rattle.scl_args.specs.Options.{first_verdict, judged, result_by, all_seen};
-ghost use Rattle.scl_args.specs.Tables.{owner_in};
+ghost use Rattle.scl_values.specs.Tables.{owner_in};
 
-use crate::argument::Argument;
+use scl_values::Argument;
 use crate::empties::has_empty_value;
-use crate::held::ReadArg;
-use crate::memory::Mem;
-use crate::rows::SearchableArgInfo;
-use crate::value::ArgumentValue;
-use crate::words::CutWords;
+use scl_values::ReadArg;
+use scl_values::Mem;
+use scl_tables::SearchableArgInfo;
+use scl_values::ArgumentValue;
+use scl_cutting::CutWords;
 use std::alloc::Global;
 
 /// What judges options, each after those before it (docs/RULES.md, Lists of options).
 pub trait Judge<T: ArgumentValue> {
     ghost use Rattle.std.specs.Prelude.{Option};
-    ghost use Rattle.scl_args.specs.Seen.{Seen};
+    ghost use Rattle.scl_values.specs.Seen.{Seen};
 
     /// Why an option is refused.
     type Refusal: Drop;

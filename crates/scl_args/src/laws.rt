@@ -2,9 +2,9 @@
 ghost use Rattle.std.specs.Prelude.{◌≡◌, [], ◌∷◌};
 ghost use Rattle.scl_args.specs.Laws.{FlagsRise, OwnerIsLongestFit, FitsAreUnique, LongestFitOwns, LastFitOwns, OwnerIsOfAllRows, LastTableWins, LastMemberWins, OrderCountsOnTies, CountsDigits, LooksAddUp, CutsByCases, PrintsWhatWasCut, PrintsOneOrTwo, TextsAreWords, StaysOnItsSide};
 
-use crate::rows::SearchableArgInfo;
-use crate::tables::Tables;
-use crate::value::ArgumentValue;
+use scl_tables::SearchableArgInfo;
+use scl_tables::Tables;
+use scl_values::ArgumentValue;
 
 /// The flags of a table rise strictly by bytes (docs/RULES.md, Rows and tables).
 pub fn flags_rise<K>()

@@ -1,21 +1,21 @@
 //! The words of lists of options.
 ghost use Rattle.std.specs.Prelude.{◌≡◌, ◌++◌, map, IfOk, OnOk};
-ghost use Rattle.scl_args.specs.Seen.{seen};
-ghost use Rattle.scl_args.specs.Spell.{spell_value};
+ghost use Rattle.scl_values.specs.Seen.{seen};
+ghost use Rattle.scl_values.specs.Spell.{spell_value};
 ghost use Rattle.scl_args.specs.Options.{side_of_flag, spelled_on, list};
-ghost use Rattle.scl_args.specs.Words.{words_of};
+ghost use Rattle.scl_values.specs.Words.{words_of};
 
-use crate::argument::{ArgDisposition, Argument, NormalizedDisposition};
-use crate::memory::Mem;
+use scl_values::{ArgDisposition, Argument, NormalizedDisposition};
+use scl_values::Mem;
 use crate::options::Test;
-use crate::spell::joined_value;
-use crate::value::ArgumentValue;
+use scl_values::joined_value;
+use scl_values::ArgumentValue;
 use std::alloc::Global;
 
 /// On which side of its flag an option of a list prints a value that may stand either way (docs/RULES.md, Printing).
 pub trait Sides {
     ghost use Rattle.std.specs.Prelude.{ℕ, List};
-    ghost use Rattle.scl_args.specs.declared.argument.NormalizedDisposition.{NormalizedDisposition};
+    ghost use Rattle.scl_values.specs.declared.argument.NormalizedDisposition.{NormalizedDisposition};
 
     ghost side: { Self → List ℕ → NormalizedDisposition };
 

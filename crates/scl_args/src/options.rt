@@ -3,22 +3,22 @@
 ghost use Rattle.std.specs.Prelude.{◌≡◌, IfOk, map};
 ghost use Rattle.std.specs.List.{list_any};
 ghost use Rattle.std.specs.Option.{option_map};
-ghost use Rattle.scl_args.specs.Seen.{seen};
-ghost use Rattle.scl_args.specs.Words.{words_of};
+ghost use Rattle.scl_values.specs.Seen.{seen, flag_of, text_of};
+ghost use Rattle.scl_values.specs.Words.{words_of};
 ghost use Rattle.scl_args.specs.Sorts.{sort_of_kinds};
-ghost use Rattle.scl_args.specs.Options.{flag_of, text_of, begins_with_at, names_file, is_dashes, is_behind_dashes, last, last_by, texts};
+ghost use Rattle.scl_args.specs.Options.{begins_with_at, names_file, is_dashes, is_behind_dashes, last, last_by, texts};
 
-use crate::argument::{ArgDisposition, Argument};
-use crate::held::ReadArg;
-use crate::memory::Mem;
+use scl_values::{ArgDisposition, Argument};
+use scl_values::ReadArg;
+use scl_values::Mem;
 use crate::sort::Sort;
-use crate::value::ArgumentValue;
+use scl_values::ArgumentValue;
 use std::alloc::Global;
 
 /// A test that options pass or not (docs/RULES.md, Lists of options).
 pub trait Test<T: ArgumentValue> {
     ghost use Rattle.std.specs.Prelude.{Bool, false};
-    ghost use Rattle.scl_args.specs.Seen.{Seen};
+    ghost use Rattle.scl_values.specs.Seen.{Seen};
     ghost use Rattle.scl_args.specs.Sorts.{sort_of};
     ghost use Rattle.scl_args.specs.declared.sort.Sort.{Sort};
 
@@ -107,30 +107,6 @@ pub fn last_option<T: ArgumentValue>(options: &[Argument<T>]) -> Option<&Argumen
     ensures { option_map (λ option. seen T.kind_of T.word_of option.now) result ≡ last (map (seen T.kind_of T.word_of) options.now) }
 {
     options.last()
-}
-
-impl<T: ArgumentValue> Argument<T> {
-    /// The flag, empty where the option has none.
-    pub fn flag(&self) -> &'static str
-        ensures { result.now ≡ flag_of (seen T.kind_of T.word_of self.now) }
-    {
-        match self {
-            Argument::Raw(_) | Argument::UnknownFlag(_) => "",
-            Argument::Flag(flag, _) | Argument::WithValue(flag, _, _) => flag,
-        }
-    }
-
-    /// The word of an option without a flag, else the value's.
-    pub fn text(&self) -> &[u8]
-    where
-        T: ReadArg,
-        ensures { result.now ≡ text_of (seen T.kind_of T.word_of self.now) }
-    {
-        match self {
-            Argument::Raw(word) | Argument::UnknownFlag(word) => word,
-            Argument::Flag(_, value) | Argument::WithValue(_, value, _) => value.word(),
-        }
-    }
 }
 
 /// The flag of the last of the options that pass.

@@ -1,10 +1,10 @@
 //! What options are apart from their flags and values.
 ghost use Rattle.std.specs.Prelude.{◌≡◌, ◌↔◌, IsTrue};
-ghost use Rattle.scl_args.specs.Seen.{seen};
+ghost use Rattle.scl_values.specs.Seen.{seen};
 ghost use Rattle.scl_args.specs.Sorts.{sort_of};
 
-use crate::argument::Argument;
-use crate::held::ReadArg;
+use scl_values::Argument;
+use scl_values::ReadArg;
 
 /// What an option is apart from its flag and its value.
 #[derive(Clone, Copy, Debug, PartialEq, Eq)]

@@ -1,9 +1,9 @@
 //! Words that are handed on, each behind a wrapper.
 ghost use Rattle.std.specs.Prelude.{◌≡◌, ◌++◌, OnOk};
 ghost use Rattle.std.specs.List.{flat_map};
-ghost use Rattle.scl_args.specs.Words.{words_of};
+ghost use Rattle.scl_values.specs.Words.{words_of};
 
-use crate::memory::Mem;
+use scl_values::Mem;
 use std::alloc::Global;
 
 /// What a word that is handed on becomes (docs/RULES.md, Lists of options).

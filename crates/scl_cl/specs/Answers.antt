@@ -5,18 +5,18 @@ use Rattle.scl_cl.specs.Fields.{escaped}
 use Rattle.scl_text.specs.Records.{Parsed, Verdict, CannotCache, NotCompilation}
 use Rattle.scl_text.specs.declared.records.Cacheable.{Cacheable}
 use Rattle.scl_text.specs.declared.records.Cacheable.TheVariants as cacheable
-use Rattle.scl_args.specs.Tables.{owner_in}
+use Rattle.scl_values.specs.Tables.{owner_in}
 use Rattle.scl_text.specs.Languages.{clang_text, gcc_text}
 use Rattle.scl_text.specs.declared.records.CCompilerKind.TheVariants as kinds
 use Rattle.scl_gnu.specs.Building as gcc
-use Rattle.scl_gnu.specs.ClangRows.{clang_tables}
-use Rattle.scl_gnu.specs.GccRows.{gcc_rows}
+use Rattle.scl_gnu_reading.specs.ClangRows.{clang_tables}
+use Rattle.scl_gnu_reading.specs.GccRows.{gcc_rows}
 use Rattle.scl_gnu.specs.ReadAgain.{GccReadsAgain, ClangReadsAgain}
-use Rattle.scl_gnu.specs.Readings as gcc_reading
+use Rattle.scl_gnu_reading.specs.Readings as gcc_reading
 use Rattle.scl_msvc.specs.Building as msvc
-use Rattle.scl_msvc.specs.Environment.{without_cl_env_vars}
+use Rattle.scl_msvc_reading.specs.Environment.{without_cl_env_vars}
 use Rattle.scl_msvc.specs.Promises.{MsvcReadsAgain}
-use Rattle.scl_msvc.specs.Readings as msvc_reading
+use Rattle.scl_msvc_reading.specs.Readings as msvc_reading
 use Rattle.scl_small.specs.Command.{command}
 use Rattle.scl_small.specs.DiabAgain.{DiabReadsAgain}
 use Rattle.scl_small.specs.DiabReading as diab

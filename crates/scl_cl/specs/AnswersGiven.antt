@@ -1,6 +1,6 @@
 -- What an answer that the code gives says.
 use Rattle.std.specs.Prelude.{◌≡◌, ℕ, List, Result, Ok}
-use Rattle.scl_args.specs.Words.{words_of}
+use Rattle.scl_values.specs.Words.{words_of}
 use Rattle.scl_text.specs.Commands.{Builds}
 use Rattle.scl_text.specs.Records.{Parsed, Verdict, parsed_of}
 use Rattle.scl_text.specs.declared.records.CompilerArguments.{CompilerArguments}

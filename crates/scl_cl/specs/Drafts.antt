@@ -1,7 +1,7 @@
 -- The part of a request that lines so far make.
 use Rattle.std.specs.Prelude.{◌||◌, ◌++◌, map}
 use Rattle.std.specs.Option.{option_to_list}
-use Rattle.scl_args.specs.Words.{words_of}
+use Rattle.scl_values.specs.Words.{words_of}
 use Rattle.scl_text.specs.Commands.{pairs_of}
 use Rattle.scl_cl.specs.declared.draft.Draft.{Draft}
 use Rattle.scl_cl.specs.declared.draft.Request as code

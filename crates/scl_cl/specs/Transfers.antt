@@ -2,7 +2,7 @@
 use Rattle.std.specs.Prelude.{ℕ, ◌^◌, ◌≤◌, List, length, Option, Result, Ok, Err, Vec, ◌⊎◌}
 use Rattle.std.specs.declared.alloc.Global.{Global}
 use Rattle.std.specs.Io.KnownBytes.{Consumes, IsAtEnd}
-use Rattle.scl_args.specs.Counts.{HasFailed}
+use Rattle.scl_devices.specs.Counts.{HasFailed}
 use Rattle.scl_cl.specs.declared.transfer.ReadError.{ReadError}
 use Rattle.scl_cl.specs.declared.transfer.ReadError.TheVariants.{Memory, Device}
 

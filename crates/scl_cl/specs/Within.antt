@@ -1,9 +1,9 @@
 -- Which words the command lines of a request have, given and inner ones, with response files put in place.
 use Rattle.std.specs.Prelude.{ℕ, Bool, true, false, List, [], ◌∷◌}
-use Rattle.scl_text.specs.declared.expand.ExpansionKind.{ExpansionKind}
-use Rattle.scl_text.specs.declared.expand.ExpansionKind.TheVariants as expansions
-use Rattle.scl_text.specs.Expand.{expand}
-use Rattle.scl_text.specs.Within.{are_within}
+use Rattle.scl_files.specs.declared.expand.ExpansionKind.{ExpansionKind}
+use Rattle.scl_files.specs.declared.expand.ExpansionKind.TheVariants as expansions
+use Rattle.scl_files.specs.Expand.{expand}
+use Rattle.scl_files.specs.Within.{are_within}
 use Rattle.scl_msvc.specs.Within as msvc
 use Rattle.scl_cl.specs.declared.compiler.Compiler.{Compiler}
 use Rattle.scl_cl.specs.declared.compiler.Compiler.TheVariants as compilers

@@ -1,7 +1,7 @@
 //! The texts of answers.
 ghost use Rattle.std.specs.Prelude.{◌≡◌, ◌++◌, ◌<◌, OnOk, IfOk};
 ghost use Rattle.std.specs.List.{flat_map};
-ghost use Rattle.scl_args.specs.Words.{words_of};
+ghost use Rattle.scl_values.specs.Words.{words_of};
 ghost use Rattle.scl_cl.specs.Fields.{digit_of, escape, escaped};
 ghost use Rattle.scl_cl.specs.Answers.{compiled, cannot_cache, arg_line, text_of};
 ghost use Rattle.scl_cl.specs.AnswersGiven.{answer_of};

@@ -1,8 +1,8 @@
 //! The answer to a command line, by its compiler.
 ghost use Rattle.std.specs.Prelude.{◌≡◌, ℕ, List, IfOk, Ok};
 ghost use Rattle.scl_text.specs.Records.{parsed_of};
-ghost use Rattle.scl_text.specs.Views.{Viewed};
-ghost use Rattle.scl_args.specs.Words.{words_of};
+ghost use Rattle.scl_files.specs.Views.{Viewed};
+ghost use Rattle.scl_values.specs.Words.{words_of};
 ghost use Rattle.scl_text.specs.Commands.{pairs_of, command_by};
 ghost use Rattle.scl_cl.specs.Requests.{asked};
 ghost use Rattle.scl_cl.specs.Answers.{answer_to, answer_from, answer_with, environment_by, reading_by, read_again_by};

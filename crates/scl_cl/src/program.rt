@@ -1,7 +1,7 @@
 //! The program, over a reader and a writer.
 ghost use Rattle.std.specs.Prelude.{◌≡◌, ◌^◌, ◌≤◌, ◌⊎◌, ℕ, List, length, take, IfOk, IfSome, MatchResult, Ok, Err};
 ghost use Rattle.std.specs.Io.KnownBytes.{Appends};
-ghost use Rattle.scl_args.specs.Counts.{HasFailed};
+ghost use Rattle.scl_devices.specs.Counts.{HasFailed};
 ghost use Rattle.scl_cl.specs.Transfers.{Gave};
 ghost use Rattle.scl_cl.specs.Drafts.{asked_by};
 ghost use Rattle.scl_cl.specs.Answers.{answer_to, text_of};

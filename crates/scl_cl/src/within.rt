@@ -1,9 +1,9 @@
 //! Answers to command lines of at most so many words.
 ghost use Rattle.std.specs.Prelude.{◌≡◌, ◌∷◌, [], true, false, ℕ, List, IfOk, MatchResult};
-ghost use Rattle.scl_args.specs.Words.{words_of};
+ghost use Rattle.scl_values.specs.Words.{words_of};
 ghost use Rattle.scl_text.specs.Commands.{pairs_of};
-ghost use Rattle.scl_text.specs.Expand.{expand};
-ghost use Rattle.scl_text.specs.Within.{are_within};
+ghost use Rattle.scl_files.specs.Expand.{expand};
+ghost use Rattle.scl_files.specs.Within.{are_within};
 ghost use Rattle.scl_cl.specs.Requests.{asked};
 ghost use Rattle.scl_cl.specs.Answers.{answer_to, environment_by, reading_by, read_again_by};
 ghost use Rattle.scl_cl.specs.AnswersGiven.{answer_of, HasParts, IfCompiled};

@@ -1,11 +1,11 @@
 use Rattle.std.proofs.Common.{◌≡◌, true, [], ◌∷◌, refl}
 use Rattle.std.specs.Prelude.{codes}
 use Rattle.scl_args.specs.Options.{side_of_flag}
-use Rattle.scl_args.specs.Tables.{all_rows}
+use Rattle.scl_values.specs.Tables.{all_rows}
 use Rattle.scl_again.specs.Checks.{PassChecks, has_no_kept}
 use Rattle.scl_gnu.specs.Again.{carried, carried_inner}
-use Rattle.scl_gnu.specs.ClangRows.{clang_rows, clang_tables}
-use Rattle.scl_gnu.specs.GccRows.{gcc_rows}
+use Rattle.scl_gnu_reading.specs.ClangRows.{clang_rows, clang_tables}
+use Rattle.scl_gnu_reading.specs.GccRows.{gcc_rows}
 
 pub gcc_passes : PassChecks (gcc_rows ∷ []) carried side_of_flag
 unfolding gcc_rows clang_rows

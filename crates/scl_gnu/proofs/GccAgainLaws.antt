@@ -1,10 +1,10 @@
 use Rattle.std.proofs.Common.{ℕ, Bool, false, List, [], ◌∷◌, ◌++◌, map, Option, None, Some, refl, sym, ap}
 use Rattle.std.specs.Prelude.{codes}
-use Rattle.scl_args.specs.Each.{Each}
+use Rattle.scl_values.specs.Each.{Each}
 use Rattle.scl_args.specs.Options.{side_of_flag}
-use Rattle.scl_args.specs.Row.{Row, row, apart, joined, either}
-use Rattle.scl_args.specs.Seen.{shown}
-use Rattle.scl_args.specs.Tables.{owner_in, all_rows}
+use Rattle.scl_values.specs.Row.{Row, row, apart, joined, either}
+use Rattle.scl_values.specs.Seen.{shown}
+use Rattle.scl_values.specs.Tables.{owner_in, all_rows}
 use Rattle.scl_args.proofs.OwnerLaws.{owner_in-is}
 use Rattle.scl_again.specs.Checks.{is_changing, is_joining}
 use Rattle.scl_again.specs.Origins.{IsClear}
@@ -17,16 +17,16 @@ use Rattle.scl_text.specs.declared.records.CCompilerKind.TheVariants as compiler
 use Rattle.scl_text.specs.Commands.{command_by}
 use Rattle.scl_text.specs.Compilers.{IfCommand}
 use Rattle.scl_text.specs.Languages.{gcc_text}
-use Rattle.scl_text.specs.Views.{Viewed}
-use Rattle.scl_gnu.specs.declared.gcc.data.Kind.{Kind}
-use Rattle.scl_gnu.specs.declared.gcc.data.Kind.TheVariants as kind
+use Rattle.scl_files.specs.Views.{Viewed}
+use Rattle.scl_gnu_reading.specs.declared.gcc.data.Kind.{Kind}
+use Rattle.scl_gnu_reading.specs.declared.gcc.data.Kind.TheVariants as kind
 use Rattle.scl_gnu.specs.Again.{carried}
 use Rattle.scl_gnu.specs.Building.{command_words}
-use Rattle.scl_gnu.specs.ClangRows.{clang_tables}
-use Rattle.scl_gnu.specs.GccRows.{gcc_rows}
-use Rattle.scl_gnu.specs.Inners.{inner_words_at}
+use Rattle.scl_gnu_reading.specs.ClangRows.{clang_tables}
+use Rattle.scl_gnu_reading.specs.GccRows.{gcc_rows}
+use Rattle.scl_gnu_reading.specs.Inners.{inner_words_at}
 use Rattle.scl_gnu.specs.ReadAgain.{options_of, inner_options_of, parts, gcc_line, GccCommandsAreReadAgain, GccReadsAgain}
-use Rattle.scl_gnu.specs.Readings.{reading}
+use Rattle.scl_gnu_reading.specs.Readings.{reading}
 use Rattle.scl_gnu.proofs.CheckLaws.{gcc_passes}
 use Rattle.scl_gnu.proofs.InnerLaws.{no_inner}
 use Rattle.scl_gnu.proofs.NoFileLaws.{gcc_none}

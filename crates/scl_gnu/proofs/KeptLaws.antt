@@ -1,27 +1,27 @@
 -- Lists carry options of the kinds that the checks of tables are for, and unknown ones.
 use Rattle.std.proofs.Common.{◌≡◌, Bool, true, false, List, [], ◌∷◌, refl}
 use Rattle.std.specs.List.{list_any}
-use Rattle.scl_args.specs.Cuts.{Cut, raw, unknown, flag, with_value}
-use Rattle.scl_args.specs.Each.{Each}
+use Rattle.scl_values.specs.Cuts.{Cut, raw, unknown, flag, with_value}
+use Rattle.scl_values.specs.Each.{Each}
 use Rattle.scl_args.specs.Options.{side_of_flag}
-use Rattle.scl_args.specs.Row.{Row}
-use Rattle.scl_args.specs.Seen.{Plain, shown}
+use Rattle.scl_values.specs.Row.{Row}
+use Rattle.scl_values.specs.Seen.{Plain, shown}
 use Rattle.scl_args.specs.Wrapped.{wrapped_apart}
 use Rattle.scl_again.specs.Commands.{Inner, values_at, raw_words}
 use Rattle.scl_again.specs.Origins.{IsKept}
 use Rattle.scl_again.proofs.CommandLaws.{IsList}
 use Rattle.scl_again.proofs.RawLaws.{HasNoRaws}
 use Rattle.std.specs.Prelude.{codes}
-use Rattle.scl_gnu.specs.declared.gcc.data.Kind.{Kind}
-use Rattle.scl_gnu.specs.declared.gcc.data.Kind.TheVariants as kind
-use Rattle.scl_gnu.specs.contracts.gcc.data.KindPartialEq.TheImpl as kinds
-use Rattle.scl_gnu.specs.contracts.gcc.place.PlacePartialEq.TheImpl.{ghosts}
-use Rattle.scl_gnu.specs.declared.gcc.place.Place.{Place}
-use Rattle.scl_gnu.specs.declared.gcc.place.Place.TheVariants as places
+use Rattle.scl_gnu_reading.specs.declared.gcc.data.Kind.{Kind}
+use Rattle.scl_gnu_reading.specs.declared.gcc.data.Kind.TheVariants as kind
+use Rattle.scl_gnu_reading.specs.contracts.gcc.data.KindPartialEq.TheImpl as kinds
+use Rattle.scl_gnu_reading.specs.contracts.gcc.place.PlacePartialEq.TheImpl.{ghosts}
+use Rattle.scl_gnu_reading.specs.declared.gcc.place.Place.{Place}
+use Rattle.scl_gnu_reading.specs.declared.gcc.place.Place.TheVariants as places
 use Rattle.scl_gnu.specs.Again.{is_list, carried, carried_inner}
-use Rattle.scl_gnu.specs.ClangRows.{clang_tables}
-use Rattle.scl_gnu.specs.Inners.{inner_place, goes_inside_to}
-use Rattle.scl_gnu.specs.Places.{place, goes_to}
+use Rattle.scl_gnu_reading.specs.ClangRows.{clang_tables}
+use Rattle.scl_gnu_reading.specs.Inners.{inner_place, goes_inside_to}
+use Rattle.scl_gnu_reading.specs.Places.{place, goes_to}
 use Rattle.scl_gnu.specs.ReadAgain.{list_of}
 
 -- ---- places

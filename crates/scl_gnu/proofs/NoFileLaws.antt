@@ -1,16 +1,16 @@
 -- The command of a record of Gcc or Clang names no response file where none was given.
 use Rattle.std.proofs.Common.{◌≡◌, ℕ, Bool, true, false, List, [], ◌∷◌, ◌++◌, map, Option, Some, refl, sym, ap, subst, ◌∙◌}
 use Rattle.std.specs.Prelude.{codes, is_some, unwrap_or}
-use Rattle.scl_args.specs.Cuts.{Cut, cut}
-use Rattle.scl_args.specs.Each.{Each}
-use Rattle.scl_args.specs.Options.{flag_of, text_of, side_of_flag, texts}
-use Rattle.scl_args.specs.Row.{Row}
-use Rattle.scl_args.specs.Seen.{Seen, shown}
-use Rattle.scl_args.specs.Tables.{owner_in, all_rows}
+use Rattle.scl_values.specs.Cuts.{Cut, cut}
+use Rattle.scl_values.specs.Each.{Each}
+use Rattle.scl_args.specs.Options.{side_of_flag, texts}
+use Rattle.scl_values.specs.Row.{Row}
+use Rattle.scl_values.specs.Seen.{Seen, shown, flag_of, text_of}
+use Rattle.scl_values.specs.Tables.{owner_in, all_rows}
 use Rattle.scl_again.specs.Commands.{Inner}
 use Rattle.scl_again.specs.NoFiles.{NamesNoFile, GivesNoFile}
 use Rattle.scl_again.proofs.NoFileLaws.{each-append, has_plain_flags, HasPlainFlag, flag-none, plain-found, passed, listed-none, one-none, apart-none, last-none}
-use Rattle.scl_text.specs.declared.expand.ExpansionKind.TheVariants as expansions
+use Rattle.scl_files.specs.declared.expand.ExpansionKind.TheVariants as expansions
 use Rattle.scl_text.specs.declared.language.Language.{Language}
 use Rattle.scl_text.specs.declared.language.Language.TheVariants as languages
 use Rattle.scl_text.specs.declared.records.CCompilerKind.{CCompilerKind}
@@ -18,26 +18,26 @@ use Rattle.scl_text.specs.declared.records.CCompilerKind.TheVariants as compiler
 use Rattle.scl_text.specs.declared.records.ColorMode.{ColorMode}
 use Rattle.scl_text.specs.declared.records.ColorMode.TheVariants as colors
 use Rattle.scl_text.specs.Commands.{object_of}
-use Rattle.scl_text.specs.Expand.{expand}
+use Rattle.scl_files.specs.Expand.{expand}
 use Rattle.scl_text.specs.Languages.{gcc_text, clang_text}
 use Rattle.scl_text.specs.Records.{Parsed}
-use Rattle.scl_text.specs.Views.{Viewed}
+use Rattle.scl_files.specs.Views.{Viewed}
 use Rattle.scl_text.proofs.NoFileLaws.{with_extension-no}
-use Rattle.scl_gnu.specs.declared.gcc.data.Kind.{Kind}
-use Rattle.scl_gnu.specs.declared.gcc.data.Kind.TheVariants as kind
-use Rattle.scl_gnu.specs.declared.gcc.place.Place.{Place}
-use Rattle.scl_gnu.specs.declared.gcc.place.Place.TheVariants as places
+use Rattle.scl_gnu_reading.specs.declared.gcc.data.Kind.{Kind}
+use Rattle.scl_gnu_reading.specs.declared.gcc.data.Kind.TheVariants as kind
+use Rattle.scl_gnu_reading.specs.declared.gcc.place.Place.{Place}
+use Rattle.scl_gnu_reading.specs.declared.gcc.place.Place.TheVariants as places
 use Rattle.scl_gnu.specs.Again.{is_list, carried, carried_inner}
 use Rattle.scl_gnu.specs.Building.{language_words, color_words, dash_words, front_words, list_words, back_words, command_words}
-use Rattle.scl_gnu.specs.ClangRows.{clang_rows, clang_tables}
-use Rattle.scl_gnu.specs.FixedTests.{Found}
-use Rattle.scl_gnu.specs.GccRows.{gcc_rows}
-use Rattle.scl_gnu.specs.Inners.{inner_place, inner_words_at, goes_inside_to}
-use Rattle.scl_gnu.specs.Kinds.{of, any, is_input, last_flag, last_text}
+use Rattle.scl_gnu_reading.specs.ClangRows.{clang_rows, clang_tables}
+use Rattle.scl_gnu_reading.specs.FixedTests.{Found}
+use Rattle.scl_gnu_reading.specs.GccRows.{gcc_rows}
+use Rattle.scl_gnu_reading.specs.Inners.{inner_place, inner_words_at, goes_inside_to}
+use Rattle.scl_gnu_reading.specs.Kinds.{of, any, is_input, last_flag, last_text}
 use Rattle.scl_gnu.specs.NoFiles.{CommandsNameNoFile, GccCommandsNameNoFile, ClangCommandsNameNoFile}
-use Rattle.scl_gnu.specs.Places.{place, goes_to}
+use Rattle.scl_gnu_reading.specs.Places.{place, goes_to}
 use Rattle.scl_gnu.specs.ReadAgain.{options_of, inner_options_of, behind_xclang}
-use Rattle.scl_gnu.specs.Recordings.{is_clang, needs_target, added_common, added_depfile, added_dependency, all_words_at, dependency_words, record_of}
+use Rattle.scl_gnu_reading.specs.Recordings.{is_clang, needs_target, added_common, added_depfile, added_dependency, all_words_at, dependency_words, record_of}
 use Rattle.scl_gnu.proofs.InnerLaws.{no_inner}
 use Rattle.scl_gnu.proofs.KeptLaws.{is_kind, same-list}
 use Rattle.scl_gnu.proofs.ReadingLaws.{HasFound, is-read, object-found}

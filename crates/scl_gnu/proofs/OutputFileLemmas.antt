@@ -9,7 +9,7 @@ use Rattle.std.specs.Str.{IsUtf8, is_utf8}
 use Rattle.std.specs.Prelude.{Vec}
 use Rattle.std.specs.declared.alloc.Global.{Global}
 use Rattle.std.proofs.Common.{get_or}
-use Rattle.scl_args.specs.Words.{words_of}
+use Rattle.scl_values.specs.Words.{words_of}
 use Rattle.scl_gnu.specs.OutputFiles.{is_diagnostics, is_front, flag_words, file_words, left_behind, without_output_files}
 
 pub text-yes : (bs : List ℕ) → IsUtf8 bs → is_utf8 bs ≡ true

@@ -4,12 +4,12 @@ use Rattle.std.proofs.lemmas.List.{append-nil}
 use Rattle.std.specs.List.{flat_map, list_all}
 use Rattle.std.specs.Prelude.{codes}
 use Rattle.std.specs.Str.{bytes_eq}
-use Rattle.scl_args.specs.Each.{Each}
+use Rattle.scl_values.specs.Each.{Each}
 use Rattle.scl_args.specs.Options.{list, side_of_flag}
-use Rattle.scl_args.specs.Row.{Row}
-use Rattle.scl_args.specs.Seen.{Seen, Plain}
-use Rattle.scl_args.specs.Seen as plain
-use Rattle.scl_args.specs.Tables.{owner_in, all_rows}
+use Rattle.scl_values.specs.Row.{Row}
+use Rattle.scl_values.specs.Seen.{Seen, Plain}
+use Rattle.scl_values.specs.Seen as plain
+use Rattle.scl_values.specs.Tables.{owner_in, all_rows}
 use Rattle.scl_args.specs.Wrapped.{wrapped_apart}
 use Rattle.scl_again.specs.Checks.{PassChecks}
 use Rattle.scl_again.specs.Commands.{Inner, values_at, raw_words}
@@ -21,12 +21,12 @@ use Rattle.scl_again.proofs.OtherValueLaws.{may_stand_apart}
 use Rattle.scl_again.proofs.ValuesLaws.{HaveOwnFlags}
 use Rattle.scl_text.specs.declared.records.ColorMode.{ColorMode}
 use Rattle.scl_text.specs.declared.records.ColorMode.TheVariants as colors
-use Rattle.scl_gnu.specs.declared.gcc.data.Kind.{Kind}
-use Rattle.scl_gnu.specs.declared.gcc.data.Kind.TheVariants as kind
-use Rattle.scl_gnu.specs.declared.gcc.place.Place.{Place}
+use Rattle.scl_gnu_reading.specs.declared.gcc.data.Kind.{Kind}
+use Rattle.scl_gnu_reading.specs.declared.gcc.data.Kind.TheVariants as kind
+use Rattle.scl_gnu_reading.specs.declared.gcc.place.Place.{Place}
 use Rattle.scl_gnu.specs.Again as again
-use Rattle.scl_gnu.specs.ClangRows.{clang_tables}
-use Rattle.scl_gnu.specs.Inners.{goes_inside_to, inner_words_at}
+use Rattle.scl_gnu_reading.specs.ClangRows.{clang_tables}
+use Rattle.scl_gnu_reading.specs.Inners.{goes_inside_to, inner_words_at}
 use Rattle.scl_gnu.specs.ReadAgain.{language_option, color_option, split_dwarf_option, depfile_option, target_options}
 use Rattle.scl_gnu.proofs.KeptLaws.{is_kind}
 

@@ -4,13 +4,13 @@ use Rattle.std.proofs.lemmas.List.{append-nil}
 use Rattle.std.specs.List.{flat_map}
 use Rattle.std.specs.Prelude.{codes, is_some, unwrap_or}
 use Rattle.std.specs.Str.{bytes_eq}
-use Rattle.scl_args.specs.Cuts.{Cut, cut}
-use Rattle.scl_args.specs.Each.{Each}
-use Rattle.scl_args.specs.Options.{flag_of, is_behind_dashes, side_of_flag, texts}
-use Rattle.scl_args.specs.Row.{Row}
-use Rattle.scl_args.specs.Seen.{Seen, Plain, shown}
-use Rattle.scl_args.specs.Seen as plain
-use Rattle.scl_args.specs.Tables.{owner_in}
+use Rattle.scl_values.specs.Cuts.{Cut, cut}
+use Rattle.scl_values.specs.Each.{Each}
+use Rattle.scl_args.specs.Options.{is_behind_dashes, side_of_flag, texts}
+use Rattle.scl_values.specs.Row.{Row}
+use Rattle.scl_values.specs.Seen.{Seen, Plain, shown, flag_of}
+use Rattle.scl_values.specs.Seen as plain
+use Rattle.scl_values.specs.Tables.{owner_in}
 use Rattle.scl_again.specs.Commands.{Inner, Said, carried, values_at, IsReadAgain}
 use Rattle.scl_again.specs.Commands as command
 use Rattle.scl_again.specs.Origins.{IsClear, AreClear, input_words}
@@ -22,28 +22,28 @@ use Rattle.scl_again.proofs.MarkLaws.{marked-dashes, raw-is_input}
 use Rattle.scl_again.proofs.OtherValueLaws.{other-value, flag-so}
 use Rattle.scl_again.proofs.ReadsLaws.{reads-append, reads-nil}
 use Rattle.scl_again.proofs.ValuesLaws.{each-map}
-use Rattle.scl_text.specs.declared.expand.ExpansionKind.TheVariants as expansions
+use Rattle.scl_files.specs.declared.expand.ExpansionKind.TheVariants as expansions
 use Rattle.scl_text.specs.declared.language.Language.{Language}
 use Rattle.scl_text.specs.declared.records.CCompilerKind.{CCompilerKind}
 use Rattle.scl_text.specs.declared.records.ColorMode.{ColorMode}
 use Rattle.scl_text.specs.declared.records.ColorMode.TheVariants as colors
 use Rattle.scl_text.specs.Commands.{object_of}
-use Rattle.scl_text.specs.Expand.{expand}
-use Rattle.scl_text.specs.Paths.{with_extension}
+use Rattle.scl_files.specs.Expand.{expand}
+use Rattle.scl_files.specs.Paths.{with_extension}
 use Rattle.scl_text.specs.Records.{Parsed}
-use Rattle.scl_text.specs.Views.{Viewed}
-use Rattle.scl_gnu.specs.declared.gcc.data.Kind.{Kind}
-use Rattle.scl_gnu.specs.declared.gcc.data.Kind.TheVariants as kind
-use Rattle.scl_gnu.specs.declared.gcc.place.Place.{Place}
-use Rattle.scl_gnu.specs.declared.gcc.place.Place.TheVariants as places
+use Rattle.scl_files.specs.Views.{Viewed}
+use Rattle.scl_gnu_reading.specs.declared.gcc.data.Kind.{Kind}
+use Rattle.scl_gnu_reading.specs.declared.gcc.data.Kind.TheVariants as kind
+use Rattle.scl_gnu_reading.specs.declared.gcc.place.Place.{Place}
+use Rattle.scl_gnu_reading.specs.declared.gcc.place.Place.TheVariants as places
 use Rattle.scl_gnu.specs.Again as again
 use Rattle.scl_gnu.specs.Building.{language_words, color_words, dash_words, front_words, list_words, back_words, command_words}
-use Rattle.scl_gnu.specs.ClangRows.{clang_tables}
-use Rattle.scl_gnu.specs.FixedTests.{Found}
-use Rattle.scl_gnu.specs.Kinds.{of, any, is_input, last_flag, last_text}
-use Rattle.scl_gnu.specs.Places.{words_at}
+use Rattle.scl_gnu_reading.specs.ClangRows.{clang_tables}
+use Rattle.scl_gnu_reading.specs.FixedTests.{Found}
+use Rattle.scl_gnu_reading.specs.Kinds.{of, any, is_input, last_flag, last_text}
+use Rattle.scl_gnu_reading.specs.Places.{words_at}
 use Rattle.scl_gnu.specs.ReadAgain.{language_option, color_option, split_dwarf_option, depfile_option, target_options, list_of, parts, options_of, inner_options_of, CommandsAreReadAgain}
-use Rattle.scl_gnu.specs.Recordings.{is_clang, needs_target, added_common, added_depfile, added_dependency, all_words_at, dependency_words, record_of}
+use Rattle.scl_gnu_reading.specs.Recordings.{is_clang, needs_target, added_common, added_depfile, added_dependency, all_words_at, dependency_words, record_of}
 use Rattle.scl_gnu.proofs.CheckLaws.{inner_passes}
 use Rattle.scl_gnu.proofs.KeptLaws.{no-raws, is_kind, compiles-alone, target-alone, is-list}
 use Rattle.scl_gnu.proofs.ReadingLaws.{HasFound, is-read, object-found}

@@ -2,37 +2,37 @@
 use Rattle.std.proofs.Common.{◌≡◌, ℕ, Bool, true, false, List, [], ◌∷◌, ◌++◌, map, Option, None, Some, Ok, refl, ap, ◌∙◌, cond}
 use Rattle.std.specs.Prelude.{codes}
 use Rattle.std.specs.Str.{bytes_eq}
-use Rattle.scl_args.specs.Cuts.{cut, is_dangling}
-use Rattle.scl_args.specs.Each.{Each}
+use Rattle.scl_values.specs.Cuts.{cut, is_dangling}
+use Rattle.scl_values.specs.Each.{Each}
 use Rattle.scl_args.specs.Empties.{refusing_empty}
 use Rattle.scl_args.specs.Options.{texts, wanted}
-use Rattle.scl_args.specs.Row.{Row}
-use Rattle.scl_args.specs.Seen.{Seen, shown}
-use Rattle.scl_args.specs.Tables.{owner_in}
+use Rattle.scl_values.specs.Row.{Row}
+use Rattle.scl_values.specs.Seen.{Seen, shown}
+use Rattle.scl_values.specs.Tables.{owner_in}
 use Rattle.scl_again.specs.Origins.{IsClear}
 use Rattle.scl_again.proofs.EmptyLaws.{judged-clear}
 use Rattle.scl_again.proofs.OutcomeLaws.{bind-ok, wanted-ok, judged-ok}
-use Rattle.scl_text.specs.declared.expand.ExpansionKind.TheVariants as expansions
+use Rattle.scl_files.specs.declared.expand.ExpansionKind.TheVariants as expansions
 use Rattle.scl_text.specs.declared.records.CCompilerKind.{CCompilerKind}
 use Rattle.scl_text.specs.Commands.{object_of}
-use Rattle.scl_text.specs.Expand.{expand}
+use Rattle.scl_files.specs.Expand.{expand}
 use Rattle.scl_text.specs.JudgedWords.{judged_words}
 use Rattle.scl_text.specs.Outputs.{output_at, path_at}
 use Rattle.scl_text.specs.Reasons.{argument_parse, empty_value, invalid_input_file, unknown_source_language}
 use Rattle.scl_text.specs.Records.{Artifact, Parsed, NotCompilation}
 use Rattle.scl_text.specs.Refusals.{the_input}
-use Rattle.scl_text.specs.Views.{Viewed}
-use Rattle.scl_gnu.specs.declared.gcc.data.Kind.{Kind}
-use Rattle.scl_gnu.specs.declared.gcc.data.Kind.TheVariants as kind
-use Rattle.scl_gnu.specs.ClangRows.{clang_tables}
-use Rattle.scl_gnu.specs.FixedTests as tests
-use Rattle.scl_gnu.specs.FixedTests.{Found, found, language_of, module_path_unless}
-use Rattle.scl_gnu.specs.Inners.{inner_reading, inner_verdict}
-use Rattle.scl_gnu.specs.Kinds.{of, any, is_input, last_flag, last_text}
+use Rattle.scl_files.specs.Views.{Viewed}
+use Rattle.scl_gnu_reading.specs.declared.gcc.data.Kind.{Kind}
+use Rattle.scl_gnu_reading.specs.declared.gcc.data.Kind.TheVariants as kind
+use Rattle.scl_gnu_reading.specs.ClangRows.{clang_tables}
+use Rattle.scl_gnu_reading.specs.FixedTests as tests
+use Rattle.scl_gnu_reading.specs.FixedTests.{Found, found, language_of, module_path_unless}
+use Rattle.scl_gnu_reading.specs.Inners.{inner_reading, inner_verdict}
+use Rattle.scl_gnu_reading.specs.Kinds.{of, any, is_input, last_flag, last_text}
 use Rattle.scl_gnu.specs.ReadAgain.{options_of, inner_options_of}
-use Rattle.scl_gnu.specs.Readings.{read, reading, recorded}
-use Rattle.scl_gnu.specs.Recordings.{is_clang, record_of, OutputPaths, outputs, output_paths}
-use Rattle.scl_gnu.specs.Verdicts.{verdict}
+use Rattle.scl_gnu_reading.specs.Readings.{read, reading, recorded}
+use Rattle.scl_gnu_reading.specs.Recordings.{is_clang, record_of, OutputPaths, outputs, output_paths}
+use Rattle.scl_gnu_reading.specs.Verdicts.{verdict}
 
 -- ---- what the tests found
 

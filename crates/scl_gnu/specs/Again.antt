@@ -1,10 +1,10 @@
 -- Which kinds Gcc's and Clang's lists carry.
 use Rattle.std.specs.Prelude.{Bool, true, false}
-use Rattle.scl_gnu.specs.declared.gcc.data.Kind.{Kind}
-use Rattle.scl_gnu.specs.declared.gcc.place.Place.{Place}
-use Rattle.scl_gnu.specs.declared.gcc.place.Place.TheVariants as places
-use Rattle.scl_gnu.specs.Inners.{inner_place}
-use Rattle.scl_gnu.specs.Places.{place}
+use Rattle.scl_gnu_reading.specs.declared.gcc.data.Kind.{Kind}
+use Rattle.scl_gnu_reading.specs.declared.gcc.place.Place.{Place}
+use Rattle.scl_gnu_reading.specs.declared.gcc.place.Place.TheVariants as places
+use Rattle.scl_gnu_reading.specs.Inners.{inner_place}
+use Rattle.scl_gnu_reading.specs.Places.{place}
 
 -- whether a place is a list of the command
 abbrev pub is_list : Place → Bool

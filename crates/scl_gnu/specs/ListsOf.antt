@@ -1,6 +1,6 @@
 -- The words of the lists of a command, as the code lends them.
 use Rattle.std.specs.Prelude.{ℕ, List}
-use Rattle.scl_args.specs.Words.{words_of}
+use Rattle.scl_values.specs.Words.{words_of}
 use Rattle.scl_gnu.specs.Building.{lists_in_order}
 use Rattle.scl_gnu.specs.declared.gcc.words.Lists.{Lists}
 

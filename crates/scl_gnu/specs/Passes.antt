@@ -4,7 +4,7 @@ use Rattle.std.specs.Fmt.{decimal}
 use Rattle.std.specs.List.{flat_map, ends_with}
 use Rattle.std.specs.Ordering.{int_eq}
 use Rattle.std.specs.declared.alloc.Global.{Global}
-use Rattle.scl_text.specs.Characters.{line_feed, space}
+use Rattle.scl_files.specs.Characters.{line_feed, space}
 use Rattle.scl_text.specs.declared.records.PassOutput.{PassOutput}
 
 -- what a run gave

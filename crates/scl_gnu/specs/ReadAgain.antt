@@ -1,38 +1,38 @@
 -- Commands of Gcc and Clang that are read again.
 use Rattle.std.specs.Prelude.{◌≡◌, ℕ, Bool, true, false, List, [], ◌∷◌, ◌++◌, map, codes, Option, None, Some, Ok, IfSome, unwrap_or, is_some}
-use Rattle.scl_args.specs.Cuts.{Cut, cut}
+use Rattle.scl_values.specs.Cuts.{Cut, cut}
 use Rattle.scl_args.specs.Options.{texts}
-use Rattle.scl_args.specs.Row.{Row}
-use Rattle.scl_args.specs.Seen.{Seen, Plain, shown}
-use Rattle.scl_args.specs.Seen as plain
-use Rattle.scl_args.specs.Tables.{owner_in}
+use Rattle.scl_values.specs.Row.{Row}
+use Rattle.scl_values.specs.Seen.{Seen, Plain, shown}
+use Rattle.scl_values.specs.Seen as plain
+use Rattle.scl_values.specs.Tables.{owner_in}
 use Rattle.scl_again.specs.Commands.{Inner, CommandList, Parts, IsReadAgain}
 use Rattle.scl_again.specs.Origins.{input_words}
 use Rattle.scl_again.specs.Promises.{HandedOn, Line, IsFaithful}
-use Rattle.scl_text.specs.declared.expand.ExpansionKind.TheVariants as expansions
+use Rattle.scl_files.specs.declared.expand.ExpansionKind.TheVariants as expansions
 use Rattle.scl_text.specs.declared.language.Language.{Language}
 use Rattle.scl_text.specs.declared.records.CCompilerKind.{CCompilerKind}
 use Rattle.scl_text.specs.declared.records.CCompilerKind.TheVariants as compilers
 use Rattle.scl_text.specs.declared.records.ColorMode.{ColorMode}
 use Rattle.scl_text.specs.declared.records.ColorMode.TheVariants as colors
 use Rattle.scl_text.specs.Commands.{object_of}
-use Rattle.scl_text.specs.Expand.{expand}
+use Rattle.scl_files.specs.Expand.{expand}
 use Rattle.scl_text.specs.Languages.{gcc_text, clang_text}
-use Rattle.scl_text.specs.Paths.{with_extension}
+use Rattle.scl_files.specs.Paths.{with_extension}
 use Rattle.scl_text.specs.Records.{Parsed}
-use Rattle.scl_text.specs.Views.{Viewed}
-use Rattle.scl_gnu.specs.declared.gcc.data.Kind.{Kind}
-use Rattle.scl_gnu.specs.declared.gcc.data.Kind.TheVariants as kind
-use Rattle.scl_gnu.specs.declared.gcc.place.Place.{Place}
-use Rattle.scl_gnu.specs.declared.gcc.place.Place.TheVariants as places
+use Rattle.scl_files.specs.Views.{Viewed}
+use Rattle.scl_gnu_reading.specs.declared.gcc.data.Kind.{Kind}
+use Rattle.scl_gnu_reading.specs.declared.gcc.data.Kind.TheVariants as kind
+use Rattle.scl_gnu_reading.specs.declared.gcc.place.Place.{Place}
+use Rattle.scl_gnu_reading.specs.declared.gcc.place.Place.TheVariants as places
 use Rattle.scl_gnu.specs.Building.{command_words}
-use Rattle.scl_gnu.specs.ClangRows.{clang_tables}
-use Rattle.scl_gnu.specs.GccRows.{gcc_rows}
-use Rattle.scl_gnu.specs.Inners.{goes_inside_to}
-use Rattle.scl_gnu.specs.Kinds.{of, any, last_flag, last_text}
-use Rattle.scl_gnu.specs.Places.{goes_to}
-use Rattle.scl_gnu.specs.Readings.{reading}
-use Rattle.scl_gnu.specs.Recordings.{is_clang, needs_target}
+use Rattle.scl_gnu_reading.specs.ClangRows.{clang_tables}
+use Rattle.scl_gnu_reading.specs.GccRows.{gcc_rows}
+use Rattle.scl_gnu_reading.specs.Inners.{goes_inside_to}
+use Rattle.scl_gnu_reading.specs.Kinds.{of, any, last_flag, last_text}
+use Rattle.scl_gnu_reading.specs.Places.{goes_to}
+use Rattle.scl_gnu_reading.specs.Readings.{reading}
+use Rattle.scl_gnu_reading.specs.Recordings.{is_clang, needs_target}
 
 -- ---- what a command is made of
 

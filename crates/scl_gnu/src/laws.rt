@@ -1,11 +1,11 @@
 //! What follows for the tables of Gcc and Clang. Each law is the contract of a function that does nothing.
 ghost use Rattle.std.specs.Prelude.{◌≡◌, ◌∷◌, [], true, codes};
 ghost use Rattle.scl_args.specs.Options.{side_of_flag};
-ghost use Rattle.scl_args.specs.Tables.{all_rows};
+ghost use Rattle.scl_values.specs.Tables.{all_rows};
 ghost use Rattle.scl_again.specs.Checks.{PassChecks, has_no_kept};
 ghost use Rattle.scl_gnu.specs.Again.{carried, carried_inner};
-ghost use Rattle.scl_gnu.specs.ClangRows.{clang_tables};
-ghost use Rattle.scl_gnu.specs.GccRows.{gcc_rows};
+ghost use Rattle.scl_gnu_reading.specs.ClangRows.{clang_tables};
+ghost use Rattle.scl_gnu_reading.specs.GccRows.{gcc_rows};
 ghost use Rattle.scl_gnu.specs.NoFiles.{GccCommandsNameNoFile, ClangCommandsNameNoFile};
 ghost use Rattle.scl_gnu.specs.OutputFiles.{OutputFilesAreLeftOut};
 ghost use Rattle.scl_gnu.specs.Preprocess.{OneArchitectureHasOneRun, EachArchitectureHasItsRun};

@@ -1,13 +1,13 @@
 use Rattle.std.proofs.Common.{◌≡◌, true, [], ◌∷◌, refl}
 use Rattle.std.specs.Prelude.{codes}
 use Rattle.scl_args.specs.Options as listed
-use Rattle.scl_args.specs.Tables.{all_rows}
+use Rattle.scl_values.specs.Tables.{all_rows}
 use Rattle.scl_again.specs.Checks.{PassChecks, JoinSafely, has_no_kept}
-use Rattle.scl_gnu.specs.ClangRows.{clang_rows, clang_tables}
-use Rattle.scl_gnu.specs.GccRows.{gcc_rows}
+use Rattle.scl_gnu_reading.specs.ClangRows.{clang_rows, clang_tables}
+use Rattle.scl_gnu_reading.specs.GccRows.{gcc_rows}
 use Rattle.scl_msvc.specs.Again.{carried, carried_inner}
-use Rattle.scl_msvc.specs.Places.{side_of_flag}
-use Rattle.scl_msvc.specs.Rows.{msvc_rows, msvc_tables}
+use Rattle.scl_msvc_reading.specs.Places.{side_of_flag}
+use Rattle.scl_msvc_reading.specs.Rows.{msvc_rows, msvc_tables}
 
 pub msvc_passes : PassChecks msvc_tables carried side_of_flag
 unfolding msvc_rows

@@ -14,7 +14,7 @@ use Rattle.std.specs.Str.{bytes_eq}
 use Rattle.std.specs.declared.alloc.Global.{Global}
 use Rattle.std.specs.declared.cmp.Ordering.{Ordering}
 use Rattle.std.specs.declared.cmp.Ordering.TheVariants.{Less, Equal, Greater}
-use Rattle.scl_args.specs.Words.{words_of}
+use Rattle.scl_values.specs.Words.{words_of}
 use Rattle.scl_msvc.specs.Depfile.{HasWords}
 
 abbrev pub vec_cmp : Vec ℕ Global → Vec ℕ Global → Ordering

@@ -2,13 +2,13 @@
 use Rattle.std.proofs.Common.{◌≡◌, ℕ, Bool, true, false, cond, ◌||◌, List, [], ◌∷◌, ◌++◌, map, Option, None, Some, refl, sym, ap, subst, ◌∙◌}
 use Rattle.std.specs.Option.{option_and_then}
 use Rattle.std.specs.Prelude.{codes}
-use Rattle.scl_args.specs.Cuts.{cut}
-use Rattle.scl_args.specs.Each.{Each}
-use Rattle.scl_args.specs.Options.{first_is, is_behind_dashes, is_dashes, text_of, texts}
-use Rattle.scl_args.specs.Row.{Row, row, either, joined}
-use Rattle.scl_args.specs.Seen.{Seen, Raw, Unknown, Known, Plain, shown}
-use Rattle.scl_args.specs.Seen as plain
-use Rattle.scl_args.specs.Tables.{owner_in, all_rows}
+use Rattle.scl_values.specs.Cuts.{cut}
+use Rattle.scl_values.specs.Each.{Each}
+use Rattle.scl_args.specs.Options.{first_is, is_behind_dashes, is_dashes, texts}
+use Rattle.scl_values.specs.Row.{Row, row, either, joined}
+use Rattle.scl_values.specs.Seen.{Seen, Raw, Unknown, Known, Plain, shown, text_of}
+use Rattle.scl_values.specs.Seen as plain
+use Rattle.scl_values.specs.Tables.{owner_in, all_rows}
 use Rattle.scl_args.proofs.OwnerLaws.{owner_in-is}
 use Rattle.scl_again.specs.Origins.{input_words}
 use Rattle.scl_again.specs.Reads.{read, cleanly, Reads}
@@ -20,13 +20,13 @@ use Rattle.scl_again.proofs.OriginLaws.{has_row}
 use Rattle.scl_again.proofs.ReadsLaws.{reads-nil, reads-last}
 use Rattle.scl_text.specs.declared.language.Language.{Language}
 use Rattle.scl_text.specs.declared.language.Language.TheVariants as languages
-use Rattle.scl_msvc.specs.declared.msvc.data.Kind.{Kind}
-use Rattle.scl_msvc.specs.declared.msvc.data.Kind.TheVariants as kind
+use Rattle.scl_msvc_reading.specs.declared.msvc.data.Kind.{Kind}
+use Rattle.scl_msvc_reading.specs.declared.msvc.data.Kind.TheVariants as kind
 use Rattle.scl_msvc.specs.Building.{dash_words, language_flag}
-use Rattle.scl_msvc.specs.Kinds.{any, is_input, language_said, explicit_language}
+use Rattle.scl_msvc_reading.specs.Kinds.{any, is_input, language_said, explicit_language}
 use Rattle.scl_msvc.specs.ReadAgain.{input_option, mark_option}
-use Rattle.scl_msvc.specs.Rows.{msvc_rows, msvc_tables}
-use Rattle.scl_msvc.specs.Verdicts.{verdict}
+use Rattle.scl_msvc_reading.specs.Rows.{msvc_rows, msvc_tables}
+use Rattle.scl_msvc_reading.specs.Verdicts.{verdict}
 use Rattle.scl_msvc.proofs.CheckLaws.{own_joins}
 use Rattle.scl_msvc.proofs.ReadingLaws.{names_language}
 

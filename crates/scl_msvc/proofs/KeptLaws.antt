@@ -3,26 +3,26 @@ use Rattle.std.proofs.Common.{◌≡◌, ℕ, Bool, true, false, cond, List, [],
 use Rattle.std.specs.List.{list_any}
 use Rattle.std.specs.Prelude.{codes}
 use Rattle.std.specs.Str.{bytes_eq}
-use Rattle.scl_args.specs.Cuts.{Cut, raw, unknown, flag, with_value}
-use Rattle.scl_args.specs.Seen.{shown}
+use Rattle.scl_values.specs.Cuts.{Cut, raw, unknown, flag, with_value}
+use Rattle.scl_values.specs.Seen.{shown}
 use Rattle.scl_args.specs.Wrapped.{wrapped_apart, wrapped_joined}
 use Rattle.scl_again.specs.Commands.{Inner}
 use Rattle.scl_again.specs.Origins.{IsKept}
 use Rattle.scl_again.proofs.CommandLaws.{IsList}
 use Rattle.scl_again.proofs.RawLaws.{HasNoRaws}
-use Rattle.scl_gnu.specs.declared.gcc.data.Kind as gnu
-use Rattle.scl_gnu.specs.ClangRows.{clang_tables}
-use Rattle.scl_msvc.specs.contracts.msvc.data.KindPartialEq.TheImpl as kinds
-use Rattle.scl_msvc.specs.contracts.msvc.place.PlacePartialEq.TheImpl.{ghosts}
-use Rattle.scl_msvc.specs.declared.msvc.data.Kind.{Kind}
-use Rattle.scl_msvc.specs.declared.msvc.data.Kind.TheVariants as kind
-use Rattle.scl_msvc.specs.declared.msvc.place.Place.{Place}
-use Rattle.scl_msvc.specs.declared.msvc.place.Place.TheVariants as places
+use Rattle.scl_gnu_reading.specs.declared.gcc.data.Kind as gnu
+use Rattle.scl_gnu_reading.specs.ClangRows.{clang_tables}
+use Rattle.scl_msvc_reading.specs.contracts.msvc.data.KindPartialEq.TheImpl as kinds
+use Rattle.scl_msvc_reading.specs.contracts.msvc.place.PlacePartialEq.TheImpl.{ghosts}
+use Rattle.scl_msvc_reading.specs.declared.msvc.data.Kind.{Kind}
+use Rattle.scl_msvc_reading.specs.declared.msvc.data.Kind.TheVariants as kind
+use Rattle.scl_msvc_reading.specs.declared.msvc.place.Place.{Place}
+use Rattle.scl_msvc_reading.specs.declared.msvc.place.Place.TheVariants as places
 use Rattle.scl_msvc.specs.Again.{is_list, carried, carried_inner}
-use Rattle.scl_msvc.specs.Inners.{inner_place, goes_inside_to}
-use Rattle.scl_msvc.specs.Places.{place, goes_to, side_of_flag}
+use Rattle.scl_msvc_reading.specs.Inners.{inner_place, goes_inside_to}
+use Rattle.scl_msvc_reading.specs.Places.{place, goes_to, side_of_flag}
 use Rattle.scl_msvc.specs.ReadAgain.{list_of, behind_xclang, behind_clang}
-use Rattle.scl_msvc.specs.Rows.{msvc_tables}
+use Rattle.scl_msvc_reading.specs.Rows.{msvc_tables}
 
 -- ---- places
 

@@ -5,8 +5,6 @@ pub mod InputLaws
 pub mod KeptLaws
 pub mod NoFileLaws
 pub mod OneInputLaws
-pub mod OutputLaws
 pub mod PromiseLaws
 pub mod ReadAgainLaws
 pub mod ReadingLaws
-pub mod TableLaws

@@ -1,38 +1,38 @@
 -- The command of a record of Msvc names no response file where none was given.
 use Rattle.std.proofs.Common.{◌≡◌, ℕ, Bool, true, false, List, [], ◌∷◌, ◌++◌, map, Some, Ok, refl, sym, ap, subst, ◌∙◌, if◌then◌else◌}
 use Rattle.std.specs.Prelude.{codes, unwrap_or}
-use Rattle.scl_args.specs.Cuts.{cut}
-use Rattle.scl_args.specs.Each.{Each}
-use Rattle.scl_args.specs.Options.{flag_of, texts, ◌>>=◌}
+use Rattle.scl_values.specs.Cuts.{cut}
+use Rattle.scl_values.specs.Each.{Each}
+use Rattle.scl_args.specs.Options.{texts, ◌>>=◌}
 use Rattle.scl_args.specs.Options as listed
-use Rattle.scl_args.specs.Seen.{Seen, shown}
-use Rattle.scl_args.specs.Tables.{owner_in, all_rows}
+use Rattle.scl_values.specs.Seen.{Seen, shown, flag_of}
+use Rattle.scl_values.specs.Tables.{owner_in, all_rows}
 use Rattle.scl_again.specs.NoFiles.{NamesNoFile, GivesNoFile}
 use Rattle.scl_again.proofs.NoFileLaws.{each-append, has_plain_flags, HasPlainFlag, flag-none, plain-found, listed-none, one-none, apart-none, joined-none, last-none}
-use Rattle.scl_text.specs.declared.expand.ExpansionKind.TheVariants as expansions
+use Rattle.scl_files.specs.declared.expand.ExpansionKind.TheVariants as expansions
 use Rattle.scl_text.specs.declared.language.Language.{Language}
 use Rattle.scl_text.specs.declared.language.Language.TheVariants as languages
 use Rattle.scl_text.specs.Commands.{object_of}
-use Rattle.scl_text.specs.Expand.{expand}
+use Rattle.scl_files.specs.Expand.{expand}
 use Rattle.scl_text.specs.Records.{Parsed}
-use Rattle.scl_text.specs.Views.{Viewed}
-use Rattle.scl_gnu.specs.ClangRows.{clang_rows, clang_tables}
-use Rattle.scl_gnu.specs.GccRows.{gcc_rows}
-use Rattle.scl_msvc.specs.declared.msvc.data.Kind.{Kind}
-use Rattle.scl_msvc.specs.declared.msvc.data.Kind.TheVariants as kind
-use Rattle.scl_msvc.specs.declared.msvc.place.Place.{Place}
-use Rattle.scl_msvc.specs.declared.msvc.place.Place.TheVariants as places
+use Rattle.scl_files.specs.Views.{Viewed}
+use Rattle.scl_gnu_reading.specs.ClangRows.{clang_rows, clang_tables}
+use Rattle.scl_gnu_reading.specs.GccRows.{gcc_rows}
+use Rattle.scl_msvc_reading.specs.declared.msvc.data.Kind.{Kind}
+use Rattle.scl_msvc_reading.specs.declared.msvc.data.Kind.TheVariants as kind
+use Rattle.scl_msvc_reading.specs.declared.msvc.place.Place.{Place}
+use Rattle.scl_msvc_reading.specs.declared.msvc.place.Place.TheVariants as places
 use Rattle.scl_msvc.specs.Again.{is_list, carried, carried_inner}
 use Rattle.scl_msvc.specs.Building.{command_words, dash_words, input_word, input_words, language_flag, list_words}
-use Rattle.scl_msvc.specs.FixedTests.{Found}
-use Rattle.scl_msvc.specs.Inners.{Inner, inner_list, inner_place, inner_words_at, goes_inside_to}
-use Rattle.scl_msvc.specs.Kinds.{of, is_input}
+use Rattle.scl_msvc_reading.specs.FixedTests.{Found}
+use Rattle.scl_msvc_reading.specs.Inners.{Inner, inner_list, inner_place, inner_words_at, goes_inside_to}
+use Rattle.scl_msvc_reading.specs.Kinds.{of, is_input}
 use Rattle.scl_msvc.specs.NoFiles.{CommandNamesNoFile, MsvcCommandsNameNoFile}
-use Rattle.scl_msvc.specs.Places.{place, goes_to, side_of_flag}
+use Rattle.scl_msvc_reading.specs.Places.{place, goes_to, side_of_flag}
 use Rattle.scl_msvc.specs.ReadAgain.{options_of, inner_options_of}
-use Rattle.scl_msvc.specs.Readings.{reading}
-use Rattle.scl_msvc.specs.Recordings.{all_words_at, record_of}
-use Rattle.scl_msvc.specs.Rows.{msvc_rows, msvc_tables}
+use Rattle.scl_msvc_reading.specs.Readings.{reading}
+use Rattle.scl_msvc_reading.specs.Recordings.{all_words_at, record_of}
+use Rattle.scl_msvc_reading.specs.Rows.{msvc_rows, msvc_tables}
 use Rattle.scl_msvc.proofs.KeptLaws.{is_kind, same-list}
 use Rattle.scl_msvc.proofs.ReadingLaws.{HasFound, is-read, object-found}
 

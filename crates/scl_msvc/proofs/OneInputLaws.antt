@@ -2,33 +2,33 @@
 use Rattle.std.proofs.Common.{◌≡◌, ℕ, Bool, true, false, cond, ◌⊎◌, inl, inr, List, [], ◌∷◌, ◌++◌, map, filter, None, Some, refl, sym, ap, subst, ◌∙◌}
 use Rattle.std.specs.List.{flat_map}
 use Rattle.std.specs.Option.{option_and_then}
-use Rattle.scl_args.specs.Cuts.{Cut, raw, unknown, flag, with_value, cut}
-use Rattle.scl_args.specs.Each.{Each}
-use Rattle.scl_args.specs.Options.{text_of, texts}
-use Rattle.scl_args.specs.Seen.{Seen, Raw, Unknown, Known, Plain, plain, plain_seen, shown}
-use Rattle.scl_args.specs.Seen as plain
-use Rattle.scl_args.specs.Tables.{owner_in}
+use Rattle.scl_values.specs.Cuts.{Cut, raw, unknown, flag, with_value, cut}
+use Rattle.scl_values.specs.Each.{Each}
+use Rattle.scl_args.specs.Options.{texts}
+use Rattle.scl_values.specs.Seen.{Seen, Raw, Unknown, Known, Plain, plain, plain_seen, shown, text_of}
+use Rattle.scl_values.specs.Seen as plain
+use Rattle.scl_values.specs.Tables.{owner_in}
 use Rattle.scl_again.proofs.FilterLaws.{any-none, has-last}
 use Rattle.scl_again.proofs.NoneLaws.{HasNone, own-alone}
 use Rattle.scl_again.proofs.OutcomeLaws.{bind-ok}
 use Rattle.scl_text.specs.declared.language.Language.{Language}
 use Rattle.scl_text.specs.declared.language.Language.TheVariants as languages
-use Rattle.scl_msvc.specs.declared.msvc.data.Kind.{Kind}
-use Rattle.scl_msvc.specs.declared.msvc.data.Kind.TheVariants as kind
-use Rattle.scl_msvc.specs.declared.msvc.place.Place.{Place}
-use Rattle.scl_msvc.specs.declared.msvc.place.Place.TheVariants as places
+use Rattle.scl_msvc_reading.specs.declared.msvc.data.Kind.{Kind}
+use Rattle.scl_msvc_reading.specs.declared.msvc.data.Kind.TheVariants as kind
+use Rattle.scl_msvc_reading.specs.declared.msvc.place.Place.{Place}
+use Rattle.scl_msvc_reading.specs.declared.msvc.place.Place.TheVariants as places
 use Rattle.scl_msvc.specs.Again.{is_list}
 use Rattle.scl_msvc.specs.Building.{command_words}
-use Rattle.scl_msvc.specs.Environment.{surrounded}
-use Rattle.scl_msvc.specs.FixedTests.{Found}
-use Rattle.scl_msvc.specs.Inners.{Inner}
-use Rattle.scl_msvc.specs.Kinds.{any, is_input, language_said}
-use Rattle.scl_msvc.specs.Places.{place, goes_to}
+use Rattle.scl_msvc_reading.specs.Environment.{surrounded}
+use Rattle.scl_msvc_reading.specs.FixedTests.{Found}
+use Rattle.scl_msvc_reading.specs.Inners.{Inner}
+use Rattle.scl_msvc_reading.specs.Kinds.{any, is_input, language_said}
+use Rattle.scl_msvc_reading.specs.Places.{place, goes_to}
 use Rattle.scl_msvc.specs.ReadAgain as msvc
 use Rattle.scl_msvc.specs.ReadAgain.{list_of, parts, mark_option, input_option, options_of, inner_options_of, MsvcCommandsHaveOneInput}
-use Rattle.scl_msvc.specs.Readings.{reading}
-use Rattle.scl_msvc.specs.Recordings.{record_of}
-use Rattle.scl_msvc.specs.Rows.{msvc_tables}
+use Rattle.scl_msvc_reading.specs.Readings.{reading}
+use Rattle.scl_msvc_reading.specs.Recordings.{record_of}
+use Rattle.scl_msvc_reading.specs.Rows.{msvc_tables}
 use Rattle.scl_msvc.proofs.KeptLaws.{same-list}
 use Rattle.scl_msvc.proofs.ReadAgainLaws.{commands_again}
 use Rattle.scl_msvc.proofs.ReadingLaws.{names_language, each-tt, HasFound, is-read}

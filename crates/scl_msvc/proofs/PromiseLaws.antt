@@ -4,14 +4,14 @@ use Rattle.scl_again.specs.Promises.{IsFaithful}
 use Rattle.scl_text.proofs.CompilerLaws.{command-kept}
 use Rattle.scl_text.specs.Compilers.{IfCommand}
 use Rattle.scl_text.specs.Records.{Parsed}
-use Rattle.scl_text.specs.Views.{Viewed}
-use Rattle.scl_gnu.specs.ClangRows.{clang_tables}
+use Rattle.scl_files.specs.Views.{Viewed}
+use Rattle.scl_gnu_reading.specs.ClangRows.{clang_tables}
 use Rattle.scl_msvc.specs.Building.{command, command_words}
-use Rattle.scl_msvc.specs.Environment.{surrounded}
+use Rattle.scl_msvc_reading.specs.Environment.{surrounded}
 use Rattle.scl_msvc.specs.Promises.{msvc_line, MsvcReadsAgain}
 use Rattle.scl_msvc.specs.ReadAgain.{parts, HasOneInput}
-use Rattle.scl_msvc.specs.Readings.{reading_within}
-use Rattle.scl_msvc.specs.Rows.{msvc_tables}
+use Rattle.scl_msvc_reading.specs.Readings.{reading_within}
+use Rattle.scl_msvc_reading.specs.Rows.{msvc_tables}
 use Rattle.scl_msvc.proofs.NoFileLaws.{commands_none}
 use Rattle.scl_msvc.proofs.OneInputLaws.{one_input}
 use Rattle.scl_msvc.proofs.ReadAgainLaws.{commands_again}

@@ -3,13 +3,13 @@ use Rattle.std.proofs.Common.{◌≡◌, ℕ, Bool, true, false, List, [], ◌�
 use Rattle.std.proofs.lemmas.List.{append-nil}
 use Rattle.std.specs.List.{flat_map, list_all}
 use Rattle.std.specs.Prelude.{codes, not, ◌||◌}
-use Rattle.scl_args.specs.Cuts.{Cut, cut}
-use Rattle.scl_args.specs.Each.{Each}
+use Rattle.scl_values.specs.Cuts.{Cut, cut}
+use Rattle.scl_values.specs.Each.{Each}
 use Rattle.scl_args.specs.Options.{texts, ◌>>=◌}
-use Rattle.scl_args.specs.Row.{Row, row, apart}
-use Rattle.scl_args.specs.Seen.{Seen, Plain, shown}
-use Rattle.scl_args.specs.Seen as plain
-use Rattle.scl_args.specs.Tables.{owner_in, all_rows}
+use Rattle.scl_values.specs.Row.{Row, row, apart}
+use Rattle.scl_values.specs.Seen.{Seen, Plain, shown}
+use Rattle.scl_values.specs.Seen as plain
+use Rattle.scl_values.specs.Tables.{owner_in, all_rows}
 use Rattle.scl_args.specs.Wrapped.{wrapped_apart, wrapped_joined}
 use Rattle.scl_again.specs.Commands.{Inner, Said, carried, values_at, IsReadAgain}
 use Rattle.scl_again.specs.Commands as command
@@ -19,32 +19,32 @@ use Rattle.scl_again.proofs.CommandLaws.{IsInner, list-again, command-again}
 use Rattle.scl_again.proofs.FoundLaws.{is_bare, last-flag, flag-again}
 use Rattle.scl_again.proofs.ReadsLaws.{reads-append, reads-apart, reads-nil}
 use Rattle.scl_again.proofs.ValuesLaws.{HaveOwnFlags}
-use Rattle.scl_text.specs.declared.expand.ExpansionKind.TheVariants as expansions
+use Rattle.scl_files.specs.declared.expand.ExpansionKind.TheVariants as expansions
 use Rattle.scl_text.specs.declared.language.Language.{Language}
 use Rattle.scl_text.specs.declared.language.Language.TheVariants as languages
 use Rattle.scl_text.specs.Commands.{object_of}
-use Rattle.scl_text.specs.Expand.{expand}
+use Rattle.scl_files.specs.Expand.{expand}
 use Rattle.scl_text.specs.Records.{Parsed}
-use Rattle.scl_text.specs.Views.{Viewed}
-use Rattle.scl_gnu.specs.declared.gcc.data.Kind as gnu
-use Rattle.scl_gnu.specs.ClangRows.{clang_tables}
-use Rattle.scl_msvc.specs.declared.msvc.data.Kind.{Kind}
-use Rattle.scl_msvc.specs.declared.msvc.data.Kind.TheVariants as kind
-use Rattle.scl_msvc.specs.declared.msvc.place.Place.{Place}
-use Rattle.scl_msvc.specs.declared.msvc.place.Place.TheVariants as places
+use Rattle.scl_files.specs.Views.{Viewed}
+use Rattle.scl_gnu_reading.specs.declared.gcc.data.Kind as gnu
+use Rattle.scl_gnu_reading.specs.ClangRows.{clang_tables}
+use Rattle.scl_msvc_reading.specs.declared.msvc.data.Kind.{Kind}
+use Rattle.scl_msvc_reading.specs.declared.msvc.data.Kind.TheVariants as kind
+use Rattle.scl_msvc_reading.specs.declared.msvc.place.Place.{Place}
+use Rattle.scl_msvc_reading.specs.declared.msvc.place.Place.TheVariants as places
 use Rattle.scl_msvc.specs.Again as again
 use Rattle.scl_msvc.specs.Building.{command_words, input_words, list_words}
-use Rattle.scl_msvc.specs.FixedTests.{Found}
-use Rattle.scl_msvc.specs.Inners as inners
-use Rattle.scl_msvc.specs.Inners.{inner_list}
-use Rattle.scl_msvc.specs.Kinds.{of, last_flag}
-use Rattle.scl_msvc.specs.Places.{side_of_flag, words_at}
+use Rattle.scl_msvc_reading.specs.FixedTests.{Found}
+use Rattle.scl_msvc_reading.specs.Inners as inners
+use Rattle.scl_msvc_reading.specs.Inners.{inner_list}
+use Rattle.scl_msvc_reading.specs.Kinds.{of, last_flag}
+use Rattle.scl_msvc_reading.specs.Places.{side_of_flag, words_at}
 use Rattle.scl_msvc.specs.ReadAgain as msvc
 use Rattle.scl_msvc.specs.ReadAgain.{list_of, parts, options_of, inner_options_of, behind_xclang, behind_clang, CommandIsReadAgain, MsvcCommandsAreReadAgain}
-use Rattle.scl_msvc.specs.Readings.{reading}
-use Rattle.scl_msvc.specs.Recordings.{all_words_at, record_of}
-use Rattle.scl_msvc.specs.Rows.{msvc_rows, msvc_tables}
-use Rattle.scl_msvc.specs.Verdicts.{verdict}
+use Rattle.scl_msvc_reading.specs.Readings.{reading}
+use Rattle.scl_msvc_reading.specs.Recordings.{all_words_at, record_of}
+use Rattle.scl_msvc_reading.specs.Rows.{msvc_rows, msvc_tables}
+use Rattle.scl_msvc_reading.specs.Verdicts.{verdict}
 use Rattle.scl_msvc.proofs.CheckLaws.{msvc_passes, inner_passes, xclang_alone, clang_alone}
 use Rattle.scl_msvc.proofs.InputLaws.{reads-output, reads-clang, reads-input}
 use Rattle.scl_msvc.proofs.KeptLaws.{wrapped, no-raws, is-list, is_kind, compiles-alone}

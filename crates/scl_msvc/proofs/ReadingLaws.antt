@@ -2,40 +2,40 @@
 use Rattle.std.proofs.Common.{◌≡◌, ℕ, Bool, true, false, not, ◌&&◌, List, [], ◌∷◌, map, Option, None, Some, Ok, refl, sym, ap, ◌∙◌}
 use Rattle.std.specs.Option.{option_and_then}
 use Rattle.std.specs.Prelude.{codes}
-use Rattle.scl_args.specs.Cuts.{cut, is_dangling}
-use Rattle.scl_args.specs.Each.{Each}
+use Rattle.scl_values.specs.Cuts.{cut, is_dangling}
+use Rattle.scl_values.specs.Each.{Each}
 use Rattle.scl_args.specs.Empties.{refusing_empty}
 use Rattle.scl_args.specs.Options.{texts, wanted}
-use Rattle.scl_args.specs.Seen.{Seen, Raw, Unknown, Known, shown}
-use Rattle.scl_args.specs.Tables.{owner_in}
+use Rattle.scl_values.specs.Seen.{Seen, Raw, Unknown, Known, shown}
+use Rattle.scl_values.specs.Tables.{owner_in}
 use Rattle.scl_again.specs.Origins.{IsClear}
 use Rattle.scl_again.proofs.EmptyLaws.{judged-clear, judged-else}
 use Rattle.scl_again.proofs.FilterLaws.{has-last}
 use Rattle.scl_again.proofs.OutcomeLaws.{bind-ok, wanted-ok, unless-ok, unless-none, judged-ok, judged-none}
-use Rattle.scl_text.specs.declared.expand.ExpansionKind.TheVariants as expansions
+use Rattle.scl_files.specs.declared.expand.ExpansionKind.TheVariants as expansions
 use Rattle.scl_text.specs.declared.language.Language.{Language}
 use Rattle.scl_text.specs.declared.language.Language.TheVariants as languages
 use Rattle.scl_text.specs.Commands.{object_of}
-use Rattle.scl_text.specs.Expand.{expand}
+use Rattle.scl_files.specs.Expand.{expand}
 use Rattle.scl_text.specs.JudgedWords.{judged_words}
 use Rattle.scl_text.specs.Outputs.{path_at}
 use Rattle.scl_text.specs.Reasons.{empty_value, argument_parse, invalid_input_file, unknown_source_language}
 use Rattle.scl_text.specs.Records.{Parsed, Verdict, NotCompilation}
 use Rattle.scl_text.specs.Refusals.{the_input}
-use Rattle.scl_text.specs.Views.{Viewed}
-use Rattle.scl_gnu.specs.declared.gcc.data.Kind as gnu
-use Rattle.scl_gnu.specs.ClangRows.{clang_tables}
-use Rattle.scl_msvc.specs.declared.msvc.data.Kind.{Kind}
-use Rattle.scl_msvc.specs.declared.msvc.data.Kind.TheVariants as kind
-use Rattle.scl_msvc.specs.FixedTests as tests
-use Rattle.scl_msvc.specs.FixedTests.{Found, found, input_unless, language_of, module_verdict, program_database}
-use Rattle.scl_msvc.specs.Inners.{Inner, inner_verdict}
-use Rattle.scl_msvc.specs.Kinds.{of, any, is_input, last_flag, last_text, language_said, explicit_language}
+use Rattle.scl_files.specs.Views.{Viewed}
+use Rattle.scl_gnu_reading.specs.declared.gcc.data.Kind as gnu
+use Rattle.scl_gnu_reading.specs.ClangRows.{clang_tables}
+use Rattle.scl_msvc_reading.specs.declared.msvc.data.Kind.{Kind}
+use Rattle.scl_msvc_reading.specs.declared.msvc.data.Kind.TheVariants as kind
+use Rattle.scl_msvc_reading.specs.FixedTests as tests
+use Rattle.scl_msvc_reading.specs.FixedTests.{Found, found, input_unless, language_of, module_verdict, program_database}
+use Rattle.scl_msvc_reading.specs.Inners.{Inner, inner_verdict}
+use Rattle.scl_msvc_reading.specs.Kinds.{of, any, is_input, last_flag, last_text, language_said, explicit_language}
 use Rattle.scl_msvc.specs.ReadAgain.{options_of, inner_options_of}
-use Rattle.scl_msvc.specs.Readings.{inner_options, both_inner, read, reading, recorded}
-use Rattle.scl_msvc.specs.Recordings.{record_of, outputs, output_paths}
-use Rattle.scl_msvc.specs.Rows.{msvc_tables}
-use Rattle.scl_msvc.specs.Verdicts.{verdict}
+use Rattle.scl_msvc_reading.specs.Readings.{inner_options, both_inner, read, reading, recorded}
+use Rattle.scl_msvc_reading.specs.Recordings.{record_of, outputs, output_paths}
+use Rattle.scl_msvc_reading.specs.Rows.{msvc_tables}
+use Rattle.scl_msvc_reading.specs.Verdicts.{verdict}
 
 -- ---- the input and its language
 

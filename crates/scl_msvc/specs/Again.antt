@@ -1,11 +1,11 @@
 -- Which kinds Msvc's lists carry.
 use Rattle.std.specs.Prelude.{Bool, true, false}
-use Rattle.scl_gnu.specs.declared.gcc.data.Kind as gnu
-use Rattle.scl_msvc.specs.declared.msvc.data.Kind.{Kind}
-use Rattle.scl_msvc.specs.declared.msvc.place.Place.{Place}
-use Rattle.scl_msvc.specs.declared.msvc.place.Place.TheVariants as places
-use Rattle.scl_msvc.specs.Inners.{inner_place}
-use Rattle.scl_msvc.specs.Places.{place}
+use Rattle.scl_gnu_reading.specs.declared.gcc.data.Kind as gnu
+use Rattle.scl_msvc_reading.specs.declared.msvc.data.Kind.{Kind}
+use Rattle.scl_msvc_reading.specs.declared.msvc.place.Place.{Place}
+use Rattle.scl_msvc_reading.specs.declared.msvc.place.Place.TheVariants as places
+use Rattle.scl_msvc_reading.specs.Inners.{inner_place}
+use Rattle.scl_msvc_reading.specs.Places.{place}
 
 -- whether a place is a list of the command
 abbrev pub is_list : Place → Bool

@@ -6,9 +6,9 @@ use Rattle.scl_text.specs.declared.records.Cacheable.{Cacheable}
 use Rattle.scl_text.specs.declared.records.Cacheable.TheVariants as cacheables
 use Rattle.scl_text.specs.Commands.{command_by}
 use Rattle.scl_text.specs.Outputs.{path_at}
-use Rattle.scl_text.specs.Paths.{join}
+use Rattle.scl_files.specs.Paths.{join}
 use Rattle.scl_text.specs.Records.{Parsed}
-use Rattle.scl_text.specs.Views.{Viewed, exists}
+use Rattle.scl_files.specs.Views.{Viewed, exists}
 
 abbrev pub lists_with : (unhashed : List (List ℕ)) → Parsed → List (List ℕ)
 lists_with unhashed p = p.preprocessor_args ++ p.dependency_args ++ unhashed ++ p.common_args

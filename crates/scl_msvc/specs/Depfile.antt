@@ -10,8 +10,8 @@ use Rattle.std.specs.Str.{IsUtf8, bytes_eq}
 use Rattle.std.specs.declared.alloc.Global.{Global}
 use Rattle.bstr.specs.Text.{lines_of, without_terminator}
 use Rattle.bstr.specs.Trim.{trim_end_by, trim_start_by}
-use Rattle.scl_args.specs.Words.{words_of}
-use Rattle.scl_text.specs.Characters.{line_feed, space}
+use Rattle.scl_values.specs.Words.{words_of}
+use Rattle.scl_files.specs.Characters.{line_feed, space}
 use Rattle.scl_text.specs.Commands.{object_of}
 use Rattle.scl_text.specs.Records.{Parsed, distinct_words}
 use Rattle.scl_msvc.specs.declared.msvc.depfile.DepfileText.{DepfileText}

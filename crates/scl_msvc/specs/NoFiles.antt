@@ -1,15 +1,15 @@
 -- Commands of Msvc that name no response file.
 use Rattle.std.specs.Prelude.{◌≡◌, ℕ, Bool, List, map, Some, Ok}
-use Rattle.scl_args.specs.Seen.{shown}
+use Rattle.scl_values.specs.Seen.{shown}
 use Rattle.scl_again.specs.NoFiles.{NamesNoFileOfItsOwn}
 use Rattle.scl_text.specs.Commands.{object_of}
 use Rattle.scl_text.specs.Records.{Parsed}
-use Rattle.scl_text.specs.Views.{Viewed}
-use Rattle.scl_msvc.specs.declared.msvc.data.Kind.TheVariants as kind
+use Rattle.scl_files.specs.Views.{Viewed}
+use Rattle.scl_msvc_reading.specs.declared.msvc.data.Kind.TheVariants as kind
 use Rattle.scl_msvc.specs.Building.{command_words}
-use Rattle.scl_msvc.specs.Environment.{surrounded}
+use Rattle.scl_msvc_reading.specs.Environment.{surrounded}
 use Rattle.scl_msvc.specs.ReadAgain.{options_of, inner_options_of, said}
-use Rattle.scl_msvc.specs.Readings.{reading_within}
+use Rattle.scl_msvc_reading.specs.Readings.{reading_within}
 
 -- the command of the words' record with this object file names no response file of its own
 abbrev pub CommandNamesNoFile : Bool → List ℕ → Viewed → List (List ℕ) → Parsed → List ℕ → Type 0

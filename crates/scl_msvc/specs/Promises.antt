@@ -1,18 +1,18 @@
 -- What is promised of a command of Msvc: it is read again, has one input, and names no response file of its own.
 use Rattle.std.specs.Prelude.{ℕ, Bool, List, [], ◌∷◌, map, codes, IfOk, IfSome}
-use Rattle.scl_args.specs.Cuts.{Cut}
-use Rattle.scl_args.specs.Seen.{shown}
+use Rattle.scl_values.specs.Cuts.{Cut}
+use Rattle.scl_values.specs.Seen.{shown}
 use Rattle.scl_again.specs.Promises.{HandedOn, Line, IsFaithful}
 use Rattle.scl_text.specs.Commands.{object_of}
 use Rattle.scl_text.specs.Records.{Parsed}
-use Rattle.scl_text.specs.Views.{Viewed}
-use Rattle.scl_gnu.specs.declared.gcc.data.Kind as gnu
-use Rattle.scl_gnu.specs.ClangRows.{clang_tables}
-use Rattle.scl_msvc.specs.declared.msvc.data.Kind.{Kind}
-use Rattle.scl_msvc.specs.declared.msvc.data.Kind.TheVariants as kind
-use Rattle.scl_msvc.specs.Environment.{surrounded}
+use Rattle.scl_files.specs.Views.{Viewed}
+use Rattle.scl_gnu_reading.specs.declared.gcc.data.Kind as gnu
+use Rattle.scl_gnu_reading.specs.ClangRows.{clang_tables}
+use Rattle.scl_msvc_reading.specs.declared.msvc.data.Kind.{Kind}
+use Rattle.scl_msvc_reading.specs.declared.msvc.data.Kind.TheVariants as kind
+use Rattle.scl_msvc_reading.specs.Environment.{surrounded}
 use Rattle.scl_msvc.specs.ReadAgain.{parts, options_of, inner_options_of, HasOneInput}
-use Rattle.scl_msvc.specs.Rows.{msvc_tables}
+use Rattle.scl_msvc_reading.specs.Rows.{msvc_tables}
 
 -- what these options hand on by a flag of this kind
 abbrev pub handed_by : List ℕ → Kind → List ℕ → Viewed → List (Cut Kind) → HandedOn Kind gnu.Kind

@@ -1,32 +1,32 @@
 -- Commands of Msvc that are read again.
 use Rattle.std.specs.Prelude.{◌≡◌, ℕ, Bool, true, false, List, [], ◌∷◌, ◌++◌, map, codes, Some, Ok}
-use Rattle.scl_args.specs.Cuts.{mark, Cut, cut}
+use Rattle.scl_values.specs.Cuts.{mark, Cut, cut}
 use Rattle.scl_args.specs.Options.{texts}
-use Rattle.scl_args.specs.Seen.{Seen, Plain, shown}
-use Rattle.scl_args.specs.Seen as plain
-use Rattle.scl_args.specs.Tables.{owner_in}
+use Rattle.scl_values.specs.Seen.{Seen, Plain, shown}
+use Rattle.scl_values.specs.Seen as plain
+use Rattle.scl_values.specs.Tables.{owner_in}
 use Rattle.scl_again.specs.Commands.{Inner, Said, CommandList, Parts, IsReadAgain}
-use Rattle.scl_text.specs.declared.expand.ExpansionKind.TheVariants as expansions
+use Rattle.scl_files.specs.declared.expand.ExpansionKind.TheVariants as expansions
 use Rattle.scl_text.specs.declared.language.Language.{Language}
 use Rattle.scl_text.specs.declared.language.Language.TheVariants as languages
 use Rattle.scl_text.specs.Commands.{object_of}
-use Rattle.scl_text.specs.Expand.{expand}
+use Rattle.scl_files.specs.Expand.{expand}
 use Rattle.scl_text.specs.Records.{Parsed}
-use Rattle.scl_text.specs.Views.{Viewed}
-use Rattle.scl_gnu.specs.declared.gcc.data.Kind as gnu
-use Rattle.scl_gnu.specs.ClangRows.{clang_tables}
+use Rattle.scl_files.specs.Views.{Viewed}
+use Rattle.scl_gnu_reading.specs.declared.gcc.data.Kind as gnu
+use Rattle.scl_gnu_reading.specs.ClangRows.{clang_tables}
 use Rattle.scl_gnu.specs.ReadAgain as gnu_again
-use Rattle.scl_msvc.specs.declared.msvc.data.Kind.{Kind}
-use Rattle.scl_msvc.specs.declared.msvc.data.Kind.TheVariants as kind
-use Rattle.scl_msvc.specs.declared.msvc.place.Place.{Place}
-use Rattle.scl_msvc.specs.declared.msvc.place.Place.TheVariants as places
+use Rattle.scl_msvc_reading.specs.declared.msvc.data.Kind.{Kind}
+use Rattle.scl_msvc_reading.specs.declared.msvc.data.Kind.TheVariants as kind
+use Rattle.scl_msvc_reading.specs.declared.msvc.place.Place.{Place}
+use Rattle.scl_msvc_reading.specs.declared.msvc.place.Place.TheVariants as places
 use Rattle.scl_msvc.specs.Building.{command_words}
-use Rattle.scl_msvc.specs.Environment.{surrounded}
-use Rattle.scl_msvc.specs.Inners.{goes_inside_to}
-use Rattle.scl_msvc.specs.Kinds.{of, is_input}
-use Rattle.scl_msvc.specs.Places.{goes_to}
-use Rattle.scl_msvc.specs.Readings.{reading_within}
-use Rattle.scl_msvc.specs.Rows.{msvc_tables}
+use Rattle.scl_msvc_reading.specs.Environment.{surrounded}
+use Rattle.scl_msvc_reading.specs.Inners.{goes_inside_to}
+use Rattle.scl_msvc_reading.specs.Kinds.{of, is_input}
+use Rattle.scl_msvc_reading.specs.Places.{goes_to}
+use Rattle.scl_msvc_reading.specs.Readings.{reading_within}
+use Rattle.scl_msvc_reading.specs.Rows.{msvc_tables}
 
 -- ---- what a command is made of
 

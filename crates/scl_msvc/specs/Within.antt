@@ -1,18 +1,18 @@
 -- Which words a command line has, given and inner ones, with response files put in place.
 use Rattle.std.specs.Prelude.{ℕ, Bool, List, [], ◌∷◌, map, Result, Ok, Err}
-use Rattle.scl_args.specs.Cuts.{cut}
+use Rattle.scl_values.specs.Cuts.{cut}
 use Rattle.scl_args.specs.Options.{texts}
-use Rattle.scl_args.specs.Seen.{Seen, shown}
-use Rattle.scl_args.specs.Tables.{owner_in}
-use Rattle.scl_text.specs.declared.expand.ExpansionKind.TheVariants as expansions
-use Rattle.scl_text.specs.Expand.{expand}
+use Rattle.scl_values.specs.Seen.{Seen, shown}
+use Rattle.scl_values.specs.Tables.{owner_in}
+use Rattle.scl_files.specs.declared.expand.ExpansionKind.TheVariants as expansions
+use Rattle.scl_files.specs.Expand.{expand}
 use Rattle.scl_text.specs.Records.{Verdict}
-use Rattle.scl_text.specs.Views.{Viewed}
-use Rattle.scl_msvc.specs.declared.msvc.data.Kind.{Kind}
-use Rattle.scl_msvc.specs.declared.msvc.data.Kind.TheVariants as kind
-use Rattle.scl_msvc.specs.Environment.{surrounded}
-use Rattle.scl_msvc.specs.Kinds.{of}
-use Rattle.scl_msvc.specs.Rows.{msvc_tables}
+use Rattle.scl_files.specs.Views.{Viewed}
+use Rattle.scl_msvc_reading.specs.declared.msvc.data.Kind.{Kind}
+use Rattle.scl_msvc_reading.specs.declared.msvc.data.Kind.TheVariants as kind
+use Rattle.scl_msvc_reading.specs.Environment.{surrounded}
+use Rattle.scl_msvc_reading.specs.Kinds.{of}
+use Rattle.scl_msvc_reading.specs.Rows.{msvc_tables}
 
 -- the options of words in which response files are put in place
 abbrev pub options_of : Bool → List (List ℕ) → List (Seen Kind)

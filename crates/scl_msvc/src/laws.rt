@@ -1,14 +1,14 @@
 //! What follows for the tables of Msvc. Each law is the contract of a function that does nothing.
 ghost use Rattle.std.specs.Prelude.{◌≡◌, ◌∷◌, [], true, codes};
-ghost use Rattle.scl_args.specs.Tables.{all_rows};
+ghost use Rattle.scl_values.specs.Tables.{all_rows};
 ghost use Rattle.scl_args.specs.Options as listed;
 ghost use Rattle.scl_again.specs.Checks.{PassChecks, JoinSafely, has_no_kept};
-ghost use Rattle.scl_gnu.specs.ClangRows.{clang_tables};
+ghost use Rattle.scl_gnu_reading.specs.ClangRows.{clang_tables};
 ghost use Rattle.scl_msvc.specs.Again.{carried, carried_inner};
 ghost use Rattle.scl_msvc.specs.NoFiles.{MsvcCommandsNameNoFile};
-ghost use Rattle.scl_msvc.specs.Places.{side_of_flag};
+ghost use Rattle.scl_msvc_reading.specs.Places.{side_of_flag};
 ghost use Rattle.scl_msvc.specs.ReadAgain.{MsvcCommandsAreReadAgain, MsvcCommandsHaveOneInput};
-ghost use Rattle.scl_msvc.specs.Rows.{msvc_tables};
+ghost use Rattle.scl_msvc_reading.specs.Rows.{msvc_tables};
 
 /// Msvc's tables pass both checks for the kinds that lists carry, each flag on its side (docs/RULES.md, Cutting again).
 pub fn msvc_tables_pass_both_checks()

@@ -1,13 +1,13 @@
 use Rattle.std.proofs.Common.{◌≡◌, ℕ, true, false, not, ◌||◌, List, [], ◌∷◌, map, refl, subst, ◌∙◌, ap}
 use Rattle.std.specs.List.{list_all}
 use Rattle.std.specs.Prelude.{codes, Ok}
-use Rattle.scl_args.specs.Cuts.{cut, is_dangling}
+use Rattle.scl_values.specs.Cuts.{cut, is_dangling}
 use Rattle.scl_args.specs.Empties.{refusing_empty}
 use Rattle.scl_args.specs.Options.{is_of, judged, side_of_flag, wanted}
-use Rattle.scl_args.specs.Row.{Row, row, apart}
-use Rattle.scl_args.specs.Seen.{Seen, Raw, Unknown, Known, shown}
-use Rattle.scl_args.specs.Seen as plain
-use Rattle.scl_args.specs.Tables.{owner_in, all_rows}
+use Rattle.scl_values.specs.Row.{Row, row, apart}
+use Rattle.scl_values.specs.Seen.{Seen, Raw, Unknown, Known, shown}
+use Rattle.scl_values.specs.Seen as plain
+use Rattle.scl_values.specs.Tables.{owner_in, all_rows}
 use Rattle.scl_again.specs.Checks.{PassChecks}
 use Rattle.scl_again.specs.Reads.{Reads}
 use Rattle.scl_again.proofs.FoundLaws.{last-flag, flag-again, is_bare}
@@ -16,9 +16,9 @@ use Rattle.scl_again.proofs.OutcomeLaws.{bind-ok, wanted-ok, judged-ok}
 use Rattle.scl_again.proofs.ReadsLaws.{reads-apart}
 use Rattle.scl_text.specs.Reasons.{empty_value, argument_parse}
 use Rattle.scl_text.specs.Records.{NotCompilation}
-use Rattle.scl_text.specs.Expand.{expand}
-use Rattle.scl_text.specs.Views.{File}
-use Rattle.scl_text.specs.declared.expand.ExpansionKind.TheVariants as expansions
+use Rattle.scl_files.specs.Expand.{expand}
+use Rattle.scl_files.specs.Views.{File}
+use Rattle.scl_files.specs.declared.expand.ExpansionKind.TheVariants as expansions
 use Rattle.scl_small.specs.Places.{goes_to}
 use Rattle.scl_text.specs.Compilers.{IfCommand}
 use Rattle.scl_small.specs.Command.{command}

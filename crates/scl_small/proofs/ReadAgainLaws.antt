@@ -2,13 +2,13 @@ use Rattle.std.proofs.Common.{◌≡◌, ℕ, true, false, List, [], ◌∷◌, 
 use Rattle.std.specs.Prelude.{codes}
 use Rattle.std.proofs.lemmas.List.{append-nil}
 use Rattle.std.specs.List.{flat_map}
-use Rattle.scl_args.specs.Cuts.{Cut, raw, unknown, flag, with_value, cut}
-use Rattle.scl_args.specs.Each.{Each}
+use Rattle.scl_values.specs.Cuts.{Cut, raw, unknown, flag, with_value, cut}
+use Rattle.scl_values.specs.Each.{Each}
 use Rattle.scl_args.specs.Options.{wanted, is_raw, texts, side_of_flag}
-use Rattle.scl_args.specs.Row.{Row}
-use Rattle.scl_args.specs.Seen.{Seen, Raw, Unknown, Known, shown, plain_seen}
-use Rattle.scl_args.specs.Seen as plain
-use Rattle.scl_args.specs.Tables.{owner_in}
+use Rattle.scl_values.specs.Row.{Row}
+use Rattle.scl_values.specs.Seen.{Seen, Raw, Unknown, Known, shown, plain_seen}
+use Rattle.scl_values.specs.Seen as plain
+use Rattle.scl_values.specs.Tables.{owner_in}
 use Rattle.scl_again.specs.Checks.{PassChecks}
 use Rattle.scl_again.specs.Commands.{Said, carried, IsReadAgain}
 use Rattle.scl_again.specs.Origins.{IsClear, IsKept, AreClear}

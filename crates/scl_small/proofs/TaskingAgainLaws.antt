@@ -1,12 +1,12 @@
 use Rattle.std.proofs.Common.{◌≡◌, ℕ, false, List, [], ◌∷◌, map, refl, ◌∙◌, ap}
 use Rattle.std.specs.Prelude.{codes, Ok}
-use Rattle.scl_args.specs.Cuts.{cut, is_dangling}
+use Rattle.scl_values.specs.Cuts.{cut, is_dangling}
 use Rattle.scl_args.specs.Empties.{refusing_empty}
 use Rattle.scl_args.specs.Options.{judged, side_of_flag, wanted}
-use Rattle.scl_args.specs.Row.{Row, row, bare, apart}
-use Rattle.scl_args.specs.Seen.{shown}
-use Rattle.scl_args.specs.Seen as plain
-use Rattle.scl_args.specs.Tables.{owner_in}
+use Rattle.scl_values.specs.Row.{Row, row, bare, apart}
+use Rattle.scl_values.specs.Seen.{shown}
+use Rattle.scl_values.specs.Seen as plain
+use Rattle.scl_values.specs.Tables.{owner_in}
 use Rattle.scl_again.specs.Checks.{PassChecks}
 use Rattle.scl_again.specs.Reads.{Reads}
 use Rattle.scl_again.proofs.EmptyLaws.{judged-clear}

@@ -1,9 +1,9 @@
 -- What it is for a command of Diab to be read again.
 use Rattle.std.specs.Prelude.{ℕ, List}
-use Rattle.scl_text.specs.Expand.{expand}
+use Rattle.scl_files.specs.Expand.{expand}
 use Rattle.scl_text.specs.Records.{Parsed}
-use Rattle.scl_text.specs.Views.{File}
-use Rattle.scl_text.specs.declared.expand.ExpansionKind.TheVariants as expansions
+use Rattle.scl_files.specs.Views.{File}
+use Rattle.scl_files.specs.declared.expand.ExpansionKind.TheVariants as expansions
 use Rattle.scl_small.specs.DiabReading.{place}
 use Rattle.scl_small.specs.DiabTable.{rows}
 use Rattle.scl_small.specs.ReadAgain.{CommandIsReadAgain}

@@ -1,13 +1,13 @@
 -- What a command line says to Diab.
 use Rattle.std.specs.Prelude.{ℕ, List, Option, Some, Result, if◌then◌else◌}
-use Rattle.scl_args.specs.Row.{Row}
-use Rattle.scl_args.specs.Seen.{Seen}
+use Rattle.scl_values.specs.Row.{Row}
+use Rattle.scl_values.specs.Seen.{Seen}
 use Rattle.scl_args.specs.Options.{names_file, wanted, ◌>>=◌}
 use Rattle.scl_text.specs.Reasons.{unexpanded_file}
 use Rattle.scl_text.specs.Records.{Parsed, Verdict, NotCompilation}
-use Rattle.scl_text.specs.Expand.{expand}
-use Rattle.scl_text.specs.Views.{File}
-use Rattle.scl_text.specs.declared.expand.ExpansionKind.TheVariants as expansions
+use Rattle.scl_files.specs.Expand.{expand}
+use Rattle.scl_files.specs.Views.{File}
+use Rattle.scl_files.specs.declared.expand.ExpansionKind.TheVariants as expansions
 use Rattle.scl_small.specs.Places.{refused_at}
 use Rattle.scl_small.specs.Readings.{last_flag_at, recorded, reads}
 use Rattle.scl_small.specs.declared.place.Place.{Place}

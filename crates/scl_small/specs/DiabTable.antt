@@ -1,6 +1,6 @@
 -- Diab's table.
 use Rattle.std.specs.Prelude.{List, [], ◌∷◌, None, Some, codes}
-use Rattle.scl_args.specs.Row.{Row, row, bare, apart, joined, either}
+use Rattle.scl_values.specs.Row.{Row, row, bare, apart, joined, either}
 use Rattle.scl_small.specs.declared.diab.args.Kind.{Kind}
 use Rattle.scl_small.specs.declared.diab.args.Kind.TheVariants as kinds
 

@@ -1,7 +1,6 @@
 -- Where options go.
 use Rattle.std.specs.Prelude.{ℕ, Bool, List, Option, None, Some}
-use Rattle.scl_args.specs.Seen.{Seen, Raw, Unknown, Known}
-use Rattle.scl_args.specs.Options.{flag_of}
+use Rattle.scl_values.specs.Seen.{Seen, Raw, Unknown, Known, flag_of}
 use Rattle.scl_text.specs.Records.{Verdict, CannotCache, NotCompilation}
 use Rattle.scl_small.specs.contracts.place.PlacePartialEq.TheImpl.{ghosts}
 use Rattle.scl_small.specs.declared.place.Place.{Place}

@@ -1,9 +1,9 @@
 -- Commands of Diab and TaskingVX that are read again.
 use Rattle.std.specs.Prelude.{◌≡◌, ℕ, Bool, true, false, List, [], ◌∷◌, codes, Option, Result, Ok, IfSome}
-use Rattle.scl_args.specs.Cuts.{cut}
-use Rattle.scl_args.specs.Row.{Row}
-use Rattle.scl_args.specs.Seen as plain
-use Rattle.scl_args.specs.Tables.{owner_in}
+use Rattle.scl_values.specs.Cuts.{cut}
+use Rattle.scl_values.specs.Row.{Row}
+use Rattle.scl_values.specs.Seen as plain
+use Rattle.scl_values.specs.Tables.{owner_in}
 use Rattle.scl_again.specs.Commands.{CommandList, Parts, IsReadAgain}
 use Rattle.scl_again.specs.Promises.{Line, said_by}
 use Rattle.scl_text.specs.Commands.{object_of}

@@ -1,10 +1,10 @@
 -- What a command line says to Diab or TaskingVX: a first verdict, and filters over the finished list of its options.
 use Rattle.std.specs.Prelude.{ℕ, false, List, [], ◌∷◌, Option, None, Some, Result, Ok, codes}
 use Rattle.std.specs.Option.{option_map}
-use Rattle.scl_args.specs.Row.{Row}
-use Rattle.scl_args.specs.Seen.{Seen}
-use Rattle.scl_args.specs.Options.{flag_of, text_of, last_by, texts, list, side_of_flag, wanted, ◌>>=◌}
-use Rattle.scl_text.specs.Paths.{with_extension}
+use Rattle.scl_values.specs.Row.{Row}
+use Rattle.scl_values.specs.Seen.{Seen, flag_of, text_of}
+use Rattle.scl_args.specs.Options.{last_by, texts, list, side_of_flag, wanted, ◌>>=◌}
+use Rattle.scl_files.specs.Paths.{with_extension}
 use Rattle.scl_text.specs.Languages.{language_of_file_name}
 use Rattle.scl_text.specs.Records.{Parsed, bare_record, artifact, Verdict}
 use Rattle.scl_text.specs.JudgedWords.{judged_cut}

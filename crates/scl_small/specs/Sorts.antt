@@ -2,7 +2,7 @@
 use Rattle.std.specs.Prelude.{◌≡◌, Bool, false}
 use Rattle.scl_args.specs.declared.sort.Sort.{Sort}
 use Rattle.scl_args.specs.declared.sort.Sort.TheVariants as sort
-use Rattle.scl_args.specs.Seen.{Seen, Raw, Unknown, Known}
+use Rattle.scl_values.specs.Seen.{Seen, Raw, Unknown, Known}
 use Rattle.scl_args.specs.Sorts.{sort_of}
 use Rattle.scl_small.specs.contracts.place.PlacePartialEq.TheImpl.{ghosts}
 use Rattle.scl_small.specs.declared.place.Place.{Place}

@@ -1,6 +1,6 @@
 ghost use Rattle.std.specs.Prelude.{◌≡◌};
 ghost use Rattle.std.specs.Option.{option_map};
-ghost use Rattle.scl_args.specs.Seen.{seen};
+ghost use Rattle.scl_values.specs.Seen.{seen};
 ghost use Rattle.scl_text.specs.Refusals.{verdict_of};
 ghost use Rattle.scl_small.specs.Places.{place_of, refused_at};
 ghost use Rattle.scl_small.specs.Sorts.{place_of_sort, sort_goes_to};

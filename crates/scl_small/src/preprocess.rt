@@ -1,6 +1,6 @@
 //! The words of the runs of the preprocessor.
 ghost use Rattle.std.specs.Prelude.{◌≡◌, ◌++◌, IfOk, OnOk};
-ghost use Rattle.scl_args.specs.Words.{words_of};
+ghost use Rattle.scl_values.specs.Words.{words_of};
 ghost use Rattle.scl_text.specs.Records.{parsed_of};
 ghost use Rattle.scl_text.specs.Runs.{runs_of};
 ghost use Rattle.scl_small.specs.Command.{diab_words, diab_passes, input_words, depfile_passes, tasking_passes};

@@ -1,6 +1,6 @@
 ghost use Rattle.std.specs.Prelude.{◌≡◌, List, IfOk, Option, Result, map};
 ghost use Rattle.std.specs.Option.{option_map};
-ghost use Rattle.scl_args.specs.Seen.{Seen, seen};
+ghost use Rattle.scl_values.specs.Seen.{Seen, seen};
 ghost use Rattle.scl_text.specs.Records.{Parsed, Verdict, outcome_of};
 ghost use Rattle.scl_text.specs.Refusals.{verdict_of};
 

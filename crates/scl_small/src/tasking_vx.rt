@@ -1,9 +1,9 @@
 //! TaskingVX.
 ghost use Rattle.std.specs.Prelude.{◌≡◌, ◌↔◌, Err, IfOk, IsTrue, None};
-ghost use Rattle.scl_args.specs.Tables.{owner_in, tables_hold_values};
+ghost use Rattle.scl_values.specs.Tables.{owner_in, tables_hold_values};
 ghost use Rattle.scl_text.specs.Commands.{pairs_of, object_of};
 ghost use Rattle.scl_text.specs.Compilers.{IsAnswer};
-ghost use Rattle.scl_args.specs.Words.{words_of};
+ghost use Rattle.scl_values.specs.Words.{words_of};
 ghost use Rattle.scl_text.specs.Records.{outcome_of, parsed_of};
 ghost use Rattle.scl_small.specs.Command.{command};
 ghost use Rattle.scl_small.specs.TaskingValues.{holds_value};

@@ -1,6 +1,6 @@
 //! Calls of the modules of Diab and TaskingVX.
 ghost use Rattle.std.specs.Prelude.{◌∷◌, [], IsTrue};
-ghost use Rattle.scl_args.specs.Tables.{tables_hold_values};
+ghost use Rattle.scl_values.specs.Tables.{tables_hold_values};
 ghost use Rattle.scl_small.specs.DiabValues.{holds_value};
 ghost use Rattle.scl_small.specs.TaskingValues as tasking;
 

@@ -1,8 +1,8 @@
 //! The public rows of each compiler are those of its table.
 ghost use Rattle.std.specs.Prelude.{◌≡◌, codes};
-ghost use Rattle.scl_gnu.specs.ClangRows.{clang_rows};
-ghost use Rattle.scl_gnu.specs.GccRows.{gcc_rows};
-ghost use Rattle.scl_msvc.specs.Rows.{msvc_rows};
+ghost use Rattle.scl_gnu_reading.specs.ClangRows.{clang_rows};
+ghost use Rattle.scl_gnu_reading.specs.GccRows.{gcc_rows};
+ghost use Rattle.scl_msvc_reading.specs.Rows.{msvc_rows};
 ghost use Rattle.scl_small.specs.DiabTable.{rows as diab_rows};
 ghost use Rattle.scl_small.specs.TaskingTable.{rows as tasking_rows};
 
@@ -11,14 +11,14 @@ use scl_gnu::{clang, gcc};
 use scl_msvc::msvc;
 use scl_small::{diab, tasking_vx};
 
-#[tactic(auto, unfolding(scl_gnu::specs::GccRows::gcc_rows))]
+#[tactic(auto, unfolding(scl_gnu_reading::specs::GccRows::gcc_rows))]
 fn gcc_args() -> FlagTable<'static, gcc::ArgData>
     ensures { result ≡ gcc_rows }
 {
     FlagTable::new(&gcc::ARGS).unwrap()
 }
 
-#[tactic(auto, unfolding(scl_gnu::specs::ClangRows::clang_rows))]
+#[tactic(auto, unfolding(scl_gnu_reading::specs::ClangRows::clang_rows))]
 fn clang_args() -> FlagTable<'static, gcc::ArgData>
     ensures { result ≡ clang_rows }
 {

@@ -1,7 +1,7 @@
 use Rattle.std.proofs.Common.{◌≡◌, ℕ, List, Option, None, Some, Result, Ok, Err, refl, subst, sym}
 use Rattle.std.specs.Option.{option_map}
 use Rattle.std.specs.Prelude.{IfOk, IfSome}
-use Rattle.scl_args.specs.Words.{words_of}
+use Rattle.scl_values.specs.Words.{words_of}
 use Rattle.scl_text.specs.Commands.{command_by, object_of}
 use Rattle.scl_text.specs.Compilers.{IsAnswer, IfCommand}
 use Rattle.scl_text.specs.Records.{Parsed, Verdict, outcome_of}
@@ -9,7 +9,7 @@ use Rattle.scl_text.specs.declared.records.CompilerArguments.{CompilerArguments}
 use Rattle.scl_text.specs.declared.records.Cacheable.{Cacheable}
 use Rattle.scl_text.specs.declared.records.ParsedArguments.{ParsedArguments}
 use Rattle.scl_text.specs.declared.records.SingleCompileCommand.{SingleCompileCommand}
-use Rattle.scl_text.specs.Views.{Viewed}
+use Rattle.scl_files.specs.Views.{Viewed}
 
 -- what is kept by the command of a reading is kept by that of an answer with this outcome
 pub parsed-kept : {E : Type 0} (command : Parsed → Option (List (List ℕ))) (promise : Parsed → List (List ℕ) → Type 0) (said : Result Parsed Verdict) → IfCommand command promise said →

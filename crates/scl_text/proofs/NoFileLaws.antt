@@ -2,9 +2,9 @@
 use Rattle.std.proofs.Common.{◌≡◌, ℕ, ◌==◌, true, false, List, [], ◌∷◌, ◌++◌, length, take, zero, suc, Option, None, Some, refl, subst, if◌then◌else◌}
 use Rattle.std.specs.List.{slice_split, onto_first, before_last}
 use Rattle.std.specs.Str.{bytes_eq}
-use Rattle.scl_args.specs.Each.{Each}
+use Rattle.scl_values.specs.Each.{Each}
 use Rattle.scl_args.specs.Options.{begins_with_at}
-use Rattle.scl_text.specs.Paths.{is_slash, is_dot, is_name, Place, placed, places, places_after, last_place, unless_parent, file_place, stem_of_name, extended_at, with_extension}
+use Rattle.scl_files.specs.Paths.{is_slash, is_dot, is_name, Place, placed, places, places_after, last_place, unless_parent, file_place, stem_of_name, extended_at, with_extension}
 
 abbrev No : List ℕ → Type 0
 No w = begins_with_at w ≡ false

@@ -4,7 +4,7 @@ use Rattle.std.specs.Option.{option_map}
 use Rattle.std.specs.declared.alloc.Global.{Global}
 use Rattle.scl_text.specs.Outputs.{path_at}
 use Rattle.scl_text.specs.Records.{Parsed}
-use Rattle.scl_args.specs.Words.{words_of}
+use Rattle.scl_values.specs.Words.{words_of}
 use Rattle.scl_text.specs.declared.records.SingleCompileCommand.{SingleCompileCommand}
 
 -- the environment's pairs of a key and a value

@@ -1,6 +1,6 @@
 -- What the methods of a compiler answer, as its own definitions say.
 use Rattle.std.specs.Prelude.{◌≡◌, ℕ, List, Option, Some, IfSome, Result, Ok, Err}
-use Rattle.scl_args.specs.Words.{words_of}
+use Rattle.scl_values.specs.Words.{words_of}
 use Rattle.scl_text.specs.Commands.{Builds}
 use Rattle.scl_text.specs.Records.{Parsed, Verdict}
 use Rattle.scl_text.specs.declared.records.SingleCompileCommand.{SingleCompileCommand}

@@ -1,14 +1,14 @@
 -- The options of words, judged: those of a command line, and those of an inner one.
 use Rattle.std.specs.Prelude.{ℕ, Bool, List, map, Option, Result}
-use Rattle.scl_args.specs.Cuts.{is_dangling, cut}
+use Rattle.scl_values.specs.Cuts.{is_dangling, cut}
 use Rattle.scl_args.specs.Empties.{refusing_empty}
 use Rattle.scl_args.specs.Options.{judged}
-use Rattle.scl_args.specs.Row.{Row}
-use Rattle.scl_args.specs.Seen.{Seen, shown}
-use Rattle.scl_args.specs.Tables.{owner_in}
-use Rattle.scl_text.specs.declared.expand.ExpansionKind.{ExpansionKind}
-use Rattle.scl_text.specs.Expand.{expand}
-use Rattle.scl_text.specs.Views.{Viewed}
+use Rattle.scl_values.specs.Row.{Row}
+use Rattle.scl_values.specs.Seen.{Seen, shown}
+use Rattle.scl_values.specs.Tables.{owner_in}
+use Rattle.scl_files.specs.declared.expand.ExpansionKind.{ExpansionKind}
+use Rattle.scl_files.specs.Expand.{expand}
+use Rattle.scl_files.specs.Views.{Viewed}
 
 -- the options that words are cut into, where `own` gives a word's owner: where none has an empty value that its row takes either way, none is refused and the last flag has its value
 abbrev pub judged_cut : {K V : Type 0} → V → (List (Seen K) → Seen K → Option V) → V → (List ℕ → Option (Row K)) → Bool → List (List ℕ) → Result (List (Seen K)) V

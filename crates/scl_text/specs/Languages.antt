@@ -6,7 +6,7 @@ use Rattle.std.specs.Str.{bytes_eq}
 use Rattle.std.specs.Option.{option_and_then}
 use Rattle.scl_text.specs.declared.language.Language.{Language}
 use Rattle.scl_text.specs.declared.language.Language.TheVariants as languages
-use Rattle.scl_text.specs.Paths.{extension}
+use Rattle.scl_files.specs.Paths.{extension}
 
 -- a text and the language that it names
 pub record Named : Type 0 where

@@ -11,7 +11,7 @@ use Rattle.scl_text.specs.declared.records.ArtifactDescriptor.{ArtifactDescripto
 use Rattle.scl_text.specs.declared.records.ParsedArguments.{ParsedArguments}
 use Rattle.scl_text.specs.declared.records.CompilerArguments.{CompilerArguments}
 use Rattle.scl_text.specs.declared.records.CompilerArguments.TheVariants as answers
-use Rattle.scl_args.specs.Words.{words_of}
+use Rattle.scl_values.specs.Words.{words_of}
 
 -- an output: its name, its path, and whether it may be missing
 pub record Artifact : Type 0 where

@@ -1,7 +1,7 @@
 -- The runs of a preprocessor, as their words.
 use Rattle.std.specs.Prelude.{ℕ, List, map, Vec}
 use Rattle.std.specs.declared.alloc.Global.{Global}
-use Rattle.scl_args.specs.Words.{words_of}
+use Rattle.scl_values.specs.Words.{words_of}
 
 -- the words of each run
 abbrev pub runs_of : List (Vec (Vec ℕ Global) Global) → List (List (List ℕ))

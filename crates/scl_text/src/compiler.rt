@@ -3,7 +3,7 @@ use crate::records::{
     CCompilerKind, Cacheable, CommandError, CompilerArguments, ParsedArguments,
     SingleCompileCommand,
 };
-use crate::view::View;
+use scl_files::view::View;
 use scl_args::Mem;
 use std::alloc::Global;
 
@@ -15,8 +15,8 @@ pub trait CCompilerImpl {
     ghost use Rattle.std.specs.Prelude.{◌≡◌, ◌↔◌, ℕ, Bool, List, Option, None, Result, Ok, IfOk};
     ghost use Rattle.std.specs.Option.{option_map};
     ghost use Rattle.std.specs.String.{string_bytes};
-    ghost use Rattle.scl_args.specs.Words.{words_of};
-    ghost use Rattle.scl_text.specs.Views.{Viewed};
+    ghost use Rattle.scl_values.specs.Words.{words_of};
+    ghost use Rattle.scl_files.specs.Views.{Viewed};
     ghost use Rattle.scl_text.specs.Commands.{pairs_of, object_of, command_by};
     ghost use Rattle.scl_text.specs.Compilers.{IsAnswer, IfCommand};
     ghost use Rattle.scl_text.specs.Records.{Parsed, Verdict, parsed_of, outcome_of};

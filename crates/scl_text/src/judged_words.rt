@@ -2,13 +2,13 @@
 ghost use Rattle.std.specs.Prelude.{◌≡◌, IfOk, IsTrue, map};
 ghost use Rattle.scl_args.specs.Empties.{refusing_empty};
 ghost use Rattle.scl_args.specs.Options.{judged, result_by};
-ghost use Rattle.scl_args.specs.Seen.{seen};
-ghost use Rattle.scl_args.specs.Tables.{owner_in, tables_hold_values};
-ghost use Rattle.scl_args.specs.Words.{words_of};
+ghost use Rattle.scl_values.specs.Seen.{seen};
+ghost use Rattle.scl_values.specs.Tables.{owner_in, tables_hold_values};
+ghost use Rattle.scl_values.specs.Words.{words_of};
 ghost use Rattle.scl_text.specs.JudgedWords.{judged_cut, judged_words};
 
-use crate::expand::{ExpansionKind, expand_all};
-use crate::view::View;
+use scl_files::expand::{ExpansionKind, expand_all};
+use scl_files::view::View;
 use scl_args::{
     CutWords, ExactArg, Judge, Mem, Options, ReadArg, SearchableArgInfo, cut_options, judge_all,
 };

@@ -3,7 +3,7 @@ ghost use Rattle.std.specs.Prelude.{◌≡◌};
 ghost use Rattle.std.specs.Option.{option_copied};
 ghost use Rattle.scl_text.specs.Languages.{clang_text, gcc_text, language_of_file_name, language_of_gcc_text, language_named, rows_of, needs_c_preprocessing};
 
-use crate::path::extension;
+use scl_files::path::extension;
 
 /// A language of source files (docs/RULES.md, Languages).
 #[derive(Debug, Clone, Copy, PartialEq, Eq)]

@@ -2,10 +2,10 @@
 ghost use Rattle.std.specs.Prelude.{◌≡◌, IfOk, OnOk, OnErr};
 ghost use Rattle.std.specs.Option.{option_copied};
 ghost use Rattle.scl_text.specs.Outputs.{only_if, path_at, put_optional, put_output};
-ghost use Rattle.scl_text.specs.Paths.{with_extension};
+ghost use Rattle.scl_files.specs.Paths.{with_extension};
 ghost use Rattle.scl_text.specs.Records.{artifact, artifacts, path_of};
 
-use crate::path::with_extension;
+use scl_files::path::with_extension;
 use crate::records::ArtifactDescriptor;
 use scl_args::Mem;
 use std::alloc::Global;

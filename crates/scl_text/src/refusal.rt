@@ -3,7 +3,7 @@ ghost use Rattle.std.specs.Prelude.{◌≡◌, Err, IfOk, MatchResult, Ok};
 ghost use Rattle.scl_text.specs.Reasons.{argument_parse};
 ghost use Rattle.scl_text.specs.Records.{outcome_of};
 ghost use Rattle.scl_text.specs.Refusals.{verdict_of, answer_of, the_input};
-ghost use Rattle.scl_args.specs.Words.{words_of};
+ghost use Rattle.scl_values.specs.Words.{words_of};
 
 use crate::reasons::{ARGUMENT_PARSE, MULTIPLE_INPUT_FILES, NO_INPUT_FILE};
 use crate::records::{CompilerArguments, ParsedArguments};

@@ -1,6 +1,6 @@
 //! What words are cut into.
 ghost use Rattle.std.specs.Prelude.{IfSome, IsTrue};
-ghost use Rattle.scl_args.specs.Tables.{rows_hold_values};
+ghost use Rattle.scl_values.specs.Tables.{rows_hold_values};
 
 use super::values::{Kind, Told, Value, are_told, table_of, words_of};
 use scl_args::ArgDisposition::{CanBeConcatenated, CanBeSeparated, Concatenated, Separated};

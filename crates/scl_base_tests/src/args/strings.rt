@@ -1,7 +1,7 @@
 ghost use Rattle.std.specs.Prelude.{◌≡◌, true, IfOk};
-ghost use Rattle.scl_args.specs.Row.{shape_of};
-ghost use Rattle.scl_args.specs.Tables.{has_ascii_delimiter};
-ghost use Rattle.scl_args.specs.Texts.{is_delimited_by_ascii};
+ghost use Rattle.scl_values.specs.Row.{shape_of};
+ghost use Rattle.scl_values.specs.Tables.{has_ascii_delimiter};
+ghost use Rattle.scl_values.specs.Texts.{is_delimited_by_ascii};
 
 use super::cutting::SHAPES;
 use super::values::{table_of, words_of};

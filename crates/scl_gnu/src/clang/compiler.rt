@@ -6,7 +6,7 @@ ghost use Rattle.scl_text.specs.Languages.{clang_text};
 ghost use Rattle.scl_gnu.specs.Versions.{is_minversion};
 
 use super::preprocess::clang_passes;
-use super::tables::BothTrees;
+use scl_gnu_reading::clang::BothTrees;
 use super::version::names_at_least;
 use crate::copied::copied_text;
 use crate::gcc;
@@ -74,10 +74,10 @@ impl CCompilerImpl for Clang {
     ghost use Rattle.scl_text.specs.declared.records.Cacheable.TheVariants as cacheables;
     ghost use Rattle.scl_text.specs.Languages.{clang_text};
     ghost use Rattle.scl_gnu.specs.Building.{command_words};
-    ghost use Rattle.scl_gnu.specs.ClangRows.{clang_tables};
+    ghost use Rattle.scl_gnu_reading.specs.ClangRows.{clang_tables};
     ghost use Rattle.scl_gnu.specs.Preprocess.{clang_passes};
     ghost use Rattle.scl_gnu.specs.ReadAgain.{ClangReadsAgain};
-    ghost use Rattle.scl_gnu.specs.Readings.{reading};
+    ghost use Rattle.scl_gnu_reading.specs.Readings.{reading};
 
     ghost kind_of = { λ _. compilers.Clang };
 

@@ -5,7 +5,7 @@ ghost use Rattle.scl_text.specs.Commands.{pairs_of, object_of};
 ghost use Rattle.scl_text.specs.Compilers.{IsAnswer};
 ghost use Rattle.scl_text.specs.Languages.{gcc_text};
 ghost use Rattle.scl_text.specs.Records.{parsed_of};
-ghost use Rattle.scl_args.specs.Words.{words_of};
+ghost use Rattle.scl_values.specs.Words.{words_of};
 ghost use Rattle.scl_gnu.specs.Building.{front_words, color_words, back_words, command};
 
 use super::words::{Lists, push_input, push_language, push_lists};

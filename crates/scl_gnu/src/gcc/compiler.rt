@@ -1,9 +1,9 @@
 //! Gcc.
 ghost use Rattle.std.specs.Prelude.{◌≡◌, None};
 
-use super::args::table;
+use scl_gnu_reading::gcc::table;
 use super::command::{generate_compile_commands, language_to_gcc_arg};
-use super::parse::parse_arguments;
+use scl_gnu_reading::gcc::parse_arguments;
 use super::preprocess::gcc_passes;
 use crate::copied::copied_text;
 use scl_args::{FlagTree, Mem};
@@ -46,10 +46,10 @@ impl CCompilerImpl for Gcc {
     ghost use Rattle.scl_text.specs.declared.records.Cacheable.TheVariants as cacheables;
     ghost use Rattle.scl_text.specs.Languages.{gcc_text};
     ghost use Rattle.scl_gnu.specs.Building.{command_words};
-    ghost use Rattle.scl_gnu.specs.GccRows.{gcc_rows};
+    ghost use Rattle.scl_gnu_reading.specs.GccRows.{gcc_rows};
     ghost use Rattle.scl_gnu.specs.Preprocess.{gcc_passes};
     ghost use Rattle.scl_gnu.specs.ReadAgain.{GccReadsAgain};
-    ghost use Rattle.scl_gnu.specs.Readings.{reading};
+    ghost use Rattle.scl_gnu_reading.specs.Readings.{reading};
 
     ghost kind_of = { λ _. compilers.Gcc };
 

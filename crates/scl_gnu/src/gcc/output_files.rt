@@ -1,7 +1,7 @@
 //! Words that make the preprocessor write a file.
 ghost use Rattle.std.specs.Prelude.{◌≡◌, IfOk, drop};
 ghost use Rattle.std.specs.Str.{is_utf8};
-ghost use Rattle.scl_args.specs.Words.{words_of};
+ghost use Rattle.scl_values.specs.Words.{words_of};
 ghost use Rattle.scl_gnu.specs.OutputFiles.{asks_for_rules, is_diagnostics, is_front, some_asks, has_value, hands_on_rules, value_words, flag_words, file_words, without_output_files};
 
 use scl_args::Mem;

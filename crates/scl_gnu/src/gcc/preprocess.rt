@@ -1,13 +1,13 @@
 //! The words of the runs of the preprocessor.
 ghost use Rattle.std.specs.Prelude.{◌≡◌, ◌++◌, ◌∷◌, [], IfOk, OnOk};
 ghost use Rattle.std.specs.Option.{option_copied, option_map};
-ghost use Rattle.scl_args.specs.Words.{words_of};
+ghost use Rattle.scl_values.specs.Words.{words_of};
 ghost use Rattle.scl_text.specs.Records.{parsed_of};
 ghost use Rattle.scl_text.specs.Runs.{runs_of};
 ghost use Rattle.scl_gnu.specs.ListsOf.{lists_of};
 ghost use Rattle.scl_gnu.specs.Preprocess.{ignoring, rewriting, settings, words_with, run_words, with_archs, without_files, arch_words, arch_run, arch_runs, preprocess_passes, line_flags, gcc_passes};
 
-use super::args::ARCH_FLAG;
+use scl_gnu_reading::gcc::ARCH_FLAG;
 use super::command::language_to_gcc_arg;
 use super::output_files::without_output_files;
 use super::words::{Lists, push_input, push_language, push_lists};

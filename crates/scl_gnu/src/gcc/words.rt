@@ -1,7 +1,7 @@
 //! What compile commands and runs of the preprocessor share: the language, the lists in their order, the input.
 ghost use Rattle.std.specs.Prelude.{◌≡◌, ◌++◌, OnOk};
 ghost use Rattle.std.specs.Option.{option_copied};
-ghost use Rattle.scl_args.specs.Words.{words_of};
+ghost use Rattle.scl_values.specs.Words.{words_of};
 ghost use Rattle.scl_text.specs.Records.{parsed_of};
 ghost use Rattle.scl_gnu.specs.Building.{language_words, list_words, dash_words, input_words};
 ghost use Rattle.scl_gnu.specs.ListsOf.{lists_of};

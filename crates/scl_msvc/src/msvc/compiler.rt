@@ -1,13 +1,13 @@
 //! Msvc.
 ghost use Rattle.std.specs.Prelude.{◌≡◌, IfOk, None};
-ghost use Rattle.scl_args.specs.Words.{words_of};
+ghost use Rattle.scl_values.specs.Words.{words_of};
 ghost use Rattle.scl_text.specs.Commands.{pairs_of};
 ghost use Rattle.scl_text.specs.Records.{outcome_of};
-ghost use Rattle.scl_msvc.specs.Readings.{reading_within};
+ghost use Rattle.scl_msvc_reading.specs.Readings.{reading_within};
 
 use super::command::generate_compile_commands;
 use super::environment::{gives_words, surrounded};
-use super::parse::parse_arguments;
+use scl_msvc_reading::msvc::parse_arguments;
 use super::preprocess::passes;
 use scl_args::Mem;
 use scl_text::CCompilerImpl;
@@ -68,10 +68,10 @@ impl CCompilerImpl for Msvc {
     ghost use Rattle.std.specs.String.{string_bytes};
     ghost use Rattle.scl_text.specs.declared.records.CCompilerKind.TheVariants as compilers;
     ghost use Rattle.scl_msvc.specs.Building.{command_words, cacheable};
-    ghost use Rattle.scl_msvc.specs.Environment.{without_cl_env_vars};
+    ghost use Rattle.scl_msvc_reading.specs.Environment.{without_cl_env_vars};
     ghost use Rattle.scl_msvc.specs.Preprocess.{passes};
     ghost use Rattle.scl_msvc.specs.Promises.{MsvcReadsAgain};
-    ghost use Rattle.scl_msvc.specs.Readings.{reading_within};
+    ghost use Rattle.scl_msvc_reading.specs.Readings.{reading_within};
 
     ghost kind_of = { λ _. compilers.Msvc };
 

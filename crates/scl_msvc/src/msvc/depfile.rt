@@ -4,8 +4,8 @@ ghost use Rattle.std.specs.Cmp.Lexicographic.{slice_cmp};
 ghost use Rattle.std.specs.List.Sorted.{IsStrictlySortedBy};
 ghost use Rattle.std.specs.Option.{option_copied};
 ghost use Rattle.std.specs.Ordering.{nat_cmp};
-ghost use Rattle.scl_args.specs.Words.{words_of};
-ghost use Rattle.scl_args.specs.Writes.{WriteEnds};
+ghost use Rattle.scl_values.specs.Words.{words_of};
+ghost use Rattle.scl_devices.specs.Writes.{WriteEnds};
 ghost use Rattle.scl_text.specs.Records.{parsed_of};
 ghost use Rattle.scl_msvc.specs.Depfile.{name_in, names, ended_by, kept_text, AreInOrder, HasWords, rules, IsDepfile, depfile_object, IsDepfileAnswer};
 

@@ -2,11 +2,11 @@
 ghost use Rattle.std.specs.Prelude.{◌≡◌, ◌∷◌, ◌++◌, [], IfOk, OnOk, codes};
 ghost use Rattle.std.specs.Option.{option_copied, option_map};
 ghost use Rattle.scl_args.specs.Options.{result_by};
-ghost use Rattle.scl_args.specs.Words.{words_of};
+ghost use Rattle.scl_values.specs.Words.{words_of};
 ghost use Rattle.scl_text.specs.Commands.{pairs_of};
 ghost use Rattle.scl_text.specs.Records.{CannotCache};
 ghost use Rattle.scl_text.specs.Refusals.{verdict_of};
-ghost use Rattle.scl_msvc.specs.Environment.{is_variable, without_cl_env_vars, value_of, gives_words, with_equals, words_in, variable_words, surrounded};
+ghost use Rattle.scl_msvc_reading.specs.Environment.{is_variable, without_cl_env_vars, value_of, gives_words, with_equals, words_in, variable_words, surrounded};
 
 use scl_args::Mem;
 use scl_text::command::push_words;

@@ -1,6 +1,6 @@
 //! The words of the one run of Msvc's preprocessor.
 ghost use Rattle.std.specs.Prelude.{◌≡◌, ◌++◌, IfOk, OnOk};
-ghost use Rattle.scl_args.specs.Words.{words_of};
+ghost use Rattle.scl_values.specs.Words.{words_of};
 ghost use Rattle.scl_text.specs.Records.{parsed_of};
 ghost use Rattle.scl_text.specs.Runs.{runs_of};
 ghost use Rattle.scl_msvc.specs.Preprocess.{first_word, shown_includes, written_includes, include_words, rewriting, preprocess_words, passes};

@@ -1,16 +1,16 @@
 //! Whether a command line has at most so many words.
 ghost use Rattle.std.specs.Prelude.{◌≡◌, ◌∷◌, [], IfOk, map};
-ghost use Rattle.scl_args.specs.Seen.{seen};
-ghost use Rattle.scl_args.specs.Words.{words_of};
+ghost use Rattle.scl_values.specs.Seen.{seen};
+ghost use Rattle.scl_values.specs.Words.{words_of};
 ghost use Rattle.scl_text.specs.Commands.{pairs_of};
-ghost use Rattle.scl_text.specs.Expand.{expand};
-ghost use Rattle.scl_text.specs.Within.{is_within, are_within};
-ghost use Rattle.scl_msvc.specs.Data.{kind_of, word_of};
+ghost use Rattle.scl_files.specs.Expand.{expand};
+ghost use Rattle.scl_files.specs.Within.{is_within, are_within};
+ghost use Rattle.scl_msvc_reading.specs.Data.{kind_of, word_of};
 ghost use Rattle.scl_msvc.specs.Within.{options_of, inner_line, inner_lines, lines_of, lines};
 
-use super::data::{ArgData, Kind};
+use scl_msvc_reading::msvc::{ArgData, Kind};
 use super::environment::surrounded;
-use super::tables::BothTables;
+use scl_msvc_reading::msvc::BothTables;
 use scl_args::{Argument, Mem, OfKinds, cut_options, texts};
 use scl_text::view::View;
 use scl_text::{ExpansionKind, TooManyWords, expand_at_most};

@@ -1,6 +1,6 @@
 //! What compile commands and runs of the preprocessor share: the lists in their order, and the input.
 ghost use Rattle.std.specs.Prelude.{◌≡◌, ◌++◌, IfOk, OnOk};
-ghost use Rattle.scl_args.specs.Words.{words_of};
+ghost use Rattle.scl_values.specs.Words.{words_of};
 ghost use Rattle.scl_text.specs.Records.{parsed_of};
 ghost use Rattle.scl_msvc.specs.Building.{lists_with, dash_words, language_flag, input_word, input_words};
 

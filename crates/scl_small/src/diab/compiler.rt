@@ -30,7 +30,7 @@ impl CCompilerImpl for Diab {
     ghost use Rattle.std.specs.Prelude.{false, None, [], ◌∷◌};
     ghost use Rattle.std.specs.Option.{option_map};
     ghost use Rattle.std.specs.String.{string_bytes};
-    ghost use Rattle.scl_args.specs.Tables.{owner_in};
+    ghost use Rattle.scl_values.specs.Tables.{owner_in};
     ghost use Rattle.scl_small.specs.DiabAgain.{DiabReadsAgain};
     ghost use Rattle.scl_small.specs.DiabTable.{rows};
     ghost use Rattle.scl_small.specs.DiabReading.{expanded_reading};

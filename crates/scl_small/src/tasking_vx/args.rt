@@ -1,8 +1,8 @@
 ghost use Rattle.std.specs.Prelude.{◌≡◌, ◌∷◌, [], IsTrue};
 ghost use Rattle.std.specs.Option.{option_map};
-ghost use Rattle.scl_args.specs.Seen.{seen};
+ghost use Rattle.scl_values.specs.Seen.{seen};
 ghost use Rattle.scl_text.specs.Refusals.{verdict_of};
-ghost use Rattle.scl_args.specs.Tables.{tables_hold_values};
+ghost use Rattle.scl_values.specs.Tables.{tables_hold_values};
 ghost use Rattle.scl_small.specs.TaskingValues.{holds_value};
 ghost use Rattle.scl_small.specs.TaskingTable.{rows};
 
@@ -100,7 +100,7 @@ impl IntoArg for ArgData {
 }
 
 impl ArgumentValue for ArgData {
-    ghost use Rattle.scl_args.specs.Values.{MakesOf};
+    ghost use Rattle.scl_values.specs.Values.{MakesOf};
     ghost use Rattle.scl_small.specs.TaskingValues.{word_of, kind_of, holds_value};
 
     type Kind = Kind;
@@ -129,7 +129,7 @@ impl ArgumentValue for ArgData {
 
 impl ExactArg for ArgData {
     ghost use Rattle.scl_small.specs.TaskingValues.{word_of, kind_of, holds_value};
-    ghost use Rattle.scl_args.specs.Values.{exact, keeps};
+    ghost use Rattle.scl_values.specs.Values.{exact, keeps};
 
     ghost exact = { exact kind_of word_of holds_value };
 

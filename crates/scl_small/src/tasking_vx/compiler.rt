@@ -15,7 +15,7 @@ pub struct TaskingVX;
 
 impl CCompilerImpl for TaskingVX {
     ghost use Rattle.std.specs.Prelude.{false, None, [], ◌∷◌};
-    ghost use Rattle.scl_args.specs.Tables.{owner_in};
+    ghost use Rattle.scl_values.specs.Tables.{owner_in};
     ghost use Rattle.scl_small.specs.TaskingAgain.{TaskingReadsAgain};
     ghost use Rattle.scl_small.specs.TaskingTable.{rows};
     ghost use Rattle.scl_small.specs.TaskingReading.{reading};

@@ -1,8 +1,8 @@
 //! Gcc's parser over tables of a caller's own.
 ghost use Rattle.std.specs.Prelude.{[], ◌∷◌, IsTrue, IfOk};
 ghost use Rattle.std.specs.List.{flat_map};
-ghost use Rattle.scl_args.specs.Tables.{tables_hold_values};
-ghost use Rattle.scl_gnu.specs.Data.{holds_value};
+ghost use Rattle.scl_values.specs.Tables.{tables_hold_values};
+ghost use Rattle.scl_gnu_reading.specs.Data.{holds_value};
 
 use crate::words::{cut, joined};
 use scl_args::ArgDisposition::Separated;
@@ -21,7 +21,7 @@ static CUDA: [ArgInfo<ArgData>; 2] = [
 ];
 
 /// The tables of Gcc and Clang, and a third where it is asked for.
-#[tactic(auto, unfolding(scl_gnu::specs::GccRows::gcc_rows, scl_gnu::specs::ClangRows::clang_rows))]
+#[tactic(auto, unfolding(scl_gnu_reading::specs::GccRows::gcc_rows, scl_gnu_reading::specs::ClangRows::clang_rows))]
 fn tables_with(alloc: Global, third: bool) -> Mem<Tables<FlagTable<'static, ArgData>>>
     ensures { IfOk result (λ tables. IsTrue (tables_hold_values holds_value (flat_map (λ table. table ∷ []) tables))) }
 {

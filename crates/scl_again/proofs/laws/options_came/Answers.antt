@@ -1,4 +1,4 @@
-use Rattle.scl_args.specs.Tables.{owner_in, all_rows}
+use Rattle.scl_values.specs.Tables.{owner_in, all_rows}
 use Rattle.scl_args.proofs.OwnerLaws.{owner_in-is}
 use Rattle.scl_again.proofs.OriginLaws.{cut_came}
 use Rattle.scl_again.proofs.laws.options_came.Goals as goal

@@ -1,5 +1,5 @@
 use Rattle.std.proofs.Common.{map, take}
-use Rattle.scl_args.specs.Seen.{seen}
+use Rattle.scl_values.specs.Seen.{seen}
 use Rattle.scl_args.specs.Sorts.{AreSortsOf}
 use Rattle.scl_args.proofs.finished.sorts_of.Given as goal
 

@@ -1,7 +1,7 @@
 use Rattle.std.proofs.Common.{◌≡◌, [], map, take, drop}
 use Rattle.scl_args.specs.Empties.{refusing_empty}
-use Rattle.scl_args.specs.Seen.{seen}
-use Rattle.scl_args.specs.Tables.{owner_in}
+use Rattle.scl_values.specs.Seen.{seen}
+use Rattle.scl_values.specs.Tables.{owner_in}
 use Rattle.scl_args.specs.Options.{first_verdict}
 use Rattle.scl_args.proofs.judge.first_refusal.Given as goal
 

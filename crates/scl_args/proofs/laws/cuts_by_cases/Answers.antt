@@ -1,7 +1,7 @@
 use Rattle.std.proofs.Common.{subst}
-use Rattle.scl_args.specs.Cuts.{Cutting}
-use Rattle.scl_args.specs.Relation.{CutsInto}
-use Rattle.scl_args.proofs.RelationLaws.{cuts, cuts_only}
+use Rattle.scl_values.specs.Cuts.{Cutting}
+use Rattle.scl_cutting.specs.Relation.{CutsInto}
+use Rattle.scl_cutting.proofs.RelationLaws.{cuts, cuts_only}
 use Rattle.scl_args.proofs.laws.cuts_by_cases.Goals as goal
 
 pub returns : goal.returns

@@ -1,4 +1,4 @@
-use Rattle.scl_args.proofs.PrintLemmas.{texts_are_words}
+use Rattle.scl_values.proofs.PrintLemmas.{texts_are_words}
 use Rattle.scl_args.proofs.laws.texts_are_words.Goals as goal
 
 pub returns : goal.returns

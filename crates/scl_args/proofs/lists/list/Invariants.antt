@@ -1,6 +1,6 @@
 use Rattle.std.proofs.Common.{◌≡◌, ◌++◌, map, drop}
-use Rattle.scl_args.specs.Seen.{seen}
-use Rattle.scl_args.specs.Words.{words_of}
+use Rattle.scl_values.specs.Seen.{seen}
+use Rattle.scl_values.specs.Words.{words_of}
 use Rattle.scl_args.specs.Options.{list}
 use Rattle.scl_args.proofs.lists.list.Given as goal
 

@@ -1,5 +1,5 @@
 use Rattle.std.proofs.Common.{◌≡◌, map, drop}
-use Rattle.scl_args.specs.Seen.{seen}
+use Rattle.scl_values.specs.Seen.{seen}
 use Rattle.scl_args.specs.Options.{is_behind_dashes}
 use Rattle.scl_args.proofs.options.is_behind_dashes.Given as goal
 

@@ -1,5 +1,5 @@
 use Rattle.std.proofs.Common.{◌≡◌, Some, IfSome, codes}
-use Rattle.scl_msvc.specs.Rows.{msvc_rows}
+use Rattle.scl_msvc_reading.specs.Rows.{msvc_rows}
 use Rattle.scl_tests.proofs.tables.msvc_slash_args.Goals as goal
 
 pub returns : goal.returns

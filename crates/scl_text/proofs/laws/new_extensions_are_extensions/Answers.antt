@@ -1,6 +1,6 @@
 use Rattle.std.proofs.Common.{refl}
-use Rattle.scl_text.specs.Paths.{file_place}
-use Rattle.scl_text.proofs.ExtensionLaws.{file_name-with_extension, extension-with_extension, stem-with_extension}
+use Rattle.scl_files.specs.Paths.{file_place}
+use Rattle.scl_files.proofs.ExtensionLaws.{file_name-with_extension, extension-with_extension, stem-with_extension}
 use Rattle.scl_text.proofs.laws.new_extensions_are_extensions.Goals as goal
 
 pub returns-clause-name : goal.returns-clause-name

@@ -1,7 +1,7 @@
 use Rattle.std.proofs.Common.{if◌then◌else◌}
 use Rattle.std.specs.Prelude.{is_some}
-use Rattle.scl_text.specs.Paths.{parent, file_place}
-use Rattle.scl_text.proofs.PathLaws.{file_name-join}
+use Rattle.scl_files.specs.Paths.{parent, file_place}
+use Rattle.scl_files.proofs.PathLaws.{file_name-join}
 use Rattle.scl_text.proofs.laws.new_names_are_file_names.Goals as goal
 
 pub returns-clause-joined : goal.returns-clause-joined

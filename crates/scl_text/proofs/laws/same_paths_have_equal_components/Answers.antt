@@ -1,6 +1,6 @@
 use Rattle.std.proofs.Common.{refl, sym, ◌∙◌}
-use Rattle.scl_text.specs.Paths.{components}
-use Rattle.scl_text.proofs.PathLaws.{same_components-Decides}
+use Rattle.scl_files.specs.Paths.{components}
+use Rattle.scl_files.proofs.PathLaws.{same_components-Decides}
 use Rattle.scl_text.proofs.laws.same_paths_have_equal_components.Goals as goal
 
 pub returns-clause-components : goal.returns-clause-components

@@ -1,6 +1,6 @@
 use Rattle.std.proofs.Common.{true, ◌∙◌, ap, sym, map}
 use Rattle.std.specs.List.{list_any}
-use Rattle.scl_args.specs.Seen.{seen}
+use Rattle.scl_values.specs.Seen.{seen}
 use Rattle.scl_args.proofs.SortLaws.{any-filter}
 use Rattle.scl_args.proofs.finished.Options.any.Goals as goal
 

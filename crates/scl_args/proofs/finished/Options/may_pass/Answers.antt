@@ -1,5 +1,5 @@
 use Rattle.std.proofs.Common.{◌∙◌, sym, map}
-use Rattle.scl_args.specs.Seen.{seen}
+use Rattle.scl_values.specs.Seen.{seen}
 use Rattle.scl_args.specs.Sorts.{sort_of}
 use Rattle.scl_args.proofs.SortLaws.{filter-none, none-of}
 use Rattle.scl_args.proofs.finished.Options.may_pass.Goals as goal

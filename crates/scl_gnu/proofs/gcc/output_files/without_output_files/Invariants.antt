@@ -1,5 +1,5 @@
 use Rattle.std.proofs.Common.{◌≡◌, ◌++◌, length}
-use Rattle.scl_args.specs.Words.{words_of}
+use Rattle.scl_values.specs.Words.{words_of}
 use Rattle.scl_gnu.specs.OutputFiles.{without_output_files}
 use Rattle.scl_gnu.proofs.gcc.output_files.without_output_files.Given as goal
 

@@ -1,6 +1,6 @@
 use Rattle.std.proofs.Common.{◌≡◌, ◌++◌, drop}
 use Rattle.std.specs.Option.{option_copied}
-use Rattle.scl_args.specs.Words.{words_of}
+use Rattle.scl_values.specs.Words.{words_of}
 use Rattle.scl_text.specs.Records.{parsed_of}
 use Rattle.scl_text.specs.Runs.{runs_of}
 use Rattle.scl_gnu.specs.Preprocess.{arch_runs}

@@ -1,5 +1,5 @@
 use Rattle.std.proofs.Common.{sym, ◌∙◌}
-use Rattle.scl_args.specs.Words.{words_of}
+use Rattle.scl_values.specs.Words.{words_of}
 use Rattle.scl_text.specs.Commands.{pairs_of}
 use Rattle.scl_msvc.proofs.EnvironmentLemmas.{surrounded_by_none}
 use Rattle.scl_msvc.proofs.msvc.compiler.parse_within.Goals as goal

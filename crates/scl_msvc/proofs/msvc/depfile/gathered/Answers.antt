@@ -2,7 +2,7 @@ use Rattle.std.proofs.Common.{◌≡◌, ◌++◌, ◌∷◌, [], true, false, s
 use Rattle.std.proofs.lemmas.Grind.{common_steps}
 use Rattle.std.specs.List.{list_any}
 use Rattle.std.specs.Str.{bytes_eq}
-use Rattle.scl_args.specs.Words.{words_of}
+use Rattle.scl_values.specs.Words.{words_of}
 use Rattle.scl_text.proofs.ArchLemmas.{new_words-nil, new_words-seen, new_words-unseen}
 use Rattle.scl_msvc.specs.Depfile.{HasWords}
 use Rattle.scl_msvc.proofs.DepfileLemmas.{has-none, has-unchanged, has-more, was-seen, was-unseen}

@@ -1,6 +1,6 @@
 use Rattle.std.proofs.Common.{◌≡◌, ◌++◌}
 use Rattle.std.specs.List.{filter_map}
-use Rattle.scl_args.specs.Words.{words_of}
+use Rattle.scl_values.specs.Words.{words_of}
 use Rattle.scl_text.proofs.ArchLemmas.{new_words}
 use Rattle.scl_msvc.specs.Depfile.{HasWords, name_in, names}
 use Rattle.scl_msvc.proofs.msvc.depfile.gathered.Given as goal

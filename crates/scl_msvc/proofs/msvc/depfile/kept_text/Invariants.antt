@@ -1,5 +1,5 @@
 use Rattle.std.proofs.Common.{◌≡◌, ◌∷◌, [], ◌++◌, filter}
-use Rattle.scl_text.specs.Characters.{line_feed}
+use Rattle.scl_files.specs.Characters.{line_feed}
 use Rattle.scl_msvc.specs.Depfile.{ended_by, is_kept, kept_text}
 use Rattle.scl_msvc.proofs.msvc.depfile.kept_text.Given as goal
 

@@ -1,5 +1,5 @@
 use Rattle.std.proofs.Common.{◌≡◌, ◌++◌, take}
-use Rattle.scl_args.specs.Words.{words_of}
+use Rattle.scl_values.specs.Words.{words_of}
 use Rattle.scl_msvc.specs.Depfile.{ended_by}
 use Rattle.scl_msvc.proofs.msvc.depfile.push_ended.Given as goal
 

@@ -1,5 +1,5 @@
 use Rattle.std.proofs.Common.{◌≡◌, ◌++◌, ◌∷◌, [], ℕ, List, append_assoc, ap, ◌∙◌}
-use Rattle.scl_args.specs.Words.{words_of}
+use Rattle.scl_values.specs.Words.{words_of}
 use Rattle.scl_msvc.proofs.msvc.preprocess.push_written.Goals as goal
 
 two : (made first second : List (List ℕ)) (a b : List ℕ) → first ≡ made ++ a ∷ [] → second ≡ first ++ b ∷ [] → second ≡ made ++ (a ∷ (b ∷ []))

@@ -1,9 +1,9 @@
 use Rattle.std.proofs.Common.{◌≡◌, IfOk, map, List, subst, ap, ◌∙◌}
-use Rattle.scl_args.specs.Seen.{Seen, seen}
-use Rattle.scl_args.specs.Words.{words_of}
-use Rattle.scl_text.specs.Within.{are_within}
-use Rattle.scl_msvc.specs.declared.msvc.data.Kind.{Kind}
-use Rattle.scl_msvc.specs.Data.{kind_of, word_of}
+use Rattle.scl_values.specs.Seen.{Seen, seen}
+use Rattle.scl_values.specs.Words.{words_of}
+use Rattle.scl_files.specs.Within.{are_within}
+use Rattle.scl_msvc_reading.specs.declared.msvc.data.Kind.{Kind}
+use Rattle.scl_msvc_reading.specs.Data.{kind_of, word_of}
 use Rattle.scl_msvc.specs.Within.{options_of, inner_lines}
 use Rattle.scl_msvc.proofs.msvc.within.are_handed_within.Goals as goal
 

@@ -1,5 +1,5 @@
 use Rattle.std.proofs.Common.{◌≡◌, ◌∷◌}
-use Rattle.scl_args.specs.Words.{words_of}
+use Rattle.scl_values.specs.Words.{words_of}
 use Rattle.scl_text.specs.Records.{archs, second_words, distinct_words}
 use Rattle.scl_text.proofs.records.ParsedArguments.is_multiarch.Given as goal
 

@@ -4,9 +4,9 @@ use Rattle.scl_text.specs.Commands.{command_by}
 use Rattle.scl_text.specs.Languages.{clang_text}
 use Rattle.scl_text.specs.declared.records.CCompilerKind.TheVariants as compilers
 use Rattle.scl_gnu.specs.Building.{command_words}
-use Rattle.scl_gnu.specs.ClangRows.{clang_tables}
+use Rattle.scl_gnu_reading.specs.ClangRows.{clang_tables}
 use Rattle.scl_gnu.specs.ReadAgain.{ClangReadsAgain}
-use Rattle.scl_gnu.specs.Readings.{reading}
+use Rattle.scl_gnu_reading.specs.Readings.{reading}
 use Rattle.scl_gnu.proofs.ClangAgainLaws.{command_kept}
 use Rattle.scl_gnu.proofs.clang.compiler.ClangCCompilerImpl.generate_compile_commands.Goals as goal
 

@@ -4,9 +4,9 @@ use Rattle.scl_text.specs.Commands.{command_by}
 use Rattle.scl_text.specs.Languages.{gcc_text}
 use Rattle.scl_text.specs.declared.records.CCompilerKind.TheVariants as compilers
 use Rattle.scl_gnu.specs.Building.{command_words}
-use Rattle.scl_gnu.specs.GccRows.{gcc_rows}
+use Rattle.scl_gnu_reading.specs.GccRows.{gcc_rows}
 use Rattle.scl_gnu.specs.ReadAgain.{GccReadsAgain}
-use Rattle.scl_gnu.specs.Readings.{reading}
+use Rattle.scl_gnu_reading.specs.Readings.{reading}
 use Rattle.scl_gnu.proofs.GccAgainLaws.{command_kept}
 use Rattle.scl_gnu.proofs.gcc.compiler.GccCCompilerImpl.generate_compile_commands.Goals as goal
 

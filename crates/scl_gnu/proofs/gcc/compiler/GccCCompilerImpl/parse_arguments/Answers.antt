@@ -5,7 +5,7 @@ use Rattle.scl_text.specs.Languages.{gcc_text}
 use Rattle.scl_gnu.specs.Building.{command_words}
 use Rattle.scl_gnu.specs.ReadAgain.{GccReadsAgain}
 use Rattle.scl_gnu.proofs.GccAgainLaws.{command_kept}
-use Rattle.scl_gnu.proofs.TableLaws.{gcc_rows_hold_values}
+use Rattle.scl_gnu_reading.proofs.TableLaws.{gcc_rows_hold_values}
 use Rattle.scl_gnu.proofs.gcc.compiler.GccCCompilerImpl.parse_arguments.Goals as goal
 
 pub parse_arguments-requires : goal.parse_arguments-requires

@@ -1,7 +1,7 @@
 use Rattle.scl_text.proofs.CompilerLaws.{built-kept}
 use Rattle.scl_msvc.specs.Building.{command}
 use Rattle.scl_msvc.specs.Promises.{MsvcReadsAgain}
-use Rattle.scl_msvc.specs.Readings.{reading_within}
+use Rattle.scl_msvc_reading.specs.Readings.{reading_within}
 use Rattle.scl_msvc.proofs.PromiseLaws.{command_kept}
 use Rattle.scl_msvc.proofs.msvc.compiler.MsvcCCompilerImpl.generate_compile_commands.Goals as goal
 

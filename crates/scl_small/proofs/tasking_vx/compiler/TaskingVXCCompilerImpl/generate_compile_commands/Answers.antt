@@ -1,5 +1,5 @@
 use Rattle.std.proofs.Common.{[], ◌∷◌}
-use Rattle.scl_args.specs.Tables.{owner_in}
+use Rattle.scl_values.specs.Tables.{owner_in}
 use Rattle.scl_text.proofs.CompilerLaws.{built-kept}
 use Rattle.scl_small.specs.Command.{command}
 use Rattle.scl_small.specs.TaskingAgain.{TaskingReadsAgain}

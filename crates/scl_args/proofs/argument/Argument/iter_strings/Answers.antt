@@ -1,5 +1,0 @@
-use Rattle.scl_args.proofs.PrintLemmas.{texts_few}
-use Rattle.scl_args.proofs.argument.Argument.iter_strings.Goals as goal
-
-pub returns-clause-few : goal.returns-clause-few
-returns-clause-few g c = texts_few _ _ _

@@ -1,8 +1,0 @@
-use Rattle.scl_args.specs.Tables.{owner_in}
-use Rattle.scl_args.specs.Iter.{cutter}
-use Rattle.scl_args.proofs.IterLemmas.{run_shown}
-use Rattle.scl_args.proofs.iter.ArgsIter.with_double_dashes.Goals as goal
-
-pub returns-clause-runs : goal.returns-clause-runs
-returns-clause-runs g c items d =
-    run_shown g.I.Iterator.next_gives g.T.ArgumentValue.make_gives (λ s. cutter s.arguments (owner_in (g.S.SearchableArgInfo.tables s.arg_info)) s.double_dashes s.only_raw s.ended) _ items d

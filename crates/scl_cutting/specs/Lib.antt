@@ -1,0 +1,5 @@
+pub mod Iter
+pub mod Places
+pub mod Relation
+pub mod Runs
+pub mod State

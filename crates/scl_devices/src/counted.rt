@@ -1,0 +1,91 @@
+//! A reader or writer that counts its calls that failed.
+ghost use Rattle.std.specs.Prelude.{◌≡◌, length};
+ghost use Rattle.std.specs.Io.{ReadsAtMost, WritesAtMost};
+ghost use Rattle.std.specs.Io.KnownBytes.{ReadConsumes, WriteAppends, Keeps};
+ghost use Rattle.scl_devices.specs.Counts.{read_failures, write_failures, one_more};
+
+use std::io;
+use std::io::{Read, Write};
+use std::marker::Model;
+
+/// A reader or writer, with the number of its calls of `read` or `write` that failed: docs/RULES.md, Devices.
+/// The number stays at its greatest value. A clause sees the device and the number.
+#[derive(Drop)]
+pub struct Counted<D> {
+    device: D,
+    failed: u64,
+}
+
+impl<D> Model for Counted<D> {
+    ghost use Rattle.scl_devices.specs.Counts.{Counting};
+
+    ghost Value = { Counting D };
+
+    ghost view = { λ c. record { device = c.device; failed = c.failed } };
+}
+
+impl<D> Counted<D> {
+    /// Holds a reader or writer, none of whose calls failed yet: docs/RULES.md, Devices.
+    pub fn new(device: D) -> Counted<D>
+        ensures device { result.device ≡ device }
+        ensures none { result.failed ≡ 0 }
+    {
+        Counted { device, failed: 0 }
+    }
+
+    /// How many calls of `read` or `write` failed: docs/RULES.md, Devices.
+    pub fn failures(&self) -> u64
+        ensures { result ≡ self.now.failed }
+    {
+        self.failed
+    }
+
+    fn count_failure(&mut self)
+        ensures { self.new ≡ record self.old { failed = one_more self.old.failed } }
+    {
+        self.failed = self.failed.saturating_add(1);
+    }
+}
+
+impl<D: Read> Read for Counted<D> {
+    ghost remaining = { λ c. D.remaining c.device };
+
+    fn read(&mut self, buf: &mut [u8]) -> io::Result<usize>
+        ensures bound { ReadsAtMost result buf.new }
+        ensures bytes { ReadConsumes (D.remaining self.old.device) (D.remaining self.new.device) result buf.new }
+        ensures failures { self.new.failed ≡ read_failures result self.old.failed }
+    {
+        let result = self.device.read(buf);
+        if result.is_err() {
+            self.count_failure();
+        }
+        result
+    }
+}
+
+impl<D: Write> Write for Counted<D> {
+    ghost contents = { λ c. D.contents c.device };
+
+    fn write(&mut self, buf: &[u8]) -> io::Result<usize>
+        ensures bound { WritesAtMost result buf.now }
+        ensures bytes { WriteAppends (D.contents self.old.device) (D.contents self.new.device) result buf.now }
+        ensures failures { self.new.failed ≡ write_failures result (length buf.now) self.old.failed }
+    {
+        let result = self.device.write(buf);
+        let has_failed = match &result {
+            Ok(taken) => *taken == 0 && !buf.is_empty(),
+            Err(_) => true,
+        };
+        if has_failed {
+            self.count_failure();
+        }
+        result
+    }
+
+    fn flush(&mut self) -> io::Result<()>
+        ensures bytes { Keeps (D.contents self.old.device) (D.contents self.new.device) }
+        ensures failures { self.new.failed ≡ self.old.failed }
+    {
+        self.device.flush()
+    }
+}

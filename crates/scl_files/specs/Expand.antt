@@ -1,0 +1,36 @@
+-- Words with response files put in place.
+use Rattle.std.specs.Prelude.{ℕ, zero, suc, List, [], ◌∷◌, length, Option, None, Some}
+use Rattle.std.specs.List.{flat_map}
+use Rattle.std.specs.Option.{option_and_then}
+use Rattle.scl_files.specs.Views.{File, bytes_at}
+use Rattle.scl_files.specs.ResponseFiles.{named, arguments, files_inside}
+use Rattle.scl_files.specs.declared.expand.ExpansionKind.{ExpansionKind}
+
+-- a file that is open, and its words that are left
+pub record Level : Type 0 where
+  pub path : List ℕ
+  pub words : List (List ℕ)
+
+abbrev pub level_at : List ℕ → Option (List (List ℕ)) → Option Level
+level_at path None = None
+level_at path (Some words) = Some (record { path = path; words = words })
+
+-- the file among these that the word names, if its text can be read
+unfoldable pub opened : ExpansionKind → List ℕ → List File → List ℕ → Option Level
+opened kind directory files word =
+    option_and_then (λ path. level_at path (option_and_then (arguments kind) (bytes_at path files))) (named kind directory word)
+
+-- the word, or what stands in the file that it names
+abbrev pub in_place : List ℕ → (Level → List (List ℕ)) → Option Level → List (List ℕ)
+in_place word words_in None = word ∷ []
+in_place word words_in (Some file) = words_in file
+
+-- the words, where n of the files are not open
+abbrev pub expand_within : ℕ → ExpansionKind → List ℕ → List File → List (List ℕ) → List (List ℕ)
+expand_within zero kind directory files words = words
+expand_within (suc n) kind directory files words =
+    flat_map (λ word. in_place word (λ file. expand_within n kind directory (files_inside kind file.path files) file.words) (opened kind directory files word)) words
+
+-- the words, where a word that names one of the files, of which none is open, gives the words of that file, with that file open
+unfoldable pub expand : ExpansionKind → List ℕ → List File → List (List ℕ) → List (List ℕ)
+expand kind directory files words = expand_within (length files) kind directory files words

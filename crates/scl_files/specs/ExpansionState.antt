@@ -1,0 +1,104 @@
+-- What is left of an expansion that has begun.
+use Rattle.std.specs.Prelude.{◌≡◌, ℕ, zero, suc, ◌+◌, ◌<◌, List, [], ◌∷◌, ◌++◌, length, Bool, true, false, cond, Option, None, Some, Vec}
+use Rattle.std.specs.declared.alloc.Global.{Global}
+use Rattle.std.specs.Vec.Iter.{into_iter_items}
+use Rattle.scl_files.specs.Views.{File}
+use Rattle.scl_values.specs.Words.{words_of}
+use Rattle.scl_files.specs.Paths.{same_path}
+use Rattle.scl_files.specs.ResponseFiles.{files_inside}
+use Rattle.scl_files.specs.Expand.{Level, opened, in_place, expand}
+use Rattle.scl_files.specs.declared.expand.ExpansionKind.{ExpansionKind}
+use Rattle.scl_files.specs.declared.expand.ExpansionKind.TheVariants as kinds
+use Rattle.scl_files.specs.declared.expand.engine.WordsLeft.{WordsLeft}
+use Rattle.scl_files.specs.declared.expand.engine.Expansion.{Expansion}
+use Rattle.scl_files.specs.declared.expand.engine.Step.{Step}
+use Rattle.scl_files.specs.declared.expand.engine.Step.TheVariants as step
+
+abbrev pub words_left : WordsLeft → List (List ℕ)
+words_left w = words_of (into_iter_items w.words)
+
+-- a file that a word opens
+abbrev pub opens : (Vec ℕ Global × WordsLeft) → Level
+opens file = record { path = file.0.items; words = words_left file.1 }
+
+-- the files that are open, the last opened first: that one has these words left, and each other those around the next
+abbrev pub levels : List (List ℕ) → List (List ℕ × WordsLeft) → List Level
+levels inner [] = []
+levels inner (file ∷ files) = record { path = file.0; words = inner } ∷ levels (words_left file.1) files
+
+-- while a file is open at the one path, no word opens one at the other
+abbrev pub hides : ExpansionKind → List ℕ → List ℕ → Bool
+hides kinds.Gnu path other = same_path path other
+hides kinds.Msvc path other = true
+hides kinds.Diab path other = same_path path other
+
+-- while these files are open, no word opens one at the path
+abbrev pub is_shut : ExpansionKind → List ℕ → List Level → Bool
+is_shut kind path [] = false
+is_shut kind path (level ∷ levels) = cond (hides kind level.path path) true (is_shut kind path levels)
+
+-- the files that a word may open while these are open
+abbrev pub closed : ExpansionKind → List File → List Level → List File
+closed kind files [] = files
+closed kind files (level ∷ levels) = files_inside kind level.path (closed kind files levels)
+
+-- what is left of the open files
+abbrev pub left_open : ExpansionKind → List ℕ → List File → List Level → List (List ℕ)
+left_open kind directory files [] = []
+left_open kind directory files (level ∷ levels) = expand kind directory (closed kind files (level ∷ levels)) level.words ++ left_open kind directory files levels
+
+abbrev pub left : ExpansionKind → List ℕ → List File → List Level → List (List ℕ) → List (List ℕ)
+left kind directory files levels words = left_open kind directory files levels ++ expand kind directory files words
+
+-- the sum of a number for each word
+abbrev pub total : (List ℕ → ℕ) → List (List ℕ) → ℕ
+total f [] = 0
+total f (word ∷ words) = f word + total f words
+
+abbrev pub cost : (Level → ℕ) → Option Level → ℕ
+cost inside None = 1
+cost inside (Some file) = 2 + inside file
+
+-- how many steps the words take: one for each word, and one more to close each file
+abbrev pub steps_within : ℕ → ExpansionKind → List ℕ → List File → List (List ℕ) → ℕ
+steps_within zero kind directory files words = length words
+steps_within (suc n) kind directory files words =
+    total (λ word. cost (λ file. steps_within n kind directory (files_inside kind file.path files) file.words) (opened kind directory files word)) words
+
+unfoldable pub steps : ExpansionKind → List ℕ → List File → List (List ℕ) → ℕ
+steps kind directory files words = steps_within (length files) kind directory files words
+
+abbrev pub steps_open : ExpansionKind → List ℕ → List File → List Level → ℕ
+steps_open kind directory files [] = 0
+steps_open kind directory files (level ∷ levels) = 1 + steps kind directory (closed kind files (level ∷ levels)) level.words + steps_open kind directory files levels
+
+abbrev pub steps_left : ExpansionKind → List ℕ → List File → List Level → List (List ℕ) → ℕ
+steps_left kind directory files levels words = steps_open kind directory files levels + steps kind directory files words
+
+abbrev pub levels_of : Expansion → List Level
+levels_of e = levels (words_left e.inner) e.open_files
+
+abbrev pub left_of : Expansion → List (List ℕ)
+left_of e = left e.kind e.directory.now e.view.now.files (levels_of e) (words_of e.words.now)
+
+abbrev pub steps_of : Expansion → ℕ
+steps_of e = steps_left e.kind e.directory.now e.view.now.files (levels_of e) (words_of e.words.now)
+
+abbrev pub closed_of : Expansion → List File
+closed_of e = closed e.kind e.view.now.files (levels_of e)
+
+-- what was left where the word came before
+abbrev pub left_before : Expansion → List ℕ → List (List ℕ)
+left_before e word = in_place word (λ file. expand e.kind e.directory.now (files_inside e.kind file.path (closed_of e)) file.words) (opened e.kind e.directory.now (closed_of e) word) ++ left_of e
+
+abbrev pub steps_before : Expansion → List ℕ → ℕ
+steps_before e word = cost (λ file. steps e.kind e.directory.now (files_inside e.kind file.path (closed_of e)) file.words) (opened e.kind e.directory.now (closed_of e) word) + steps_of e
+
+-- a step gave the first of these words, or came nearer to it, or met their end
+abbrev pub StepsFrom : List (List ℕ) → ℕ → Step → Expansion → Type 0
+StepsFrom words n (step.Word w) t = (words ≡ w.items ∷ left_of t) × (steps_of t < n)
+StepsFrom words n step.Again t = (words ≡ left_of t) × (steps_of t < n)
+StepsFrom words n step.End t = words ≡ []
+
+abbrev pub Steps : Expansion → Step → Expansion → Type 0
+Steps s r t = StepsFrom (left_of s) (steps_of s) r t

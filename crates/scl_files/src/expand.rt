@@ -1,0 +1,71 @@
+ghost use Rattle.std.specs.Prelude.{◌≡◌, ◌<◌, ◌≤◌, length, IfOk, MatchResult};
+ghost use Rattle.scl_values.specs.Words.{words_of};
+ghost use Rattle.scl_files.specs.Expand.{expand};
+
+use crate::view::View;
+use scl_values::Mem;
+use std::alloc::Global;
+
+mod engine;
+mod iterators;
+mod response_file;
+
+use iterators::Expand;
+pub use iterators::{ExpandAtArgs, GnuExpand, MsvcExpand};
+
+/// Whose response files are put in place (docs/RULES.md, Expansion).
+#[derive(Clone, Copy, Debug, PartialEq, Eq)]
+pub enum ExpansionKind {
+    /// `@name`, GNU text, expanded again.
+    Gnu,
+    /// `@name`, MSVC text, never expanded again.
+    Msvc,
+    /// `-@name`, Diab text, expanded again.
+    Diab,
+}
+
+/// All the words with response files put in place, as the iterator of the kind gives them
+/// (docs/RULES.md, Expansion).
+pub fn expand_all(
+    alloc: Global,
+    kind: ExpansionKind,
+    cwd: &[u8],
+    words: &[Vec<u8>],
+    view: &View,
+) -> Mem<Vec<Vec<u8>>>
+    ensures { IfOk result (λ v. words_of v.items ≡ expand kind cwd.now view.now.files (words_of words.now)) }
+{
+    let mut all = Vec::new(alloc);
+    for word in Expand::new(alloc, kind, cwd, words, view) {
+        all.push(word?)?;
+    }
+    Ok(all)
+}
+
+/// That an expansion gives more words than were asked for.
+#[derive(Debug, Clone, Copy, PartialEq, Eq)]
+pub struct TooManyWords;
+
+/// The words that `expand_all` gives, where they are `most` or fewer; else `TooManyWords`, as soon as one more came
+/// (docs/RULES.md, Expansion).
+pub fn expand_at_most(
+    alloc: Global,
+    kind: ExpansionKind,
+    cwd: &[u8],
+    words: &[Vec<u8>],
+    view: &View,
+    most: usize,
+) -> Mem<Result<Vec<Vec<u8>>, TooManyWords>>
+    ensures { IfOk result (λ said. let all = expand kind cwd.now view.now.files (words_of words.now) in
+        MatchResult said (λ v. (words_of v.items ≡ all) × (length all ≤ most)) (λ _. most < length all)) }
+{
+    let mut all = Vec::new(alloc);
+    for word in Expand::new(alloc, kind, cwd, words, view) {
+        let word = word?;
+        if all.len() == most {
+            return Ok(Err(TooManyWords));
+        }
+        all.push(word)?;
+    }
+    Ok(Ok(all))
+}

@@ -1,0 +1,21 @@
+//! Paths, views of files, the texts of response files, and words in which such files are put in place.
+#![tactic(auto)]
+
+mod decode;
+mod diab_text;
+pub mod expand;
+mod gnu_text;
+mod msvc_text;
+pub mod path;
+mod path_map;
+pub mod view;
+
+pub use decode::{from_local_codepage, read_text};
+pub use diab_text::split_diab;
+pub use expand::{
+    ExpandAtArgs, ExpansionKind, GnuExpand, MsvcExpand, TooManyWords, expand_all, expand_at_most,
+};
+pub use gnu_text::split_gnu_response_file_args;
+pub use msvc_text::{SplitMsvcResponseFileArgs, msvc_words};
+pub use scl_values::Mem;
+pub use view::View;

@@ -1,0 +1,4 @@
+pub mod HashLaws
+pub mod InnerLemmas
+pub mod OutputLaws
+pub mod TableLaws

@@ -1,0 +1,62 @@
+-- The tests that follow the verdicts of the options, in their order.
+use Rattle.std.specs.Prelude.{ℕ, Bool, true, false, List, [], ◌∷◌, ◌++◌, Option, None, Some, Result, Ok, codes, unwrap_or}
+use Rattle.std.specs.Option.{option_map}
+use Rattle.scl_values.specs.Seen.{Seen}
+use Rattle.scl_args.specs.Options.{texts, wanted, ◌>>=◌}
+use Rattle.scl_text.specs.declared.language.Language.{Language}
+use Rattle.scl_text.specs.declared.language.Language.TheVariants as languages
+use Rattle.scl_text.specs.Languages.{language_of_file_name, language_of_gcc_text}
+use Rattle.scl_files.specs.Paths.{file_name, extension, with_extension, with_file_name}
+use Rattle.scl_text.specs.Reasons.{unknown_source_language, invalid_input_file}
+use Rattle.scl_text.specs.Records.{Verdict, NotCompilation}
+use Rattle.scl_text.specs.Refusals.{the_input}
+use Rattle.scl_gnu_reading.specs.declared.gcc.data.Kind.{Kind}
+use Rattle.scl_gnu_reading.specs.declared.gcc.data.Kind.TheVariants as kind
+use Rattle.scl_gnu_reading.specs.Kinds.{is_input, last_text, last_flag, any}
+
+-- what the tests find
+pub record Found : Type 0 where
+  pub compile_flag : List ℕ
+  pub input : List ℕ
+  pub language : Language
+  pub object : List ℕ
+  pub module_path : Option (List ℕ)
+
+-- a C++ driver takes files of C for C++
+abbrev pub driven : Bool → Language → Language
+driven true languages.C = languages.Cxx
+driven _ language = language
+
+-- the language that was asked for, else that of the file's name
+abbrev pub language_of : Bool → Option (List ℕ) → List ℕ → Option Language
+language_of plusplus None input = option_map (driven plusplus) (language_of_file_name input)
+language_of plusplus (Some text) input = language_of_gcc_text text
+
+-- the path that was asked for, else the input's file name with extension o
+abbrev pub object_of : Option (List ℕ) → List ℕ → Option (List ℕ)
+object_of None input = option_map (λ name. with_extension name (codes "o")) (file_name input)
+object_of (Some path) input = Some path
+
+-- the path with `.pcm` behind its extension
+abbrev pub with_pcm : List ℕ → List ℕ
+with_pcm path = with_extension path (unwrap_or (extension path) [] ++ codes ".pcm")
+
+-- where a module goes: behind =, else beside the object, under the input's file name
+abbrev pub module_path_of : Option (List ℕ) → List ℕ → List ℕ → Result (Option (List ℕ)) Verdict
+module_path_of None input object = Ok None
+module_path_of (Some []) input object = wanted (option_map (λ name. Some (with_pcm (with_file_name object name))) (file_name input)) invalid_input_file
+module_path_of (Some (byte ∷ path)) input object = Ok (Some path)
+
+-- no module goes anywhere where the module alone is asked for
+abbrev pub module_path_unless : Bool → Option (List ℕ) → List ℕ → List ℕ → Result (Option (List ℕ)) Verdict
+module_path_unless true text input object = Ok None
+module_path_unless false text input object = module_path_of text input object
+
+abbrev pub found : Bool → List (Seen Kind) → Result Found Verdict
+found plusplus os = do
+  flag ← wanted (last_flag (kind.DoCompilation ∷ []) os) NotCompilation
+  input ← the_input (texts is_input os)
+  language ← wanted (language_of plusplus (last_text (kind.Language ∷ []) os) input) unknown_source_language
+  object ← wanted (object_of (last_text (kind.Output ∷ []) os) input) invalid_input_file
+  module_path ← module_path_unless (any (kind.ModuleOnlyFlag ∷ []) os) (last_text (kind.ClangModuleOutput ∷ []) os) input object
+  Ok (record { compile_flag = flag; input = input; language = language; object = object; module_path = module_path })

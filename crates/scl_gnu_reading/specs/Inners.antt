@@ -1,0 +1,91 @@
+-- Inner command lines: where the words of inner options go, what is said of each, and what the words of one say.
+use Rattle.std.specs.Prelude.{ℕ, Bool, false, List, Option, None, Some, Result, codes, if◌then◌else◌}
+use Rattle.std.specs.List.{flat_map}
+use Rattle.std.specs.Str.{bytes_eq}
+use Rattle.scl_args.specs.Options.{last, list, side_of_flag}
+use Rattle.scl_values.specs.Seen.{Seen, Raw, Unknown, Known, flag_of}
+use Rattle.scl_args.specs.Wrapped.{wrapped_apart}
+use Rattle.scl_files.specs.declared.expand.ExpansionKind.TheVariants as expansions
+use Rattle.scl_text.specs.Records.{Verdict}
+use Rattle.scl_text.specs.JudgedWords.{judged_words}
+use Rattle.scl_files.specs.Views.{Viewed}
+use Rattle.scl_gnu_reading.specs.declared.gcc.data.Kind.{Kind}
+use Rattle.scl_gnu_reading.specs.declared.gcc.data.Kind.TheVariants as kind
+use Rattle.scl_gnu_reading.specs.contracts.gcc.place.PlacePartialEq.TheImpl.{ghosts}
+use Rattle.scl_gnu_reading.specs.declared.gcc.place.Place.{Place}
+use Rattle.scl_gnu_reading.specs.declared.gcc.place.Place.TheVariants as places
+use Rattle.scl_gnu_reading.specs.ClangRows.{clang_tables}
+use Rattle.scl_gnu_reading.specs.Verdicts.{refusal, flag_verdict}
+
+-- ---- places
+
+abbrev pub inner_place : Kind → Place
+inner_place kind.TooHardFlag = places.Refused
+inner_place kind.TooHard = places.Refused
+inner_place kind.DiagnosticsColor = places.Common
+inner_place kind.DiagnosticsColorFlag = places.Common
+inner_place kind.NoDiagnosticsColorFlag = places.Common
+inner_place kind.Arch = places.Common
+inner_place kind.Coverage = places.Refused
+inner_place kind.TestCoverage = places.Refused
+inner_place kind.DepArgumentPath = places.Dependency
+inner_place kind.DepTarget = places.Dependency
+inner_place kind.NeedDepTarget = places.Dependency
+inner_place kind.DoCompilation = places.Refused
+inner_place kind.ExtraHashFile = places.Common
+inner_place kind.ExtraHashFileClangModuleFile = places.Common
+inner_place kind.Language = places.Refused
+inner_place kind.SplitDwarf = places.Refused
+inner_place kind.Output = places.Refused
+inner_place kind.PassThrough = places.Common
+inner_place kind.PassThroughFlag = places.Common
+inner_place kind.PassThroughPath = places.Common
+inner_place kind.PreprocessorArgument = places.Preprocessor
+inner_place kind.PreprocessorArgumentFlag = places.Preprocessor
+inner_place kind.PreprocessorArgumentPath = places.Preprocessor
+inner_place kind.ProfileGenerate = places.Refused
+inner_place kind.ClangProfileUse = places.Refused
+inner_place kind.SerializeDiagnostics = places.Common
+inner_place kind.UnhashedFlag = places.Unhashed
+inner_place kind.Unhashed = places.Unhashed
+inner_place kind.PedanticFlag = places.Refused
+inner_place kind.Standard = places.Refused
+inner_place kind.XClang = places.Refused
+inner_place kind.ModuleOnlyFlag = places.Refused
+inner_place kind.ClangModuleOutput = places.Refused
+inner_place kind.IntegratedAs = places.Refused
+inner_place kind.NoIntegratedAs = places.Refused
+
+abbrev pub inner_place_of : Seen Kind → Place
+inner_place_of (Raw w) = places.Common
+inner_place_of (Unknown w) = places.Refused
+inner_place_of (Known f k v how) = inner_place k
+
+abbrev pub goes_inside_to : Place → Seen Kind → Bool
+goes_inside_to there o = ghosts.eq (inner_place_of o) there
+
+-- the words of the inner options that go there, in order, each on the side of its flag, and each word behind `-Xclang`
+abbrev pub inner_words_at : Place → List (Seen Kind) → List (List ℕ)
+inner_words_at there inner = flat_map (wrapped_apart (codes "-Xclang")) (list side_of_flag (goes_inside_to there) inner)
+
+-- ---- verdicts
+
+-- whether a word that is no option may stand behind this option, or first
+abbrev pub takes_raw : Option (Seen Kind) → Bool
+takes_raw None = false
+takes_raw (Some o) = bytes_eq (flag_of o) (codes "-plugin-arg")
+
+abbrev pub raw_verdict : Bool → Option Verdict
+raw_verdict is_taken = if is_taken then None else refusal (codes "Can't handle Raw arguments with -Xclang")
+
+-- what an inner option says after others, of which the one just before counts
+abbrev pub inner_verdict : List (Seen Kind) → Seen Kind → Option Verdict
+inner_verdict before (Raw w) = raw_verdict (takes_raw (last before))
+inner_verdict before (Unknown w) = refusal (codes "Can't handle UnknownFlag arguments with -Xclang")
+inner_verdict before (Known f k v how) = flag_verdict (inner_place k) f
+
+-- ---- readings
+
+-- the options of an inner command line: words cut by Clang's tables, whatever tables cut the outer ones, without `--`, and judged, empty values first
+abbrev pub inner_reading : {V : Type 0} → V → (List (Seen Kind) → Seen Kind → Option V) → V → List ℕ → Viewed → List (List ℕ) → Result (List (Seen Kind)) V
+inner_reading empty verdict dangling directory view words = judged_words expansions.Gnu empty verdict dangling clang_tables false directory view words

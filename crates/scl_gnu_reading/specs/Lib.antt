@@ -1,0 +1,13 @@
+pub mod ClangRows
+pub mod Data
+pub mod FixedTests
+pub mod FoundBy
+pub mod GccRows
+pub mod Hashes
+pub mod Inners
+pub mod Kinds
+pub mod Places
+pub mod Readings
+pub mod Recordings
+pub mod Sorts
+pub mod Verdicts

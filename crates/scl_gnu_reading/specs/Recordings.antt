@@ -1,0 +1,158 @@
+-- The record of a compilation.
+use Rattle.std.specs.Prelude.{ℕ, ◌+◌, ◌==◌, Bool, true, false, not, ◌&&◌, List, [], ◌∷◌, ◌++◌, Option, None, Some, map, codes, nat_eq, drop, position, unwrap_or, is_some}
+use Rattle.std.specs.List.{starts_with}
+use Rattle.std.specs.Option.{option_map}
+use Rattle.scl_args.specs.Options.{is_behind_dashes}
+use Rattle.scl_values.specs.Seen.{Seen}
+use Rattle.scl_text.specs.declared.records.CCompilerKind.{CCompilerKind}
+use Rattle.scl_text.specs.declared.records.CCompilerKind.TheVariants as compilers
+use Rattle.scl_text.specs.declared.records.ColorMode.TheVariants as colors
+use Rattle.scl_text.specs.declared.language.Language.{Language}
+use Rattle.scl_text.specs.Languages.{needs_c_preprocessing}
+use Rattle.scl_text.specs.Outputs.{only_if, output_at}
+use Rattle.scl_files.specs.Paths.{join, with_extension}
+use Rattle.scl_text.specs.Records.{Artifact, Parsed}
+use Rattle.scl_files.specs.Views.{Viewed, is_directory}
+use Rattle.scl_gnu_reading.specs.declared.gcc.hash_files.HashRole.{HashRole}
+use Rattle.scl_gnu_reading.specs.declared.gcc.hash_files.HashRole.TheVariants as roles
+use Rattle.scl_gnu_reading.specs.FixedTests.{Found}
+use Rattle.scl_gnu_reading.specs.Hashes.{Hashed}
+use Rattle.scl_gnu_reading.specs.declared.gcc.data.Kind.{Kind}
+use Rattle.scl_gnu_reading.specs.declared.gcc.data.Kind.TheVariants as kind
+use Rattle.scl_gnu_reading.specs.declared.gcc.place.Place.{Place}
+use Rattle.scl_gnu_reading.specs.declared.gcc.place.Place.TheVariants as places
+use Rattle.scl_gnu_reading.specs.Kinds.{hashed, any, last_text, last_flag, is_input, color_mode, external_assembler, too_hard_flag}
+use Rattle.scl_gnu_reading.specs.Inners.{inner_words_at}
+use Rattle.scl_gnu_reading.specs.Places.{words_at}
+
+-- ---- outputs
+
+abbrev pub unless_absent : Bool → Option (List ℕ) → Option (List ℕ)
+unless_absent true path = path
+unless_absent false path = None
+
+-- where a compilation puts what it makes
+pub record OutputPaths : Type 0 where
+  pub depfile : Option (List ℕ)
+  pub diagnostics : Option (List ℕ)
+  pub dwo : Option (List ℕ)
+  pub gcno : Option (List ℕ)
+  pub module_path : Option (List ℕ)
+  pub object : List ℕ
+
+abbrev pub output_paths : List (Seen Kind) → Found → OutputPaths
+output_paths os f = record {
+  depfile = unless_absent (needs_c_preprocessing f.language) (last_text (kind.DepArgumentPath ∷ []) os);
+  diagnostics = last_text (kind.SerializeDiagnostics ∷ []) os;
+  dwo = only_if (any (kind.SplitDwarf ∷ []) os) (with_extension f.object (codes "dwo"));
+  gcno = only_if (any (kind.Coverage ∷ kind.TestCoverage ∷ []) os) (with_extension f.object (codes "gcno"));
+  module_path = f.module_path;
+  object = f.object;
+}
+
+-- those that there are, in the order of their names; `dwo` alone may be missing
+abbrev pub outputs : OutputPaths → List Artifact
+outputs o =
+    output_at (codes "d") false o.depfile ++ output_at (codes "dia") false o.diagnostics ++ output_at (codes "dwo") true o.dwo
+    ++ output_at (codes "gcno") false o.gcno ++ output_at (codes "module") false o.module_path ++ output_at (codes "obj") false (Some o.object)
+
+-- ---- added options
+
+-- the words that are added to the common ones
+abbrev pub added_common : Bool → List ℕ → List (List ℕ)
+added_common true object = (codes "-D_gsplit_dwarf_path=" ++ with_extension object (codes "dwo")) ∷ []
+added_common false object = []
+
+-- where the dependency file goes, unless that was said
+abbrev pub added_depfile : Bool → List ℕ → List (List ℕ)
+added_depfile true object = []
+added_depfile false object = codes "-MF" ∷ with_extension object (codes "d") ∷ []
+
+-- the words that are added to those about dependencies, where a target is needed
+abbrev pub added_dependency : (is_needed has_path : Bool) (flag target : Option (List ℕ)) → List ℕ → List (List ℕ)
+added_dependency true has_path flag target object = (unwrap_or flag (codes "-MT") ∷ unwrap_or target object ∷ []) ++ added_depfile has_path object
+added_dependency false has_path flag target object = []
+
+-- ---- files on whose contents the outcome depends
+
+abbrev pub is_equals : ℕ → Bool
+is_equals byte = byte == 61
+
+-- what stands behind the first =, else all of it
+abbrev pub module_file_path : List ℕ → List ℕ
+module_file_path text = unwrap_or (option_map (λ at. drop (at + 1) text) (position is_equals text)) text
+
+abbrev pub profile_in : Bool → List ℕ → List ℕ
+profile_in true path = join path (codes "default.profdata")
+profile_in false path = path
+
+-- the path in the directory, or in a directory at that path the file `default.profdata`
+abbrev pub profile_use_path : List ℕ → List ℕ → Viewed → List ℕ
+profile_use_path text directory view = profile_in (is_directory (join directory text) view) (join directory text)
+
+abbrev pub hash_path_as : HashRole → List ℕ → List ℕ → Viewed → List ℕ
+hash_path_as roles.File text directory view = join directory text
+hash_path_as roles.Module text directory view = join directory (module_file_path text)
+hash_path_as roles.Profile text directory view = profile_use_path text directory view
+
+abbrev pub hash_path : List ℕ → Viewed → Hashed → List ℕ
+hash_path directory view h = hash_path_as h.role h.text directory view
+
+-- ---- the record
+
+abbrev pub is_clang : CCompilerKind → Bool
+is_clang compilers.Clang = true
+is_clang _ = false
+
+abbrev pub is_gcc : CCompilerKind → Bool
+is_gcc compilers.Gcc = true
+is_gcc _ = false
+
+-- without a standard, and under one with GNU's extensions
+abbrev pub has_extensions : Option (List ℕ) → Bool
+has_extensions None = true
+has_extensions (Some text) = starts_with nat_eq text (codes "gnu")
+
+-- whether includes that were rewritten would change what a pedantic Gcc says
+abbrev pub suppresses_rewritten_includes : CCompilerKind → List (Seen Kind) → Bool
+suppresses_rewritten_includes compiler os = (is_gcc compiler && any (kind.PedanticFlag ∷ []) os) && has_extensions (last_text (kind.Standard ∷ []) os)
+
+-- whether the words about dependencies need a target
+abbrev pub needs_target : Language → List (Seen Kind) → Bool
+needs_target language os = needs_c_preprocessing language && any (kind.NeedDepTarget ∷ []) os
+
+-- the words at a place: those of the outer options, then those of the inner ones
+abbrev pub all_words_at : Place → List (Seen Kind) → List (Seen Kind) → List (List ℕ)
+all_words_at there os inner = words_at there os ++ inner_words_at there inner
+
+-- the words about dependencies, and those that are added where a target is needed
+abbrev pub dependency_words : List (Seen Kind) → List (Seen Kind) → Found → List (List ℕ)
+dependency_words os inner f =
+    all_words_at places.Dependency os inner
+    ++ added_dependency (needs_target f.language os) (is_some (last_text (kind.DepArgumentPath ∷ []) os))
+    (last_flag (kind.DepTarget ∷ []) os) (last_text (kind.DepTarget ∷ []) os) f.object
+
+-- inner options give words and hashed files alone
+abbrev pub record_of : CCompilerKind → List ℕ → Viewed → List (Seen Kind) → List (Seen Kind) → Found → Parsed
+record_of compiler directory view os inner f = record {
+  input = f.input;
+  double_dash_input = is_behind_dashes is_input os;
+  language = f.language;
+  compilation_flag = f.compile_flag;
+  depfile = None;
+  outputs = outputs (output_paths os f);
+  dependency_args = dependency_words os inner f;
+  preprocessor_args = all_words_at places.Preprocessor os inner;
+  common_args = all_words_at places.Common os inner ++ added_common (any (kind.SplitDwarf ∷ []) os) f.object;
+  arch_args = all_words_at places.Arch os inner;
+  unhashed_args = all_words_at places.Unhashed os inner;
+  extra_dist_files = [];
+  extra_hash_files = map (hash_path directory view) (hashed os ++ hashed inner);
+  uses_external_assembler = unwrap_or (external_assembler os) (not (is_clang compiler));
+  msvc_show_includes = false;
+  msvc_explicit_language = false;
+  profile_generate = any (kind.Coverage ∷ kind.TestCoverage ∷ kind.ProfileGenerate ∷ []) os;
+  color_mode = unwrap_or (color_mode os) colors.Auto;
+  suppress_rewrite_includes_only = suppresses_rewritten_includes compiler os;
+  too_hard_for_preprocessor_cache_mode = too_hard_flag os;
+}

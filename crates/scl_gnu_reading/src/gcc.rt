@@ -1,0 +1,23 @@
+//! Gcc's table, and the words that are read by it or by other tables with the same kinds.
+
+mod added_words;
+mod args;
+mod data;
+mod fixed_tests;
+mod hash_files;
+mod hash_paths;
+mod inner;
+mod inputs;
+mod judge;
+mod outputs;
+mod parse;
+mod place;
+mod record;
+mod switches;
+
+pub use args::{ARCH_FLAG, ARGS, table};
+pub use data::{ArgData, Kind};
+pub use hash_files::{HashRole, NamesHashed, push_hashed};
+pub use hash_paths::{module_file_path, resolve_profile_use_path};
+pub use inner::read_inner;
+pub use parse::parse_arguments;

@@ -1,0 +1,148 @@
+//! The tests that follow the verdicts of the options.
+ghost use Rattle.std.specs.Prelude.{◌≡◌, ◌++◌, IfOk, codes, unwrap_or, [], ◌∷◌};
+ghost use Rattle.std.specs.Option.{option_copied};
+ghost use Rattle.scl_files.specs.Paths.{extension};
+ghost use Rattle.scl_text.specs.Records.{path_of};
+ghost use Rattle.scl_text.specs.Refusals.{verdict_of};
+ghost use Rattle.scl_gnu_reading.specs.FixedTests.{driven, language_of, object_of, with_pcm, module_path_of, module_path_unless, found};
+ghost use Rattle.scl_gnu_reading.specs.FoundBy.{found_of};
+ghost use Rattle.scl_args.specs.Options.{result_by};
+ghost use Rattle.scl_gnu_reading.specs.Kinds.{any, last_text};
+
+use super::data::{ArgData, Kind};
+use super::inputs::Inputs;
+use scl_args::{Mem, OfKinds, Options};
+use scl_text::language::Language;
+use scl_text::path::{extension, file_name, with_extension, with_file_name};
+use scl_text::reasons::{INVALID_INPUT_FILE, UNKNOWN_SOURCE_LANGUAGE};
+use scl_text::refusal::{Refusal, one_input};
+use std::alloc::Global;
+
+/// What the tests find.
+#[derive(Drop)]
+pub(crate) struct Finding {
+    pub(crate) compile_flag: &'static str,
+    pub(crate) input: Vec<u8>,
+    pub(crate) language: Language,
+    pub(crate) object: Vec<u8>,
+    pub(crate) module_path: Option<Vec<u8>>,
+}
+
+/// The language for the driver: a C++ driver takes files of C for C++.
+fn driven(plusplus: bool, language: Language) -> Language
+    ensures { result ≡ driven plusplus language }
+{
+    match language {
+        Language::C if plusplus => Language::Cxx,
+        _ => language,
+    }
+}
+
+fn language_of(plusplus: bool, text: Option<&[u8]>, input: &[u8]) -> Option<Language>
+    ensures { result ≡ language_of plusplus (option_copied text.entry) input.now }
+{
+    match text {
+        Some(text) => Language::from_gcc_arg(text),
+        None => Some(driven(plusplus, Language::from_file_name(input)?)),
+    }
+}
+
+fn object_of(alloc: Global, output: Option<&[u8]>, input: &[u8]) -> Mem<Option<Vec<u8>>>
+    ensures { IfOk result (λ object. path_of object ≡ object_of (option_copied output.entry) input.now) }
+{
+    if let Some(path) = output {
+        return Ok(Some(Vec::from_slice(alloc, path)?));
+    }
+    match file_name(input) {
+        Some(name) => Ok(Some(with_extension(alloc, name, b"o")?)),
+        None => Ok(None),
+    }
+}
+
+fn pcm_extension(alloc: Global, path: &[u8]) -> Mem<Vec<u8>>
+    ensures { IfOk result (λ word. word.items ≡ unwrap_or (extension path.now) [] ++ codes ".pcm") }
+{
+    let mut word = Vec::from_slice(alloc, extension(path).unwrap_or(&[]))?;
+    word.extend_from_slice(b".pcm")?;
+    Ok(word)
+}
+
+fn with_pcm(alloc: Global, path: &[u8]) -> Mem<Vec<u8>>
+    ensures { IfOk result (λ whole. whole.items ≡ with_pcm path.now) }
+{
+    let extension = pcm_extension(alloc, path)?;
+    with_extension(alloc, path, &extension)
+}
+
+fn module_path_of(
+    alloc: Global,
+    text: Option<&[u8]>,
+    input: &[u8],
+    object: &[u8],
+) -> Mem<Result<Option<Vec<u8>>, Refusal>>
+    ensures { IfOk result (λ tested. result_by path_of verdict_of tested ≡ module_path_of (option_copied text.entry) input.now object.now) }
+{
+    match text {
+        None => Ok(Ok(None)),
+        Some([_, path @ ..]) => Ok(Ok(Some(Vec::from_slice(alloc, path)?))),
+        Some([]) => match file_name(input) {
+            None => Ok(Err(Refusal::CannotCache(INVALID_INPUT_FILE, None))),
+            Some(name) => {
+                let beside = with_file_name(alloc, object, name)?;
+                Ok(Ok(Some(with_pcm(alloc, &beside)?)))
+            }
+        },
+    }
+}
+
+fn module_path(
+    alloc: Global,
+    options: &Options<ArgData>,
+    input: &[u8],
+    object: &[u8],
+) -> Mem<Result<Option<Vec<u8>>, Refusal>>
+    ensures { IfOk result (λ tested. result_by path_of verdict_of tested
+        ≡ module_path_unless (any (Kind.ModuleOnlyFlag ∷ []) options.now) (last_text (Kind.ClangModuleOutput ∷ []) options.now) input.now object.now) }
+{
+    if options.any(&OfKinds(&[Kind::ModuleOnlyFlag])) {
+        return Ok(Ok(None));
+    }
+    let text = options.last_text(&OfKinds(&[Kind::ClangModuleOutput]));
+    module_path_of(alloc, text, input, object)
+}
+
+/// The tests in their order.
+pub(crate) fn find(
+    alloc: Global,
+    options: &Options<ArgData>,
+    plusplus: bool,
+) -> Mem<Result<Finding, Refusal>>
+    ensures { IfOk result (λ tested. result_by found_of verdict_of tested ≡ found plusplus options.now) }
+{
+    let Some(compile_flag) = options.last_flag(&OfKinds(&[Kind::DoCompilation])) else {
+        return Ok(Err(Refusal::NotCompilation));
+    };
+    let input = match one_input(alloc, options.texts(alloc, &Inputs)?)? {
+        Ok(input) => input,
+        Err(refusal) => return Ok(Err(refusal)),
+    };
+    let text = options.last_text(&OfKinds(&[Kind::Language]));
+    let Some(language) = language_of(plusplus, text, &input) else {
+        return Ok(Err(Refusal::CannotCache(UNKNOWN_SOURCE_LANGUAGE, None)));
+    };
+    let output = options.last_text(&OfKinds(&[Kind::Output]));
+    let Some(object) = object_of(alloc, output, &input)? else {
+        return Ok(Err(Refusal::CannotCache(INVALID_INPUT_FILE, None)));
+    };
+    let module_path = match module_path(alloc, options, &input, &object)? {
+        Ok(path) => path,
+        Err(refusal) => return Ok(Err(refusal)),
+    };
+    Ok(Ok(Finding {
+        compile_flag,
+        input,
+        language,
+        object,
+        module_path,
+    }))
+}

@@ -1,0 +1,152 @@
+//! Files on whose contents the outcome of a compilation depends, as options name them.
+ghost use Rattle.std.specs.Prelude.{◌≡◌, ◌++◌, OnOk, IfOk, map};
+ghost use Rattle.std.specs.Option.{option_map, option_to_list};
+ghost use Rattle.scl_values.specs.Seen.{seen};
+ghost use Rattle.scl_values.specs.Words.{words_of};
+ghost use Rattle.scl_gnu_reading.specs.Hashes.{hashed_by, hashed_as, may_name_hashed};
+ghost use Rattle.scl_gnu_reading.specs.Kinds.{hashed};
+ghost use Rattle.scl_gnu_reading.specs.Recordings.{hash_path};
+
+use super::data::{ArgData, Kind};
+use super::hash_paths::path_as;
+use scl_args::{Argument, Mem, Options, ReadArg, Sort, Test};
+use scl_text::view::View;
+use std::alloc::Global;
+
+/// How an option names a file on whose contents the outcome depends (docs/RULES.md, Gcc).
+#[derive(Clone, Copy)]
+pub enum HashRole {
+    /// By its path.
+    File,
+    /// By its path, behind a name and `=` if there is one.
+    Module,
+    /// By its path, or by the directory of `default.profdata`.
+    Profile,
+}
+
+/// A value whose kind says how its options name files on whose contents the outcome depends (docs/RULES.md, Gcc).
+pub trait NamesHashed: ReadArg {
+    ghost use Rattle.std.specs.Prelude.{Option};
+    ghost use Rattle.scl_gnu_reading.specs.declared.gcc.hash_files.HashRole.{HashRole};
+
+    ghost role: { Self.Kind → Option HashRole };
+
+    /// How options of the kind name such a file, if they do.
+    fn hash_role(kind: Self::Kind) -> Option<HashRole>
+        ensures { result ≡ role kind };
+}
+
+impl NamesHashed for ArgData {
+    ghost use Rattle.scl_gnu_reading.specs.Kinds.{hash_role};
+
+    ghost role = { hash_role };
+
+    fn hash_role(kind: Kind) -> Option<HashRole> {
+        match kind {
+            Kind::ExtraHashFile => Some(HashRole::File),
+            Kind::ExtraHashFileClangModuleFile => Some(HashRole::Module),
+            Kind::ClangProfileUse => Some(HashRole::Profile),
+            _ => None,
+        }
+    }
+}
+
+fn push_path<T: NamesHashed>(
+    alloc: Global,
+    paths: &mut Vec<Vec<u8>>,
+    option: &Argument<T>,
+    cwd: &[u8],
+    view: &View,
+) -> Mem<()>
+    ensures { OnOk result (words_of paths.new.items ≡ words_of paths.old.items
+        ++ option_to_list (option_map (hash_path cwd.now view.now) (hashed_by T.role (seen T.kind_of T.word_of option.now)))) }
+{
+    match option {
+        Argument::Raw(_) | Argument::UnknownFlag(_) => Ok(()),
+        Argument::Flag(_, value) | Argument::WithValue(_, value, _) => {
+            if let Some(role) = T::hash_role(value.kind()) {
+                paths.push(path_as(alloc, role, value.word(), cwd, view)?)?;
+            }
+            Ok(())
+        }
+    }
+}
+
+/// The options that name such files.
+struct Hashed;
+
+impl<T: NamesHashed> Test<T> for Hashed {
+    ghost use Rattle.scl_gnu_reading.specs.Hashes.{names_hashed, may_name_hashed, hashed_by_sort};
+
+    ghost passes = { λ _. names_hashed T.role };
+
+    ghost may_pass = { λ _. may_name_hashed T.role };
+
+    ghost passes_by_sort = { λ _. hashed_by_sort T.role };
+
+    fn passes(&self, option: &Argument<T>) -> bool {
+        match option {
+            Argument::Raw(_) | Argument::UnknownFlag(_) => false,
+            Argument::Flag(_, value) | Argument::WithValue(_, value, _) => {
+                T::hash_role(value.kind()).is_some()
+            }
+        }
+    }
+
+    fn may_pass(&self, sort: Sort<T::Kind>) -> bool
+        ensures { result ≡ may_name_hashed T.role sort }
+    {
+        match sort {
+            Sort::Raw | Sort::Unknown => false,
+            Sort::Known(kind) => T::hash_role(kind).is_some(),
+        }
+    }
+}
+
+fn push_paths<T: NamesHashed>(
+    alloc: Global,
+    paths: &mut Vec<Vec<u8>>,
+    options: &[Argument<T>],
+    cwd: &[u8],
+    view: &View,
+) -> Mem<()>
+    ensures { OnOk result (words_of paths.new.items ≡ words_of paths.old.items
+        ++ map (hash_path cwd.now view.now) (hashed_as T.role (map (seen T.kind_of T.word_of) options.now))) }
+{
+    for option in options {
+        push_path(alloc, paths, option, cwd, view)?;
+    }
+    Ok(())
+}
+
+/// Puts the paths of the files that the options name, from the directory, behind others (docs/RULES.md, Gcc). It fails
+/// only for want of memory, and some may then stand there.
+pub fn push_hashed<T: NamesHashed>(
+    alloc: Global,
+    paths: &mut Vec<Vec<u8>>,
+    options: &Options<T>,
+    cwd: &[u8],
+    view: &View,
+) -> Mem<()>
+    ensures { OnOk result (words_of paths.new.items ≡ words_of paths.old.items
+        ++ map (hash_path cwd.now view.now) (hashed_as T.role options.now)) }
+{
+    push_paths(alloc, paths, options.among(&Hashed), cwd, view)
+}
+
+/// The paths of the files that the options name, from the directory: first the outer options, then the inner ones.
+pub(crate) fn hash_paths(
+    alloc: Global,
+    options: &Options<ArgData>,
+    inner: &Options<ArgData>,
+    cwd: &[u8],
+    view: &View,
+) -> Mem<Vec<Vec<u8>>>
+    ensures { IfOk result (λ paths. words_of paths.items
+        ≡ map (hash_path cwd.now view.now) (hashed options.now ++ hashed inner.now)) }
+{
+    let mut paths = Vec::new(alloc);
+    push_hashed(alloc, &mut paths, options, cwd, view)?;
+    push_hashed(alloc, &mut paths, inner, cwd, view)?;
+    Ok(paths)
+}

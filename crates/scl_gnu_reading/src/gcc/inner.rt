@@ -1,0 +1,59 @@
+//! Inner command lines: words that options hand on to the compiler proper, behind `-Xclang`.
+ghost use Rattle.std.specs.Prelude.{◌≡◌, ◌++◌, IfOk, OnOk};
+ghost use Rattle.scl_args.specs.Options.{result_by};
+ghost use Rattle.scl_values.specs.Words.{words_of};
+ghost use Rattle.scl_gnu_reading.specs.Inners.{inner_reading, inner_words_at};
+
+mod judge;
+mod place;
+
+use super::data::ArgData;
+use super::place::Place;
+use crate::clang::BothTrees;
+pub(crate) use judge::ByInnerVerdict;
+use place::Inside;
+use scl_args::{Judge, Mem, Options, ShortFlagsJoined, WrappedApart, push_wrapped};
+use scl_text::view::View;
+use scl_text::{ExpansionKind, judge_words};
+use std::alloc::Global;
+
+/// The options of an inner command line, whose words are cut by Clang's tables and never have double dashes; or the first
+/// refusal, of an empty value or the judge's, or that of a last flag without its value (docs/RULES.md, Inner command
+/// lines). The directory and the view answer what is asked of response files. It fails only for want of memory.
+pub fn read_inner<J: Judge<ArgData>>(
+    alloc: Global,
+    words: &[Vec<u8>],
+    cwd: &[u8],
+    judge: &J,
+    view: &View,
+) -> Mem<Result<Options<ArgData>, J::Refusal>>
+    ensures { IfOk result (λ said. result_by (λ options. options) J.verdict_of said
+        ≡ inner_reading J.empty (J.verdict judge.now) J.dangling cwd.now view.now (words_of words.now)) }
+{
+    if words.is_empty() {
+        return Ok(Ok(Options::new(alloc, Vec::new(alloc))?));
+    }
+    judge_words(
+        alloc,
+        ExpansionKind::Gnu,
+        words,
+        cwd,
+        BothTrees::build(alloc)?,
+        false,
+        judge,
+        view,
+    )
+}
+
+/// Puts the words of the inner options that go there, each behind `-Xclang`, behind others.
+pub(crate) fn push_inner(
+    alloc: Global,
+    words: &mut Vec<Vec<u8>>,
+    inner: &Options<ArgData>,
+    there: Place,
+) -> Mem<()>
+    ensures { OnOk result (words_of words.new.items ≡ words_of words.old.items ++ inner_words_at there inner.now) }
+{
+    let inner = inner.list(alloc, &ShortFlagsJoined, &Inside(there))?;
+    push_wrapped(alloc, words, &inner, &WrappedApart("-Xclang"))
+}

@@ -1,0 +1,150 @@
+//! What an option says against caching.
+ghost use Rattle.std.specs.Prelude.{◌≡◌, ◌∷◌, [], IfOk, map};
+ghost use Rattle.std.specs.Option.{option_map, option_copied};
+ghost use Rattle.scl_values.specs.Seen.{seen};
+ghost use Rattle.scl_args.specs.Options.{or_else};
+ghost use Rattle.scl_text.specs.Languages.{language_of_gcc_text};
+ghost use Rattle.scl_text.specs.Refusals.{verdict_of};
+ghost use Rattle.scl_gnu_reading.specs.Data.{kind_of, word_of};
+ghost use Rattle.scl_gnu_reading.specs.Places.{place};
+ghost use Rattle.scl_gnu_reading.specs.Verdicts.{flag_verdict, module_output_verdict, unread_language, arch_verdict, value_verdict};
+ghost use Rattle.scl_gnu_reading.specs.Kinds.{last_text};
+
+use super::data::{ArgData, Kind};
+use super::place::{Place, place_of_kind};
+use scl_args::{
+    ArgParseError, Argument, Judge, Mem, OfKinds, ReadArg, last_text, names_file, quoted,
+};
+use scl_text::language::Language;
+use scl_text::reasons::{EMPTY_VALUE, UNEXPANDED_FILE};
+use scl_text::refusal::{Refusal, argument_parse};
+use std::alloc::Global;
+
+/// The refusal of an option by its flag, where its place is that of refused ones.
+pub(crate) fn judged_flag(place: Place, flag: &'static str) -> Option<Refusal>
+    ensures { option_map verdict_of result ≡ flag_verdict place flag.now }
+{
+    match place {
+        Place::Refused => Some(Refusal::CannotCache(flag, None)),
+        _ => None,
+    }
+}
+
+fn judged_module_output(alloc: Global, value: &[u8]) -> Mem<Option<Refusal>>
+    ensures { IfOk result (λ said. option_map verdict_of said ≡ module_output_verdict value.now) }
+{
+    match value.first() {
+        None | Some(b'=') => Ok(None),
+        Some(_) => {
+            let text = quoted(alloc, value)?;
+            Ok(Some(Refusal::CannotCache("unknown module output format", Some(text))))
+        }
+    }
+}
+
+fn judged_language(text: &[u8]) -> Option<Refusal>
+    ensures { option_map verdict_of result ≡ unread_language (language_of_gcc_text text.now) }
+{
+    match Language::from_gcc_arg(text) {
+        Some(_) => None,
+        None => Some(Refusal::CannotCache("-x", None)),
+    }
+}
+
+fn judged_arch(multiarch: bool, before: Option<&[u8]>, arch: &[u8]) -> Option<Refusal>
+    ensures { option_map verdict_of result ≡ arch_verdict multiarch (option_copied before.entry) arch.now }
+{
+    let before = before?;
+    if multiarch || before == arch {
+        return None;
+    }
+    Some(Refusal::CannotCache(
+        "multiple different -arch, and SCCACHE_CACHE_MULTIARCH not set",
+        None,
+    ))
+}
+
+fn judged_value(
+    alloc: Global,
+    multiarch: bool,
+    before: &[Argument<ArgData>],
+    value: &ArgData,
+) -> Mem<Option<Refusal>>
+    ensures { IfOk result (λ said. option_map verdict_of said ≡ value_verdict multiarch (last_text (Kind.Arch ∷ []) (map (seen kind_of word_of) before.now)) (kind_of value.now) (word_of value.now)) }
+{
+    match value {
+        ArgData::ClangModuleOutput(text) => judged_module_output(alloc, text),
+        ArgData::Language(text) => Ok(judged_language(text)),
+        ArgData::Arch(name) => {
+            let arch = last_text(before, &OfKinds(&[Kind::Arch]));
+            Ok(judged_arch(multiarch, arch, name))
+        }
+        _ => Ok(None),
+    }
+}
+
+fn judged_known(
+    alloc: Global,
+    multiarch: bool,
+    before: &[Argument<ArgData>],
+    flag: &'static str,
+    value: &ArgData,
+) -> Mem<Option<Refusal>>
+    ensures { IfOk result (λ said. option_map verdict_of said
+        ≡ or_else (flag_verdict (place (kind_of value.now)) flag.now) (value_verdict multiarch (last_text (Kind.Arch ∷ []) (map (seen kind_of word_of) before.now)) (kind_of value.now) (word_of value.now))) }
+{
+    match judged_flag(place_of_kind(value.kind()), flag) {
+        Some(refusal) => Ok(Some(refusal)),
+        None => judged_value(alloc, multiarch, before, value),
+    }
+}
+
+/// Judges options, where several architectures may be named or not.
+#[derive(Clone, Copy)]
+pub(crate) struct ByVerdict {
+    pub(crate) multiarch: bool,
+}
+
+impl Judge<ArgData> for ByVerdict {
+    ghost use Rattle.scl_text.specs.Reasons.{argument_parse, empty_value};
+    ghost use Rattle.scl_text.specs.Records.{Verdict};
+    ghost use Rattle.scl_text.specs.Refusals.{verdict_of};
+    ghost use Rattle.scl_gnu_reading.specs.Verdicts.{verdict};
+
+    type Refusal = Refusal;
+
+    ghost Verdict = { Verdict };
+
+    ghost verdict_of = { verdict_of };
+
+    ghost verdict = { λ judge. verdict judge.multiarch };
+
+    ghost empty = { empty_value };
+
+    ghost dangling = { argument_parse };
+
+    fn judge(
+        &self,
+        alloc: Global,
+        before: &[Argument<ArgData>],
+        option: &Argument<ArgData>,
+    ) -> Mem<Option<Refusal>> {
+        if names_file(option) {
+            return Ok(Some(Refusal::CannotCache(UNEXPANDED_FILE, None)));
+        }
+        match option {
+            Argument::Raw(_) | Argument::UnknownFlag(_) => Ok(None),
+            Argument::Flag(flag, value) | Argument::WithValue(flag, value, _) => {
+                judged_known(alloc, self.multiarch, before, flag, value)
+            }
+        }
+    }
+
+    fn refuse_empty(&self) -> Refusal {
+        Refusal::CannotCache(EMPTY_VALUE, None)
+    }
+
+    fn refuse_dangling(&self, alloc: Global) -> Mem<Refusal> {
+        argument_parse(alloc, &ArgParseError::UnexpectedEndOfArgs)
+    }
+}

@@ -1,0 +1,115 @@
+//! The parser of the command lines of Gcc and Clang.
+ghost use Rattle.std.specs.Prelude.{◌≡◌, IfOk, IsTrue};
+ghost use Rattle.scl_args.specs.Options.{result_by};
+ghost use Rattle.scl_values.specs.Tables.{tables_hold_values};
+ghost use Rattle.scl_values.specs.Words.{words_of};
+ghost use Rattle.scl_text.specs.JudgedWords.{judged_words};
+ghost use Rattle.scl_text.specs.Reasons.{argument_parse, empty_value};
+ghost use Rattle.scl_text.specs.Records.{outcome_of};
+ghost use Rattle.scl_text.specs.Refusals.{verdict_of};
+ghost use Rattle.scl_gnu_reading.specs.Data.{holds_value};
+ghost use Rattle.scl_gnu_reading.specs.Readings.{recorded, read, reading};
+ghost use Rattle.scl_gnu_reading.specs.Recordings.{is_clang};
+ghost use Rattle.scl_gnu_reading.specs.Verdicts.{verdict};
+
+use super::data::{ArgData, Kind};
+use super::fixed_tests::find;
+use super::inner::{ByInnerVerdict, read_inner};
+use super::judge::ByVerdict;
+use super::record::{is_clang, record_of};
+use scl_args::{Mem, OfKinds, Options, SearchableArgInfo};
+use scl_text::records::{CCompilerKind, CompilerArguments, ParsedArguments};
+use scl_text::refusal::Refusal;
+use scl_text::view::View;
+use scl_text::{ExpansionKind, judge_words};
+use std::alloc::Global;
+
+/// The tests of options that are not refused, and the record of what they find.
+fn answer(
+    alloc: Global,
+    options: Options<ArgData>,
+    inner: Options<ArgData>,
+    kind: CCompilerKind,
+    plusplus: bool,
+    cwd: &[u8],
+    view: &View,
+) -> Mem<CompilerArguments<ParsedArguments>>
+    ensures { IfOk result (λ answer. outcome_of answer ≡ recorded kind plusplus cwd.now view.now options inner) }
+{
+    match find(alloc, &options, plusplus)? {
+        Ok(found) => {
+            let record = record_of(alloc, options, &inner, found, kind, cwd, view)?;
+            Ok(CompilerArguments::Ok(record))
+        }
+        Err(refusal) => Ok(refusal.into_answer()),
+    }
+}
+
+/// What options that are not refused say, with the inner ones that they hand on.
+fn read(
+    alloc: Global,
+    options: Options<ArgData>,
+    cwd: &[u8],
+    plusplus: bool,
+    kind: CCompilerKind,
+    view: &View,
+) -> Mem<CompilerArguments<ParsedArguments>>
+    ensures { IfOk result (λ answer. outcome_of answer ≡ read kind plusplus cwd.now view.now options) }
+{
+    let words = options.texts(alloc, &OfKinds(&[Kind::XClang]))?;
+    match read_inner(alloc, &words, cwd, &ByInnerVerdict, view)? {
+        Ok(inner) => answer(alloc, options, inner, kind, plusplus, cwd, view),
+        Err(refusal) => Ok(refusal.into_answer()),
+    }
+}
+
+/// The options of a command line by the tables handed in, where none is refused.
+fn judged<S: SearchableArgInfo<ArgData> + Drop>(
+    alloc: Global,
+    arguments: &[Vec<u8>],
+    cwd: &[u8],
+    arg_info: S,
+    kind: CCompilerKind,
+    view: &View,
+) -> Mem<Result<Options<ArgData>, Refusal>>
+    requires { IsTrue (tables_hold_values holds_value (S.tables arg_info)) }
+    ensures { IfOk result (λ said. result_by (λ options. options) verdict_of said
+        ≡ judged_words ExpansionKind.Gnu empty_value (verdict view.now.is_multiarch) argument_parse (S.tables arg_info) (is_clang kind) cwd.now view.now (words_of arguments.now)) }
+{
+    let judge = ByVerdict {
+        multiarch: view.multiarch(),
+    };
+    let dashes = is_clang(kind);
+    judge_words(
+        alloc,
+        ExpansionKind::Gnu,
+        arguments,
+        cwd,
+        arg_info,
+        dashes,
+        &judge,
+        view,
+    )
+}
+
+/// What a command line says by the tables handed in: the record; or the first verdict in option order, that of a last
+/// flag without its value, the same of the inner options, or that of the tests after them (docs/RULES.md, Gcc, and
+/// Inner command lines). Paths and words are bytes; the directory and the view answer what is asked of files. The error
+/// is the refusal of memory.
+pub fn parse_arguments<S: SearchableArgInfo<ArgData> + Drop>(
+    alloc: Global,
+    arguments: &[Vec<u8>],
+    cwd: &[u8],
+    arg_info: S,
+    plusplus: bool,
+    kind: CCompilerKind,
+    view: &View,
+) -> Mem<CompilerArguments<ParsedArguments>>
+    requires { IsTrue (tables_hold_values holds_value (S.tables arg_info)) }
+    ensures { IfOk result (λ answer. outcome_of answer ≡ reading kind plusplus (S.tables arg_info) cwd.now view.now (words_of arguments.now)) }
+{
+    match judged(alloc, arguments, cwd, arg_info, kind, view)? {
+        Ok(options) => read(alloc, options, cwd, plusplus, kind, view),
+        Err(refusal) => Ok(refusal.into_answer()),
+    }
+}

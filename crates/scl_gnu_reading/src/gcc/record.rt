@@ -1,0 +1,154 @@
+//! The record of a compilation.
+ghost use Rattle.std.specs.Prelude.{◌≡◌, ◌&&◌, ◌++◌, ◌∷◌, [], IfOk};
+ghost use Rattle.std.specs.Option.{option_copied};
+ghost use Rattle.scl_text.specs.Records.{parsed_of, path_of};
+ghost use Rattle.scl_values.specs.Words.{words_of};
+ghost use Rattle.scl_gnu_reading.specs.FoundBy.{found_of};
+ghost use Rattle.scl_gnu_reading.specs.Kinds.{any, last_text};
+ghost use Rattle.scl_gnu_reading.specs.Recordings.{is_clang, is_gcc, has_extensions, added_common, all_words_at, dependency_words, needs_target, suppresses_rewritten_includes, record_of};
+
+use super::added_words::{add_dependency, add_split_dwarf};
+use super::data::{ArgData, Kind};
+use super::fixed_tests::Finding;
+use super::hash_files::hash_paths;
+use super::inner::push_inner;
+use super::inputs::Inputs;
+use super::outputs::output_files;
+use super::place::Place;
+use super::switches::{color_mode, external_assembler, too_hard_flag};
+use scl_args::{Mem, OfKinds, Options, ShortFlagsJoined};
+use scl_text::language::Language;
+use scl_text::records::{CCompilerKind, ColorMode, ParsedArguments};
+use scl_text::view::View;
+use std::alloc::Global;
+
+pub(crate) fn is_clang(kind: CCompilerKind) -> bool
+    ensures { result ≡ is_clang kind }
+{
+    matches!(kind, CCompilerKind::Clang)
+}
+
+fn is_gcc(kind: CCompilerKind) -> bool
+    ensures { result ≡ is_gcc kind }
+{
+    matches!(kind, CCompilerKind::Gcc)
+}
+
+/// Whether the language has GNU's extensions, by the standard that was asked for.
+fn has_extensions(standard: Option<&[u8]>) -> bool
+    ensures { result ≡ has_extensions (option_copied standard.entry) }
+{
+    match standard {
+        None => true,
+        Some(text) => text.starts_with(b"gnu"),
+    }
+}
+
+fn copied_flag(alloc: Global, flag: Option<&'static str>) -> Mem<Option<Vec<u8>>>
+    ensures { IfOk result (λ copy. path_of copy ≡ option_copied flag.entry) }
+{
+    match flag {
+        Some(flag) => Ok(Some(Vec::from_slice(alloc, flag.as_bytes())?)),
+        None => Ok(None),
+    }
+}
+
+/// Whether the words about dependencies need a target.
+fn needs_target(language: Language, options: &Options<ArgData>) -> bool
+    ensures { result ≡ needs_target language options.now }
+{
+    language.needs_c_preprocessing() && options.any(&OfKinds(&[Kind::NeedDepTarget]))
+}
+
+/// The words that go there: those of the outer options, then those of the inner ones.
+fn all_words_at(
+    alloc: Global,
+    options: &Options<ArgData>,
+    inner: &Options<ArgData>,
+    there: Place,
+) -> Mem<Vec<Vec<u8>>>
+    ensures { IfOk result (λ words. words_of words.items ≡ all_words_at there options.now inner.now) }
+{
+    let mut words = options.list(alloc, &ShortFlagsJoined, &there)?;
+    push_inner(alloc, &mut words, inner, there)?;
+    Ok(words)
+}
+
+fn dependency_words(
+    alloc: Global,
+    options: &Options<ArgData>,
+    inner: &Options<ArgData>,
+    found: &Finding,
+) -> Mem<Vec<Vec<u8>>>
+    ensures { IfOk result (λ words. words_of words.items ≡ dependency_words options.now inner.now (found_of found.now)) }
+{
+    let mut words = all_words_at(alloc, options, inner, Place::Dependency)?;
+    let is_needed = needs_target(found.language, options);
+    add_dependency(alloc, &mut words, is_needed, options, &found.object)?;
+    Ok(words)
+}
+
+/// The common words; they take over the words of the outer options, as the last of the lists.
+fn common_words(
+    alloc: Global,
+    options: Options<ArgData>,
+    inner: &Options<ArgData>,
+    object: &[u8],
+) -> Mem<Vec<Vec<u8>>>
+    ensures { IfOk result (λ words. words_of words.items
+        ≡ all_words_at Place.Common options inner.now ++ added_common (any (Kind.SplitDwarf ∷ []) options) object.now) }
+{
+    let is_split = options.any(&OfKinds(&[Kind::SplitDwarf]));
+    let mut words = options.into_list(alloc, &ShortFlagsJoined, &Place::Common)?;
+    push_inner(alloc, &mut words, inner, Place::Common)?;
+    add_split_dwarf(alloc, &mut words, is_split, object)?;
+    Ok(words)
+}
+
+/// Whether includes that were rewritten would change what a pedantic Gcc says.
+fn suppresses_rewritten_includes(kind: CCompilerKind, options: &Options<ArgData>) -> bool
+    ensures { result ≡ suppresses_rewritten_includes kind options.now }
+{
+    is_gcc(kind)
+        && options.any(&OfKinds(&[Kind::PedanticFlag]))
+        && has_extensions(options.last_text(&OfKinds(&[Kind::Standard])))
+}
+
+/// The record of the compilation that the tests found.
+pub(crate) fn record_of(
+    alloc: Global,
+    options: Options<ArgData>,
+    inner: &Options<ArgData>,
+    found: Finding,
+    kind: CCompilerKind,
+    cwd: &[u8],
+    view: &View,
+) -> Mem<ParsedArguments>
+    ensures { IfOk result (λ parsed. parsed_of parsed ≡ record_of kind cwd.now view.now options inner.now (found_of found)) }
+{
+    let outputs = output_files(alloc, &options, &found)?.into_outputs(alloc)?;
+    let dependency_args = dependency_words(alloc, &options, inner, &found)?;
+    let profile = OfKinds(&[Kind::Coverage, Kind::TestCoverage, Kind::ProfileGenerate]);
+    Ok(ParsedArguments {
+        input: found.input,
+        double_dash_input: options.is_behind_dashes(&Inputs),
+        language: found.language,
+        compilation_flag: Vec::from_slice(alloc, found.compile_flag.as_bytes())?,
+        depfile: None,
+        outputs,
+        dependency_args,
+        preprocessor_args: all_words_at(alloc, &options, inner, Place::Preprocessor)?,
+        arch_args: all_words_at(alloc, &options, inner, Place::Arch)?,
+        unhashed_args: all_words_at(alloc, &options, inner, Place::Unhashed)?,
+        extra_dist_files: Vec::new(alloc),
+        extra_hash_files: hash_paths(alloc, &options, inner, cwd, view)?,
+        uses_external_assembler: external_assembler(&options).unwrap_or(!is_clang(kind)),
+        msvc_show_includes: false,
+        msvc_explicit_language: false,
+        profile_generate: options.any(&profile),
+        color_mode: color_mode(&options).unwrap_or(ColorMode::Auto),
+        suppress_rewrite_includes_only: suppresses_rewritten_includes(kind, &options),
+        too_hard_for_preprocessor_cache_mode: copied_flag(alloc, too_hard_flag(&options))?,
+        common_args: common_words(alloc, options, inner, &found.object)?,
+    })
+}

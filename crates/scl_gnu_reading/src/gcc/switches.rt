@@ -1,0 +1,116 @@
+//! What options switch: the colour of messages, the assembler, and what a cache of preprocessor runs can see.
+ghost use Rattle.std.specs.Prelude.{◌≡◌};
+ghost use Rattle.std.specs.Option.{option_copied};
+ghost use Rattle.scl_values.specs.Seen.{seen};
+ghost use Rattle.scl_gnu_reading.specs.Data.{kind_of, word_of};
+ghost use Rattle.scl_gnu_reading.specs.Sorts.{may_be_too_hard};
+ghost use Rattle.scl_gnu_reading.specs.Kinds.{color_named, color_of, assembler_of, is_hidden_flag, color_mode, external_assembler, too_hard_flag};
+
+use super::data::{ArgData, Kind};
+use scl_args::{Argument, OfKinds, Options, Sort, Test};
+use scl_text::records::ColorMode;
+
+/// The colour that a value asks for.
+fn color_named(value: &[u8]) -> ColorMode
+    ensures { result ≡ color_named value.now }
+{
+    if value == b"".as_slice() || value == b"always".as_slice() {
+        ColorMode::On
+    } else if value == b"never".as_slice() {
+        ColorMode::Off
+    } else {
+        ColorMode::Auto
+    }
+}
+
+fn color_of(option: &Argument<ArgData>) -> ColorMode
+    ensures { result ≡ color_of (seen kind_of word_of option.now) }
+{
+    match option {
+        Argument::Raw(_) | Argument::UnknownFlag(_) => ColorMode::Auto,
+        Argument::Flag(_, value) | Argument::WithValue(_, value, _) => match value {
+            ArgData::DiagnosticsColor(word) => color_named(word),
+            ArgData::DiagnosticsColorFlag => ColorMode::On,
+            ArgData::NoDiagnosticsColorFlag => ColorMode::Off,
+            _ => ColorMode::Auto,
+        },
+    }
+}
+
+/// The colour that was asked for last.
+pub(crate) fn color_mode(options: &Options<ArgData>) -> Option<ColorMode>
+    ensures { result ≡ color_mode options.now }
+{
+    let kinds = [
+        Kind::DiagnosticsColor,
+        Kind::DiagnosticsColorFlag,
+        Kind::NoDiagnosticsColorFlag,
+    ];
+    match options.last_by(&OfKinds(&kinds)) {
+        Some(option) => Some(color_of(option)),
+        None => None,
+    }
+}
+
+fn assembler_of(option: &Argument<ArgData>) -> bool
+    ensures { result ≡ assembler_of (seen kind_of word_of option.now) }
+{
+    match option {
+        Argument::Flag(_, ArgData::NoIntegratedAs)
+        | Argument::WithValue(_, ArgData::NoIntegratedAs, _) => true,
+        _ => false,
+    }
+}
+
+/// Whether the assembler that was asked for last is a program of its own.
+pub(crate) fn external_assembler(options: &Options<ArgData>) -> Option<bool>
+    ensures { result ≡ external_assembler options.now }
+{
+    match options.last_by(&OfKinds(&[Kind::IntegratedAs, Kind::NoIntegratedAs])) {
+        Some(option) => Some(assembler_of(option)),
+        None => None,
+    }
+}
+
+fn is_hidden_flag(flag: &str) -> bool
+    ensures { result ≡ is_hidden_flag flag.now }
+{
+    flag == "-Wp" || flag == "-Xpreprocessor"
+}
+
+/// The options that hide from a cache of preprocessor runs what they ask of the preprocessor.
+struct Hidden;
+
+impl Test<ArgData> for Hidden {
+    ghost use Rattle.scl_gnu_reading.specs.Kinds.{is_too_hard};
+    ghost use Rattle.scl_gnu_reading.specs.Sorts.{may_be_too_hard, too_hard_by_sort};
+
+    ghost passes = { λ _. is_too_hard };
+
+    ghost may_pass = { λ _. may_be_too_hard };
+
+    ghost passes_by_sort = { λ _. too_hard_by_sort };
+
+    fn passes(&self, option: &Argument<ArgData>) -> bool {
+        match option {
+            Argument::Flag(flag, ArgData::PreprocessorArgument(_))
+            | Argument::WithValue(flag, ArgData::PreprocessorArgument(_), _) => {
+                is_hidden_flag(flag)
+            }
+            _ => false,
+        }
+    }
+
+    fn may_pass(&self, sort: Sort<Kind>) -> bool
+        ensures { result ≡ may_be_too_hard sort }
+    {
+        sort == Sort::Known(Kind::PreprocessorArgument)
+    }
+}
+
+/// The flag of the last of those options.
+pub(crate) fn too_hard_flag(options: &Options<ArgData>) -> Option<&'static str>
+    ensures { option_copied result ≡ too_hard_flag options.now }
+{
+    options.last_flag(&Hidden)
+}

@@ -1,0 +1,52 @@
+-- What a command line has from its environment: words before and behind its own.
+use Rattle.std.specs.Prelude.{ℕ, ◌==◌, ◌||◌, not, Bool, List, [], ◌∷◌, ◌++◌, map, filter, Option, None, Some, is_some, Result, Ok, codes, if◌then◌else◌}
+use Rattle.std.specs.Option.{option_map}
+use Rattle.std.specs.Str.{bytes_eq, chars}
+use Rattle.scl_args.specs.Options.{wanted, ◌>>=◌}
+use Rattle.scl_files.specs.Decoding.{utf8_text}
+use Rattle.scl_files.specs.MsvcText.{msvc_arguments}
+use Rattle.scl_text.specs.Records.{Verdict, CannotCache}
+
+-- the variable whose words stand before those of a command line, and that whose words stand behind them
+abbrev pub front_variable : List ℕ
+front_variable = codes "CL"
+
+abbrev pub back_variable : List ℕ
+back_variable = codes "_CL_"
+
+abbrev pub is_variable : List ℕ → Bool
+is_variable key = bytes_eq key front_variable || bytes_eq key back_variable
+
+-- the environment less the two variables
+abbrev pub without_cl_env_vars : List (List ℕ × List ℕ) → List (List ℕ × List ℕ)
+without_cl_env_vars pairs = filter (λ pair. not (is_variable pair.0)) pairs
+
+-- the value of the first pair with the key
+abbrev pub value_of : List ℕ → List (List ℕ × List ℕ) → Option (List ℕ)
+value_of key [] = None
+value_of key (pair ∷ pairs) = if bytes_eq pair.0 key then Some pair.1 else value_of key pairs
+
+-- whether one of the two variables has a value
+abbrev pub gives_words : List (List ℕ × List ℕ) → Bool
+gives_words pairs = is_some (value_of front_variable pairs) || is_some (value_of back_variable pairs)
+
+-- the word, in which the first # stands for =
+abbrev pub with_equals : List ℕ → List ℕ
+with_equals [] = []
+with_equals (byte ∷ bytes) = if byte == 35 then 61 ∷ bytes else byte ∷ with_equals bytes
+
+-- the words of a value, if it is a text
+abbrev pub words_in : List ℕ → Option (List (List ℕ))
+words_in value = option_map (λ text. map with_equals (msvc_arguments (chars text))) (utf8_text value)
+
+-- the words of a variable, whose value is a text if it has one
+abbrev pub variable_words : Verdict → Option (List ℕ) → Result (List (List ℕ)) Verdict
+variable_words broken None = Ok []
+variable_words broken (Some value) = wanted (words_in value) broken
+
+-- the words of a command line between those of the two variables
+abbrev pub surrounded : List (List ℕ × List ℕ) → List (List ℕ) → Result (List (List ℕ)) Verdict
+surrounded pairs words = do
+  front ← variable_words (CannotCache (codes "CL environment variable value broken")) (value_of front_variable pairs)
+  back ← variable_words (CannotCache (codes "_CL_ environment variable value broken")) (value_of back_variable pairs)
+  Ok (front ++ words ++ back)

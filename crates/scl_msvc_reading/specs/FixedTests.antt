@@ -1,0 +1,86 @@
+-- The tests that follow the verdicts of the options, in their order.
+use Rattle.std.specs.Prelude.{ℕ, Bool, true, false, not, ◌&&◌, ◌||◌, List, [], ◌∷◌, Option, None, Some, Result, Ok, Err, codes, nat_eq, is_some, if◌then◌else◌}
+use Rattle.std.specs.List.{ends_with}
+use Rattle.std.specs.Option.{option_map}
+use Rattle.scl_args.specs.Options.{texts, wanted, unless, or_else, ◌>>=◌}
+use Rattle.scl_values.specs.Seen.{Seen}
+use Rattle.scl_files.specs.Characters.{slash, backslash}
+use Rattle.scl_text.specs.declared.language.Language.{Language}
+use Rattle.scl_text.specs.declared.language.Language.TheVariants as languages
+use Rattle.scl_text.specs.Languages.{language_of_file_name}
+use Rattle.scl_files.specs.Paths.{join, file_name, extension, with_extension}
+use Rattle.scl_text.specs.Reasons.{unknown_source_language, invalid_input_file}
+use Rattle.scl_text.specs.Records.{Verdict, CannotCache, NotCompilation}
+use Rattle.scl_text.specs.Refusals.{the_input}
+use Rattle.scl_msvc_reading.specs.declared.msvc.data.Kind.{Kind}
+use Rattle.scl_msvc_reading.specs.declared.msvc.data.Kind.TheVariants as kind
+use Rattle.scl_msvc_reading.specs.Kinds.{is_input, last_text, last_flag, any, explicit_language}
+use Rattle.scl_msvc_reading.specs.Verdicts.{refused_if}
+
+-- what the tests find
+pub record Found : Type 0 where
+  pub compile_flag : List ℕ
+  pub input : List ℕ
+  pub language : Language
+  pub object : List ℕ
+  pub program_database : Option (List ℕ)
+
+-- ---- modules
+
+abbrev pub differ : Bool → Bool → Bool
+differ true other = not other
+differ false other = other
+
+-- where a module is compiled, its output is named, and only then; its input has no other language
+abbrev pub module_verdict : (is_compiled is_named has_language : Bool) → Option Verdict
+module_verdict is_compiled is_named has_language =
+    or_else (refused_if (differ is_compiled is_named) (CannotCache (codes "-x c++-module without -fmodule-output= or vice versa")))
+    (refused_if (is_compiled && has_language) (CannotCache (codes "-x c++-module with /Tc or /Tp")))
+
+-- the one input, where nothing is said against it; of several no more is asked
+abbrev pub input_unless : Option Verdict → List (List ℕ) → Result (List ℕ) Verdict
+input_unless said (input ∷ (other ∷ inputs)) = the_input (input ∷ (other ∷ inputs))
+input_unless said inputs = unless said (the_input inputs)
+
+-- that of a module, else what its flag says, else that of the file's name
+abbrev pub language_of : Bool → Option Language → List ℕ → Option Language
+language_of true explicit input = Some languages.CxxModule
+language_of false (Some language) input = Some language
+language_of false None input = language_of_file_name input
+
+-- ---- outputs
+
+-- the path ends in a slash or a backslash
+abbrev pub names_folder : List ℕ → Bool
+names_folder path = ends_with nat_eq path (slash ∷ []) || ends_with nat_eq path (backslash ∷ [])
+
+-- the path, with this extension where it has none
+abbrev pub with_default_extension : List ℕ → List ℕ → List ℕ
+with_default_extension path default = if is_some (extension path) then path else with_extension path default
+
+-- the path that was asked for, or the input's file name in that folder, else beside the input
+abbrev pub object_of : Option (List ℕ) → List ℕ → Option (List ℕ)
+object_of None input = Some (with_extension input (codes "obj"))
+object_of (Some path) input =
+    if names_folder path then option_map (λ name. with_extension (join path name) (codes "obj")) (file_name input)
+    else Some (with_default_extension path (codes "obj"))
+
+abbrev pub shared_database : Verdict
+shared_database = CannotCache (codes "shared pdb")
+
+-- debug information goes to a file of its own, which must be named; clang-cl keeps it in the object
+abbrev pub program_database : Bool → Option (List ℕ) → Result (Option (List ℕ)) Verdict
+program_database false path = Ok None
+program_database true None = Err shared_database
+program_database true (Some path) = if names_folder path then Err shared_database else Ok (Some (with_default_extension path (codes "pdb")))
+
+-- ---- the tests
+
+abbrev pub found : Bool → List (Seen Kind) → Result Found Verdict
+found is_clang os = do
+  flag ← wanted (last_flag (kind.DoCompilation ∷ []) os) NotCompilation
+  input ← input_unless (module_verdict (any (kind.ClangLanguage ∷ []) os) (any (kind.ClangModuleOutput ∷ []) os) (any (kind.CInput ∷ kind.CxxInput ∷ []) os)) (texts is_input os)
+  language ← wanted (language_of (any (kind.ClangLanguage ∷ []) os) (explicit_language os) input) unknown_source_language
+  object ← wanted (object_of (last_text (kind.Output ∷ []) os) input) invalid_input_file
+  database ← program_database (not is_clang && any (kind.DebugInfo ∷ []) os) (last_text (kind.ProgramDatabase ∷ []) os)
+  Ok (record { compile_flag = flag; input = input; language = language; object = object; program_database = database })

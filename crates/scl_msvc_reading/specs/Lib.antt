@@ -1,0 +1,14 @@
+pub mod Data
+pub mod Environment
+pub mod FixedTests
+pub mod FoundBy
+pub mod InnerBy
+pub mod InnerSorts
+pub mod Inners
+pub mod Kinds
+pub mod Places
+pub mod Readings
+pub mod Recordings
+pub mod Rows
+pub mod Sorts
+pub mod Verdicts

@@ -1,0 +1,19 @@
+//! The tables of Msvc's cl and of clang-cl, and the words that are read by them.
+
+mod args;
+mod data;
+mod fixed_tests;
+mod hash_files;
+mod inner;
+mod inputs;
+mod judge;
+mod outputs;
+mod parse;
+mod place;
+mod record;
+mod tables;
+
+pub use args::{ARGS, SLASH_ARGS, slash_table, table};
+pub use data::{ArgData, Kind};
+pub use parse::parse_arguments;
+pub use tables::{BothTables, BothTrees};

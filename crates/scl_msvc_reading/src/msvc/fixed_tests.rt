@@ -1,0 +1,169 @@
+//! The tests that follow the verdicts of the options.
+ghost use Rattle.std.specs.Prelude.{◌≡◌, IfOk, codes};
+ghost use Rattle.std.specs.Option.{option_copied, option_map};
+ghost use Rattle.scl_args.specs.Options.{result_by};
+ghost use Rattle.scl_values.specs.Words.{words_of};
+ghost use Rattle.scl_files.specs.Paths.{file_name, join, with_extension};
+ghost use Rattle.scl_text.specs.Records.{path_of};
+ghost use Rattle.scl_text.specs.Refusals.{verdict_of};
+ghost use Rattle.scl_msvc_reading.specs.FixedTests.{module_verdict, input_unless, language_of, names_folder, with_default_extension, object_of, program_database, found};
+ghost use Rattle.scl_msvc_reading.specs.FoundBy.{found_of};
+
+use super::data::{ArgData, Kind};
+use super::inputs::{Inputs, explicit_language, has_explicit_language};
+use super::judge::refused_if;
+use scl_args::{Mem, OfKinds, Options};
+use scl_text::language::Language;
+use scl_text::path::{extension, file_name, join, with_extension};
+use scl_text::reasons::{INVALID_INPUT_FILE, UNKNOWN_SOURCE_LANGUAGE};
+use scl_text::refusal::{Refusal, one_input};
+use std::alloc::Global;
+
+/// What the tests find.
+#[derive(Drop)]
+pub(crate) struct Finding {
+    pub(crate) compile_flag: &'static str,
+    pub(crate) input: Vec<u8>,
+    pub(crate) language: Language,
+    pub(crate) object: Vec<u8>,
+    pub(crate) program_database: Option<Vec<u8>>,
+}
+
+/// Why a module is refused: its output is not named, or that of no module is, or a flag says another language.
+fn judged_module(is_compiled: bool, is_named: bool, has_language: bool) -> Option<Refusal>
+    ensures { option_map verdict_of result ≡ module_verdict is_compiled is_named has_language }
+{
+    if is_compiled != is_named {
+        return Some(Refusal::CannotCache(
+            "-x c++-module without -fmodule-output= or vice versa",
+            None,
+        ));
+    }
+    refused_if(is_compiled && has_language, "-x c++-module with /Tc or /Tp")
+}
+
+/// The one input, where nothing was said against it; of several no more is asked.
+fn input_unless(
+    alloc: Global,
+    said: Option<Refusal>,
+    inputs: Vec<Vec<u8>>,
+) -> Mem<Result<Vec<u8>, Refusal>>
+    ensures { IfOk result (λ tested. result_by (λ input. input.items) verdict_of tested ≡ input_unless (option_map verdict_of said) (words_of inputs.items)) }
+{
+    if inputs.len() > 1 {
+        drop(said);
+        return one_input(alloc, inputs);
+    }
+    match said {
+        Some(refusal) => Ok(Err(refusal)),
+        None => one_input(alloc, inputs),
+    }
+}
+
+fn language_of(is_module: bool, explicit: Option<Language>, input: &[u8]) -> Option<Language>
+    ensures { result ≡ language_of is_module explicit input.now }
+{
+    if is_module {
+        return Some(Language::CxxModule);
+    }
+    match explicit {
+        Some(language) => Some(language),
+        None => Language::from_file_name(input),
+    }
+}
+
+fn names_folder(path: &[u8]) -> bool
+    ensures { result ≡ names_folder path.now }
+{
+    path.ends_with(b"/") || path.ends_with(b"\\")
+}
+
+/// The path, with this extension where it has none.
+fn with_default_extension(alloc: Global, path: &[u8], default: &[u8]) -> Mem<Vec<u8>>
+    ensures { IfOk result (λ whole. whole.items ≡ with_default_extension path.now default.now) }
+{
+    match extension(path) {
+        Some(_) => Vec::from_slice(alloc, path),
+        None => with_extension(alloc, path, default),
+    }
+}
+
+/// The object of the input in the folder, under the input's file name.
+fn object_in(alloc: Global, folder: &[u8], input: &[u8]) -> Mem<Option<Vec<u8>>>
+    ensures { IfOk result (λ object. path_of object ≡ option_map (λ name. with_extension (join folder.now name) (codes "obj")) (file_name input.now)) }
+{
+    let Some(name) = file_name(input) else {
+        return Ok(None);
+    };
+    let path = join(alloc, folder, name)?;
+    Ok(Some(with_extension(alloc, &path, b"obj")?))
+}
+
+fn object_of(alloc: Global, output: Option<&[u8]>, input: &[u8]) -> Mem<Option<Vec<u8>>>
+    ensures { IfOk result (λ object. path_of object ≡ object_of (option_copied output.entry) input.now) }
+{
+    match output {
+        None => Ok(Some(with_extension(alloc, input, b"obj")?)),
+        Some(path) if names_folder(path) => object_in(alloc, path, input),
+        Some(path) => Ok(Some(with_default_extension(alloc, path, b"obj")?)),
+    }
+}
+
+/// Where debug information goes, if it goes to a file of its own; that must be named.
+fn program_database(
+    alloc: Global,
+    is_apart: bool,
+    path: Option<&[u8]>,
+) -> Mem<Result<Option<Vec<u8>>, Refusal>>
+    ensures { IfOk result (λ tested. result_by path_of verdict_of tested ≡ program_database is_apart (option_copied path.entry)) }
+{
+    if !is_apart {
+        return Ok(Ok(None));
+    }
+    match path {
+        Some(path) if !names_folder(path) => {
+            Ok(Ok(Some(with_default_extension(alloc, path, b"pdb")?)))
+        }
+        Some(_) | None => Ok(Err(Refusal::CannotCache("shared pdb", None))),
+    }
+}
+
+/// The tests in their order.
+pub(crate) fn find(
+    alloc: Global,
+    options: &Options<ArgData>,
+    is_clang: bool,
+) -> Mem<Result<Finding, Refusal>>
+    ensures { IfOk result (λ tested. result_by found_of verdict_of tested ≡ found is_clang options.now) }
+{
+    let Some(compile_flag) = options.last_flag(&OfKinds(&[Kind::DoCompilation])) else {
+        return Ok(Err(Refusal::NotCompilation));
+    };
+    let is_module = options.any(&OfKinds(&[Kind::ClangLanguage]));
+    let is_named = options.any(&OfKinds(&[Kind::ClangModuleOutput]));
+    let said = judged_module(is_module, is_named, has_explicit_language(options));
+    let input = match input_unless(alloc, said, options.texts(alloc, &Inputs)?)? {
+        Ok(input) => input,
+        Err(refusal) => return Ok(Err(refusal)),
+    };
+    let Some(language) = language_of(is_module, explicit_language(options), &input) else {
+        return Ok(Err(Refusal::CannotCache(UNKNOWN_SOURCE_LANGUAGE, None)));
+    };
+    let output = options.last_text(&OfKinds(&[Kind::Output]));
+    let Some(object) = object_of(alloc, output, &input)? else {
+        return Ok(Err(Refusal::CannotCache(INVALID_INPUT_FILE, None)));
+    };
+    let is_apart = !is_clang && options.any(&OfKinds(&[Kind::DebugInfo]));
+    let path = options.last_text(&OfKinds(&[Kind::ProgramDatabase]));
+    let program_database = match program_database(alloc, is_apart, path)? {
+        Ok(path) => path,
+        Err(refusal) => return Ok(Err(refusal)),
+    };
+    Ok(Ok(Finding {
+        compile_flag,
+        input,
+        language,
+        object,
+        program_database,
+    }))
+}

@@ -1,0 +1,79 @@
+//! The inputs of a command line, and what their flags say of their language.
+ghost use Rattle.std.specs.Prelude.{◌≡◌, ◌∷◌, []};
+ghost use Rattle.scl_values.specs.Seen.{seen};
+ghost use Rattle.scl_msvc_reading.specs.Data.{kind_of, word_of};
+ghost use Rattle.scl_msvc_reading.specs.Kinds.{any, explicit_language, language_of_kind, language_said};
+ghost use Rattle.scl_msvc_reading.specs.Sorts.{may_be_input};
+
+use super::data::{ArgData, Kind};
+use scl_args::{Argument, OfKinds, Options, ReadArg, Sort, Test, is_dashes};
+use scl_text::language::Language;
+
+/// The words that are no options, but for `--`, and the values of flags that name an input.
+pub(crate) struct Inputs;
+
+impl Test<ArgData> for Inputs {
+    ghost use Rattle.scl_msvc_reading.specs.Kinds.{is_input};
+    ghost use Rattle.scl_msvc_reading.specs.Sorts.{may_be_input, input_by_sort};
+
+    ghost passes = { λ _. is_input };
+
+    ghost may_pass = { λ _. may_be_input };
+
+    ghost passes_by_sort = { λ _. input_by_sort };
+
+    fn passes(&self, option: &Argument<ArgData>) -> bool {
+        match option {
+            Argument::Raw(_) => !is_dashes(option),
+            Argument::UnknownFlag(_) => false,
+            Argument::Flag(_, value) | Argument::WithValue(_, value, _) => {
+                matches!(value.kind(), Kind::CInput | Kind::CxxInput)
+            }
+        }
+    }
+
+    fn may_pass(&self, sort: Sort<Kind>) -> bool
+        ensures { result ≡ may_be_input sort }
+    {
+        match sort {
+            Sort::Raw => true,
+            Sort::Unknown => false,
+            Sort::Known(kind) => matches!(kind, Kind::CInput | Kind::CxxInput),
+        }
+    }
+}
+
+fn language_of_kind(kind: Kind) -> Option<Language>
+    ensures { result ≡ language_of_kind kind }
+{
+    match kind {
+        Kind::CInput => Some(Language::C),
+        Kind::CxxInput => Some(Language::Cxx),
+        _ => None,
+    }
+}
+
+fn language_said(option: &Argument<ArgData>) -> Option<Language>
+    ensures { result ≡ language_said (seen kind_of word_of option.now) }
+{
+    match option {
+        Argument::Raw(_) | Argument::UnknownFlag(_) => None,
+        Argument::Flag(_, value) | Argument::WithValue(_, value, _) => {
+            language_of_kind(value.kind())
+        }
+    }
+}
+
+/// Whether a flag says the language of an input.
+pub(crate) fn has_explicit_language(options: &Options<ArgData>) -> bool
+    ensures { result ≡ any (Kind.CInput ∷ Kind.CxxInput ∷ []) options.now }
+{
+    options.any(&OfKinds(&[Kind::CInput, Kind::CxxInput]))
+}
+
+/// The language of the input, as its flag says.
+pub(crate) fn explicit_language(options: &Options<ArgData>) -> Option<Language>
+    ensures { result ≡ explicit_language options.now }
+{
+    language_said(options.last_by(&OfKinds(&[Kind::CInput, Kind::CxxInput]))?)
+}

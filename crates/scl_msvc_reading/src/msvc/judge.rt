@@ -1,0 +1,117 @@
+//! What an option says against caching.
+ghost use Rattle.std.specs.Prelude.{◌≡◌};
+ghost use Rattle.std.specs.Option.{option_map};
+ghost use Rattle.scl_args.specs.Options.{or_else};
+ghost use Rattle.scl_text.specs.Records.{CannotCache};
+ghost use Rattle.scl_text.specs.Refusals.{verdict_of};
+ghost use Rattle.scl_msvc_reading.specs.Data.{kind_of, word_of};
+ghost use Rattle.scl_msvc_reading.specs.Places.{place};
+ghost use Rattle.scl_msvc_reading.specs.Verdicts.{refused_if, flag_verdict, value_verdict};
+
+use super::data::ArgData;
+use super::place::{Place, place_of_kind};
+use scl_args::{ArgParseError, Argument, Judge, Mem, ReadArg};
+use scl_text::reasons::{EMPTY_VALUE, NO_INPUT_FILE};
+use scl_text::refusal::{Refusal, argument_parse};
+use std::alloc::Global;
+
+/// The refusal for this reason, where there is one.
+pub(crate) fn refused_if(is_refused: bool, reason: &'static str) -> Option<Refusal>
+    ensures { option_map verdict_of result ≡ refused_if is_refused (CannotCache reason.now) }
+{
+    if is_refused {
+        Some(Refusal::CannotCache(reason, None))
+    } else {
+        None
+    }
+}
+
+/// The refusal of an option by its flag, where its place is that of refused ones.
+pub(crate) fn judged_flag(place: Place, flag: &'static str) -> Option<Refusal>
+    ensures { option_map verdict_of result ≡ flag_verdict place flag.now }
+{
+    match place {
+        Place::Refused => Some(Refusal::CannotCache(flag, None)),
+        _ => None,
+    }
+}
+
+fn judged_value(is_clang: bool, flag: &'static str, value: &ArgData) -> Option<Refusal>
+    ensures { option_map verdict_of result ≡ value_verdict is_clang flag.now (kind_of value.now) (word_of value.now) }
+{
+    match value {
+        ArgData::SuppressCompilation => Some(Refusal::NotCompilation),
+        ArgData::Output(path) => {
+            refused_if(path.0.as_slice() == b"nul".as_slice(), "output to nul")
+        }
+        ArgData::CInput(path) | ArgData::CxxInput(path) => {
+            refused_if(path.0.is_empty(), NO_INPUT_FILE)
+        }
+        ArgData::ClangModuleFile(text) => refused_if(!is_clang || text.is_empty(), flag),
+        ArgData::ClangModuleOutput(text) => refused_if(text.is_empty(), flag),
+        ArgData::ClangLanguage(text) => {
+            refused_if(
+                !is_clang || text.as_slice() != b"c++-module".as_slice(),
+                flag,
+            )
+        }
+        _ => None,
+    }
+}
+
+fn judged_known(is_clang: bool, flag: &'static str, value: &ArgData) -> Option<Refusal>
+    ensures { option_map verdict_of result
+        ≡ or_else (flag_verdict (place (kind_of value.now)) flag.now) (value_verdict is_clang flag.now (kind_of value.now) (word_of value.now)) }
+{
+    match judged_flag(place_of_kind(value.kind()), flag) {
+        Some(refusal) => Some(refusal),
+        None => judged_value(is_clang, flag, value),
+    }
+}
+
+/// Judges the options of cl, or of clang-cl.
+#[derive(Clone, Copy)]
+pub(crate) struct ByVerdict {
+    pub(crate) is_clang: bool,
+}
+
+impl Judge<ArgData> for ByVerdict {
+    ghost use Rattle.scl_text.specs.Reasons.{empty_value, argument_parse};
+    ghost use Rattle.scl_text.specs.Records.{Verdict};
+    ghost use Rattle.scl_text.specs.Refusals.{verdict_of};
+    ghost use Rattle.scl_msvc_reading.specs.Verdicts.{verdict};
+
+    type Refusal = Refusal;
+
+    ghost Verdict = { Verdict };
+
+    ghost verdict_of = { verdict_of };
+
+    ghost verdict = { λ judge. verdict judge.is_clang };
+
+    ghost empty = { empty_value };
+
+    ghost dangling = { argument_parse };
+
+    fn judge(
+        &self,
+        _alloc: Global,
+        _before: &[Argument<ArgData>],
+        option: &Argument<ArgData>,
+    ) -> Mem<Option<Refusal>> {
+        match option {
+            Argument::Raw(_) | Argument::UnknownFlag(_) => Ok(None),
+            Argument::Flag(flag, value) | Argument::WithValue(flag, value, _) => {
+                Ok(judged_known(self.is_clang, flag, value))
+            }
+        }
+    }
+
+    fn refuse_empty(&self) -> Refusal {
+        Refusal::CannotCache(EMPTY_VALUE, None)
+    }
+
+    fn refuse_dangling(&self, alloc: Global) -> Mem<Refusal> {
+        argument_parse(alloc, &ArgParseError::UnexpectedEndOfArgs)
+    }
+}

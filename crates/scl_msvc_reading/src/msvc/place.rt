@@ -1,0 +1,116 @@
+//! Where the words of options go.
+ghost use Rattle.std.specs.Prelude.{◌≡◌};
+ghost use Rattle.scl_values.specs.Seen.{seen};
+ghost use Rattle.scl_msvc_reading.specs.Data.{kind_of, word_of};
+ghost use Rattle.scl_msvc_reading.specs.Places.{place, place_of, side_of_flag};
+ghost use Rattle.scl_msvc_reading.specs.Sorts.{place_of_sort, sort_goes_to};
+
+use super::data::{ArgData, Kind};
+use scl_args::{Argument, NormalizedDisposition, ReadArg, Sides, Sort, Test};
+
+/// Where the words of an option go: to a list of the command, or nowhere; or the option is refused
+/// (docs/RULES.md, Msvc).
+#[derive(Clone, Copy, Debug, PartialEq, Eq)]
+pub enum Place {
+    Common,
+    Unhashed,
+    Preprocessor,
+    Dependency,
+    Nowhere,
+    Refused,
+}
+
+/// Where the words of an option of the kind go.
+pub(crate) fn place_of_kind(kind: Kind) -> Place
+    ensures { result ≡ place kind }
+{
+    match kind {
+        Kind::TooHardFlag => Place::Refused,
+        Kind::TooHard => Place::Refused,
+        Kind::TooHardPath => Place::Refused,
+        Kind::SuppressCompilation => Place::Nowhere,
+        Kind::DoCompilation => Place::Nowhere,
+        Kind::Output => Place::Nowhere,
+        Kind::CInput => Place::Nowhere,
+        Kind::CxxInput => Place::Nowhere,
+        Kind::ClangLanguage => Place::Common,
+        Kind::ClangModuleFile => Place::Common,
+        Kind::ClangModuleOutput => Place::Common,
+        Kind::ExtraHashFile => Place::Common,
+        Kind::DebugInfo => Place::Common,
+        Kind::ProgramDatabase => Place::Common,
+        Kind::DepFile => Place::Nowhere,
+        Kind::ShowIncludes => Place::Dependency,
+        Kind::PreprocessorArgument => Place::Preprocessor,
+        Kind::PreprocessorArgumentPath => Place::Preprocessor,
+        Kind::ExternalIncludePath => Place::Common,
+        Kind::PassThrough => Place::Common,
+        Kind::PassThroughWithPath => Place::Common,
+        Kind::PassThroughWithSuffix => Place::Common,
+        Kind::XClang => Place::Nowhere,
+        Kind::Clang => Place::Nowhere,
+        Kind::Ignore => Place::Nowhere,
+        Kind::IgnoreWithSuffix => Place::Nowhere,
+    }
+}
+
+/// Where the words of options of the sort go: an unknown flag to the common words, a word that is no option nowhere.
+fn place_of_sort(sort: Sort<Kind>) -> Place
+    ensures { result ≡ place_of_sort sort }
+{
+    match sort {
+        Sort::Raw => Place::Nowhere,
+        Sort::Unknown => Place::Common,
+        Sort::Known(kind) => place_of_kind(kind),
+    }
+}
+
+/// Where the words of the option go: an unknown flag to the common words, a word that is no option nowhere.
+fn place_of(option: &Argument<ArgData>) -> Place
+    ensures { result ≡ place_of (seen kind_of word_of option.now) }
+{
+    match option {
+        Argument::Raw(_) => Place::Nowhere,
+        Argument::UnknownFlag(_) => Place::Common,
+        Argument::Flag(_, value) | Argument::WithValue(_, value, _) => place_of_kind(value.kind()),
+    }
+}
+
+impl Test<ArgData> for Place {
+    ghost use Rattle.scl_msvc_reading.specs.Places.{goes_to};
+    ghost use Rattle.scl_msvc_reading.specs.Sorts.{sort_goes_to, goes_by_sort};
+
+    ghost passes = { goes_to };
+
+    ghost may_pass = { sort_goes_to };
+
+    ghost passes_by_sort = { goes_by_sort };
+
+    fn passes(&self, option: &Argument<ArgData>) -> bool {
+        place_of(option) == *self
+    }
+
+    fn may_pass(&self, sort: Sort<Kind>) -> bool
+        ensures { result ≡ sort_goes_to self.now sort }
+    {
+        place_of_sort(sort) == *self
+    }
+}
+
+/// Flags stand together with their values, but those of folders of external includes.
+#[derive(Clone, Copy, Debug)]
+pub(crate) struct ExternalIncludesApart;
+
+impl Sides for ExternalIncludesApart {
+    ghost use Rattle.scl_msvc_reading.specs.Places.{side_of_flag};
+
+    ghost side = { λ _. side_of_flag };
+
+    fn side(&self, flag: &str) -> NormalizedDisposition {
+        if flag == "-external:I" || flag == "/external:I" {
+            NormalizedDisposition::Separated
+        } else {
+            NormalizedDisposition::Concatenated
+        }
+    }
+}

@@ -1,0 +1,89 @@
+//! The record of a compilation.
+ghost use Rattle.std.specs.Prelude.{◌≡◌, IfOk};
+ghost use Rattle.scl_values.specs.Words.{words_of};
+ghost use Rattle.scl_text.specs.Records.{parsed_of};
+ghost use Rattle.scl_msvc_reading.specs.FoundBy.{found_of};
+ghost use Rattle.scl_msvc_reading.specs.InnerBy.{inner_of};
+ghost use Rattle.scl_msvc_reading.specs.Recordings.{all_words_at, writes_profile, record_of};
+
+use super::data::{ArgData, Kind};
+use super::fixed_tests::Finding;
+use super::hash_files::hash_paths;
+use super::inner::{InnerOptions, push_inner};
+use super::inputs::{Inputs, has_explicit_language};
+use super::outputs::output_files;
+use super::place::{ExternalIncludesApart, Place};
+use scl_args::{Mem, OfKinds, Options};
+use scl_gnu_reading::gcc;
+use scl_text::outputs::copied_path;
+use scl_text::records::{ColorMode, ParsedArguments};
+use scl_text::view::View;
+use std::alloc::Global;
+
+/// The words that go there: those of the outer options, then those of the inner ones.
+fn words_at(
+    alloc: Global,
+    options: &Options<ArgData>,
+    inner: &InnerOptions,
+    there: Place,
+) -> Mem<Vec<Vec<u8>>>
+    ensures { IfOk result (λ words. words_of words.items ≡ all_words_at there options.now (inner_of inner.now)) }
+{
+    let mut words = options.list(alloc, &ExternalIncludesApart, &there)?;
+    push_inner(alloc, &mut words, inner, there)?;
+    Ok(words)
+}
+
+/// The common words; they take over the words of the outer options, as the last of the lists.
+fn common_words(alloc: Global, options: Options<ArgData>, inner: &InnerOptions) -> Mem<Vec<Vec<u8>>>
+    ensures { IfOk result (λ words. words_of words.items ≡ all_words_at Place.Common options (inner_of inner.now)) }
+{
+    let mut words = options.into_list(alloc, &ExternalIncludesApart, &Place::Common)?;
+    push_inner(alloc, &mut words, inner, Place::Common)?;
+    Ok(words)
+}
+
+/// Whether the program will write a profile of its runs; inner options alone ask for it.
+fn writes_profile(inner: &InnerOptions) -> bool
+    ensures { result ≡ writes_profile (inner_of inner.now) }
+{
+    let profile = OfKinds(&[gcc::Kind::ProfileGenerate]);
+    inner.xclang.any(&profile) || inner.clang.any(&profile)
+}
+
+/// The record of the compilation that the tests found.
+pub(crate) fn record_of(
+    alloc: Global,
+    options: Options<ArgData>,
+    inner: &InnerOptions,
+    found: Finding,
+    cwd: &[u8],
+    view: &View,
+) -> Mem<ParsedArguments>
+    ensures { IfOk result (λ parsed. parsed_of parsed ≡ record_of cwd.now view.now options (inner_of inner.now) (found_of found)) }
+{
+    let outputs = output_files(alloc, &options, &found)?.into_outputs(alloc)?;
+    let depfile = options.last_text(&OfKinds(&[Kind::DepFile]));
+    Ok(ParsedArguments {
+        input: found.input,
+        double_dash_input: options.is_behind_dashes(&Inputs),
+        language: found.language,
+        compilation_flag: Vec::from_slice(alloc, found.compile_flag.as_bytes())?,
+        depfile: copied_path(alloc, depfile)?,
+        outputs,
+        dependency_args: words_at(alloc, &options, inner, Place::Dependency)?,
+        preprocessor_args: words_at(alloc, &options, inner, Place::Preprocessor)?,
+        arch_args: Vec::new(alloc),
+        unhashed_args: words_at(alloc, &options, inner, Place::Unhashed)?,
+        extra_dist_files: Vec::new(alloc),
+        extra_hash_files: hash_paths(alloc, &options, inner, cwd, view)?,
+        uses_external_assembler: false,
+        msvc_show_includes: options.any(&OfKinds(&[Kind::ShowIncludes])),
+        msvc_explicit_language: has_explicit_language(&options),
+        profile_generate: writes_profile(inner),
+        color_mode: ColorMode::Auto,
+        suppress_rewrite_includes_only: false,
+        too_hard_for_preprocessor_cache_mode: None,
+        common_args: common_words(alloc, options, inner)?,
+    })
+}

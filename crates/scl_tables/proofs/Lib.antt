@@ -1,0 +1,6 @@
+pub mod BitsLemmas
+pub mod DescentLemmas
+pub mod OrderLemmas
+pub mod PrefixLemmas
+pub mod TablesLemmas
+pub mod TreeLemmas

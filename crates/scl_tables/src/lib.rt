@@ -1,0 +1,12 @@
+//! Flag tables, prefix trees of them, and the search for the row that owns a word.
+#![tactic(auto)]
+
+mod nodes;
+mod rows;
+mod search;
+mod table;
+mod tables;
+mod tree;
+
+pub use rows::{FlagTable, FlagTree, Probes, RowStore, SearchableArgInfo, looks};
+pub use tables::Tables;

@@ -1,0 +1,127 @@
+//! How the nodes of a prefix tree are made of a table's rows.
+ghost use Rattle.std.specs.Prelude.{◌≡◌, ℕ, ◌+◌, ◌<◌, ◌≤◌, ◌≢◌, ◌↔◌, ◌^◌, List, map, length, true, false, IsTrue, IfOk, slice_index, slice_index_or};
+ghost use Rattle.scl_values.specs.Row.{Row, row_of};
+ghost use Rattle.scl_values.specs.Tables.{is_table};
+ghost use Rattle.scl_tables.specs.Trees.{group_of, RiseIn, IsNode, IsTree, Grows};
+
+use scl_values::ArgRow;
+use scl_values::Mem;
+use std::alloc::Global;
+
+/// A node of a prefix tree. Its rows are those whose flags begin with the bytes on the way to it.
+#[derive(Clone, Copy)]
+pub(crate) struct Node {
+    /// The last byte on the way.
+    pub(crate) byte: u8,
+    /// Whether the first of its rows is its own, and not of a child.
+    pub(crate) has_row: bool,
+    /// How many bytes are on the way.
+    pub(crate) depth: usize,
+    pub(crate) first_row: usize,
+    pub(crate) end_row: usize,
+    pub(crate) first_child: usize,
+    pub(crate) end_child: usize,
+}
+
+/// A node with these rows, and no children yet.
+fn bare_node(byte: u8, depth: usize, first_row: usize, end_row: usize) -> Node
+    ensures byte { result.byte ≡ byte }
+    ensures depth { result.depth ≡ depth }
+    ensures first { result.first_row ≡ first_row }
+    ensures end { result.end_row ≡ end_row }
+{
+    Node {
+        byte,
+        has_row: false,
+        depth,
+        first_row,
+        end_row,
+        first_child: 0,
+        end_child: 0,
+    }
+}
+
+/// The byte of a row's flag behind the first ones.
+fn byte_at<K>(rows: &[ArgRow<K>], index: usize, depth: usize) -> u8
+    requires within { index < length rows.now }
+    requires longer { (other : Row K) → depth < length (slice_index_or (map row_of rows.now) index other).flag }
+    ensures byte { (other : Row K) → slice_index (slice_index_or (map row_of rows.now) index other).flag depth ≡ result }
+    ensures fits { depth + 1 < 2 ^ 64 }
+{
+    rows[index].flag().as_bytes()[depth]
+}
+
+/// The child for a row and those behind it that go on with the same byte.
+fn child_at<K>(rows: &[ArgRow<K>], node: &Node, first_row: usize) -> Node
+    requires within { first_row < node.now.end_row }
+    requires rows { node.now.end_row ≤ length rows.now }
+    requires long { (k : ℕ) (other : Row K) → first_row ≤ k → k < node.now.end_row → node.now.depth < length (slice_index_or (map row_of rows.now) k other).flag }
+    ensures depth { result.depth ≡ node.now.depth + 1 }
+    ensures first { result.first_row ≡ first_row }
+    ensures some { first_row < result.end_row }
+    ensures end { result.end_row ≤ node.now.end_row }
+    ensures same { (k : ℕ) (other : Row K) → first_row ≤ k → k < result.end_row → slice_index (slice_index_or (map row_of rows.now) k other).flag node.now.depth ≡ result.byte }
+    ensures next { (other : Row K) → result.end_row < node.now.end_row → slice_index (slice_index_or (map row_of rows.now) result.end_row other).flag node.now.depth ≢ result.byte }
+{
+    let byte = byte_at(rows, first_row, node.depth);
+    let mut end_row = first_row + 1;
+    while end_row < node.end_row && byte_at(rows, end_row, node.depth) == byte {
+        end_row += 1;
+    }
+    bare_node(byte, node.depth + 1, first_row, end_row)
+}
+
+/// Whether the node's first row is its own: its flag ends here, or it is the only one.
+fn has_own_row<K>(rows: &[ArgRow<K>], node: &Node) -> bool
+    requires { node.now.end_row ≤ length rows.now }
+    ensures some { IsTrue result → node.now.first_row < node.now.end_row }
+    ensures short { IsTrue result → node.now.first_row + 1 < node.now.end_row → (other : Row K) → length (slice_index_or (map row_of rows.now) node.now.first_row other).flag ≡ node.now.depth }
+    ensures long { result ≡ false → node.now.first_row < node.now.end_row → (other : Row K) → length (slice_index_or (map row_of rows.now) node.now.first_row other).flag ≢ node.now.depth }
+{
+    node.first_row < node.end_row
+        && (node.first_row + 1 == node.end_row || rows[node.first_row].flag().len() == node.depth)
+}
+
+/// The node with its children, which are added to the nodes.
+fn grown<K>(rows: &[ArgRow<K>], node: Node, nodes: &mut Vec<Node>) -> Mem<Node>
+    requires { RiseIn (map row_of rows.now) (group_of node) }
+    ensures same { IfOk result (λ grown. group_of grown ≡ group_of node) }
+    ensures node { IfOk result (λ grown. IsNode (map row_of rows.now) (map group_of nodes.new.items) grown) }
+    ensures grows { IfOk result (λ _. Grows (map row_of rows.now) nodes.old.items nodes.new.items) }
+{
+    let has_row = has_own_row(rows, &node);
+    let first_child = nodes.len();
+    let first = if has_row {
+        node.first_row + 1
+    } else {
+        node.first_row
+    };
+    let mut next = first;
+    while next < node.end_row {
+        let child = child_at(rows, &node, next);
+        next = child.end_row;
+        nodes.push(child)?;
+    }
+    Ok(Node {
+        has_row,
+        first_child,
+        end_child: nodes.len(),
+        ..node
+    })
+}
+
+/// The nodes of the tree of a table's rows: the first is the root, and a node's children stand side by side behind it.
+pub(crate) fn nodes_of<K>(alloc: Global, rows: &[ArgRow<K>]) -> Mem<Vec<Node>>
+    requires { is_table (map row_of rows.now) ≡ true }
+    ensures { IfOk result (λ nodes. IsTree (map row_of rows.now) nodes.items) }
+{
+    let mut nodes = Vec::new(alloc);
+    nodes.push(bare_node(0, 0, 0, rows.len()))?;
+    let mut index = 0;
+    while index < nodes.len() {
+        let node = nodes[index];
+        nodes[index] = grown(rows, node, &mut nodes)?;
+        index += 1;
+    }
+    Ok(nodes)
+}

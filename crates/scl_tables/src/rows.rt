@@ -1,0 +1,261 @@
+ghost use Rattle.std.specs.Prelude.{◌≡◌, ℕ, ◌+◌, ◌-◌, ◌<◌, ◌≤◌, ◌^◌, List, map, length, is_some, true, IsTrue, IfOk, IfSome, OnSome, ◌↔◌, slice_index_or};
+ghost use Rattle.scl_values.specs.Row.{Row, row_of, row_at};
+ghost use Rattle.scl_values.specs.Tables.{is_table, owner_in, finds_ascii_delimiter};
+ghost use Rattle.scl_tables.specs.Trees.{IsTree};
+ghost use Rattle.scl_tables.specs.declared.nodes.Node.{Node};
+ghost use Rattle.scl_tables.specs.Probes.{looks_in, CountsUpTo, Rises};
+
+use scl_values::{ArgInfo, ArgRow};
+use scl_values::Mem;
+use crate::nodes::{Node, nodes_of};
+use scl_values::ArgumentValue;
+use std::alloc::Global;
+use std::cmp::Ordering;
+use std::marker::Model;
+
+/// A count of looks at rows. It stays at its greatest value, can't be copied or set back, and only this module makes
+/// one (docs/RULES.md, Looks).
+#[derive(Drop)]
+pub struct Probes {
+    looks: u64,
+}
+
+impl Model for Probes {
+    ghost use Rattle.std.specs.Prelude.{ℕ};
+
+    ghost Value = { ℕ };
+
+    ghost view = { λ p. p.looks };
+}
+
+impl Probes {
+    fn new() -> Probes
+        ensures { result ≡ 0 }
+    {
+        Probes { looks: 0 }
+    }
+}
+
+/// Reads an item and counts the read.
+fn read<'s, X>(items: &'s [X], index: usize, probes: &mut Probes) -> &'s X
+    requires { index < length items.now }
+    ensures item { (other : X) → slice_index_or items.now index other ≡ result.now }
+    ensures count { CountsUpTo probes.old probes.new 1 }
+    ensures rises { Rises probes.old probes.new }
+{
+    probes.looks = probes.looks.saturating_add(1);
+    &items[index]
+}
+
+/// Rows that are read one at a time, each read being counted (docs/RULES.md, Looks).
+#[derive(Drop)]
+pub struct RowStore<'a, K> {
+    rows: &'a [ArgRow<K>],
+}
+
+impl<'a, K> Model for RowStore<'a, K> {
+    ghost use Rattle.std.specs.Prelude.{List, map};
+    ghost use Rattle.scl_values.specs.Row.{Row, row_of};
+
+    ghost Value = { List (Row K) };
+
+    ghost view = { λ s. map row_of s.rows.now };
+}
+
+impl<'a, K> RowStore<'a, K> {
+    /// How many rows there are.
+    pub fn len(&self) -> usize
+        ensures { result ≡ length self.now }
+    {
+        self.rows.len()
+    }
+
+    /// Whether there are no rows.
+    pub fn is_empty(&self) -> bool
+        ensures { IsTrue result ↔ (length self.now ≡ 0) }
+    {
+        self.rows.is_empty()
+    }
+
+    /// Reads the row at an index, counted from 0, and counts the read.
+    pub fn look(&self, index: usize, probes: &mut Probes) -> &'a ArgRow<K>
+        requires { index < length self.now }
+        ensures row { (other : Row K) → slice_index_or self.now index other ≡ row_of result.now }
+        ensures count { CountsUpTo probes.old probes.new 1 }
+        ensures rises { Rises probes.old probes.new }
+    {
+        read(self.rows, index, probes)
+    }
+}
+
+/// Rows whose flags rise strictly by bytes and whose delimiters are below 128, for values of type `T`
+/// (docs/RULES.md, Rows and tables).
+#[derive(Drop)]
+pub struct FlagTable<'a, T: ArgumentValue> {
+    store: RowStore<'a, T::Kind>,
+}
+
+impl<'a, T: ArgumentValue> Model for FlagTable<'a, T> {
+    ghost use Rattle.std.specs.Prelude.{List, IsTrue};
+    ghost use Rattle.scl_values.specs.Row.{Row};
+    ghost use Rattle.scl_values.specs.Tables.{is_table};
+
+    ghost Value = { List (Row T.Kind) };
+
+    ghost view = { λ t. t.store };
+
+    ghost invariant = { λ t. IsTrue (is_table t.store) };
+}
+
+fn is_table<K>(rows: &[ArgRow<K>]) -> bool
+    ensures { result ≡ is_table (map row_of rows.now) }
+{
+    for i in 0..rows.len() {
+        if !rows[i].has_ascii_delimiter() {
+            return false;
+        }
+        if i + 1 < rows.len()
+            && rows[i].flag().as_bytes().cmp(rows[i + 1].flag().as_bytes()) != Ordering::Less
+        {
+            return false;
+        }
+    }
+    true
+}
+
+impl<'a, T: ArgumentValue> FlagTable<'a, T> {
+    /// The table of the rows, or `None` where their flags do not rise strictly by bytes or a delimiter is 128 or more.
+    pub fn new(rows: &'a [ArgInfo<T>]) -> Option<FlagTable<'a, T>>
+        ensures valid { is_some result ≡ is_table (map row_of rows.now) }
+        ensures rows { IfSome result (λ table. table ≡ map row_of rows.now) }
+    {
+        if is_table(rows) {
+            Some(FlagTable {
+                store: RowStore { rows },
+            })
+        } else {
+            None
+        }
+    }
+
+    /// The rows of the table.
+    pub fn store(&self) -> &RowStore<'a, T::Kind>
+        ensures same { result.now ≡ self.now }
+        ensures valid { IsTrue (is_table self.now) }
+    {
+        &self.store
+    }
+}
+
+/// Nodes of a prefix tree that are read one at a time, each read being counted (docs/RULES.md, Looks).
+#[derive(Drop)]
+pub(crate) struct NodeStore {
+    nodes: Vec<Node>,
+}
+
+impl Model for NodeStore {
+    ghost use Rattle.std.specs.Prelude.{List};
+    ghost use Rattle.scl_tables.specs.declared.nodes.Node.{Node};
+
+    ghost Value = { List Node };
+
+    ghost view = { λ s. s.nodes.items };
+}
+
+impl NodeStore {
+    /// Reads the node at an index, counted from 0, and counts the read.
+    pub(crate) fn look(&self, index: usize, probes: &mut Probes) -> &Node
+        requires { index < length self.now }
+        ensures node { (other : Node) → slice_index_or self.now index other ≡ result.now }
+        ensures count { CountsUpTo probes.old probes.new 1 }
+        ensures rises { Rises probes.old probes.new }
+    {
+        read(self.nodes.as_slice(), index, probes)
+    }
+}
+
+/// The rows of a table as a prefix tree: an edge is a byte, and children stand in the order of their bytes
+/// (docs/RULES.md, Looks).
+#[derive(Drop)]
+pub struct FlagTree<'a, T: ArgumentValue> {
+    store: RowStore<'a, T::Kind>,
+    nodes: NodeStore,
+}
+
+impl<'a, T: ArgumentValue> Model for FlagTree<'a, T> {
+    ghost use Rattle.std.specs.Prelude.{List, IsTrue};
+    ghost use Rattle.scl_values.specs.Row.{Row};
+    ghost use Rattle.scl_values.specs.Tables.{is_table};
+    ghost use Rattle.scl_tables.specs.Trees.{IsTree};
+
+    ghost Value = { List (Row T.Kind) };
+
+    ghost view = { λ t. t.store };
+
+    ghost invariant = { λ t. IsTrue (is_table t.store) × IsTree t.store t.nodes };
+}
+
+impl<'a, T: ArgumentValue> FlagTree<'a, T> {
+    /// The tree of a table's rows. `AllocError` where memory for its nodes is refused.
+    pub fn build(alloc: Global, table: &FlagTable<'a, T>) -> Mem<FlagTree<'a, T>>
+        ensures rows { IfOk result (λ tree. tree ≡ table.now) }
+    {
+        let rows = table.store.rows;
+        let nodes = nodes_of(alloc, rows)?;
+        Ok(FlagTree {
+            store: RowStore { rows },
+            nodes: NodeStore { nodes },
+        })
+    }
+
+    /// The rows of the tree, and its nodes.
+    pub(crate) fn stores(&self) -> (&RowStore<'a, T::Kind>, &NodeStore)
+        ensures rows { result.0.now ≡ self.now }
+        ensures nodes { IsTree self.now result.1.now }
+        ensures valid { IsTrue (is_table self.now) }
+    {
+        (&self.store, &self.nodes)
+    }
+}
+
+/// What a word is looked up in: a table, or several (docs/RULES.md, Owners).
+pub trait SearchableArgInfo<T: ArgumentValue> {
+    ghost tables: { Self → List (List (Row T.Kind)) };
+
+    /// The row with the longest flag among those that fit the key, and at one length the last table's; `None` only where
+    /// no row fits. Its delimiter, if it has one, is below 128. The looks that it takes are added to the count
+    /// (docs/RULES.md, Looks).
+    fn search_counted(&self, key: &[u8], probes: &mut Probes) -> Option<&ArgInfo<T>>
+        ensures owner { row_at result ≡ owner_in (tables self.now) key.now }
+        ensures delimiter { finds_ascii_delimiter (row_at result) ≡ true }
+        ensures count { CountsUpTo probes.old probes.new (looks_in (tables self.now) key.now) }
+        ensures rises { OnSome result (Rises probes.old probes.new) };
+
+    /// The row with the longest flag among those that fit the key, and at one length the last table's; `None` only where
+    /// no row fits (docs/RULES.md, Owners). Its delimiter, if it has one, is below 128.
+    final fn search(&self, key: &[u8]) -> Option<&ArgInfo<T>>
+        ensures owner { row_at result ≡ owner_in (tables self.now) key.now }
+        ensures delimiter { finds_ascii_delimiter (row_at result) ≡ true }
+    {
+        let mut probes = Probes::new();
+        self.search_counted(key, &mut probes)
+    }
+
+    /// Whether the tables are valid: true, since no other can be made.
+    final fn check(&self) -> bool
+        ensures { IsTrue result }
+    {
+        true
+    }
+}
+
+/// How many looks a search for the key makes: none or more where it finds nothing, at least one where it finds a row, and
+/// never more than the bound (docs/RULES.md, Looks).
+pub fn looks<T: ArgumentValue, S: SearchableArgInfo<T>>(table: &S, key: &[u8]) -> u64
+    ensures bound { result ≤ looks_in (S.tables table.now) key.now }
+    ensures some { OnSome (owner_in (S.tables table.now) key.now) (0 < result) }
+{
+    let mut probes = Probes::new();
+    let _row = table.search_counted(key, &mut probes);
+    probes.looks
+}

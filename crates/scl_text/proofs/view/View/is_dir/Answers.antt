@@ -1,5 +1,0 @@
-use Rattle.scl_text.proofs.ViewLemmas.{is_among_lem}
-use Rattle.scl_text.proofs.view.View.is_dir.Goals as goal
-
-pub returns : goal.returns
-returns c = rw (← c.self.view_is, is_among_lem) c.contains.ensures

@@ -1,0 +1,3 @@
+pub mod EscapedLemmas
+pub mod PrintLemmas
+pub mod SplitLemmas

@@ -1,0 +1,11 @@
+pub mod Cuts
+pub mod Each
+pub mod Escaped
+pub mod Held
+pub mod Row
+pub mod Seen
+pub mod Spell
+pub mod Tables
+pub mod Texts
+pub mod Values
+pub mod Words

@@ -1,0 +1,174 @@
+ghost use Rattle.std.specs.Prelude.{◌≡◌, ◌++◌, ◌<◌, ◌≤◌, ℕ, List, Result, Vec, length, drop, IfOk};
+ghost use Rattle.std.specs.declared.alloc.AllocError.{AllocError};
+ghost use Rattle.std.specs.declared.alloc.Global.{Global};
+ghost use Rattle.scl_values.specs.declared.argument.NormalizedDisposition.{NormalizedDisposition};
+ghost use Rattle.std.specs.Iterator.{item_count, Drains};
+ghost use Rattle.std.specs.Option.{option_map};
+ghost use Rattle.scl_values.specs.Seen.{seen};
+ghost use Rattle.scl_values.specs.Spell.{normal, normal_how, delimited, spelled, flag_at, data_at, head_of, YieldsWords};
+
+use crate::argument::{ArgDisposition, Argument, Delimiter, NormalizedDisposition};
+use crate::memory::Mem;
+use crate::value::ArgumentValue;
+use std::alloc::Global;
+use std::marker::Model;
+
+impl ArgDisposition {
+    /// How a value stands that is moved to the side where it may stand either way (docs/RULES.md, Printing).
+    pub fn normalize(self, side: NormalizedDisposition) -> ArgDisposition
+        ensures { result ≡ normal_how side self }
+    {
+        match self {
+            ArgDisposition::CanBeConcatenated(delimiter)
+            | ArgDisposition::CanBeSeparated(delimiter) => match side {
+                NormalizedDisposition::Separated => ArgDisposition::Separated,
+                NormalizedDisposition::Concatenated => ArgDisposition::Concatenated(delimiter),
+            },
+            other => other,
+        }
+    }
+}
+
+impl<T: ArgumentValue> Argument<T> {
+    /// Moves a value that may stand either way to the side: into the next word, or into the flag's. Nothing else changes
+    /// (docs/RULES.md, Printing).
+    pub fn normalize(self, side: NormalizedDisposition) -> Argument<T>
+        ensures normal { result ≡ normal side self }
+        ensures again { (other : NormalizedDisposition) → normal other result ≡ result }
+    {
+        match self {
+            Argument::WithValue(flag, value, disposition) => {
+                Argument::WithValue(flag, value, disposition.normalize(side))
+            }
+            other => other,
+        }
+    }
+
+    /// The words of the option, one or two (docs/RULES.md, Printing). Making the iterator takes no memory; each word does.
+    pub fn iter_os_strings(&self, alloc: Global) -> Iter<'_, T>
+        ensures words { result ≡ spelled (seen T.kind_of T.word_of self.now) }
+        ensures few { (items : List (Result (Vec ℕ Global) AllocError)) → Drains (YieldsWords (λ words. words)) result items
+            → (0 < length items) × (length items ≤ 2) }
+    {
+        Iter {
+            alloc,
+            argument: self,
+            given: 0,
+        }
+    }
+
+    /// The flag, or the word of an option without one. It fails only for want of memory.
+    pub fn to_os_string(&self, alloc: Global) -> Mem<Vec<u8>>
+        ensures { IfOk result (λ word. word.items ≡ head_of self.now) }
+    {
+        match self {
+            Argument::Raw(word) | Argument::UnknownFlag(word) => Vec::from_slice(alloc, word),
+            Argument::Flag(flag, _) | Argument::WithValue(flag, _, _) => {
+                Vec::from_slice(alloc, flag.as_bytes())
+            }
+        }
+    }
+}
+
+impl<T> Argument<T> {
+    /// The flag, where the option has one.
+    pub fn flag_str(&self) -> Option<&'static str>
+        ensures { option_map (λ flag. flag.now) result ≡ flag_at self.now }
+    {
+        match self {
+            Argument::Raw(_) | Argument::UnknownFlag(_) => None,
+            Argument::Flag(flag, _) | Argument::WithValue(flag, _, _) => Some(flag),
+        }
+    }
+
+    /// What the option means, where it has a flag.
+    pub fn get_data(&self) -> Option<&T>
+        ensures { option_map (λ value. value.now) result ≡ data_at self.now }
+    {
+        match self {
+            Argument::Raw(_) | Argument::UnknownFlag(_) => None,
+            Argument::Flag(_, data) | Argument::WithValue(_, data, _) => Some(data),
+        }
+    }
+}
+
+/// The words of an option. After a word that got no memory there is none.
+#[derive(Drop)]
+pub struct Iter<'a, T: ArgumentValue> {
+    alloc: Global,
+    argument: &'a Argument<T>,
+    given: usize,
+}
+
+impl<'a, T: ArgumentValue> Model for Iter<'a, T> {
+    ghost use Rattle.std.specs.Prelude.{ℕ, List, drop};
+    ghost use Rattle.scl_values.specs.Seen.{seen};
+    ghost use Rattle.scl_values.specs.Spell.{spelled};
+
+    ghost Value = { List (List ℕ) };
+
+    ghost view = { λ s. drop s.given (spelled (seen T.kind_of T.word_of s.argument.now)) };
+}
+
+fn joined(alloc: Global, flag: &str, delimiter: Delimiter, value: &[u8]) -> Mem<Vec<u8>>
+    ensures { IfOk result (λ word. word.items ≡ flag.now ++ delimited delimiter value.now) }
+{
+    let mut word = Vec::from_slice(alloc, flag.as_bytes())?;
+    if !value.is_empty() {
+        if let Some(byte) = delimiter {
+            word.push(byte)?;
+        }
+        word.extend_from_slice(value)?;
+    }
+    Ok(word)
+}
+
+/// The word of an option whose value is joined to its flag, behind the delimiter if there is one (docs/RULES.md,
+/// Printing). It fails only for want of memory.
+pub fn joined_value<T: ArgumentValue>(
+    alloc: Global,
+    flag: &str,
+    delimiter: Delimiter,
+    value: &T,
+) -> Mem<Vec<u8>>
+    ensures { IfOk result (λ word. word.items ≡ flag.now ++ delimited delimiter (T.word_of value.now)) }
+{
+    let value = value.into_arg_os_string(alloc)?;
+    joined(alloc, flag, delimiter, value.as_slice())
+}
+
+impl<'a, T: ArgumentValue> Iterator for Iter<'a, T> {
+    type Item = Mem<Vec<u8>>;
+
+    ghost next_gives = { YieldsWords (λ s. s) };
+
+    ghost remaining = { item_count (λ s. s) };
+
+    fn next(&mut self) -> Option<Mem<Vec<u8>>> {
+        let argument: &Argument<T> = self.argument;
+        let word = match (argument, self.given) {
+            (Argument::Raw(word) | Argument::UnknownFlag(word), 0) => Vec::from_slice(
+                self.alloc,
+                word.as_slice(),
+            ),
+            (Argument::Flag(flag, _), 0) => Vec::from_slice(self.alloc, flag.as_bytes()),
+            (Argument::WithValue(flag, value, disposition), given) => match (*disposition, given) {
+                (ArgDisposition::Separated | ArgDisposition::CanBeConcatenated(_), 0) => {
+                    Vec::from_slice(self.alloc, flag.as_bytes())
+                }
+                (ArgDisposition::Separated | ArgDisposition::CanBeConcatenated(_), 1) => {
+                    value.into_arg_os_string(self.alloc)
+                }
+                (
+                    ArgDisposition::CanBeSeparated(delimiter)
+                    | ArgDisposition::Concatenated(delimiter),
+                    0,
+                ) => { joined_value(self.alloc, flag, delimiter, value) }
+                _ => return None,
+            },
+            _ => return None,
+        };
+        self.given = if word.is_ok() { self.given + 1 } else { 2 };
+        Some(word)
+    }
+}

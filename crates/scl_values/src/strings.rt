@@ -1,0 +1,137 @@
+ghost use Rattle.std.specs.Prelude.{◌≡◌, ◌++◌, ◌≤◌, length, true, List, MatchResult, Result, String};
+ghost use Rattle.std.specs.declared.alloc.Global.{Global};
+ghost use Rattle.std.specs.String.{string_bytes};
+ghost use Rattle.std.specs.Fn.{CalledAt};
+ghost use Rattle.std.specs.Iterator.{item_count, Drains};
+ghost use Rattle.scl_values.specs.declared.error.ArgToStringError.{ArgToStringError};
+ghost use Rattle.scl_values.specs.Tables.{is_ascii_or_none};
+ghost use Rattle.scl_values.specs.Seen.{seen};
+ghost use Rattle.scl_values.specs.Spell.{delimited};
+ghost use Rattle.scl_values.specs.Texts.{IsWord, IsWantOfMemory, PrintsBehind, PrintsNext, printer, is_delimited_by_ascii};
+
+use crate::argument::{ArgDisposition, Argument, Delimiter};
+use crate::error::{ArgToStringError, ArgToStringResult};
+use crate::value::{ArgumentValue, text_of_word};
+use std::alloc::Global;
+use std::marker::Model;
+
+impl<T: ArgumentValue> Argument<T> {
+    /// The words of the option as texts, one or two; `f` gives the text of a path.
+    /// The option's delimiter, if it has one, is an ASCII byte (docs/RULES.md, Texts).
+    pub fn iter_strings<F: FnMut(&[u8]) -> Option<String>>(
+        &self,
+        alloc: Global,
+        f: F,
+    ) -> IterStrings<'_, T, F>
+        requires { is_delimited_by_ascii self.now ≡ true }
+        ensures texts { result ≡ printer f (seen T.is_path T.word_of self.now) }
+        ensures few { (items : List (Result (String Global) ArgToStringError)) → Drains (PrintsNext (CalledAt F.FnMut)) result items → length items ≤ 2 }
+    {
+        IterStrings {
+            alloc,
+            argument: self,
+            closure: f,
+            given: 0,
+        }
+    }
+}
+
+/// An option's words as texts, at most two; an error is the last item (docs/RULES.md, Texts).
+#[derive(Drop)]
+pub struct IterStrings<'a, T: ArgumentValue, F> {
+    alloc: Global,
+    argument: &'a Argument<T>,
+    closure: F,
+    given: usize,
+}
+
+impl<'a, T: ArgumentValue, F> Model for IterStrings<'a, T, F> {
+    ghost use Rattle.std.specs.Prelude.{◌≡◌, true, drop};
+    ghost use Rattle.scl_values.specs.Seen.{seen};
+    ghost use Rattle.scl_values.specs.Texts.{Printer, items_shown, is_delimited_by_ascii};
+
+    ghost Value = { Printer F };
+
+    ghost view = { λ s. record { closure = s.closure; left = drop s.given (items_shown (seen T.is_path T.word_of s.argument.now)) } };
+
+    ghost invariant = { λ s. is_delimited_by_ascii s.argument.now ≡ true };
+}
+
+fn text_of_flag(alloc: Global, flag: &str) -> ArgToStringResult
+    ensures { IsWord flag.now result }
+{
+    Ok(String::from_str(alloc, flag)?)
+}
+
+fn joined(
+    alloc: Global,
+    flag: &str,
+    delimiter: Delimiter,
+    text: &str,
+) -> Result<String, ArgToStringError>
+    requires { is_ascii_or_none delimiter ≡ true }
+    ensures { MatchResult result (λ printed. string_bytes printed ≡ flag.now ++ delimited delimiter text.now) IsWantOfMemory }
+{
+    let mut item = String::from_str(alloc, flag)?;
+    if !text.is_empty() {
+        if let Some(byte) = delimiter {
+            item.push(char::from(byte))?;
+        }
+        item.push_str(text)?;
+    }
+    Ok(item)
+}
+
+fn joined_text<T: ArgumentValue, F: FnMut(&[u8]) -> Option<String>>(
+    alloc: Global,
+    flag: &str,
+    delimiter: Delimiter,
+    value: &T,
+    f: &mut F,
+) -> ArgToStringResult
+    requires ascii { is_ascii_or_none delimiter ≡ true }
+    requires callable { F.IsAlwaysCallable f.old }
+    ensures prints { PrintsBehind (CalledAt F.FnMut) flag.now delimiter (T.is_path value.now) (T.word_of value.now) f.old result f.new }
+    ensures callable { F.IsAlwaysCallable f.new }
+{
+    let text = value.into_arg_string(alloc, f)?;
+    joined(alloc, flag, delimiter, text.as_str())
+}
+
+impl<'a, T: ArgumentValue, F: FnMut(&[u8]) -> Option<String> + Drop> Iterator
+    for IterStrings<'a, T, F> {
+    type Item = ArgToStringResult;
+
+    ghost can_next = { λ s. F.IsAlwaysCallable s.closure };
+
+    ghost next_gives = { PrintsNext (CalledAt F.FnMut) };
+
+    ghost remaining = { item_count (λ s. s.left) };
+
+    fn next(&mut self) -> Option<ArgToStringResult> {
+        let argument: &Argument<T> = self.argument;
+        let text = match (argument, self.given) {
+            (Argument::Raw(word) | Argument::UnknownFlag(word), 0) => {
+                text_of_word(self.alloc, word)
+            }
+            (Argument::Flag(flag, _), 0) => text_of_flag(self.alloc, flag),
+            (Argument::WithValue(flag, value, disposition), given) => match (*disposition, given) {
+                (ArgDisposition::Separated | ArgDisposition::CanBeConcatenated(_), 0) => {
+                    text_of_flag(self.alloc, flag)
+                }
+                (ArgDisposition::Separated | ArgDisposition::CanBeConcatenated(_), 1) => {
+                    value.into_arg_string(self.alloc, &mut self.closure)
+                }
+                (
+                    ArgDisposition::CanBeSeparated(delimiter)
+                    | ArgDisposition::Concatenated(delimiter),
+                    0,
+                ) => joined_text(self.alloc, flag, delimiter, value, &mut self.closure),
+                _ => return None,
+            },
+            _ => return None,
+        };
+        self.given = if text.is_ok() { self.given + 1 } else { 2 };
+        Some(text)
+    }
+}
