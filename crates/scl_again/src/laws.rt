@@ -1,38 +1,25 @@
-//! What follows from the definitions of cutting and printing for words that are printed and cut again. Each law is the
-//! contract of a function that does nothing.
+//! What follows from the definitions of cutting and printing for words that are printed and cut again: each law is a
+//! clause of a function that does nothing.
 ghost use Rattle.scl_again.specs.Laws.{PrintsAgain, OptionsCame, RawAndUnknownWordsHaveNoOwner, EmptyValuesAreSeen, JudgedAreClear, NextFlagSuffices};
 
-/// Each option that words are cut into came from a word of its row, with its value, or from a word of none; but the mark
-/// `--`, where it ends the options, and the words after it are raw (docs/RULES.md, Cutting again).
-pub fn options_came<K>()
-    ensures { OptionsCame K }
-{}
-
-/// An unknown word has no owner, nor has a raw one before the mark `--` that ends the options (docs/RULES.md, Cutting
-/// again).
-pub fn raw_and_unknown_words_have_no_owner<K>()
-    ensures { RawAndUnknownWordsHaveNoOwner K }
-{}
-
-/// An option that words are cut into is seen to have an empty value of an either row exactly where it has one: how the
-/// value stands tells, or the owner of the flag (docs/RULES.md, Cutting again).
-pub fn empty_values_are_seen<K>()
-    ensures { EmptyValuesAreSeen K }
-{}
-
-/// Options that words are cut into, of which none is refused where empty values of either rows are, have no such values
-/// (docs/RULES.md, Cutting again).
-pub fn judged_options_are_clear<K, V>()
-    ensures { JudgedAreClear K V }
-{}
-
-/// In a table, no flag goes on after a flag where the next greater one does not (docs/RULES.md, Cutting again).
-pub fn next_flag_suffices<K>()
-    ensures { NextFlagSuffices K }
-{}
-
-/// By tables that pass two checks, a list of options that words were cut into, printed, is cut into those options again,
-/// whatever words follow (docs/RULES.md, Cutting again).
-pub fn prints_again<K>()
-    ensures { PrintsAgain K }
+/// Laws of words that options print and that are cut again (docs/RULES.md, Cutting again):
+///
+/// - `options_came`: each option that words are cut into came from a word of its row, with its value, or from a word of
+///   none; but the mark `--`, where it ends the options, and the words after it are raw;
+/// - `raw_and_unknown_words_have_no_owner`: an unknown word has no owner, nor has a raw one before the mark `--` that ends
+///   the options;
+/// - `empty_values_are_seen`: an option that words are cut into is seen to have an empty value of an either row exactly
+///   where it has one: how the value stands tells, or the owner of the flag;
+/// - `judged_options_are_clear`: options that words are cut into, of which none is refused where empty values of either
+///   rows are, have no such values;
+/// - `next_flag_suffices`: in a table, no flag goes on after a flag where the next greater one does not;
+/// - `prints_again`: by tables that pass two checks, a list of options that words were cut into, printed, is cut into those
+///   options again, whatever words follow.
+pub fn of_words_cut_again<K, V>()
+    ensures options_came { OptionsCame K }
+    ensures raw_and_unknown_words_have_no_owner { RawAndUnknownWordsHaveNoOwner K }
+    ensures empty_values_are_seen { EmptyValuesAreSeen K }
+    ensures judged_options_are_clear { JudgedAreClear K V }
+    ensures next_flag_suffices { NextFlagSuffices K }
+    ensures prints_again { PrintsAgain K }
 {}

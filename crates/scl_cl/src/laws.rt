@@ -1,50 +1,32 @@
-//! Laws of the definitions of requests and answers, each the contract of a function without a body.
+//! Laws of the definitions of requests and answers, each a clause of a function without a body.
 ghost use Rattle.scl_cl.specs.Answers.{AnswersAreReadAgain};
 ghost use Rattle.scl_cl.specs.Written.{FieldReadsBack, FieldIsPrintable, LineReadsBack, RequestReadsBack, LinesEndAtFeeds, AnswerHasLines, BadLineIsFirst, NamesReadBack};
 
-/// A field that is written is read back, whatever its bytes (docs/RULES.md, Fields).
-pub fn field_reads_back()
-    ensures { FieldReadsBack }
+/// Laws of requests (docs/RULES.md, Lines, Fields, and Requests):
+///
+/// - `field_reads_back`: a field that is written is read back, whatever its bytes;
+/// - `field_is_printable`: a field that is written has only bytes from 21 to 7E: no space, tab or LF;
+/// - `line_reads_back`: a line that is written says what was to be said;
+/// - `request_reads_back`: the lines of a request that is written say what was to be said, in order;
+/// - `lines_end_at_feeds`: a line ends at the first LF;
+/// - `bad_line_is_first`: the bad line breaks a rule behind those before it, and none of those does;
+/// - `names_read_back`: the name of each compiler names it, and the text of each keyword the keyword: none is missing in the
+///   lists that are searched.
+pub fn of_requests()
+    ensures field_reads_back { FieldReadsBack }
+    ensures field_is_printable { FieldIsPrintable }
+    ensures line_reads_back { LineReadsBack }
+    ensures request_reads_back { RequestReadsBack }
+    ensures lines_end_at_feeds { LinesEndAtFeeds }
+    ensures bad_line_is_first { BadLineIsFirst }
+    ensures names_read_back { NamesReadBack }
 {}
 
-/// A field that is written has only bytes from 21 to 7E: no space, tab or LF (docs/RULES.md, Fields).
-pub fn field_is_printable()
-    ensures { FieldIsPrintable }
-{}
-
-/// A line that is written says what was to be said (docs/RULES.md, Requests).
-pub fn line_reads_back()
-    ensures { LineReadsBack }
-{}
-
-/// The lines of a request that is written say what was to be said, in order (docs/RULES.md, Requests).
-pub fn request_reads_back()
-    ensures { RequestReadsBack }
-{}
-
-/// A line ends at the first LF (docs/RULES.md, Lines).
-pub fn lines_end_at_feeds()
-    ensures { LinesEndAtFeeds }
-{}
-
-/// The lines of a command's text are `ok`, one for each word, and whether it can be cached
-/// (docs/RULES.md, Answers).
-pub fn answer_has_lines()
-    ensures { AnswerHasLines }
-{}
-
-/// The bad line breaks a rule behind those before it, and none of those does (docs/RULES.md, Requests).
-pub fn bad_line_is_first()
-    ensures { BadLineIsFirst }
-{}
-
-/// The name of each compiler names it, and the text of each keyword the keyword: none is missing in
-/// the lists that are searched (docs/RULES.md, Requests).
-pub fn names_read_back()
-    ensures { NamesReadBack }
-{}
-
-/// A command that answers a request is read again (docs/RULES.md, Cutting again).
-pub fn answers_are_read_again()
-    ensures { AnswersAreReadAgain }
+/// Laws of answers (docs/RULES.md, Answers, and Cutting again):
+///
+/// - `answer_has_lines`: the lines of a command's text are `ok`, one for each word, and whether it can be cached;
+/// - `answers_are_read_again`: a command that answers a request is read again.
+pub fn of_answers()
+    ensures answer_has_lines { AnswerHasLines }
+    ensures answers_are_read_again { AnswersAreReadAgain }
 {}

@@ -5,6 +5,7 @@ mod decode;
 mod diab_text;
 pub mod expand;
 mod gnu_text;
+pub mod laws;
 mod msvc_text;
 pub mod path;
 mod path_map;

@@ -4,12 +4,7 @@ use scl_small::diab::Kind;
 
 #[test]
 fn laws_of_any_tables_may_be_called() {
-    laws::options_came::<Kind>();
-    laws::raw_and_unknown_words_have_no_owner::<Kind>();
-    laws::empty_values_are_seen::<Kind>();
-    laws::judged_options_are_clear::<Kind, ()>();
-    laws::next_flag_suffices::<Kind>();
-    laws::prints_again::<Kind>();
+    laws::of_words_cut_again::<Kind, ()>();
 }
 
 #[test]
