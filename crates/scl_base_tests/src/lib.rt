@@ -2,6 +2,4 @@
 #![tactic(auto)]
 
 #[cfg(test)]
-mod args;
-#[cfg(test)]
-mod text;
+mod tests;

@@ -1,5 +1,5 @@
 //! The answer to a command line, by its compiler.
-ghost use Rattle.std.specs.Prelude.{◌≡◌, ℕ, List, IfOk, Ok};
+ghost use Rattle.std.specs.Prelude.{◌≡◌, ℕ, List, IfOk, None, Ok};
 ghost use Rattle.scl_text.specs.Records.{parsed_of};
 ghost use Rattle.scl_files.specs.Views.{Viewed};
 ghost use Rattle.scl_values.specs.Words.{words_of};
@@ -86,6 +86,14 @@ fn answer_by<C: CCompilerImpl>(
     }
 }
 
+/// cl or clang-cl, of which no version is known.
+fn cl_of(alloc: Global, is_clang: bool) -> Msvc
+    ensures compiler { result.is_clang ≡ is_clang }
+    ensures unknown { result.version ≡ None }
+{
+    Msvc::new(is_clang, String::new(alloc))
+}
+
 impl Compiler {
     /// What a command line is answered: the words behind the program `executable`, read in the
     /// directory `cwd` with the files of `view`. All are bytes. Where the answer is a command, it is read again
@@ -106,28 +114,22 @@ impl Compiler {
     {
         match self {
             Compiler::Gcc => {
-                let gcc = Gcc::new(false);
-                answer_by(alloc, &gcc, executable, words, cwd, env_vars, view)
+                answer_by(alloc, &Gcc::new(false), executable, words, cwd, env_vars, view)
             }
             Compiler::Gxx => {
-                let gxx = Gcc::new(true);
-                answer_by(alloc, &gxx, executable, words, cwd, env_vars, view)
+                answer_by(alloc, &Gcc::new(true), executable, words, cwd, env_vars, view)
             }
             Compiler::Clang => {
-                let clang = Clang::new(false);
-                answer_by(alloc, &clang, executable, words, cwd, env_vars, view)
+                answer_by(alloc, &Clang::new(false), executable, words, cwd, env_vars, view)
             }
             Compiler::Clangxx => {
-                let clangxx = Clang::new(true);
-                answer_by(alloc, &clangxx, executable, words, cwd, env_vars, view)
+                answer_by(alloc, &Clang::new(true), executable, words, cwd, env_vars, view)
             }
             Compiler::Cl => {
-                let cl = Msvc::new(false, String::new(alloc));
-                answer_by(alloc, &cl, executable, words, cwd, env_vars, view)
+                answer_by(alloc, &cl_of(alloc, false), executable, words, cwd, env_vars, view)
             }
             Compiler::ClangCl => {
-                let clang_cl = Msvc::new(true, String::new(alloc));
-                answer_by(alloc, &clang_cl, executable, words, cwd, env_vars, view)
+                answer_by(alloc, &cl_of(alloc, true), executable, words, cwd, env_vars, view)
             }
             Compiler::Diab => {
                 answer_by(alloc, &Diab::new(), executable, words, cwd, env_vars, view)

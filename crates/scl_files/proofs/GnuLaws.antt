@@ -43,8 +43,6 @@ texts_have_pieces = are_pieces
 pub texts_have_no_other_pieces : TextsHaveNoOtherPieces
 texts_have_no_other_pieces = no_others
 
-pub ruleset piece_laws = (texts_have_pieces, texts_have_no_other_pieces)
-
 -- ---- no empty argument
 
 keep-all : (b : List ℕ) (arguments : List (List ℕ)) → list_all is_not_empty arguments ≡ true → list_all is_not_empty (keep b arguments) ≡ true
@@ -134,3 +132,5 @@ read_escaped (c ∷ word) = escaped_char c word (read_escaped word) (bool_cases 
 
 pub escaped_words_are_read_back : IsReadBack gnu_escaped
 escaped_words_are_read_back = λ words h. sym (gnu_arguments-read _) ∙ words_read gnu_escaped (record { reads = λ word begun rest. read_escaped word begun rest }) words h
+
+pub ruleset gnu_laws = (texts_have_pieces, texts_have_no_other_pieces, gives_no_empty_argument, quoted_words_are_read_back, escaped_words_are_read_back)

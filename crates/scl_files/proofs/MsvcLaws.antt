@@ -157,3 +157,5 @@ words_read (word ∷ (next ∷ words)) =
 
 pub quoted_words_are_read_back : QuotedWordsAreReadBack
 quoted_words_are_read_back = λ words. msvc_arguments-read _ ∙ words_read words
+
+pub ruleset msvc_laws = (only_quotes_give_empty_arguments, quoted_words_are_read_back)

@@ -45,7 +45,7 @@ pub fn new_extensions_are_extensions(_path: &[u8], _extension: &[u8])
 /// - `diab_words_are_read_back`: words without white space and quotes, with a space between each two, are the arguments of
 ///   their text;
 /// - `utf8_files_are_read_back`, `utf16_files_are_read_back`: a file in UTF-8 or UTF-16 behind its mark gives its characters.
-#[tactic(auto, using(crate::proofs::GnuLaws::piece_laws, crate::proofs::GnuLaws::gives_no_empty_argument, crate::proofs::GnuLaws::quoted_words_are_read_back, crate::proofs::GnuLaws::escaped_words_are_read_back, crate::proofs::MsvcLaws::only_quotes_give_empty_arguments, crate::proofs::MsvcLaws::quoted_words_are_read_back, crate::proofs::DiabLaws::plain_words_are_read_back, crate::proofs::DecodeLaws::file_laws))]
+#[tactic(auto, using(crate::proofs::GnuLaws::gnu_laws, crate::proofs::MsvcLaws::msvc_laws, crate::proofs::DiabLaws::plain_words_are_read_back, crate::proofs::DecodeLaws::file_laws))]
 pub fn of_texts()
     ensures gnu_pieces { TextsHavePieces }
     ensures gnu_no_other_pieces { TextsHaveNoOtherPieces }

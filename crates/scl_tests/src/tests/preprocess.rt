@@ -1,5 +1,5 @@
 //! Runs of the preprocessor, and what is made of them.
-use crate::words::{cut, joined};
+use crate::tests::words::{cut, joined};
 use scl_args::Mem;
 use scl_gnu::clang::Clang;
 use scl_gnu::gcc::{Gcc, join_passes, preprocess_passes, without_output_files};

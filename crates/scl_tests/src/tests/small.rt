@@ -4,7 +4,7 @@ ghost use Rattle.scl_values.specs.Tables.{tables_hold_values};
 ghost use Rattle.scl_small.specs.DiabValues.{holds_value};
 ghost use Rattle.scl_small.specs.TaskingValues as tasking;
 
-use crate::words::{cut, joined};
+use crate::tests::words::{cut, joined};
 use scl_args::ArgDisposition::{Concatenated, Separated};
 use scl_args::ArgRow::{Flag, TakeArg};
 use scl_args::{

@@ -1,5 +1,5 @@
 //! The texts beside reasons.
-use crate::words::cut;
+use crate::tests::words::cut;
 use scl_cl::{Compilation, Compiler, CompilerArguments, Mem, View};
 use std::alloc::Global;
 use std::process::Abort;

@@ -1,6 +1,6 @@
 use Rattle.std.proofs.Common.{◌≡◌, Some, IfSome, codes}
 use Rattle.scl_msvc_reading.specs.Rows.{msvc_rows}
-use Rattle.scl_tests.proofs.tables.msvc_slash_args.Goals as goal
+use Rattle.scl_tests.proofs.tests.tables.msvc_slash_args.Goals as goal
 
 pub returns : goal.returns
 unfolding msvc_rows

@@ -4,7 +4,7 @@ ghost use Rattle.std.specs.List.{flat_map};
 ghost use Rattle.scl_values.specs.Tables.{tables_hold_values};
 ghost use Rattle.scl_gnu_reading.specs.Data.{holds_value};
 
-use crate::words::{cut, joined};
+use crate::tests::words::{cut, joined};
 use scl_args::ArgDisposition::Separated;
 use scl_args::ArgRow::TakeArg;
 use scl_args::{ArgInfo, FlagTable, Mem, Tables};

@@ -2,7 +2,7 @@
 mod clang;
 mod tables;
 
-use crate::words::{cut, joined};
+use crate::tests::words::{cut, joined};
 use scl_args::{ArgParseError, ArgumentValue, Mem, PathArg, SearchableArgInfo, looks};
 use scl_gnu::gcc::{
     ARCH_FLAG, ARGS, ArgData, Gcc, Kind, generate_compile_commands, language_to_gcc_arg,

@@ -1,6 +1,6 @@
 //! Calls of Clang's module.
 use super::bytes_of;
-use crate::words::{cut, joined};
+use crate::tests::words::{cut, joined};
 use scl_gnu::clang::{Clang, language_to_clang_arg};
 use scl_text::language::Language;
 use scl_text::outputs::output_path;

@@ -1,5 +1,5 @@
 //! The text of a dependency file, and writing it.
-use crate::words::cut;
+use crate::tests::words::cut;
 use scl_args::{Counted, FailingWriter, Mem};
 use scl_msvc::msvc::{DepfileError, DepfileText, Msvc, WriteFault, depfile_text, write_depfile};
 use scl_text::records::{CompilerArguments, ParsedArguments};

@@ -1,5 +1,5 @@
 //! Answers to command lines of at most so many words.
-use crate::words::cut;
+use crate::tests::words::cut;
 use scl_cl::{Compilation, Compiler, CompilerArguments, Mem, TooManyWords, View};
 use std::alloc::Global;
 use std::process::Abort;

@@ -1,5 +1,5 @@
 //! Calls of Msvc's module.
-use crate::words::{cut, joined};
+use crate::tests::words::{cut, joined};
 use scl_args::{Mem, SearchableArgInfo, looks};
 use scl_msvc::msvc::{ARGS, BothTables, Msvc, SLASH_ARGS, without_cl_env_vars};
 use scl_text::outputs::output_path;

@@ -1,0 +1,3 @@
+//! Tests of tables, cutting, printing, texts, paths and expansions.
+mod args;
+mod text;

@@ -1,0 +1,11 @@
+//! Tests of the compilers and of the program, and of what crosses the crates.
+mod again;
+mod cl;
+mod depfile;
+mod gnu;
+mod msvc;
+mod preprocess;
+mod small;
+mod tables;
+mod trees;
+mod words;
