@@ -1,4 +1,4 @@
-//! Tests of `scl_args`: worked rows, and each call once.
+//! Tests of `scl_args` and of the crates that it re-exports: worked rows, and each call once.
 mod counted;
 mod cutting;
 mod empties;
