@@ -15,7 +15,7 @@ use Rattle.scl_values.specs.Spell.{delimited, normal_how, spell_value}
 use Rattle.scl_values.specs.Tables.{owner_in, all_rows}
 use Rattle.scl_args.specs.Wrapped.{wrapped_apart, wrapped_joined}
 use Rattle.scl_args.proofs.OwnerLaws.{owner_in-is}
-use Rattle.scl_again.specs.NoFiles.{NamesNoFile, GivesNoFile}
+use Rattle.scl_again.specs.NoFiles.{NamesNoFile, GivesNoFile, is_plain, has_plain_flags}
 use Rattle.scl_again.proofs.AgainChecks.{implied}
 use Rattle.scl_again.proofs.FilterLaws.{from-last}
 use Rattle.scl_again.proofs.OriginLaws.{CameUnmarked, all_unmarked, cut_came, has_row, value_row}
@@ -27,12 +27,7 @@ pub each-append : {A : Type 0} (P : A → Type 0) (xs ys : List A) → Each P xs
 each-append P [] ys h k = k
 each-append P (x ∷ xs) ys h k = (h.0, each-append P xs ys h.1 k)
 
--- whether the word has a first byte, which is not @
-abbrev pub is_plain : List ℕ → Bool
-is_plain [] = false
-is_plain (x ∷ xs) = not (x == 64)
-
--- what begins with such a word names no file
+-- what begins with a plain word names no file
 pub plain-first : (f rest : List ℕ) → is_plain f ≡ true → NamesNoFile (f ++ rest)
 plain-first [] rest e = absurd (cc)
 plain-first (x ∷ f) rest e = elim (x == 64) as (λ b. not b ≡ true → b ≡ false) [ true ↦ λ n. absurd (cc) | false ↦ λ n. refl ] e
@@ -67,10 +62,6 @@ flag-none (Unknown w) p = refl
 flag-none (Known f k v h) p = plain-itself f p
 
 -- ---- options of rows with plain flags
-
--- whether the rows of these kinds have flags with a first byte that is not @
-abbrev pub has_plain_flags : {K : Type 0} → (K → Bool) → List (Row K) → Bool
-has_plain_flags t rows = list_all (λ row. not (t row.kind) || is_plain row.flag) rows
 
 module _ {K : Type 0} (tables : List (List (Row K))) (dashes : Bool) (t : K → Bool) (plain : has_plain_flags t (all_rows tables) ≡ true) where
   abbrev own : List ℕ → Option (Row K)

@@ -1,7 +1,9 @@
 -- Words that name no response file: a compiler takes a word that begins with `@` for the name of a file with more words.
-use Rattle.std.specs.Prelude.{◌≡◌, ℕ, false, List}
+use Rattle.std.specs.Prelude.{◌≡◌, ℕ, Bool, false, not, ◌||◌, ◌==◌, List, [], ◌∷◌}
+use Rattle.std.specs.List.{list_all}
 use Rattle.scl_values.specs.Each.{Each}
 use Rattle.scl_args.specs.Options.{begins_with_at}
+use Rattle.scl_values.specs.Row.{Row}
 use Rattle.scl_values.specs.Seen.{Seen, text_of}
 use Rattle.scl_again.specs.Commands.{Said}
 
@@ -17,3 +19,14 @@ GivesNoFile option = NamesNoFile (text_of option)
 abbrev pub NamesNoFileOfItsOwn : {K J : Type 0} → Said K J → (object : List ℕ) → (command : List (List ℕ)) → Type 0
 NamesNoFileOfItsOwn said object command =
     Each GivesNoFile said.options → Each (λ inner. Each GivesNoFile inner.options) said.inners → NamesNoFile object → Each NamesNoFile command
+
+-- ---- tables
+
+-- whether the word has a first byte, which is not @
+abbrev pub is_plain : List ℕ → Bool
+is_plain [] = false
+is_plain (x ∷ xs) = not (x == 64)
+
+-- whether the rows of these kinds have plain flags
+abbrev pub has_plain_flags : {K : Type 0} → (K → Bool) → List (Row K) → Bool
+has_plain_flags t rows = list_all (λ row. not (t row.kind) || is_plain row.flag) rows

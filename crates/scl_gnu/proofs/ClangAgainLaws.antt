@@ -25,14 +25,14 @@ use Rattle.scl_text.specs.Languages.{clang_text}
 use Rattle.scl_files.specs.Views.{Viewed}
 use Rattle.scl_gnu_reading.specs.declared.gcc.data.Kind.{Kind}
 use Rattle.scl_gnu_reading.specs.declared.gcc.data.Kind.TheVariants as kind
-use Rattle.scl_gnu.specs.Again.{carried}
+use Rattle.scl_gnu_reading.specs.Again.{carried}
 use Rattle.scl_gnu.specs.Building.{command_words}
 use Rattle.scl_gnu_reading.specs.ClangRows.{clang_rows, clang_tables}
 use Rattle.scl_gnu_reading.specs.GccRows.{gcc_rows}
 use Rattle.scl_gnu_reading.specs.Kinds.{of}
 use Rattle.scl_gnu.specs.ReadAgain.{options_of, inner_options_of, behind_xclang, parts, clang_line, ClangCommandsAreReadAgain, ClangReadsAgain}
 use Rattle.scl_gnu_reading.specs.Readings.{reading}
-use Rattle.scl_gnu.proofs.CheckLaws.{clang_passes, xclang_alone}
+use Rattle.scl_gnu_reading.proofs.CheckLaws.{clang_passes, xclang_alone}
 use Rattle.scl_gnu.proofs.NoFileLaws.{clang_none}
 use Rattle.scl_gnu.proofs.OwnWordsLaws.{OwnWords, AreInners}
 use Rattle.scl_gnu.proofs.ReadAgainLaws.{commands-again}

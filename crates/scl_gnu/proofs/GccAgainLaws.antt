@@ -20,14 +20,14 @@ use Rattle.scl_text.specs.Languages.{gcc_text}
 use Rattle.scl_files.specs.Views.{Viewed}
 use Rattle.scl_gnu_reading.specs.declared.gcc.data.Kind.{Kind}
 use Rattle.scl_gnu_reading.specs.declared.gcc.data.Kind.TheVariants as kind
-use Rattle.scl_gnu.specs.Again.{carried}
+use Rattle.scl_gnu_reading.specs.Again.{carried}
 use Rattle.scl_gnu.specs.Building.{command_words}
 use Rattle.scl_gnu_reading.specs.ClangRows.{clang_tables}
 use Rattle.scl_gnu_reading.specs.GccRows.{gcc_rows}
 use Rattle.scl_gnu_reading.specs.Inners.{inner_words_at}
 use Rattle.scl_gnu.specs.ReadAgain.{options_of, inner_options_of, parts, gcc_line, GccCommandsAreReadAgain, GccReadsAgain}
 use Rattle.scl_gnu_reading.specs.Readings.{reading}
-use Rattle.scl_gnu.proofs.CheckLaws.{gcc_passes}
+use Rattle.scl_gnu_reading.proofs.CheckLaws.{gcc_passes}
 use Rattle.scl_gnu.proofs.InnerLaws.{no_inner}
 use Rattle.scl_gnu.proofs.NoFileLaws.{gcc_none}
 use Rattle.scl_gnu.proofs.OwnWordsLaws.{OwnWords, AreInners}

@@ -18,7 +18,7 @@ use Rattle.scl_gnu_reading.specs.contracts.gcc.data.KindPartialEq.TheImpl as kin
 use Rattle.scl_gnu_reading.specs.contracts.gcc.place.PlacePartialEq.TheImpl.{ghosts}
 use Rattle.scl_gnu_reading.specs.declared.gcc.place.Place.{Place}
 use Rattle.scl_gnu_reading.specs.declared.gcc.place.Place.TheVariants as places
-use Rattle.scl_gnu.specs.Again.{is_list, carried, carried_inner}
+use Rattle.scl_gnu_reading.specs.Again.{is_list, carried, carried_inner}
 use Rattle.scl_gnu_reading.specs.ClangRows.{clang_tables}
 use Rattle.scl_gnu_reading.specs.Inners.{inner_place, goes_inside_to}
 use Rattle.scl_gnu_reading.specs.Places.{place, goes_to}

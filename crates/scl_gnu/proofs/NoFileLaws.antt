@@ -8,8 +8,8 @@ use Rattle.scl_values.specs.Row.{Row}
 use Rattle.scl_values.specs.Seen.{Seen, shown, flag_of, text_of}
 use Rattle.scl_values.specs.Tables.{owner_in, all_rows}
 use Rattle.scl_again.specs.Commands.{Inner}
-use Rattle.scl_again.specs.NoFiles.{NamesNoFile, GivesNoFile}
-use Rattle.scl_again.proofs.NoFileLaws.{each-append, has_plain_flags, HasPlainFlag, flag-none, plain-found, passed, listed-none, one-none, apart-none, last-none}
+use Rattle.scl_again.specs.NoFiles.{NamesNoFile, GivesNoFile, has_plain_flags}
+use Rattle.scl_again.proofs.NoFileLaws.{each-append, HasPlainFlag, flag-none, plain-found, passed, listed-none, one-none, apart-none, last-none}
 use Rattle.scl_files.specs.declared.expand.ExpansionKind.TheVariants as expansions
 use Rattle.scl_text.specs.declared.language.Language.{Language}
 use Rattle.scl_text.specs.declared.language.Language.TheVariants as languages
@@ -27,7 +27,7 @@ use Rattle.scl_gnu_reading.specs.declared.gcc.data.Kind.{Kind}
 use Rattle.scl_gnu_reading.specs.declared.gcc.data.Kind.TheVariants as kind
 use Rattle.scl_gnu_reading.specs.declared.gcc.place.Place.{Place}
 use Rattle.scl_gnu_reading.specs.declared.gcc.place.Place.TheVariants as places
-use Rattle.scl_gnu.specs.Again.{is_list, carried, carried_inner}
+use Rattle.scl_gnu_reading.specs.Again.{is_list, carried, carried_inner}
 use Rattle.scl_gnu.specs.Building.{language_words, color_words, dash_words, front_words, list_words, back_words, command_words}
 use Rattle.scl_gnu_reading.specs.ClangRows.{clang_rows, clang_tables}
 use Rattle.scl_gnu_reading.specs.FixedTests.{Found}
@@ -38,6 +38,7 @@ use Rattle.scl_gnu.specs.NoFiles.{CommandsNameNoFile, GccCommandsNameNoFile, Cla
 use Rattle.scl_gnu_reading.specs.Places.{place, goes_to}
 use Rattle.scl_gnu.specs.ReadAgain.{options_of, inner_options_of, behind_xclang}
 use Rattle.scl_gnu_reading.specs.Recordings.{is_clang, needs_target, added_common, added_depfile, added_dependency, all_words_at, dependency_words, record_of}
+use Rattle.scl_gnu_reading.proofs.CheckLaws.{carried_plain, carried_inner_plain}
 use Rattle.scl_gnu.proofs.InnerLaws.{no_inner}
 use Rattle.scl_gnu.proofs.KeptLaws.{is_kind, same-list}
 use Rattle.scl_gnu.proofs.ReadingLaws.{HasFound, is-read, object-found}
@@ -162,11 +163,7 @@ gcc_none = commands-none compilers.Gcc (gcc_rows ∷ []) gcc-flags gcc_text gcc-
 
 clang-flags : PlainFlags clang_tables
 unfolding gcc_rows clang_rows
-clang-flags = record { carries = refl; compiles = refl; targets = refl }
-
-inner-flags : has_plain_flags carried_inner (all_rows clang_tables) ≡ true
-unfolding gcc_rows clang_rows
-inner-flags = refl
+clang-flags = record { carries = carried_plain; compiles = refl; targets = refl }
 
 clang-languages : (l : Language) → NameNone (language_words (clang_text l))
 clang-languages languages.GenericHeader = tt
@@ -179,4 +176,4 @@ clang_none = commands-none compilers.Clang clang_tables clang-flags clang_text c
     let os = map shown (options_of clang_tables true directory view words) in
     let handed = expand expansions.Gnu directory view.files (texts (of (kind.XClang ∷ [])) os) in
     apart-none (codes "-Xclang") refl _ (listed-none (goes_inside_to there) side_of_flag _ n.0
-    (plain-found clang_tables false carried_inner inner-flags (goes_inside_to there) (λ f k v h e. same-list (inner_place k) there lists e) handed)))
+    (plain-found clang_tables false carried_inner carried_inner_plain (goes_inside_to there) (λ f k v h e. same-list (inner_place k) there lists e) handed)))

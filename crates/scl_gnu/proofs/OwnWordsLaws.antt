@@ -24,7 +24,7 @@ use Rattle.scl_text.specs.declared.records.ColorMode.TheVariants as colors
 use Rattle.scl_gnu_reading.specs.declared.gcc.data.Kind.{Kind}
 use Rattle.scl_gnu_reading.specs.declared.gcc.data.Kind.TheVariants as kind
 use Rattle.scl_gnu_reading.specs.declared.gcc.place.Place.{Place}
-use Rattle.scl_gnu.specs.Again as again
+use Rattle.scl_gnu_reading.specs.Again as again
 use Rattle.scl_gnu_reading.specs.ClangRows.{clang_tables}
 use Rattle.scl_gnu_reading.specs.Inners.{goes_inside_to, inner_words_at}
 use Rattle.scl_gnu.specs.ReadAgain.{language_option, color_option, split_dwarf_option, depfile_option, target_options}

@@ -36,7 +36,7 @@ use Rattle.scl_gnu_reading.specs.declared.gcc.data.Kind.{Kind}
 use Rattle.scl_gnu_reading.specs.declared.gcc.data.Kind.TheVariants as kind
 use Rattle.scl_gnu_reading.specs.declared.gcc.place.Place.{Place}
 use Rattle.scl_gnu_reading.specs.declared.gcc.place.Place.TheVariants as places
-use Rattle.scl_gnu.specs.Again as again
+use Rattle.scl_gnu_reading.specs.Again as again
 use Rattle.scl_gnu.specs.Building.{language_words, color_words, dash_words, front_words, list_words, back_words, command_words}
 use Rattle.scl_gnu_reading.specs.ClangRows.{clang_tables}
 use Rattle.scl_gnu_reading.specs.FixedTests.{Found}
@@ -44,7 +44,7 @@ use Rattle.scl_gnu_reading.specs.Kinds.{of, any, is_input, last_flag, last_text}
 use Rattle.scl_gnu_reading.specs.Places.{words_at}
 use Rattle.scl_gnu.specs.ReadAgain.{language_option, color_option, split_dwarf_option, depfile_option, target_options, list_of, parts, options_of, inner_options_of, CommandsAreReadAgain}
 use Rattle.scl_gnu_reading.specs.Recordings.{is_clang, needs_target, added_common, added_depfile, added_dependency, all_words_at, dependency_words, record_of}
-use Rattle.scl_gnu.proofs.CheckLaws.{inner_passes}
+use Rattle.scl_gnu_reading.proofs.CheckLaws.{inner_passes}
 use Rattle.scl_gnu.proofs.KeptLaws.{no-raws, is_kind, compiles-alone, target-alone, is-list}
 use Rattle.scl_gnu.proofs.ReadingLaws.{HasFound, is-read, object-found}
 use Rattle.scl_gnu.proofs.OwnWordsLaws.{xclang, wrapped, OwnWords, AreInners, not-so, none-front, none-back, none-define, none-depfile, no_raw-define, no_raw-target, five}

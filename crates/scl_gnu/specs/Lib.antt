@@ -1,7 +1,6 @@
-pub mod Again
 pub mod Building
-pub mod NoFiles
 pub mod ListsOf
+pub mod NoFiles
 pub mod OutputFiles
 pub mod Passes
 pub mod Preprocess

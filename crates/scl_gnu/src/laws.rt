@@ -1,35 +1,13 @@
-//! What follows for the tables of Gcc and Clang. Each law is the contract of a function that does nothing.
-ghost use Rattle.std.specs.Prelude.{◌≡◌, ◌∷◌, [], true, codes};
-ghost use Rattle.scl_args.specs.Options.{side_of_flag};
-ghost use Rattle.scl_values.specs.Tables.{all_rows};
-ghost use Rattle.scl_again.specs.Checks.{PassChecks, has_no_kept};
-ghost use Rattle.scl_gnu.specs.Again.{carried, carried_inner};
-ghost use Rattle.scl_gnu_reading.specs.ClangRows.{clang_tables};
-ghost use Rattle.scl_gnu_reading.specs.GccRows.{gcc_rows};
+//! What follows for the commands of Gcc and Clang. Each law is the contract of a function that does nothing.
 ghost use Rattle.scl_gnu.specs.NoFiles.{GccCommandsNameNoFile, ClangCommandsNameNoFile};
 ghost use Rattle.scl_gnu.specs.OutputFiles.{OutputFilesAreLeftOut};
 ghost use Rattle.scl_gnu.specs.Preprocess.{OneArchitectureHasOneRun, EachArchitectureHasItsRun};
 ghost use Rattle.scl_gnu.specs.ReadAgain.{GccCommandsAreReadAgain, ClangCommandsAreReadAgain};
 
-/// Gcc's table passes both checks for the kinds that lists carry (docs/RULES.md, Cutting again).
-pub fn gcc_table_passes_both_checks()
-    ensures { PassChecks (gcc_rows ∷ []) carried side_of_flag }
-{}
-
-/// Clang's tables pass both checks for the kinds that lists carry (docs/RULES.md, Cutting again).
-pub fn clang_tables_pass_both_checks()
-    ensures { PassChecks clang_tables carried side_of_flag }
-{}
-
-/// Clang's tables pass both checks for the kinds of inner options that lists carry (docs/RULES.md, Cutting again).
-pub fn clang_tables_pass_both_checks_inside()
-    ensures { PassChecks clang_tables carried_inner side_of_flag }
-{}
-
-/// No list carries an outer option with the flag `-Xclang` (docs/RULES.md, Cutting again).
-pub fn xclang_alone_hands_words_on()
-    ensures { has_no_kept carried (codes "-Xclang") (all_rows clang_tables) ≡ true }
-{}
+pub use scl_gnu_reading::laws::{
+    carried_flags_name_no_file, clang_tables_pass_both_checks, clang_tables_pass_both_checks_inside,
+    gcc_table_passes_both_checks, xclang_alone_hands_words_on,
+};
 
 /// The command of a record of Gcc, cut again by its table, gives its own words, the carried options and those that are
 /// added, with unchanged values, and the input (docs/RULES.md, Cutting again).

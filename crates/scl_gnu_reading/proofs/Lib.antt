@@ -1,3 +1,4 @@
+pub mod CheckLaws
 pub mod HashLaws
 pub mod InnerLemmas
 pub mod OutputLaws

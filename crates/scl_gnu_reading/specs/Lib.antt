@@ -1,3 +1,4 @@
+pub mod Again
 pub mod ClangRows
 pub mod Data
 pub mod FixedTests

@@ -3,3 +3,4 @@
 
 pub mod clang;
 pub mod gcc;
+pub mod laws;

@@ -27,7 +27,7 @@ use Rattle.scl_msvc_reading.specs.Kinds.{any, is_input, language_said, explicit_
 use Rattle.scl_msvc.specs.ReadAgain.{input_option, mark_option}
 use Rattle.scl_msvc_reading.specs.Rows.{msvc_rows, msvc_tables}
 use Rattle.scl_msvc_reading.specs.Verdicts.{verdict}
-use Rattle.scl_msvc.proofs.CheckLaws.{own_joins}
+use Rattle.scl_msvc_reading.proofs.CheckLaws.{own_joins}
 use Rattle.scl_msvc.proofs.ReadingLaws.{names_language}
 
 abbrev own : List ℕ → Option (Row Kind)

@@ -18,7 +18,7 @@ use Rattle.scl_msvc_reading.specs.declared.msvc.data.Kind.{Kind}
 use Rattle.scl_msvc_reading.specs.declared.msvc.data.Kind.TheVariants as kind
 use Rattle.scl_msvc_reading.specs.declared.msvc.place.Place.{Place}
 use Rattle.scl_msvc_reading.specs.declared.msvc.place.Place.TheVariants as places
-use Rattle.scl_msvc.specs.Again.{is_list, carried, carried_inner}
+use Rattle.scl_msvc_reading.specs.Again.{is_list, carried, carried_inner}
 use Rattle.scl_msvc_reading.specs.Inners.{inner_place, goes_inside_to}
 use Rattle.scl_msvc_reading.specs.Places.{place, goes_to, side_of_flag}
 use Rattle.scl_msvc.specs.ReadAgain.{list_of, behind_xclang, behind_clang}

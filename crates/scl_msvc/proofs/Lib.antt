@@ -1,4 +1,3 @@
-pub mod CheckLaws
 pub mod DepfileLemmas
 pub mod EnvironmentLemmas
 pub mod InputLaws

@@ -7,8 +7,8 @@ use Rattle.scl_args.specs.Options.{texts, ◌>>=◌}
 use Rattle.scl_args.specs.Options as listed
 use Rattle.scl_values.specs.Seen.{Seen, shown, flag_of}
 use Rattle.scl_values.specs.Tables.{owner_in, all_rows}
-use Rattle.scl_again.specs.NoFiles.{NamesNoFile, GivesNoFile}
-use Rattle.scl_again.proofs.NoFileLaws.{each-append, has_plain_flags, HasPlainFlag, flag-none, plain-found, listed-none, one-none, apart-none, joined-none, last-none}
+use Rattle.scl_again.specs.NoFiles.{NamesNoFile, GivesNoFile, has_plain_flags}
+use Rattle.scl_again.proofs.NoFileLaws.{each-append, HasPlainFlag, flag-none, plain-found, listed-none, one-none, apart-none, joined-none, last-none}
 use Rattle.scl_files.specs.declared.expand.ExpansionKind.TheVariants as expansions
 use Rattle.scl_text.specs.declared.language.Language.{Language}
 use Rattle.scl_text.specs.declared.language.Language.TheVariants as languages
@@ -22,7 +22,7 @@ use Rattle.scl_msvc_reading.specs.declared.msvc.data.Kind.{Kind}
 use Rattle.scl_msvc_reading.specs.declared.msvc.data.Kind.TheVariants as kind
 use Rattle.scl_msvc_reading.specs.declared.msvc.place.Place.{Place}
 use Rattle.scl_msvc_reading.specs.declared.msvc.place.Place.TheVariants as places
-use Rattle.scl_msvc.specs.Again.{is_list, carried, carried_inner}
+use Rattle.scl_msvc_reading.specs.Again.{is_list, carried, carried_inner}
 use Rattle.scl_msvc.specs.Building.{command_words, dash_words, input_word, input_words, language_flag, list_words}
 use Rattle.scl_msvc_reading.specs.FixedTests.{Found}
 use Rattle.scl_msvc_reading.specs.Inners.{Inner, inner_list, inner_place, inner_words_at, goes_inside_to}
@@ -33,6 +33,7 @@ use Rattle.scl_msvc.specs.ReadAgain.{options_of, inner_options_of}
 use Rattle.scl_msvc_reading.specs.Readings.{reading}
 use Rattle.scl_msvc_reading.specs.Recordings.{all_words_at, record_of}
 use Rattle.scl_msvc_reading.specs.Rows.{msvc_rows, msvc_tables}
+use Rattle.scl_msvc_reading.proofs.CheckLaws.{carried_plain, carried_inner_plain}
 use Rattle.scl_msvc.proofs.KeptLaws.{is_kind, same-list}
 use Rattle.scl_msvc.proofs.ReadingLaws.{HasFound, is-read, object-found}
 
@@ -44,17 +45,9 @@ append xs ys = each-append NamesNoFile xs ys
 
 -- ---- flags
 
-carries : has_plain_flags carried (all_rows msvc_tables) ≡ true
-unfolding msvc_rows
-carries = refl
-
 compiles : has_plain_flags (is_kind kind.DoCompilation) (all_rows msvc_tables) ≡ true
 unfolding msvc_rows
 compiles = refl
-
-inner-flags : has_plain_flags carried_inner (all_rows clang_tables) ≡ true
-unfolding gcc_rows clang_rows
-inner-flags = refl
 
 -- ---- words of a compiler's own
 
@@ -81,7 +74,7 @@ inside-none : (there : Place) → is_list there ≡ true → (words : List (List
     Each GivesNoFile os → NameNone (inner_list there os)
 inside-none there lists words none =
     listed-none (goes_inside_to there) listed.side_of_flag _ none
-    (plain-found clang_tables false carried_inner inner-flags (goes_inside_to there) (λ f k v h e. same-list (inner_place k) there lists e) words)
+    (plain-found clang_tables false carried_inner carried_inner_plain (goes_inside_to there) (λ f k v h e. same-list (inner_place k) there lists e) words)
 
 module _ (is_clang : Bool) (ws : List (List ℕ)) where
   abbrev os : List (Seen Kind)
@@ -91,7 +84,7 @@ module _ (is_clang : Bool) (ws : List (List ℕ)) where
     at-none : (there : Place) → is_list there ≡ true → NameNone (all_words_at there os inner)
     at-none there lists =
         let p = goes_to there in
-        append _ _ (listed-none p side_of_flag os none (plain-found msvc_tables is_clang carried carries p (λ f k v h e. same-list (place k) there lists e) ws)) (inside there lists)
+        append _ _ (listed-none p side_of_flag os none (plain-found msvc_tables is_clang carried carried_plain p (λ f k v h e. same-list (place k) there lists e) ws)) (inside there lists)
 
     module _ (directory : List ℕ) (view : Viewed) (f : Found) (has : HasFound os f) where
       abbrev record_is : Parsed

@@ -17,7 +17,7 @@ use Rattle.scl_msvc_reading.specs.declared.msvc.data.Kind.{Kind}
 use Rattle.scl_msvc_reading.specs.declared.msvc.data.Kind.TheVariants as kind
 use Rattle.scl_msvc_reading.specs.declared.msvc.place.Place.{Place}
 use Rattle.scl_msvc_reading.specs.declared.msvc.place.Place.TheVariants as places
-use Rattle.scl_msvc.specs.Again.{is_list}
+use Rattle.scl_msvc_reading.specs.Again.{is_list}
 use Rattle.scl_msvc.specs.Building.{command_words}
 use Rattle.scl_msvc_reading.specs.Environment.{surrounded}
 use Rattle.scl_msvc_reading.specs.FixedTests.{Found}

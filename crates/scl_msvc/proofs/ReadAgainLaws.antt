@@ -32,7 +32,7 @@ use Rattle.scl_msvc_reading.specs.declared.msvc.data.Kind.{Kind}
 use Rattle.scl_msvc_reading.specs.declared.msvc.data.Kind.TheVariants as kind
 use Rattle.scl_msvc_reading.specs.declared.msvc.place.Place.{Place}
 use Rattle.scl_msvc_reading.specs.declared.msvc.place.Place.TheVariants as places
-use Rattle.scl_msvc.specs.Again as again
+use Rattle.scl_msvc_reading.specs.Again as again
 use Rattle.scl_msvc.specs.Building.{command_words, input_words, list_words}
 use Rattle.scl_msvc_reading.specs.FixedTests.{Found}
 use Rattle.scl_msvc_reading.specs.Inners as inners
@@ -45,7 +45,7 @@ use Rattle.scl_msvc_reading.specs.Readings.{reading}
 use Rattle.scl_msvc_reading.specs.Recordings.{all_words_at, record_of}
 use Rattle.scl_msvc_reading.specs.Rows.{msvc_rows, msvc_tables}
 use Rattle.scl_msvc_reading.specs.Verdicts.{verdict}
-use Rattle.scl_msvc.proofs.CheckLaws.{msvc_passes, inner_passes, xclang_alone, clang_alone}
+use Rattle.scl_msvc_reading.proofs.CheckLaws.{msvc_passes, inner_passes, xclang_alone, clang_alone}
 use Rattle.scl_msvc.proofs.InputLaws.{reads-output, reads-clang, reads-input}
 use Rattle.scl_msvc.proofs.KeptLaws.{wrapped, no-raws, is-list, is_kind, compiles-alone}
 use Rattle.scl_msvc.proofs.ReadingLaws.{HasFound, is-read, object-found}

@@ -1,3 +1,4 @@
+pub mod Again
 pub mod Data
 pub mod Environment
 pub mod FixedTests

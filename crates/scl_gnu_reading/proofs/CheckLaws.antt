@@ -2,8 +2,9 @@ use Rattle.std.proofs.Common.{◌≡◌, true, [], ◌∷◌, refl}
 use Rattle.std.specs.Prelude.{codes}
 use Rattle.scl_args.specs.Options.{side_of_flag}
 use Rattle.scl_values.specs.Tables.{all_rows}
+use Rattle.scl_again.specs.NoFiles.{has_plain_flags}
 use Rattle.scl_again.specs.Checks.{PassChecks, has_no_kept}
-use Rattle.scl_gnu.specs.Again.{carried, carried_inner}
+use Rattle.scl_gnu_reading.specs.Again.{carried, carried_inner}
 use Rattle.scl_gnu_reading.specs.ClangRows.{clang_rows, clang_tables}
 use Rattle.scl_gnu_reading.specs.GccRows.{gcc_rows}
 
@@ -22,3 +23,11 @@ inner_passes = record { keeps = refl; safe = refl }
 pub xclang_alone : has_no_kept carried (codes "-Xclang") (all_rows clang_tables) ≡ true
 unfolding gcc_rows clang_rows
 xclang_alone = refl
+
+pub carried_plain : has_plain_flags carried (all_rows clang_tables) ≡ true
+unfolding gcc_rows clang_rows
+carried_plain = refl
+
+pub carried_inner_plain : has_plain_flags carried_inner (all_rows clang_tables) ≡ true
+unfolding gcc_rows clang_rows
+carried_inner_plain = refl

@@ -2,10 +2,11 @@ use Rattle.std.proofs.Common.{◌≡◌, true, [], ◌∷◌, refl}
 use Rattle.std.specs.Prelude.{codes}
 use Rattle.scl_args.specs.Options as listed
 use Rattle.scl_values.specs.Tables.{all_rows}
+use Rattle.scl_again.specs.NoFiles.{has_plain_flags}
 use Rattle.scl_again.specs.Checks.{PassChecks, JoinSafely, has_no_kept}
 use Rattle.scl_gnu_reading.specs.ClangRows.{clang_rows, clang_tables}
 use Rattle.scl_gnu_reading.specs.GccRows.{gcc_rows}
-use Rattle.scl_msvc.specs.Again.{carried, carried_inner}
+use Rattle.scl_msvc_reading.specs.Again.{carried, carried_inner}
 use Rattle.scl_msvc_reading.specs.Places.{side_of_flag}
 use Rattle.scl_msvc_reading.specs.Rows.{msvc_rows, msvc_tables}
 
@@ -28,3 +29,11 @@ xclang_alone = refl
 pub clang_alone : has_no_kept carried (codes "-clang:") (all_rows msvc_tables) ≡ true
 unfolding msvc_rows
 clang_alone = refl
+
+pub carried_plain : has_plain_flags carried (all_rows msvc_tables) ≡ true
+unfolding msvc_rows
+carried_plain = refl
+
+pub carried_inner_plain : has_plain_flags carried_inner (all_rows clang_tables) ≡ true
+unfolding gcc_rows clang_rows
+carried_inner_plain = refl
