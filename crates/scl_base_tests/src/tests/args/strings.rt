@@ -22,7 +22,7 @@ enum Value {
 
 impl IntoArg for Value {
     ghost use Rattle.std.specs.Prelude.{true, false};
-    ghost use Rattle.scl_base_tests.specs.declared.args.strings.Value.TheVariants.{Path, Word};
+    ghost use Rattle.scl_base_tests.specs.declared.tests.args.strings.Value.TheVariants.{Path, Word};
 
     ghost word_of = { elim [ Path path ↦ path.0.items | Word word ↦ word.items ] };
 
@@ -51,7 +51,7 @@ impl ArgumentValue for Value {
     type Kind = bool;
 
     ghost use Rattle.std.specs.Prelude.{◌≡◌, true, IsOkAnd};
-    ghost use Rattle.scl_base_tests.specs.declared.args.strings.Value.TheVariants.{Path, Word};
+    ghost use Rattle.scl_base_tests.specs.declared.tests.args.strings.Value.TheVariants.{Path, Word};
 
     ghost make_gives = { λ is_path word made. IsOkAnd made (λ value. (Self.is_path value ≡ is_path) × (Self.word_of value ≡ word)) };
 
