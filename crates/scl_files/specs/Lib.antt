@@ -1,3 +1,4 @@
+-- What contracts of public functions cite.
 pub mod Characters
 pub mod Decoding
 pub mod DiabText
@@ -10,6 +11,7 @@ pub mod ResponseFiles
 pub mod Views
 pub mod Within
 pub mod WordsToCome
+-- What only contracts of private functions cite: how the code keeps and reads what those above speak of.
 pub mod ExpansionState
 pub mod GnuReader
 pub mod MsvcReader

@@ -1,4 +1,3 @@
--- What contracts of public functions cite.
 pub mod Commands
 pub mod Compilers
 pub mod JudgedWords
@@ -9,4 +8,3 @@ pub mod Records
 pub mod Refusals
 pub mod Runs
 pub use Rattle.scl_values.specs.Words
--- What only contracts of private functions cite: how the code keeps and reads what those above speak of.
