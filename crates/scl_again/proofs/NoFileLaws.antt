@@ -1,6 +1,6 @@
 -- Printed options name no response file where they were given none: a word of theirs is their flag, their value, or begins with their flag.
 use Rattle.std.proofs.Common.{◌≡◌, ℕ, Bool, true, false, cond, not, ◌||◌, ◌==◌, List, [], ◌∷◌, ◌++◌, map, filter, Option, None, Some, refl, subst}
-use Rattle.std.specs.List.{flat_map, list_all}
+use Rattle.std.specs.List.{flat_map}
 use Rattle.std.specs.Option.{option_map}
 use Rattle.std.specs.Prelude.{unwrap_or}
 use Rattle.scl_values.specs.declared.argument.ArgDisposition.{ArgDisposition}

@@ -5,10 +5,8 @@ ghost use Rattle.scl_values.specs.Row.{row_at};
 ghost use Rattle.scl_values.specs.Seen.{seen};
 ghost use Rattle.scl_values.specs.Tables.{owner_in};
 
-use scl_values::{ArgDisposition, ArgInfo, ArgRow, Argument};
-use scl_values::ReadArg;
 use scl_tables::SearchableArgInfo;
-use scl_values::ArgumentValue;
+use scl_values::{ArgDisposition, ArgInfo, ArgRow, Argument, ArgumentValue, ReadArg};
 
 /// Whether a row was found whose shape is either.
 fn finds_either<T: ArgumentValue>(row: Option<&ArgInfo<T>>) -> bool

@@ -7,12 +7,10 @@ ghost use Rattle.scl_args.specs.Sorts.{AreSortsOf, IsAmong};
 ghost use Rattle.scl_values.specs.Words.{words_of};
 ghost use Rattle.scl_args.specs.Options.{all_seen, is_behind_dashes, last_by, texts, list};
 
-use scl_values::Argument;
-use scl_values::ReadArg;
 use crate::lists::{Sides, into_list, list};
-use scl_values::Mem;
 use crate::options::{Test, any, is_behind_dashes, last_by, last_flag, last_text, texts};
 use crate::sort::{Sort, is_same, sort_of};
+use scl_values::{Argument, Mem, ReadArg};
 use std::alloc::Global;
 use std::marker::Model;
 

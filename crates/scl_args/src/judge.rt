@@ -6,13 +6,10 @@ ghost use Rattle.scl_values.specs.Seen.{seen};
 ghost use Rattle.scl_args.specs.Options.{first_verdict, judged, result_by, all_seen};
 ghost use Rattle.scl_values.specs.Tables.{owner_in};
 
-use scl_values::Argument;
 use crate::empties::has_empty_value;
-use scl_values::ReadArg;
-use scl_values::Mem;
-use scl_tables::SearchableArgInfo;
-use scl_values::ArgumentValue;
 use scl_cutting::CutWords;
+use scl_tables::SearchableArgInfo;
+use scl_values::{Argument, ArgumentValue, Mem, ReadArg};
 use std::alloc::Global;
 
 /// What judges options, each after those before it (docs/RULES.md, Lists of options).

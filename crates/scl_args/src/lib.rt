@@ -20,13 +20,11 @@ pub use options::{
 };
 pub use scl_cutting::{ArgsIter, CutWords, cut_options, cut_words};
 pub use scl_devices::{Counted, FailingReader, FailingWriter, WriteFault, write_whole};
-pub use scl_tables::{
-    FlagTable, FlagTree, Probes, RowStore, SearchableArgInfo, Tables, looks,
-};
+pub use scl_tables::{FlagTable, FlagTree, Probes, RowStore, SearchableArgInfo, Tables, looks};
 pub use scl_values::{
     ArgDisposition, ArgInfo, ArgParseError, ArgParseResult, ArgRow, ArgToStringError,
-    ArgToStringResult, Argument, ArgumentValue, Delimiter, Escaped, ExactArg, FromArg, Held, IntoArg,
-    Iter, IterStrings, Mem, NormalizedDisposition, PathArg, ReadArg, quoted, quoted_list,
+    ArgToStringResult, Argument, ArgumentValue, Delimiter, Escaped, ExactArg, FromArg, Held,
+    IntoArg, Iter, IterStrings, Mem, NormalizedDisposition, PathArg, ReadArg, quoted, quoted_list,
     split_os_string_arg, without_value,
 };
 pub use sort::Sort;

@@ -5,11 +5,10 @@ ghost use Rattle.scl_values.specs.Spell.{spell_value};
 ghost use Rattle.scl_args.specs.Options.{side_of_flag, spelled_on, list};
 ghost use Rattle.scl_values.specs.Words.{words_of};
 
-use scl_values::{ArgDisposition, Argument, NormalizedDisposition};
-use scl_values::Mem;
 use crate::options::Test;
-use scl_values::joined_value;
-use scl_values::ArgumentValue;
+use scl_values::{
+    ArgDisposition, Argument, ArgumentValue, Mem, NormalizedDisposition, joined_value,
+};
 use std::alloc::Global;
 
 /// On which side of its flag an option of a list prints a value that may stand either way (docs/RULES.md, Printing).

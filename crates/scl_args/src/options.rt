@@ -8,11 +8,8 @@ ghost use Rattle.scl_values.specs.Words.{words_of};
 ghost use Rattle.scl_args.specs.Sorts.{sort_of_kinds};
 ghost use Rattle.scl_args.specs.Options.{begins_with_at, names_file, is_dashes, is_behind_dashes, last, last_by, texts};
 
-use scl_values::{ArgDisposition, Argument};
-use scl_values::ReadArg;
-use scl_values::Mem;
 use crate::sort::Sort;
-use scl_values::ArgumentValue;
+use scl_values::{ArgDisposition, Argument, ArgumentValue, Mem, ReadArg};
 use std::alloc::Global;
 
 /// A test that options pass or not (docs/RULES.md, Lists of options).

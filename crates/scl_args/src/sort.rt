@@ -3,8 +3,7 @@ ghost use Rattle.std.specs.Prelude.{◌≡◌, ◌↔◌, IsTrue};
 ghost use Rattle.scl_values.specs.Seen.{seen};
 ghost use Rattle.scl_args.specs.Sorts.{sort_of};
 
-use scl_values::Argument;
-use scl_values::ReadArg;
+use scl_values::{Argument, ReadArg};
 
 /// What an option is apart from its flag and its value.
 #[derive(Clone, Copy, Debug, PartialEq, Eq)]

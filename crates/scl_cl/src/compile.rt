@@ -114,22 +114,70 @@ impl Compiler {
     {
         match self {
             Compiler::Gcc => {
-                answer_by(alloc, &Gcc::new(false), executable, words, cwd, env_vars, view)
+                answer_by(
+                    alloc,
+                    &Gcc::new(false),
+                    executable,
+                    words,
+                    cwd,
+                    env_vars,
+                    view,
+                )
             }
             Compiler::Gxx => {
-                answer_by(alloc, &Gcc::new(true), executable, words, cwd, env_vars, view)
+                answer_by(
+                    alloc,
+                    &Gcc::new(true),
+                    executable,
+                    words,
+                    cwd,
+                    env_vars,
+                    view,
+                )
             }
             Compiler::Clang => {
-                answer_by(alloc, &Clang::new(false), executable, words, cwd, env_vars, view)
+                answer_by(
+                    alloc,
+                    &Clang::new(false),
+                    executable,
+                    words,
+                    cwd,
+                    env_vars,
+                    view,
+                )
             }
             Compiler::Clangxx => {
-                answer_by(alloc, &Clang::new(true), executable, words, cwd, env_vars, view)
+                answer_by(
+                    alloc,
+                    &Clang::new(true),
+                    executable,
+                    words,
+                    cwd,
+                    env_vars,
+                    view,
+                )
             }
             Compiler::Cl => {
-                answer_by(alloc, &cl_of(alloc, false), executable, words, cwd, env_vars, view)
+                answer_by(
+                    alloc,
+                    &cl_of(alloc, false),
+                    executable,
+                    words,
+                    cwd,
+                    env_vars,
+                    view,
+                )
             }
             Compiler::ClangCl => {
-                answer_by(alloc, &cl_of(alloc, true), executable, words, cwd, env_vars, view)
+                answer_by(
+                    alloc,
+                    &cl_of(alloc, true),
+                    executable,
+                    words,
+                    cwd,
+                    env_vars,
+                    view,
+                )
             }
             Compiler::Diab => {
                 answer_by(alloc, &Diab::new(), executable, words, cwd, env_vars, view)

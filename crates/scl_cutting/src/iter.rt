@@ -6,11 +6,9 @@ ghost use Rattle.scl_values.specs.declared.error.ArgParseError.{ArgParseError};
 ghost use Rattle.scl_values.specs.Tables.{owner_in};
 ghost use Rattle.scl_cutting.specs.Iter.{CutsNext, CutsRun, cutter};
 
-use scl_values::Argument;
-use scl_values::ArgParseResult;
 use crate::piece::option_of;
 use scl_tables::SearchableArgInfo;
-use scl_values::ArgumentValue;
+use scl_values::{ArgParseResult, Argument, ArgumentValue};
 use std::alloc::Global;
 use std::marker::{Model, PhantomData};
 

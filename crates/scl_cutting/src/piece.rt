@@ -8,10 +8,11 @@ ghost use Rattle.scl_cutting.specs.Places.{piece_of_place, IsPlaceIn, has_ascii_
 ghost use Rattle.scl_cutting.specs.Iter.{Makes, CutsPiece};
 ghost use Rattle.scl_values.specs.Texts.{is_delimited_by_ascii};
 
-use scl_values::{ArgDisposition, ArgInfo, ArgRow, Argument, Delimiter};
-use scl_values::{ArgParseError, ArgParseResult};
 use scl_tables::SearchableArgInfo;
-use scl_values::ArgumentValue;
+use scl_values::{
+    ArgDisposition, ArgInfo, ArgParseError, ArgParseResult, ArgRow, Argument, ArgumentValue,
+    Delimiter,
+};
 use std::alloc::Global;
 
 /// Where the value is of a flag whose row fits a word.

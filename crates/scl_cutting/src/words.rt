@@ -8,12 +8,9 @@ ghost use Rattle.scl_cutting.specs.Runs.{items_of, dangles_by};
 ghost use Rattle.scl_values.specs.Texts.{is_delimited_by_ascii};
 ghost use Rattle.scl_values.specs.Words.{words_of};
 
-use scl_values::Argument;
-use scl_values::ArgParseError;
 use crate::iter::ArgsIter;
-use scl_values::Mem;
 use scl_tables::SearchableArgInfo;
-use scl_values::{ArgumentValue, ExactArg};
+use scl_values::{ArgParseError, Argument, ArgumentValue, ExactArg, Mem};
 use std::alloc::{AllocError, Global};
 use std::vec::IntoIter;
 

@@ -5,8 +5,9 @@ ghost use Rattle.scl_gnu.specs.Preprocess.{OneArchitectureHasOneRun, EachArchite
 ghost use Rattle.scl_gnu.specs.ReadAgain.{GccCommandsAreReadAgain, ClangCommandsAreReadAgain};
 
 pub use scl_gnu_reading::laws::{
-    carried_flags_name_no_file, clang_tables_pass_both_checks, clang_tables_pass_both_checks_inside,
-    gcc_table_passes_both_checks, xclang_alone_hands_words_on,
+    carried_flags_name_no_file, clang_tables_pass_both_checks,
+    clang_tables_pass_both_checks_inside, gcc_table_passes_both_checks,
+    xclang_alone_hands_words_on,
 };
 
 /// The command of a record of Gcc, cut again by its table, gives its own words, the carried options and those that are

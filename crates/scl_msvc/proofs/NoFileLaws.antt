@@ -16,8 +16,7 @@ use Rattle.scl_text.specs.Commands.{object_of}
 use Rattle.scl_files.specs.Expand.{expand}
 use Rattle.scl_text.specs.Records.{Parsed}
 use Rattle.scl_files.specs.Views.{Viewed}
-use Rattle.scl_gnu_reading.specs.ClangRows.{clang_rows, clang_tables}
-use Rattle.scl_gnu_reading.specs.GccRows.{gcc_rows}
+use Rattle.scl_gnu_reading.specs.ClangRows.{clang_tables}
 use Rattle.scl_msvc_reading.specs.declared.msvc.data.Kind.{Kind}
 use Rattle.scl_msvc_reading.specs.declared.msvc.data.Kind.TheVariants as kind
 use Rattle.scl_msvc_reading.specs.declared.msvc.place.Place.{Place}

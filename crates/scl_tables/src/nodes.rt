@@ -4,8 +4,7 @@ ghost use Rattle.scl_values.specs.Row.{Row, row_of};
 ghost use Rattle.scl_values.specs.Tables.{is_table};
 ghost use Rattle.scl_tables.specs.Trees.{group_of, RiseIn, IsNode, IsTree, Grows};
 
-use scl_values::ArgRow;
-use scl_values::Mem;
+use scl_values::{ArgRow, Mem};
 use std::alloc::Global;
 
 /// A node of a prefix tree. Its rows are those whose flags begin with the bytes on the way to it.

@@ -5,10 +5,8 @@ ghost use Rattle.scl_tables.specs.Trees.{IsTree};
 ghost use Rattle.scl_tables.specs.declared.nodes.Node.{Node};
 ghost use Rattle.scl_tables.specs.Probes.{looks_in, CountsUpTo, Rises};
 
-use scl_values::{ArgInfo, ArgRow};
-use scl_values::Mem;
 use crate::nodes::{Node, nodes_of};
-use scl_values::ArgumentValue;
+use scl_values::{ArgInfo, ArgRow, ArgumentValue, Mem};
 use std::alloc::Global;
 use std::cmp::Ordering;
 use std::marker::Model;

@@ -6,8 +6,8 @@ ghost use Rattle.scl_values.specs.Tables.{is_table, owner};
 ghost use Rattle.scl_tables.specs.Probes.{bits, CountsUpTo, Rises};
 ghost use Rattle.scl_tables.specs.Common.{common};
 
-use scl_values::ArgRow;
 use crate::rows::{Probes, RowStore};
+use scl_values::ArgRow;
 
 /// How many rows come before the key or are it, by bytes.
 fn rows_up_to<K>(rows: &RowStore<'_, K>, key: &[u8], probes: &mut Probes) -> usize

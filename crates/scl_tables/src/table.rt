@@ -2,10 +2,9 @@ ghost use Rattle.std.specs.Prelude.{[], ◌∷◌, ◌++◌, ◌≡◌};
 ghost use Rattle.scl_values.specs.Row.{row_at};
 ghost use Rattle.scl_values.specs.Tables.{longer};
 
-use scl_values::{ArgInfo, ArgRow};
 use crate::rows::{FlagTable, Probes, SearchableArgInfo};
 use crate::search::longest_fit;
-use scl_values::ArgumentValue;
+use scl_values::{ArgInfo, ArgRow, ArgumentValue};
 
 impl<'a, T: ArgumentValue> SearchableArgInfo<T> for FlagTable<'a, T> {
     ghost tables = { λ table. table ∷ [] };

@@ -1,10 +1,9 @@
 //! Any number of tables in one.
 ghost use Rattle.std.specs.Prelude.{◌≡◌};
 
-use scl_values::ArgInfo;
 use crate::rows::{Probes, SearchableArgInfo};
 use crate::table::longer;
-use scl_values::ArgumentValue;
+use scl_values::{ArgInfo, ArgumentValue};
 use std::marker::Model;
 
 /// Any number of tables, or of whatever else is searched, in their order (docs/RULES.md, Owners).

@@ -4,10 +4,9 @@ ghost use Rattle.scl_values.specs.Tables.{owner};
 ghost use Rattle.scl_tables.specs.Trees.{IsTree, OwnFits, NoneFits, ChildrenRise, NoChild, IsChild};
 ghost use Rattle.scl_tables.specs.Probes.{bits, CountsUpTo, Rises};
 
-use scl_values::{ArgInfo, ArgRow};
 use crate::nodes::Node;
 use crate::rows::{FlagTree, NodeStore, Probes, RowStore, SearchableArgInfo};
-use scl_values::ArgumentValue;
+use scl_values::{ArgInfo, ArgRow, ArgumentValue};
 use std::cmp::Ordering;
 
 /// The child for a byte, found by halving.

@@ -3,8 +3,8 @@ use crate::records::{
     CCompilerKind, Cacheable, CommandError, CompilerArguments, ParsedArguments,
     SingleCompileCommand,
 };
-use scl_files::view::View;
 use scl_args::Mem;
+use scl_files::view::View;
 use std::alloc::Global;
 
 /// A compiler whose command lines are read and built. The ghost members are its own definitions:

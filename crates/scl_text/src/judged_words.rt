@@ -7,11 +7,11 @@ ghost use Rattle.scl_values.specs.Tables.{owner_in, tables_hold_values};
 ghost use Rattle.scl_values.specs.Words.{words_of};
 ghost use Rattle.scl_text.specs.JudgedWords.{judged_cut, judged_words};
 
-use scl_files::expand::{ExpansionKind, expand_all};
-use scl_files::view::View;
 use scl_args::{
     CutWords, ExactArg, Judge, Mem, Options, ReadArg, SearchableArgInfo, cut_options, judge_all,
 };
+use scl_files::expand::{ExpansionKind, expand_all};
+use scl_files::view::View;
 use std::alloc::Global;
 
 /// The finished list of the options that words were cut into by the tables, where none is refused.

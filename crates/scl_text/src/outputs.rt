@@ -5,9 +5,9 @@ ghost use Rattle.scl_text.specs.Outputs.{only_if, path_at, put_optional, put_out
 ghost use Rattle.scl_files.specs.Paths.{with_extension};
 ghost use Rattle.scl_text.specs.Records.{artifact, artifacts, path_of};
 
-use scl_files::path::with_extension;
 use crate::records::ArtifactDescriptor;
 use scl_args::Mem;
+use scl_files::path::with_extension;
 use std::alloc::Global;
 use std::collections::BTreeMap;
 

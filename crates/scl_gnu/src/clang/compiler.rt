@@ -6,11 +6,11 @@ ghost use Rattle.scl_text.specs.Languages.{clang_text};
 ghost use Rattle.scl_gnu.specs.Versions.{is_minversion};
 
 use super::preprocess::clang_passes;
-use scl_gnu_reading::clang::BothTrees;
 use super::version::names_at_least;
 use crate::copied::copied_text;
 use crate::gcc;
 use scl_args::Mem;
+use scl_gnu_reading::clang::BothTrees;
 use scl_text::CCompilerImpl;
 use scl_text::language::Language;
 use scl_text::records::{

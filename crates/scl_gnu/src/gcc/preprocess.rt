@@ -7,11 +7,11 @@ ghost use Rattle.scl_text.specs.Runs.{runs_of};
 ghost use Rattle.scl_gnu.specs.ListsOf.{lists_of};
 ghost use Rattle.scl_gnu.specs.Preprocess.{ignoring, rewriting, settings, words_with, run_words, with_archs, without_files, arch_words, arch_run, arch_runs, preprocess_passes, line_flags, gcc_passes};
 
-use scl_gnu_reading::gcc::ARCH_FLAG;
 use super::command::language_to_gcc_arg;
 use super::output_files::without_output_files;
 use super::words::{Lists, push_input, push_language, push_lists};
 use scl_args::Mem;
+use scl_gnu_reading::gcc::ARCH_FLAG;
 use scl_text::command::{push_word, push_words};
 use scl_text::language::Language;
 use scl_text::records::{CCompilerKind, ParsedArguments};

@@ -7,9 +7,9 @@ ghost use Rattle.scl_msvc_reading.specs.Readings.{reading_within};
 
 use super::command::generate_compile_commands;
 use super::environment::{gives_words, surrounded};
-use scl_msvc_reading::msvc::parse_arguments;
 use super::preprocess::passes;
 use scl_args::Mem;
+use scl_msvc_reading::msvc::parse_arguments;
 use scl_text::CCompilerImpl;
 use scl_text::records::{
     CCompilerKind, Cacheable, CommandError, CompilerArguments, ParsedArguments,

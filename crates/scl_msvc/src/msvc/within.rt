@@ -8,10 +8,9 @@ ghost use Rattle.scl_files.specs.Within.{is_within, are_within};
 ghost use Rattle.scl_msvc_reading.specs.Data.{kind_of, word_of};
 ghost use Rattle.scl_msvc.specs.Within.{options_of, inner_line, inner_lines, lines_of, lines};
 
-use scl_msvc_reading::msvc::{ArgData, Kind};
 use super::environment::surrounded;
-use scl_msvc_reading::msvc::BothTables;
 use scl_args::{Argument, Mem, OfKinds, cut_options, texts};
+use scl_msvc_reading::msvc::{ArgData, BothTables, Kind};
 use scl_text::view::View;
 use scl_text::{ExpansionKind, TooManyWords, expand_at_most};
 use std::alloc::Global;
