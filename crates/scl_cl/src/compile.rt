@@ -1,5 +1,5 @@
 //! The answer to a command line, by its compiler.
-ghost use Rattle.std.specs.Prelude.{◌≡◌, ℕ, List, IfOk, None, Ok};
+ghost use Rattle.std.specs.Prelude.{◌≡◌, ℕ, List, IfOk, Ok};
 ghost use Rattle.scl_text.specs.Records.{parsed_of};
 ghost use Rattle.scl_files.specs.Views.{Viewed};
 ghost use Rattle.scl_values.specs.Words.{words_of};
@@ -86,14 +86,6 @@ fn answer_by<C: CCompilerImpl>(
     }
 }
 
-/// cl or clang-cl, of which no version is known.
-fn cl_of(alloc: Global, is_clang: bool) -> Msvc
-    ensures compiler { result.is_clang ≡ is_clang }
-    ensures unknown { result.version ≡ None }
-{
-    Msvc::new(is_clang, String::new(alloc))
-}
-
 impl Compiler {
     /// What a command line is answered: the words behind the program `executable`, read in the
     /// directory `cwd` with the files of `view`. All are bytes. Where the answer is a command, it is read again
@@ -113,71 +105,17 @@ impl Compiler {
         ensures read_again { IfOk result (λ answer. IfCompiled (read_again_by self (asked self (words_of words.now) cwd.now (pairs_of env_vars.now) view.now)) answer) }
     {
         match self {
-            Compiler::Gcc => {
-                answer_by(
-                    alloc,
-                    &Gcc::new(false),
-                    executable,
-                    words,
-                    cwd,
-                    env_vars,
-                    view,
-                )
+            Compiler::Gcc | Compiler::Gxx => {
+                let gcc = Gcc::new(matches!(self, Compiler::Gxx));
+                answer_by(alloc, &gcc, executable, words, cwd, env_vars, view)
             }
-            Compiler::Gxx => {
-                answer_by(
-                    alloc,
-                    &Gcc::new(true),
-                    executable,
-                    words,
-                    cwd,
-                    env_vars,
-                    view,
-                )
+            Compiler::Clang | Compiler::Clangxx => {
+                let clang = Clang::new(matches!(self, Compiler::Clangxx));
+                answer_by(alloc, &clang, executable, words, cwd, env_vars, view)
             }
-            Compiler::Clang => {
-                answer_by(
-                    alloc,
-                    &Clang::new(false),
-                    executable,
-                    words,
-                    cwd,
-                    env_vars,
-                    view,
-                )
-            }
-            Compiler::Clangxx => {
-                answer_by(
-                    alloc,
-                    &Clang::new(true),
-                    executable,
-                    words,
-                    cwd,
-                    env_vars,
-                    view,
-                )
-            }
-            Compiler::Cl => {
-                answer_by(
-                    alloc,
-                    &cl_of(alloc, false),
-                    executable,
-                    words,
-                    cwd,
-                    env_vars,
-                    view,
-                )
-            }
-            Compiler::ClangCl => {
-                answer_by(
-                    alloc,
-                    &cl_of(alloc, true),
-                    executable,
-                    words,
-                    cwd,
-                    env_vars,
-                    view,
-                )
+            Compiler::Cl | Compiler::ClangCl => {
+                let cl = Msvc::new(matches!(self, Compiler::ClangCl), String::new(alloc));
+                answer_by(alloc, &cl, executable, words, cwd, env_vars, view)
             }
             Compiler::Diab => {
                 answer_by(alloc, &Diab::new(), executable, words, cwd, env_vars, view)
