@@ -70,23 +70,10 @@ fields-written a b h k =
     ∙ ap (λ f. both f (field_of (escaped b))) (field-escaped a h) ∙ ap (both (Some a)) (field-escaped b k)
 
 pub name-back : (compiler : Compiler) → compiler_named (name_of compiler) ≡ Some compiler
-name-back Gcc = refl
-name-back Gxx = refl
-name-back Clang = refl
-name-back Clangxx = refl
-name-back Cl = refl
-name-back ClangCl = refl
-name-back Diab = refl
-name-back Tasking = refl
+name-back compiler = grind arith
 
 pub keyword-back : (k : keywords.Keyword) → keyword_named (keyword_text k) ≡ Some k
-keyword-back keyword.Compiler = refl
-keyword-back keyword.Cwd = refl
-keyword-back keyword.Word = refl
-keyword-back keyword.File = refl
-keyword-back keyword.Dir = refl
-keyword-back keyword.Exists = refl
-keyword-back keyword.Env = refl
+keyword-back k = grind arith
 
 pub said-written : (s : Said) → CanBeWritten s → said (written s) ≡ Some s
 said-written Blank can = refl
@@ -114,14 +101,7 @@ no-feed_pair front a b h k l =
     cut_at-append 10 (front ++ escaped a) (9 ∷ escaped b) (no-feed_behind front a h k) (cut_at-append 10 (9 ∷ []) (escaped b) refl (no-feed b l))
 
 name-no-feed : (compiler : Compiler) → cut_at 10 (codes "compiler " ++ name_of compiler) ≡ None
-name-no-feed Gcc = refl
-name-no-feed Gxx = refl
-name-no-feed Clang = refl
-name-no-feed Clangxx = refl
-name-no-feed Cl = refl
-name-no-feed ClangCl = refl
-name-no-feed Diab = refl
-name-no-feed Tasking = refl
+name-no-feed compiler = grind arith
 
 written-no-feed : (s : Said) → CanBeWritten s → cut_at 10 (written s) ≡ None
 written-no-feed Blank can = refl

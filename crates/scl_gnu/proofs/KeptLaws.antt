@@ -1,5 +1,5 @@
 -- Lists carry options of the kinds that the checks of tables are for, and unknown ones.
-use Rattle.std.proofs.Common.{◌≡◌, Bool, true, false, List, [], ◌∷◌, refl}
+use Rattle.std.proofs.Common.{◌≡◌, Bool, true, false, List, [], ◌∷◌, refl, arith}
 use Rattle.std.specs.List.{list_any}
 use Rattle.scl_values.specs.Cuts.{Cut, raw, unknown, flag, with_value}
 use Rattle.scl_values.specs.Each.{Each}
@@ -27,25 +27,7 @@ use Rattle.scl_gnu.specs.ReadAgain.{list_of}
 -- ---- places
 
 pub same-list : (a there : Place) → is_list there ≡ true → ghosts.eq a there ≡ true → is_list a ≡ true
-same-list places.Preprocessor there l e = refl
-same-list places.Dependency there l e = refl
-same-list places.Unhashed there l e = refl
-same-list places.Common there l e = refl
-same-list places.Arch there l e = refl
-same-list places.Nowhere places.Nowhere l e = l
-same-list places.Nowhere places.Refused l e = l
-same-list places.Nowhere places.Preprocessor l e = absurd (cc)
-same-list places.Nowhere places.Dependency l e = absurd (cc)
-same-list places.Nowhere places.Unhashed l e = absurd (cc)
-same-list places.Nowhere places.Common l e = absurd (cc)
-same-list places.Nowhere places.Arch l e = absurd (cc)
-same-list places.Refused places.Nowhere l e = l
-same-list places.Refused places.Refused l e = l
-same-list places.Refused places.Preprocessor l e = absurd (cc)
-same-list places.Refused places.Dependency l e = absurd (cc)
-same-list places.Refused places.Unhashed l e = absurd (cc)
-same-list places.Refused places.Common l e = absurd (cc)
-same-list places.Refused places.Arch l e = absurd (cc)
+same-list a there l e = grind arith
 
 module _ (there : Place) (lists : is_list there ≡ true) where
   keeps : (dashes : Bool) (c : Cut Kind) → goes_to there (shown c) ≡ true → IsKept dashes carried c

@@ -1,4 +1,4 @@
-use Rattle.std.proofs.Common.{◌≡◌, ℕ, true, false, not, ◌||◌, List, [], ◌∷◌, map, refl, subst, ◌∙◌, ap}
+use Rattle.std.proofs.Common.{◌≡◌, ℕ, true, false, not, ◌||◌, List, [], ◌∷◌, map, refl, subst, ◌∙◌, ap, arith}
 use Rattle.std.specs.List.{list_all}
 use Rattle.std.specs.Prelude.{codes, Ok}
 use Rattle.scl_values.specs.Cuts.{cut, is_dangling}
@@ -38,28 +38,10 @@ unfolding rows
 passes = record { keeps = refl; safe = refl }
 
 no_inputs : (k : Kind) → ghosts.eq (place k) places.Input ≡ false
-no_inputs kinds.TooHardFlag = refl
-no_inputs kinds.TooHard = refl
-no_inputs kinds.DoCompilation = refl
-no_inputs kinds.Output = refl
-no_inputs kinds.PassThrough = refl
-no_inputs kinds.PreprocessorArgument = refl
-no_inputs kinds.PreprocessorArgumentPath = refl
-no_inputs kinds.DepArgumentFlag = refl
-no_inputs kinds.DepArgument = refl
-no_inputs kinds.DepArgumentPath = refl
+no_inputs k = grind arith
 
 only : (k : Kind) → ghosts.eq (place k) places.CompileFlag ≡ true → k ≡ kinds.DoCompilation
-only kinds.TooHardFlag e = absurd (cc)
-only kinds.TooHard e = absurd (cc)
-only kinds.DoCompilation e = refl
-only kinds.Output e = absurd (cc)
-only kinds.PassThrough e = absurd (cc)
-only kinds.PreprocessorArgument e = absurd (cc)
-only kinds.PreprocessorArgumentPath e = absurd (cc)
-only kinds.DepArgumentFlag e = absurd (cc)
-only kinds.DepArgument e = absurd (cc)
-only kinds.DepArgumentPath e = absurd (cc)
+only k e = grind arith
 
 by_kind : (o : Seen Kind) → goes_to place places.CompileFlag o ≡ is_of (λ k. ghosts.eq (place k) places.CompileFlag) o
 by_kind (Raw w) = refl

@@ -1,4 +1,4 @@
-use Rattle.std.proofs.Common.{◌≡◌, ℕ, false, List, [], ◌∷◌, map, refl, ◌∙◌, ap}
+use Rattle.std.proofs.Common.{◌≡◌, ℕ, false, List, [], ◌∷◌, map, refl, ◌∙◌, ap, arith}
 use Rattle.std.specs.Prelude.{codes, Ok}
 use Rattle.scl_values.specs.Cuts.{cut, is_dangling}
 use Rattle.scl_args.specs.Empties.{refusing_empty}
@@ -32,16 +32,7 @@ unfolding rows
 passes = record { keeps = refl; safe = refl }
 
 no_inputs : (k : Kind) → ghosts.eq (place k) places.Input ≡ false
-no_inputs kinds.TooHardFlag = refl
-no_inputs kinds.TooHard = refl
-no_inputs kinds.NotCompilationFlag = refl
-no_inputs kinds.NotCompilation = refl
-no_inputs kinds.DoCompilation = refl
-no_inputs kinds.Output = refl
-no_inputs kinds.PassThrough = refl
-no_inputs kinds.PreprocessorArgument = refl
-no_inputs kinds.PreprocessorArgumentPath = refl
-no_inputs kinds.DepFile = refl
+no_inputs k = grind arith
 
 compile_row : Row Kind
 compile_row = row (codes "-c") kinds.DoCompilation bare

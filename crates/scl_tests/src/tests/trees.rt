@@ -43,48 +43,41 @@ where
     Ok(same && agree(table, tree, word.as_slice()))
 }
 
-/// For how many of the rows a table and its tree agree.
-fn agreeing<T: ArgumentValue>(
+/// Whether a table and its tree agree around each of the rows.
+fn all_agree<T: ArgumentValue>(
     alloc: Global,
     table: &FlagTable<'_, T>,
     rows: &[ArgInfo<T>],
-) -> Mem<usize>
+) -> Mem<bool>
 where
     T::Kind: PartialEq,
 {
     let tree = FlagTree::build(alloc, table)?;
-    let mut count: usize = 0;
     for row in rows {
-        if agree_around(alloc, table, &tree, row.flag())? {
-            count = count.saturating_add(1);
+        if !agree_around(alloc, table, &tree, row.flag())? {
+            return Ok(false);
         }
     }
-    Ok(count)
+    Ok(true)
 }
 
 #[test]
 fn trees_of_gcc_and_clang_find_what_their_tables_find(rt: HostRuntime) -> Result<(), Fail> {
-    assert_eq!(rt; agreeing(rt.alloc(), &gcc::table(), &gcc::ARGS)?, 86);
-    assert_eq!(rt; agreeing(rt.alloc(), &clang::table(), &clang::ARGS)?, 100);
+    assert!(rt; all_agree(rt.alloc(), &gcc::table(), &gcc::ARGS)?);
+    assert!(rt; all_agree(rt.alloc(), &clang::table(), &clang::ARGS)?);
     Ok(())
 }
 
 #[test]
 fn trees_of_diab_and_tasking_find_what_their_tables_find(rt: HostRuntime) -> Result<(), Fail> {
-    assert_eq!(rt; agreeing(rt.alloc(), &diab::table(), &diab::ARGS)?, 23);
-    assert_eq!(rt;
-        agreeing(rt.alloc(), &tasking_vx::table(), &tasking_vx::ARGS)?,
-        25
-    );
+    assert!(rt; all_agree(rt.alloc(), &diab::table(), &diab::ARGS)?);
+    assert!(rt; all_agree(rt.alloc(), &tasking_vx::table(), &tasking_vx::ARGS)?);
     Ok(())
 }
 
 #[test]
 fn trees_of_msvc_find_what_its_tables_find(rt: HostRuntime) -> Result<(), Fail> {
-    assert_eq!(rt; agreeing(rt.alloc(), &msvc::table(), &msvc::ARGS)?, 257);
-    assert_eq!(rt;
-        agreeing(rt.alloc(), &msvc::slash_table(), &msvc::SLASH_ARGS)?,
-        257
-    );
+    assert!(rt; all_agree(rt.alloc(), &msvc::table(), &msvc::ARGS)?);
+    assert!(rt; all_agree(rt.alloc(), &msvc::slash_table(), &msvc::SLASH_ARGS)?);
     Ok(())
 }

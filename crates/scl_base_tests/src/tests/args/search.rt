@@ -27,7 +27,7 @@ fn a_search_looks_at_few_rows(rt: HostRuntime) {
     assert!(rt; looks(&table, b"-stdlib=libc++") <= 120);
     assert!(rt; finds(&table, "-c", "-c"));
     assert!(rt; looks(&table, b"-c") <= 24);
-    assert_eq!(rt; table.store().len(), 86);
+    assert_eq!(rt; table.store().len(), gcc::ARGS.len());
     assert!(rt; !table.store().is_empty());
     assert!(rt; table.check());
 }
