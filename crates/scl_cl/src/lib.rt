@@ -1,4 +1,6 @@
-//! The request's grammar, the answer's text, and the program over any reader and writer.
+//! The answer to a command line of any compiler that is served (`Compiler::answer`): gcc, g++, clang, clang++, cl,
+//! clang-cl, diab and tasking. Above it the request's grammar, the answer's text, and the program over any reader
+//! and writer (`run`).
 #![tactic(auto)]
 
 mod answer;

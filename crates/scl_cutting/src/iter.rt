@@ -1,3 +1,4 @@
+//! An iterator of options, cut from words to come.
 ghost use Rattle.std.specs.Prelude.{◌≡◌, List, true, false, Result};
 ghost use Rattle.std.specs.Bool.{OnFalse};
 ghost use Rattle.std.specs.Iterator.{count_unless, Drains};

@@ -1,3 +1,4 @@
+//! What one word is cut into, and where its value is.
 ghost use Rattle.std.specs.Prelude.{◌≡◌, ◌≤◌, length, drop, is_err, IfOk, true};
 ghost use Rattle.std.specs.Bool.{OnFalse};
 ghost use Rattle.std.specs.Iterator.{IsFinite, size};

@@ -1,3 +1,4 @@
+//! All words of a command line, cut into options at once.
 ghost use Rattle.std.specs.Prelude.{◌≡◌, All, IfOk, IsTrue, map, length, true, false, Some};
 ghost use Rattle.std.specs.Vec.Iter.{into_iter_items, into_iter_len};
 ghost use Rattle.scl_values.specs.Tables.{owner_in, tables_hold_values};

@@ -1,3 +1,4 @@
+-- The order of the bytes of 16-bit text.
 use Rattle.scl_files.specs.Decoding.{ByteOrder, little_end_first, big_end_first}
 use Rattle.scl_files.specs.declared.decode.Order.{Order}
 use Rattle.scl_files.specs.declared.decode.Order.TheVariants as order

@@ -1,3 +1,4 @@
+//! Bytes as text: UTF-8, UTF-16 by its mark, windows-1252.
 ghost use Rattle.std.specs.Prelude.{◌≡◌, IfOk};
 ghost use Rattle.std.specs.Option.{option_map, option_copied};
 ghost use Rattle.std.specs.String.{string_bytes};

@@ -1,3 +1,4 @@
+//! The arguments of GNU response files.
 ghost use Rattle.std.specs.Prelude.{◌≡◌, List, [], ◌++◌, OnOk, IfOk};
 ghost use Rattle.std.specs.Str.{chars};
 ghost use Rattle.std.specs.String.{string_bytes};

@@ -1,3 +1,4 @@
+//! The arguments of MSVC response files.
 ghost use Rattle.std.specs.Prelude.{◌≡◌, ◌+◌, ◌++◌, OnOk, ◌<◌, ◌≤◌, ◌^◌, [], ◌∷◌, IfOk, MatchOption, false};
 ghost use Rattle.std.specs.String.{string_bytes};
 ghost use Rattle.scl_files.specs.MsvcText.{is_msvc_separator, msvc_arguments};

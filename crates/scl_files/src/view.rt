@@ -1,3 +1,4 @@
+//! What a command line may ask of files.
 ghost use Rattle.std.specs.Prelude.{List, OnOk, OnErr, if◌then◌else◌, Some, ◌≡◌, ℕ, ◌∷◌, ◌||◌, true};
 ghost use Rattle.std.specs.Option.{option_copied};
 ghost use Rattle.scl_files.specs.Paths.{same_path};

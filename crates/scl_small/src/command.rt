@@ -1,3 +1,4 @@
+//! The compile command of Diab and TaskingVX.
 use scl_text::Mem;
 use scl_text::command::{CommandWords, push_word, push_words};
 use scl_text::records::ParsedArguments;

@@ -1,3 +1,4 @@
+//! The tests of inputs and language, and the record.
 ghost use Rattle.std.specs.Prelude.{◌≡◌, ◌∷◌, [], IfOk, false, codes};
 ghost use Rattle.std.specs.Option.{option_copied};
 ghost use Rattle.scl_text.specs.Records.{outcome_of, parsed_of, path_of, artifact, artifacts};

@@ -1,3 +1,4 @@
+//! Where options go.
 ghost use Rattle.std.specs.Prelude.{◌≡◌};
 ghost use Rattle.std.specs.Option.{option_map};
 ghost use Rattle.scl_values.specs.Seen.{seen};

@@ -1,3 +1,4 @@
+//! From words to the answer.
 ghost use Rattle.std.specs.Prelude.{◌≡◌, IfOk, IsTrue};
 ghost use Rattle.scl_values.specs.Tables.{owner_in, tables_hold_values};
 ghost use Rattle.scl_values.specs.Words.{words_of};

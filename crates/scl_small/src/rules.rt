@@ -1,3 +1,4 @@
+//! What a compiler says of its options.
 ghost use Rattle.std.specs.Prelude.{◌≡◌, List, IfOk, Option, Result, map};
 ghost use Rattle.std.specs.Option.{option_map};
 ghost use Rattle.scl_values.specs.Seen.{Seen, seen};

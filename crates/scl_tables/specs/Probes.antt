@@ -1,3 +1,4 @@
+-- The bound on the looks of a search, and what is said of their count.
 use Rattle.scl_values.specs.Row.{Row}
 use Rattle.std.specs.Prelude.{List, [], ◌∷◌, length, ℕ, zero, suc, ◌+◌, ◌-◌, ◌*◌, ◌/◌, ◌^◌, ◌<◌, ◌≤◌, cond, ◌==◌}
 

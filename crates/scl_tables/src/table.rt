@@ -1,3 +1,4 @@
+//! Tables, references to what can be searched, and pairs.
 ghost use Rattle.std.specs.Prelude.{[], ◌∷◌, ◌++◌, ◌≡◌};
 ghost use Rattle.scl_values.specs.Row.{row_at};
 ghost use Rattle.scl_values.specs.Tables.{longer};

@@ -1,3 +1,4 @@
+//! The search in a prefix tree.
 ghost use Rattle.std.specs.Prelude.{◌≡◌, ℕ, ◌+◌, ◌-◌, ◌*◌, ◌<◌, ◌≤◌, [], ◌∷◌, length, MatchOption, OnSome, slice_index_or, true, false};
 ghost use Rattle.scl_values.specs.Row.{Row, row_of, row_at, fits};
 ghost use Rattle.scl_values.specs.Tables.{owner};

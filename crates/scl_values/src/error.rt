@@ -1,3 +1,4 @@
+//! What can go wrong with words, options and values.
 use crate::escaped::Escaped;
 use std::alloc::{AllocError, AllocFailed};
 use thiserror::Error;

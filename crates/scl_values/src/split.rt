@@ -1,3 +1,4 @@
+//! A value cut at a text.
 ghost use Rattle.scl_values.specs.Texts.{IsSplitAt};
 
 use crate::error::ArgParseResult;

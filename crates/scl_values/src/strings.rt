@@ -1,3 +1,4 @@
+//! Options as texts.
 ghost use Rattle.std.specs.Prelude.{◌≡◌, ◌++◌, ◌≤◌, length, true, List, MatchResult, Result, String};
 ghost use Rattle.std.specs.declared.alloc.Global.{Global};
 ghost use Rattle.std.specs.String.{string_bytes};

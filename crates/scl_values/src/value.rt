@@ -1,3 +1,4 @@
+//! What values are: made of words, and printed as words and texts.
 ghost use Rattle.std.specs.Prelude.{◌≡◌, ℕ, List, [], IfOk, IsOkAnd, MatchResult, Result, Ok, Bool, true, false, ◌⊎◌};
 ghost use Rattle.std.specs.Fn.{CalledAt};
 ghost use Rattle.std.specs.String.{string_bytes};

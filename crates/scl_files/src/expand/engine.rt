@@ -1,3 +1,4 @@
+//! The engine of all expansions: files that are open, and the words that are left of them.
 ghost use Rattle.std.specs.Prelude.{◌≡◌, [], ◌∷◌, IfOk, MatchOption, length};
 ghost use Rattle.std.specs.Option.{option_map};
 ghost use Rattle.std.specs.Vec.Iter.{into_iter_items, into_iter_len};

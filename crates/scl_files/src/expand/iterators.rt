@@ -1,3 +1,4 @@
+//! The iterators of the three expansions.
 ghost use Rattle.std.specs.Prelude.{◌≡◌, false};
 ghost use Rattle.scl_values.specs.Words.{words_of};
 ghost use Rattle.scl_files.specs.Expand.{expand};

@@ -1,3 +1,4 @@
+//! Which file a word names, and the words of a response file.
 ghost use Rattle.std.specs.Prelude.{◌≡◌, IfOk};
 ghost use Rattle.std.specs.Option.{option_map, option_copied};
 ghost use Rattle.scl_values.specs.Words.{words_of};

@@ -1,3 +1,4 @@
+//! A hash of the names in a path.
 ghost use Rattle.std.specs.Prelude.{◌≡◌};
 ghost use Rattle.scl_files.specs.PathMaps.{mixed, name_hash, path_hash};
 

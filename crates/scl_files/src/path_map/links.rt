@@ -1,3 +1,4 @@
+//! The entries at a path, newest first.
 ghost use Rattle.std.specs.Prelude.{◌≡◌, ℕ, length, IsSome, if◌then◌else◌};
 ghost use Rattle.std.specs.BTreeMap.{get};
 ghost use Rattle.std.specs.Ordering.{nat_cmp, is_eq};

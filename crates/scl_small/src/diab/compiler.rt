@@ -1,3 +1,4 @@
+//! Diab as a compiler.
 ghost use Rattle.std.specs.Prelude.{◌≡◌, None};
 
 use super::args::table;

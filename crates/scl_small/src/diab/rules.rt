@@ -1,3 +1,4 @@
+//! Where Diab's options go, what it says of one, and its fixed tests.
 ghost use Rattle.std.specs.Prelude.{◌≡◌, IfOk};
 ghost use Rattle.scl_args.specs.Options.{all_seen};
 ghost use Rattle.scl_text.specs.Records.{outcome_of};

@@ -1,3 +1,4 @@
+//! TaskingVX as a compiler.
 use super::args::table;
 use super::{generate_compile_commands, parse_arguments};
 use crate::preprocess::tasking_passes;
