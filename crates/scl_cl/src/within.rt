@@ -59,7 +59,7 @@ impl Compiler {
     }
 
     /// What `answer` answers, where each command line that is read of the words has at most so many words; else
-    /// `TooManyWords`, before any of them is cut (docs/RULES.md, Expansion). It fails only for want of memory.
+    /// `TooManyWords`, before any of them is refused (docs/RULES.md, Expansion). It fails only for want of memory.
     pub fn answer_within(
         self,
         alloc: Global,

@@ -43,6 +43,7 @@ impl Msvc {
 }
 
 /// What the words say between those that the environment gives.
+#[tactic(auto, using(crate::proofs::EnvironmentLemmas::surrounded_by_none))]
 fn parse_within(
     alloc: Global,
     arguments: &[Vec<u8>],

@@ -8,7 +8,7 @@ ghost use Rattle.scl_files.specs.Within.{is_within, are_within};
 ghost use Rattle.scl_msvc_reading.specs.Data.{kind_of, word_of};
 ghost use Rattle.scl_msvc.specs.Within.{options_of, inner_line, inner_lines, lines_of, lines};
 
-use super::environment::surrounded;
+use super::environment::{gives_words, surrounded};
 use scl_args::{Argument, Mem, OfKinds, cut_options, texts};
 use scl_msvc_reading::msvc::{ArgData, BothTables, Kind};
 use scl_text::view::View;
@@ -81,7 +81,9 @@ fn are_all_within(
 
 /// Whether the words of a command line, with those of `CL` and `_CL_`, are at most so many where response files are put in
 /// place, and so are those of each of its inner command lines (docs/RULES.md, Expansion). Where a variable is broken no
-/// words are read. It fails only for want of memory, of which it asks for so many words at most, and for what files hold.
+/// words are read. It fails only for want of memory, of which it asks for so many words at most, and for what files and
+/// those variables hold; where a variable stands, for the given words too.
+#[tactic(auto, using(crate::proofs::EnvironmentLemmas::surrounded_by_none))]
 pub fn has_at_most(
     alloc: Global,
     arguments: &[Vec<u8>],
@@ -93,6 +95,9 @@ pub fn has_at_most(
 ) -> Mem<bool>
     ensures { IfOk result (λ within. within ≡ are_within most (lines is_clang cwd.now (pairs_of env_vars.now) view.now (words_of arguments.now))) }
 {
+    if !gives_words(env_vars) {
+        return are_all_within(alloc, arguments, cwd, is_clang, view, most);
+    }
     match surrounded(alloc, arguments, env_vars)? {
         Ok(words) => are_all_within(alloc, &words, cwd, is_clang, view, most),
         Err(_broken) => Ok(true),
