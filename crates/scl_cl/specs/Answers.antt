@@ -1,5 +1,5 @@
 -- The answer to a request, and its text.
-use Rattle.std.specs.Prelude.{◌≡◌, ℕ, Bool, true, false, List, [], ◌∷◌, ◌++◌, codes, Option, None, Some, Result, Ok, Err}
+use Rattle.std.specs.Prelude.{◌≡◌, ℕ, Bool, true, false, List, [], ◌∷◌, ◌++◌, codes, Option, None, Some, Result, Ok, Err, is_some}
 use Rattle.std.specs.List.{flat_map}
 use Rattle.scl_cl.specs.Fields.{escaped}
 use Rattle.scl_text.specs.Records.{Parsed, Verdict, CannotCache, NotCompilation}
@@ -56,7 +56,7 @@ abbrev pub is_kept : Cacheable → Bool
 is_kept cacheable.Yes = true
 is_kept cacheable.No = false
 
--- the answer of a record: its command's words; no parser gives a record without output `obj`, and one would be refused
+-- the answer of a record: its command's words; a record without output `obj`, as none is that was read, would be refused
 abbrev pub answer_with : Option (List (List ℕ)) → Cacheable → Answer
 answer_with None kept = cannot_cache (codes "Missing object file output")
 answer_with (Some words) kept = compiled words (is_kept kept)
@@ -138,3 +138,9 @@ AnswerIsReadAgain request = Keeps (read_again_by request.compiler request) (read
 
 abbrev pub AnswersAreReadAgain : Type 0
 AnswersAreReadAgain = (request : Request) → AnswerIsReadAgain request
+
+-- ---- records
+
+-- where a request has a record, the record has a command, and so it is answered
+abbrev pub RecordsHaveCommands : Type 0
+RecordsHaveCommands = (compiler : Compiler) (request : Request) (p : Parsed) → reading_by compiler request ≡ Ok p → is_some (command_by compiler p) ≡ true

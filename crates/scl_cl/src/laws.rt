@@ -1,5 +1,5 @@
 //! Laws of the definitions of requests and answers, each a clause of a function without a body.
-ghost use Rattle.scl_cl.specs.Answers.{AnswersAreReadAgain};
+ghost use Rattle.scl_cl.specs.Answers.{AnswersAreReadAgain, RecordsHaveCommands};
 ghost use Rattle.scl_cl.specs.Written.{FieldReadsBack, FieldIsPrintable, LineReadsBack, RequestReadsBack, LinesEndAtFeeds, AnswerHasLines, BadLineIsFirst, NamesReadBack};
 
 /// Laws of requests (docs/RULES.md, Lines, Fields, and Requests):
@@ -25,8 +25,10 @@ pub fn of_requests()
 /// Laws of answers (docs/RULES.md, Answers, and Cutting again):
 ///
 /// - `answer_has_lines`: the lines of a command's text are `ok`, one for each word, and whether it can be cached;
-/// - `answers_are_read_again`: a command that answers a request is read again.
+/// - `answers_are_read_again`: a command that answers a request is read again;
+/// - `records_have_commands`: what was read of a request, where it is a record, has a command.
 pub fn of_answers()
     ensures answer_has_lines { AnswerHasLines }
     ensures answers_are_read_again { AnswersAreReadAgain }
+    ensures records_have_commands { RecordsHaveCommands }
 {}

@@ -8,7 +8,7 @@ use Rattle.scl_values.specs.Seen as plain
 use Rattle.scl_values.specs.Tables.{owner_in}
 use Rattle.scl_again.specs.Commands.{Inner, CommandList, Parts, IsReadAgain}
 use Rattle.scl_again.specs.Origins.{input_words}
-use Rattle.scl_again.specs.Promises.{HandedOn, Line, IsFaithful}
+use Rattle.scl_again.specs.Promises.{HandedOn, Line, HasNoEmpty, IsFaithful}
 use Rattle.scl_files.specs.declared.expand.ExpansionKind.TheVariants as expansions
 use Rattle.scl_text.specs.declared.language.Language.{Language}
 use Rattle.scl_text.specs.declared.records.CCompilerKind.{CCompilerKind}
@@ -135,3 +135,29 @@ abbrev pub ClangReadsAgain : List ℕ → Viewed → List (List ℕ) → Parsed 
 ClangReadsAgain directory view words p command = IfSome (object_of p) (λ object.
     let line = clang_line directory view words in
     IsFaithful clang_tables true clang_tables line (parts (clang_text p.language) (map shown line.options) p object) object command)
+
+-- ---- records
+
+-- where words have a record, by these tables, it has an object
+abbrev pub RecordsHaveObjects : CCompilerKind → List (List (Row Kind)) → Type 0
+RecordsHaveObjects compiler tables =
+    (plusplus : Bool) (directory : List ℕ) (view : Viewed) (words : List (List ℕ)) (p : Parsed) →
+    reading compiler plusplus tables directory view words ≡ Ok p → is_some (object_of p) ≡ true
+
+-- where words have a record, by these tables, no option of an either row has an empty value in their line
+abbrev pub LinesHaveNoEmpty : CCompilerKind → List (List (Row Kind)) → (List ℕ → Viewed → List (List ℕ) → Line Kind Kind) → Type 0
+LinesHaveNoEmpty compiler tables line =
+    (plusplus : Bool) (directory : List ℕ) (view : Viewed) (words : List (List ℕ)) (p : Parsed) →
+    reading compiler plusplus tables directory view words ≡ Ok p → HasNoEmpty (line directory view words)
+
+abbrev pub GccRecordsHaveObjects : Type 0
+GccRecordsHaveObjects = RecordsHaveObjects compilers.Gcc (gcc_rows ∷ [])
+
+abbrev pub ClangRecordsHaveObjects : Type 0
+ClangRecordsHaveObjects = RecordsHaveObjects compilers.Clang clang_tables
+
+abbrev pub GccLinesHaveNoEmpty : Type 0
+GccLinesHaveNoEmpty = LinesHaveNoEmpty compilers.Gcc (gcc_rows ∷ []) gcc_line
+
+abbrev pub ClangLinesHaveNoEmpty : Type 0
+ClangLinesHaveNoEmpty = LinesHaveNoEmpty compilers.Clang clang_tables clang_line

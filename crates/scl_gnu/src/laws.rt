@@ -2,13 +2,25 @@
 ghost use Rattle.scl_gnu.specs.NoFiles.{GccCommandsNameNoFile, ClangCommandsNameNoFile};
 ghost use Rattle.scl_gnu.specs.OutputFiles.{OutputFilesAreLeftOut};
 ghost use Rattle.scl_gnu.specs.Preprocess.{OneArchitectureHasOneRun, EachArchitectureHasItsRun};
-ghost use Rattle.scl_gnu.specs.ReadAgain.{GccCommandsAreReadAgain, ClangCommandsAreReadAgain};
+ghost use Rattle.scl_gnu.specs.ReadAgain.{GccCommandsAreReadAgain, ClangCommandsAreReadAgain, GccRecordsHaveObjects, ClangRecordsHaveObjects, GccLinesHaveNoEmpty, ClangLinesHaveNoEmpty};
 
 pub use scl_gnu_reading::laws::{
     carried_flags_name_no_file, clang_tables_pass_both_checks,
     clang_tables_pass_both_checks_inside, gcc_table_passes_both_checks,
     xclang_alone_hands_words_on,
 };
+
+/// Laws of the records of Gcc and of Clang (docs/RULES.md, Cutting again):
+///
+/// - `gcc_has_objects`, `clang_has_objects`: a record that was read has an object, and so a command;
+/// - `gcc_has_no_empty`, `clang_has_no_empty`: where a record was read, no option of the command line, outer or inner, has an
+///   empty value that its row takes either way.
+pub fn of_records()
+    ensures gcc_has_objects { GccRecordsHaveObjects }
+    ensures clang_has_objects { ClangRecordsHaveObjects }
+    ensures gcc_has_no_empty { GccLinesHaveNoEmpty }
+    ensures clang_has_no_empty { ClangLinesHaveNoEmpty }
+{}
 
 /// The command of a record of Gcc, cut again by its table, gives its own words, the carried options and those that are
 /// added, with unchanged values, and the input (docs/RULES.md, Cutting again).

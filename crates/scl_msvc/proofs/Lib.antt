@@ -7,3 +7,4 @@ pub mod OneInputLaws
 pub mod PromiseLaws
 pub mod ReadAgainLaws
 pub mod ReadingLaws
+pub mod RecordLaws

@@ -1,8 +1,8 @@
--- What is promised of a command of Msvc: it is read again, has one input, and names no response file of its own.
-use Rattle.std.specs.Prelude.{ℕ, Bool, List, [], ◌∷◌, map, codes, IfOk, IfSome}
+-- What is promised of a command of Msvc: it is read again, has one input, and names no response file of its own; and what is known of records.
+use Rattle.std.specs.Prelude.{◌≡◌, ℕ, Bool, true, List, [], ◌∷◌, map, codes, Ok, IfOk, IfSome, is_some}
 use Rattle.scl_values.specs.Cuts.{Cut}
 use Rattle.scl_values.specs.Seen.{shown}
-use Rattle.scl_again.specs.Promises.{HandedOn, Line, IsFaithful}
+use Rattle.scl_again.specs.Promises.{HandedOn, Line, HasNoEmpty, IsFaithful}
 use Rattle.scl_text.specs.Commands.{object_of}
 use Rattle.scl_text.specs.Records.{Parsed}
 use Rattle.scl_files.specs.Views.{Viewed}
@@ -12,6 +12,7 @@ use Rattle.scl_msvc_reading.specs.declared.msvc.data.Kind.{Kind}
 use Rattle.scl_msvc_reading.specs.declared.msvc.data.Kind.TheVariants as kind
 use Rattle.scl_msvc_reading.specs.Environment.{surrounded}
 use Rattle.scl_msvc.specs.ReadAgain.{parts, options_of, inner_options_of, HasOneInput}
+use Rattle.scl_msvc_reading.specs.Readings.{reading_within}
 use Rattle.scl_msvc_reading.specs.Rows.{msvc_tables}
 
 -- what these options hand on by a flag of this kind
@@ -28,3 +29,17 @@ msvc_line is_clang directory view words =
 abbrev pub MsvcReadsAgain : Bool → List ℕ → List (List ℕ × List ℕ) → Viewed → List (List ℕ) → Parsed → List (List ℕ) → Type 0
 MsvcReadsAgain is_clang directory pairs view words p command = IfSome (object_of p) (λ object. IfOk (surrounded pairs words) (λ all.
     IsFaithful msvc_tables is_clang clang_tables (msvc_line is_clang directory view all) (parts p object) object command × HasOneInput is_clang p command))
+
+-- ---- records
+
+-- where words have a record, it has an object
+abbrev pub MsvcRecordsHaveObjects : Type 0
+MsvcRecordsHaveObjects =
+    (is_clang : Bool) (directory : List ℕ) (pairs : List (List ℕ × List ℕ)) (view : Viewed) (words : List (List ℕ)) (p : Parsed) →
+    reading_within is_clang directory pairs view words ≡ Ok p → is_some (object_of p) ≡ true
+
+-- where words, which with those of the environment are all these, have a record, no option of an either row has an empty value in their line
+abbrev pub MsvcLinesHaveNoEmpty : Type 0
+MsvcLinesHaveNoEmpty =
+    (is_clang : Bool) (directory : List ℕ) (pairs : List (List ℕ × List ℕ)) (view : Viewed) (words all : List (List ℕ)) (p : Parsed) →
+    surrounded pairs words ≡ Ok all → reading_within is_clang directory pairs view words ≡ Ok p → HasNoEmpty (msvc_line is_clang directory view all)

@@ -1,9 +1,8 @@
 use Rattle.std.proofs.Common.{◌≡◌, ℕ, true, false, not, ◌||◌, List, [], ◌∷◌, map, refl, subst, ◌∙◌, ap, arith}
 use Rattle.std.specs.List.{list_all}
 use Rattle.std.specs.Prelude.{codes, Ok}
-use Rattle.scl_values.specs.Cuts.{cut, is_dangling}
-use Rattle.scl_args.specs.Empties.{refusing_empty}
-use Rattle.scl_args.specs.Options.{is_of, judged, side_of_flag, wanted}
+use Rattle.scl_values.specs.Cuts.{cut}
+use Rattle.scl_args.specs.Options.{is_of, side_of_flag, wanted}
 use Rattle.scl_values.specs.Row.{Row, row, apart}
 use Rattle.scl_values.specs.Seen.{Seen, Raw, Unknown, Known, shown}
 use Rattle.scl_values.specs.Seen as plain
@@ -11,10 +10,8 @@ use Rattle.scl_values.specs.Tables.{owner_in, all_rows}
 use Rattle.scl_again.specs.Checks.{PassChecks}
 use Rattle.scl_again.specs.Reads.{Reads}
 use Rattle.scl_again.proofs.FoundLaws.{last-flag, flag-again, is_bare}
-use Rattle.scl_again.proofs.EmptyLaws.{judged-clear}
-use Rattle.scl_again.proofs.OutcomeLaws.{bind-ok, wanted-ok, judged-ok}
+use Rattle.scl_again.proofs.OutcomeLaws.{bind-ok, wanted-ok}
 use Rattle.scl_again.proofs.ReadsLaws.{reads-apart}
-use Rattle.scl_text.specs.Reasons.{empty_value, argument_parse}
 use Rattle.scl_text.specs.Records.{NotCompilation}
 use Rattle.scl_files.specs.Expand.{expand}
 use Rattle.scl_files.specs.Views.{File}
@@ -23,7 +20,7 @@ use Rattle.scl_small.specs.Places.{goes_to}
 use Rattle.scl_text.specs.Compilers.{IfCommand}
 use Rattle.scl_small.specs.Command.{command}
 use Rattle.scl_small.specs.DiabAgain.{DiabReadsAgain}
-use Rattle.scl_small.specs.ReadAgain.{every_kind, CommandsAreReadAgain}
+use Rattle.scl_small.specs.ReadAgain.{every_kind, CommandsAreReadAgain, RecordsHaveObjects, LinesHaveNoEmpty}
 use Rattle.scl_small.specs.Readings.{last_flag_at}
 use Rattle.scl_small.specs.DiabTable.{rows}
 use Rattle.scl_small.specs.DiabReading.{place, verdict, tested, reading, expanded_reading}
@@ -31,7 +28,7 @@ use Rattle.scl_small.specs.contracts.place.PlacePartialEq.TheImpl.{ghosts}
 use Rattle.scl_small.specs.declared.place.Place.TheVariants as places
 use Rattle.scl_small.specs.declared.diab.args.Kind.{Kind}
 use Rattle.scl_small.specs.declared.diab.args.Kind.TheVariants as kinds
-use Rattle.scl_small.proofs.ReadAgainLaws.{is-record, record-again, command-kept-again}
+use Rattle.scl_small.proofs.ReadAgainLaws.{is-record, has-object, was-read, no-empty, record-again, command-kept-again}
 
 pub passes : PassChecks (rows ∷ []) every_kind side_of_flag
 unfolding rows
@@ -61,17 +58,24 @@ bare_rows = refl
 
 pub commands_again : CommandsAreReadAgain place kinds.DoCompilation kinds.Output rows reading
 commands_again words p object e =
-    let c = cut (owner_in (rows ∷ [])) false words in
-    let says = refusing_empty (owner_in (rows ∷ [])) empty_value (λ before. verdict) in
-    let a = bind-ok (judged says argument_parse (map shown c.options) (is_dangling c.end)) tested p e in
-    let clear = judged-clear (rows ∷ []) false words empty_value (λ before. verdict) argument_parse a.0 a.1 in
-    let t : tested (map shown c.options) ≡ Ok p = ap tested (judged-ok says argument_parse (map shown c.options) (is_dangling c.end) a.0 a.1) ∙ a.2 in
-    let b = bind-ok (wanted (last_flag_at place places.CompileFlag (map shown c.options)) NotCompilation) _ p t in
-    let f = last-flag (rows ∷ []) false (goes_to place places.CompileFlag) words b.0 (wanted-ok (last_flag_at place places.CompileFlag (map shown c.options)) NotCompilation b.0 b.1) in
-    let r = flag-again (rows ∷ []) false (λ k. ghosts.eq (place k) places.CompileFlag) bare_rows kinds.DoCompilation only (goes_to place places.CompileFlag) by_kind f.0 f.1 in
-    record-again place kinds.DoCompilation kinds.Output rows passes no_inputs reads_output words p object b.0 clear
-    (is-record place (map shown c.options) b.0 p b.2)
-    (subst (λ x. Reads (owner_in (rows ∷ [])) false (x ∷ []) (plain.flag x kinds.DoCompilation ∷ [])) f.2 r)
+    let os = map shown (cut (owner_in (rows ∷ [])) false words).options in
+    let r = was-read rows verdict tested words p e in
+    let b = bind-ok (wanted (last_flag_at place places.CompileFlag os) NotCompilation) _ p r.1 in
+    let f = last-flag (rows ∷ []) false (goes_to place places.CompileFlag) words b.0 (wanted-ok (last_flag_at place places.CompileFlag os) NotCompilation b.0 b.1) in
+    let reads_flag = flag-again (rows ∷ []) false (λ k. ghosts.eq (place k) places.CompileFlag) bare_rows kinds.DoCompilation only (goes_to place places.CompileFlag) by_kind f.0 f.1 in
+    record-again place kinds.DoCompilation kinds.Output rows passes no_inputs reads_output words p object b.0 r.0
+    (is-record place os b.0 p b.2)
+    (subst (λ x. Reads (owner_in (rows ∷ [])) false (x ∷ []) (plain.flag x kinds.DoCompilation ∷ [])) f.2 reads_flag)
 
 pub command_kept : (directory : List ℕ) (files : List File) (words : List (List ℕ)) → IfCommand command (DiabReadsAgain directory files words) (expanded_reading (owner_in (rows ∷ [])) directory files words)
 command_kept directory files words = command-kept-again place kinds.DoCompilation kinds.Output rows reading commands_again (expand expansions.Diab directory files words)
+
+pub has_object : RecordsHaveObjects rows reading
+has_object words p e =
+    let os = map shown (cut (owner_in (rows ∷ [])) false words).options in
+    let r = was-read rows verdict tested words p e in
+    let b = bind-ok (wanted (last_flag_at place places.CompileFlag os) NotCompilation) _ p r.1 in
+    has-object place os b.0 p b.2
+
+pub has_no_empty : LinesHaveNoEmpty rows reading
+has_no_empty = no-empty rows verdict tested

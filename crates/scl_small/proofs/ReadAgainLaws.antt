@@ -1,10 +1,11 @@
 use Rattle.std.proofs.Common.{◌≡◌, ℕ, true, false, List, [], ◌∷◌, ◌++◌, map, filter, Option, Result, Ok, refl, sym, ap, subst, ◌∙◌, append_assoc}
-use Rattle.std.specs.Prelude.{codes}
+use Rattle.std.specs.Prelude.{codes, is_some}
 use Rattle.std.proofs.lemmas.List.{append-nil}
 use Rattle.std.specs.List.{flat_map}
-use Rattle.scl_values.specs.Cuts.{Cut, raw, unknown, flag, with_value, cut}
+use Rattle.scl_values.specs.Cuts.{Cut, raw, unknown, flag, with_value, cut, is_dangling}
 use Rattle.scl_values.specs.Each.{Each}
-use Rattle.scl_args.specs.Options.{wanted, is_raw, texts, side_of_flag}
+use Rattle.scl_args.specs.Empties.{refusing_empty}
+use Rattle.scl_args.specs.Options.{judged, wanted, is_raw, texts, side_of_flag}
 use Rattle.scl_values.specs.Row.{Row}
 use Rattle.scl_values.specs.Seen.{Seen, Raw, Unknown, Known, shown, plain_seen}
 use Rattle.scl_values.specs.Seen as plain
@@ -16,19 +17,21 @@ use Rattle.scl_again.specs.Reads.{Reads}
 use Rattle.scl_again.proofs.CommandLaws.{IsList, command-again}
 use Rattle.scl_again.proofs.FoundLaws.{one-text, raw-again}
 use Rattle.scl_again.proofs.ListLaws.{listed-again}
-use Rattle.scl_again.proofs.OutcomeLaws.{bind-ok}
+use Rattle.scl_again.proofs.EmptyLaws.{judged-clear}
+use Rattle.scl_again.proofs.OutcomeLaws.{bind-ok, judged-ok}
 use Rattle.scl_again.proofs.ReadsLaws.{reads-append}
-use Rattle.scl_again.specs.Promises.{said_by}
+use Rattle.scl_again.specs.Promises.{HasNoEmpty, said_by}
 use Rattle.scl_text.proofs.CompilerLaws.{command-kept}
 use Rattle.scl_text.specs.Compilers.{IfCommand}
 use Rattle.scl_text.specs.Languages.{language_of_file_name}
-use Rattle.scl_text.specs.Reasons.{unknown_source_language}
+use Rattle.scl_text.specs.Commands.{object_of}
+use Rattle.scl_text.specs.Reasons.{empty_value, argument_parse, unknown_source_language}
 use Rattle.scl_text.specs.Records.{Parsed, Verdict}
 use Rattle.scl_text.specs.Refusals.{the_input}
 use Rattle.scl_small.specs.Command.{command_words, command}
 use Rattle.scl_small.specs.Places.{goes_to}
 use Rattle.scl_small.specs.ReadAgain.{every_kind, list_of, line_of, parts, CommandsAreReadAgain, CommandIsReadAgain}
-use Rattle.scl_small.specs.Readings.{list_at, record_of, recorded}
+use Rattle.scl_small.specs.Readings.{list_at, record_of, recorded, reads}
 use Rattle.scl_small.specs.contracts.place.PlacePartialEq.TheImpl.{ghosts}
 use Rattle.scl_small.specs.declared.place.Place.{Place}
 use Rattle.scl_small.specs.declared.place.Place.TheVariants as places
@@ -60,6 +63,32 @@ module _ {K : Type 0} (place : K → Place) where
         unhashed_is = sym (ap (λ r. r.unhashed_args) is);
         common_is = sym (ap (λ r. r.common_args) is);
       }
+
+  -- a record that was made has an object
+  pub has-object : (os : List (Seen K)) (f : List ℕ) (p : Parsed) → recorded place os f ≡ Ok p → is_some (object_of p) ≡ true
+  has-object os f p e =
+      let a = bind-ok (the_input (texts (goes_to place places.Input) os)) _ p e in
+      let b = bind-ok (wanted (language_of_file_name a.0) unknown_source_language) _ p a.2 in
+      let is : record_of place os f a.0 b.0 ≡ p = cc (b.2) in
+      sym (ap (λ r. is_some (object_of r)) is)
+
+-- ---- what was read
+
+-- words that have a record have no empty either value, and their options passed the tests
+module _ {K : Type 0} (rows : List (Row K)) (verdict : Seen K → Option Verdict) (tested : List (Seen K) → Result Parsed Verdict) (words : List (List ℕ)) (p : Parsed) where
+  abbrev options_of : List (Cut K)
+  options_of = (cut (owner_in (rows ∷ [])) false words).options
+
+  pub was-read : reads verdict tested (owner_in (rows ∷ [])) words ≡ Ok p → Each IsClear options_of × (tested (map shown options_of) ≡ Ok p)
+  was-read e =
+      let dangles = is_dangling (cut (owner_in (rows ∷ [])) false words).end in
+      let says = refusing_empty (owner_in (rows ∷ [])) empty_value (λ before. verdict) in
+      let a = bind-ok (judged says argument_parse (map shown options_of) dangles) tested p e in
+      (judged-clear (rows ∷ []) false words empty_value (λ before. verdict) argument_parse a.0 a.1,
+      ap tested (judged-ok says argument_parse (map shown options_of) dangles a.0 a.1) ∙ a.2)
+
+  pub no-empty : reads verdict tested (owner_in (rows ∷ [])) words ≡ Ok p → HasNoEmpty (line_of rows words)
+  no-empty e = record { outer = (was-read e).0; inner = tt }
 
 -- ---- the command of a record
 

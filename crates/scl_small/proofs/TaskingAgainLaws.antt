@@ -1,23 +1,20 @@
 use Rattle.std.proofs.Common.{◌≡◌, ℕ, false, List, [], ◌∷◌, map, refl, ◌∙◌, ap, arith}
 use Rattle.std.specs.Prelude.{codes, Ok}
-use Rattle.scl_values.specs.Cuts.{cut, is_dangling}
-use Rattle.scl_args.specs.Empties.{refusing_empty}
-use Rattle.scl_args.specs.Options.{judged, side_of_flag, wanted}
+use Rattle.scl_values.specs.Cuts.{cut}
+use Rattle.scl_args.specs.Options.{side_of_flag, wanted}
 use Rattle.scl_values.specs.Row.{Row, row, bare, apart}
 use Rattle.scl_values.specs.Seen.{shown}
 use Rattle.scl_values.specs.Seen as plain
 use Rattle.scl_values.specs.Tables.{owner_in}
 use Rattle.scl_again.specs.Checks.{PassChecks}
 use Rattle.scl_again.specs.Reads.{Reads}
-use Rattle.scl_again.proofs.EmptyLaws.{judged-clear}
-use Rattle.scl_again.proofs.OutcomeLaws.{bind-ok, judged-ok}
+use Rattle.scl_again.proofs.OutcomeLaws.{bind-ok}
 use Rattle.scl_again.proofs.ReadsLaws.{reads-apart, reads-flag}
-use Rattle.scl_text.specs.Reasons.{empty_value, argument_parse}
 use Rattle.scl_text.specs.Records.{NotCompilation}
 use Rattle.scl_text.specs.Compilers.{IfCommand}
 use Rattle.scl_small.specs.Command.{command}
 use Rattle.scl_small.specs.TaskingAgain.{TaskingReadsAgain}
-use Rattle.scl_small.specs.ReadAgain.{every_kind, CommandsAreReadAgain}
+use Rattle.scl_small.specs.ReadAgain.{every_kind, CommandsAreReadAgain, RecordsHaveObjects, LinesHaveNoEmpty}
 use Rattle.scl_small.specs.Readings.{last_flag_at}
 use Rattle.scl_small.specs.TaskingTable.{rows}
 use Rattle.scl_small.specs.TaskingReading.{place, verdict, tested, reading}
@@ -25,7 +22,7 @@ use Rattle.scl_small.specs.contracts.place.PlacePartialEq.TheImpl.{ghosts}
 use Rattle.scl_small.specs.declared.place.Place.TheVariants as places
 use Rattle.scl_small.specs.declared.tasking_vx.args.Kind.{Kind}
 use Rattle.scl_small.specs.declared.tasking_vx.args.Kind.TheVariants as kinds
-use Rattle.scl_small.proofs.ReadAgainLaws.{is-record, record-again, command-kept-again}
+use Rattle.scl_small.proofs.ReadAgainLaws.{is-record, has-object, was-read, no-empty, record-again, command-kept-again}
 
 pub passes : PassChecks (rows ∷ []) every_kind side_of_flag
 unfolding rows
@@ -50,14 +47,21 @@ reads_output object = reads-apart (owner_in (rows ∷ [])) false output_row obje
 
 pub commands_again : CommandsAreReadAgain place kinds.DoCompilation kinds.Output rows reading
 commands_again words p object e =
-    let c = cut (owner_in (rows ∷ [])) false words in
-    let says = refusing_empty (owner_in (rows ∷ [])) empty_value (λ before. verdict) in
-    let a = bind-ok (judged says argument_parse (map shown c.options) (is_dangling c.end)) tested p e in
-    let clear = judged-clear (rows ∷ []) false words empty_value (λ before. verdict) argument_parse a.0 a.1 in
-    let t : tested (map shown c.options) ≡ Ok p = ap tested (judged-ok says argument_parse (map shown c.options) (is_dangling c.end) a.0 a.1) ∙ a.2 in
-    let b = bind-ok (wanted (last_flag_at place places.CompileFlag (map shown c.options)) NotCompilation) _ p t in
-    record-again place kinds.DoCompilation kinds.Output rows passes no_inputs reads_output words p object (codes "-c") clear
-    (is-record place (map shown c.options) (codes "-c") p b.2) reads_compile
+    let os = map shown (cut (owner_in (rows ∷ [])) false words).options in
+    let r = was-read rows verdict tested words p e in
+    let b = bind-ok (wanted (last_flag_at place places.CompileFlag os) NotCompilation) _ p r.1 in
+    record-again place kinds.DoCompilation kinds.Output rows passes no_inputs reads_output words p object (codes "-c") r.0
+    (is-record place os (codes "-c") p b.2) reads_compile
 
 pub command_kept : (words : List (List ℕ)) → IfCommand command (TaskingReadsAgain words) (reading (owner_in (rows ∷ [])) words)
 command_kept = command-kept-again place kinds.DoCompilation kinds.Output rows reading commands_again
+
+pub has_object : RecordsHaveObjects rows reading
+has_object words p e =
+    let os = map shown (cut (owner_in (rows ∷ [])) false words).options in
+    let r = was-read rows verdict tested words p e in
+    let b = bind-ok (wanted (last_flag_at place places.CompileFlag os) NotCompilation) _ p r.1 in
+    has-object place os (codes "-c") p b.2
+
+pub has_no_empty : LinesHaveNoEmpty rows reading
+has_no_empty = no-empty rows verdict tested

@@ -1,11 +1,11 @@
 -- Commands of Diab and TaskingVX that are read again.
-use Rattle.std.specs.Prelude.{◌≡◌, ℕ, Bool, true, false, List, [], ◌∷◌, codes, Option, Result, Ok, IfSome}
+use Rattle.std.specs.Prelude.{◌≡◌, ℕ, Bool, true, false, List, [], ◌∷◌, codes, Option, Result, Ok, IfSome, is_some}
 use Rattle.scl_values.specs.Cuts.{cut}
 use Rattle.scl_values.specs.Row.{Row}
 use Rattle.scl_values.specs.Seen as plain
 use Rattle.scl_values.specs.Tables.{owner_in}
 use Rattle.scl_again.specs.Commands.{CommandList, Parts, IsReadAgain}
-use Rattle.scl_again.specs.Promises.{Line, said_by}
+use Rattle.scl_again.specs.Promises.{Line, HasNoEmpty, said_by}
 use Rattle.scl_text.specs.Commands.{object_of}
 use Rattle.scl_text.specs.Records.{Parsed, Verdict}
 use Rattle.scl_small.specs.Command.{command_words}
@@ -42,3 +42,13 @@ module _ {K : Type 0} (place : K → Place) (compile output : K) where
   -- what it is for the words of the command of a record, which these words have by these rows, to be read again
   abbrev pub CommandIsReadAgain : List (Row K) → List (List ℕ) → Parsed → List (List ℕ) → Type 0
   CommandIsReadAgain rows words p command = IfSome (object_of p) (λ object. IsReadAgain (rows ∷ []) false [] (said_by (line_of rows words)) (parts p object) command)
+
+-- ---- records
+
+-- where words have a record, by these rows and this reading, it has an object
+abbrev pub RecordsHaveObjects : {K : Type 0} → List (Row K) → ((List ℕ → Option (Row K)) → List (List ℕ) → Result Parsed Verdict) → Type 0
+RecordsHaveObjects rows reading = (words : List (List ℕ)) (p : Parsed) → reading (owner_in (rows ∷ [])) words ≡ Ok p → is_some (object_of p) ≡ true
+
+-- where words have a record, no option of an either row has an empty value in their line
+abbrev pub LinesHaveNoEmpty : {K : Type 0} → List (Row K) → ((List ℕ → Option (Row K)) → List (List ℕ) → Result Parsed Verdict) → Type 0
+LinesHaveNoEmpty rows reading = (words : List (List ℕ)) (p : Parsed) → reading (owner_in (rows ∷ [])) words ≡ Ok p → HasNoEmpty (line_of rows words)

@@ -2,7 +2,7 @@
 ghost use Rattle.std.specs.Prelude.{◌∷◌, []};
 ghost use Rattle.scl_args.specs.Options.{side_of_flag};
 ghost use Rattle.scl_again.specs.Checks.{PassChecks};
-ghost use Rattle.scl_small.specs.ReadAgain.{every_kind, CommandsAreReadAgain};
+ghost use Rattle.scl_small.specs.ReadAgain.{every_kind, CommandsAreReadAgain, RecordsHaveObjects, LinesHaveNoEmpty};
 ghost use Rattle.scl_small.specs.DiabTable as diab_table;
 ghost use Rattle.scl_small.specs.DiabReading as diab;
 ghost use Rattle.scl_small.specs.TaskingTable as tasking_table;
@@ -18,6 +18,19 @@ pub fn diab_table_passes_both_checks()
 /// TaskingVX's table passes both checks (docs/RULES.md, Cutting again).
 pub fn tasking_table_passes_both_checks()
     ensures { PassChecks (tasking_table.rows ∷ []) every_kind side_of_flag }
+{}
+
+/// Laws of the records of Diab, of words whose response files are put in place, and of TaskingVX (docs/RULES.md, Cutting
+/// again):
+///
+/// - `diab_has_objects`, `tasking_has_objects`: a record that was read has an object, and so a command;
+/// - `diab_has_no_empty`, `tasking_has_no_empty`: where a record was read, no option has an empty value that its row takes
+///   either way.
+pub fn of_records()
+    ensures diab_has_objects { RecordsHaveObjects diab_table.rows diab.reading }
+    ensures tasking_has_objects { RecordsHaveObjects tasking_table.rows tasking.reading }
+    ensures diab_has_no_empty { LinesHaveNoEmpty diab_table.rows diab.reading }
+    ensures tasking_has_no_empty { LinesHaveNoEmpty tasking_table.rows tasking.reading }
 {}
 
 /// The command of a record of Diab, cut again by its table, gives its own words, the carried options with unchanged

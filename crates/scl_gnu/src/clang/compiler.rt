@@ -146,8 +146,8 @@ impl CCompilerImpl for Clang {
             cwd,
             env_vars,
             CCompilerKind::Clang,
-            view,
             language_to_clang_arg,
+            view,
         )
     }
 

@@ -88,8 +88,8 @@ pub fn generate_compile_commands<T: AsStr + Drop, F: Fn(Language) -> Option<T>>(
     cwd: &[u8],
     env_vars: &[(Vec<u8>, Vec<u8>)],
     _kind: CCompilerKind,
-    _view: &View,
     language_to_arg: F,
+    _view: &View,
 ) -> Result<(SingleCompileCommand, Cacheable), CommandError>
     requires { F.IsAlwaysCallable language_to_arg }
     ensures command { IfOk result (λ built. (text : _) × F.post language_to_arg parsed.now.language text

@@ -117,8 +117,8 @@ impl CCompilerImpl for Gcc {
             cwd,
             env_vars,
             CCompilerKind::Gcc,
-            view,
             language_to_gcc_arg,
+            view,
         )
     }
 

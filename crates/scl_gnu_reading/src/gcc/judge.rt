@@ -13,7 +13,7 @@ ghost use Rattle.scl_gnu_reading.specs.Kinds.{last_text};
 use super::data::{ArgData, Kind};
 use super::place::{Place, place_of_kind};
 use scl_args::{
-    ArgParseError, Argument, Judge, Mem, OfKinds, ReadArg, last_text, names_file, quoted,
+    ArgParseError, Argument, Escaped, Judge, Mem, OfKinds, ReadArg, last_text, names_file,
 };
 use scl_text::language::Language;
 use scl_text::reasons::{EMPTY_VALUE, UNEXPANDED_FILE};
@@ -36,7 +36,7 @@ fn judged_module_output(alloc: Global, value: &[u8]) -> Mem<Option<Refusal>>
     match value.first() {
         None | Some(b'=') => Ok(None),
         Some(_) => {
-            let text = quoted(alloc, value)?;
+            let text = format!(in alloc; "{}", Escaped(value))?;
             Ok(Some(Refusal::CannotCache("unknown module output format", Some(text))))
         }
     }

@@ -89,8 +89,8 @@ fn command_with(
         b"/w",
         env_vars,
         CCompilerKind::Gcc,
-        &view,
         |_| Some("zz"),
+        &view,
     )?;
     Ok(command)
 }

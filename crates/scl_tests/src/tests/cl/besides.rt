@@ -53,7 +53,7 @@ static REFUSALS: [Row; 30] = [
     (
         Compiler::Clang,
         b"-c a.cppm -fmodule-outputx",
-        "unknown module output format (\"x\")",
+        "unknown module output format (x)",
     ),
     (
         Compiler::Clang,
