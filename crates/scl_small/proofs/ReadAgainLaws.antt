@@ -83,9 +83,10 @@ module _ {K : Type 0} (rows : List (Row K)) (verdict : Seen K → Option Verdict
   was-read e =
       let dangles = is_dangling (cut (owner_in (rows ∷ [])) false words).end in
       let says = refusing_empty (owner_in (rows ∷ [])) empty_value (λ before. verdict) in
-      let a = bind-ok (judged says argument_parse (map shown options_of) dangles) tested p e in
-      (judged-clear (rows ∷ []) false words empty_value (λ before. verdict) argument_parse a.0 a.1,
-      ap tested (judged-ok says argument_parse (map shown options_of) dangles a.0 a.1) ∙ a.2)
+      let a = bind-ok (judged says argument_parse (map shown options_of) dangles) tested p e in (
+        judged-clear (rows ∷ []) false words empty_value (λ before. verdict) argument_parse a.0 a.1,
+        ap tested (judged-ok says argument_parse (map shown options_of) dangles a.0 a.1) ∙ a.2,
+      )
 
   pub no-empty : reads verdict tested (owner_in (rows ∷ [])) words ≡ Ok p → HasNoEmpty (line_of rows words)
   no-empty e = record { outer = (was-read e).0; inner = tt }

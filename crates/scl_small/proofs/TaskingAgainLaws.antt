@@ -1,5 +1,5 @@
-use Rattle.std.proofs.Common.{◌≡◌, ℕ, false, List, [], ◌∷◌, map, refl, ◌∙◌, ap, arith}
-use Rattle.std.specs.Prelude.{codes, Ok}
+use Rattle.std.proofs.Common.{◌≡◌, ℕ, false, List, [], ◌∷◌, map, refl, arith}
+use Rattle.std.specs.Prelude.{codes}
 use Rattle.scl_values.specs.Cuts.{cut}
 use Rattle.scl_args.specs.Options.{side_of_flag, wanted}
 use Rattle.scl_values.specs.Row.{Row, row, bare, apart}
