@@ -10,9 +10,7 @@ use Rattle.scl_cl.specs.Written.{AreBytes, ArePrintable, CanBeWritten, AllCanBeW
 use Rattle.scl_cl.specs.Answers.{compiled, text_of, cacheable_text, line, arg_line}
 use Rattle.scl_cl.specs.Compilers.{name_of, compiler_named}
 use Rattle.scl_cl.specs.declared.compiler.Compiler.{Compiler}
-use Rattle.scl_cl.specs.declared.compiler.Compiler.TheVariants.{Gcc, Gxx, Clang, Clangxx, Cl, ClangCl, Diab, Tasking}
 use Rattle.scl_cl.specs.declared.keyword.Keyword as keywords
-use Rattle.scl_cl.specs.declared.keyword.Keyword.TheVariants as keyword
 use Rattle.scl_cl.proofs.CutLaws.{cut_at-mark, cut_at-append, lines_of-cut}
 
 pub digit-back : (n : ℕ) → n < 16 → digit_value (digit_of n) ≡ Some n
