@@ -32,7 +32,6 @@ static NVCC: [ArgInfo<ArgData>; 4] = [
 
 /// The tables of Gcc and Clang, and the one above. The parser takes tables whose rows with a value have kinds that hold
 /// one, which the clause says of these.
-#[tactic(auto, unfolding(scl_gnu_reading::specs::GccRows::gcc_rows, scl_gnu_reading::specs::ClangRows::clang_rows))]
 fn tables(alloc: Global) -> Mem<Tables<FlagTable<'static, ArgData>>>
     ensures { IfOk result (λ tables. IsTrue (tables_hold_values holds_value (flat_map (λ table. table ∷ []) tables))) }
 {

@@ -2,4 +2,3 @@ pub mod CheckLaws
 pub mod HashLaws
 pub mod InnerLemmas
 pub mod OutputLaws
-pub mod TableLaws

@@ -5,6 +5,7 @@ mod depfile;
 mod gnu;
 mod msvc;
 mod preprocess;
+mod records;
 mod small;
 mod tables;
 mod trees;

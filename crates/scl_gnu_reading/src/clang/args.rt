@@ -1,6 +1,8 @@
 //! Clang's table.
-ghost use Rattle.std.specs.Prelude.{◌≡◌};
+ghost use Rattle.std.specs.Prelude.{◌≡◌, ◌∷◌, [], IsTrue};
+ghost use Rattle.scl_values.specs.Tables.{tables_hold_values};
 ghost use Rattle.scl_gnu_reading.specs.ClangRows.{clang_rows};
+ghost use Rattle.scl_gnu_reading.specs.Data.{holds_value};
 
 use crate::gcc::{ArgData, Kind};
 use scl_args::ArgDisposition::{CanBeConcatenated, CanBeSeparated, Concatenated, Separated};
@@ -266,7 +268,8 @@ pub static ARGS: [ArgInfo<ArgData>; 100] = [
 /// Clang's table; a word is searched in Gcc's table as well.
 #[tactic(auto, unfolding(crate::specs::ClangRows::clang_rows))]
 pub fn table() -> FlagTable<'static, ArgData>
-    ensures { result ≡ clang_rows }
+    ensures rows { result ≡ clang_rows }
+    ensures values { IsTrue (tables_hold_values holds_value (result ∷ [])) }
 {
     FlagTable::new(&ARGS).unwrap()
 }

@@ -1,5 +1,7 @@
 //! Gcc's table.
-ghost use Rattle.std.specs.Prelude.{◌≡◌};
+ghost use Rattle.std.specs.Prelude.{◌≡◌, ◌∷◌, [], IsTrue};
+ghost use Rattle.scl_values.specs.Tables.{tables_hold_values};
+ghost use Rattle.scl_gnu_reading.specs.Data.{holds_value};
 ghost use Rattle.scl_gnu_reading.specs.GccRows.{gcc_rows};
 
 use super::data::{ArgData, Kind};
@@ -163,7 +165,8 @@ pub static ARGS: [ArgInfo<ArgData>; 86] = [
 /// Gcc's table.
 #[tactic(auto, unfolding(crate::specs::GccRows::gcc_rows))]
 pub fn table() -> FlagTable<'static, ArgData>
-    ensures { result ≡ gcc_rows }
+    ensures rows { result ≡ gcc_rows }
+    ensures values { IsTrue (tables_hold_values holds_value (result ∷ [])) }
 {
     FlagTable::new(&ARGS).unwrap()
 }

@@ -1,22 +1,15 @@
 //! The text of a dependency file, and writing it.
-use crate::tests::words::cut;
+use crate::tests::records::{self, msvc};
 use scl_args::{Counted, FailingWriter, Mem};
-use scl_msvc::msvc::{DepfileError, DepfileText, Msvc, WriteFault, depfile_text, write_depfile};
-use scl_text::records::{CompilerArguments, ParsedArguments};
-use scl_text::{CCompilerImpl, View};
+use scl_msvc::msvc::{DepfileError, DepfileText, WriteFault, depfile_text, write_depfile};
+use scl_text::records::ParsedArguments;
 use std::alloc::Global;
 use std::process::Abort;
 use std::test::Fail;
 
 /// What clang-cl reads.
 fn record_of(alloc: Global, words: &[u8]) -> Result<ParsedArguments, Fail> {
-    let words = cut(alloc, words)?;
-    let clang = Msvc::new(true, String::from_str(alloc, "Note: ")?);
-    match clang.parse_arguments(alloc, &words, b"", &[], &View::new(alloc))? {
-        CompilerArguments::Ok(record) => Ok(record),
-        CompilerArguments::CannotCache(reason, _) => Err(reason)?,
-        CompilerArguments::NotCompilation => Err("no compilation")?,
-    }
+    records::record_of(alloc, &msvc(alloc, true)?, words)
 }
 
 fn made(alloc: Global, text: &[u8], kept: &[u8]) -> Mem<DepfileText> {

@@ -2,7 +2,8 @@
 mod clang;
 mod tables;
 
-use crate::tests::words::{cut, joined};
+use crate::tests::records;
+use crate::tests::words::joined;
 use scl_args::{ArgParseError, ArgumentValue, Mem, PathArg, SearchableArgInfo, looks};
 use scl_gnu::gcc::{
     ARCH_FLAG, ARGS, ArgData, Gcc, Kind, generate_compile_commands, language_to_gcc_arg,
@@ -11,8 +12,7 @@ use scl_gnu::gcc::{
 use scl_text::language::Language;
 use scl_text::outputs::output_path;
 use scl_text::records::{
-    CCompilerKind, ColorMode, CommandError, CompilerArguments, ParsedArguments,
-    SingleCompileCommand,
+    CCompilerKind, ColorMode, CommandError, ParsedArguments, SingleCompileCommand,
 };
 use scl_text::{CCompilerImpl, View};
 use std::alloc::Global;
@@ -24,12 +24,7 @@ fn bytes_of(rt: &HostRuntime, text: &[u8]) -> Mem<Vec<u8>> {
 
 /// What Gcc reads in the directory `/w`.
 fn record_of(alloc: Global, text: &[u8]) -> Result<ParsedArguments, Fail> {
-    let words = cut(alloc, text)?;
-    match Gcc::new(false).parse_arguments(alloc, &words, b"/w", &[], &View::new(alloc))? {
-        CompilerArguments::Ok(record) => Ok(record),
-        CompilerArguments::CannotCache(reason, _) => Err(reason)?,
-        CompilerArguments::NotCompilation => Err("no compilation")?,
-    }
+    records::record_of(alloc, &Gcc::new(false), text)
 }
 
 #[test]

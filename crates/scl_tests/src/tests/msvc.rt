@@ -1,28 +1,17 @@
 //! Calls of Msvc's module.
-use crate::tests::words::{cut, joined};
+use crate::tests::records::{self, msvc};
+use crate::tests::words::joined;
 use scl_args::{Mem, SearchableArgInfo, looks};
 use scl_msvc::msvc::{ARGS, BothTables, Msvc, SLASH_ARGS, without_cl_env_vars};
 use scl_text::outputs::output_path;
-use scl_text::records::{
-    CCompilerKind, Cacheable, CompilerArguments, ParsedArguments, SingleCompileCommand,
-};
+use scl_text::records::{CCompilerKind, Cacheable, ParsedArguments, SingleCompileCommand};
 use scl_text::{CCompilerImpl, View};
 use std::alloc::Global;
 use std::test::Fail;
 
-fn compiler(alloc: Global, is_clang: bool) -> Mem<Msvc> {
-    Ok(Msvc::new(is_clang, String::from_str(alloc, "Note: ")?))
-}
-
 /// What is read in the directory `/w`.
 fn record_of(alloc: Global, words: &[u8], is_clang: bool) -> Result<ParsedArguments, Fail> {
-    let msvc = compiler(alloc, is_clang)?;
-    let words = cut(alloc, words)?;
-    match msvc.parse_arguments(alloc, &words, b"/w", &[], &View::new(alloc))? {
-        CompilerArguments::Ok(record) => Ok(record),
-        CompilerArguments::CannotCache(reason, _) => Err(reason)?,
-        CompilerArguments::NotCompilation => Err("no compilation")?,
-    }
+    records::record_of(alloc, &msvc(alloc, is_clang)?, words)
 }
 
 #[test]
@@ -68,9 +57,9 @@ fn fields_of_msvc_say_what_the_options_say(rt: HostRuntime) -> Result<(), Fail> 
 
 /// The command of a compilation whose debug information goes to a file beside the object.
 fn debug_command(alloc: Global, view: &View) -> Result<(SingleCompileCommand, Cacheable), Fail> {
-    let msvc = compiler(alloc, false)?;
+    let cl = msvc(alloc, false)?;
     let record = record_of(alloc, b"-c a.c -Zi -Fdp", false)?;
-    Ok(msvc.generate_compile_commands(alloc, b"cl", &record, b"/w", &[], view)?)
+    Ok(cl.generate_compile_commands(alloc, b"cl", &record, b"/w", &[], view)?)
 }
 
 #[test]
@@ -113,9 +102,9 @@ fn environments_lose_two_variables(rt: HostRuntime) -> Result<(), Fail> {
 fn commands_lose_two_variables(rt: HostRuntime) -> Result<(), Fail> {
     let pairs = variables(rt.alloc())?;
     let record = record_of(rt.alloc(), b"/c a.c", false)?;
-    let msvc = compiler(rt.alloc(), false)?;
+    let cl = msvc(rt.alloc(), false)?;
     let view = View::new(rt.alloc());
-    let (command, _) = msvc.generate_compile_commands(
+    let (command, _) = cl.generate_compile_commands(
         rt.alloc(),
         b"cl",
         &record,

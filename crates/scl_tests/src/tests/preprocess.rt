@@ -1,12 +1,12 @@
 //! Runs of the preprocessor, and what is made of them.
+use crate::tests::records::{answer_of, msvc, record_in};
 use crate::tests::words::{cut, joined};
 use scl_args::Mem;
 use scl_gnu::clang::Clang;
 use scl_gnu::gcc::{Gcc, join_passes, preprocess_passes, without_output_files};
-use scl_msvc::msvc::Msvc;
 use scl_small::diab::Diab;
 use scl_small::tasking_vx::TaskingVX;
-use scl_text::records::{CCompilerKind, CompilerArguments, ParsedArguments, PassOutput};
+use scl_text::records::{CCompilerKind, ParsedArguments, PassOutput};
 use scl_text::{CCompilerImpl, View};
 use std::alloc::Global;
 use std::test::Fail;
@@ -17,14 +17,9 @@ fn record_of<C: CCompilerImpl>(
     compiler: &C,
     words: &[u8],
 ) -> Result<ParsedArguments, Fail> {
-    let words = cut(alloc, words)?;
     let mut view = View::new(alloc);
     view.set_multiarch(true);
-    match compiler.parse_arguments(alloc, &words, b"", &[], &view)? {
-        CompilerArguments::Ok(record) => Ok(record),
-        CompilerArguments::CannotCache(reason, _) => Err(reason)?,
-        CompilerArguments::NotCompilation => Err("no compilation")?,
-    }
+    record_in(answer_of(alloc, compiler, words, &view)?)
 }
 
 /// The runs of a command line, one a line.
@@ -53,10 +48,6 @@ fn clang(alloc: Global, version: &str) -> Mem<Clang> {
     let mut clang = Clang::new(false);
     clang.version = Some(String::from_str(alloc, version)?);
     Ok(clang)
-}
-
-fn cl(alloc: Global, is_clang: bool) -> Mem<Msvc> {
-    Ok(Msvc::new(is_clang, String::from_str(alloc, "Note: ")?))
 }
 
 #[test]
@@ -222,8 +213,8 @@ fn msvc_has_one_run(rt: HostRuntime) -> Result<(), Fail> {
         ),
     ];
     for (is_clang, words, want) in rows {
-        let msvc = cl(rt.alloc(), is_clang)?;
-        let runs = runs_of(rt.alloc(), &msvc, words, false)?;
+        let cl = msvc(rt.alloc(), is_clang)?;
+        let runs = runs_of(rt.alloc(), &cl, words, false)?;
         assert_eq!(rt; runs.as_slice(), want, "of {words:?}");
     }
     Ok(())
@@ -238,9 +229,9 @@ fn msvc_keeps_lines_for_a_distant_compiler(rt: HostRuntime) -> Result<(), Fail> 
             b"-E -nologo -clang:-frewrite-includes x.c\n".as_slice(),
         ),
     ] {
-        let msvc = cl(rt.alloc(), is_clang)?;
-        let record = record_of(rt.alloc(), &msvc, b"-c x.c")?;
-        let runs = msvc.preprocess_passes(rt.alloc(), &record, true, true, false)?;
+        let cl = msvc(rt.alloc(), is_clang)?;
+        let record = record_of(rt.alloc(), &cl, b"-c x.c")?;
+        let runs = cl.preprocess_passes(rt.alloc(), &record, true, true, false)?;
         let lines = lines_of(rt.alloc(), &runs)?;
         assert_eq!(rt; lines.as_slice(), want);
     }

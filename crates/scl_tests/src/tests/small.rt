@@ -4,6 +4,7 @@ ghost use Rattle.scl_values.specs.Tables.{tables_hold_values};
 ghost use Rattle.scl_small.specs.DiabValues.{holds_value};
 ghost use Rattle.scl_small.specs.TaskingValues as tasking;
 
+use crate::tests::records::{record_in, record_of};
 use crate::tests::words::{cut, joined};
 use scl_args::ArgDisposition::{Concatenated, Separated};
 use scl_args::ArgRow::{Flag, TakeArg};
@@ -15,24 +16,11 @@ use scl_small::tasking_vx::{self, TaskingVX};
 use scl_text::language::Language;
 use scl_text::outputs::{output_path, put_output};
 use scl_text::records::{
-    CCompilerKind, Cacheable, CommandError, CompilerArguments, ParsedArguments,
-    SingleCompileCommand,
+    CCompilerKind, Cacheable, CommandError, ParsedArguments, SingleCompileCommand,
 };
 use scl_text::{CCompilerImpl, Mem, View};
 use std::alloc::Global;
 use std::test::Fail;
-
-fn parsed<C: CCompilerImpl>(
-    alloc: Global,
-    compiler: &C,
-    line: &[u8],
-) -> Result<ParsedArguments, Fail> {
-    let words = cut(alloc, line)?;
-    match compiler.parse_arguments(alloc, &words, b"", &[], &View::new(alloc))? {
-        CompilerArguments::Ok(parsed) => Ok(parsed),
-        _ => Err("refused")?,
-    }
-}
 
 /// The dependency file that a command line names.
 fn depfile<C: CCompilerImpl>(
@@ -40,7 +28,7 @@ fn depfile<C: CCompilerImpl>(
     compiler: &C,
     line: &[u8],
 ) -> Result<Option<Vec<u8>>, Fail> {
-    Ok(parsed(alloc, compiler, line)?.depfile)
+    Ok(record_of(alloc, compiler, line)?.depfile)
 }
 
 #[test]
@@ -68,7 +56,7 @@ fn diab_saves_no_dependency_file(rt: HostRuntime) -> Result<(), Fail> {
 
 #[test]
 fn words_stand_in_their_lists(rt: HostRuntime) -> Result<(), Fail> {
-    let saved = parsed(rt.alloc(), &Diab::new(), SAVED)?;
+    let saved = record_of(rt.alloc(), &Diab::new(), SAVED)?;
     let dependency = joined(rt.alloc(), &saved.dependency_args)?;
     assert_eq!(rt;
         dependency.as_slice(),
@@ -162,10 +150,7 @@ fn parsed_by_diab<S: SearchableArgInfo<diab::ArgData> + Drop>(
     requires { IsTrue (tables_hold_values holds_value (S.tables arg_info)) }
 {
     let words = cut(alloc, line)?;
-    match diab::parse_arguments(alloc, &words, b"", arg_info, &View::new(alloc))? {
-        CompilerArguments::Ok(parsed) => Ok(parsed),
-        _ => Err("refused")?,
-    }
+    record_in(diab::parse_arguments(alloc, &words, b"", arg_info, &View::new(alloc))?)
 }
 
 fn parsed_by_tasking<S: SearchableArgInfo<tasking_vx::ArgData> + Drop>(
@@ -176,10 +161,7 @@ fn parsed_by_tasking<S: SearchableArgInfo<tasking_vx::ArgData> + Drop>(
     requires { IsTrue (tables_hold_values tasking.holds_value (S.tables arg_info)) }
 {
     let words = cut(alloc, line)?;
-    match tasking_vx::parse_arguments(alloc, &words, b"", arg_info, &View::new(alloc))? {
-        CompilerArguments::Ok(parsed) => Ok(parsed),
-        _ => Err("refused")?,
-    }
+    record_in(tasking_vx::parse_arguments(alloc, &words, b"", arg_info, &View::new(alloc))?)
 }
 
 #[test]

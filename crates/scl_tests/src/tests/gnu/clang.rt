@@ -1,6 +1,7 @@
 //! Calls of Clang's module.
 use super::bytes_of;
-use crate::tests::words::{cut, joined};
+use crate::tests::records::{answer_of, record_in};
+use crate::tests::words::joined;
 use scl_gnu::clang::{Clang, language_to_clang_arg};
 use scl_text::language::Language;
 use scl_text::outputs::output_path;
@@ -9,27 +10,11 @@ use scl_text::view::View;
 use scl_text::{CCompilerImpl, Mem};
 use std::test::Fail;
 
-/// What Clang reads in the directory `/w`.
-fn read(rt: &HostRuntime, text: &[u8], view: &View) -> Mem<CompilerArguments<ParsedArguments>> {
-    let words = cut(rt.alloc(), text)?;
-    Clang::new(false).parse_arguments(rt.alloc(), &words, b"/w", &[], view)
-}
-
-fn record_of(rt: &HostRuntime, text: &[u8]) -> Mem<Option<ParsedArguments>> {
+/// What Clang reads in the directory `/w`, which there is.
+fn record_of(rt: &HostRuntime, text: &[u8]) -> Result<ParsedArguments, Fail> {
     let mut view = View::new(rt.alloc());
     view.add_dir(bytes_of(rt, b"/w")?)?;
-    match read(rt, text, &view)? {
-        CompilerArguments::Ok(record) => Ok(Some(record)),
-        _ => Ok(None),
-    }
-}
-
-fn refusal_of(rt: &HostRuntime, text: &[u8]) -> Mem<Option<(&'static str, Option<String>)>> {
-    let view = View::new(rt.alloc());
-    match read(rt, text, &view)? {
-        CompilerArguments::CannotCache(reason, beside) => Ok(Some((reason, beside))),
-        _ => Ok(None),
-    }
+    record_in(answer_of(rt.alloc(), &Clang::new(false), text, &view)?)
 }
 
 #[test]
@@ -48,10 +33,20 @@ fn a_module_goes_where_its_option_says(rt: HostRuntime) -> Result<(), Fail> {
         (b"-c a.cppm", None),
     ];
     for (text, want) in rows {
-        let record = record_of(&rt, text)?.ok_or("no record")?;
+        let record = record_of(&rt, text)?;
         assert_eq!(rt; output_path(&record.outputs, "module"), want, "of {text:?}");
     }
-    let (reason, beside) = refusal_of(&rt, b"-c a.cppm -fmodule-outputx")?.ok_or("no refusal")?;
+    let view = View::new(rt.alloc());
+    let text = b"-c a.cppm -fmodule-outputx";
+    let CompilerArguments::CannotCache(reason, beside) = answer_of(
+        rt.alloc(),
+        &Clang::new(false),
+        text,
+        &view,
+    )?
+    else {
+        return Err("not refused")?;
+    };
     assert_eq!(rt; reason, "unknown module output format");
     assert_eq!(rt; beside.ok_or("no text")?.as_str(), "x");
     Ok(())
@@ -61,7 +56,7 @@ fn a_module_goes_where_its_option_says(rt: HostRuntime) -> Result<(), Fail> {
 fn files_that_options_name_are_hashed_in_order(rt: HostRuntime) -> Result<(), Fail> {
     let text =
         b"-c a.c -Xclang -load -Xclang r.so -load p.so -fprofile-use -fmodule-file=n=m.pcm -load /q.so";
-    let record = record_of(&rt, text)?.ok_or("no record")?;
+    let record = record_of(&rt, text)?;
     let files = joined(rt.alloc(), &record.extra_hash_files)?;
     let want = b"/w/p.so /w/default.profdata /w/m.pcm /q.so /w/r.so";
     assert_eq!(rt; files.as_slice(), want.as_slice());
@@ -89,7 +84,7 @@ fn the_last_choice_counts(rt: HostRuntime) -> Result<(), Fail> {
         ),
     ];
     for (text, is_external, color) in rows {
-        let record = record_of(&rt, text)?.ok_or("no record")?;
+        let record = record_of(&rt, text)?;
         assert_eq!(rt; record.uses_external_assembler, is_external, "of {text:?}");
         assert_eq!(rt; record.color_mode, color, "of {text:?}");
     }
@@ -98,10 +93,10 @@ fn the_last_choice_counts(rt: HostRuntime) -> Result<(), Fail> {
 
 #[test]
 fn dashes_end_the_options_of_clang(rt: HostRuntime) -> Result<(), Fail> {
-    let behind = record_of(&rt, b"-c -- -a.c")?.ok_or("no record")?;
+    let behind = record_of(&rt, b"-c -- -a.c")?;
     assert_eq!(rt; behind.input.as_slice(), b"-a.c".as_slice());
     assert!(rt; behind.double_dash_input);
-    let before = record_of(&rt, b"-c a.c --")?.ok_or("no record")?;
+    let before = record_of(&rt, b"-c a.c --")?;
     assert_eq!(rt; before.input.as_slice(), b"a.c".as_slice());
     assert!(rt; !before.double_dash_input);
     Ok(())
@@ -109,7 +104,7 @@ fn dashes_end_the_options_of_clang(rt: HostRuntime) -> Result<(), Fail> {
 
 #[test]
 fn the_second_table_wins(rt: HostRuntime) -> Result<(), Fail> {
-    let record = record_of(&rt, b"-c a.c --serialize-diagnostics x.dia")?.ok_or("no record")?;
+    let record = record_of(&rt, b"-c a.c --serialize-diagnostics x.dia")?;
     assert_eq!(rt; output_path(&record.outputs, "dia"), None);
     let common = joined(rt.alloc(), &record.common_args)?;
     assert_eq!(rt;
@@ -122,7 +117,7 @@ fn the_second_table_wins(rt: HostRuntime) -> Result<(), Fail> {
 #[test]
 fn inner_options_choose_nothing(rt: HostRuntime) -> Result<(), Fail> {
     let text = b"-c a.c -MD -Xclang -dependency-file -Xclang x.d -Xclang -fno-color-diagnostics";
-    let record = record_of(&rt, text)?.ok_or("no record")?;
+    let record = record_of(&rt, text)?;
     assert_eq!(rt; output_path(&record.outputs, "d"), None);
     assert_eq!(rt; record.color_mode, ColorMode::Auto);
     let dependency = joined(rt.alloc(), &record.dependency_args)?;

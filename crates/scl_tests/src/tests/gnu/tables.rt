@@ -4,6 +4,7 @@ ghost use Rattle.std.specs.List.{flat_map};
 ghost use Rattle.scl_values.specs.Tables.{tables_hold_values};
 ghost use Rattle.scl_gnu_reading.specs.Data.{holds_value};
 
+use crate::tests::records::record_in;
 use crate::tests::words::{cut, joined};
 use scl_args::ArgDisposition::Separated;
 use scl_args::ArgRow::TakeArg;
@@ -21,7 +22,6 @@ static CUDA: [ArgInfo<ArgData>; 2] = [
 ];
 
 /// The tables of Gcc and Clang, and a third where it is asked for.
-#[tactic(auto, unfolding(scl_gnu_reading::specs::GccRows::gcc_rows, scl_gnu_reading::specs::ClangRows::clang_rows))]
 fn tables_with(alloc: Global, third: bool) -> Mem<Tables<FlagTable<'static, ArgData>>>
     ensures { IfOk result (λ tables. IsTrue (tables_hold_values holds_value (flat_map (λ table. table ∷ []) tables))) }
 {
@@ -45,11 +45,7 @@ fn answer(
 
 fn command_line(alloc: Global, text: &[u8]) -> Result<Vec<u8>, Fail> {
     let view = View::new(alloc);
-    let record = match answer(alloc, text, true, &view)? {
-        CompilerArguments::Ok(record) => record,
-        CompilerArguments::CannotCache(reason, _) => Err(reason)?,
-        CompilerArguments::NotCompilation => Err("no compilation")?,
-    };
+    let record = record_in(answer(alloc, text, true, &view)?)?;
     let gcc = Gcc::new(false);
     let (command, _) = gcc.generate_compile_commands(alloc, b"gcc", &record, b"", &[], &view)?;
     Ok(joined(alloc, &command.arguments)?)

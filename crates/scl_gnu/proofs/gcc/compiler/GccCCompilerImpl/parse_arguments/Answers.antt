@@ -5,14 +5,10 @@ use Rattle.scl_text.specs.Languages.{gcc_text}
 use Rattle.scl_gnu.specs.Building.{command_words}
 use Rattle.scl_gnu.specs.ReadAgain.{GccReadsAgain}
 use Rattle.scl_gnu.proofs.GccAgainLaws.{command_kept}
-use Rattle.scl_gnu_reading.proofs.TableLaws.{gcc_rows_hold_values}
 use Rattle.scl_gnu.proofs.gcc.compiler.GccCCompilerImpl.parse_arguments.Goals as goal
 
-pub parse_arguments-requires : goal.parse_arguments-requires
-parse_arguments-requires c = gcc_rows_hold_values _ (c.in_ok-build.ensures.rows ∙ c.table.ensures)
-
 pub returns-clause-outcome : goal.returns-clause-outcome
-returns-clause-outcome c = rw (c.in_ok-build.ensures.rows ∙ c.table.ensures) at c.parse_arguments.ensures
+returns-clause-outcome c = rw (c.in_ok-build.ensures.rows ∙ c.table.ensures.rows) at c.parse_arguments.ensures
 
 pub returns-clause-read_again : goal.returns-clause-read_again
 returns-clause-read_again c =
