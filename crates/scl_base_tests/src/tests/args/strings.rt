@@ -83,6 +83,14 @@ impl Renamer {
     }
 }
 
+fn push_line(alloc: Global, lines: &mut String, text: ArgToStringResult) -> Mem<()> {
+    match text {
+        Ok(text) => lines.push_str(text.as_str())?,
+        Err(error) => lines.push_str(format!(in alloc; "{error}")?.as_str())?,
+    }
+    lines.push('\n')
+}
+
 // What the option prints, an item a line, where each path prints as the answer; and how many paths that were.
 fn texts(
     rt: &(impl Abort + AllocGlobal),
@@ -103,13 +111,25 @@ fn texts(
     let asked = &renamer;
     let mut lines = String::new(alloc);
     for text in option.iter_strings(alloc, move |_path: &[u8]| asked.text(alloc)) {
-        match text {
-            Ok(text) => lines.push_str(text.as_str())?,
-            Err(error) => lines.push_str(format!(in alloc; "{error}")?.as_str())?,
-        }
-        lines.push('\n')?;
+        push_line(alloc, &mut lines, text)?;
     }
     Ok((lines, renamer.calls.get()))
+}
+
+// Compares what `texts` gives.
+fn expect_texts(
+    rt: &(impl Abort + AllocGlobal),
+    option: &Argument<Value>,
+    answer: Option<&str>,
+    wanted: &str,
+    paths: u32,
+) -> Result<(), Fail>
+    requires { is_delimited_by_ascii option.now ≡ true }
+{
+    let (lines, calls) = texts(rt, option, answer)?;
+    assert_eq!(rt; lines.as_str(), wanted);
+    assert_eq!(rt; calls, paths);
+    Ok(())
 }
 
 fn with_path(
@@ -132,19 +152,13 @@ fn a_joined_path_is_asked_for_once(rt: HostRuntime) -> Result<(), Fail> {
         b"p",
         ArgDisposition::Concatenated(Some(b'=')),
     )?;
-    let (lines, calls) = texts(&rt, &option, Some("q"))?;
-    assert_eq!(rt; lines.as_str(), "-foo=q\n");
-    assert_eq!(rt; calls, 1);
-    Ok(())
+    expect_texts(&rt, &option, Some("q"), "-foo=q\n", 1)
 }
 
 #[test]
 fn a_path_apart_is_asked_for_once(rt: HostRuntime) -> Result<(), Fail> {
     let option = with_path(rt.alloc(), "-foo", b"p", ArgDisposition::Separated)?;
-    let (lines, calls) = texts(&rt, &option, Some("q"))?;
-    assert_eq!(rt; lines.as_str(), "-foo\nq\n");
-    assert_eq!(rt; calls, 1);
-    Ok(())
+    expect_texts(&rt, &option, Some("q"), "-foo\nq\n", 1)
 }
 
 #[test]
@@ -155,38 +169,27 @@ fn an_empty_answer_drops_the_delimiter(rt: HostRuntime) -> Result<(), Fail> {
         b"p",
         ArgDisposition::Concatenated(Some(b'=')),
     )?;
-    let (lines, calls) = texts(&rt, &option, Some(""))?;
-    assert_eq!(rt; lines.as_str(), "-foo\n");
-    assert_eq!(rt; calls, 1);
-    Ok(())
+    expect_texts(&rt, &option, Some(""), "-foo\n", 1)
 }
 
 #[test]
 fn a_path_without_a_text_ends_the_texts(rt: HostRuntime) -> Result<(), Fail> {
     let option = with_path(rt.alloc(), "-I", b"a", ArgDisposition::Concatenated(None))?;
-    let (lines, calls) = texts(&rt, &option, None)?;
-    assert_eq!(rt; lines.as_str(), "Path \"a\" could not be transformed\n");
-    assert_eq!(rt; calls, 1);
-    Ok(())
+    let lines = "Path \"a\" could not be transformed\n";
+    expect_texts(&rt, &option, None, lines, 1)
 }
 
 #[test]
 fn a_raw_word_that_is_no_text_ends_the_texts(rt: HostRuntime) -> Result<(), Fail> {
     let option = Argument::Raw(Vec::from_slice(rt.alloc(), b"\xff")?);
-    let (lines, calls) = texts(&rt, &option, Some("q"))?;
-    assert_eq!(rt;
-        lines.as_str(),
-        "String \"\\xff\" contained invalid unicode\n"
-    );
-    assert_eq!(rt; calls, 0);
-    Ok(())
+    let lines = "String \"\\xff\" contained invalid unicode\n";
+    expect_texts(&rt, &option, Some("q"), lines, 0)
 }
 
 #[test]
 fn a_flag_alone_is_printed(rt: HostRuntime) -> Result<(), Fail> {
     let option = Argument::Flag("-c", Value::make(rt.alloc(), false, Vec::new(rt.alloc()))?);
-    assert_eq!(rt; texts(&rt, &option, None)?.0.as_str(), "-c\n");
-    Ok(())
+    expect_texts(&rt, &option, None, "-c\n", 0)
 }
 
 #[test]
@@ -208,6 +211,20 @@ fn nothing_is_printed_of_no_value(rt: HostRuntime) -> Result<(), Fail> {
     Ok(())
 }
 
+/// Appends the option's texts; a path has none.
+fn push_texts<T: ArgumentValue>(
+    alloc: Global,
+    texts: &mut Vec<String>,
+    option: &Argument<T>,
+) -> Result<(), ArgToStringError>
+    requires { is_delimited_by_ascii option.now ≡ true }
+{
+    for text in option.iter_strings(alloc, |_path: &[u8]| None) {
+        texts.push(text?)?;
+    }
+    Ok(())
+}
+
 /// The texts of the options that words are cut into, by any tables whatever.
 fn texts_of<T: ArgumentValue, S: SearchableArgInfo<T> + Drop>(
     alloc: Global,
@@ -217,9 +234,7 @@ fn texts_of<T: ArgumentValue, S: SearchableArgInfo<T> + Drop>(
     let (options, _end) = cut_words(alloc, words, tables, false)?;
     let mut texts = Vec::new(alloc);
     for option in options.iter() {
-        for text in option.iter_strings(alloc, |_path: &[u8]| None) {
-            texts.push(text?)?;
-        }
+        push_texts(alloc, &mut texts, option)?;
     }
     Ok(texts)
 }

@@ -4,14 +4,20 @@ use std::alloc::Global;
 use std::process::Abort;
 use std::test::Fail;
 
-/// The view of files, each a line of text: its path, a colon and its words.
+/// Adds the file of a line: its path, a colon and its words.
+fn add_file(alloc: Global, view: &mut View, line: &[u8]) -> Mem<()> {
+    let at = line.iter().position(|byte| *byte == b':').unwrap_or(0);
+    match line[at..].split_first() {
+        Some((_, words)) => view.add_file(bytes_of(alloc, &line[..at])?, bytes_of(alloc, words)?),
+        None => Ok(()),
+    }
+}
+
+/// The view of files, each a line of text.
 fn view_of(alloc: Global, files: &[u8]) -> Mem<View> {
     let mut view = View::new(alloc);
     for line in files.split(|byte| *byte == b'\n') {
-        let at = line.iter().position(|byte| *byte == b':').unwrap_or(0);
-        if let Some((_, words)) = line[at..].split_first() {
-            view.add_file(bytes_of(alloc, &line[..at])?, bytes_of(alloc, words)?)?;
-        }
+        add_file(alloc, &mut view, line)?;
     }
     Ok(view)
 }
@@ -130,8 +136,9 @@ fn diab_files_are_put_in_place(rt: HostRuntime) -> Result<(), Fail> {
     Ok(())
 }
 
-fn numbered(alloc: Global, name: &str, number: u32) -> Mem<Vec<u8>> {
-    Ok(format!(in alloc; "{name}{number}")?.into_bytes())
+/// The path of the file of the number.
+fn numbered(alloc: Global, number: u32) -> Mem<Vec<u8>> {
+    Ok(format!(in alloc; "f{number}")?.into_bytes())
 }
 
 /// The words that the word `@f0` gives.
@@ -140,19 +147,17 @@ fn words_of_the_first(alloc: Global, view: &View) -> Words {
     expand_all(alloc, ExpansionKind::Gnu, b"", &words, view)
 }
 
-/// A word that names the file of the number twice.
-fn twice(alloc: Global, number: u32) -> Mem<Vec<u8>> {
-    let mut bytes = numbered(alloc, "@f", number)?;
-    bytes.extend_from_slice(b" ")?;
-    bytes.extend_from_slice(&numbered(alloc, "@f", number)?)?;
-    Ok(bytes)
+/// Adds the file of the number, which names the next one twice.
+fn add_doubling(alloc: Global, view: &mut View, number: u32) -> Mem<()> {
+    let next = u64::from(number) + 1;
+    let text = format!(in alloc; "@f{next} @f{next}")?;
+    view.add_file(numbered(alloc, number)?, text.into_bytes())
 }
 
 fn doubling_files(alloc: Global) -> Mem<View> {
     let mut view = View::new(alloc);
     for number in 0..10u32 {
-        let path = numbered(alloc, "f", number)?;
-        view.add_file(path, twice(alloc, number + 1)?)?;
+        add_doubling(alloc, &mut view, number)?;
     }
     view.add_file(bytes_of(alloc, b"f10")?, bytes_of(alloc, b"-DA")?)?;
     Ok(view)
@@ -167,11 +172,17 @@ fn ten_files_that_double_give_a_thousand_words(rt: HostRuntime) -> Result<(), Fa
     Ok(())
 }
 
+/// Adds the file of the number, which names the next one.
+fn add_link(alloc: Global, view: &mut View, number: u32) -> Mem<()> {
+    let next = u64::from(number) + 1;
+    let text = format!(in alloc; "@f{next}")?;
+    view.add_file(numbered(alloc, number)?, text.into_bytes())
+}
+
 fn chained_files(alloc: Global) -> Mem<View> {
     let mut view = View::new(alloc);
     for number in 0..999u32 {
-        let path = numbered(alloc, "f", number)?;
-        view.add_file(path, numbered(alloc, "@f", number + 1)?)?;
+        add_link(alloc, &mut view, number)?;
     }
     view.add_file(bytes_of(alloc, b"f999")?, bytes_of(alloc, b"-c a.c")?)?;
     Ok(view)

@@ -1,13 +1,10 @@
-//! Searches words of command lines in a table or in its prefix tree, or builds the tree: `table_bench KIND ROUNDS`.
-//! It prints how many looks that took, and on standard error the processor time.
-#![tactic(auto)]
-
+//! Searching words of command lines in a table or in its prefix tree, and building the tree.
 use scl_args::{ArgumentValue, FlagTable, FlagTree, SearchableArgInfo, looks};
 use scl_gnu::{clang, gcc};
 use scl_msvc::msvc;
 use std::alloc::{AllocError, Global};
+use std::io;
 use std::time::CpuClock;
-use std::{env, io};
 
 static GNU_WORDS: [&[u8]; 10] = [
     b"-c",
@@ -87,13 +84,10 @@ fn measured(alloc: Global, kind: &str, rounds: u64) -> Result<u64, AllocError> {
     }
 }
 
-fn main(rt: HostRuntime) -> io::Result<()> {
-    let mut words = env::args(&rt)?.skip(1);
-    let kind = words.next();
-    let kind = kind.as_ref().map_or("gcc-tree", |word| word.as_str());
-    let rounds = words.next().and_then(|word| word.parse::<u64>().ok());
+/// Prints how many looks so many rounds took, or how often the tree was built.
+pub(crate) fn measure(rt: &HostRuntime, kind: &str, rounds: u32) -> io::Result<()> {
     let begin = rt.process_cpu_time()?;
-    let count = measured(rt.alloc(), kind, rounds.unwrap_or(1))?;
+    let count = measured(rt.alloc(), kind, u64::from(rounds))?;
     let took = rt.process_cpu_time()?.saturating_sub(begin);
     let micros = took.as_micros();
     eprintln!(rt; "{micros} microseconds")?;

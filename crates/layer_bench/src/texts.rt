@@ -1,11 +1,8 @@
-//! Splits and decodes a text of a given size: `text_bench KIND KIB`. It prints how many words or bytes came out, and
-//! on standard error the processor time that this took.
-#![tactic(auto)]
-
+//! Splitting and decoding a text of a given size.
 use scl_text::{msvc_words, read_text, split_diab, split_gnu_response_file_args};
 use std::alloc::{AllocError, Global};
 use std::time::CpuClock;
-use std::{env, io, str};
+use std::{io, str};
 
 fn line_of(kind: &str) -> &'static [u8] {
     match kind {
@@ -45,12 +42,9 @@ fn count_of(alloc: Global, kind: &str, bytes: &[u8]) -> Result<usize, AllocError
     }
 }
 
-fn main(rt: HostRuntime) -> io::Result<()> {
-    let mut words = env::args(&rt)?.skip(1);
-    let kind = words.next();
-    let kind = kind.as_ref().map_or("gnu", |word| word.as_str());
-    let kib = words.next().and_then(|word| word.parse::<usize>().ok());
-    let text = text_of(rt.alloc(), kind, kib.unwrap_or(1).saturating_mul(1024))?;
+/// Prints how many words or bytes come out of a text of so many KiB.
+pub(crate) fn measure(rt: &HostRuntime, kind: &str, kib: u32) -> io::Result<()> {
+    let text = text_of(rt.alloc(), kind, (kib as usize).saturating_mul(1024))?;
     let begin = rt.process_cpu_time()?;
     let count = count_of(rt.alloc(), kind, &text)?;
     let took = rt.process_cpu_time()?.saturating_sub(begin);
