@@ -8,12 +8,14 @@ mod texts;
 
 use std::{env, io};
 
-fn measure(rt: &HostRuntime, layer: &str, kind: &str, size: &str) -> io::Result<()> {
-    let size = size.parse::<u32>().unwrap_or(1);
-    match layer {
+fn measure(rt: &HostRuntime, part: &str, kind: &str, size: &str) -> io::Result<()> {
+    let Ok(size) = size.parse::<u32>() else {
+        return eprintln!(rt; "no number: {size}");
+    };
+    match part {
         "table" => tables::measure(rt, kind, size),
         "text" => texts::measure(rt, kind, size),
-        _ => eprintln!(rt; "no layer {layer}: table or text"),
+        _ => eprintln!(rt; "neither table nor text: {part}"),
     }
 }
 
@@ -23,9 +25,12 @@ fn main(rt: HostRuntime) -> io::Result<()> {
         words.push(word)?;
     }
     for asked in words.chunks_exact(3) {
-        if let [layer, kind, size] = asked {
-            measure(&rt, layer.as_str(), kind.as_str(), size.as_str())?;
+        if let [part, kind, size] = asked {
+            measure(&rt, part.as_str(), kind.as_str(), size.as_str())?;
         }
     }
-    Ok(())
+    match words.len() % 3 {
+        0 => Ok(()),
+        left => eprintln!(rt; "{left} words left: three make a measurement"),
+    }
 }

@@ -59,35 +59,41 @@ fn built<T: ArgumentValue>(
     Ok(rounds)
 }
 
-/// The looks of searches in a table or in its tree, or how often that was built.
+/// The looks of searches in a table or in its tree, or how often that was built; none for another way.
 fn measured_in<T: ArgumentValue>(
     alloc: Global,
     table: &FlagTable<'static, T>,
     words: &[&[u8]],
     way: &str,
     rounds: u64,
-) -> Result<u64, AllocError> {
+) -> Result<Option<u64>, AllocError> {
     match way {
-        "table" => Ok(looked(table, words, rounds)),
-        "tree" => Ok(looked(&FlagTree::build(alloc, &*table)?, words, rounds)),
-        _ => built(alloc, table, rounds),
+        "table" => Ok(Some(looked(table, words, rounds))),
+        "tree" => Ok(Some(looked(&FlagTree::build(alloc, &*table)?, words, rounds))),
+        "build" => Ok(Some(built(alloc, table, rounds)?)),
+        _ => Ok(None),
     }
 }
 
 /// The measurement that a kind names, as `clang-tree`.
-fn measured(alloc: Global, kind: &str, rounds: u64) -> Result<u64, AllocError> {
-    let (compiler, way) = kind.split_once('-').unwrap_or((kind, "build"));
+fn measured(alloc: Global, kind: &str, rounds: u64) -> Result<Option<u64>, AllocError> {
+    let Some((compiler, way)) = kind.split_once('-') else {
+        return Ok(None);
+    };
     match compiler {
         "gcc" => measured_in(alloc, &gcc::table(), &GNU_WORDS, way, rounds),
         "clang" => measured_in(alloc, &clang::table(), &GNU_WORDS, way, rounds),
-        _ => measured_in(alloc, &msvc::table(), &MSVC_WORDS, way, rounds),
+        "msvc" => measured_in(alloc, &msvc::table(), &MSVC_WORDS, way, rounds),
+        _ => Ok(None),
     }
 }
 
 /// Prints how many looks so many rounds took, or how often the tree was built.
 pub(crate) fn measure(rt: &HostRuntime, kind: &str, rounds: u32) -> io::Result<()> {
     let begin = rt.process_cpu_time()?;
-    let count = measured(rt.alloc(), kind, u64::from(rounds))?;
+    let Some(count) = measured(rt.alloc(), kind, u64::from(rounds))? else {
+        return eprintln!(rt; "no kind of table: {kind}");
+    };
     let took = rt.process_cpu_time()?.saturating_sub(begin);
     let micros = took.as_micros();
     eprintln!(rt; "{micros} microseconds")?;

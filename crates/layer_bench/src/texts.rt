@@ -4,20 +4,21 @@ use std::alloc::{AllocError, Global};
 use std::time::CpuClock;
 use std::{io, str};
 
-fn line_of(kind: &str) -> &'static [u8] {
+/// The line that a kind of text repeats; none for another kind.
+fn line_of(kind: &str) -> Option<&'static [u8]> {
     match kind {
-        "gnu" => b"-DNAME='a b' \"x\\\"y\" \\ z -Iinclude/folder\n",
-        "gnu-one-word" => b"-DNAME='a b'\"x\\\"y\"\\ z-Iinclude/folder",
-        "msvc" => b"/DNAME=\"a b\" \"x\\\\\" a\\\"b /Iinclude\\folder\r\n",
-        "msvc-backslashes" => b"\\\\\\\\\\\\\\\\",
-        "diab" => b"-DNAME=a -Xflag -Iinclude/folder\n",
-        "utf16" => b"a\x00b\x00",
-        _ => b"caf\xE9 \x93a\x94\r\n",
+        "gnu" => Some(b"-DNAME='a b' \"x\\\"y\" \\ z -Iinclude/folder\n"),
+        "gnu-one-word" => Some(b"-DNAME='a b'\"x\\\"y\"\\ z-Iinclude/folder"),
+        "msvc" => Some(b"/DNAME=\"a b\" \"x\\\\\" a\\\"b /Iinclude\\folder\r\n"),
+        "msvc-backslashes" => Some(b"\\\\\\\\\\\\\\\\"),
+        "diab" => Some(b"-DNAME=a -Xflag -Iinclude/folder\n"),
+        "utf16" => Some(b"a\x00b\x00"),
+        "windows-1252" => Some(b"caf\xE9 \x93a\x94\r\n"),
+        _ => None,
     }
 }
 
-fn text_of(alloc: Global, kind: &str, len: usize) -> Result<Vec<u8>, AllocError> {
-    let line = line_of(kind);
+fn text_of(alloc: Global, kind: &str, line: &[u8], len: usize) -> Result<Vec<u8>, AllocError> {
     let mut text = Vec::new(alloc);
     if kind == "utf16" {
         text.extend_from_slice(b"\xFF\xFE")?;
@@ -44,7 +45,10 @@ fn count_of(alloc: Global, kind: &str, bytes: &[u8]) -> Result<usize, AllocError
 
 /// Prints how many words or bytes come out of a text of so many KiB.
 pub(crate) fn measure(rt: &HostRuntime, kind: &str, kib: u32) -> io::Result<()> {
-    let text = text_of(rt.alloc(), kind, (kib as usize).saturating_mul(1024))?;
+    let Some(line) = line_of(kind) else {
+        return eprintln!(rt; "no kind of text: {kind}");
+    };
+    let text = text_of(rt.alloc(), kind, line, (kib as usize).saturating_mul(1024))?;
     let begin = rt.process_cpu_time()?;
     let count = count_of(rt.alloc(), kind, &text)?;
     let took = rt.process_cpu_time()?.saturating_sub(begin);
