@@ -53,7 +53,7 @@ void *aligned_alloc(size_t align, size_t size) {
 ssize_t read(int file, void *to, size_t size) {
     static ssize_t (*real)(int, void *, size_t);
     if (!real) real = dlsym(RTLD_NEXT, "read");
-    if (file == 0 && hit("FAIL_READ", &reads)) { real(2, 0, 0); errno = EIO; write(2, "#", 1); return -1; }
+    if (file == 0 && hit("FAIL_READ", &reads)) { errno = EIO; write(2, "#", 1); return -1; }
     return real(file, to, file == 0 && size > 7 && wanted("FAIL_READ") ? 7 : size);
 }
 ssize_t write(int file, const void *from, size_t size) {
@@ -120,6 +120,8 @@ def calls(program, shim):
         refused[told[0]] += 1
     if got != 0 or lines != whole:
         sys.exit(f"without a refusal: status {got}, standard output {out!r}")
+    if not all(refused.values()):
+        sys.exit(f"no request for memory was met: {[name.decode() for name in names if not refused[name]]}")
     for name in names:
         print(f"{refused[name]} requests for memory refused: {name.decode()}")
 
@@ -143,6 +145,8 @@ def answers(program, shim, requests):
         memory = tries(program, shim, request, whole, "REFUSE_MEMORY", 3, b"out of memory", lambda out: out == b"")
         reads = tries(program, shim, request, whole, "FAIL_READ", 4, b"read failed", lambda out: out == b"")
         writes = tries(program, shim, request, whole, "FAIL_WRITE", 4, b"write failed", lambda out: out != whole and whole.startswith(out))
+        if not (memory and reads and writes):
+            sys.exit(f"{memory} requests for memory, {reads} reads and {writes} writes were met: none may be 0")
         print(f"{memory} requests for memory refused, {reads} reads and {writes} writes failed: {request.split()[1].decode()}, {whole.splitlines()[0].decode()}")
 
 

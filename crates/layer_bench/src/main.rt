@@ -1,21 +1,29 @@
 //! Measures parts by themselves: `layer_bench table KIND ROUNDS` searches words in a table or in its prefix tree, or
 //! builds the tree, `layer_bench text KIND KIB` splits or decodes a text; three words more measure once more. It prints
-//! what came out, and on standard error the processor time.
+//! what came out, and on standard error the processor time. Words that say no measurement are told there, and are an
+//! error.
 #![tactic(auto)]
 
 mod tables;
 mod texts;
 
+use std::io::ErrorKind;
 use std::{env, io};
+
+/// Tells what is wrong with a word, and fails.
+fn refused(rt: &HostRuntime, what: &str, word: &str) -> io::Result<()> {
+    eprintln!(rt; "{what}: {word}")?;
+    Err(io::Error::from(ErrorKind::InvalidInput))
+}
 
 fn measure(rt: &HostRuntime, part: &str, kind: &str, size: &str) -> io::Result<()> {
     let Ok(size) = size.parse::<u32>() else {
-        return eprintln!(rt; "no number: {size}");
+        return refused(rt, "no number", size);
     };
     match part {
         "table" => tables::measure(rt, kind, size),
         "text" => texts::measure(rt, kind, size),
-        _ => eprintln!(rt; "neither table nor text: {part}"),
+        _ => refused(rt, "neither table nor text", part),
     }
 }
 
@@ -29,8 +37,12 @@ fn main(rt: HostRuntime) -> io::Result<()> {
             measure(&rt, part.as_str(), kind.as_str(), size.as_str())?;
         }
     }
-    match words.len() % 3 {
-        0 => Ok(()),
-        left => eprintln!(rt; "{left} words left: three make a measurement"),
+    match words.chunks_exact(3).remainder() {
+        [] => Ok(()),
+        [word, ..] => refused(
+            &rt,
+            "three words make a measurement, and one begins here",
+            word.as_str(),
+        ),
     }
 }

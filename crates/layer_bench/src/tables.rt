@@ -1,4 +1,5 @@
 //! Searching words of command lines in a table or in its prefix tree, and building the tree.
+use crate::refused;
 use scl_args::{ArgumentValue, FlagTable, FlagTree, SearchableArgInfo, looks};
 use scl_gnu::{clang, gcc};
 use scl_msvc::msvc;
@@ -59,40 +60,65 @@ fn built<T: ArgumentValue>(
     Ok(rounds)
 }
 
-/// The looks of searches in a table or in its tree, or how often that was built; none for another way.
+/// What is done with a table.
+#[derive(Clone, Copy)]
+enum Way {
+    /// Words are searched in it.
+    Table,
+    /// Words are searched in its tree.
+    Tree,
+    /// Its tree is built.
+    Build,
+}
+
+impl Way {
+    fn named(name: &str) -> Option<Way> {
+        match name {
+            "table" => Some(Way::Table),
+            "tree" => Some(Way::Tree),
+            "build" => Some(Way::Build),
+            _ => None,
+        }
+    }
+}
+
+/// The looks of searches in a table or in its tree, or how often that was built.
 fn measured_in<T: ArgumentValue>(
     alloc: Global,
     table: &FlagTable<'static, T>,
     words: &[&[u8]],
-    way: &str,
+    way: Way,
     rounds: u64,
-) -> Result<Option<u64>, AllocError> {
+) -> Result<u64, AllocError> {
     match way {
-        "table" => Ok(Some(looked(table, words, rounds))),
-        "tree" => Ok(Some(looked(&FlagTree::build(alloc, &*table)?, words, rounds))),
-        "build" => Ok(Some(built(alloc, table, rounds)?)),
-        _ => Ok(None),
+        Way::Table => Ok(looked(table, words, rounds)),
+        Way::Tree => Ok(looked(&FlagTree::build(alloc, &*table)?, words, rounds)),
+        Way::Build => built(alloc, table, rounds),
     }
 }
 
-/// The measurement that a kind names, as `clang-tree`.
+/// The measurement that a kind names, as `clang-tree`; none where it names none.
 fn measured(alloc: Global, kind: &str, rounds: u64) -> Result<Option<u64>, AllocError> {
     let Some((compiler, way)) = kind.split_once('-') else {
         return Ok(None);
     };
-    match compiler {
-        "gcc" => measured_in(alloc, &gcc::table(), &GNU_WORDS, way, rounds),
-        "clang" => measured_in(alloc, &clang::table(), &GNU_WORDS, way, rounds),
-        "msvc" => measured_in(alloc, &msvc::table(), &MSVC_WORDS, way, rounds),
-        _ => Ok(None),
-    }
+    let Some(way) = Way::named(way) else {
+        return Ok(None);
+    };
+    let count = match compiler {
+        "gcc" => measured_in(alloc, &gcc::table(), &GNU_WORDS, way, rounds)?,
+        "clang" => measured_in(alloc, &clang::table(), &GNU_WORDS, way, rounds)?,
+        "msvc" => measured_in(alloc, &msvc::table(), &MSVC_WORDS, way, rounds)?,
+        _ => return Ok(None),
+    };
+    Ok(Some(count))
 }
 
 /// Prints how many looks so many rounds took, or how often the tree was built.
 pub(crate) fn measure(rt: &HostRuntime, kind: &str, rounds: u32) -> io::Result<()> {
     let begin = rt.process_cpu_time()?;
     let Some(count) = measured(rt.alloc(), kind, u64::from(rounds))? else {
-        return eprintln!(rt; "no kind of table: {kind}");
+        return refused(rt, "no kind of table", kind);
     };
     let took = rt.process_cpu_time()?.saturating_sub(begin);
     let micros = took.as_micros();

@@ -1,5 +1,5 @@
 //! Prints with which words the preprocessor is run for the request on standard input: a line `run` for each run, and one
-//! for each of its words (docs/RULES.md, Preprocessing).
+//! for each of its words (docs/RULES.md, Preprocessing). A bad line is told on standard error, and is an error.
 #![tactic(auto)]
 
 use bstr::ByteSlice;
@@ -10,7 +10,7 @@ use scl_cl::msvc::Msvc;
 use scl_cl::tasking_vx::TaskingVX;
 use scl_cl::{CCompilerImpl, Compiler, CompilerArguments, Mem, Request, read_request};
 use std::alloc::Global;
-use std::io::{self, Read};
+use std::io::{self, ErrorKind, Read};
 
 /// The runs of one compile command; none where the words give no record.
 fn runs_by<C: CCompilerImpl>(
@@ -65,6 +65,9 @@ fn main(rt: HostRuntime) -> io::Result<()> {
             Some(runs) => print_runs(&rt, &runs),
             None => println!(rt; "no record"),
         },
-        Err(number) => println!(rt; "bad line {number}"),
+        Err(number) => {
+            eprintln!(rt; "bad line {number}")?;
+            Err(io::Error::from(ErrorKind::InvalidData))
+        }
     }
 }

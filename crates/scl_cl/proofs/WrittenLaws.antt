@@ -2,7 +2,8 @@
 use Rattle.std.proofs.Common.{◌≡◌, ℕ, ◌+◌, ◌*◌, ◌/◌, ◌%◌, ◌<◌, ◌≤◌, Bool, true, false, cond, List, [], ◌∷◌, ◌++◌, Some, None, refl, ap, sym, ◌∙◌, arith, nat_eq, append_assoc, map, lit≤, lit<, codes}
 use Rattle.std.specs.List.{flat_map, filter_map, cons_option}
 use Rattle.std.proofs.lemmas.Bool.Decides.{nat_tests}
-use Rattle.scl_cl.specs.Fields.{is_plain, digit_value, digit_of, before, field_of, escape, escaped, both, fields_of, two_fields}
+use Rattle.scl_values.specs.Escaped.{is_plain, digit_of, escape, escaped}
+use Rattle.scl_cl.specs.Fields.{digit_value, before, field_of, both, fields_of, two_fields}
 use Rattle.std.specs.Option.{option_map}
 use Rattle.scl_cl.specs.Lines.{cut_at, with_first, lines_of}
 use Rattle.scl_cl.specs.Sayings.{Said, Blank, Names, StandsIn, HasWord, HasFile, HasDirectory, HasPath, HasVariable, IsMultiarch, said, text_of as keyword_text, keyword_named}

@@ -1,7 +1,7 @@
 -- The answer to a request, and its text.
 use Rattle.std.specs.Prelude.{◌≡◌, ℕ, Bool, true, false, List, [], ◌∷◌, ◌++◌, codes, Option, None, Some, Result, Ok, Err, is_some}
 use Rattle.std.specs.List.{flat_map}
-use Rattle.scl_cl.specs.Fields.{escaped}
+use Rattle.scl_values.specs.Escaped.{escaped}
 use Rattle.scl_text.specs.Records.{Parsed, Verdict, CannotCache, NotCompilation}
 use Rattle.scl_text.specs.declared.records.Cacheable.{Cacheable}
 use Rattle.scl_text.specs.declared.records.Cacheable.TheVariants as cacheable

@@ -1,11 +1,7 @@
 -- Fields of a request's lines, and the bytes that they stand for.
-use Rattle.std.specs.Prelude.{ℕ, ◌+◌, ◌-◌, ◌*◌, ◌/◌, ◌%◌, Bool, not, ◌&&◌, List, [], ◌∷◌, Option, Some, None, ◌==◌, nat_le, nat_lt, if◌then◌else◌}
-use Rattle.std.specs.List.{flat_map}
+use Rattle.std.specs.Prelude.{ℕ, ◌+◌, ◌-◌, ◌*◌, ◌&&◌, List, [], ◌∷◌, Option, Some, None, ◌==◌, nat_le, if◌then◌else◌}
+use Rattle.scl_values.specs.Escaped.{is_plain}
 use Rattle.scl_cl.specs.Lines.{cut_at}
-
--- a byte from 21 to 7E, hexadecimal, other than a backslash: it stands for itself
-abbrev pub is_plain : ℕ → Bool
-is_plain b = nat_le 0x21 b && nat_le b 0x7e && not (b == 0x5c)
 
 -- the value of a hexadecimal digit, a letter in lower case
 abbrev pub digit_value : ℕ → Option ℕ
@@ -43,15 +39,3 @@ fields_of (Some parts) = both (field_of parts.0) (field_of parts.1)
 -- two fields with a tab between them
 abbrev pub two_fields : List ℕ → Option (List ℕ × List ℕ)
 two_fields text = fields_of (cut_at 9 text)
-
--- a hexadecimal digit of a number below sixteen, a letter in lower case
-abbrev pub digit_of : ℕ → ℕ
-digit_of n = if nat_lt n 10 then 0x30 + n else 0x57 + n
-
--- a byte as a field writes it
-abbrev pub escape : ℕ → List ℕ
-escape b = if is_plain b then b ∷ [] else 0x5c ∷ 0x78 ∷ digit_of (b / 16) ∷ digit_of (b % 16) ∷ []
-
--- a byte string as a field writes it
-abbrev pub escaped : List ℕ → List ℕ
-escaped bytes = flat_map escape bytes

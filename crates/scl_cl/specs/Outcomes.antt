@@ -12,6 +12,14 @@ IsSilent ReadFailed = Unit {0}
 IsSilent Answered = ⊥
 IsSilent WriteFailed = ⊥
 
+-- the request was read to its end
+abbrev pub IsJudged : Outcome → Type 0
+IsJudged Answered = Unit {0}
+IsJudged (BadLine n) = Unit {0}
+IsJudged WriteFailed = Unit {0}
+IsJudged OutOfMemory = ⊥
+IsJudged ReadFailed = ⊥
+
 -- the program's status
 abbrev pub status_of : Outcome → ℕ
 status_of Answered = 0

@@ -3,7 +3,8 @@ use Rattle.std.specs.Prelude.{ℕ, ◌<◌, ◌≤◌, ◌≡◌, Bool, true, fa
 use Rattle.std.specs.List.{flat_map, filter_map}
 use Rattle.scl_cl.specs.declared.compiler.Compiler.{Compiler}
 use Rattle.scl_cl.specs.Lines.{cut_at, lines_of}
-use Rattle.scl_cl.specs.Fields.{field_of, escaped}
+use Rattle.scl_values.specs.Escaped.{escaped}
+use Rattle.scl_cl.specs.Fields.{field_of}
 use Rattle.scl_cl.specs.Compilers.{name_of, compiler_named}
 use Rattle.scl_cl.specs.declared.keyword.Keyword.{Keyword}
 use Rattle.scl_cl.specs.Sayings.{Said, Blank, Names, StandsIn, HasWord, HasFile, HasDirectory, HasPath, HasVariable, IsMultiarch, said, keyword_named}

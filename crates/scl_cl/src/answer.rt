@@ -1,67 +1,31 @@
 //! The texts of answers.
-ghost use Rattle.std.specs.Prelude.{◌≡◌, ◌++◌, ◌<◌, OnOk, IfOk};
+ghost use Rattle.std.specs.Prelude.{◌≡◌, ◌++◌, OnOk, IfOk};
 ghost use Rattle.std.specs.List.{flat_map};
 ghost use Rattle.scl_values.specs.Words.{words_of};
-ghost use Rattle.scl_cl.specs.Fields.{digit_of, escape, escaped};
 ghost use Rattle.scl_cl.specs.Answers.{compiled, cannot_cache, arg_line, text_of};
 ghost use Rattle.scl_cl.specs.AnswersGiven.{answer_of};
 
 use crate::compile::Compilation;
-use crate::field::is_plain;
 use scl_text::Mem;
 use scl_text::records::{Cacheable, CompilerArguments};
+use scl_values::Escaped;
 use std::alloc::Global;
 
-/// The hexadecimal digit of a number below sixteen.
-fn digit_of(number: u8) -> u8
-    requires { number < 16 }
-    ensures { result ≡ digit_of number }
-{
-    if number < 10 {
-        b'0' + number
-    } else {
-        b'a' + (number - 10)
-    }
-}
-
-/// Appends a byte as a field writes it.
-fn push_escape(text: &mut Vec<u8>, byte: u8) -> Mem<()>
-    ensures { OnOk result (text.new.items ≡ text.old.items ++ escape byte) }
-{
-    if is_plain(byte) {
-        text.push(byte)?;
-        return Ok(());
-    }
-    text.extend_from_slice(&[b'\\', b'x', digit_of(byte / 16), digit_of(byte % 16)])?;
-    Ok(())
-}
-
-/// Appends a byte string as a field writes it.
-fn push_escaped(text: &mut Vec<u8>, word: &[u8]) -> Mem<()>
-    ensures { OnOk result (text.new.items ≡ text.old.items ++ escaped word.now) }
-{
-    for byte in word {
-        push_escape(text, *byte)?;
-    }
-    Ok(())
-}
-
 /// Appends the line of a word.
-fn push_arg(text: &mut Vec<u8>, word: &[u8]) -> Mem<()>
+fn push_arg(alloc: Global, text: &mut Vec<u8>, word: &[u8]) -> Mem<()>
     ensures { OnOk result (text.new.items ≡ text.old.items ++ arg_line word.now) }
 {
-    text.extend_from_slice(b"arg ")?;
-    push_escaped(text, word)?;
-    text.push(b'\n')?;
+    let line = format!(in alloc; "arg {}\n", Escaped(word))?;
+    text.extend_from_slice(line.as_bytes())?;
     Ok(())
 }
 
 /// Appends the lines of all words.
-fn push_args(text: &mut Vec<u8>, words: &[Vec<u8>]) -> Mem<()>
+fn push_args(alloc: Global, text: &mut Vec<u8>, words: &[Vec<u8>]) -> Mem<()>
     ensures { OnOk result (text.new.items ≡ text.old.items ++ flat_map arg_line (words_of words.now)) }
 {
     for word in words {
-        push_arg(text, word)?;
+        push_arg(alloc, text, word)?;
     }
     Ok(())
 }
@@ -71,7 +35,7 @@ fn compiled_text(alloc: Global, words: &[Vec<u8>], is_cacheable: bool) -> Mem<Ve
     ensures { IfOk result (λ text. text.items ≡ text_of (compiled (words_of words.now) is_cacheable)) }
 {
     let mut text = Vec::from_slice(alloc, b"ok\n")?;
-    push_args(&mut text, words)?;
+    push_args(alloc, &mut text, words)?;
     let last = if is_cacheable {
         b"cacheable yes\n".as_slice()
     } else {

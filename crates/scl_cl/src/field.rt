@@ -1,7 +1,8 @@
 //! Fields: bytes that stand for themselves, and `\xHH`.
 ghost use Rattle.std.specs.Prelude.{◌≡◌, ◌<◌, length, MatchOption, IfOk, IfSome, Some, None};
 ghost use Rattle.std.specs.Option.{option_map};
-ghost use Rattle.scl_cl.specs.Fields.{is_plain, digit_value, escaped_byte, field_of, two_fields, before};
+ghost use Rattle.scl_values.specs.Escaped.{is_plain};
+ghost use Rattle.scl_cl.specs.Fields.{digit_value, escaped_byte, field_of, two_fields, before};
 
 use crate::cut::cut_at;
 use scl_text::Mem;

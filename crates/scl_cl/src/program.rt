@@ -1,11 +1,11 @@
 //! The program, over a reader and a writer.
-ghost use Rattle.std.specs.Prelude.{◌≡◌, ◌^◌, ◌≤◌, ◌⊎◌, ℕ, List, length, take, IfOk, IfSome, MatchResult, Ok, Err};
-ghost use Rattle.std.specs.Io.KnownBytes.{Appends};
-ghost use Rattle.scl_devices.specs.Counts.{HasFailed};
+ghost use Rattle.std.specs.Prelude.{◌≡◌, ◌≢◌, ◌^◌, ◌≤◌, ◌⊎◌, ℕ, List, length, take, IfOk, IfSome, MatchResult, Ok, Err};
+ghost use Rattle.std.specs.Io.KnownBytes.{Appends, IsAtEnd};
+ghost use Rattle.scl_devices.specs.Counts.{one_more};
 ghost use Rattle.scl_cl.specs.Transfers.{Gave};
 ghost use Rattle.scl_cl.specs.Drafts.{asked_by};
 ghost use Rattle.scl_cl.specs.Answers.{answer_to, text_of};
-ghost use Rattle.scl_cl.specs.Outcomes.{IsSilent};
+ghost use Rattle.scl_cl.specs.Outcomes.{IsJudged, IsSilent};
 ghost use Rattle.scl_cl.specs.Runs.{answer, IsTextReadAgain};
 
 use crate::answer::answer_text;
@@ -58,12 +58,18 @@ pub fn run<R: Read, W: Write>(
     ensures read_again { result ≡ Outcome.Answered → IfSome (R.remaining reader.old.device) (λ bytes.
         (text : List ℕ) × IsTextReadAgain bytes text × Appends (W.contents writer.old.device) (W.contents writer.new.device) text) }
     ensures bad_line { (n : ℕ) → result ≡ Outcome.BadLine n → IfSome (R.remaining reader.old.device) (λ bytes. answer bytes ≡ Err n) }
-    ensures read_failed { result ≡ Outcome.ReadFailed → HasFailed reader.old.failed reader.new.failed
-        ⊎ Gave (R.remaining reader.old.device) (R.remaining reader.new.device) (2 ^ 40) }
+    // No line is judged before all was read.
+    ensures judged { IsJudged result → IsAtEnd (R.remaining reader.new.device) }
+    // The first read that fails ends the run, and is told.
+    ensures read_failed { result ≡ Outcome.ReadFailed → (reader.new.failed ≡ one_more reader.old.failed)
+        ⊎ (Gave (R.remaining reader.old.device) (R.remaining reader.new.device) (2 ^ 40) × (reader.new.failed ≡ reader.old.failed)) }
+    ensures reader_told { result ≢ Outcome.ReadFailed → reader.new.failed ≡ reader.old.failed }
     // A beginning of the answer was written, and the writer failed.
     ensures write_failed { result ≡ Outcome.WriteFailed → IfSome (R.remaining reader.old.device) (λ bytes.
         (text : List ℕ) × (n : ℕ) × (answer bytes ≡ Ok text) × (n ≤ length text) × Appends (W.contents writer.old.device) (W.contents writer.new.device) (take n text)) }
-    ensures writer_failed { result ≡ Outcome.WriteFailed → HasFailed writer.old.failed writer.new.failed }
+    // The first write that fails ends the run, and is told.
+    ensures writer_failed { result ≡ Outcome.WriteFailed → writer.new.failed ≡ one_more writer.old.failed }
+    ensures writer_told { result ≢ Outcome.WriteFailed → writer.new.failed ≡ writer.old.failed }
     // Nothing was written.
     ensures untouched { IsSilent result → writer.new ≡ writer.old }
 {

@@ -2,7 +2,7 @@
 ghost use Rattle.std.specs.Prelude.{◌≡◌, ◌≤◌, length, drop, is_err, IfOk, true};
 ghost use Rattle.std.specs.Bool.{OnFalse};
 ghost use Rattle.std.specs.Iterator.{IsFinite, size};
-ghost use Rattle.scl_values.specs.Row.{row_of, shape_of};
+ghost use Rattle.scl_values.specs.Row.{either, row_of, shape_of};
 ghost use Rattle.scl_values.specs.Tables.{owner_in, has_ascii_delimiter};
 ghost use Rattle.scl_values.specs.Cuts.{flag, with_value, owned_piece, piece_at, after_delimiter};
 ghost use Rattle.scl_cutting.specs.Places.{piece_of_place, IsPlaceIn, has_ascii_delimiters};
@@ -38,7 +38,29 @@ fn skip_delimiter(delimiter: Delimiter, word: &[u8], start: usize) -> usize
     }
 }
 
+/// Where the value is of a flag that it may be joined to or follow.
 #[tactic(auto, using(crate::proofs::CutsLemmas::piece_at_either))]
+fn either_place<K>(row: &ArgRow<K>, delimiter: Delimiter, word: &[u8]) -> ValuePlace
+    requires { length (row_of row.now).flag ≤ length word.now }
+    ensures bound { IsPlaceIn word.now result }
+    ensures piece { piece_of_place (row_of row.now) word.now result
+        ≡ piece_at (row_of row.now) (either delimiter) (drop (length (row_of row.now).flag) word.now) }
+    ensures delimiter { has_ascii_delimiter (either delimiter) ≡ true → has_ascii_delimiters result ≡ true }
+{
+    let start = row.flag().len();
+    if start < word.len() {
+        return ValuePlace::Joined(
+            skip_delimiter(delimiter, word, start),
+            ArgDisposition::CanBeSeparated(delimiter),
+        );
+    }
+    let last = match delimiter {
+        None => Some(ArgDisposition::Concatenated(None)),
+        Some(_) => None,
+    };
+    ValuePlace::NextWord(ArgDisposition::CanBeConcatenated(delimiter), last)
+}
+
 fn value_place<K>(row: &ArgRow<K>, word: &[u8]) -> ValuePlace
     requires { length (row_of row.now).flag ≤ length word.now }
     ensures bound { IsPlaceIn word.now result }
@@ -56,22 +78,7 @@ fn value_place<K>(row: &ArgRow<K>, word: &[u8]) -> ValuePlace
                 ArgDisposition::Concatenated(delimiter),
             ),
             ArgDisposition::CanBeConcatenated(delimiter)
-            | ArgDisposition::CanBeSeparated(delimiter) => {
-                if start == word.len() {
-                    ValuePlace::NextWord(
-                        ArgDisposition::CanBeConcatenated(delimiter),
-                        match delimiter {
-                            None => Some(ArgDisposition::Concatenated(None)),
-                            Some(_) => None,
-                        },
-                    )
-                } else {
-                    ValuePlace::Joined(
-                        skip_delimiter(delimiter, word, start),
-                        ArgDisposition::CanBeSeparated(delimiter),
-                    )
-                }
-            }
+            | ArgDisposition::CanBeSeparated(delimiter) => either_place(row, delimiter, word),
         },
     }
 }

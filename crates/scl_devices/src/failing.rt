@@ -46,7 +46,7 @@ impl Read for FailingReader<'_> {
         ensures count { IfOk result (λ n. n ≡ given self.old (length buf.old)) }
         ensures copied { IfOk result (λ n. buf.new ≡ take n self.old.bytes ++ drop n buf.old) }
         ensures rest { IfOk result (λ n. self.new ≡ after_read self.old n) }
-        ensures err { OnErr result (self.new ≡ self.old) }
+        ensures err { OnErr result ((self.new ≡ self.old) × (buf.new ≡ buf.old)) }
         ensures kind { IfErr result (λ e. error_kind e ≡ ErrorKind.BrokenPipe) }
     {
         if self.calls == 0 || self.most == 0 {

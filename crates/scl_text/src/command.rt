@@ -1,5 +1,5 @@
 //! What every builder of a command uses: words put behind words, copies, and the command of its parts.
-ghost use Rattle.std.specs.Prelude.{◌≡◌, ◌↔◌, ◌++◌, ◌∷◌, [], OnOk, OnErr, IfOk, Err, None};
+ghost use Rattle.std.specs.Prelude.{◌≡◌, ◌↔◌, ◌++◌, ◌∷◌, [], ℕ, take, OnOk, OnErr, IfOk, Err, None};
 ghost use Rattle.scl_values.specs.Words.{words_of};
 ghost use Rattle.scl_text.specs.Commands.{Builds, pairs_of, object_of, command_by};
 ghost use Rattle.scl_text.specs.Compilers.{IsAnswer};
@@ -19,9 +19,10 @@ pub fn push_word(alloc: Global, list: &mut Vec<Vec<u8>>, word: &[u8]) -> Mem<()>
     Ok(())
 }
 
-/// Puts copies of words behind those of a list; where memory is refused, some may stand there already.
+/// Puts copies of words behind those of a list; where memory is refused, the first of them may stand there already.
 pub fn push_words(alloc: Global, list: &mut Vec<Vec<u8>>, words: &[Vec<u8>]) -> Mem<()>
-    ensures { OnOk result (words_of list.new.items ≡ words_of list.old.items ++ words_of words.now) }
+    ensures ok { OnOk result (words_of list.new.items ≡ words_of list.old.items ++ words_of words.now) }
+    ensures err { OnErr result ((n : ℕ) × (words_of list.new.items ≡ words_of list.old.items ++ words_of (take n words.now))) }
 {
     for word in words {
         push_word(alloc, list, word)?;

@@ -39,7 +39,8 @@ pub fn output_path<'a>(
     Some(&outputs.get(name)?.path)
 }
 
-/// Puts an output at its name, if there is a path for it. It fails only for want of memory (docs/RULES.md, Records).
+/// Puts an output at its name, if there is a path for it; the outputs stay as they were where memory is refused
+/// (docs/RULES.md, Records).
 pub fn put_optional(
     alloc: Global,
     outputs: &mut BTreeMap<String, ArtifactDescriptor>,
@@ -47,7 +48,8 @@ pub fn put_optional(
     optional: bool,
     path: Option<Vec<u8>>,
 ) -> Mem<()>
-    ensures { OnOk result (artifacts outputs.new ≡ put_optional (artifacts outputs.old) name.now optional (path_of path)) }
+    ensures ok { OnOk result (artifacts outputs.new ≡ put_optional (artifacts outputs.old) name.now optional (path_of path)) }
+    ensures err { OnErr result (artifacts outputs.new ≡ artifacts outputs.old) }
 {
     match path {
         Some(path) => put_output(alloc, outputs, name, path, optional),

@@ -1,5 +1,5 @@
 //! What values hold: nothing, a word or a path.
-ghost use Rattle.std.specs.Prelude.{◌≡◌, ◌≢◌, ◌↔◌, [], IsTrue, MatchResult};
+ghost use Rattle.std.specs.Prelude.{◌≡◌, ◌≢◌, ◌↔◌, [], false, IsTrue, MatchResult};
 ghost use Rattle.std.specs.Fn.{CalledAt};
 ghost use Rattle.scl_values.specs.Texts.{Prints};
 ghost use Rattle.scl_values.specs.Held.{word_held, is_path_held};
@@ -63,8 +63,9 @@ pub trait ReadArg: ArgumentValue {
     fn is_same_kind(kind: Self::Kind, other: Self::Kind) -> bool
         ensures { IsTrue result ↔ (kind ≡ other) };
 
-    /// What the value holds.
+    /// What the value holds; nothing exactly where its kind holds no value, and an empty word may be held.
     fn held(&self) -> Held<'_>
+        ensures nothing { (result ≡ Held.Nothing) ↔ (Self.holds_value (Self.kind_of self.now) ≡ false) }
         ensures word { word_held result ≡ Self.word_of self.now }
         ensures path { is_path_held result ≡ Self.is_path self.now };
 

@@ -44,6 +44,7 @@ pub trait IntoArg {
 
 /// A value that a row of a table makes of a word.
 pub trait ArgumentValue: IntoArg + Drop {
+    /// What a row says of its values, with which one is made.
     type Kind: Copy;
 
     ghost use Rattle.scl_values.specs.declared.error.ArgParseError.{ArgParseError};
@@ -54,6 +55,8 @@ pub trait ArgumentValue: IntoArg + Drop {
 
     ghost kind_of: { Self → Self.Kind };
 
+    /// The value of a kind, of a word that is empty where the option has none. What errors come is the type's own to
+    /// say, as `flag takes no value` where the kind holds none and the word is not empty (docs/RULES.md, Values).
     fn make(alloc: Global, kind: Self::Kind, word: Vec<u8>) -> ArgParseResult<Self>
         ensures { make_gives kind word.items result };
 }

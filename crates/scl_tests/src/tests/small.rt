@@ -194,7 +194,7 @@ fn tasking_reads_by_a_table_of_others(rt: HostRuntime) -> Result<(), Fail> {
 }
 
 #[test]
-fn what_the_compilers_are(rt: HostRuntime) -> Result<(), Fail> {
+fn diab_and_tasking_say_what_they_are(rt: HostRuntime) -> Result<(), Fail> {
     let diab = Diab {
         version: Some(String::from_str(rt.alloc(), "v")?),
     };
@@ -225,7 +225,7 @@ fn flags_take_no_value(rt: HostRuntime) -> Result<(), Fail> {
 }
 
 #[test]
-fn values_as_texts(rt: HostRuntime) -> Result<(), Fail> {
+fn a_path_without_a_text_is_an_error(rt: HostRuntime) -> Result<(), Fail> {
     let alloc = rt.alloc();
     let mut none = |_path: &[u8]| None;
     let word = diab::ArgData::PassThrough(Vec::from_slice(alloc, b"a")?);

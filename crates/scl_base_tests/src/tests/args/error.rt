@@ -21,7 +21,7 @@ fn printed_of(word: String, alloc: Global) -> Result<Vec<String>, ArgToStringErr
 }
 
 #[test]
-fn a_refused_push_is_passed_up(rt: HostRuntime) -> Result<(), Fail> {
+fn errors_of_pushes_become_errors_of_words_and_texts(rt: HostRuntime) -> Result<(), Fail> {
     assert_eq!(rt; list_of(word(rt.alloc())?, rt.alloc())?.len(), 1);
     assert_eq!(rt; printed_of(String::new(rt.alloc()), rt.alloc())?.len(), 1);
     Ok(())

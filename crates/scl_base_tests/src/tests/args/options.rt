@@ -49,11 +49,11 @@ fn a_finished_list_gives_the_same(rt: HostRuntime) -> Result<(), Fail> {
 #[test]
 fn an_option_that_stands_apart_can_name_a_file(rt: HostRuntime) -> Result<(), Fail> {
     let options = options(rt.alloc())?;
-    assert!(rt; any_names_a_file(&options));
+    assert!(rt; first_names_a_file(&options));
     assert!(rt; last_option(&options).is_some_and(|last| !names_file(last) && !is_dashes(last)));
     Ok(())
 }
 
-fn any_names_a_file(options: &[Argument<Value>]) -> bool {
+fn first_names_a_file(options: &[Argument<Value>]) -> bool {
     options.first().is_some_and(|first| names_file(first))
 }

@@ -8,7 +8,7 @@ use std::test::Fail;
 /// Words, and the reason for which they are refused, with the text beside it in parentheses.
 type Row = (Compiler, &'static [u8], &'static str);
 
-static REFUSALS: [Row; 30] = [
+static REFUSALS: [Row; 36] = [
     (
         Compiler::Gcc,
         b"-c a.c b.c c\xff\\.c",
@@ -60,6 +60,28 @@ static REFUSALS: [Row; 30] = [
         b"-c a.c -Xclang -no-integrated-as",
         "-no-integrated-as",
     ),
+    (
+        Compiler::Clang,
+        b"-c a.cppm -fmodule-output\xff",
+        "unknown module output format (\\xff)",
+    ),
+    (
+        Compiler::Cl,
+        b"/c a.c b.c",
+        "multiple input files ([\"b.c\"])",
+    ),
+    (
+        Compiler::Cl,
+        b"/c x.c /reference",
+        "argument parse (Unexpected end of args)",
+    ),
+    (
+        Compiler::Cl,
+        b"/c x.c -Xclang -mllvm",
+        "argument parse (Unexpected end of args)",
+    ),
+    (Compiler::Cl, b"/c x.c /Fonul", "output to nul"),
+    (Compiler::Cl, b"-c a.c -Zi", "shared pdb"),
     (Compiler::Diab, b"-@@foo", "-@"),
     (Compiler::Diab, b"-c a.xyz", "unknown source language"),
     (Compiler::Diab, b"-c ..", "unknown source language"),

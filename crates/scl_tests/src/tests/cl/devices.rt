@@ -33,6 +33,13 @@ fn a_reader_that_fails_at_any_read_leaves_nothing_written(rt: HostRuntime) {
 }
 
 #[test]
+fn a_bad_line_is_not_told_before_all_was_read(rt: HostRuntime) {
+    let (outcome, failures, _written) = run_reading(rt.alloc(), b" \ncompiler diab\n", 2);
+    assert_eq!(rt; outcome, Outcome::ReadFailed);
+    assert_eq!(rt; failures, 1);
+}
+
+#[test]
 fn bytes_in_small_pieces_are_one_request(rt: HostRuntime) {
     let request = b"compiler diab\nword a b\n";
     let (outcome, failures, _written) = run_reading(rt.alloc(), request, 100);

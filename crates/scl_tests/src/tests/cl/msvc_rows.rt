@@ -5,7 +5,7 @@ use scl_cl::{Compiler, Outcome};
 use std::test::Fail;
 
 /// Of cl.
-static CL: [Row; 78] = [
+static CL: [Row; 79] = [
     ("", "", "not-compilation"),
     ("", "-E -c foo.c", "not-compilation"),
     ("", "/c /EP foo.c b.c", "not-compilation"),
@@ -169,6 +169,7 @@ static CL: [Row; 78] = [
         "/c -Foa.obj a.c",
     ),
     ("file u\t\\xff\\xfe/\n", "@u", "cannot-cache @"),
+    ("file u\t\\xff\\xfe\\x00\\xd8\n", "@u", "cannot-cache @"),
     (
         "file f\t/c\\x20x.c\\x20-Xclang\\x20@g\nfile g\t-MD\n",
         "@f",

@@ -5,7 +5,7 @@ use scl_args::{Argument, ArgumentValue, SearchableArgInfo, cut_words};
 use scl_cl::{Compiler, Mem, Outcome};
 use scl_gnu::{clang, gcc};
 use scl_msvc::msvc;
-use scl_small::diab;
+use scl_small::{diab, tasking_vx};
 use std::alloc::Global;
 use std::process::Abort;
 use std::test::Fail;
@@ -14,7 +14,7 @@ use std::test::Fail;
 /// between angles, an unknown flag behind a question mark, a value behind its flag.
 type Row = (Compiler, &'static str, &'static str, &'static str);
 
-static ROWS: [Row; 14] = [
+static ROWS: [Row; 17] = [
     (
         Compiler::Diab,
         "",
@@ -25,6 +25,12 @@ static ROWS: [Row; 14] = [
         Compiler::Diab,
         "file foo\t-c\\x20foo.c\\x20-o\\x20foo.o\n",
         "-@foo",
+        "-c, <foo.c>, -o foo.o",
+    ),
+    (
+        Compiler::Tasking,
+        "",
+        "--dep-file -c foo.c",
         "-c, <foo.c>, -o foo.o",
     ),
     (
@@ -56,6 +62,18 @@ static ROWS: [Row; 14] = [
         "",
         "-c -Xclang -include -Xclang pch.h -- -a.c",
         "-x c, -c, -o -a.o, -Xclang -include, -Xclang pch.h, -fdiagnostics-color always, <-->, <-a.c>",
+    ),
+    (
+        Compiler::Clang,
+        "",
+        "-c a.c",
+        "-x c, -c, -o a.o, -fdiagnostics-color always, <a.c>",
+    ),
+    (
+        Compiler::Clang,
+        "cwd /w\ndir /w\n",
+        "-c a.c -fprofile-use",
+        "-x c, -c, -o a.o, -fprofile-use , -fdiagnostics-color always, <a.c>",
     ),
     (
         Compiler::Clang,
@@ -152,11 +170,13 @@ fn options_of<T: ArgumentValue, S: SearchableArgInfo<T> + Drop>(
 fn cut_again(alloc: Global, compiler: Compiler, words: Vec<Vec<u8>>) -> Result<Vec<u8>, Fail> {
     match compiler {
         Compiler::Diab => Ok(options_of(alloc, words, diab::table(), false)?),
-        Compiler::Gcc => Ok(options_of(alloc, words, gcc::table(), false)?),
-        Compiler::Clang => Ok(options_of(alloc, words, clang::BothTables::new(), true)?),
+        Compiler::Tasking => Ok(options_of(alloc, words, tasking_vx::table(), false)?),
+        Compiler::Gcc | Compiler::Gxx => Ok(options_of(alloc, words, gcc::table(), false)?),
+        Compiler::Clang | Compiler::Clangxx => {
+            Ok(options_of(alloc, words, clang::BothTables::new(), true)?)
+        }
         Compiler::Cl => Ok(options_of(alloc, words, msvc::BothTables::new(), false)?),
         Compiler::ClangCl => Ok(options_of(alloc, words, msvc::BothTables::new(), true)?),
-        Compiler::Gxx | Compiler::Clangxx | Compiler::Tasking => Err("no row names it")?,
     }
 }
 

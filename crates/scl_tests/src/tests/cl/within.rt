@@ -27,7 +27,7 @@ fn answer_within(
     compiler.answer_within(alloc, b"", &words, b"", &[], view, most)
 }
 
-/// The words come up to so many, and no less may come.
+/// The command is answered where so many words may come, and not where one less may.
 fn expect_words(
     rt: &(impl Abort + Alloc<A = Global>),
     compiler: Compiler,
@@ -52,15 +52,15 @@ fn words_are_counted_with_files_in_place(rt: HostRuntime) -> Result<(), Fail> {
     expect_words(&rt, Compiler::Gcc, b"-c a.c @f0", &view, 1026)?;
     expect_words(&rt, Compiler::Clang, b"-c a.c @f0", &view, 1026)?;
     expect_words(&rt, Compiler::Tasking, b"-c a.c", &view, 2)?;
-    expect_words(&rt, Compiler::Diab, b"-c a.c -DA", &view, 3)
+    expect_words(&rt, Compiler::Diab, b"-c a.c -DA", &view, 3)?;
+    expect_words(&rt, Compiler::Cl, b"/c a.c /DA /DB", &view, 4)
 }
 
 #[test]
 fn inner_words_are_counted(rt: HostRuntime) -> Result<(), Fail> {
     let mut view = View::new(rt.alloc());
     doubling_files(rt.alloc(), &mut view, 10)?;
-    expect_words(&rt, Compiler::ClangCl, b"/c a.c -clang:@f0", &view, 1024)?;
-    expect_words(&rt, Compiler::Cl, b"/c a.c /DA /DB", &view, 4)
+    expect_words(&rt, Compiler::ClangCl, b"/c a.c -clang:@f0", &view, 1024)
 }
 
 #[test]
