@@ -13,7 +13,8 @@ ghost use Rattle.scl_again.specs.Laws.{PrintsAgain, OptionsCame, RawAndUnknownWo
 /// - `judged_options_are_clear`: options that words are cut into, of which none is refused where empty values of either
 ///   rows are, have no such values;
 /// - `next_flag_suffices`: in a table, no flag goes on after a flag where the next greater one does not;
-/// - `prints_again`: by tables that pass two checks, a list of options that words were cut into, printed, is cut into those
+/// - `prints_again`: by tables that pass two checks for the kinds of these options, options that words were cut into,
+///   without empty values of either rows (and without raw ones, where `--` ends options), printed, are cut into those
 ///   options again, whatever words follow.
 pub fn of_words_cut_again<K, V>()
     ensures options_came { OptionsCame K }

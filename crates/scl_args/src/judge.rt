@@ -69,7 +69,7 @@ fn refusal_of<T: ReadArg, S: SearchableArgInfo<T>, J: Judge<T>>(
 
 /// The refusal of the first option that is refused: for an empty value, where its row in the tables takes one either way,
 /// else by the judge (docs/RULES.md, Readings). It fails only for want of memory.
-pub fn first_refusal<T: ReadArg, S: SearchableArgInfo<T>, J: Judge<T>>(
+fn first_refusal<T: ReadArg, S: SearchableArgInfo<T>, J: Judge<T>>(
     alloc: Global,
     judge: &J,
     arg_info: &S,

@@ -10,14 +10,10 @@ mod options;
 mod sort;
 mod wrapped;
 
-pub use empties::has_empty_value;
 pub use finished::Options;
-pub use judge::{Judge, first_refusal, judge_all};
-pub use lists::{ShortFlagsJoined, Sides, list, push_option, side_of_flag};
-pub use options::{
-    OfKinds, Test, any, is_behind_dashes, is_dashes, last_by, last_flag, last_option, last_text,
-    names_file, texts,
-};
+pub use judge::{Judge, judge_all};
+pub use lists::{ShortFlagsJoined, Sides};
+pub use options::{OfKinds, Test, is_dashes, last_option, last_text, names_file, texts};
 pub use scl_cutting::{ArgsIter, CutWords, cut_options, cut_words};
 pub use scl_devices::{Counted, FailingReader, FailingWriter, WriteFault, write_whole};
 pub use scl_tables::{FlagTable, FlagTree, Probes, RowStore, SearchableArgInfo, Tables, looks};

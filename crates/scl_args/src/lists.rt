@@ -25,7 +25,7 @@ pub trait Sides {
 
 /// The side of an option in a list: a flag of two bytes stands together with its value, any other apart
 /// (docs/RULES.md, Printing).
-pub fn side_of_flag(flag: &str) -> NormalizedDisposition
+fn side_of_flag(flag: &str) -> NormalizedDisposition
     ensures { result ≡ side_of_flag flag.now }
 {
     if flag.len() == 2 {
@@ -72,7 +72,7 @@ fn push_value<T: ArgumentValue>(
 
 /// Puts the words of the option, on the side of its flag, behind others. It fails only for want of memory, and the first of
 /// two words may then stand there.
-pub fn push_option<T: ArgumentValue, S: Sides>(
+fn push_option<T: ArgumentValue, S: Sides>(
     alloc: Global,
     words: &mut Vec<Vec<u8>>,
     option: &Argument<T>,
@@ -118,7 +118,7 @@ fn push_whole<T: ArgumentValue, S: Sides>(
 
 /// The words of the options that pass, each option on the side of its flag (docs/RULES.md, Lists of options). It fails only
 /// for want of memory.
-pub fn list<T: ArgumentValue, S: Sides, P: Test<T>>(
+pub(crate) fn list<T: ArgumentValue, S: Sides, P: Test<T>>(
     alloc: Global,
     options: &[Argument<T>],
     sides: &S,

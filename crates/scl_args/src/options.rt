@@ -71,7 +71,7 @@ where
 }
 
 /// The last of the options that pass.
-pub fn last_by<'a, T: ArgumentValue, P: Test<T>>(
+pub(crate) fn last_by<'a, T: ArgumentValue, P: Test<T>>(
     options: &'a [Argument<T>],
     test: &P,
 ) -> Option<&'a Argument<T>>
@@ -88,7 +88,7 @@ pub fn last_by<'a, T: ArgumentValue, P: Test<T>>(
 }
 
 /// Whether any of the options passes.
-pub fn any<T: ArgumentValue, P: Test<T>>(options: &[Argument<T>], test: &P) -> bool
+pub(crate) fn any<T: ArgumentValue, P: Test<T>>(options: &[Argument<T>], test: &P) -> bool
     ensures { result ≡ list_any (P.passes test.now) (map (seen T.kind_of T.word_of) options.now) }
 {
     for option in options {
@@ -107,7 +107,7 @@ pub fn last_option<T: ArgumentValue>(options: &[Argument<T>]) -> Option<&Argumen
 }
 
 /// The flag of the last of the options that pass.
-pub fn last_flag<T: ArgumentValue, P: Test<T>>(
+pub(crate) fn last_flag<T: ArgumentValue, P: Test<T>>(
     options: &[Argument<T>],
     test: &P,
 ) -> Option<&'static str>
@@ -160,7 +160,10 @@ pub fn is_dashes<T: ArgumentValue>(option: &Argument<T>) -> bool
 }
 
 /// Whether a raw word `--` stands before any of the options that the test takes for inputs (docs/RULES.md, Readings).
-pub fn is_behind_dashes<T: ArgumentValue, P: Test<T>>(options: &[Argument<T>], inputs: &P) -> bool
+pub(crate) fn is_behind_dashes<T: ArgumentValue, P: Test<T>>(
+    options: &[Argument<T>],
+    inputs: &P,
+) -> bool
     ensures { result ≡ is_behind_dashes (P.passes inputs.now) (map (seen T.kind_of T.word_of) options.now) }
 {
     for option in options {

@@ -3,7 +3,7 @@ ghost use Rattle.std.specs.Prelude.{◌≡◌, ◌<◌, ◌∷◌, [], MatchOpti
 ghost use Rattle.scl_cl.specs.Lines.{cut_at, lines_of};
 
 /// What stands before the first such byte and what stands behind it.
-pub fn cut_at(mark: u8, bytes: &[u8]) -> Option<(&[u8], &[u8])>
+pub(crate) fn cut_at(mark: u8, bytes: &[u8]) -> Option<(&[u8], &[u8])>
     ensures { MatchOption result (cut_at mark bytes.now ≡ None) (λ parts. cut_at mark bytes.now ≡ Some (parts.0.now, parts.1.now)) }
 {
     for (at, byte) in bytes.iter().enumerate() {
@@ -15,7 +15,7 @@ pub fn cut_at(mark: u8, bytes: &[u8]) -> Option<(&[u8], &[u8])>
 }
 
 /// The first line, and what stands behind its LF.
-pub fn next_line(bytes: &[u8]) -> Option<(&[u8], &[u8])>
+pub(crate) fn next_line(bytes: &[u8]) -> Option<(&[u8], &[u8])>
     ensures lines { MatchOption result (bytes.now ≡ []) (λ p. lines_of bytes.now ≡ p.0.now ∷ lines_of p.1.now) }
     ensures shorter { IfSome result (λ p. length p.1.now < length bytes.now) }
 {

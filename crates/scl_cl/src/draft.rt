@@ -33,7 +33,7 @@ pub struct Draft {
 
 impl Draft {
     /// A draft without any line.
-    pub fn new(alloc: Global) -> Draft
+    pub(crate) fn new(alloc: Global) -> Draft
         ensures { kept_by result ≡ gathered [] }
     {
         Draft {
@@ -46,7 +46,7 @@ impl Draft {
     }
 
     /// Whether the line says again what stands once.
-    pub fn refuses(&self, line: &Line) -> bool
+    pub(crate) fn refuses(&self, line: &Line) -> bool
         ensures { result ≡ breaks (kept_by self.now) (Some (said_by line.now)) }
     {
         match line {
@@ -63,7 +63,7 @@ impl Draft {
     }
 
     /// Takes what the line says.
-    pub fn take(&mut self, line: Line) -> Mem<()>
+    pub(crate) fn take(&mut self, line: Line) -> Mem<()>
         requires { breaks (kept_by self.old) (Some (said_by line)) ≡ false }
         ensures { OnOk result (kept_by self.new ≡ with_line (kept_by self.old) (said_by line)) }
     {
@@ -82,7 +82,7 @@ impl Draft {
     }
 
     /// The request, if a line named a compiler.
-    pub fn finish(self, alloc: Global) -> Option<Request>
+    pub(crate) fn finish(self, alloc: Global) -> Option<Request>
         ensures { option_map asked_by result ≡ request_of (kept_by self) }
     {
         Some(Request {

@@ -9,7 +9,7 @@ use scl_text::Mem;
 use std::alloc::Global;
 
 /// Whether the byte stands for itself.
-pub fn is_plain(byte: u8) -> bool
+pub(crate) fn is_plain(byte: u8) -> bool
     ensures { result ≡ is_plain byte }
 {
     0x21 <= byte && byte <= 0x7e && byte != b'\\'
@@ -54,7 +54,7 @@ fn first_byte(text: &[u8]) -> Option<(u8, &[u8])>
 }
 
 /// The bytes that a field's text stands for.
-pub fn read_field(alloc: Global, text: &[u8]) -> Mem<Option<Vec<u8>>>
+pub(crate) fn read_field(alloc: Global, text: &[u8]) -> Mem<Option<Vec<u8>>>
     ensures { IfOk result (λ field. option_map (λ bytes. bytes.items) field ≡ field_of text.now) }
 {
     let mut bytes = Vec::with_capacity(alloc, text.len())?;
@@ -70,7 +70,7 @@ pub fn read_field(alloc: Global, text: &[u8]) -> Mem<Option<Vec<u8>>>
 }
 
 /// The bytes of two fields with a tab between them.
-pub fn read_two_fields(alloc: Global, text: &[u8]) -> Mem<Option<(Vec<u8>, Vec<u8>)>>
+pub(crate) fn read_two_fields(alloc: Global, text: &[u8]) -> Mem<Option<(Vec<u8>, Vec<u8>)>>
     ensures { IfOk result (λ fields. option_map (λ p. (p.0.items, p.1.items)) fields ≡ two_fields text.now) }
 {
     let Some((first, second)) = cut_at(b'\t', text) else {

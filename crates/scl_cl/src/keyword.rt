@@ -48,7 +48,7 @@ impl Keyword {
 }
 
 /// The keyword with this text.
-pub fn keyword_named(text: &[u8]) -> Option<Keyword>
+pub(crate) fn keyword_named(text: &[u8]) -> Option<Keyword>
     ensures { result ≡ keyword_named text.now }
 {
     keywords()

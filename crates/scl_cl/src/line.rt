@@ -58,7 +58,7 @@ fn line_with(alloc: Global, keyword: Keyword, text: &[u8]) -> Mem<Option<Line>>
 }
 
 /// What a line says, if it says anything.
-pub fn read_line(alloc: Global, line: &[u8]) -> Mem<Option<Line>>
+pub(crate) fn read_line(alloc: Global, line: &[u8]) -> Mem<Option<Line>>
     ensures { IfOk result (λ read. option_map said_by read ≡ said line.now) }
 {
     let Some((keyword, text)) = cut_at(b' ', line) else {

@@ -56,7 +56,10 @@ fn read_blocks<R: Read>(
 }
 
 /// Reads to the end.
-pub fn read_all<R: Read>(alloc: Global, reader: &mut Counted<R>) -> Result<Vec<u8>, ReadError>
+pub(crate) fn read_all<R: Read>(
+    alloc: Global,
+    reader: &mut Counted<R>,
+) -> Result<Vec<u8>, ReadError>
     ensures { ReadEnds (R.remaining reader.old.device) (R.remaining reader.new.device) reader.old.failed reader.new.failed result }
 {
     let mut block = vec![in alloc; 0u8; BLOCK]?;

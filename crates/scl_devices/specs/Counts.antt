@@ -1,5 +1,5 @@
 -- A device, and how many of its calls failed.
-use Rattle.std.specs.Prelude.{ℕ, ◌+◌, ◌-◌, ◌^◌, ◌<◌, ◌≤◌, min, Result, Ok, Err, nat_eq, not, ◌&&◌, if◌then◌else◌, ◌⊎◌}
+use Rattle.std.specs.Prelude.{ℕ, ◌+◌, ◌-◌, ◌^◌, min, Result, Ok, Err, nat_eq, not, ◌&&◌, if◌then◌else◌}
 
 -- the device, and the count of its calls that failed
 pub record Counting (D : Type 0) : Type 0 where
@@ -19,7 +19,3 @@ read_failures (Err e) failed = one_more failed
 abbrev pub write_failures : {E : Type 0} → Result ℕ E → ℕ → ℕ → ℕ
 write_failures (Ok n) len failed = if nat_eq n 0 && not (nat_eq len 0) then one_more failed else failed
 write_failures (Err e) len failed = one_more failed
-
--- a call failed between the two counts, or the count was at its greatest value and one may have
-abbrev pub HasFailed : ℕ → ℕ → Type 0
-HasFailed before after = (before < after) ⊎ (2 ^ 64 - 1 ≤ before)

@@ -7,29 +7,27 @@ ghost use Rattle.scl_files.specs.DiabText.{PlainWordsAreReadBack};
 ghost use Rattle.scl_files.specs.Decoding.{Utf8FilesAreReadBack, Utf16FilesAreReadBack};
 ghost use Rattle.scl_files.specs.ExpansionLaws.{WordsAreExpandedOneByOne, WordsOfMsvcFilesStand, AbsentFilesLeaveTheirWords, UnreadableFilesLeaveTheirWords, OpenFilesAreAbsentInside, PlainWordsStand, EachFileIsOpenOnce};
 
-/// `same_path` says that the components are equal, so it is an equivalence (docs/RULES.md, Paths).
-pub fn same_paths_have_equal_components(_a: &[u8], _b: &[u8], _c: &[u8])
-    ensures components { IsTrue (same_path _a.now _b.now) ↔ (components _a.now ≡ components _b.now) }
+/// Laws of paths (docs/RULES.md, Paths):
+///
+/// - `same_components`: `same_path` says that the components are equal; so it is an equivalence (`reflexive`, `symmetric`,
+///   `transitive`);
+/// - `joined_name`, `replaced_name`: a plain name that is joined to a directory, or put in place of a file name, is the file
+///   name;
+/// - `extended_name`, `new_extension`, `same_stem`: a plain extension takes the place of the file name's own, and is then the
+///   extension; the stem stays.
+pub fn of_paths(_a: &[u8], _b: &[u8], _c: &[u8])
+    ensures same_components { IsTrue (same_path _a.now _b.now) ↔ (components _a.now ≡ components _b.now) }
     ensures reflexive { IsTrue (same_path _a.now _a.now) }
     ensures symmetric { IsTrue (same_path _a.now _b.now) → IsTrue (same_path _b.now _a.now) }
     ensures transitive { IsTrue (same_path _a.now _b.now) → IsTrue (same_path _b.now _c.now) → IsTrue (same_path _a.now _c.now) }
-{}
-
-/// A plain name that is joined to a directory, or put in place of a file name, is the file name (docs/RULES.md, Paths).
-pub fn new_names_are_file_names(_path: &[u8], _name: &[u8])
-    ensures joined { IsTrue (is_file_name _name.now) → file_name (join _path.now _name.now) ≡ Some _name.now }
-    ensures replaced { IsTrue (is_file_name _name.now) → file_name (with_file_name _path.now _name.now) ≡ Some _name.now }
-{}
-
-/// A plain extension takes the place of the file name's own, and is then the extension; the stem stays (docs/RULES.md,
-/// Paths).
-pub fn new_extensions_are_extensions(_path: &[u8], _extension: &[u8])
-    ensures name { IfSome (file_name _path.now) (λ name. IsTrue (is_plain_extension _extension.now)
-        → file_name (with_extension _path.now _extension.now) ≡ Some (extended_name name _extension.now)) }
-    ensures extension { IfSome (file_name _path.now) (λ _. IsTrue (is_plain_extension _extension.now)
-        → extension (with_extension _path.now _extension.now) ≡ Some _extension.now) }
-    ensures stem { IfSome (file_name _path.now) (λ name. IsTrue (is_plain_extension _extension.now)
-        → stem_of_name (extended_name name _extension.now) ≡ stem_of_name name) }
+    ensures joined_name { IsTrue (is_file_name _b.now) → file_name (join _a.now _b.now) ≡ Some _b.now }
+    ensures replaced_name { IsTrue (is_file_name _b.now) → file_name (with_file_name _a.now _b.now) ≡ Some _b.now }
+    ensures extended_name { IfSome (file_name _a.now) (λ name. IsTrue (is_plain_extension _b.now)
+        → file_name (with_extension _a.now _b.now) ≡ Some (extended_name name _b.now)) }
+    ensures new_extension { IfSome (file_name _a.now) (λ _. IsTrue (is_plain_extension _b.now)
+        → extension (with_extension _a.now _b.now) ≡ Some _b.now) }
+    ensures same_stem { IfSome (file_name _a.now) (λ name. IsTrue (is_plain_extension _b.now)
+        → stem_of_name (extended_name name _b.now) ≡ stem_of_name name) }
 {}
 
 /// Laws of the texts of response files (docs/RULES.md, GNU text, MSVC text, Diab text, and Decoding):

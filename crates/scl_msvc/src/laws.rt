@@ -1,12 +1,9 @@
-//! What follows for the commands of Msvc. Each law is the contract of a function that does nothing.
+//! What follows for the commands of Msvc: each law is a clause of a function that does nothing.
 ghost use Rattle.scl_msvc.specs.NoFiles.{MsvcCommandsNameNoFile};
 ghost use Rattle.scl_msvc.specs.Promises.{MsvcRecordsHaveObjects, MsvcLinesHaveNoEmpty};
 ghost use Rattle.scl_msvc.specs.ReadAgain.{MsvcCommandsAreReadAgain, MsvcCommandsHaveOneInput};
 
-pub use scl_msvc_reading::laws::{
-    carried_flags_name_no_file, clang_tables_pass_both_checks_inside, msvc_tables_pass_both_checks,
-    no_other_option_hands_words_on, own_flags_join_safely,
-};
+pub use scl_msvc_reading::laws::of_tables;
 
 /// Laws of the records of Msvc (docs/RULES.md, Cutting again):
 ///
@@ -18,21 +15,17 @@ pub fn of_records()
     ensures has_no_empty { MsvcLinesHaveNoEmpty }
 {}
 
-/// The command of a record of Msvc, cut again by its tables, gives its own words and the carried options, with unchanged
-/// values, and the input; and the words behind `-Xclang`, and those behind `-clang:`, cut again, give the inner options,
-/// list by list (docs/RULES.md, Cutting again).
-pub fn msvc_commands_are_read_again()
-    ensures { MsvcCommandsAreReadAgain }
-{}
-
-/// The command of a record of Msvc, cut again by its tables, has one input, the record's, raw or as the value of the flag
-/// of its language (docs/RULES.md, Cutting again).
-pub fn msvc_commands_have_one_input()
-    ensures { MsvcCommandsHaveOneInput }
-{}
-
-/// No word of the command of a record of Msvc begins with `@`, where no option's value, no input, no unknown flag, outer
-/// or inner, and not the object does (docs/RULES.md, Words that name response files).
-pub fn msvc_commands_name_no_file()
-    ensures { MsvcCommandsNameNoFile }
+/// Laws of the commands of records of Msvc (docs/RULES.md, Cutting again, and Words that name response files):
+///
+/// - `are_read_again`: a command, cut again by Msvc's tables, gives its own words and the carried options, with unchanged
+///   values, and the input; and the words behind `-Xclang`, and those behind `-clang:`, cut again, give the inner options,
+///   list by list;
+/// - `have_one_input`: a command, cut again by Msvc's tables, has one input, the record's, raw or as the value of the flag of
+///   its language;
+/// - `name_no_file`: no word of a command begins with `@`, where no option's value, no input, no unknown flag, outer or
+///   inner, and not the object does.
+pub fn of_commands()
+    ensures are_read_again { MsvcCommandsAreReadAgain }
+    ensures have_one_input { MsvcCommandsHaveOneInput }
+    ensures name_no_file { MsvcCommandsNameNoFile }
 {}

@@ -1,4 +1,4 @@
-//! What follows for the tables of Msvc. Each law is the contract of a function that does nothing.
+//! What follows for the tables of Msvc: each law is a clause of a function that does nothing.
 ghost use Rattle.std.specs.Prelude.{◌≡◌, ◌∷◌, [], true, codes};
 ghost use Rattle.scl_values.specs.Tables.{all_rows};
 ghost use Rattle.scl_args.specs.Options as listed;
@@ -9,31 +9,22 @@ ghost use Rattle.scl_msvc_reading.specs.Again.{carried, carried_inner};
 ghost use Rattle.scl_msvc_reading.specs.Places.{side_of_flag};
 ghost use Rattle.scl_msvc_reading.specs.Rows.{msvc_tables};
 
-/// Msvc's tables pass both checks for the kinds that lists carry, each flag on its side (docs/RULES.md, Cutting again).
-pub fn msvc_tables_pass_both_checks()
-    ensures { PassChecks msvc_tables carried side_of_flag }
-{}
-
-/// The flags of own words and of words that are handed on, joined to any value, are owned by their rows (docs/RULES.md,
-/// Cutting again).
-pub fn own_flags_join_safely()
-    ensures { JoinSafely msvc_tables (codes "-Fo" ∷ codes "-Tc" ∷ codes "-Tp" ∷ codes "-clang:" ∷ []) }
-{}
-
-/// Clang's tables pass both checks for the kinds of inner options that Msvc's lists carry (docs/RULES.md, Cutting again).
-pub fn clang_tables_pass_both_checks_inside()
-    ensures { PassChecks clang_tables carried_inner listed.side_of_flag }
-{}
-
-/// No list carries an outer option with the flag `-Xclang` or `-clang:` (docs/RULES.md, Cutting again).
-pub fn no_other_option_hands_words_on()
-    ensures xclang { has_no_kept carried (codes "-Xclang") (all_rows msvc_tables) ≡ true }
-    ensures clang { has_no_kept carried (codes "-clang:") (all_rows msvc_tables) ≡ true }
-{}
-
-/// No flag of Msvc's tables begins with `@`, where lists carry the options of its row, nor one of Clang's that inner lists
-/// carry (docs/RULES.md, Words that name response files).
-pub fn carried_flags_name_no_file()
-    ensures outer { has_plain_flags carried (all_rows msvc_tables) ≡ true }
-    ensures inner { has_plain_flags carried_inner (all_rows clang_tables) ≡ true }
+/// Laws of the written tables (docs/RULES.md, Cutting again, and Words that name response files):
+///
+/// - `msvc_tables_pass_both_checks`: they pass both checks for the kinds that lists carry, each flag on its side;
+/// - `own_flags_join_safely`: the flags of own words and of words that are handed on, joined to any value, are owned by
+///   their rows;
+/// - `clang_tables_pass_both_checks_inside`: Clang's pass both for the kinds of inner options that Msvc's lists carry;
+/// - `xclang_alone_hands_words_on`, `clang_alone_hands_words_on`: no list carries an outer option with the flag `-Xclang`,
+///   nor one with `-clang:`;
+/// - `carried_flags_name_no_file`, `carried_inner_flags_name_no_file`: no flag of Msvc's tables begins with `@`, where lists
+///   carry the options of its row, nor one of Clang's that inner lists carry.
+pub fn of_tables()
+    ensures msvc_tables_pass_both_checks { PassChecks msvc_tables carried side_of_flag }
+    ensures own_flags_join_safely { JoinSafely msvc_tables (codes "-Fo" ∷ codes "-Tc" ∷ codes "-Tp" ∷ codes "-clang:" ∷ []) }
+    ensures clang_tables_pass_both_checks_inside { PassChecks clang_tables carried_inner listed.side_of_flag }
+    ensures xclang_alone_hands_words_on { has_no_kept carried (codes "-Xclang") (all_rows msvc_tables) ≡ true }
+    ensures clang_alone_hands_words_on { has_no_kept carried (codes "-clang:") (all_rows msvc_tables) ≡ true }
+    ensures carried_flags_name_no_file { has_plain_flags carried (all_rows msvc_tables) ≡ true }
+    ensures carried_inner_flags_name_no_file { has_plain_flags carried_inner (all_rows clang_tables) ≡ true }
 {}

@@ -1,4 +1,4 @@
-//! What follows for the commands of Diab and TaskingVX. Each law is the contract of a function that does nothing.
+//! What follows for the tables and commands of Diab and TaskingVX: each law is a clause of a function that does nothing.
 ghost use Rattle.std.specs.Prelude.{◌∷◌, []};
 ghost use Rattle.scl_args.specs.Options.{side_of_flag};
 ghost use Rattle.scl_again.specs.Checks.{PassChecks};
@@ -10,14 +10,10 @@ ghost use Rattle.scl_small.specs.TaskingReading as tasking;
 ghost use Rattle.scl_small.specs.declared.diab.args.Kind.TheVariants as diab_kinds;
 ghost use Rattle.scl_small.specs.declared.tasking_vx.args.Kind.TheVariants as tasking_kinds;
 
-/// Diab's table passes both checks (docs/RULES.md, Cutting again).
-pub fn diab_table_passes_both_checks()
-    ensures { PassChecks (diab_table.rows ∷ []) every_kind side_of_flag }
-{}
-
-/// TaskingVX's table passes both checks (docs/RULES.md, Cutting again).
-pub fn tasking_table_passes_both_checks()
-    ensures { PassChecks (tasking_table.rows ∷ []) every_kind side_of_flag }
+/// Laws of the written tables: each passes both checks (docs/RULES.md, Cutting again).
+pub fn of_tables()
+    ensures diab_table_passes_both_checks { PassChecks (diab_table.rows ∷ []) every_kind side_of_flag }
+    ensures tasking_table_passes_both_checks { PassChecks (tasking_table.rows ∷ []) every_kind side_of_flag }
 {}
 
 /// Laws of the records of Diab, of words whose response files are put in place, and of TaskingVX (docs/RULES.md, Cutting
@@ -33,14 +29,9 @@ pub fn of_records()
     ensures tasking_has_no_empty { LinesHaveNoEmpty tasking_table.rows tasking.reading }
 {}
 
-/// The command of a record of Diab, cut again by its table, gives its own words, the carried options with unchanged
-/// values, and the input (docs/RULES.md, Cutting again).
-pub fn diab_commands_are_read_again()
-    ensures { CommandsAreReadAgain diab.place diab_kinds.DoCompilation diab_kinds.Output diab_table.rows diab.reading }
-{}
-
-/// The command of a record of TaskingVX, cut again by its table, gives its own words, the carried options with unchanged
-/// values, and the input (docs/RULES.md, Cutting again).
-pub fn tasking_commands_are_read_again()
-    ensures { CommandsAreReadAgain tasking.place tasking_kinds.DoCompilation tasking_kinds.Output tasking_table.rows tasking.reading }
+/// Laws of the commands of records: each, cut again by its compiler's table, gives its own words, the carried options with
+/// unchanged values, and the input (docs/RULES.md, Cutting again).
+pub fn of_commands()
+    ensures diab_commands_are_read_again { CommandsAreReadAgain diab.place diab_kinds.DoCompilation diab_kinds.Output diab_table.rows diab.reading }
+    ensures tasking_commands_are_read_again { CommandsAreReadAgain tasking.place tasking_kinds.DoCompilation tasking_kinds.Output tasking_table.rows tasking.reading }
 {}

@@ -1,5 +1,5 @@
 //! How the nodes of a prefix tree are made of a table's rows.
-ghost use Rattle.std.specs.Prelude.{◌≡◌, ℕ, ◌+◌, ◌<◌, ◌≤◌, ◌≢◌, ◌↔◌, ◌^◌, List, map, length, true, false, IsTrue, IfOk, slice_index, slice_index_or};
+ghost use Rattle.std.specs.Prelude.{◌≡◌, ℕ, ◌+◌, ◌<◌, ◌≤◌, ◌≢◌, ◌^◌, map, length, true, false, IsTrue, IfOk, slice_index, slice_index_or};
 ghost use Rattle.scl_values.specs.Row.{Row, row_of};
 ghost use Rattle.scl_values.specs.Tables.{is_table};
 ghost use Rattle.scl_tables.specs.Trees.{group_of, RiseIn, IsNode, IsTree, Grows};

@@ -1,5 +1,4 @@
 //! Tests of the compilers and of the program, and of what crosses the crates.
-mod again;
 mod cl;
 mod depfile;
 mod gnu;

@@ -1,5 +1,5 @@
 //! Rows of tables, options, and how values stand beside their flags.
-ghost use Rattle.std.specs.Prelude.{◌≡◌, length};
+ghost use Rattle.std.specs.Prelude.{◌≡◌};
 ghost use Rattle.scl_values.specs.Row.{row_of, shape_of, allows, joins, fits};
 ghost use Rattle.scl_values.specs.Tables.{is_ascii_or_none, has_ascii_delimiter};
 

@@ -35,7 +35,7 @@ impl fmt::Display for Escaped<'_> {
 
     fn fmt<W: fmt::Write>(&self, f: &mut fmt::Formatter<W>) -> fmt::Result {
         for byte in self.0 {
-            write!(f, "{}", EscapedByte(*byte))?;
+            EscapedByte(*byte).fmt(f)?;
         }
         Ok(())
     }

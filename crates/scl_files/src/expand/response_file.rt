@@ -17,11 +17,16 @@ use std::alloc::Global;
 pub(super) fn file_name_in(kind: ExpansionKind, word: &[u8]) -> Option<&[u8]>
     ensures { option_copied result ≡ file_name_in kind word.now }
 {
-    match (kind, word) {
-        (ExpansionKind::Gnu | ExpansionKind::Msvc, [b'@', name @ ..]) => Some(name),
-        (ExpansionKind::Diab, [b'-', b'@', b'E' | b'O' | b'@', ..]) => None,
-        (ExpansionKind::Diab, [b'-', b'@', name @ ..]) => Some(name),
-        _ => None,
+    match kind {
+        ExpansionKind::Gnu | ExpansionKind::Msvc => match word {
+            [b'@', name @ ..] => Some(name),
+            _ => None,
+        },
+        ExpansionKind::Diab => match word {
+            [b'-', b'@', b'E' | b'O' | b'@', ..] => None,
+            [b'-', b'@', name @ ..] => Some(name),
+            _ => None,
+        },
     }
 }
 

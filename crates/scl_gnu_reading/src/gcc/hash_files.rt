@@ -14,7 +14,7 @@ use scl_text::view::View;
 use std::alloc::Global;
 
 /// How an option names a file on whose contents the outcome depends (docs/RULES.md, Gcc).
-#[derive(Clone, Copy)]
+#[derive(Clone, Copy, Debug, PartialEq, Eq)]
 pub enum HashRole {
     /// By its path.
     File,

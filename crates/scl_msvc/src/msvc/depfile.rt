@@ -7,7 +7,7 @@ ghost use Rattle.std.specs.Ordering.{nat_cmp};
 ghost use Rattle.scl_values.specs.Words.{words_of};
 ghost use Rattle.scl_devices.specs.Writes.{WriteEnds};
 ghost use Rattle.scl_text.specs.Records.{parsed_of};
-ghost use Rattle.scl_msvc.specs.Depfile.{name_in, names, ended_by, kept_text, AreInOrder, HasWords, rules, IsDepfile, depfile_object, IsDepfileAnswer};
+ghost use Rattle.scl_msvc.specs.Depfile.{name_in, names, ended_by, kept_text, HasWords, rules, IsDepfile, depfile_object, IsDepfileAnswer};
 
 use bstr::ByteSlice;
 use scl_args::{Counted, Mem, WriteFault, write_whole};

@@ -1,5 +1,5 @@
 //! What a command line has from its environment: words before and behind its own.
-ghost use Rattle.std.specs.Prelude.{◌≡◌, ◌∷◌, ◌++◌, [], IfOk, OnOk, codes};
+ghost use Rattle.std.specs.Prelude.{◌≡◌, IfOk};
 ghost use Rattle.std.specs.Option.{option_copied, option_map};
 ghost use Rattle.scl_args.specs.Options.{result_by};
 ghost use Rattle.scl_values.specs.Words.{words_of};

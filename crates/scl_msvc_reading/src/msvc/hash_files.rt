@@ -1,5 +1,5 @@
 //! Files on whose contents the outcome of a compilation depends.
-ghost use Rattle.std.specs.Prelude.{◌≡◌, ◌++◌, IfOk, map};
+ghost use Rattle.std.specs.Prelude.{◌≡◌, IfOk, map};
 ghost use Rattle.scl_values.specs.Words.{words_of};
 ghost use Rattle.scl_gnu_reading.specs.Recordings.{hash_path};
 ghost use Rattle.scl_msvc_reading.specs.InnerBy.{inner_of};

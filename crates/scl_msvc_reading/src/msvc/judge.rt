@@ -32,7 +32,11 @@ pub(crate) fn judged_flag(place: Place, flag: &'static str) -> Option<Refusal>
 {
     match place {
         Place::Refused => Some(Refusal::CannotCache(flag, None)),
-        _ => None,
+        Place::Common
+        | Place::Unhashed
+        | Place::Preprocessor
+        | Place::Dependency
+        | Place::Nowhere => None,
     }
 }
 

@@ -1,8 +1,5 @@
 //! Diab's kinds and values, and its table.
 ghost use Rattle.std.specs.Prelude.{◌≡◌, ◌∷◌, [], IsTrue};
-ghost use Rattle.std.specs.Option.{option_map};
-ghost use Rattle.scl_values.specs.Seen.{seen};
-ghost use Rattle.scl_text.specs.Refusals.{verdict_of};
 ghost use Rattle.scl_values.specs.Tables.{tables_hold_values};
 ghost use Rattle.scl_small.specs.DiabValues.{holds_value};
 ghost use Rattle.scl_small.specs.DiabTable.{rows};

@@ -49,7 +49,7 @@ fn lines_with_the_prefix_name_dependencies(rt: HostRuntime) -> Result<(), Fail> 
     for (stderr, text, kept) in rows {
         let want = made(rt.alloc(), text, kept)?;
         let got = depfile_text(rt.alloc(), &record, true, "Note: ", stderr);
-        assert_eq!(rt; got, Ok(Some(want)), "of {stderr:?}");
+        assert!(rt; got == Ok(Some(want)), "of {stderr:?}");
     }
     Ok(())
 }
@@ -63,7 +63,7 @@ fn shown_includes_are_kept(rt: HostRuntime) -> Result<(), Fail> {
         b"Note: a.h\nwarn\n",
     )?;
     let got = depfile_text(rt.alloc(), &record, true, "Note: ", b"Note: a.h\r\nwarn");
-    assert_eq!(rt; got, Ok(Some(want)));
+    assert!(rt; got == Ok(Some(want)));
     Ok(())
 }
 
@@ -71,18 +71,12 @@ fn shown_includes_are_kept(rt: HostRuntime) -> Result<(), Fail> {
 fn only_clang_with_a_dependency_file_has_its_text(rt: HostRuntime) -> Result<(), Fail> {
     let record = record_of(rt.alloc(), b"-c x.c -depsx.d")?;
     let not_utf8 = depfile_text(rt.alloc(), &record, true, "Note: ", b"\xff");
-    assert_eq!(rt; not_utf8, Err(DepfileError::NotUtf8));
-    assert_eq!(rt;
-        depfile_text(rt.alloc(), &record, false, "Note: ", b"\xff"),
-        Ok(None)
-    );
+    assert!(rt; not_utf8 == Err(DepfileError::NotUtf8));
+    assert!(rt; depfile_text(rt.alloc(), &record, false, "Note: ", b"\xff") == Ok(None));
     let plain = record_of(rt.alloc(), b"-c x.c")?;
-    assert_eq!(rt;
-        depfile_text(rt.alloc(), &plain, true, "Note: ", b"\xff"),
-        Ok(None)
-    );
+    assert!(rt; depfile_text(rt.alloc(), &plain, true, "Note: ", b"\xff") == Ok(None));
     let text = format!(in rt.alloc(); "{}, {}", DepfileError::NotUtf8, DepfileError::Memory)?;
-    assert_eq!(rt; text.as_str(), "error output is not UTF-8, out of memory");
+    assert!(rt; text.as_str() == "error output is not UTF-8, out of memory");
     Ok(())
 }
 
@@ -94,8 +88,8 @@ fn the_text_is_that_of_one_dependency(rt: HostRuntime) -> Result<(), Fail> {
     let record = record_of(rt.alloc(), b"-c x.c -depsx.d")?;
     let stderr = b"Note:  a.h\nwarn\nNote: b c.h\nNote: a.h";
     let got = depfile_text(rt.alloc(), &record, true, "Note: ", stderr)?.ok_or("no text")?;
-    assert_eq!(rt; got.text.as_slice(), TEXT);
-    assert_eq!(rt; TEXT.len(), 26);
+    assert!(rt; got.text.as_slice() == TEXT);
+    assert!(rt; TEXT.len() == 26);
     Ok(())
 }
 
@@ -113,9 +107,9 @@ fn expect_fault(
     let answer = write_depfile(&mut counted, TEXT);
     let failures = counted.failures();
     drop(counted);
-    assert_eq!(rt; answer, want, "{most} a call, {calls} calls");
-    assert_eq!(rt; failures, u64::from(want.is_err()));
-    assert_eq!(rt; writer.taken(), taken);
+    assert!(rt; answer == want, "{most} a call, {calls} calls");
+    assert!(rt; failures == u64::from(want.is_err()));
+    assert!(rt; writer.taken() == taken);
 }
 
 #[test]

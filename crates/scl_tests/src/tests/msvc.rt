@@ -1,9 +1,9 @@
 //! Calls of Msvc's module.
 use crate::tests::records::{self, msvc};
-use crate::tests::words::joined;
+use crate::tests::words::{cut, joined};
 use scl_args::{Mem, SearchableArgInfo, looks};
-use scl_msvc::msvc::{ARGS, BothTables, Msvc, SLASH_ARGS, without_cl_env_vars};
-use scl_text::outputs::output_path;
+use scl_gnu::gcc;
+use scl_msvc::msvc::{ARGS, BothTables, ExpandIncludeFile, Msvc, SLASH_ARGS, without_cl_env_vars};
 use scl_text::records::{CCompilerKind, Cacheable, ParsedArguments, SingleCompileCommand};
 use scl_text::{CCompilerImpl, View};
 use std::alloc::Global;
@@ -20,38 +20,60 @@ fn fields_of_msvc_say_what_the_options_say(rt: HostRuntime) -> Result<(), Fail> 
         b"/c /Tpd/a.cpp /Foo/a /fmodule-file=n=m.pcm -fsanitize-blacklist=b /showIncludes -depsx -depsy -Xclang -fprofile-generate -Xclang -load -Xclang p.so -clang:-fprofile-use=q";
     let record = record_of(rt.alloc(), text, true)?;
     let paths = joined(rt.alloc(), &record.extra_hash_files)?;
-    assert_eq!(rt; paths.as_slice(), b"/w/m.pcm /w/b /w/p.so /w/q".as_slice());
-    assert_eq!(rt; record.depfile, Some(Vec::from_slice(rt.alloc(), b"y")?));
+    assert!(rt; paths.as_slice() == b"/w/m.pcm /w/b /w/p.so /w/q".as_slice());
+    assert!(rt; record.depfile == Some(Vec::from_slice(rt.alloc(), b"y")?));
     assert!(rt; record.msvc_show_includes);
     assert!(rt; record.msvc_explicit_language);
     assert!(rt; record.profile_generate);
-    let rows: [(&str, &[u8], bool); 3] = [
-        ("obj", b"o/a.obj", false),
-        ("tlh", b"o/a.tlh", true),
-        ("tli", b"o/a.tli", true),
-    ];
-    for (name, want, optional) in rows {
-        assert_eq!(rt; output_path(&record.outputs, name), Some(want), "of {name}");
-        let output = record.outputs.get(name).ok_or("no output")?;
-        assert_eq!(rt; output.optional, optional, "of {name}");
-    }
-    assert_eq!(rt; record.outputs.len(), 3);
-    let plain = record_of(rt.alloc(), b"/c a.c -Zi -Fdp -Fdq", false)?;
-    assert_eq!(rt;
-        output_path(&plain.outputs, "pdb"),
-        Some(b"q.pdb".as_slice())
-    );
+    Ok(())
+}
+
+#[test]
+fn fields_of_msvc_that_no_option_says_are_not_set(rt: HostRuntime) -> Result<(), Fail> {
+    let plain = record_of(rt.alloc(), b"/c a.c", false)?;
     assert!(rt; !plain.profile_generate && !plain.msvc_show_includes);
     assert!(rt; !plain.msvc_explicit_language && !plain.uses_external_assembler);
-    let module = record_of(
-        rt.alloc(),
+    Ok(())
+}
+
+/// Words of clang-cl or cl, and an output of theirs: its name, its path, and whether it may be missing.
+type OutputRow = (&'static [u8], bool, &'static str, &'static [u8], bool);
+
+static OUTPUTS: [OutputRow; 5] = [
+    (b"/c /Tpd/a.cpp /Foo/a", true, "obj", b"o/a.obj", false),
+    (b"/c /Tpd/a.cpp /Foo/a", true, "tlh", b"o/a.tlh", true),
+    (b"/c /Tpd/a.cpp /Foo/a", true, "tli", b"o/a.tli", true),
+    (b"/c a.c -Zi -Fdp -Fdq", false, "pdb", b"q.pdb", false),
+    (
         b"-c a.cppm -xc++-module -fmodule-output=m",
         true,
-    )?;
-    assert_eq!(rt;
-        output_path(&module.outputs, "module"),
-        Some(b"m".as_slice())
-    );
+        "module",
+        b"m",
+        false,
+    ),
+];
+
+/// The path of an output, and whether it may be missing.
+fn output_of(
+    alloc: Global,
+    words: &[u8],
+    is_clang: bool,
+    name: &str,
+) -> Result<(Vec<u8>, bool), Fail> {
+    let mut record = record_of(alloc, words, is_clang)?;
+    let output = record.outputs.remove(name).ok_or("no output")?;
+    Ok((output.path, output.optional))
+}
+
+#[test]
+fn outputs_of_msvc_have_their_paths(rt: HostRuntime) -> Result<(), Fail> {
+    for (words, is_clang, name, want, may_be_missing) in OUTPUTS {
+        let (path, optional) = output_of(rt.alloc(), words, is_clang, name)?;
+        assert!(rt; path.as_slice() == want, "of {name}");
+        assert!(rt; optional == may_be_missing, "of {name}");
+    }
+    let record = record_of(rt.alloc(), b"/c /Tpd/a.cpp /Foo/a", true)?;
+    assert!(rt; record.outputs.len() == 3);
     Ok(())
 }
 
@@ -67,9 +89,9 @@ fn a_compilation_with_debug_information_of_its_own_may_be_kept(
     rt: HostRuntime,
 ) -> Result<(), Fail> {
     let (command, kept) = debug_command(rt.alloc(), &View::new(rt.alloc()))?;
-    assert_eq!(rt; kept, Cacheable::Yes);
+    assert!(rt; kept == Cacheable::Yes);
     let words = joined(rt.alloc(), &command.arguments)?;
-    assert_eq!(rt; words.as_slice(), b"-c -Foa.obj -Zi -Fdp a.c".as_slice());
+    assert!(rt; words.as_slice() == b"-c -Foa.obj -Zi -Fdp a.c".as_slice());
     Ok(())
 }
 
@@ -80,7 +102,36 @@ fn a_compilation_with_shared_debug_information_may_not_be_kept(
     let mut view = View::new(rt.alloc());
     view.add_existing(Vec::from_slice(rt.alloc(), b"/w/p.pdb")?)?;
     let (_, kept) = debug_command(rt.alloc(), &view)?;
-    assert_eq!(rt; kept, Cacheable::No);
+    assert!(rt; kept == Cacheable::No);
+    Ok(())
+}
+
+/// A file that names another, and that other.
+fn nested_files(alloc: Global) -> Mem<View> {
+    let mut view = View::new(alloc);
+    view.add_file(
+        Vec::from_slice(alloc, b"r")?,
+        Vec::from_slice(alloc, b"-DA @s")?,
+    )?;
+    view.add_file(
+        Vec::from_slice(alloc, b"s")?,
+        Vec::from_slice(alloc, b"-DB")?,
+    )?;
+    Ok(view)
+}
+
+#[test]
+fn files_inside_files_are_put_in_place_for_gcc_and_not_for_msvc(
+    rt: HostRuntime,
+) -> Result<(), Fail> {
+    let (alloc, view) = (rt.alloc(), nested_files(rt.alloc())?);
+    let words = cut(alloc, b"@r")?;
+    let gcc: Vec<Vec<u8>> = gcc::ExpandIncludeFile::new(alloc, b"", &words, &view).try_collect(
+        alloc,
+    )?;
+    assert!(rt; joined(alloc, &gcc)?.as_slice() == b"-DA -DB".as_slice());
+    let msvc: Vec<Vec<u8>> = ExpandIncludeFile::new(alloc, b"", &words, &view).try_collect(alloc)?;
+    assert!(rt; joined(alloc, &msvc)?.as_slice() == b"-DA @s".as_slice());
     Ok(())
 }
 
@@ -98,7 +149,7 @@ fn variables(alloc: Global) -> Mem<Vec<(Vec<u8>, Vec<u8>)>> {
 fn environments_lose_two_variables(rt: HostRuntime) -> Result<(), Fail> {
     let pairs = variables(rt.alloc())?;
     let kept = without_cl_env_vars(rt.alloc(), &pairs)?;
-    assert_eq!(rt; Some(kept.as_slice()), pairs.get(1..2));
+    assert!(rt; Some(kept.as_slice()) == pairs.get(1..2));
     Ok(())
 }
 
@@ -116,7 +167,7 @@ fn commands_lose_two_variables(rt: HostRuntime) -> Result<(), Fail> {
         &pairs,
         &view,
     )?;
-    assert_eq!(rt; Some(command.env_vars.as_slice()), pairs.get(1..2));
+    assert!(rt; Some(command.env_vars.as_slice()) == pairs.get(1..2));
     Ok(())
 }
 
@@ -127,11 +178,11 @@ fn msvc_says_what_it_is(rt: HostRuntime) -> Result<(), Fail> {
         is_clang: true,
         version: Some(String::from_str(rt.alloc(), "v")?),
     };
-    assert_eq!(rt; msvc.kind(), CCompilerKind::Msvc);
+    assert!(rt; msvc.kind() == CCompilerKind::Msvc);
     assert!(rt; !msvc.plusplus());
     let version = msvc.version(rt.alloc())?.ok_or("no version")?;
-    assert_eq!(rt; version.as_str(), "v");
-    assert_eq!(rt; msvc.assembler_digest(rt.alloc())?, None);
+    assert!(rt; version.as_str() == "v");
+    assert!(rt; msvc.assembler_digest(rt.alloc())? == None);
     Ok(())
 }
 
@@ -139,13 +190,10 @@ fn msvc_says_what_it_is(rt: HostRuntime) -> Result<(), Fail> {
 fn both_tables_have_the_same_flags(rt: HostRuntime) {
     let tables = BothTables::new();
     for (row, slash) in ARGS.iter().zip(SLASH_ARGS.iter()) {
-        assert_eq!(rt;
-            row.flag().strip_prefix("-"),
-            slash.flag().strip_prefix("/")
-        );
+        assert!(rt; row.flag().strip_prefix("-") == slash.flag().strip_prefix("/"));
         for flag in [row.flag(), slash.flag()] {
             let found = tables.search(flag.as_bytes()).map(|found| found.flag());
-            assert_eq!(rt; found, Some(flag));
+            assert!(rt; found == Some(flag));
             let bytes = flag.len() as u64;
             assert!(rt;
                 looks(&tables, flag.as_bytes()) <= bytes.saturating_add(1).saturating_mul(20)

@@ -32,6 +32,19 @@ fn lines_of(alloc: Global, runs: &[Vec<Vec<u8>>]) -> Mem<Vec<u8>> {
     Ok(lines)
 }
 
+/// The runs of a command line that may be distributed, or that are to leave macros in place, outside of the cache mode.
+fn runs_for<C: CCompilerImpl>(
+    alloc: Global,
+    compiler: &C,
+    words: &[u8],
+    may_dist: bool,
+    rewrites: bool,
+) -> Result<Vec<u8>, Fail> {
+    let record = record_of(alloc, compiler, words)?;
+    let runs = compiler.preprocess_passes(alloc, &record, may_dist, rewrites, false)?;
+    Ok(lines_of(alloc, &runs)?)
+}
+
 /// The runs of a command line, neither distributed nor with macros left in place.
 fn runs_of<C: CCompilerImpl>(
     alloc: Global,
@@ -44,10 +57,16 @@ fn runs_of<C: CCompilerImpl>(
     Ok(lines_of(alloc, &runs)?)
 }
 
-fn clang(alloc: Global, version: &str) -> Mem<Clang> {
+/// The runs of a Clang of the version.
+fn clang_runs(
+    alloc: Global,
+    version: &str,
+    words: &[u8],
+    cache_mode: bool,
+) -> Result<Vec<u8>, Fail> {
     let mut clang = Clang::new(false);
     clang.version = Some(String::from_str(alloc, version)?);
-    Ok(clang)
+    runs_of(alloc, &clang, words, cache_mode)
 }
 
 #[test]
@@ -57,16 +76,13 @@ fn gcc_has_a_run_for_each_architecture(rt: HostRuntime) -> Result<(), Fail> {
     let runs = runs_of(rt.alloc(), &gcc, words, false)?;
     let want =
         b"-x c -E -P -arch i386 a.c\n-x c -E -P -MMD -MT a.o -MF a.d -arch x86_64 a.c\n".as_slice();
-    assert_eq!(rt; runs.as_slice(), want);
+    assert!(rt; runs.as_slice() == want);
     let cached = runs_of(rt.alloc(), &gcc, words, true)?;
     let want =
         b"-x c -E -arch i386 a.c\n-x c -E -MMD -MT a.o -MF a.d -arch x86_64 a.c\n".as_slice();
-    assert_eq!(rt; cached.as_slice(), want);
+    assert!(rt; cached.as_slice() == want);
     let one = runs_of(rt.alloc(), &gcc, b"-c a.c -arch i386 -arch i386", false)?;
-    assert_eq!(rt;
-        one.as_slice(),
-        b"-x c -E -P -arch i386 -arch i386 a.c\n".as_slice()
-    );
+    assert!(rt; one.as_slice() == b"-x c -E -P -arch i386 -arch i386 a.c\n".as_slice());
     Ok(())
 }
 
@@ -101,10 +117,8 @@ fn lines_are_told_apart_for_others_and_for_profiles(rt: HostRuntime) -> Result<(
         ),
     ];
     for (words, may_dist, rewrites, want) in rows {
-        let record = record_of(rt.alloc(), &gcc, words)?;
-        let runs = gcc.preprocess_passes(rt.alloc(), &record, may_dist, rewrites, false)?;
-        let lines = lines_of(rt.alloc(), &runs)?;
-        assert_eq!(rt; lines.as_slice(), want, "of {words:?}");
+        let runs = runs_for(rt.alloc(), &gcc, words, may_dist, rewrites)?;
+        assert!(rt; runs.as_slice() == want, "of {words:?}");
     }
     Ok(())
 }
@@ -131,7 +145,7 @@ fn any_text_names_the_language(rt: HostRuntime) -> Result<(), Fail> {
             |_| Some("zz"),
         )?;
         let lines = lines_of(rt.alloc(), &runs)?;
-        assert_eq!(rt; lines.as_slice(), want);
+        assert!(rt; lines.as_slice() == want);
     }
     Ok(())
 }
@@ -166,24 +180,33 @@ fn clang_minimizes_white_space_from_version_14_on(rt: HostRuntime) -> Result<(),
         ),
     ];
     for (version, words, cache_mode, want) in rows {
-        let clang = clang(rt.alloc(), version)?;
-        let runs = runs_of(rt.alloc(), &clang, words, cache_mode)?;
-        assert_eq!(rt; runs.as_slice(), want, "of {words:?}");
+        let runs = clang_runs(rt.alloc(), version, words, cache_mode)?;
+        assert!(rt; runs.as_slice() == want, "of {words:?}");
     }
     Ok(())
 }
 
 #[test]
 fn clang_rewrites_includes_for_a_distant_compiler(rt: HostRuntime) -> Result<(), Fail> {
-    let clang = Clang::new(false);
-    let record = record_of(rt.alloc(), &clang, b"-c a.c")?;
-    let runs = clang.preprocess_passes(rt.alloc(), &record, true, true, false)?;
-    let lines = lines_of(rt.alloc(), &runs)?;
-    assert_eq!(rt;
-        lines.as_slice(),
-        b"-x c -E -frewrite-includes a.c\n".as_slice()
-    );
+    let runs = runs_for(rt.alloc(), &Clang::new(false), b"-c a.c", true, true)?;
+    assert!(rt; runs.as_slice() == b"-x c -E -frewrite-includes a.c\n".as_slice());
     Ok(())
+}
+
+/// The runs of cl or clang-cl, for a distant compiler with macros left in place or for none.
+fn msvc_runs(
+    alloc: Global,
+    is_clang: bool,
+    words: &[u8],
+    is_distant: bool,
+) -> Result<Vec<u8>, Fail> {
+    runs_for(
+        alloc,
+        &msvc(alloc, is_clang)?,
+        words,
+        is_distant,
+        is_distant,
+    )
 }
 
 #[test]
@@ -213,9 +236,8 @@ fn msvc_has_one_run(rt: HostRuntime) -> Result<(), Fail> {
         ),
     ];
     for (is_clang, words, want) in rows {
-        let cl = msvc(rt.alloc(), is_clang)?;
-        let runs = runs_of(rt.alloc(), &cl, words, false)?;
-        assert_eq!(rt; runs.as_slice(), want, "of {words:?}");
+        let runs = msvc_runs(rt.alloc(), is_clang, words, false)?;
+        assert!(rt; runs.as_slice() == want, "of {words:?}");
     }
     Ok(())
 }
@@ -229,11 +251,8 @@ fn msvc_keeps_lines_for_a_distant_compiler(rt: HostRuntime) -> Result<(), Fail> 
             b"-E -nologo -clang:-frewrite-includes x.c\n".as_slice(),
         ),
     ] {
-        let cl = msvc(rt.alloc(), is_clang)?;
-        let record = record_of(rt.alloc(), &cl, b"-c x.c")?;
-        let runs = cl.preprocess_passes(rt.alloc(), &record, true, true, false)?;
-        let lines = lines_of(rt.alloc(), &runs)?;
-        assert_eq!(rt; lines.as_slice(), want);
+        let runs = msvc_runs(rt.alloc(), is_clang, b"-c x.c", true)?;
+        assert!(rt; runs.as_slice() == want);
     }
     Ok(())
 }
@@ -246,15 +265,18 @@ fn diab_has_one_run_and_tasking_two(rt: HostRuntime) -> Result<(), Fail> {
         b"-c a.c -Xmake-dependency -DA -fx",
         false,
     )?;
-    assert_eq!(rt;
-        diab.as_slice(),
-        b"-E a.c -Xmake-dependency -DA -fx\n".as_slice()
-    );
+    assert!(rt; diab.as_slice() == b"-E a.c -Xmake-dependency -DA -fx\n".as_slice());
     let tasking = runs_of(rt.alloc(), &TaskingVX, b"-c a.c --dep-file", false)?;
-    assert_eq!(rt; tasking.as_slice(), b"-Em -o a.d a.c\n-E a.c\n".as_slice());
+    assert!(rt; tasking.as_slice() == b"-Em -o a.d a.c\n-E a.c\n".as_slice());
     let plain = runs_of(rt.alloc(), &TaskingVX, b"-c a.c -DA -x", true)?;
-    assert_eq!(rt; plain.as_slice(), b"-E a.c -DA -x\n".as_slice());
+    assert!(rt; plain.as_slice() == b"-E a.c -DA -x\n".as_slice());
     Ok(())
+}
+
+/// What is left of words.
+fn kept_words(alloc: Global, words: &[u8]) -> Mem<Vec<u8>> {
+    let words = cut(alloc, words)?;
+    joined(alloc, &without_output_files(alloc, &words)?)
 }
 
 #[test]
@@ -285,10 +307,8 @@ fn words_that_write_files_are_left_out(rt: HostRuntime) -> Result<(), Fail> {
         (b"", b""),
     ];
     for (words, want) in rows {
-        let words = cut(rt.alloc(), words)?;
-        let kept = without_output_files(rt.alloc(), &words)?;
-        let line = joined(rt.alloc(), &kept)?;
-        assert_eq!(rt; line.as_slice(), want, "of {words:?}");
+        let kept = kept_words(rt.alloc(), words)?;
+        assert!(rt; kept.as_slice() == want, "of {words:?}");
     }
     Ok(())
 }
@@ -317,9 +337,9 @@ fn passes_are_joined(rt: HostRuntime) -> Result<(), Fail> {
     let made = join_passes(rt.alloc(), passes)?;
     let want =
         b"#pragma sccache arch x86_64 1\na\n#pragma sccache arch arm64 1\nb\n#pragma sccache arch \xff 1\n\n".as_slice();
-    assert_eq!(rt; made.stdout.as_slice(), want);
-    assert_eq!(rt; made.stderr.as_slice(), b"wv".as_slice());
-    assert_eq!(rt; made.status, 0);
+    assert!(rt; made.stdout.as_slice() == want);
+    assert!(rt; made.stderr.as_slice() == b"wv".as_slice());
+    assert!(rt; made.status == 0);
     let none = join_passes(rt.alloc(), Vec::new(rt.alloc()))?;
     assert!(rt; none.status == 0 && none.stdout.is_empty() && none.stderr.is_empty());
     Ok(())
@@ -333,6 +353,6 @@ fn a_pass_that_failed_is_the_answer(rt: HostRuntime) -> Result<(), Fail> {
     passes.push(pass(rt.alloc(), b"x86_64", 2, b"c", b"e2")?)?;
     let made = join_passes(rt.alloc(), passes)?;
     let (_, want) = pass(rt.alloc(), b"", -1, b"half", b"e0e1e2")?;
-    assert_eq!(rt; made, want);
+    assert!(rt; made == want);
     Ok(())
 }

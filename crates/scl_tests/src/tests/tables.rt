@@ -54,15 +54,15 @@ fn msvc_slash_args() -> FlagTable<'static, msvc::ArgData>
 #[test]
 fn public_rows_are_searched(rt: HostRuntime) {
     let found = gcc_args().search(b"-MF").map(|row| row.kind());
-    assert_eq!(rt; found, Some(gcc::Kind::DepArgumentPath));
+    assert!(rt; found == Some(gcc::Kind::DepArgumentPath));
     let found = clang_args().search(b"-Xclang").map(|row| row.kind());
-    assert_eq!(rt; found, Some(gcc::Kind::XClang));
+    assert!(rt; found == Some(gcc::Kind::XClang));
     let found = diab_args().search(b"-c").map(|row| row.kind());
-    assert_eq!(rt; found, Some(diab::Kind::DoCompilation));
+    assert!(rt; found == Some(diab::Kind::DoCompilation));
     let found = tasking_args().search(b"-c").map(|row| row.kind());
-    assert_eq!(rt; found, Some(tasking_vx::Kind::DoCompilation));
+    assert!(rt; found == Some(tasking_vx::Kind::DoCompilation));
     let found = msvc_args().search(b"-Fo").map(|row| row.kind());
-    assert_eq!(rt; found, Some(msvc::Kind::Output));
+    assert!(rt; found == Some(msvc::Kind::Output));
     let found = msvc_slash_args().search(b"/Fo").map(|row| row.kind());
-    assert_eq!(rt; found, Some(msvc::Kind::Output));
+    assert!(rt; found == Some(msvc::Kind::Output));
 }

@@ -2,14 +2,16 @@
 ghost use Rattle.std.specs.Prelude.{IfSome, IsTrue};
 ghost use Rattle.scl_values.specs.Tables.{rows_hold_values};
 
-use super::values::{Kind, Told, Value, are_told, table_of, words_of};
+use super::values::{Kind, Told, Value, are_told, as_told, table_of};
+use crate::tests::{makes, words_of};
 use scl_args::ArgDisposition::{CanBeConcatenated, CanBeSeparated, Concatenated, Separated};
 use scl_args::ArgRow::{Flag, TakeArg};
 use scl_args::{
-    ArgParseError, ArgRow, ArgsIter, Argument, ArgumentValue, FlagTable, IntoArg, cut_options,
-    cut_words,
+    ArgParseError, ArgParseResult, ArgRow, ArgsIter, Argument, ArgumentValue, FlagTable, IntoArg,
+    cut_options, cut_words,
 };
 use scl_gnu::gcc;
+use std::process::Abort;
 use std::test::Fail;
 
 pub(super) static SHAPES: [ArgRow<Kind>; 7] = [
@@ -22,24 +24,8 @@ pub(super) static SHAPES: [ArgRow<Kind>; 7] = [
     Flag("-zorglub", Kind::Alone),
 ];
 
-static WORDS: [&str; 16] = [
-    "-nomatch",
-    "-foo",
-    "value",
-    "-hoge",
-    "value",
-    "-hoge=value",
-    "-hogevalue",
-    "-zorglub",
-    "-qux",
-    "value",
-    "-plop",
-    "-quxbar",
-    "-qux=value",
-    "--",
-    "non_flag",
-    "-flag",
-];
+static WORDS: &str = "-nomatch -foo value -hoge value -hoge=value -hogevalue -zorglub \
+    -qux value -plop -quxbar -qux=value -- non_flag -flag";
 
 static OPTIONS: [Told<'static>; 14] = [
     Told::Unknown(b"-nomatch"),
@@ -64,23 +50,30 @@ fn shapes() -> Option<FlagTable<'static, Value>>
     FlagTable::new(&SHAPES)
 }
 
+fn is_told(option: &ArgParseResult<Argument<Value>>, wanted: Option<&Told<'_>>) -> bool {
+    match (option, wanted) {
+        (Ok(option), Some(wanted)) => as_told(option) == *wanted,
+        _ => false,
+    }
+}
+
 #[test]
 fn words_behind_double_dashes_are_raw(rt: HostRuntime) -> Result<(), Fail> {
     let table = table_of(&SHAPES)?;
-    let words = words_of(rt.alloc(), &WORDS)?;
+    let words = words_of(rt.alloc(), WORDS)?;
     let arguments = ArgsIter::new(rt.alloc(), words.into_iter(), table).with_double_dashes();
-    let mut options = Vec::new(rt.alloc());
+    let mut wanted = OPTIONS.iter();
     for option in arguments {
-        options.push(option?)?;
+        assert!(rt; is_told(&option, wanted.next()));
     }
-    assert!(rt; are_told(options.as_slice(), &OPTIONS));
+    assert!(rt; wanted.next().is_none());
     Ok(())
 }
 
 #[test]
 fn without_double_dashes_options_go_on(rt: HostRuntime) -> Result<(), Fail> {
     let table = shapes().ok_or("no table")?;
-    let words = words_of(rt.alloc(), &["--", "-bar", "-"])?;
+    let words = words_of(rt.alloc(), "-- -bar -")?;
     let cut = cut_options(rt.alloc(), words, table, false)?;
     let wanted = [
         Told::Unknown(b"--"),
@@ -92,54 +85,63 @@ fn without_double_dashes_options_go_on(rt: HostRuntime) -> Result<(), Fail> {
     Ok(())
 }
 
-static WANTING: [[ArgRow<Kind>; 1]; 3] = [
-    [TakeArg("-foo", Kind::Valued, Separated)],
-    [TakeArg("-foo", Kind::Valued, CanBeSeparated(Some(b'=')))],
-    [TakeArg("-foo", Kind::Valued, CanBeConcatenated(Some(b'=')))],
+/// Rows with what the word `-foo` alone is cut into: none where a value is wanted.
+static LAST: [(&'static [ArgRow<Kind>], bool); 5] = [
+    (&[TakeArg("-foo", Kind::Valued, Separated)], true),
+    (
+        &[TakeArg("-foo", Kind::Valued, CanBeSeparated(Some(b'=')))],
+        true,
+    ),
+    (
+        &[TakeArg("-foo", Kind::Valued, CanBeConcatenated(Some(b'=')))],
+        true,
+    ),
+    (
+        &[TakeArg("-foo", Kind::Valued, CanBeSeparated(None))],
+        false,
+    ),
+    (
+        &[TakeArg("-foo", Kind::Valued, CanBeConcatenated(None))],
+        false,
+    ),
 ];
 
-static CONTENT: [[ArgRow<Kind>; 1]; 2] = [
-    [TakeArg("-foo", Kind::Valued, CanBeSeparated(None))],
-    [TakeArg("-foo", Kind::Valued, CanBeConcatenated(None))],
-];
-
-#[test]
-fn a_last_flag_may_lack_its_value(rt: HostRuntime) -> Result<(), Fail> {
-    for rows in &WANTING {
-        let words = words_of(rt.alloc(), &["-foo"])?;
-        let (options, end) = cut_words(rt.alloc(), words, table_of(rows)?, false)?;
+fn expect_last(
+    rt: &(impl Abort + AllocGlobal),
+    rows: &'static [ArgRow<Kind>],
+    is_wanting: bool,
+) -> Result<(), Fail> {
+    let words = words_of(rt.alloc(), "-foo")?;
+    let (options, end) = cut_words(rt.alloc(), words, table_of(rows)?, false)?;
+    if is_wanting {
         assert!(rt; options.is_empty());
-        assert_eq!(rt; end, Some(ArgParseError::UnexpectedEndOfArgs));
+        assert!(rt; matches!(end, Some(ArgParseError::UnexpectedEndOfArgs)));
+    } else {
+        let wanted = [Told::Value("-foo", b"", Concatenated(None))];
+        assert!(rt; are_told(&options, &wanted));
+        assert!(rt; end.is_none());
     }
     Ok(())
 }
 
 #[test]
-fn a_last_flag_may_have_the_empty_value(rt: HostRuntime) -> Result<(), Fail> {
-    let wanted = [Told::Value("-foo", b"", Concatenated(None))];
-    for rows in &CONTENT {
-        let words = words_of(rt.alloc(), &["-foo"])?;
-        let (options, end) = cut_words(rt.alloc(), words, table_of(rows)?, false)?;
-        assert!(rt; are_told(options.as_slice(), &wanted));
-        assert_eq!(rt; end, None);
+fn a_last_flag_may_lack_its_value_or_have_the_empty_value(rt: HostRuntime) -> Result<(), Fail> {
+    for (rows, is_wanting) in &LAST {
+        expect_last(&rt, rows, *is_wanting)?;
     }
     Ok(())
 }
 
 #[test]
 fn a_value_goes_on_behind_the_longest_flag(rt: HostRuntime) -> Result<(), Fail> {
-    let words = words_of(rt.alloc(), &["-iwithprefixdir"])?;
+    let words = words_of(rt.alloc(), "-iwithprefixdir")?;
     let (options, end) = cut_words(rt.alloc(), words, gcc::table(), false)?;
-    assert_eq!(rt; options.len(), 1);
+    assert!(rt; options.len() == 1 && end.is_none());
     let Argument::WithValue(flag, value, how) = &options[0] else {
         panic!(&rt; "no value");
     };
-    assert_eq!(rt; *flag, "-iwithprefix");
-    assert_eq!(rt;
-        value.into_arg_os_string(rt.alloc())?.as_slice(),
-        b"dir".as_slice()
-    );
-    assert_eq!(rt; *how, CanBeSeparated(None));
-    assert_eq!(rt; end, None);
+    assert!(rt; *flag == "-iwithprefix");
+    assert!(rt; *how == CanBeSeparated(None));
+    assert!(rt; makes(&value.into_arg_os_string(rt.alloc()), b"dir"));
     Ok(())
 }

@@ -1,65 +1,129 @@
-//! What a search finds, and how often it looks.
+//! What a search finds in tables, in trees and in pairs and lists of them, and how often it looks.
 use super::values::{Kind, Value, table_of};
 use scl_args::ArgDisposition::{CanBeSeparated, Concatenated};
 use scl_args::ArgRow::{Flag, TakeArg};
-use scl_args::{ArgRow, ArgumentValue, FlagTable, SearchableArgInfo, Tables, looks};
+use scl_args::{ArgRow, ArgumentValue, FlagTable, FlagTree, SearchableArgInfo, Tables, looks};
 use scl_gnu::{clang, gcc};
+use std::alloc::Global;
+use std::process::Abort;
 use std::test::Fail;
 
+type Rows = &'static [ArgRow<Kind>];
+
+fn pair_of(
+    first: Rows,
+    second: Rows,
+) -> Result<(FlagTable<'static, Value>, FlagTable<'static, Value>), Fail> {
+    Ok((table_of(first)?, table_of(second)?))
+}
+
+fn tree_of(alloc: Global, rows: Rows) -> Result<FlagTree<'static, Value>, Fail> {
+    Ok(FlagTree::build(alloc, &table_of(rows)?)?)
+}
+
 /// Whether a search for the key finds the row of the flag.
-fn finds<T: ArgumentValue, S: SearchableArgInfo<T>>(table: &S, key: &str, flag: &str) -> bool {
-    match table.search(key.as_bytes()) {
+fn finds<T: ArgumentValue, S: SearchableArgInfo<T>>(tables: &S, key: &str, flag: &str) -> bool {
+    match tables.search(key.as_bytes()) {
         Some(row) => row.flag() == flag,
         None => false,
     }
 }
 
-#[test]
-fn the_written_rows_make_tables(rt: HostRuntime) {
-    assert!(rt; FlagTable::<gcc::ArgData>::new(&gcc::ARGS).is_some());
-    assert!(rt; FlagTable::<clang::ArgData>::new(&clang::ARGS).is_some());
+fn finds_kind<S: SearchableArgInfo<Value>>(tables: &S, key: &str, kind: Kind) -> bool {
+    match tables.search(key.as_bytes()) {
+        Some(row) => row.kind() == kind,
+        None => false,
+    }
 }
 
-#[test]
-fn a_search_looks_at_few_rows(rt: HostRuntime) {
-    let table = gcc::table();
-    assert!(rt; finds(&table, "-stdlib=libc++", "-stdlib"));
-    assert!(rt; looks(&table, b"-stdlib=libc++") <= 120);
-    assert!(rt; finds(&table, "-c", "-c"));
-    assert!(rt; looks(&table, b"-c") <= 24);
-    assert_eq!(rt; table.store().len(), gcc::ARGS.len());
-    assert!(rt; !table.store().is_empty());
-    assert!(rt; table.check());
+/// Keys with the flags of gcc that they find, and how many looks that may take.
+static FOUND: [(&str, &str, u64); 3] = [
+    ("-stdlib=libc++", "-stdlib", 120),
+    ("-c", "-c", 24),
+    ("-iwithprefixdir", "-iwithprefix", 136),
+];
+
+fn expect_few_looks<S: SearchableArgInfo<gcc::ArgData>>(rt: &impl Abort, tables: &S) {
+    for (key, flag, most) in FOUND {
+        assert!(rt; finds(tables, key, flag), "{key}");
+        assert!(rt; looks(tables, key.as_bytes()) <= most, "{key}");
+    }
+    assert!(rt; finds(tables, "-include-pch", "-include"));
+    assert!(rt; tables.check());
 }
 
-#[test]
-fn each_flag_is_found_by_more_than_one_look(rt: HostRuntime) {
-    let table = gcc::table();
+/// Expects that each flag of gcc is found, by more than one look.
+fn expect_flags<S: SearchableArgInfo<gcc::ArgData>>(rt: &impl Abort, tables: &S) {
     let mut sum: u64 = 0;
     for row in &gcc::ARGS {
-        assert!(rt; finds(&table, row.flag(), row.flag()));
-        sum = sum.saturating_add(looks(&table, row.flag().as_bytes()));
+        assert!(rt; finds(tables, row.flag(), row.flag()));
+        sum = sum.saturating_add(looks(tables, row.flag().as_bytes()));
     }
     assert!(rt; sum >= 300);
 }
 
-static NO_ROWS: [ArgRow<Kind>; 0] = [];
-
 #[test]
-fn nothing_is_found_without_rows(rt: HostRuntime) -> Result<(), Fail> {
-    let table = table_of(&NO_ROWS)?;
-    assert!(rt; table.search(b"-abcd").is_none());
-    assert!(rt; looks(&table, b"-abcd") <= 6);
+fn a_search_of_the_written_rows_looks_at_few(rt: HostRuntime) -> Result<(), Fail> {
+    let table = gcc::table();
+    expect_few_looks(&rt, &table);
+    expect_flags(&rt, &table);
+    assert!(rt; table.store().len() == gcc::ARGS.len());
+    assert!(rt; !table.store().is_empty());
+    let tree = FlagTree::build(rt.alloc(), &table)?;
+    expect_few_looks(&rt, &tree);
+    expect_flags(&rt, &tree);
     Ok(())
 }
 
 #[test]
-fn the_longest_flag_is_found(rt: HostRuntime) {
-    let table = gcc::table();
-    assert!(rt; finds(&table, "-include-pch", "-include"));
-    assert!(rt; finds(&table, "-iwithprefixdir", "-iwithprefix"));
-    let pair = (table, clang::table());
-    assert!(rt; finds(&pair, "-include-pch", "-include-pch"));
+fn of_the_written_tables_the_longer_flag_wins(rt: HostRuntime) -> Result<(), Fail> {
+    let tables = (gcc::table(), clang::table());
+    let first = FlagTree::build(rt.alloc(), &tables.0)?;
+    let trees = (first, FlagTree::build(rt.alloc(), &tables.1)?);
+    assert!(rt; finds(&tables, "-include-pch", "-include-pch"));
+    assert!(rt; finds(&trees, "-include-pch", "-include-pch"));
+    Ok(())
+}
+
+static NO_ROWS: [ArgRow<Kind>; 0] = [];
+
+/// Whether a search for the key finds no row, in so many looks at the most.
+fn finds_none<S: SearchableArgInfo<Value>>(tables: &S, key: &str, most: u64) -> bool {
+    tables.search(key.as_bytes()).is_none() && looks(tables, key.as_bytes()) <= most
+}
+
+#[test]
+fn nothing_is_found_without_rows_or_members(rt: HostRuntime) -> Result<(), Fail> {
+    let members = Vec::<FlagTable<Value>>::new(rt.alloc());
+    assert!(rt; finds_none(&Tables::new(members), "-include", 0));
+    assert!(rt; finds_none(&table_of(&NO_ROWS)?, "-abcd", 6));
+    assert!(rt; finds_none(&tree_of(rt.alloc(), &NO_ROWS)?, "-abcd", 5));
+    Ok(())
+}
+
+static NESTED: [ArgRow<Kind>; 5] = [
+    TakeArg("", Kind::Valued, Concatenated(Some(b'@'))),
+    Flag("-a", Kind::Alone),
+    TakeArg("-ab", Kind::Valued, Concatenated(None)),
+    TakeArg("-abcd", Kind::Valued, CanBeSeparated(Some(b'='))),
+    Flag("-b", Kind::Alone),
+];
+
+#[test]
+fn the_deepest_row_that_fits_is_found(rt: HostRuntime) -> Result<(), Fail> {
+    let tree = tree_of(rt.alloc(), &NESTED)?;
+    for (key, flag) in [
+        ("@file", ""),
+        ("-a", "-a"),
+        ("-abc", "-ab"),
+        ("-abcde", "-ab"),
+        ("-abcd=e", "-abcd"),
+    ] {
+        assert!(rt; finds(&tree, key, flag), "{key}");
+    }
+    assert!(rt; tree.search(b"-ac").is_none());
+    assert!(rt; tree.search(b"-").is_none());
+    Ok(())
 }
 
 static INCLUDE: [ArgRow<Kind>; 1] = [TakeArg("-include", Kind::Valued, Concatenated(None))];
@@ -68,48 +132,37 @@ static INCLUDE_PCH: [ArgRow<Kind>; 1] = [TakeArg("-include-pch", Kind::Valued, C
 
 static OTHER_INCLUDE: [ArgRow<Kind>; 1] = [TakeArg("-include", Kind::Alone, Concatenated(None))];
 
+fn finds_both<S: SearchableArgInfo<Value>>(tables: &S) -> bool {
+    finds(tables, "-include", "-include") && finds(tables, "-include-pch", "-include-pch")
+}
+
 #[test]
 fn of_two_tables_the_longer_flag_wins(rt: HostRuntime) -> Result<(), Fail> {
-    let rising = (table_of(&INCLUDE)?, table_of(&INCLUDE_PCH)?);
-    assert!(rt; finds(&rising, "-include", "-include"));
-    assert!(rt; finds(&rising, "-include-pch", "-include-pch"));
-    let falling = (table_of(&INCLUDE_PCH)?, table_of(&INCLUDE)?);
-    assert!(rt; finds(&falling, "-include", "-include"));
-    assert!(rt; finds(&falling, "-include-pch", "-include-pch"));
+    assert!(rt; finds_both(&pair_of(&INCLUDE, &INCLUDE_PCH)?));
+    assert!(rt; finds_both(&pair_of(&INCLUDE_PCH, &INCLUDE)?));
     Ok(())
 }
 
-fn kind_found<S: SearchableArgInfo<Value>>(table: &S, key: &str) -> Option<Kind> {
-    match table.search(key.as_bytes()) {
-        Some(row) => Some(row.kind()),
-        None => None,
-    }
+/// Whether the second of two rows of one flag is found, by as many looks through a reference.
+fn finds_the_second<S: SearchableArgInfo<Value>>(tied: &S) -> bool {
+    finds_kind(tied, "-include", Kind::Alone)
+        && looks(&tied, b"-include") == looks(tied, b"-include")
 }
 
 #[test]
 fn of_one_length_the_second_table_wins(rt: HostRuntime) -> Result<(), Fail> {
-    let tied = (table_of(&INCLUDE)?, table_of(&OTHER_INCLUDE)?);
-    assert_eq!(rt; kind_found(&tied, "-include"), Some(Kind::Alone));
-    assert_eq!(rt; looks(&&tied, b"-include"), looks(&tied, b"-include"));
+    assert!(rt; finds_the_second(&pair_of(&INCLUDE, &OTHER_INCLUDE)?));
+    let first = tree_of(rt.alloc(), &INCLUDE)?;
+    let second = tree_of(rt.alloc(), &OTHER_INCLUDE)?;
+    assert!(rt; finds_the_second(&(first, second)));
     Ok(())
 }
 
 #[test]
-fn without_members_there_is_no_look(rt: HostRuntime) {
-    let tables = Tables::new(Vec::<FlagTable<Value>>::new(rt.alloc()));
-    assert!(rt; tables.search(b"-include").is_none());
-    assert_eq!(rt; looks(&tables, b"-include"), 0);
-}
-
-#[test]
 fn of_one_length_the_last_member_wins(rt: HostRuntime) -> Result<(), Fail> {
-    let (first, pch, last) = (
-        table_of(&INCLUDE)?,
-        table_of(&INCLUDE_PCH)?,
-        table_of(&OTHER_INCLUDE)?,
-    );
-    let tables = Tables::new(vec![in rt.alloc(); first, pch, last]?);
-    assert_eq!(rt; kind_found(&tables, "-include"), Some(Kind::Alone));
+    let (first, pch) = pair_of(&INCLUDE, &INCLUDE_PCH)?;
+    let tables = Tables::new(vec![in rt.alloc(); first, pch, table_of(&OTHER_INCLUDE)?]?);
+    assert!(rt; finds_kind(&tables, "-include", Kind::Alone));
     assert!(rt; finds(&tables, "-include-pch", "-include-pch"));
     assert!(rt; tables.search(b"-inc").is_none());
     Ok(())
@@ -117,33 +170,34 @@ fn of_one_length_the_last_member_wins(rt: HostRuntime) -> Result<(), Fail> {
 
 #[test]
 fn pairs_are_members(rt: HostRuntime) -> Result<(), Fail> {
-    let first = (table_of(&INCLUDE_PCH)?, table_of(&OTHER_INCLUDE)?);
-    let last = (table_of(&INCLUDE)?, table_of(&INCLUDE_PCH)?);
+    let first = pair_of(&INCLUDE_PCH, &OTHER_INCLUDE)?;
+    let last = pair_of(&INCLUDE, &INCLUDE_PCH)?;
     let tables = Tables::new(vec![in rt.alloc(); first, last]?);
-    assert_eq!(rt; kind_found(&tables, "-include"), Some(Kind::Valued));
+    assert!(rt; finds_kind(&tables, "-include", Kind::Valued));
     Ok(())
 }
 
 #[test]
 fn a_delimiter_stands_behind_the_flag(rt: HostRuntime) {
     let row = TakeArg("-foo", Kind::Valued, CanBeSeparated(Some(b'=')));
-    assert!(rt; row.fits(b"-foo"));
-    assert!(rt; row.fits(b"-foo="));
-    assert!(rt; row.fits(b"-foo=bar"));
-    assert!(rt; !row.fits(b"-foobar"));
-    assert!(rt; !row.fits(b"-fo"));
+    for key in ["-foo", "-foo=", "-foo=bar"] {
+        assert!(rt; row.fits(key.as_bytes()));
+    }
+    assert!(rt; !row.fits(b"-foobar") && !row.fits(b"-fo"));
 }
 
-fn make_a_table(rows: &[ArgRow<Kind>]) -> bool {
-    FlagTable::<Value>::new(rows).is_some()
+fn make_a_table<T: ArgumentValue>(rows: &[ArgRow<T::Kind>]) -> bool {
+    FlagTable::<T>::new(rows).is_some()
 }
 
 #[test]
 fn rows_in_disorder_make_no_table(rt: HostRuntime) {
+    assert!(rt; make_a_table::<gcc::ArgData>(&gcc::ARGS));
+    assert!(rt; make_a_table::<clang::ArgData>(&clang::ARGS));
     let twice = [Flag("-bar", Kind::Alone), Flag("-bar", Kind::Alone)];
     let falling = [Flag("-plop", Kind::Alone), Flag("-bar", Kind::Alone)];
     let delimiter = [TakeArg("-foo", Kind::Valued, Concatenated(Some(128)))];
-    assert!(rt; !make_a_table(&twice));
-    assert!(rt; !make_a_table(&falling));
-    assert!(rt; !make_a_table(&delimiter));
+    assert!(rt; !make_a_table::<Value>(&twice));
+    assert!(rt; !make_a_table::<Value>(&falling));
+    assert!(rt; !make_a_table::<Value>(&delimiter));
 }

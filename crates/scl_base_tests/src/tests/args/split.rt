@@ -1,33 +1,34 @@
+//! A word that is cut at the first place of a text.
 use scl_args::{ArgParseError, split_os_string_arg};
+use std::process::Abort;
 use std::test::Fail;
 
-#[test]
-fn the_first_place_splits(rt: HostRuntime) -> Result<(), Fail> {
-    let word = Vec::from_slice(rt.alloc(), b"a=b=c")?;
-    let (before, after) = split_os_string_arg(rt.alloc(), word, "=")?;
-    assert_eq!(rt; before.as_str(), "a");
-    assert_eq!(rt; after.as_ref().map(|text| text.as_str()), Some("b=c"));
-    Ok(())
-}
-
-#[test]
-fn a_word_without_the_text_stays_whole(rt: HostRuntime) -> Result<(), Fail> {
-    let word = Vec::from_slice(rt.alloc(), b"abc")?;
-    let (before, after) = split_os_string_arg(rt.alloc(), word, "=")?;
-    assert_eq!(rt; before.as_str(), "abc");
-    assert!(rt; after.is_none());
-    Ok(())
-}
-
-#[test]
-fn a_word_that_is_no_text_is_refused(rt: HostRuntime) -> Result<(), Fail> {
-    let word = Vec::from_slice(rt.alloc(), b"\xff")?;
-    match split_os_string_arg(rt.alloc(), word, "=") {
-        Err(ArgParseError::InvalidUnicode(bytes)) => assert_eq!(rt;
-            bytes.as_slice(),
-            b"\xff".as_slice()
-        ),
-        _ => panic!(&rt; "another answer"),
+/// Compares the texts before and behind the first `=`; a word that is wanted to have none is refused.
+fn expect_split(
+    rt: &(impl Abort + AllocGlobal),
+    word: &[u8],
+    wanted: Option<(&str, Option<&str>)>,
+) -> Result<(), Fail> {
+    match split_os_string_arg(rt.alloc(), Vec::from_slice(rt.alloc(), word)?, "=") {
+        Ok((before, after)) => {
+            let after = match &after {
+                Some(text) => Some(text.as_str()),
+                None => None,
+            };
+            assert!(rt; Some((before.as_str(), after)) == wanted);
+        }
+        Err(ArgParseError::InvalidUnicode(bytes)) => {
+            assert!(rt; bytes.as_slice() == word);
+            assert!(rt; wanted.is_none());
+        }
+        Err(_) => panic!(rt; "another answer"),
     }
     Ok(())
+}
+
+#[test]
+fn a_text_is_split_at_the_first_place_if_there_is_one(rt: HostRuntime) -> Result<(), Fail> {
+    expect_split(&rt, b"a=b=c", Some(("a", Some("b=c"))))?;
+    expect_split(&rt, b"abc", Some(("abc", None)))?;
+    expect_split(&rt, b"\xff", None)
 }

@@ -1,13 +1,15 @@
-ghost use Rattle.std.specs.Prelude.{◌≡◌, true, IfOk};
+//! What options print as texts.
+ghost use Rattle.std.specs.Prelude.{◌≡◌, true};
 ghost use Rattle.scl_values.specs.Row.{shape_of};
 ghost use Rattle.scl_values.specs.Tables.{has_ascii_delimiter};
 ghost use Rattle.scl_values.specs.Texts.{is_delimited_by_ascii};
 
 use super::cutting::SHAPES;
-use super::values::{table_of, words_of};
+use super::values::table_of;
+use crate::tests::{makes, says, words_of};
 use scl_args::{
-    ArgDisposition, ArgParseResult, ArgToStringError, ArgToStringResult, Argument, ArgumentValue,
-    FromArg, IntoArg, Mem, PathArg, SearchableArgInfo, cut_words,
+    ArgDisposition, ArgParseResult, ArgToStringResult, Argument, ArgumentValue, FromArg, IntoArg,
+    Mem, PathArg, SearchableArgInfo, cut_words,
 };
 use std::alloc::Global;
 use std::cell::Cell;
@@ -84,19 +86,22 @@ impl Renamer {
 }
 
 fn push_line(alloc: Global, lines: &mut String, text: ArgToStringResult) -> Mem<()> {
-    match text {
-        Ok(text) => lines.push_str(text.as_str())?,
-        Err(error) => lines.push_str(format!(in alloc; "{error}")?.as_str())?,
-    }
+    let line = match text {
+        Ok(text) => text,
+        Err(error) => format!(in alloc; "{error}")?,
+    };
+    lines.push_str(line.as_str())?;
     lines.push('\n')
 }
 
-// What the option prints, an item a line, where each path prints as the answer; and how many paths that were.
-fn texts(
+// Compares what the option prints, an item a line, where each path prints as the answer; and how many paths that were.
+fn expect_texts(
     rt: &(impl Abort + AllocGlobal),
     option: &Argument<Value>,
     answer: Option<&str>,
-) -> Result<(String, u32), Fail>
+    wanted: &str,
+    paths: u32,
+) -> Result<(), Fail>
     requires { is_delimited_by_ascii option.now ≡ true }
 {
     let alloc = rt.alloc();
@@ -113,140 +118,94 @@ fn texts(
     for text in option.iter_strings(alloc, move |_path: &[u8]| asked.text(alloc)) {
         push_line(alloc, &mut lines, text)?;
     }
-    Ok((lines, renamer.calls.get()))
-}
-
-// Compares what `texts` gives.
-fn expect_texts(
-    rt: &(impl Abort + AllocGlobal),
-    option: &Argument<Value>,
-    answer: Option<&str>,
-    wanted: &str,
-    paths: u32,
-) -> Result<(), Fail>
-    requires { is_delimited_by_ascii option.now ≡ true }
-{
-    let (lines, calls) = texts(rt, option, answer)?;
-    assert_eq!(rt; lines.as_str(), wanted);
-    assert_eq!(rt; calls, paths);
+    assert!(rt; lines.as_str() == wanted, "{lines}");
+    assert!(rt; renamer.calls.get() == paths);
     Ok(())
 }
 
-fn with_path(
-    alloc: Global,
+// Compares what an option with a path prints.
+fn expect_path(
+    rt: &(impl Abort + AllocGlobal),
     flag: &'static str,
     path: &[u8],
     disposition: ArgDisposition,
-) -> Mem<Argument<Value>>
-    ensures { IfOk result (λ option. is_delimited_by_ascii option ≡ has_ascii_delimiter (shape_of disposition)) }
+    answer: Option<&str>,
+    wanted: &str,
+) -> Result<(), Fail>
+    requires { has_ascii_delimiter (shape_of disposition) ≡ true }
 {
-    let path = PathArg(Vec::from_slice(alloc, path)?);
-    Ok(Argument::WithValue(flag, Value::Path(path), disposition))
+    let path = PathArg(Vec::from_slice(rt.alloc(), path)?);
+    let option = Argument::WithValue(flag, Value::Path(path), disposition);
+    expect_texts(rt, &option, answer, wanted, 1)
 }
 
 #[test]
-fn a_joined_path_is_asked_for_once(rt: HostRuntime) -> Result<(), Fail> {
-    let option = with_path(
-        rt.alloc(),
-        "-foo",
-        b"p",
-        ArgDisposition::Concatenated(Some(b'=')),
-    )?;
-    expect_texts(&rt, &option, Some("q"), "-foo=q\n", 1)
-}
-
-#[test]
-fn a_path_apart_is_asked_for_once(rt: HostRuntime) -> Result<(), Fail> {
-    let option = with_path(rt.alloc(), "-foo", b"p", ArgDisposition::Separated)?;
-    expect_texts(&rt, &option, Some("q"), "-foo\nq\n", 1)
-}
-
-#[test]
-fn an_empty_answer_drops_the_delimiter(rt: HostRuntime) -> Result<(), Fail> {
-    let option = with_path(
-        rt.alloc(),
-        "-foo",
-        b"p",
-        ArgDisposition::Concatenated(Some(b'=')),
-    )?;
-    expect_texts(&rt, &option, Some(""), "-foo\n", 1)
-}
-
-#[test]
-fn a_path_without_a_text_ends_the_texts(rt: HostRuntime) -> Result<(), Fail> {
-    let option = with_path(rt.alloc(), "-I", b"a", ArgDisposition::Concatenated(None))?;
+fn a_path_is_asked_for_once(rt: HostRuntime) -> Result<(), Fail> {
+    let joined = ArgDisposition::Concatenated(Some(b'='));
+    expect_path(&rt, "-foo", b"p", joined, Some("q"), "-foo=q\n")?;
+    expect_path(&rt, "-foo", b"p", joined, Some(""), "-foo\n")?;
+    let apart = ArgDisposition::Separated;
+    expect_path(&rt, "-foo", b"p", apart, Some("q"), "-foo\nq\n")?;
     let lines = "Path \"a\" could not be transformed\n";
-    expect_texts(&rt, &option, None, lines, 1)
+    expect_path(
+        &rt,
+        "-I",
+        b"a",
+        ArgDisposition::Concatenated(None),
+        None,
+        lines,
+    )
 }
 
 #[test]
-fn a_raw_word_that_is_no_text_ends_the_texts(rt: HostRuntime) -> Result<(), Fail> {
-    let option = Argument::Raw(Vec::from_slice(rt.alloc(), b"\xff")?);
+fn words_and_flags_are_printed_without_a_path(rt: HostRuntime) -> Result<(), Fail> {
+    let word = Argument::Raw(Vec::from_slice(rt.alloc(), b"\xff")?);
     let lines = "String \"\\xff\" contained invalid unicode\n";
-    expect_texts(&rt, &option, Some("q"), lines, 0)
-}
-
-#[test]
-fn a_flag_alone_is_printed(rt: HostRuntime) -> Result<(), Fail> {
-    let option = Argument::Flag("-c", Value::make(rt.alloc(), false, Vec::new(rt.alloc()))?);
-    expect_texts(&rt, &option, None, "-c\n", 0)
+    expect_texts(&rt, &word, Some("q"), lines, 0)?;
+    let flag = Argument::Flag("-c", Value::make(rt.alloc(), false, Vec::new(rt.alloc()))?);
+    expect_texts(&rt, &flag, None, "-c\n", 0)
 }
 
 #[test]
 fn texts_are_made_and_printed(rt: HostRuntime) -> Result<(), Fail> {
     let text = String::process(rt.alloc(), Vec::from_slice(rt.alloc(), b"a")?)?;
-    assert_eq!(rt; text.as_str(), "a");
-    let word = text.into_arg_os_string(rt.alloc())?;
-    assert_eq!(rt; word.as_slice(), b"a".as_slice());
+    assert!(rt; text.as_str() == "a");
+    assert!(rt; makes(&text.into_arg_os_string(rt.alloc()), b"a"));
     let mut none = |_path: &[u8]| None;
-    assert_eq!(rt; text.into_arg_string(rt.alloc(), &mut none)?.as_str(), "a");
+    assert!(rt; says(&text.into_arg_string(rt.alloc(), &mut none), "a"));
+    assert!(rt; says(&().into_arg_string(rt.alloc(), &mut none), ""));
+    assert!(rt; makes(&().into_arg_os_string(rt.alloc()), b""));
     Ok(())
 }
 
-#[test]
-fn nothing_is_printed_of_no_value(rt: HostRuntime) -> Result<(), Fail> {
-    let mut none = |_path: &[u8]| None;
-    assert_eq!(rt; ().into_arg_string(rt.alloc(), &mut none)?.as_str(), "");
-    assert_eq!(rt; ().into_arg_os_string(rt.alloc())?.len(), 0);
-    Ok(())
-}
-
-/// Appends the option's texts; a path has none.
-fn push_texts<T: ArgumentValue>(
-    alloc: Global,
-    texts: &mut Vec<String>,
-    option: &Argument<T>,
-) -> Result<(), ArgToStringError>
+/// Appends the option's texts, an item a line; a path has none.
+fn push_lines<T: ArgumentValue>(alloc: Global, lines: &mut String, option: &Argument<T>) -> Mem<()>
     requires { is_delimited_by_ascii option.now ≡ true }
 {
     for text in option.iter_strings(alloc, |_path: &[u8]| None) {
-        texts.push(text?)?;
+        push_line(alloc, lines, text)?;
     }
     Ok(())
 }
 
 /// The texts of the options that words are cut into, by any tables whatever.
-fn texts_of<T: ArgumentValue, S: SearchableArgInfo<T> + Drop>(
+fn lines_of<T: ArgumentValue, S: SearchableArgInfo<T> + Drop>(
     alloc: Global,
     words: Vec<Vec<u8>>,
     tables: S,
-) -> Result<Vec<String>, ArgToStringError> {
+) -> Mem<String> {
     let (options, _end) = cut_words(alloc, words, tables, false)?;
-    let mut texts = Vec::new(alloc);
+    let mut lines = String::new(alloc);
     for option in options.iter() {
-        push_texts(alloc, &mut texts, option)?;
+        push_lines(alloc, &mut lines, option)?;
     }
-    Ok(texts)
+    Ok(lines)
 }
 
 #[test]
 fn options_that_were_cut_print_as_texts(rt: HostRuntime) -> Result<(), Fail> {
-    let words = words_of(rt.alloc(), &["-qux=", "-hogea", "-foo", "b", "c"])?;
-    let texts = texts_of(rt.alloc(), words, table_of(&SHAPES)?)?;
-    let wanted = ["-qux", "-hogea", "-foo", "b", "c"];
-    assert_eq!(rt; texts.len(), wanted.len());
-    for (text, wanted) in texts.iter().zip(wanted.iter()) {
-        assert_eq!(rt; text.as_str(), *wanted);
-    }
+    let words = words_of(rt.alloc(), "-qux= -hogea -foo b c")?;
+    let lines = lines_of(rt.alloc(), words, table_of(&SHAPES)?)?;
+    assert!(rt; lines.as_str() == "-qux\n-hogea\n-foo\nb\nc\n");
     Ok(())
 }

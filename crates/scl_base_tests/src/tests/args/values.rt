@@ -9,14 +9,14 @@ use std::alloc::Global;
 use std::test::Fail;
 
 /// Whether a flag takes a value.
-#[derive(Clone, Copy, Debug, PartialEq, Eq)]
+#[derive(Clone, Copy, PartialEq, Eq)]
 pub(super) enum Kind {
     Alone,
     Valued,
 }
 
 /// The word that it was made of, with its kind.
-#[derive(Debug, PartialEq, Eq, Drop)]
+#[derive(Drop)]
 pub(super) struct Value {
     pub(super) kind: Kind,
     pub(super) word: Vec<u8>,
@@ -75,7 +75,7 @@ impl ReadArg for Value {
 }
 
 /// An option as a test writes it.
-#[derive(Clone, Copy, Debug, PartialEq, Eq)]
+#[derive(Clone, Copy, PartialEq, Eq)]
 pub(super) enum Told<'a> {
     Raw(&'a [u8]),
     Unknown(&'a [u8]),
@@ -101,21 +101,8 @@ pub(super) fn are_told(options: &[Argument<Value>], told: &[Told<'_>]) -> bool {
             .all(|(option, told)| as_told(option) == *told)
 }
 
-pub(super) fn words_of(alloc: Global, texts: &[&str]) -> Mem<Vec<Vec<u8>>> {
-    let mut words = Vec::new(alloc);
-    for text in texts {
-        words.push(Vec::from_slice(alloc, text.as_bytes())?)?;
-    }
-    Ok(words)
-}
-
 pub(super) fn table_of(rows: &'static [ArgRow<Kind>]) -> Result<FlagTable<'static, Value>, Fail> {
     Ok(FlagTable::new(rows).ok_or("the rows make no table")?)
-}
-
-/// An option `-foo` with the value `bar`.
-pub(super) fn foo_bar(alloc: Global, how: ArgDisposition) -> Mem<Argument<Value>> {
-    valued(alloc, "-foo", b"bar", how)
 }
 
 /// An option with a value.

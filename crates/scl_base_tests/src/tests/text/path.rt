@@ -1,8 +1,9 @@
+//! Paths that are joined, changed and compared.
+use crate::tests::makes;
 use scl_text::path::{extension, file_name, join, same_path, with_extension, with_file_name};
-use std::test::Fail;
 
 #[test]
-fn joins_paths(rt: HostRuntime) -> Result<(), Fail> {
+fn joins_paths(rt: HostRuntime) {
     for (directory, path, joined) in [
         ("/w", "", "/w/"),
         ("", "a", "a"),
@@ -11,18 +12,13 @@ fn joins_paths(rt: HostRuntime) -> Result<(), Fail> {
         ("/w/", "a", "/w/a"),
         ("", "", ""),
     ] {
-        let found = join(rt.alloc(), directory.as_bytes(), path.as_bytes())?;
-        assert_eq!(rt;
-            found.as_slice(),
-            joined.as_bytes(),
-            "{directory} and {path}"
-        );
+        let found = join(rt.alloc(), directory.as_bytes(), path.as_bytes());
+        assert!(rt; makes(&found, joined.as_bytes()), "{joined}");
     }
-    Ok(())
 }
 
 #[test]
-fn changes_extensions(rt: HostRuntime) -> Result<(), Fail> {
+fn changes_extensions_and_file_names(rt: HostRuntime) {
     for (path, changed) in [
         ("a/b.c/", "a/b.o"),
         (".c", ".c.o"),
@@ -31,24 +27,18 @@ fn changes_extensions(rt: HostRuntime) -> Result<(), Fail> {
         ("", ""),
         ("/", "/"),
     ] {
-        let found = with_extension(rt.alloc(), path.as_bytes(), b"o")?;
-        assert_eq!(rt; found.as_slice(), changed.as_bytes(), "at {path}");
+        let found = with_extension(rt.alloc(), path.as_bytes(), b"o");
+        assert!(rt; makes(&found, changed.as_bytes()), "{changed}");
     }
-    Ok(())
-}
-
-#[test]
-fn changes_file_names(rt: HostRuntime) -> Result<(), Fail> {
     for (path, changed) in [
         ("/a", "/x"),
         ("..", "../x"),
         ("a//./b", "a/x"),
         ("./a", "./x"),
     ] {
-        let found = with_file_name(rt.alloc(), path.as_bytes(), b"x")?;
-        assert_eq!(rt; found.as_slice(), changed.as_bytes(), "at {path}");
+        let found = with_file_name(rt.alloc(), path.as_bytes(), b"x");
+        assert!(rt; makes(&found, changed.as_bytes()), "{changed}");
     }
-    Ok(())
 }
 
 #[test]
@@ -61,8 +51,8 @@ fn finds_file_names_and_extensions(rt: HostRuntime) {
         (b"out.", Some(b"out."), Some(b"")),
     ];
     for (path, name, ending) in rows {
-        assert_eq!(rt; file_name(path), name);
-        assert_eq!(rt; extension(path), ending);
+        assert!(rt; file_name(path) == name, "{path:?}");
+        assert!(rt; extension(path) == ending, "{path:?}");
     }
 }
 
@@ -75,6 +65,6 @@ fn compares_components(rt: HostRuntime) {
         ("/./a", "/a", true),
         ("/a", "a", false),
     ] {
-        assert_eq!(rt; same_path(a.as_bytes(), b.as_bytes()), same, "{a} and {b}");
+        assert!(rt; same_path(a.as_bytes(), b.as_bytes()) == same, "{a}");
     }
 }

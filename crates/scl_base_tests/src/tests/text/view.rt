@@ -1,20 +1,14 @@
-use super::bytes_of;
+//! Views of files, directories and other paths.
+use super::expand::view_of;
 use scl_text::{Mem, View};
 use std::alloc::Global;
 use std::test::Fail;
 
-fn add_file(alloc: Global, view: &mut View, path: &[u8], bytes: &[u8]) -> Mem<()> {
-    let path = bytes_of(alloc, path)?;
-    view.add_file(path, bytes_of(alloc, bytes)?)
-}
-
 /// A file that was replaced, a directory, and another path.
 fn view_of_each(alloc: Global) -> Mem<View> {
-    let mut view = View::new(alloc);
-    add_file(alloc, &mut view, b"/w/a.c", b"old")?;
-    add_file(alloc, &mut view, b"/w//./a.c", b"new")?;
-    view.add_dir(bytes_of(alloc, b"src/")?)?;
-    view.add_existing(bytes_of(alloc, b"x.pdb")?)?;
+    let mut view = view_of(alloc, b"/w/a.c:old\n/w//./a.c:new")?;
+    view.add_dir(Vec::from_slice(alloc, b"src/")?)?;
+    view.add_existing(Vec::from_slice(alloc, b"x.pdb")?)?;
     Ok(view)
 }
 
@@ -29,17 +23,11 @@ fn a_view_answers_by_the_components_of_a_path(rt: HostRuntime) -> Result<(), Fai
         ("x.pdb", false, true),
         ("./x.pdb", false, false),
     ] {
-        assert_eq!(rt; view.is_dir(path.as_bytes()), is_dir, "{path}");
-        assert_eq!(rt; view.exists(path.as_bytes()), exists, "{path}");
+        assert!(rt; view.is_dir(path.as_bytes()) == is_dir, "{path}");
+        assert!(rt; view.exists(path.as_bytes()) == exists, "{path}");
     }
-    Ok(())
-}
-
-#[test]
-fn a_file_takes_the_place_of_one_at_its_path(rt: HostRuntime) -> Result<(), Fail> {
-    let view = view_of_each(rt.alloc())?;
-    assert_eq!(rt; view.file(b"/w/a.c/"), Some(b"new".as_slice()));
-    assert_eq!(rt; view.file(b"w/a.c"), None);
+    assert!(rt; view.file(b"/w/a.c/") == Some(b"new".as_slice()));
+    assert!(rt; view.file(b"w/a.c").is_none());
     Ok(())
 }
 

@@ -22,29 +22,29 @@ fn a_reader_that_fails_at_any_read_leaves_nothing_written(rt: HostRuntime) {
     // the bytes take eleven reads, and the end one more
     for calls in 0..12 {
         let (outcome, failures, written) = run_reading(rt.alloc(), REQUEST, calls);
-        assert_eq!(rt; outcome, Outcome::ReadFailed, "after {calls}");
-        assert_eq!(rt; failures, 1);
+        assert!(rt; outcome == Outcome::ReadFailed, "after {calls}");
+        assert!(rt; failures == 1);
         assert!(rt; written.is_empty());
     }
     let (outcome, failures, written) = run_reading(rt.alloc(), REQUEST, 12);
-    assert_eq!(rt; outcome, Outcome::Answered);
-    assert_eq!(rt; failures, 0);
-    assert_eq!(rt; written.as_slice(), ANSWER);
+    assert!(rt; outcome == Outcome::Answered);
+    assert!(rt; failures == 0);
+    assert!(rt; written.as_slice() == ANSWER);
 }
 
 #[test]
 fn a_bad_line_is_not_told_before_all_was_read(rt: HostRuntime) {
     let (outcome, failures, _written) = run_reading(rt.alloc(), b" \ncompiler diab\n", 2);
-    assert_eq!(rt; outcome, Outcome::ReadFailed);
-    assert_eq!(rt; failures, 1);
+    assert!(rt; outcome == Outcome::ReadFailed);
+    assert!(rt; failures == 1);
 }
 
 #[test]
 fn bytes_in_small_pieces_are_one_request(rt: HostRuntime) {
     let request = b"compiler diab\nword a b\n";
     let (outcome, failures, _written) = run_reading(rt.alloc(), request, 100);
-    assert_eq!(rt; outcome, Outcome::BadLine(2));
-    assert_eq!(rt; failures, 0);
+    assert!(rt; outcome == Outcome::BadLine(2));
+    assert!(rt; failures == 0);
 }
 
 /// A run over a writer that takes so many bytes a call into so much room, and fails after so many calls.
@@ -62,17 +62,17 @@ fn expect_beginning(
     drop(writer);
     let (want, _) = ANSWER.split_at(all.min(ANSWER.len()));
     let fails = want.len() < ANSWER.len();
-    assert_eq!(rt; outcome == Outcome::WriteFailed, fails, "after {calls}");
-    assert_eq!(rt; outcome == Outcome::Answered, !fails);
-    assert_eq!(rt; failures, u64::from(fails));
-    assert_eq!(rt; device.taken(), want);
+    assert!(rt; (outcome == Outcome::WriteFailed) == fails, "after {calls}");
+    assert!(rt; (outcome == Outcome::Answered) == !fails);
+    assert!(rt; failures == u64::from(fails));
+    assert!(rt; device.taken() == want);
 }
 
 #[test]
 fn a_writer_that_fails_at_any_write_has_taken_a_beginning(rt: HostRuntime) {
     let (outcome, whole) = run_over(rt.alloc(), REQUEST);
-    assert_eq!(rt; outcome, Outcome::Answered);
-    assert_eq!(rt; whole.as_slice(), ANSWER);
+    assert!(rt; outcome == Outcome::Answered);
+    assert!(rt; whole.as_slice() == ANSWER);
     for calls in 0..18 {
         expect_beginning(&rt, &mut [0; 64], 3, calls);
     }

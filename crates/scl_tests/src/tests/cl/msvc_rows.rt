@@ -227,7 +227,7 @@ fn clang_cl_answers_its_rows(rt: HostRuntime) -> Result<(), Fail> {
 fn debug_information_of_a_file_that_is_there_is_not_kept(rt: HostRuntime) {
     let request = b"compiler cl\nexists p.pdb\nword -c\nword a.c\nword -Zi\nword -Fdp\n";
     let (outcome, written) = run_over(rt.alloc(), request);
-    assert_eq!(rt; outcome, Outcome::Answered);
+    assert!(rt; outcome == Outcome::Answered);
     let want = b"ok\narg -c\narg -Foa.obj\narg -Zi\narg -Fdp\narg a.c\ncacheable no\n";
-    assert_eq!(rt; written.as_slice(), want.as_slice());
+    assert!(rt; written.as_slice() == want.as_slice());
 }

@@ -195,10 +195,10 @@ fn expect_row(rt: &(impl Abort + Alloc<A = Global>), row: Row) -> Result<(), Fai
     let (compiler, lines, words, options) = row;
     let request = request_of(rt.alloc(), compiler, lines, words)?;
     let (outcome, written) = run_over(rt.alloc(), request.as_bytes());
-    assert_eq!(rt; outcome, Outcome::Answered, "of {request:?}");
+    assert!(rt; outcome == Outcome::Answered, "of {request:?}");
     let command = command_of(rt.alloc(), &written)?;
     let cut = cut_again(rt.alloc(), compiler, command)?;
-    assert_eq!(rt; cut.as_slice(), options.as_bytes(), "of {request:?}");
+    assert!(rt; cut.as_slice() == options.as_bytes(), "of {request:?}");
     Ok(())
 }
 
@@ -230,6 +230,6 @@ fn words_that_a_command_hands_on_are_cut_again(rt: HostRuntime) -> Result<(), Fa
         }
     }
     let options = options_of(rt.alloc(), inner, clang::BothTables::new(), false)?;
-    assert_eq!(rt; options.as_slice(), b"-include pch.h".as_slice());
+    assert!(rt; options.as_slice() == b"-include pch.h".as_slice());
     Ok(())
 }

@@ -5,15 +5,22 @@ use std::alloc::Global;
 use std::process::Abort;
 use std::test::Fail;
 
+/// Adds the file of the number, which names the next one twice.
+fn add_doubling(alloc: Global, view: &mut View, number: u32) -> Mem<()> {
+    let path = format!(in alloc; "f{number}")?.into_bytes();
+    let next = u64::from(number) + 1;
+    view.add_file(path, format!(in alloc; "@f{next} @f{next}")?.into_bytes())
+}
+
 /// Files, each of which names the next twice, and the last of which has one word.
-fn doubling_files(alloc: Global, view: &mut View, files: u32) -> Result<(), Fail> {
+fn doubling_files(alloc: Global, files: u32) -> Mem<View> {
+    let mut view = View::new(alloc);
     for number in 0..files {
-        let path = format!(in alloc; "f{number}")?.into_bytes();
-        let next = u64::from(number) + 1;
-        view.add_file(path, format!(in alloc; "@f{next} @f{next}")?.into_bytes())?;
+        add_doubling(alloc, &mut view, number)?;
     }
     let path = format!(in alloc; "f{files}")?.into_bytes();
-    Ok(view.add_file(path, Vec::from_slice(alloc, b"-DA")?)?)
+    view.add_file(path, Vec::from_slice(alloc, b"-DA")?)?;
+    Ok(view)
 }
 
 fn answer_within(
@@ -47,8 +54,7 @@ fn expect_words(
 
 #[test]
 fn words_are_counted_with_files_in_place(rt: HostRuntime) -> Result<(), Fail> {
-    let mut view = View::new(rt.alloc());
-    doubling_files(rt.alloc(), &mut view, 10)?;
+    let view = doubling_files(rt.alloc(), 10)?;
     expect_words(&rt, Compiler::Gcc, b"-c a.c @f0", &view, 1026)?;
     expect_words(&rt, Compiler::Clang, b"-c a.c @f0", &view, 1026)?;
     expect_words(&rt, Compiler::Tasking, b"-c a.c", &view, 2)?;
@@ -58,15 +64,13 @@ fn words_are_counted_with_files_in_place(rt: HostRuntime) -> Result<(), Fail> {
 
 #[test]
 fn inner_words_are_counted(rt: HostRuntime) -> Result<(), Fail> {
-    let mut view = View::new(rt.alloc());
-    doubling_files(rt.alloc(), &mut view, 10)?;
+    let view = doubling_files(rt.alloc(), 10)?;
     expect_words(&rt, Compiler::ClangCl, b"/c a.c -clang:@f0", &view, 1024)
 }
 
 #[test]
 fn an_expansion_past_its_bound_ends_at_once(rt: HostRuntime) -> Result<(), Fail> {
-    let mut view = View::new(rt.alloc());
-    doubling_files(rt.alloc(), &mut view, 200)?;
+    let view = doubling_files(rt.alloc(), 200)?;
     let few = answer_within(rt.alloc(), Compiler::Gcc, b"-c a.c @f0", &view, 1000)?;
     assert!(rt; matches!(&few, Err(TooManyWords)));
     Ok(())
