@@ -8,7 +8,7 @@ use std::test::Fail;
 /// Words, and the reason for which they are refused, with the text beside it in parentheses.
 type Row = (Compiler, &'static [u8], &'static str);
 
-static REFUSALS: [Row; 36] = [
+static REFUSALS: [Row; 49] = [
     (
         Compiler::Gcc,
         b"-c a.c b.c c\xff\\.c",
@@ -25,6 +25,13 @@ static REFUSALS: [Row; 36] = [
     (Compiler::Gcc, b"-c a.c -I @b", "@"),
     (Compiler::Gcc, b"-c a.c -I", "empty value"),
     (Compiler::Gcc, b"-c a.xyz", "unknown source language"),
+    (Compiler::Gcc, b"-c -x c ..", "invalid input file"),
+    (
+        Compiler::Gcc,
+        b"-c a.c -arch i386 -arch x86_64",
+        "multiple different -arch, and SCCACHE_CACHE_MULTIARCH not set",
+    ),
+    (Compiler::Clang, b"-c a.c -E", "-E"),
     (
         Compiler::Clang,
         b"-c a.c -Xclang broken",
@@ -82,6 +89,22 @@ static REFUSALS: [Row; 36] = [
     ),
     (Compiler::Cl, b"/c x.c /Fonul", "output to nul"),
     (Compiler::Cl, b"-c a.c -Zi", "shared pdb"),
+    (Compiler::Cl, b"/c", "no input file"),
+    (Compiler::Cl, b"/c x.xyz", "unknown source language"),
+    (Compiler::Cl, b"/c /Foout/ /Tc..", "invalid input file"),
+    (Compiler::Cl, b"/c x.c @f", "@"),
+    (Compiler::Cl, b"/c x.c /Fx", "/Fx"),
+    (Compiler::Cl, b"/c x.c /I", "empty value"),
+    (
+        Compiler::ClangCl,
+        b"-c a.cppm -x c++-module",
+        "-x c++-module without -fmodule-output= or vice versa",
+    ),
+    (
+        Compiler::ClangCl,
+        b"-c /Tpa.cppm -x c++-module -fmodule-output=a.pcm",
+        "-x c++-module with /Tc or /Tp",
+    ),
     (Compiler::Diab, b"-@@foo", "-@"),
     (Compiler::Diab, b"-c a.xyz", "unknown source language"),
     (Compiler::Diab, b"-c ..", "unknown source language"),
@@ -89,6 +112,7 @@ static REFUSALS: [Row; 36] = [
     (Compiler::Diab, b"-c", "no input file"),
     (Compiler::Diab, b"-c a.c b.c", "multiple input files"),
     (Compiler::Diab, b"-c a.c -L @x", "@"),
+    (Compiler::Diab, b"-c a.c -I", "empty value"),
     (Compiler::Diab, b"-## -c foo.c", "-##"),
     (
         Compiler::Diab,
@@ -100,6 +124,7 @@ static REFUSALS: [Row; 36] = [
     (Compiler::Tasking, b"-n -c foo.c", "-n"),
     (Compiler::Tasking, b"-c a.xyz", "unknown source language"),
     (Compiler::Tasking, b"-c", "no input file"),
+    (Compiler::Tasking, b"-c a.c -L", "empty value"),
     (
         Compiler::Tasking,
         b"-c a.c -o",
@@ -111,15 +136,21 @@ fn answer_to(
     alloc: Global,
     compiler: Compiler,
     words: &[u8],
+    env_vars: &[(Vec<u8>, Vec<u8>)],
 ) -> Mem<CompilerArguments<Compilation>> {
     let words = cut(alloc, words)?;
     let view = View::new(alloc);
-    compiler.answer(alloc, b"cc", &words, b"", &[], &view)
+    compiler.answer(alloc, b"cc", &words, b"", env_vars, &view)
 }
 
 /// The reason for which words are refused, with the text beside it in parentheses.
-fn refusal(alloc: Global, compiler: Compiler, words: &[u8]) -> Result<String, Fail> {
-    match answer_to(alloc, compiler, words)? {
+fn refusal(
+    alloc: Global,
+    compiler: Compiler,
+    words: &[u8],
+    env_vars: &[(Vec<u8>, Vec<u8>)],
+) -> Result<String, Fail> {
+    match answer_to(alloc, compiler, words, env_vars)? {
         CompilerArguments::CannotCache(reason, Some(text)) => {
             Ok(format!(in alloc; "{reason} ({text})")?)
         }
@@ -128,9 +159,13 @@ fn refusal(alloc: Global, compiler: Compiler, words: &[u8]) -> Result<String, Fa
     }
 }
 
-fn expect_refusal(rt: &(impl Abort + Alloc<A = Global>), row: Row) -> Result<(), Fail> {
+fn expect_refusal(
+    rt: &(impl Abort + Alloc<A = Global>),
+    row: Row,
+    env_vars: &[(Vec<u8>, Vec<u8>)],
+) -> Result<(), Fail> {
     let (compiler, words, want) = row;
-    let refused = refusal(rt.alloc(), compiler, words)?;
+    let refused = refusal(rt.alloc(), compiler, words, env_vars)?;
     assert!(rt; refused.as_str() == want, "of {words:?}");
     Ok(())
 }
@@ -138,7 +173,23 @@ fn expect_refusal(rt: &(impl Abort + Alloc<A = Global>), row: Row) -> Result<(),
 #[test]
 fn a_text_stands_beside_a_reason(rt: HostRuntime) -> Result<(), Fail> {
     for row in &REFUSALS {
-        expect_refusal(&rt, *row)?;
+        expect_refusal(&rt, *row, &[])?;
     }
     Ok(())
+}
+
+fn expect_broken(
+    rt: &(impl Abort + Alloc<A = Global>),
+    key: &[u8],
+    want: &'static str,
+) -> Result<(), Fail> {
+    let key = Vec::from_slice(rt.alloc(), key)?;
+    let variable = (key, Vec::from_slice(rt.alloc(), b"\xff")?);
+    expect_refusal(rt, (Compiler::Cl, b"/c x.c", want), &[variable])
+}
+
+#[test]
+fn no_text_stands_beside_a_broken_variable(rt: HostRuntime) -> Result<(), Fail> {
+    expect_broken(&rt, b"CL", "CL environment variable value broken")?;
+    expect_broken(&rt, b"_CL_", "_CL_ environment variable value broken")
 }
