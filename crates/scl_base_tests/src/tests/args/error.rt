@@ -1,32 +1,19 @@
 //! What errors say, and what is printed in quotes.
 use crate::tests::{prints, says, words_of};
 use scl_args::{ArgParseError, ArgToStringError, Mem, quoted, quoted_list};
-use std::alloc::Global;
+use std::alloc::{AllocError, AllocFailed, Global};
 use std::test::Fail;
 
 fn word(alloc: Global) -> Mem<Vec<u8>> {
     Vec::from_slice(alloc, b"!a~ \\\x7f\xff\n")
 }
 
-/// A list of one word, where a refused push is passed up by `?` alone.
-fn list_of(word: Vec<u8>, alloc: Global) -> Result<Vec<Vec<u8>>, ArgParseError> {
-    let mut words = Vec::new(alloc);
-    words.push(word)?;
-    Ok(words)
-}
-
-/// The same, with the other error.
-fn printed_of(word: String, alloc: Global) -> Result<Vec<String>, ArgToStringError> {
-    let mut words = Vec::new(alloc);
-    words.push(word)?;
-    Ok(words)
-}
-
 #[test]
-fn errors_of_pushes_become_errors_of_words_and_texts(rt: HostRuntime) -> Result<(), Fail> {
-    assert!(rt; list_of(word(rt.alloc())?, rt.alloc())?.len() == 1);
-    assert!(rt; printed_of(String::new(rt.alloc()), rt.alloc())?.len() == 1);
-    Ok(())
+fn refusals_of_memory_become_errors_of_words_and_texts(rt: HostRuntime) {
+    assert!(rt; ArgParseError::from(AllocError) == ArgParseError::Memory);
+    assert!(rt; ArgParseError::from(AllocFailed { value: 0u8 }) == ArgParseError::Memory);
+    assert!(rt; ArgToStringError::from(AllocError) == ArgToStringError::Memory);
+    assert!(rt; ArgToStringError::from(AllocFailed { value: 0u8 }) == ArgToStringError::Memory);
 }
 
 #[test]
