@@ -54,7 +54,7 @@ fn outputs_have_their_paths(rt: HostRuntime) -> Result<(), Fail> {
 
 #[test]
 fn fields_say_what_the_options_say(rt: HostRuntime) -> Result<(), Fail> {
-    let text = b"-c a.c -pedantic -std=gnu11 -Wp,-DA -fprofile-arcs -fdiagnostics-color";
+    let text = b"-c a.c -pedantic -std=gnu11 -Wp,-DA -stdlib=x -fprofile-arcs -fdiagnostics-color";
     let record = record_of(rt.alloc(), text)?;
     assert!(rt; record.too_hard_for_preprocessor_cache_mode == Some(bytes_of(&rt, b"-Wp")?));
     assert!(rt; record.color_mode == ColorMode::On);

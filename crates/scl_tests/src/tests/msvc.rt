@@ -17,10 +17,10 @@ fn record_of(alloc: Global, words: &[u8], is_clang: bool) -> Result<ParsedArgume
 #[test]
 fn fields_of_msvc_say_what_the_options_say(rt: HostRuntime) -> Result<(), Fail> {
     let text =
-        b"/c /Tpd/a.cpp /Foo/a /fmodule-file=n=m.pcm -fsanitize-blacklist=b /showIncludes -depsx -depsy -Xclang -fprofile-generate -Xclang -load -Xclang p.so -clang:-fprofile-use=q";
+        b"/c /Tpd/a.cpp /Foo/a -fmodule-file=n=\xff.pcm -fsanitize-blacklist=b /showIncludes -depsx -depsy -Xclang -fprofile-generate -Xclang -load -Xclang p.so -clang:-fprofile-use=q";
     let record = record_of(rt.alloc(), text, true)?;
     let paths = joined(rt.alloc(), &record.extra_hash_files)?;
-    assert!(rt; paths.as_slice() == b"/w/m.pcm /w/b /w/p.so /w/q".as_slice());
+    assert!(rt; paths.as_slice() == b"/w/\xff.pcm /w/b /w/p.so /w/q".as_slice());
     assert!(rt; record.depfile == Some(Vec::from_slice(rt.alloc(), b"y")?));
     assert!(rt; record.msvc_show_includes);
     assert!(rt; record.msvc_explicit_language);

@@ -12,7 +12,7 @@ fn reads(text: &Mem<Option<String>>, wanted: Option<&[u8]>) -> bool {
 
 #[test]
 fn texts_are_read_by_their_marks(rt: HostRuntime) {
-    let rows: [(&[u8], Option<&[u8]>); 10] = [
+    let rows: [(&[u8], Option<&[u8]>); 11] = [
         (b"\xFF\xFE\x61\x00", Some(b"a")),
         (b"\xFE\xFF\x00\x61", Some(b"a")),
         (b"\xFF\xFE", Some(b"")),
@@ -23,6 +23,7 @@ fn texts_are_read_by_their_marks(rt: HostRuntime) {
         (b"\xEF\xBB\xBF\xFF", None),
         (b"\x93\x61\x94", Some(b"\xE2\x80\x9C\x61\xE2\x80\x9D")),
         (b"\x80\x81", Some(b"\xE2\x82\xAC\xC2\x81")),
+        (b"caf\xC3\xA9", Some(b"caf\xC3\x83\xC2\xA9")),
     ];
     for (bytes, wanted) in rows {
         assert!(rt; reads(&read_text(rt.alloc(), bytes), wanted), "{bytes:?}");

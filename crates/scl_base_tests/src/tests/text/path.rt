@@ -23,6 +23,7 @@ fn changes_extensions_and_file_names(rt: HostRuntime) {
         ("a/b.c/", "a/b.o"),
         (".c", ".c.o"),
         ("..", ".."),
+        ("..c", "..o"),
         ("a.tar.gz", "a.tar.o"),
         ("", ""),
         ("/", "/"),
@@ -30,6 +31,7 @@ fn changes_extensions_and_file_names(rt: HostRuntime) {
         let found = with_extension(rt.alloc(), path.as_bytes(), b"o");
         assert!(rt; makes(&found, changed.as_bytes()), "{changed}");
     }
+    assert!(rt; makes(&with_extension(rt.alloc(), b"a.c", b""), b"a."));
     for (path, changed) in [
         ("/a", "/x"),
         ("..", "../x"),

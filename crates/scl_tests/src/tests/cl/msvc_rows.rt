@@ -5,7 +5,7 @@ use scl_cl::{Compiler, Outcome};
 use std::test::Fail;
 
 /// Of cl.
-static CL: [Row; 79] = [
+static CL: [Row; 82] = [
     ("", "", "not-compilation"),
     ("", "-E -c foo.c", "not-compilation"),
     ("", "/c /EP foo.c b.c", "not-compilation"),
@@ -181,6 +181,13 @@ static CL: [Row; 79] = [
         "/c -Fox.obj -clang:-MD x.c",
     ),
     ("", "/c \\xff.c", "/c -Fo\\xff.obj \\xff.c"),
+    ("", "/c x.c /FCx", "/c -Fox.obj /FCx x.c"),
+    (
+        "",
+        "/c src\\x5cx.c /Foout\\x5c",
+        "/c -Foout\\x5c/src\\x5cx.obj src\\x5cx.c",
+    ),
+    ("", "/c ..c", "/c -Fo..obj ..c"),
 ];
 
 /// Of clang-cl.

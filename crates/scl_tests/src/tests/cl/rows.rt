@@ -9,7 +9,7 @@ use std::test::Fail;
 pub(super) type Row = (&'static str, &'static str, &'static str);
 
 /// Of Diab.
-static DIAB: [Row; 19] = [
+static DIAB: [Row; 24] = [
     (
         "",
         "-c foo.cxx -fabc -I include -o foo.o -include file",
@@ -41,6 +41,15 @@ static DIAB: [Row; 19] = [
     ("", "-c a.c -o", "cannot-cache argument parse"),
     ("", "-c a.c -E -o", "cannot-cache -E"),
     ("", "-c a.c -I", "cannot-cache empty value"),
+    ("", "-c a.c -I\\xff", "-c a.c -o a.o -I\\xff"),
+    ("", "-c ..c", "-c ..c -o ..o"),
+    ("", "-c a.c -@", "cannot-cache -@"),
+    ("cwd /w\nfile /w\t-DA\n", "-c a.c -@", "-c a.c -o a.o -DA"),
+    (
+        "file f\t\\xef\\xbb\\xbfa.c\n",
+        "-c -@f",
+        "-c \\xef\\xbb\\xbfa.c -o \\xef\\xbb\\xbfa.o",
+    ),
 ];
 
 /// Of TaskingVX.
@@ -70,7 +79,7 @@ static TASKING: [Row; 14] = [
 ];
 
 /// Of Gcc, as its driver for C.
-static GCC: [Row; 33] = [
+static GCC: [Row; 39] = [
     (
         "",
         "-o foo.o -c foo.c",
@@ -172,6 +181,36 @@ static GCC: [Row; 33] = [
         "cannot-cache @",
     ),
     ("cwd /w\nfile /w/t\t\\xff\n", "-c a.c @t", "cannot-cache @"),
+    (
+        "",
+        "-c a.c -iwithprefixdir",
+        "-x c -c -o a.o -iwithprefix dir -fdiagnostics-color=always a.c",
+    ),
+    (
+        "",
+        "-c a.c -Wp,@b",
+        "-x c -c -o a.o -Wp,@b -fdiagnostics-color=always a.c",
+    ),
+    (
+        "",
+        "-c ..c",
+        "-x c -c -o ..o -fdiagnostics-color=always ..c",
+    ),
+    (
+        "cwd /w\nfile /w\t-DA\n",
+        "-c a.c @",
+        "-x c -c -o a.o -DA -fdiagnostics-color=always a.c",
+    ),
+    (
+        "file r\t-c\\x0ca.c\\x0d-DA\n",
+        "@r",
+        "-x c -c -o a.o -DA -fdiagnostics-color=always a.c",
+    ),
+    (
+        "file r\t\\xef\\xbb\\xbfa.c\n",
+        "-c @r",
+        "-x c -c -o \\xef\\xbb\\xbfa.o -fdiagnostics-color=always \\xef\\xbb\\xbfa.c",
+    ),
 ];
 
 /// Of Gcc, as its driver for C++.
@@ -189,7 +228,7 @@ static GXX: [Row; 2] = [
 ];
 
 /// Of Clang, as its driver for C.
-static CLANG: [Row; 23] = [
+static CLANG: [Row; 27] = [
     (
         "",
         "-c -Xclang -include -Xclang pch.h -- -a.c",
@@ -280,6 +319,26 @@ static CLANG: [Row; 23] = [
         "",
         "-o foo.o foo.c -Xclang broken",
         "cannot-cache Can't handle Raw arguments with -Xclang",
+    ),
+    (
+        "",
+        "-c -Xclang -plugin-arg-foo -Xclang bar -Xclang baz a.c",
+        "cannot-cache Can't handle Raw arguments with -Xclang",
+    ),
+    (
+        "",
+        "-c a.c -Xclang -include@a.h",
+        "-x c -c -o a.o -Xclang -include -Xclang @a.h -fdiagnostics-color=always a.c",
+    ),
+    (
+        "",
+        "-c a.c -Xclang -I -Xclang inc",
+        "-x c -c -o a.o -Xclang -Iinc -fdiagnostics-color=always a.c",
+    ),
+    (
+        "",
+        "-c -x c++-module .. -o m.o -fmodule-output",
+        "cannot-cache invalid input file",
     ),
 ];
 
