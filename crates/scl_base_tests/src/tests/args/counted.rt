@@ -40,6 +40,29 @@ impl Write for Takes {
     }
 }
 
+/// A device that tells how many bytes it was asked for, and takes no others than its own.
+#[derive(Drop)]
+struct Whole(&'static [u8]);
+
+impl Read for Whole {
+    fn read(&mut self, buf: &mut [u8]) -> io::Result<usize> {
+        Ok(buf.len())
+    }
+}
+
+impl Write for Whole {
+    fn write(&mut self, buf: &[u8]) -> io::Result<usize> {
+        if buf != self.0 {
+            return Err(io::Error::from(ErrorKind::Other));
+        }
+        Ok(buf.len())
+    }
+
+    fn flush(&mut self) -> io::Result<()> {
+        Ok(())
+    }
+}
+
 static KINDS: [ErrorKind; 5] = [
     ErrorKind::Interrupted,
     ErrorKind::WouldBlock,
@@ -60,6 +83,13 @@ fn an_error_of_any_kind_is_a_failure_but_none_of_a_flush(rt: HostRuntime) {
         assert!(rt; device.failures() == 2);
     }
     assert!(rt; Counted::new(Takes(0)).flush().is_ok());
+}
+
+#[test]
+fn a_device_is_handed_the_whole_buffer(rt: HostRuntime) {
+    let mut device = Counted::new(Whole(b"abcd"));
+    assert!(rt; matches!(device.read(&mut [0; 3]), Ok(3)));
+    assert!(rt; matches!(device.write(b"abcd"), Ok(4)));
 }
 
 #[test]
