@@ -4,10 +4,10 @@ mod tables;
 
 use crate::tests::records;
 use crate::tests::words::joined;
-use scl_args::{ArgParseError, ArgumentValue, Mem, PathArg, SearchableArgInfo, looks};
+use scl_args::{ArgParseError, ArgumentValue, Mem, PathArg};
 use scl_gnu::gcc::{
-    ARCH_FLAG, ARGS, ArgData, Gcc, Kind, generate_compile_commands, language_to_gcc_arg,
-    module_file_path, resolve_profile_use_path, table,
+    ARCH_FLAG, ArgData, Gcc, Kind, generate_compile_commands, language_to_gcc_arg,
+    module_file_path, resolve_profile_use_path,
 };
 use scl_text::language::Language;
 use scl_text::outputs::output_path;
@@ -140,26 +140,6 @@ fn gcc_says_what_it_is(rt: HostRuntime) -> Result<(), Fail> {
     assert!(rt; language_to_gcc_arg(Language::Cuda) == Some("cu"));
     assert!(rt; ARCH_FLAG == "-arch");
     Ok(())
-}
-
-#[test]
-fn the_table_is_searched_within_few_looks(rt: HostRuntime) {
-    let rows: [(&[u8], &str, u64); 3] = [
-        (b"-stdlib=libc++", "-stdlib", 120),
-        (b"-c", "-c", 24),
-        (b"-iwithprefixdir", "-iwithprefix", 136),
-    ];
-    let table = table();
-    for (word, flag, bound) in rows {
-        let found = table.search(word).map(|row| row.flag());
-        assert!(rt; found == Some(flag), "of {word:?}");
-        assert!(rt; looks(&table, word) <= bound, "of {word:?}");
-    }
-    let mut sum: u64 = 0;
-    for row in &ARGS {
-        sum = sum.saturating_add(looks(&table, row.flag().as_bytes()));
-    }
-    assert!(rt; sum >= 300);
 }
 
 #[test]
