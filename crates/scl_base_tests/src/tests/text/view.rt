@@ -37,4 +37,6 @@ fn a_view_keeps_whether_several_architectures_are_meant(rt: HostRuntime) {
     assert!(rt; !view.multiarch());
     view.set_multiarch(true);
     assert!(rt; view.multiarch());
+    view.set_multiarch(false);
+    assert!(rt; !view.multiarch());
 }
