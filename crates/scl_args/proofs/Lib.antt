@@ -1,3 +1,4 @@
+pub mod FirstLaws
 pub mod FitLaws
 pub mod OptionLaws
 pub mod OwnerLaws

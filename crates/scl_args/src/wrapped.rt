@@ -1,7 +1,8 @@
 //! Words that are handed on, each behind a wrapper.
-ghost use Rattle.std.specs.Prelude.{◌≡◌, ◌++◌, OnOk};
+ghost use Rattle.std.specs.Prelude.{◌≡◌, ◌++◌, OnOk, OnErr};
 ghost use Rattle.std.specs.List.{flat_map};
 ghost use Rattle.scl_values.specs.Words.{words_of};
+ghost use Rattle.scl_args.specs.Wrapped.{HasFirstOf};
 
 use scl_values::Mem;
 use std::alloc::Global;
@@ -12,10 +13,10 @@ pub trait Wrapper {
 
     ghost wrapped: { Self → List ℕ → List (List ℕ) };
 
-    /// Puts what the word becomes behind other words. It fails only for want of memory, and a part of it may then stand
-    /// there.
+    /// Puts what the word becomes behind other words; where memory is refused, the first of that may stand there already.
     fn push_word(&self, alloc: Global, words: &mut Vec<Vec<u8>>, word: &[u8]) -> Mem<()>
-        ensures { OnOk result (words_of words.new.items ≡ words_of words.old.items ++ wrapped self.now word.now) };
+        ensures ok { OnOk result (words_of words.new.items ≡ words_of words.old.items ++ wrapped self.now word.now) }
+        ensures err { OnErr result (HasFirstOf (words_of words.old.items) (wrapped self.now word.now) (words_of words.new.items)) };
 }
 
 /// The wrapper stands as a word of its own before each.
@@ -51,15 +52,16 @@ impl Wrapper for WrappedJoined {
     }
 }
 
-/// Puts the words of an inner command line, each behind the wrapper, behind others (docs/RULES.md, Lists of options). It
-/// fails only for want of memory, and some may then stand there.
+/// Puts the words of an inner command line, each behind the wrapper, behind others (docs/RULES.md, Lists of options); where
+/// memory is refused, the first of them may stand there already.
 pub fn push_wrapped<W: Wrapper>(
     alloc: Global,
     words: &mut Vec<Vec<u8>>,
     inner: &[Vec<u8>],
     wrapper: &W,
 ) -> Mem<()>
-    ensures { OnOk result (words_of words.new.items ≡ words_of words.old.items ++ flat_map (W.wrapped wrapper.now) (words_of inner.now)) }
+    ensures ok { OnOk result (words_of words.new.items ≡ words_of words.old.items ++ flat_map (W.wrapped wrapper.now) (words_of inner.now)) }
+    ensures err { OnErr result (HasFirstOf (words_of words.old.items) (flat_map (W.wrapped wrapper.now) (words_of inner.now)) (words_of words.new.items)) }
 {
     for word in inner {
         wrapper.push_word(alloc, words, word)?;

@@ -12,3 +12,7 @@ module _ {A B : Type 0} (f : A → Option B) where
   pub filter_map-filter : (xs : List A) → filter_map f xs ≡ filter_map f (filter (λ x. is_some (f x)) xs)
   filter_map-filter [] = refl
   filter_map-filter (x ∷ xs) = filter_map-step x (filter (λ y. is_some (f y)) xs) (filter_map f xs) (f x) refl (filter_map-filter xs)
+
+  -- lists that have the same ones that count answer the same
+  pub filter_map-same : (xs ys : List A) → filter (λ x. is_some (f x)) xs ≡ filter (λ x. is_some (f x)) ys → filter_map f xs ≡ filter_map f ys
+  filter_map-same xs ys e = filter_map-filter xs ∙ ap (filter_map f) e ∙ sym (filter_map-filter ys)

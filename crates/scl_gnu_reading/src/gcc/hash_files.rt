@@ -1,8 +1,9 @@
 //! Files on whose contents the outcome of a compilation depends, as options name them.
-ghost use Rattle.std.specs.Prelude.{◌≡◌, ◌++◌, OnOk, IfOk, map};
+ghost use Rattle.std.specs.Prelude.{◌≡◌, ◌++◌, OnOk, OnErr, IfOk, map};
 ghost use Rattle.std.specs.Option.{option_map, option_to_list};
 ghost use Rattle.scl_values.specs.Seen.{seen};
 ghost use Rattle.scl_values.specs.Words.{words_of};
+ghost use Rattle.scl_args.specs.Wrapped.{HasFirstOf};
 ghost use Rattle.scl_gnu_reading.specs.Hashes.{hashed_by, hashed_as, may_name_hashed};
 ghost use Rattle.scl_gnu_reading.specs.Kinds.{hashed};
 ghost use Rattle.scl_gnu_reading.specs.Recordings.{hash_path};
@@ -58,8 +59,9 @@ fn push_path<T: NamesHashed>(
     cwd: &[u8],
     view: &View,
 ) -> Mem<()>
-    ensures { OnOk result (words_of paths.new.items ≡ words_of paths.old.items
+    ensures ok { OnOk result (words_of paths.new.items ≡ words_of paths.old.items
         ++ option_to_list (option_map (hash_path cwd.now view.now) (hashed_by T.role (seen T.kind_of T.word_of option.now)))) }
+    ensures err { OnErr result (paths.new.items ≡ paths.old.items) }
 {
     match option {
         Argument::Raw(_) | Argument::UnknownFlag(_) => Ok(()),
@@ -110,8 +112,10 @@ fn push_paths<T: NamesHashed>(
     cwd: &[u8],
     view: &View,
 ) -> Mem<()>
-    ensures { OnOk result (words_of paths.new.items ≡ words_of paths.old.items
+    ensures ok { OnOk result (words_of paths.new.items ≡ words_of paths.old.items
         ++ map (hash_path cwd.now view.now) (hashed_as T.role (map (seen T.kind_of T.word_of) options.now))) }
+    ensures err { OnErr result (HasFirstOf (words_of paths.old.items)
+        (map (hash_path cwd.now view.now) (hashed_as T.role (map (seen T.kind_of T.word_of) options.now))) (words_of paths.new.items)) }
 {
     for option in options {
         push_path(alloc, paths, option, cwd, view)?;
@@ -119,8 +123,8 @@ fn push_paths<T: NamesHashed>(
     Ok(())
 }
 
-/// Puts the paths of the files that the options name, from the directory, behind others (docs/RULES.md, Gcc). It fails
-/// only for want of memory, and some may then stand there.
+/// Puts the paths of the files that the options name, from the directory, behind others (docs/RULES.md, Gcc); where memory is
+/// refused, the first of them may stand there already.
 pub fn push_hashed<T: NamesHashed>(
     alloc: Global,
     paths: &mut Vec<Vec<u8>>,
@@ -128,8 +132,10 @@ pub fn push_hashed<T: NamesHashed>(
     cwd: &[u8],
     view: &View,
 ) -> Mem<()>
-    ensures { OnOk result (words_of paths.new.items ≡ words_of paths.old.items
+    ensures ok { OnOk result (words_of paths.new.items ≡ words_of paths.old.items
         ++ map (hash_path cwd.now view.now) (hashed_as T.role options.now)) }
+    ensures err { OnErr result (HasFirstOf (words_of paths.old.items)
+        (map (hash_path cwd.now view.now) (hashed_as T.role options.now)) (words_of paths.new.items)) }
 {
     push_paths(alloc, paths, options.among(&Hashed), cwd, view)
 }
