@@ -17,7 +17,7 @@ use Rattle.scl_text.specs.declared.records.CCompilerKind.{CCompilerKind}
 use Rattle.scl_text.specs.declared.records.CCompilerKind.TheVariants as compilers
 use Rattle.scl_text.specs.declared.records.ColorMode.{ColorMode}
 use Rattle.scl_text.specs.declared.records.ColorMode.TheVariants as colors
-use Rattle.scl_text.specs.Commands.{object_of}
+use Rattle.scl_text.specs.Commands.{dash_words, object_of}
 use Rattle.scl_files.specs.Expand.{expand}
 use Rattle.scl_text.specs.Languages.{gcc_text, clang_text}
 use Rattle.scl_text.specs.Records.{Parsed}
@@ -28,7 +28,7 @@ use Rattle.scl_gnu_reading.specs.declared.gcc.data.Kind.TheVariants as kind
 use Rattle.scl_gnu_reading.specs.declared.gcc.place.Place.{Place}
 use Rattle.scl_gnu_reading.specs.declared.gcc.place.Place.TheVariants as places
 use Rattle.scl_gnu_reading.specs.Again.{is_list, carried, carried_inner}
-use Rattle.scl_gnu.specs.Building.{language_words, color_words, dash_words, front_words, list_words, back_words, command_words}
+use Rattle.scl_gnu.specs.Building.{language_words, color_words, front_words, list_words, back_words, command_words}
 use Rattle.scl_gnu_reading.specs.ClangRows.{clang_rows, clang_tables}
 use Rattle.scl_gnu_reading.specs.FixedTests.{Found}
 use Rattle.scl_gnu_reading.specs.GccRows.{gcc_rows}

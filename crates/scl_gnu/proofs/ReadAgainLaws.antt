@@ -27,7 +27,7 @@ use Rattle.scl_text.specs.declared.language.Language.{Language}
 use Rattle.scl_text.specs.declared.records.CCompilerKind.{CCompilerKind}
 use Rattle.scl_text.specs.declared.records.ColorMode.{ColorMode}
 use Rattle.scl_text.specs.declared.records.ColorMode.TheVariants as colors
-use Rattle.scl_text.specs.Commands.{object_of}
+use Rattle.scl_text.specs.Commands.{dash_words, object_of}
 use Rattle.scl_files.specs.Expand.{expand}
 use Rattle.scl_files.specs.Paths.{with_extension}
 use Rattle.scl_text.specs.Records.{Parsed}
@@ -37,7 +37,7 @@ use Rattle.scl_gnu_reading.specs.declared.gcc.data.Kind.TheVariants as kind
 use Rattle.scl_gnu_reading.specs.declared.gcc.place.Place.{Place}
 use Rattle.scl_gnu_reading.specs.declared.gcc.place.Place.TheVariants as places
 use Rattle.scl_gnu_reading.specs.Again as again
-use Rattle.scl_gnu.specs.Building.{language_words, color_words, dash_words, front_words, list_words, back_words, command_words}
+use Rattle.scl_gnu.specs.Building.{language_words, color_words, front_words, list_words, back_words, command_words}
 use Rattle.scl_gnu_reading.specs.ClangRows.{clang_tables}
 use Rattle.scl_gnu_reading.specs.FixedTests.{Found}
 use Rattle.scl_gnu_reading.specs.Kinds.{of, any, is_input, last_flag, last_text}

@@ -1,8 +1,8 @@
 -- The words of a compile command.
-use Rattle.std.specs.Prelude.{ℕ, Bool, true, false, List, [], ◌∷◌, ◌++◌, Option, None, Some, codes}
+use Rattle.std.specs.Prelude.{ℕ, List, [], ◌∷◌, ◌++◌, Option, None, Some, codes}
 use Rattle.scl_text.specs.declared.records.ColorMode.{ColorMode}
 use Rattle.scl_text.specs.declared.records.ColorMode.TheVariants as colors
-use Rattle.scl_text.specs.Commands.{command_by}
+use Rattle.scl_text.specs.Commands.{command_by, dash_words}
 use Rattle.scl_text.specs.Records.{Parsed}
 
 abbrev pub language_words : Option (List ℕ) → List (List ℕ)
@@ -13,10 +13,6 @@ abbrev pub color_words : ColorMode → List (List ℕ)
 color_words colors.Off = []
 color_words colors.On = codes "-fdiagnostics-color=always" ∷ []
 color_words colors.Auto = codes "-fdiagnostics-color=always" ∷ []
-
-abbrev pub dash_words : Bool → List (List ℕ)
-dash_words true = codes "--" ∷ []
-dash_words false = []
 
 -- what is done, and where the object goes
 abbrev pub front_words : Option (List ℕ) → List ℕ → Parsed → List (List ℕ)

@@ -2,6 +2,5 @@
 #![tactic(auto)]
 
 pub mod clang;
-mod copied;
 pub mod gcc;
 pub mod laws;

@@ -22,7 +22,8 @@ use Rattle.scl_text.specs.declared.language.Language.{Language}
 use Rattle.scl_text.specs.declared.language.Language.TheVariants as languages
 use Rattle.scl_msvc_reading.specs.declared.msvc.data.Kind.{Kind}
 use Rattle.scl_msvc_reading.specs.declared.msvc.data.Kind.TheVariants as kind
-use Rattle.scl_msvc.specs.Building.{dash_words, language_flag}
+use Rattle.scl_msvc.specs.Building.{language_flag}
+use Rattle.scl_text.specs.Commands.{dash_words}
 use Rattle.scl_msvc_reading.specs.Kinds.{any, is_input, language_said, explicit_language}
 use Rattle.scl_msvc.specs.ReadAgain.{input_option, mark_option}
 use Rattle.scl_msvc_reading.specs.Rows.{msvc_rows, msvc_tables}

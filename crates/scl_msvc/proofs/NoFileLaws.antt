@@ -12,7 +12,7 @@ use Rattle.scl_again.proofs.NoFileLaws.{each-append, HasPlainFlag, flag-none, pl
 use Rattle.scl_files.specs.declared.expand.ExpansionKind.TheVariants as expansions
 use Rattle.scl_text.specs.declared.language.Language.{Language}
 use Rattle.scl_text.specs.declared.language.Language.TheVariants as languages
-use Rattle.scl_text.specs.Commands.{object_of}
+use Rattle.scl_text.specs.Commands.{dash_words, object_of}
 use Rattle.scl_files.specs.Expand.{expand}
 use Rattle.scl_text.specs.Records.{Parsed}
 use Rattle.scl_files.specs.Views.{Viewed}
@@ -22,7 +22,7 @@ use Rattle.scl_msvc_reading.specs.declared.msvc.data.Kind.TheVariants as kind
 use Rattle.scl_msvc_reading.specs.declared.msvc.place.Place.{Place}
 use Rattle.scl_msvc_reading.specs.declared.msvc.place.Place.TheVariants as places
 use Rattle.scl_msvc_reading.specs.Again.{is_list, carried, carried_inner}
-use Rattle.scl_msvc.specs.Building.{command_words, dash_words, input_word, input_words, language_flag, list_words}
+use Rattle.scl_msvc.specs.Building.{command_words, input_word, input_words, language_flag, list_words}
 use Rattle.scl_msvc_reading.specs.FixedTests.{Found}
 use Rattle.scl_msvc_reading.specs.Inners.{Inner, inner_list, inner_place, inner_words_at, goes_inside_to}
 use Rattle.scl_msvc_reading.specs.Kinds.{of, is_input}

@@ -1,10 +1,10 @@
 -- The words of a compile command, and whether its outcome may be kept.
-use Rattle.std.specs.Prelude.{ℕ, Bool, true, false, List, [], ◌∷◌, ◌++◌, Option, None, Some, codes, if◌then◌else◌}
+use Rattle.std.specs.Prelude.{ℕ, List, [], ◌∷◌, ◌++◌, Option, None, Some, codes, if◌then◌else◌}
 use Rattle.scl_text.specs.declared.language.Language.{Language}
 use Rattle.scl_text.specs.declared.language.Language.TheVariants as languages
 use Rattle.scl_text.specs.declared.records.Cacheable.{Cacheable}
 use Rattle.scl_text.specs.declared.records.Cacheable.TheVariants as cacheables
-use Rattle.scl_text.specs.Commands.{command_by}
+use Rattle.scl_text.specs.Commands.{command_by, dash_words}
 use Rattle.scl_text.specs.Outputs.{path_at}
 use Rattle.scl_files.specs.Paths.{join}
 use Rattle.scl_text.specs.Records.{Parsed}
@@ -15,10 +15,6 @@ lists_with unhashed p = p.preprocessor_args ++ p.dependency_args ++ unhashed ++ 
 
 abbrev pub list_words : Parsed → List (List ℕ)
 list_words p = lists_with p.unhashed_args p
-
-abbrev pub dash_words : Bool → List (List ℕ)
-dash_words true = codes "--" ∷ []
-dash_words false = []
 
 -- the flag that says that an input has the language
 abbrev pub language_flag : Language → List ℕ

@@ -1,7 +1,9 @@
 //! What every builder of a command uses: words put behind words, copies, and the command of its parts.
 ghost use Rattle.std.specs.Prelude.{◌≡◌, ◌↔◌, ◌++◌, ◌∷◌, [], ℕ, take, OnOk, OnErr, IfOk, Err, None};
+ghost use Rattle.std.specs.Option.{option_map};
+ghost use Rattle.std.specs.String.{string_bytes};
 ghost use Rattle.scl_values.specs.Words.{words_of};
-ghost use Rattle.scl_text.specs.Commands.{Builds, pairs_of, object_of, command_by};
+ghost use Rattle.scl_text.specs.Commands.{Builds, pairs_of, object_of, command_by, dash_words};
 ghost use Rattle.scl_text.specs.Compilers.{IsAnswer};
 ghost use Rattle.scl_text.specs.Records.{parsed_of};
 
@@ -28,6 +30,27 @@ pub fn push_words(alloc: Global, list: &mut Vec<Vec<u8>>, words: &[Vec<u8>]) -> 
         push_word(alloc, list, word)?;
     }
     Ok(())
+}
+
+/// Puts `--` behind words, where an input stands behind it; the list stays as it was where memory is refused.
+pub fn push_dashes(alloc: Global, list: &mut Vec<Vec<u8>>, is_behind_dashes: bool) -> Mem<()>
+    ensures ok { OnOk result (words_of list.new.items ≡ words_of list.old.items ++ dash_words is_behind_dashes) }
+    ensures err { OnErr result (list.new.items ≡ list.old.items) }
+{
+    if is_behind_dashes {
+        push_word(alloc, list, b"--")?;
+    }
+    Ok(())
+}
+
+/// A copy of a text, where there is one.
+pub fn copied_text(alloc: Global, text: &Option<String>) -> Mem<Option<String>>
+    ensures { IfOk result (λ copy. option_map string_bytes copy ≡ option_map string_bytes text.now) }
+{
+    match text {
+        Some(text) => Ok(Some(String::from_str(alloc, text.as_str())?)),
+        None => Ok(None),
+    }
 }
 
 /// Copies of pairs of a key and a value.

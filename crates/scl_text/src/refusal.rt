@@ -1,8 +1,8 @@
 //! Why a command line is refused.
-ghost use Rattle.std.specs.Prelude.{◌≡◌, Err, IfOk, MatchResult, Ok};
+ghost use Rattle.std.specs.Prelude.{◌≡◌, Err, IfErr, IfOk, MatchResult, None, Ok};
 ghost use Rattle.scl_text.specs.Reasons.{argument_parse};
 ghost use Rattle.scl_text.specs.Records.{outcome_of};
-ghost use Rattle.scl_text.specs.Refusals.{verdict_of, answer_of, the_input};
+ghost use Rattle.scl_text.specs.Refusals.{verdict_of, text_of, answer_of, the_input, later_inputs};
 ghost use Rattle.scl_values.specs.Words.{words_of};
 
 use crate::reasons::{ARGUMENT_PARSE, MULTIPLE_INPUT_FILES, NO_INPUT_FILE};
@@ -32,12 +32,11 @@ impl Refusal {
             Refusal::NotCompilation => CompilerArguments::NotCompilation,
         }
     }
-}
 
-impl Refusal {
     /// The refusal, without a text beside its reason.
     pub fn without_text(self) -> Refusal
-        ensures { verdict_of result ≡ verdict_of self }
+        ensures verdict { verdict_of result ≡ verdict_of self }
+        ensures text { text_of result ≡ None }
     {
         match self {
             Refusal::CannotCache(reason, text) => {
@@ -49,7 +48,8 @@ impl Refusal {
     }
 }
 
-/// The refusal of words that can't be cut, with the error's text beside the reason (docs/RULES.md, Readings).
+/// The refusal of words that can't be cut, with the error's text beside the reason (docs/RULES.md, Readings). It fails only
+/// for want of memory.
 pub fn argument_parse<E: Display>(alloc: Global, error: &E) -> Mem<Refusal>
     ensures { IfOk result (λ refusal. verdict_of refusal ≡ argument_parse) }
 {
@@ -60,7 +60,8 @@ pub fn argument_parse<E: Display>(alloc: Global, error: &E) -> Mem<Refusal>
 /// The one input; refused where there is none, and where there are several, with the later ones beside the reason
 /// (docs/RULES.md, Readings). The error is the refusal of memory.
 pub fn one_input(alloc: Global, inputs: Vec<Vec<u8>>) -> Mem<Result<Vec<u8>, Refusal>>
-    ensures { IfOk result (λ tested. MatchResult tested (λ input. the_input (words_of inputs.items) ≡ Ok input.items) (λ refusal. the_input (words_of inputs.items) ≡ Err (verdict_of refusal))) }
+    ensures input { IfOk result (λ tested. MatchResult tested (λ input. the_input (words_of inputs.items) ≡ Ok input.items) (λ refusal. the_input (words_of inputs.items) ≡ Err (verdict_of refusal))) }
+    ensures text { IfOk result (λ tested. IfErr tested (λ refusal. text_of refusal ≡ later_inputs (words_of inputs.items))) }
 {
     let mut inputs = inputs;
     if let [_, _, ..] = inputs.as_slice() {

@@ -7,11 +7,11 @@ ghost use Rattle.scl_gnu.specs.Versions.{is_minversion};
 
 use super::preprocess::clang_passes;
 use super::version::names_at_least;
-use crate::copied::copied_text;
 use crate::gcc;
 use scl_args::Mem;
 use scl_gnu_reading::clang::BothTrees;
 use scl_text::CCompilerImpl;
+use scl_text::command::copied_text;
 use scl_text::language::Language;
 use scl_text::records::{
     CCompilerKind, Cacheable, CommandError, CompilerArguments, ParsedArguments,

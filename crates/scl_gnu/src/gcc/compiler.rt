@@ -3,10 +3,10 @@ ghost use Rattle.std.specs.Prelude.{◌≡◌, None};
 
 use super::command::{generate_compile_commands, language_to_gcc_arg};
 use super::preprocess::gcc_passes;
-use crate::copied::copied_text;
 use scl_args::{FlagTree, Mem};
 use scl_gnu_reading::gcc::{parse_arguments, table};
 use scl_text::CCompilerImpl;
+use scl_text::command::copied_text;
 use scl_text::records::{
     CCompilerKind, Cacheable, CommandError, CompilerArguments, ParsedArguments,
     SingleCompileCommand,

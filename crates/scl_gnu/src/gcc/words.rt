@@ -3,11 +3,11 @@ ghost use Rattle.std.specs.Prelude.{◌≡◌, ◌++◌, OnOk};
 ghost use Rattle.std.specs.Option.{option_copied};
 ghost use Rattle.scl_values.specs.Words.{words_of};
 ghost use Rattle.scl_text.specs.Records.{parsed_of};
-ghost use Rattle.scl_gnu.specs.Building.{language_words, list_words, dash_words, input_words};
+ghost use Rattle.scl_gnu.specs.Building.{language_words, list_words, input_words};
 ghost use Rattle.scl_gnu.specs.ListsOf.{lists_of};
 
 use scl_args::Mem;
-use scl_text::command::{push_word, push_words};
+use scl_text::command::{push_dashes, push_word, push_words};
 use scl_text::records::ParsedArguments;
 use std::alloc::Global;
 
@@ -56,15 +56,6 @@ pub(super) fn push_lists(alloc: Global, words: &mut Vec<Vec<u8>>, lists: Lists) 
     push_words(alloc, words, lists.unhashed)?;
     push_words(alloc, words, lists.common)?;
     push_words(alloc, words, lists.arch)
-}
-
-fn push_dashes(alloc: Global, words: &mut Vec<Vec<u8>>, is_behind_dashes: bool) -> Mem<()>
-    ensures { OnOk result (words_of words.new.items ≡ words_of words.old.items ++ dash_words is_behind_dashes) }
-{
-    if is_behind_dashes {
-        push_word(alloc, words, b"--")?;
-    }
-    Ok(())
 }
 
 /// Puts the input behind words, and `--` before it where it stands behind that.

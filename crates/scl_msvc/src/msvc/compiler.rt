@@ -11,6 +11,7 @@ use super::preprocess::passes;
 use scl_args::Mem;
 use scl_msvc_reading::msvc::parse_arguments;
 use scl_text::CCompilerImpl;
+use scl_text::command::copied_text;
 use scl_text::records::{
     CCompilerKind, Cacheable, CommandError, CompilerArguments, ParsedArguments,
     SingleCompileCommand,
@@ -103,10 +104,7 @@ impl CCompilerImpl for Msvc {
     }
 
     fn version(&self, alloc: Global) -> Mem<Option<String>> {
-        match &self.version {
-            Some(version) => Ok(Some(String::from_str(alloc, version.as_str())?)),
-            None => Ok(None),
-        }
+        copied_text(alloc, &self.version)
     }
 
     fn parse_arguments(

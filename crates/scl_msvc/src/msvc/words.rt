@@ -2,10 +2,10 @@
 ghost use Rattle.std.specs.Prelude.{◌≡◌, ◌++◌, IfOk, OnOk};
 ghost use Rattle.scl_values.specs.Words.{words_of};
 ghost use Rattle.scl_text.specs.Records.{parsed_of};
-ghost use Rattle.scl_msvc.specs.Building.{lists_with, dash_words, language_flag, input_word, input_words};
+ghost use Rattle.scl_msvc.specs.Building.{lists_with, language_flag, input_word, input_words};
 
 use scl_args::Mem;
-use scl_text::command::{push_word, push_words};
+use scl_text::command::{push_dashes, push_word, push_words};
 use scl_text::language::Language;
 use scl_text::records::ParsedArguments;
 use std::alloc::Global;
@@ -23,15 +23,6 @@ pub(super) fn push_lists(
     push_words(alloc, words, &parsed.dependency_args)?;
     push_words(alloc, words, unhashed)?;
     push_words(alloc, words, &parsed.common_args)
-}
-
-fn push_dashes(alloc: Global, words: &mut Vec<Vec<u8>>, is_behind_dashes: bool) -> Mem<()>
-    ensures { OnOk result (words_of words.new.items ≡ words_of words.old.items ++ dash_words is_behind_dashes) }
-{
-    if is_behind_dashes {
-        push_word(alloc, words, b"--")?;
-    }
-    Ok(())
 }
 
 /// The flag that says that an input has the language.

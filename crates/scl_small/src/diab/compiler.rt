@@ -5,6 +5,7 @@ use super::args::table;
 use super::{generate_compile_commands, parse_arguments};
 use crate::preprocess::diab_passes;
 use scl_args::FlagTree;
+use scl_text::command::copied_text;
 use scl_text::records::{
     CCompilerKind, Cacheable, CommandError, CompilerArguments, ParsedArguments,
     SingleCompileCommand,
@@ -68,10 +69,7 @@ impl CCompilerImpl for Diab {
     }
 
     fn version(&self, alloc: Global) -> Mem<Option<String>> {
-        match &self.version {
-            Some(version) => Ok(Some(String::from_str(alloc, version)?)),
-            None => Ok(None),
-        }
+        copied_text(alloc, &self.version)
     }
 
     fn parse_arguments(
