@@ -4,7 +4,7 @@ use Rattle.std.specs.List.{filter_map, cons_option}
 use Rattle.std.specs.Option.{option_to_list}
 use Rattle.std.proofs.Math.Seq.{take-append_seam, get_or-append_seam}
 use Rattle.std.proofs.lemmas.List.Elements.{filter_map-append}
-use Rattle.scl_cl.specs.Sayings.{Said, said}
+use Rattle.scl_cl.specs.Sayings.{Saying, said}
 use Rattle.scl_cl.specs.Requests.{gathered, breaks, first_broken}
 use Rattle.scl_cl.specs.Written.{breaks_at}
 
@@ -21,7 +21,7 @@ breaks_here done l ls =
 
 said-more : (done : List (List ℕ)) (l : List ℕ) → filter_map said done ++ option_to_list (said l) ≡ filter_map said (done ++ l ∷ [])
 said-more done l = sym (filter_map-append said done (l ∷ []) ∙ ap (λ xs. filter_map said done ++ xs) (one (said l))) where
-  one : (o : Option Said) → cons_option o [] ≡ option_to_list o
+  one : (o : Option Saying) → cons_option o [] ≡ option_to_list o
   one None = refl
   one (Some s) = refl
 

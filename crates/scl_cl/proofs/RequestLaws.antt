@@ -5,7 +5,7 @@ use Rattle.std.specs.Option.{option_to_list, ok_or}
 use Rattle.std.proofs.lemmas.Grind.{flat_map-append, fold-append}
 use Rattle.std.proofs.lemmas.List.{reverse-append}
 use Rattle.scl_cl.specs.Lines.{lines_of}
-use Rattle.scl_cl.specs.Sayings.{Said, Blank, Names, StandsIn, HasWord, HasFile, HasDirectory, HasPath, HasVariable, IsMultiarch, said}
+use Rattle.scl_cl.specs.Sayings.{Saying, Blank, Names, StandsIn, HasWord, HasFile, HasDirectory, HasPath, HasVariable, IsMultiarch, said}
 use Rattle.scl_cl.specs.Requests.{Gathered, gathered, breaks, first_broken, request_in, request_of, request_unless, viewed_directory_in, path_in}
 use Rattle.scl_cl.specs.Drafts.{with_line}
 
@@ -19,16 +19,16 @@ or-assoc : (a b c : Bool) → (a || b) || c ≡ a || (b || c)
 or-assoc true b c = refl
 or-assoc false b c = refl
 
-any_more : (p : Said → Bool) (xs : List Said) (y : Said) → list_any p (xs ++ y ∷ []) ≡ p y || list_any p xs
+any_more : (p : Saying → Bool) (xs : List Saying) (y : Saying) → list_any p (xs ++ y ∷ []) ≡ p y || list_any p xs
 any_more p [] y = refl
 any_more p (x ∷ xs) y =
     ap (λ b. p x || b) (any_more p xs y) ∙ sym (or-assoc (p x) (p y) (list_any p xs)) ∙ ap (λ b. b || list_any p xs) (or-comm (p x) (p y)) ∙ or-assoc (p y) (p x) (list_any p xs)
 
-flat_more : {A : Type 0} (f : Said → List A) (xs : List Said) (y : Said) → flat_map f (xs ++ y ∷ []) ≡ flat_map f xs ++ f y
+flat_more : {A : Type 0} (f : Saying → List A) (xs : List Saying) (y : Saying) → flat_map f (xs ++ y ∷ []) ≡ flat_map f xs ++ f y
 flat_more f xs y = flat_map-append f xs (y ∷ []) ∙ ap (λ zs. flat_map f xs ++ zs) (append-nil (f y))
 
 -- one line's part of a list is the same turned round
-viewed_directory_in-turned : (y : Said) → reverse (viewed_directory_in y) ≡ viewed_directory_in y
+viewed_directory_in-turned : (y : Saying) → reverse (viewed_directory_in y) ≡ viewed_directory_in y
 viewed_directory_in-turned Blank = refl
 viewed_directory_in-turned (Names _) = refl
 viewed_directory_in-turned (StandsIn _) = refl
@@ -39,7 +39,7 @@ viewed_directory_in-turned (HasPath _) = refl
 viewed_directory_in-turned (HasVariable _ _) = refl
 viewed_directory_in-turned IsMultiarch = refl
 
-path_in-turned : (y : Said) → reverse (path_in y) ≡ path_in y
+path_in-turned : (y : Saying) → reverse (path_in y) ≡ path_in y
 path_in-turned Blank = refl
 path_in-turned (Names _) = refl
 path_in-turned (StandsIn _) = refl
@@ -51,12 +51,12 @@ path_in-turned (HasVariable _ _) = refl
 path_in-turned IsMultiarch = refl
 
 -- one more line adds what it names
-pub gathered-more : (before : List Said) (line : Said) → with_line (gathered before) line ≡ gathered (before ++ line ∷ [])
+pub gathered-more : (before : List Saying) (line : Saying) → with_line (gathered before) line ≡ gathered (before ++ line ∷ [])
 gathered-more before line = simp (flat_more, reverse-append, fold-append, viewed_directory_in-turned, path_in-turned, any_more)
 
 -- Of all bytes these are left behind lines that kept this; the next line has this number.
 pub record Passed (all left : List ℕ) (number : ℕ) (kept : Gathered) : Type 0 where
-  pub before : List Said
+  pub before : List Saying
   pub kept_is : kept ≡ gathered before
   pub told : first_broken number before (lines_of left) ≡ first_broken 1 [] (lines_of all)
   pub whole : before ++ filter_map said (lines_of left) ≡ filter_map said (lines_of all)
@@ -67,7 +67,7 @@ pub starts : (all : List ℕ) (kept : Gathered) → kept ≡ gathered [] → Pas
 starts all kept k = record { before = []; kept_is = k; told = refl; whole = refl; numbered = omega arith; counted = omega arith }
 
 -- a line was taken
-pub goes_on : (all left rest line : List ℕ) (number : ℕ) (kept kept' : Gathered) (s : Said) → Passed all left number kept → lines_of left ≡ line ∷ lines_of rest → length rest < length left
+pub goes_on : (all left rest line : List ℕ) (number : ℕ) (kept kept' : Gathered) (s : Saying) → Passed all left number kept → lines_of left ≡ line ∷ lines_of rest → length rest < length left
     → said line ≡ Some s → breaks kept (Some s) ≡ false → kept' ≡ with_line kept s → Passed all rest (number + 1) kept'
 goes_on all left rest line number kept kept' s p cut shorter says keeps takes =
     let holds : breaks (gathered p.before) (said line) ≡ false = ap (λ g. breaks g (said line)) (sym p.kept_is) ∙ ap (breaks kept) says ∙ keeps in

@@ -6,7 +6,7 @@ use Rattle.scl_values.specs.Escaped.{is_plain, digit_of, escape, escaped}
 use Rattle.scl_cl.specs.Fields.{digit_value, before, field_of, both, fields_of, two_fields}
 use Rattle.std.specs.Option.{option_map}
 use Rattle.scl_cl.specs.Lines.{cut_at, with_first, lines_of}
-use Rattle.scl_cl.specs.Sayings.{Said, Blank, Names, StandsIn, HasWord, HasFile, HasDirectory, HasPath, HasVariable, IsMultiarch, said, text_of as keyword_text, keyword_named}
+use Rattle.scl_cl.specs.Sayings.{Saying, Blank, Names, StandsIn, HasWord, HasFile, HasDirectory, HasPath, HasVariable, IsMultiarch, said, keyword_text, keyword_named}
 use Rattle.scl_cl.specs.Written.{AreBytes, ArePrintable, CanBeWritten, AllCanBeWritten, AreAllBytes, written}
 use Rattle.scl_cl.specs.Answers.{compiled, text_of, cacheable_text, line, arg_line}
 use Rattle.scl_cl.specs.Compilers.{name_of, compiler_named}
@@ -74,7 +74,7 @@ name-back compiler = grind arith
 pub keyword-back : (k : keywords.Keyword) → keyword_named (keyword_text k) ≡ Some k
 keyword-back k = grind arith
 
-pub said-written : (s : Said) → CanBeWritten s → said (written s) ≡ Some s
+pub said-written : (s : Saying) → CanBeWritten s → said (written s) ≡ Some s
 said-written Blank can = refl
 said-written (Names compiler) can = ap (option_map Names) (name-back compiler)
 said-written (StandsIn directory) can = ap (option_map StandsIn) (field-escaped directory can)
@@ -102,7 +102,7 @@ no-feed_pair front a b h k l =
 name-no-feed : (compiler : Compiler) → cut_at 10 (codes "compiler " ++ name_of compiler) ≡ None
 name-no-feed compiler = grind arith
 
-written-no-feed : (s : Said) → CanBeWritten s → cut_at 10 (written s) ≡ None
+written-no-feed : (s : Saying) → CanBeWritten s → cut_at 10 (written s) ≡ None
 written-no-feed Blank can = refl
 written-no-feed (Names compiler) can = name-no-feed compiler
 written-no-feed (StandsIn directory) can = no-feed_behind (codes "cwd ") directory refl can
@@ -117,7 +117,7 @@ written-no-feed IsMultiarch can = refl
 lines-line : (text rest : List ℕ) → cut_at 10 text ≡ None → lines_of (line text ++ rest) ≡ text ∷ lines_of rest
 lines-line text rest h = ap lines_of (append_assoc text (10 ∷ []) rest) ∙ lines-feed text rest h
 
-pub request-written : (all : List Said) → AllCanBeWritten all → filter_map said (lines_of (flat_map (λ s. line (written s)) all)) ≡ all
+pub request-written : (all : List Saying) → AllCanBeWritten all → filter_map said (lines_of (flat_map (λ s. line (written s)) all)) ≡ all
 request-written [] can = refl
 request-written (s ∷ ss) can =
     let rest : List ℕ = flat_map (λ s. line (written s)) ss in

@@ -5,11 +5,11 @@ use Rattle.scl_values.specs.Words.{words_of}
 use Rattle.scl_text.specs.Commands.{pairs_of}
 use Rattle.scl_cl.specs.declared.draft.Draft.{Draft}
 use Rattle.scl_cl.specs.declared.draft.Request as code
-use Rattle.scl_cl.specs.Sayings.{Said}
+use Rattle.scl_cl.specs.Sayings.{Saying}
 use Rattle.scl_cl.specs.Requests.{compiler_in, directory_in, word_in, variable_in, file_in, viewed_directory_in, path_in, is_multiarch, with_files, Gathered, Request}
 
 -- with one more line
-abbrev pub with_line : Gathered → Said → Gathered
+abbrev pub with_line : Gathered → Saying → Gathered
 with_line g line = record {
   compilers = g.compilers ++ compiler_in line;
   directories = g.directories ++ directory_in line;

@@ -15,7 +15,7 @@ pair_value _ _ = None
 
 -- the byte of a backslash, an x and two digits: its value is sixteen times the first and the second
 abbrev pub escaped_byte : ℕ → ℕ → ℕ → ℕ → Option ℕ
-escaped_byte slash x high low = if slash == 0x5c && x == 0x78 then pair_value (digit_value high) (digit_value low) else None
+escaped_byte backslash x high low = if backslash == 0x5c && x == 0x78 then pair_value (digit_value high) (digit_value low) else None
 
 abbrev pub before : Option ℕ → Option (List ℕ) → Option (List ℕ)
 before (Some b) (Some bs) = Some (b ∷ bs)

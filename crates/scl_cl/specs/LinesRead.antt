@@ -1,9 +1,9 @@
 -- What a line that the code keeps says.
-use Rattle.scl_cl.specs.Sayings.{Said, Blank, Names, StandsIn, HasWord, HasFile, HasDirectory, HasPath, HasVariable, IsMultiarch}
+use Rattle.scl_cl.specs.Sayings.{Saying, Blank, Names, StandsIn, HasWord, HasFile, HasDirectory, HasPath, HasVariable, IsMultiarch}
 use Rattle.scl_cl.specs.declared.line.Line.{Line}
 use Rattle.scl_cl.specs.declared.line.Line.TheVariants as lines
 
-abbrev pub said_by : Line → Said
+abbrev pub said_by : Line → Saying
 said_by lines.Blank = Blank
 said_by (lines.Compiler compiler) = Names compiler
 said_by (lines.Directory path) = StandsIn path.items

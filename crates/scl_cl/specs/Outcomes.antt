@@ -28,7 +28,7 @@ status_of OutOfMemory = 3
 status_of ReadFailed = 4
 status_of WriteFailed = 4
 
--- the program's line on standard error, less its LF; where it answered it says none
+-- `answered`, or the program's line on standard error, less its LF
 abbrev pub told_of : Outcome → List ℕ
 told_of Answered = codes "answered"
 told_of (BadLine n) = codes "bad line " ++ decimal n

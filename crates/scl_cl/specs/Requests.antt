@@ -4,7 +4,7 @@ use Rattle.std.specs.List.{flat_map, filter_map, list_any}
 use Rattle.std.specs.Option.{option_to_list, ok_or}
 use Rattle.scl_files.specs.Views.{Viewed, File, put_file}
 use Rattle.scl_cl.specs.declared.compiler.Compiler.{Compiler}
-use Rattle.scl_cl.specs.Sayings.{Said, Names, StandsIn, HasWord, HasFile, HasDirectory, HasPath, HasVariable, IsMultiarch, said}
+use Rattle.scl_cl.specs.Sayings.{Saying, Names, StandsIn, HasWord, HasFile, HasDirectory, HasPath, HasVariable, IsMultiarch, said}
 
 -- what a request asks for
 pub record Request : Type 0 where
@@ -19,35 +19,35 @@ abbrev pub asked : Compiler → List (List ℕ) → List ℕ → List (List ℕ 
 asked compiler words directory environment view =
     record { compiler = compiler; directory = directory; words = words; environment = environment; view = view }
 
-abbrev pub compiler_in : Said → List Compiler
+abbrev pub compiler_in : Saying → List Compiler
 compiler_in (Names compiler) = compiler ∷ []
 compiler_in _ = []
 
-abbrev pub directory_in : Said → List (List ℕ)
+abbrev pub directory_in : Saying → List (List ℕ)
 directory_in (StandsIn directory) = directory ∷ []
 directory_in _ = []
 
-abbrev pub word_in : Said → List (List ℕ)
+abbrev pub word_in : Saying → List (List ℕ)
 word_in (HasWord word) = word ∷ []
 word_in _ = []
 
-abbrev pub variable_in : Said → List (List ℕ × List ℕ)
+abbrev pub variable_in : Saying → List (List ℕ × List ℕ)
 variable_in (HasVariable key value) = (key, value) ∷ []
 variable_in _ = []
 
-abbrev pub file_in : Said → List File
+abbrev pub file_in : Saying → List File
 file_in (HasFile path bytes) = record { path = path; bytes = bytes } ∷ []
 file_in _ = []
 
-abbrev pub viewed_directory_in : Said → List (List ℕ)
+abbrev pub viewed_directory_in : Saying → List (List ℕ)
 viewed_directory_in (HasDirectory path) = path ∷ []
 viewed_directory_in _ = []
 
-abbrev pub path_in : Said → List (List ℕ)
+abbrev pub path_in : Saying → List (List ℕ)
 path_in (HasPath path) = path ∷ []
 path_in _ = []
 
-abbrev pub is_multiarch : Said → Bool
+abbrev pub is_multiarch : Saying → Bool
 is_multiarch IsMultiarch = true
 is_multiarch _ = false
 
@@ -56,7 +56,7 @@ abbrev pub with_files : List File → List File → List File
 with_files files added = fold (λ before file. put_file file before) files added
 
 -- the view of the files, directories and paths that lines name
-abbrev pub view_of : List Said → Viewed
+abbrev pub view_of : List Saying → Viewed
 view_of all = record {
   files = with_files [] (flat_map file_in all);
   directories = reverse (flat_map viewed_directory_in all);
@@ -72,7 +72,7 @@ pub record Gathered : Type 0 where
   pub environment : List (List ℕ × List ℕ)
   pub view : Viewed
 
-abbrev pub gathered : List Said → Gathered
+abbrev pub gathered : List Saying → Gathered
 gathered all = record {
   compilers = flat_map compiler_in all;
   directories = flat_map directory_in all;
@@ -105,14 +105,14 @@ is_given [] = false
 is_given (_ ∷ _) = true
 
 -- whether a line breaks a rule behind lines that name this: it says nothing, or names again what stands once
-abbrev pub breaks : Gathered → Option Said → Bool
+abbrev pub breaks : Gathered → Option Saying → Bool
 breaks g None = true
 breaks g (Some (Names _)) = is_given g.compilers
 breaks g (Some (StandsIn _)) = is_given g.directories
 breaks g (Some _) = false
 
 -- the number of the first line that breaks a rule; the first of these has the number n and stands behind lines that say this
-abbrev pub first_broken : ℕ → List Said → List (List ℕ) → Option ℕ
+abbrev pub first_broken : ℕ → List Saying → List (List ℕ) → Option ℕ
 first_broken n earlier [] = None
 first_broken n earlier (line ∷ lines) = if breaks (gathered earlier) (said line) then Some n else first_broken (n + 1) (earlier ++ option_to_list (said line)) lines
 

@@ -14,7 +14,7 @@ abbrev pub expanded : ExpansionKind → Request → List (List ℕ)
 expanded kind request = expand kind request.directory request.view.files request.words
 
 abbrev pub msvc_lines : Bool → Request → List (List (List ℕ))
-msvc_lines is_clang request = msvc.lines is_clang request.directory request.environment request.view request.words
+msvc_lines is_clang request = msvc.command_lines is_clang request.directory request.environment request.view request.words
 
 -- the command lines in which response files are put in place; of Clang's inner words none names one, as its outer values may not
 abbrev pub lines_by : Compiler → Request → List (List (List ℕ))

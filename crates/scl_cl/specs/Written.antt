@@ -7,7 +7,7 @@ use Rattle.scl_values.specs.Escaped.{escaped}
 use Rattle.scl_cl.specs.Fields.{field_of}
 use Rattle.scl_cl.specs.Compilers.{name_of, compiler_named}
 use Rattle.scl_cl.specs.declared.keyword.Keyword.{Keyword}
-use Rattle.scl_cl.specs.Sayings.{Said, Blank, Names, StandsIn, HasWord, HasFile, HasDirectory, HasPath, HasVariable, IsMultiarch, said, keyword_named}
+use Rattle.scl_cl.specs.Sayings.{Saying, Blank, Names, StandsIn, HasWord, HasFile, HasDirectory, HasPath, HasVariable, IsMultiarch, said, keyword_named}
 use Rattle.scl_cl.specs.Sayings as sayings
 use Rattle.scl_cl.specs.Requests.{gathered, breaks, first_broken}
 use Rattle.scl_cl.specs.Answers.{compiled, text_of, cacheable_text, line}
@@ -26,7 +26,7 @@ ArePrintable [] = Unit {0}
 ArePrintable (b ∷ bs) = ((0x21 ≤ b) × (b ≤ 0x7e)) × ArePrintable bs
 
 -- what is said can be written: its byte strings are bytes
-abbrev pub CanBeWritten : Said → Type 0
+abbrev pub CanBeWritten : Saying → Type 0
 CanBeWritten Blank = Unit {0}
 CanBeWritten (Names compiler) = Unit {0}
 CanBeWritten (StandsIn directory) = AreBytes directory
@@ -37,12 +37,12 @@ CanBeWritten (HasPath path) = AreBytes path
 CanBeWritten (HasVariable key value) = AreBytes key × AreBytes value
 CanBeWritten IsMultiarch = Unit {0}
 
-abbrev pub AllCanBeWritten : List Said → Type 0
+abbrev pub AllCanBeWritten : List Saying → Type 0
 AllCanBeWritten [] = Unit {0}
 AllCanBeWritten (s ∷ ss) = CanBeWritten s × AllCanBeWritten ss
 
 -- the line that says this
-abbrev pub written : Said → List ℕ
+abbrev pub written : Saying → List ℕ
 written Blank = []
 written (Names compiler) = codes "compiler " ++ name_of compiler
 written (StandsIn directory) = codes "cwd " ++ escaped directory
@@ -63,11 +63,11 @@ FieldIsPrintable = (bytes : List ℕ) → AreBytes bytes → ArePrintable (escap
 
 -- A line that is written says what was to be said.
 abbrev pub LineReadsBack : Type 0
-LineReadsBack = (s : Said) → CanBeWritten s → said (written s) ≡ Some s
+LineReadsBack = (s : Saying) → CanBeWritten s → said (written s) ≡ Some s
 
 -- The lines of a request that is written say what was to be said.
 abbrev pub RequestReadsBack : Type 0
-RequestReadsBack = (all : List Said) → AllCanBeWritten all → filter_map said (lines_of (flat_map (λ s. line (written s)) all)) ≡ all
+RequestReadsBack = (all : List Saying) → AllCanBeWritten all → filter_map said (lines_of (flat_map (λ s. line (written s)) all)) ≡ all
 
 -- A line ends at the first LF; bytes without one are one line.
 abbrev pub LinesEndAtFeeds : Type 0
@@ -90,4 +90,4 @@ BadLineIsFirst = (lines : List (List ℕ)) → MatchOption (first_broken 1 [] li
 
 -- The name of each compiler names it, and the text of each keyword the keyword.
 abbrev pub NamesReadBack : Type 0
-NamesReadBack = ((compiler : Compiler) → compiler_named (name_of compiler) ≡ Some compiler) × ((keyword : Keyword) → keyword_named (sayings.text_of keyword) ≡ Some keyword)
+NamesReadBack = ((compiler : Compiler) → compiler_named (name_of compiler) ≡ Some compiler) × ((keyword : Keyword) → keyword_named (sayings.keyword_text keyword) ≡ Some keyword)

@@ -23,7 +23,7 @@ pub struct Request {
 
 /// What the lines so far make of a request.
 #[derive(Drop)]
-pub struct Draft {
+pub(crate) struct Draft {
     pub compiler: Option<Compiler>,
     pub directory: Option<Vec<u8>>,
     pub words: Vec<Vec<u8>>,

@@ -28,10 +28,10 @@ fn digit_value(digit: u8) -> Option<u8>
 }
 
 /// The byte of a backslash, an x and two digits.
-fn escaped_byte(slash: u8, mark: u8, high: u8, low: u8) -> Option<u8>
-    ensures { result ≡ escaped_byte slash mark high low }
+fn escaped_byte(backslash: u8, letter: u8, high: u8, low: u8) -> Option<u8>
+    ensures { result ≡ escaped_byte backslash letter high low }
 {
-    if slash == b'\\' && mark == b'x' {
+    if backslash == b'\\' && letter == b'x' {
         Some(16 * digit_value(high)? + digit_value(low)?)
     } else {
         None
@@ -46,8 +46,8 @@ fn first_byte(text: &[u8]) -> Option<(u8, &[u8])>
 {
     match text {
         [byte, rest @ ..] if is_plain(*byte) => Some((*byte, rest)),
-        [slash, mark, high, low, rest @ ..] => {
-            Some((escaped_byte(*slash, *mark, *high, *low)?, rest))
+        [backslash, letter, high, low, rest @ ..] => {
+            Some((escaped_byte(*backslash, *letter, *high, *low)?, rest))
         }
         _ => None,
     }

@@ -1,10 +1,10 @@
 //! The keywords that lines begin with.
 ghost use Rattle.std.specs.Prelude.{◌≡◌};
-ghost use Rattle.scl_cl.specs.Sayings.{text_of, keywords, keyword_named};
+ghost use Rattle.scl_cl.specs.Sayings.{keyword_text, keywords, keyword_named};
 
 /// What a line is about.
 #[derive(Debug, Clone, Copy, PartialEq, Eq)]
-pub enum Keyword {
+pub(crate) enum Keyword {
     Compiler,
     Cwd,
     Word,
@@ -33,7 +33,7 @@ fn keywords() -> &'static [Keyword]
 
 impl Keyword {
     fn text(self) -> &'static str
-        ensures { result.now ≡ text_of self }
+        ensures { result.now ≡ keyword_text self }
     {
         match self {
             Keyword::Compiler => "compiler",

@@ -13,7 +13,7 @@ use std::alloc::Global;
 
 /// What a line says.
 #[derive(Drop)]
-pub enum Line {
+pub(crate) enum Line {
     Blank,
     Compiler(Compiler),
     Directory(Vec<u8>),

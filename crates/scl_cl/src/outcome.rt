@@ -2,7 +2,7 @@
 
 use std::fmt;
 
-/// How a run ended (docs/RULES.md, Outcomes). As text it is what the program says of it.
+/// How a run ended (docs/RULES.md, Outcomes). As text it is `answered`, or the line that the program prints to standard error.
 #[derive(Debug, Clone, Copy, PartialEq, Eq)]
 pub enum Outcome {
     /// The answer was written whole.
@@ -11,7 +11,7 @@ pub enum Outcome {
     BadLine(u64),
     /// Memory was refused; nothing was written.
     OutOfMemory,
-    /// The reader failed, or gave bytes by 2^40 reads; nothing was written.
+    /// A read failed, or 2^40 reads gave bytes and no end was met; nothing was written.
     ReadFailed,
     /// The writer failed; a beginning of the answer was written.
     WriteFailed,

@@ -14,7 +14,7 @@ const BLOCK: usize = 1 << 16;
 
 /// Why not all was read.
 #[derive(Debug, Drop)]
-pub enum ReadError {
+pub(crate) enum ReadError {
     /// Memory was refused.
     Memory,
     /// The reader failed, or its end was not met.

@@ -63,7 +63,11 @@ fn dangles_by(end: Option<ArgParseError>) -> Mem<bool>
     match end {
         None => Ok(false),
         Some(ArgParseError::Memory) => Err(AllocError),
-        Some(_) => Ok(true),
+        Some(
+            ArgParseError::UnexpectedEndOfArgs
+            | ArgParseError::InvalidUnicode(_)
+            | ArgParseError::Other(_),
+        ) => Ok(true),
     }
 }
 

@@ -7,7 +7,7 @@ use Rattle.std.proofs.lemmas.Str.{length-encode, len_utf8_bounds, encode_ascii}
 use Rattle.std.proofs.lemmas.List.Folds.{list_all-append}
 use Rattle.std.specs.List.{list_all, join_with_byte}
 use Rattle.scl_files.specs.MsvcText.{is_msvc_separator, is_even, leads_to_quote, Place, split, means, keep_stretch, stretches, place_meaning, stretch_meaning, is_toggle, EachStretch, OnlyQuotesGiveEmptyArguments, leads_to_quote_or_end, in_double_quotes, msvc_quoted, QuotedWordsAreReadBack}
-use Rattle.scl_files.specs.MsvcReader.{slashes, read_on}
+use Rattle.scl_files.specs.MsvcReader.{backslashes, read_on}
 use Rattle.scl_files.proofs.MsvcLemmas.{places_on, msvc_stretches-on, msvc_arguments-read, bool_cases}
 
 -- ---- empty arguments
@@ -91,7 +91,7 @@ abbrev pending : List ℕ → ℕ → ℕ
 pending word n = cond (leads_to_quote_or_end word) (n + n) n
 
 abbrev ReadsQuoted : List ℕ → Type 0
-ReadsQuoted word = (begun rest : List ℕ) (n : ℕ) → read_on true begun (pending word n) true (in_double_quotes word ++ rest) ≡ read_on true ((begun ++ slashes n) ++ encode_utf8_all word) 0 false rest
+ReadsQuoted word = (begun rest : List ℕ) (n : ℕ) → read_on true begun (pending word n) true (in_double_quotes word ++ rest) ≡ read_on true ((begun ++ backslashes n) ++ encode_utf8_all word) 0 false rest
 
 double_even : (n : ℕ) → is_even (n + n) ≡ true
 double_even n = let e : (n + n) % 2 ≡ 0 = omega arith in rw e refl
@@ -105,11 +105,11 @@ double_half n = omega arith
 double_half_more : (n : ℕ) → (n + n + 1) / 2 ≡ n
 double_half_more n = omega arith
 
-slashes-more : (n : ℕ) → slashes n ++ 92 ∷ [] ≡ slashes (n + 1)
-slashes-more n = replicate-append-replicate n 1 92
+backslashes-more : (n : ℕ) → backslashes n ++ 92 ∷ [] ≡ backslashes (n + 1)
+backslashes-more n = replicate-append-replicate n 1 92
 
-slashes-out : (begun more : List ℕ) (n : ℕ) → (begun ++ slashes (n + 1)) ++ more ≡ (begun ++ slashes n) ++ (encode_utf8 92 ++ more)
-slashes-out begun more n = rw (encode_ascii 92 (lit< tt), ← slashes-more n) (simp append_assoc)
+backslashes-out : (begun more : List ℕ) (n : ℕ) → (begun ++ backslashes (n + 1)) ++ more ≡ (begun ++ backslashes n) ++ (encode_utf8 92 ++ more)
+backslashes-out begun more n = rw (encode_ascii 92 (lit< tt), ← backslashes-more n) (simp append_assoc)
 
 two_more : (n : ℕ) → n + n + 1 + 1 ≡ n + 1 + (n + 1)
 two_more n = omega arith
@@ -129,14 +129,14 @@ read_slash : (word : List ℕ) → ReadsQuoted word → (leads_to_quote_or_end w
 read_slash word ih (inl q) = λ begun rest n. rw q (
     ap (λ (k : ℕ). read_on true begun k true (in_double_quotes word ++ rest)) (two_more n)
     ∙ (rw q at (ih begun rest (n + 1)))
-    ∙ ap (λ (b : List ℕ). read_on true b 0 false rest) (slashes-out begun (encode_utf8_all word) n))
-read_slash word ih (inr q) = λ begun rest n. rw q ((rw q at (ih begun rest (n + 1))) ∙ ap (λ (b : List ℕ). read_on true b 0 false rest) (slashes-out begun (encode_utf8_all word) n))
+    ∙ ap (λ (b : List ℕ). read_on true b 0 false rest) (backslashes-out begun (encode_utf8_all word) n))
+read_slash word ih (inr q) = λ begun rest n. rw q ((rw q at (ih begun rest (n + 1))) ∙ ap (λ (b : List ℕ). read_on true b 0 false rest) (backslashes-out begun (encode_utf8_all word) n))
 
 read_quote : (word : List ℕ) → ReadsQuoted word → ReadsQuoted (34 ∷ word)
-read_quote word ih = λ begun rest n. rw (double_odd n, double_half_more n) (fresh word ((begun ++ slashes n) ++ 34 ∷ []) rest ih ∙ rw (encode_ascii 34 (lit< tt), append_assoc) refl)
+read_quote word ih = λ begun rest n. rw (double_odd n, double_half_more n) (fresh word ((begun ++ backslashes n) ++ 34 ∷ []) rest ih ∙ rw (encode_ascii 34 (lit< tt), append_assoc) refl)
 
 read_other : (c : ℕ) (word : List ℕ) → ReadsQuoted word → (c == 92) ≡ false → (c == 34) ≡ false → ReadsQuoted (c ∷ word)
-read_other c word ih h k = λ begun rest n. rw (h, k, h, k, and-false (is_msvc_separator c)) (fresh word ((begun ++ slashes n) ++ encode_utf8 c) rest ih ∙ rw append_assoc refl)
+read_other c word ih h k = λ begun rest n. rw (h, k, h, k, and-false (is_msvc_separator c)) (fresh word ((begun ++ backslashes n) ++ encode_utf8 c) rest ih ∙ rw append_assoc refl)
 
 read_char : (c : ℕ) (word : List ℕ) → ReadsQuoted word → ((c == 92) ≡ true) ⊎ ((c == 92) ≡ false) → ((c == 34) ≡ true) ⊎ ((c == 34) ≡ false) → ReadsQuoted (c ∷ word)
 read_char c word ih (inl h) k = let P : ℕ → Type 0 = λ x. ReadsQuoted (x ∷ word) in subst P (sym (eqb-true c 92 h)) (read_slash word ih (bool_cases (leads_to_quote_or_end word)))

@@ -9,9 +9,9 @@ use Rattle.std.proofs.lemmas.Str.{chars_past_char, chars-nil, length-encode, len
 use Rattle.std.specs.Str.{chars, IsUtf8}
 use Rattle.std.specs.String.{string_bytes}
 use Rattle.std.proofs.lemmas.Grind.{flat_map-append}
-use Rattle.scl_files.specs.MsvcReader.{reads, TakesChar, slashes, read_on}
+use Rattle.scl_files.specs.MsvcReader.{reads, TakesChar, backslashes, read_on}
 use Rattle.scl_files.specs.declared.msvc_text.Reader.{Reader}
-use Rattle.scl_files.specs.MsvcText.{is_msvc_separator, is_even, slashes_before, is_inside, leads_to_quote, meaning, Place, split, means, places, keep_stretch, stretches, place_meaning, stretch_meaning, msvc_stretches, msvc_arguments}
+use Rattle.scl_files.specs.MsvcText.{is_msvc_separator, is_even, backslashes_before, is_inside, leads_to_quote, meaning, Place, split, means, places, keep_stretch, stretches, place_meaning, stretch_meaning, msvc_stretches, msvc_arguments}
 
 -- the places, with what is known of the characters before them
 abbrev pub places_on : ℕ → Bool → List ℕ → List Place
@@ -29,7 +29,7 @@ first_left (x ∷ xs) (suc i) c cs e = first_left xs i c cs e
 cons_same : (p : Place) (a b : List Place) → a ≡ b → p ∷ a ≡ p ∷ b
 cons_same p a b e = rw e refl
 
-places_are : (text cs : List ℕ) (i : ℕ) → drop i text ≡ cs → places text i (length cs) ≡ places_on (slashes_before text i) (is_inside text i) cs
+places_are : (text cs : List ℕ) (i : ℕ) → drop i text ≡ cs → places text i (length cs) ≡ places_on (backslashes_before text i) (is_inside text i) cs
 places_are text [] i e = refl
 places_are text (c ∷ cs) i e =
     let here = first_left text i c cs e in
@@ -76,7 +76,7 @@ meanings (means c bytes ∷ ps) begun = meanings ps (begun ++ means c bytes ∷ 
 
 -- what n backslashes mean, if a quote follows, or not
 abbrev shown : ℕ → Bool → List ℕ
-shown n quoted = cond quoted (slashes (n / 2)) (slashes n)
+shown n quoted = cond quoted (backslashes (n / 2)) (backslashes n)
 
 abbrev Same : List ℕ → Type 0
 Same cs = ((n : ℕ) (inside : Bool) (b : List ℕ) → bytes_from (Some (b ++ shown n (leads_to_quote cs))) (places_on n inside cs) ≡ read_on true b n inside cs)
@@ -92,14 +92,14 @@ half_even n h = let e : n % 2 ≡ 0 = eqb-true (n % 2) 0 h in omega arith
 half_odd : (n : ℕ) → is_even n ≡ false → (n + 1) / 2 ≡ n / 2 + 1
 half_odd n h = let e : n % 2 ≢ 0 = grind arith in omega arith
 
-slashes-more : (n : ℕ) → slashes n ++ 92 ∷ [] ≡ slashes (n + 1)
-slashes-more n = replicate-append-replicate n 1 92
+backslashes-more : (n : ℕ) → backslashes n ++ 92 ∷ [] ≡ backslashes (n + 1)
+backslashes-more n = replicate-append-replicate n 1 92
 
 shown-more : (n : ℕ) (quoted : Bool) (b : List ℕ) → (quoted ≡ false) ⊎ (quoted ≡ true) → (is_even n ≡ true) ⊎ (is_even n ≡ false)
     → (b ++ shown n quoted) ++ cond (quoted && is_even n) [] (92 ∷ []) ≡ b ++ shown (n + 1) quoted
-shown-more n quoted b (inl q) h = rw (q, append_assoc, slashes-more) refl
+shown-more n quoted b (inl q) h = rw (q, append_assoc, backslashes-more) refl
 shown-more n quoted b (inr q) (inl h) = rw (q, h, half_even n h, append-nil) refl
-shown-more n quoted b (inr q) (inr h) = rw (q, h, half_odd n h, append_assoc, slashes-more) refl
+shown-more n quoted b (inr q) (inr h) = rw (q, h, half_odd n h, append_assoc, backslashes-more) refl
 
 flip_cases : (b : Bool) → (b ≡ false) ⊎ (b ≡ true)
 flip_cases true = inr refl
@@ -121,8 +121,8 @@ at_slash cs n inside b ih = rw (shown-more n (leads_to_quote cs) b (flip_cases (
 
 at_quote : (cs : List ℕ) (n : ℕ) (inside : Bool) (b : List ℕ) → Same cs → (is_even n ≡ true) ⊎ (is_even n ≡ false) → Begun 34 cs n inside b
 unfolding Begun
-at_quote cs n inside b ih (inl h) = rw (h, append-nil) (fresh cs (b ++ slashes (n / 2)) (not inside) ih)
-at_quote cs n inside b ih (inr h) = rw h (fresh cs ((b ++ slashes (n / 2)) ++ 34 ∷ []) inside ih)
+at_quote cs n inside b ih (inl h) = rw (h, append-nil) (fresh cs (b ++ backslashes (n / 2)) (not inside) ih)
+at_quote cs n inside b ih (inr h) = rw h (fresh cs ((b ++ backslashes (n / 2)) ++ 34 ∷ []) inside ih)
 
 not_inside : (s inside : Bool) → (s && not inside) ≡ true → inside ≡ false
 not_inside true false h = refl
@@ -132,8 +132,8 @@ not_inside false inside h = absurd (false≢true h)
 at_other : (c : ℕ) (cs : List ℕ) (n : ℕ) (inside : Bool) (b : List ℕ) → Same cs → (c == 92) ≡ false → (c == 34) ≡ false
     → ((is_msvc_separator c && not inside) ≡ true) ⊎ ((is_msvc_separator c && not inside) ≡ false) → Begun c cs n inside b
 unfolding Begun
-at_other c cs n inside b ih h k (inl s) = rw (s, h, k, not_inside (is_msvc_separator c) inside s) (ap (λ (ws : List (List ℕ)). (b ++ slashes n) ∷ ws) ih.1)
-at_other c cs n inside b ih h k (inr s) = rw (s, h, k) (fresh cs ((b ++ slashes n) ++ encode_utf8 c) inside ih)
+at_other c cs n inside b ih h k (inl s) = rw (s, h, k, not_inside (is_msvc_separator c) inside s) (ap (λ (ws : List (List ℕ)). (b ++ backslashes n) ∷ ws) ih.1)
+at_other c cs n inside b ih h k (inr s) = rw (s, h, k) (fresh cs ((b ++ backslashes n) ++ encode_utf8 c) inside ih)
 
 begun_at : (c : ℕ) (cs : List ℕ) (n : ℕ) (inside : Bool) (b : List ℕ) → Same cs → ((c == 92) ≡ true) ⊎ ((c == 92) ≡ false) → ((c == 34) ≡ true) ⊎ ((c == 34) ≡ false) → Begun c cs n inside b
 begun_at c cs n inside b ih (inl h) k = let P : ℕ → Type 0 = λ x. Begun x cs n inside b in subst P (sym (eqb-true c 92 h)) (at_slash cs n inside b ih)
@@ -176,7 +176,7 @@ char_taken bs rest c total s t ends u e h take = sym (take (chars rest)) ∙ (rw
 pub shorter : (bs rest : List ℕ) (c : ℕ) → bs ≡ encode_utf8 c ++ rest → length rest < length bs
 shorter bs rest c e = omega (arith, ap length e, length-append (encode_utf8 c) rest, length-encode c, len_utf8_bounds c)
 
-pub text_over : (bs : List ℕ) (total : List (List ℕ)) (r : Reader) → length bs ≡ 0 → reads r (chars bs) ≡ total → cond r.begun ((string_bytes r.argument ++ slashes r.slashes) ∷ []) [] ≡ total
+pub text_over : (bs : List ℕ) (total : List (List ℕ)) (r : Reader) → length bs ≡ 0 → reads r (chars bs) ≡ total → cond r.begun ((string_bytes r.argument ++ backslashes r.backslashes) ∷ []) [] ≡ total
 text_over [] total r n h = rw chars-nil at h
 text_over (b ∷ bs) total r n h = absurd (omega arith)
 

@@ -13,13 +13,13 @@ is_even n = n % 2 == 0
 -- ---- what stands at a place of the text
 
 -- how many backslashes stand directly before the place
-abbrev pub slashes_before : List ℕ → ℕ → ℕ
-slashes_before text zero = 0
-slashes_before text (suc i) = cond (slice_index text i == backslash) (slashes_before text i + 1) 0
+abbrev pub backslashes_before : List ℕ → ℕ → ℕ
+backslashes_before text zero = 0
+backslashes_before text (suc i) = cond (slice_index text i == backslash) (backslashes_before text i + 1) 0
 
 -- the character at the place is a quote that toggles
 abbrev pub toggles : List ℕ → ℕ → Bool
-toggles text i = slice_index text i == double_quote && is_even (slashes_before text i)
+toggles text i = slice_index text i == double_quote && is_even (backslashes_before text i)
 
 -- an odd number of toggling quotes stands before the place
 abbrev pub is_inside : List ℕ → ℕ → Bool
@@ -39,9 +39,9 @@ leads_to_quote (c ∷ cs) = cond (c == backslash) (leads_to_quote cs) (c == doub
 
 -- by the backslashes before it, and whether, past backslashes, a quote follows it: of backslashes before a quote each second one, a quote that does not toggle, and every other character mean themselves
 abbrev pub meaning : ℕ → Bool → ℕ → List ℕ
-meaning slashes quoted c =
-    cond (c == backslash) (cond (quoted && is_even slashes) [] (backslash ∷ []))
-    (cond (c == double_quote) (cond (is_even slashes) [] (double_quote ∷ [])) (encode_utf8 c))
+meaning backslashes quoted c =
+    cond (c == backslash) (cond (quoted && is_even backslashes) [] (backslash ∷ []))
+    (cond (c == double_quote) (cond (is_even backslashes) [] (double_quote ∷ [])) (encode_utf8 c))
 
 pub data Place : Type 0 where
   split : Place
@@ -51,7 +51,7 @@ pub data Place : Type 0 where
 abbrev pub place : List ℕ → ℕ → Place
 place text i =
     cond (splits text i) split
-    (means (slice_index text i) (meaning (slashes_before text i) (leads_to_quote (drop (i + 1) text)) (slice_index text i)))
+    (means (slice_index text i) (meaning (backslashes_before text i) (leads_to_quote (drop (i + 1) text)) (slice_index text i)))
 
 -- the places from i on, of which there are n
 abbrev pub places : List ℕ → ℕ → ℕ → List Place

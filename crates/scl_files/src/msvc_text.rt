@@ -2,7 +2,7 @@
 ghost use Rattle.std.specs.Prelude.{◌≡◌, ◌+◌, ◌++◌, OnOk, ◌<◌, ◌≤◌, ◌^◌, [], ◌∷◌, IfOk, MatchOption, false};
 ghost use Rattle.std.specs.String.{string_bytes};
 ghost use Rattle.scl_files.specs.MsvcText.{is_msvc_separator, msvc_arguments};
-ghost use Rattle.scl_files.specs.MsvcReader.{slashes, TakesChar};
+ghost use Rattle.scl_files.specs.MsvcReader.{backslashes, TakesChar};
 ghost use Rattle.std.specs.Str.{chars};
 ghost use Rattle.scl_values.specs.Words.{words_of};
 ghost use Rattle.scl_files.specs.WordsToCome.{items_left, GivesText};
@@ -16,7 +16,7 @@ use std::marker::Model;
 pub(crate) struct Reader {
     argument: String,
     begun: bool,
-    slashes: usize,
+    backslashes: usize,
     inside: bool,
 }
 
@@ -26,8 +26,8 @@ fn is_msvc_separator(c: char) -> bool
     matches!(c, ' ' | '\t' | '\n' | '\r')
 }
 
-fn push_slashes(argument: &mut String, count: usize) -> Mem<()>
-    ensures { OnOk result (string_bytes argument.new ≡ string_bytes argument.old ++ slashes count) }
+fn push_backslashes(argument: &mut String, count: usize) -> Mem<()>
+    ensures { OnOk result (string_bytes argument.new ≡ string_bytes argument.old ++ backslashes count) }
 {
     for _ in 0..count {
         argument.push('\\')?;
@@ -38,20 +38,20 @@ fn push_slashes(argument: &mut String, count: usize) -> Mem<()>
 impl Reader {
     /// Reads a character, and says whether it ends the argument.
     fn take(&mut self, c: char) -> Mem<bool>
-        requires { self.old.slashes + 1 < 2 ^ 64 }
+        requires { self.old.backslashes + 1 < 2 ^ 64 }
         ensures takes { IfOk result (λ ends. TakesChar self.old c ends self.new) }
-        ensures count { self.new.slashes ≤ self.old.slashes + 1 }
+        ensures count { self.new.backslashes ≤ self.old.backslashes + 1 }
     {
         if c == '\\' {
             self.begun = true;
-            self.slashes += 1;
+            self.backslashes += 1;
             return Ok(false);
         }
-        let count = self.slashes;
-        self.slashes = 0;
+        let count = self.backslashes;
+        self.backslashes = 0;
         if c == '"' {
             self.begun = true;
-            push_slashes(&mut self.argument, count / 2)?;
+            push_backslashes(&mut self.argument, count / 2)?;
             if count % 2 == 0 {
                 self.inside = !self.inside;
             } else {
@@ -59,7 +59,7 @@ impl Reader {
             }
             return Ok(false);
         }
-        push_slashes(&mut self.argument, count)?;
+        push_backslashes(&mut self.argument, count)?;
         if is_msvc_separator(c) && !self.inside {
             return Ok(self.begun);
         }
@@ -76,7 +76,7 @@ fn first_argument(alloc: Global, text: &str) -> Mem<Option<(String, &str)>>
     let mut reader = Reader {
         argument: String::new(alloc),
         begun: false,
-        slashes: 0,
+        backslashes: 0,
         inside: false,
     };
     let mut chars = text.chars();
@@ -85,7 +85,7 @@ fn first_argument(alloc: Global, text: &str) -> Mem<Option<(String, &str)>>
             return Ok(Some((reader.argument, chars.as_str())));
         }
     }
-    push_slashes(&mut reader.argument, reader.slashes)?;
+    push_backslashes(&mut reader.argument, reader.backslashes)?;
     if reader.begun {
         Ok(Some((reader.argument, chars.as_str())))
     } else {

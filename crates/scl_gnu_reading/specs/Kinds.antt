@@ -49,10 +49,10 @@ abbrev pub is_hidden_flag : List ℕ → Bool
 is_hidden_flag flag = bytes_eq flag (codes "-Wp") || bytes_eq flag (codes "-Xpreprocessor")
 
 -- whether the option hides from a cache of preprocessor runs what it asks of the preprocessor
-abbrev pub is_too_hard : Seen Kind → Bool
-is_too_hard (Raw w) = false
-is_too_hard (Unknown w) = false
-is_too_hard (Known f k v how) = ghosts.eq k kind.PreprocessorArgument && is_hidden_flag f
+abbrev pub is_hidden : Seen Kind → Bool
+is_hidden (Raw w) = false
+is_hidden (Unknown w) = false
+is_hidden (Known f k v how) = ghosts.eq k kind.PreprocessorArgument && is_hidden_flag f
 
 -- a word that is no option is an input, unless it is `--`
 abbrev pub is_input : Seen Kind → Bool
@@ -90,5 +90,5 @@ abbrev pub external_assembler : List (Seen Kind) → Option Bool
 external_assembler os = option_map assembler_of (last_by (of (kind.IntegratedAs ∷ kind.NoIntegratedAs ∷ [])) os)
 
 -- what hides from a cache of preprocessor runs
-abbrev pub too_hard_flag : List (Seen Kind) → Option (List ℕ)
-too_hard_flag os = option_map flag_of (last_by is_too_hard os)
+abbrev pub hidden_flag : List (Seen Kind) → Option (List ℕ)
+hidden_flag os = option_map flag_of (last_by is_hidden os)

@@ -12,7 +12,7 @@ use Rattle.scl_gnu_reading.specs.contracts.gcc.place.PlacePartialEq.TheImpl as p
 use Rattle.scl_gnu_reading.specs.declared.gcc.place.Place.{Place}
 use Rattle.scl_gnu_reading.specs.declared.gcc.place.Place.TheVariants as places
 use Rattle.scl_gnu_reading.specs.Inners.{inner_place, goes_inside_to}
-use Rattle.scl_gnu_reading.specs.Kinds.{is_input, is_too_hard, is_hidden_flag}
+use Rattle.scl_gnu_reading.specs.Kinds.{is_input, is_hidden, is_hidden_flag}
 use Rattle.scl_gnu_reading.specs.Places.{place, goes_to}
 
 abbrev pub place_of_sort : Sort Kind → Place
@@ -51,12 +51,12 @@ input_by_sort (Raw w) e = (cc)
 input_by_sort (Unknown w) e = refl
 input_by_sort (Known f k v h) e = refl
 
-abbrev pub may_be_too_hard : Sort Kind → Bool
-may_be_too_hard sort.Raw = false
-may_be_too_hard sort.Unknown = false
-may_be_too_hard (sort.Known k) = kinds.ghosts.eq k kind.PreprocessorArgument
+abbrev pub may_be_hidden : Sort Kind → Bool
+may_be_hidden sort.Raw = false
+may_be_hidden sort.Unknown = false
+may_be_hidden (sort.Known k) = kinds.ghosts.eq k kind.PreprocessorArgument
 
-pub too_hard_by_sort : (o : Seen Kind) → may_be_too_hard (sort_of o) ≡ false → is_too_hard o ≡ false
-too_hard_by_sort (Raw w) e = refl
-too_hard_by_sort (Unknown w) e = refl
-too_hard_by_sort (Known f k v h) e = ap (λ b. b && is_hidden_flag f) e
+pub hidden_by_sort : (o : Seen Kind) → may_be_hidden (sort_of o) ≡ false → is_hidden o ≡ false
+hidden_by_sort (Raw w) e = refl
+hidden_by_sort (Unknown w) e = refl
+hidden_by_sort (Known f k v h) e = ap (λ b. b && is_hidden_flag f) e

@@ -15,8 +15,8 @@ use Rattle.scl_msvc_reading.specs.Kinds.{of}
 use Rattle.scl_msvc_reading.specs.Rows.{msvc_tables}
 
 -- the options of words in which response files are put in place
-abbrev pub options_of : Bool → List (List ℕ) → List (Seen Kind)
-options_of is_clang words = map shown (cut (owner_in msvc_tables) is_clang words).options
+abbrev pub options_cut : Bool → List (List ℕ) → List (Seen Kind)
+options_cut is_clang words = map shown (cut (owner_in msvc_tables) is_clang words).options
 
 -- the words of the inner command line behind the options of a kind
 abbrev pub inner_line : Kind → List ℕ → Viewed → List (Seen Kind) → List (List ℕ)
@@ -26,13 +26,13 @@ abbrev pub inner_lines : List ℕ → Viewed → List (Seen Kind) → List (List
 inner_lines directory view os = inner_line kind.XClang directory view os ∷ inner_line kind.Clang directory view os ∷ []
 
 -- these words and those of their inner command lines
-abbrev pub lines_of : Bool → List ℕ → Viewed → List (List ℕ) → List (List (List ℕ))
-lines_of is_clang directory view all = all ∷ inner_lines directory view (options_of is_clang all)
+abbrev pub command_lines_of : Bool → List ℕ → Viewed → List (List ℕ) → List (List (List ℕ))
+command_lines_of is_clang directory view all = all ∷ inner_lines directory view (options_cut is_clang all)
 
 -- the words of each command line that is read; none where the environment is broken
-abbrev pub lines_within : Bool → List ℕ → Viewed → Result (List (List ℕ)) Verdict → List (List (List ℕ))
-lines_within is_clang directory view (Ok words) = lines_of is_clang directory view (expand expansions.Msvc directory view.files words)
-lines_within is_clang directory view (Err broken) = []
+abbrev pub command_lines_within : Bool → List ℕ → Viewed → Result (List (List ℕ)) Verdict → List (List (List ℕ))
+command_lines_within is_clang directory view (Ok words) = command_lines_of is_clang directory view (expand expansions.Msvc directory view.files words)
+command_lines_within is_clang directory view (Err broken) = []
 
-abbrev pub lines : Bool → List ℕ → List (List ℕ × List ℕ) → Viewed → List (List ℕ) → List (List (List ℕ))
-lines is_clang directory pairs view words = lines_within is_clang directory view (surrounded pairs words)
+abbrev pub command_lines : Bool → List ℕ → List (List ℕ × List ℕ) → Viewed → List (List ℕ) → List (List (List ℕ))
+command_lines is_clang directory pairs view words = command_lines_within is_clang directory view (surrounded pairs words)

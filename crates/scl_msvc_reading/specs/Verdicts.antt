@@ -1,5 +1,5 @@
 -- What an option says against caching.
-use Rattle.std.specs.Prelude.{ℕ, Bool, true, false, not, ◌&&◌, List, Option, None, Some, codes}
+use Rattle.std.specs.Prelude.{ℕ, Bool, true, false, not, ◌||◌, List, Option, None, Some, codes}
 use Rattle.std.specs.Str.{bytes_eq}
 use Rattle.scl_args.specs.Empties.{is_empty}
 use Rattle.scl_args.specs.Options.{or_else}
@@ -27,9 +27,9 @@ value_verdict is_clang flag kind.SuppressCompilation value = Some NotCompilation
 value_verdict is_clang flag kind.Output value = refused_if (bytes_eq value (codes "nul")) (CannotCache (codes "output to nul"))
 value_verdict is_clang flag kind.CInput value = refused_if (is_empty value) no_input_file
 value_verdict is_clang flag kind.CxxInput value = refused_if (is_empty value) no_input_file
-value_verdict is_clang flag kind.ClangModuleFile value = refused_if (not (is_clang && not (is_empty value))) (CannotCache flag)
+value_verdict is_clang flag kind.ClangModuleFile value = refused_if (not is_clang || is_empty value) (CannotCache flag)
 value_verdict is_clang flag kind.ClangModuleOutput value = refused_if (is_empty value) (CannotCache flag)
-value_verdict is_clang flag kind.ClangLanguage value = refused_if (not (is_clang && bytes_eq value (codes "c++-module"))) (CannotCache flag)
+value_verdict is_clang flag kind.ClangLanguage value = refused_if (not is_clang || not (bytes_eq value (codes "c++-module"))) (CannotCache flag)
 value_verdict is_clang flag _ value = None
 
 -- what an option says, whatever stands before it

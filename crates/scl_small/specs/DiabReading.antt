@@ -17,8 +17,8 @@ use Rattle.scl_small.specs.declared.diab.args.Kind.TheVariants as kinds
 
 -- where the options of a kind go
 abbrev pub place : Kind → Place
-place kinds.TooHardFlag = places.TooHard
-place kinds.TooHard = places.TooHard
+place kinds.TooHardFlag = places.Refused
+place kinds.TooHard = places.Refused
 place kinds.DoCompilation = places.CompileFlag
 place kinds.Output = places.Output
 place kinds.PassThrough = places.Common

@@ -8,7 +8,7 @@ use Rattle.scl_small.specs.declared.place.Place.TheVariants as places
 
 -- the verdict that a place is, on an option with the flag
 abbrev pub verdict_at : Place → List ℕ → Option Verdict
-verdict_at places.TooHard flag = Some (CannotCache flag)
+verdict_at places.Refused flag = Some (CannotCache flag)
 verdict_at places.NotCompilation flag = Some NotCompilation
 verdict_at _ flag = None
 

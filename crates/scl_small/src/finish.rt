@@ -74,7 +74,7 @@ fn record_of<T: Placed>(
 }
 
 /// The answer for a compilation with the flag: the tests of inputs and language, and the record.
-pub(crate) fn answer<T: Placed>(
+pub(crate) fn recorded<T: Placed>(
     alloc: Global,
     options: Options<T>,
     flag: &str,

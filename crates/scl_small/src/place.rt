@@ -28,7 +28,7 @@ pub(crate) enum Place {
     /// The list of words about dependencies.
     Dependency,
     /// A refusal by the flag.
-    TooHard,
+    Refused,
     /// No compilation.
     NotCompilation,
 }
@@ -90,7 +90,7 @@ pub(crate) fn refused_by_place<T: Placed>(option: &Argument<T>) -> Option<Refusa
     ensures { option_map verdict_of result ≡ refused_at T.place (seen T.kind_of T.word_of option.now) }
 {
     match place_of(option) {
-        Place::TooHard => Some(Refusal::CannotCache(option.flag(), None)),
+        Place::Refused => Some(Refusal::CannotCache(option.flag(), None)),
         Place::NotCompilation => Some(Refusal::NotCompilation),
         Place::Input
         | Place::CompileFlag

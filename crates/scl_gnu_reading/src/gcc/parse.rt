@@ -25,7 +25,7 @@ use scl_text::{ExpansionKind, judge_words};
 use std::alloc::Global;
 
 /// The tests of options that are not refused, and the record of what they find.
-fn answer(
+fn recorded(
     alloc: Global,
     options: Options<ArgData>,
     inner: Options<ArgData>,
@@ -58,7 +58,7 @@ fn read(
 {
     let words = options.texts(alloc, &OfKinds(&[Kind::XClang]))?;
     match read_inner(alloc, &words, cwd, &ByInnerVerdict, view)? {
-        Ok(inner) => answer(alloc, options, inner, kind, plusplus, cwd, view),
+        Ok(inner) => recorded(alloc, options, inner, kind, plusplus, cwd, view),
         Err(refusal) => Ok(refusal.into_answer()),
     }
 }

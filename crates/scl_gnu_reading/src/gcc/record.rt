@@ -15,7 +15,7 @@ use super::inner::push_inner;
 use super::inputs::Inputs;
 use super::outputs::output_files;
 use super::place::Place;
-use super::switches::{color_mode, external_assembler, too_hard_flag};
+use super::switches::{color_mode, external_assembler, hidden_flag};
 use scl_args::{Mem, OfKinds, Options, ShortFlagsJoined};
 use scl_text::language::Language;
 use scl_text::records::{CCompilerKind, ColorMode, ParsedArguments};
@@ -148,7 +148,7 @@ pub(crate) fn record_of(
         profile_generate: options.any(&profile),
         color_mode: color_mode(&options).unwrap_or(ColorMode::Auto),
         suppress_rewrite_includes_only: suppresses_rewritten_includes(kind, &options),
-        too_hard_for_preprocessor_cache_mode: copied_flag(alloc, too_hard_flag(&options))?,
+        too_hard_for_preprocessor_cache_mode: copied_flag(alloc, hidden_flag(&options))?,
         common_args: common_words(alloc, options, inner, &found.object)?,
     })
 }

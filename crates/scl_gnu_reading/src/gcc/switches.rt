@@ -3,8 +3,8 @@ ghost use Rattle.std.specs.Prelude.{◌≡◌};
 ghost use Rattle.std.specs.Option.{option_copied};
 ghost use Rattle.scl_values.specs.Seen.{seen};
 ghost use Rattle.scl_gnu_reading.specs.Data.{kind_of, word_of};
-ghost use Rattle.scl_gnu_reading.specs.Sorts.{may_be_too_hard};
-ghost use Rattle.scl_gnu_reading.specs.Kinds.{color_named, color_of, assembler_of, is_hidden_flag, color_mode, external_assembler, too_hard_flag};
+ghost use Rattle.scl_gnu_reading.specs.Sorts.{may_be_hidden};
+ghost use Rattle.scl_gnu_reading.specs.Kinds.{color_named, color_of, assembler_of, is_hidden_flag, color_mode, external_assembler, hidden_flag};
 
 use super::data::{ArgData, Kind};
 use scl_args::{Argument, OfKinds, Options, Sort, Test};
@@ -82,14 +82,14 @@ fn is_hidden_flag(flag: &str) -> bool
 struct Hidden;
 
 impl Test<ArgData> for Hidden {
-    ghost use Rattle.scl_gnu_reading.specs.Kinds.{is_too_hard};
-    ghost use Rattle.scl_gnu_reading.specs.Sorts.{may_be_too_hard, too_hard_by_sort};
+    ghost use Rattle.scl_gnu_reading.specs.Kinds.{is_hidden};
+    ghost use Rattle.scl_gnu_reading.specs.Sorts.{may_be_hidden, hidden_by_sort};
 
-    ghost passes = { λ _. is_too_hard };
+    ghost passes = { λ _. is_hidden };
 
-    ghost may_pass = { λ _. may_be_too_hard };
+    ghost may_pass = { λ _. may_be_hidden };
 
-    ghost passes_by_sort = { λ _. too_hard_by_sort };
+    ghost passes_by_sort = { λ _. hidden_by_sort };
 
     fn passes(&self, option: &Argument<ArgData>) -> bool {
         match option {
@@ -102,15 +102,15 @@ impl Test<ArgData> for Hidden {
     }
 
     fn may_pass(&self, sort: Sort<Kind>) -> bool
-        ensures { result ≡ may_be_too_hard sort }
+        ensures { result ≡ may_be_hidden sort }
     {
         sort == Sort::Known(Kind::PreprocessorArgument)
     }
 }
 
 /// The flag of the last of those options.
-pub(crate) fn too_hard_flag(options: &Options<ArgData>) -> Option<&'static str>
-    ensures { option_copied result ≡ too_hard_flag options.now }
+pub(crate) fn hidden_flag(options: &Options<ArgData>) -> Option<&'static str>
+    ensures { option_copied result ≡ hidden_flag options.now }
 {
     options.last_flag(&Hidden)
 }

@@ -6,7 +6,7 @@ ghost use Rattle.scl_text.specs.Commands.{pairs_of};
 ghost use Rattle.scl_files.specs.Expand.{expand};
 ghost use Rattle.scl_files.specs.Within.{is_within, are_within};
 ghost use Rattle.scl_msvc_reading.specs.Data.{kind_of, word_of};
-ghost use Rattle.scl_msvc.specs.Within.{options_of, inner_line, inner_lines, lines_of, lines};
+ghost use Rattle.scl_msvc.specs.Within.{options_cut, inner_line, inner_lines, command_lines_of, command_lines};
 
 use super::environment::{gives_words, surrounded};
 use scl_args::{Argument, Mem, OfKinds, cut_options, texts};
@@ -56,7 +56,7 @@ fn are_handed_within(
     view: &View,
     most: usize,
 ) -> Mem<bool>
-    ensures { IfOk result (λ within. within ≡ are_within most (inner_lines cwd.now view.now (options_of is_clang (words_of words.items)))) }
+    ensures { IfOk result (λ within. within ≡ are_within most (inner_lines cwd.now view.now (options_cut is_clang (words_of words.items)))) }
 {
     let cut = cut_options(alloc, words, BothTables::new(), is_clang)?;
     are_inner_within(alloc, &cut.options, cwd, view, most)
@@ -71,7 +71,7 @@ fn are_all_within(
     view: &View,
     most: usize,
 ) -> Mem<bool>
-    ensures { IfOk result (λ within. within ≡ are_within most (lines_of is_clang cwd.now view.now (expand ExpansionKind.Msvc cwd.now view.now.files (words_of words.now)))) }
+    ensures { IfOk result (λ within. within ≡ are_within most (command_lines_of is_clang cwd.now view.now (expand ExpansionKind.Msvc cwd.now view.now.files (words_of words.now)))) }
 {
     match expand_at_most(alloc, ExpansionKind::Msvc, cwd, words, view, most)? {
         Ok(words) => are_handed_within(alloc, words, cwd, is_clang, view, most),
@@ -93,7 +93,7 @@ pub fn has_at_most(
     view: &View,
     most: usize,
 ) -> Mem<bool>
-    ensures { IfOk result (λ within. within ≡ are_within most (lines is_clang cwd.now (pairs_of env_vars.now) view.now (words_of arguments.now))) }
+    ensures { IfOk result (λ within. within ≡ are_within most (command_lines is_clang cwd.now (pairs_of env_vars.now) view.now (words_of arguments.now))) }
 {
     if !gives_words(env_vars) {
         return are_all_within(alloc, arguments, cwd, is_clang, view, most);

@@ -18,7 +18,7 @@ use scl_text::{ExpansionKind, judge_words};
 use std::alloc::Global;
 
 /// The tests of options that are not refused, and the record of what they find.
-fn answer(
+fn recorded(
     alloc: Global,
     options: Options<ArgData>,
     inner: InnerOptions,
@@ -48,7 +48,7 @@ fn read(
     ensures { IfOk result (λ answer. outcome_of answer ≡ read is_clang cwd.now view.now options) }
 {
     match both_inner(alloc, &options, cwd, view)? {
-        Ok(inner) => answer(alloc, options, inner, is_clang, cwd, view),
+        Ok(inner) => recorded(alloc, options, inner, is_clang, cwd, view),
         Err(refusal) => Ok(refusal.into_answer()),
     }
 }

@@ -21,7 +21,7 @@ use scl_text::view::View;
 use std::alloc::Global;
 
 /// The words that go there: those of the outer options, then those of the inner ones.
-fn words_at(
+fn all_words_at(
     alloc: Global,
     options: &Options<ArgData>,
     inner: &InnerOptions,
@@ -71,10 +71,10 @@ pub(crate) fn record_of(
         compilation_flag: Vec::from_slice(alloc, found.compile_flag.as_bytes())?,
         depfile: copied_path(alloc, depfile)?,
         outputs,
-        dependency_args: words_at(alloc, &options, inner, Place::Dependency)?,
-        preprocessor_args: words_at(alloc, &options, inner, Place::Preprocessor)?,
+        dependency_args: all_words_at(alloc, &options, inner, Place::Dependency)?,
+        preprocessor_args: all_words_at(alloc, &options, inner, Place::Preprocessor)?,
         arch_args: Vec::new(alloc),
-        unhashed_args: words_at(alloc, &options, inner, Place::Unhashed)?,
+        unhashed_args: all_words_at(alloc, &options, inner, Place::Unhashed)?,
         extra_dist_files: Vec::new(alloc),
         extra_hash_files: hash_paths(alloc, &options, inner, cwd, view)?,
         uses_external_assembler: false,

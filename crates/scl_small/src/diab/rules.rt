@@ -6,7 +6,7 @@ ghost use Rattle.scl_small.specs.DiabReading.{tested};
 ghost use Rattle.scl_small.specs.DiabValues.{kind_of, word_of};
 
 use super::args::{ArgData, Kind};
-use crate::finish::answer;
+use crate::finish::recorded;
 use crate::place::{Place, Placed, refused_by_place};
 use crate::rules::Rules;
 use scl_args::{Argument, Options, names_file};
@@ -23,8 +23,8 @@ impl Placed for ArgData {
 
     fn place(kind: Kind) -> Place {
         match kind {
-            Kind::TooHardFlag => Place::TooHard,
-            Kind::TooHard => Place::TooHard,
+            Kind::TooHardFlag => Place::Refused,
+            Kind::TooHard => Place::Refused,
             Kind::DoCompilation => Place::CompileFlag,
             Kind::Output => Place::Output,
             Kind::PassThrough => Place::Common,
@@ -59,7 +59,7 @@ impl Rules for ArgData {
     {
         let options = Options::new(alloc, options)?;
         match options.last_flag(&Place::CompileFlag) {
-            Some(flag) => answer(alloc, options, flag),
+            Some(flag) => recorded(alloc, options, flag),
             None => Ok(CompilerArguments::NotCompilation),
         }
     }

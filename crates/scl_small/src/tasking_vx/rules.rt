@@ -6,7 +6,7 @@ ghost use Rattle.scl_small.specs.TaskingReading.{tested};
 ghost use Rattle.scl_small.specs.TaskingValues.{kind_of, word_of};
 
 use super::args::{ArgData, Kind};
-use crate::finish::answer;
+use crate::finish::recorded;
 use crate::place::{Place, Placed, refused_by_place};
 use crate::rules::Rules;
 use scl_args::{Argument, Options};
@@ -22,8 +22,8 @@ impl Placed for ArgData {
 
     fn place(kind: Kind) -> Place {
         match kind {
-            Kind::TooHardFlag => Place::TooHard,
-            Kind::TooHard => Place::TooHard,
+            Kind::TooHardFlag => Place::Refused,
+            Kind::TooHard => Place::Refused,
             Kind::NotCompilationFlag => Place::NotCompilation,
             Kind::NotCompilation => Place::NotCompilation,
             Kind::DoCompilation => Place::CompileFlag,
@@ -55,7 +55,7 @@ impl Rules for ArgData {
     {
         let options = Options::new(alloc, options)?;
         match options.last_flag(&Place::CompileFlag) {
-            Some(_) => answer(alloc, options, "-c"),
+            Some(_) => recorded(alloc, options, "-c"),
             None => Ok(CompilerArguments::NotCompilation),
         }
     }

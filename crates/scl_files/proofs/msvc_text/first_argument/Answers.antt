@@ -19,7 +19,7 @@ pub returns-then-reader : goal.returns-then-reader
 returns-then-reader c =
     let over = text_over _ _ c.loop-c.reader c.in_default.ensures.steps.0.0 c.loop-c.invariant.same in
     let none : length c.as_str-then-reader.result.now ≡ 0 = rw (c.as_str-then-reader.ensures, c.in_default.ensures.steps.0.1) c.in_default.ensures.steps.0.0 in
-    record { first = rw (msvc_arguments-read (chars c.args.text.now), nothing_left c.as_str-then-reader.result.now none, c.in_ok-push_slashes.ensures) (sym (rw c.if-reader.true at over)) }
+    record { first = rw (msvc_arguments-read (chars c.args.text.now), nothing_left c.as_str-then-reader.result.now none, c.in_ok-push_backslashes.ensures) (sym (rw c.if-reader.true at over)) }
 
 pub returns : goal.returns
 returns c =

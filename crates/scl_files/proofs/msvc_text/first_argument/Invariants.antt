@@ -8,7 +8,7 @@ use Rattle.scl_files.proofs.msvc_text.first_argument.Given as goal
 abbrev pub invariant-loop-c : goal.invariant-loop-c
 invariant-loop-c l = record {
   utf8 : IsUtf8 (chars_rest l.chars);
-  room : l.reader.slashes + length (chars_rest l.chars) ≤ length l.text;
+  room : l.reader.backslashes + length (chars_rest l.chars) ≤ length l.text;
   same : reads l.reader (chars (chars_rest l.chars)) ≡ read_on false [] 0 false (chars l.text);
 }
 
