@@ -43,7 +43,7 @@ same() {
     "$program" < request > answer
     [ "$(head -n 1 answer)" = run ] || { echo "$compiler: $(cat answer)" >&2; exit 1; }
     [ "$(grep -c '^run$' answer)" = 1 ] || { echo "$compiler: more runs than one" >&2; exit 1; }
-    mapfile -t words < <(sed -n 's/^    //p' answer)
+    mapfile -t words < <(sed -n 's/^arg //p' answer) # none of these words has a byte that is escaped
     "$compiler" "${words[@]}" > by_runs.i
     "$compiler" -E -P "$input" "${given[@]}" > by_given.i
     cmp by_runs.i by_given.i || { echo "$compiler: the texts differ for $input" >&2; exit 1; }

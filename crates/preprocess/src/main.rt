@@ -1,8 +1,9 @@
-//! Prints with which words the preprocessor is run for the request on standard input: a line `run` for each run, and one
-//! for each of its words (docs/RULES.md, Preprocessing). A bad line is told on standard error, and is an error.
+//! Prints with which words the preprocessor is run for the request on standard input: a line `run` for each run, and a line
+//! `arg W` for each of its words, as `ccline` writes words; or `no record` (docs/RULES.md, Preprocessing). A bad line is told
+//! on standard error, and is an error.
 #![tactic(auto)]
 
-use bstr::ByteSlice;
+use scl_cl::args::Escaped;
 use scl_cl::clang::Clang;
 use scl_cl::diab::Diab;
 use scl_cl::gcc::Gcc;
@@ -50,7 +51,7 @@ fn print_runs(rt: &impl Print, runs: &[Vec<Vec<u8>>]) -> io::Result<()> {
     for run in runs {
         println!(rt; "run")?;
         for word in run {
-            println!(rt; "    {}", word.as_slice().as_bstr())?;
+            println!(rt; "arg {}", Escaped(word))?;
         }
     }
     Ok(())
