@@ -1,8 +1,9 @@
 //! What every builder of a command uses: words put behind words, copies, and the command of its parts.
-ghost use Rattle.std.specs.Prelude.{◌≡◌, ◌↔◌, ◌++◌, ◌∷◌, [], ℕ, take, OnOk, OnErr, IfOk, Err, None};
+ghost use Rattle.std.specs.Prelude.{◌≡◌, ◌↔◌, ◌++◌, ◌∷◌, [], OnOk, OnErr, IfOk, Err, None};
 ghost use Rattle.std.specs.Option.{option_map};
 ghost use Rattle.std.specs.String.{string_bytes};
 ghost use Rattle.scl_values.specs.Words.{words_of};
+ghost use Rattle.scl_args.specs.Wrapped.{HasFirstOf};
 ghost use Rattle.scl_text.specs.Commands.{Builds, pairs_of, object_of, command_by, dash_words};
 ghost use Rattle.scl_text.specs.Compilers.{IsAnswer};
 ghost use Rattle.scl_text.specs.Records.{parsed_of};
@@ -24,7 +25,7 @@ pub fn push_word(alloc: Global, list: &mut Vec<Vec<u8>>, word: &[u8]) -> Mem<()>
 /// Puts copies of words behind those of a list; where memory is refused, the first of them may stand there already.
 pub fn push_words(alloc: Global, list: &mut Vec<Vec<u8>>, words: &[Vec<u8>]) -> Mem<()>
     ensures ok { OnOk result (words_of list.new.items ≡ words_of list.old.items ++ words_of words.now) }
-    ensures err { OnErr result ((n : ℕ) × (words_of list.new.items ≡ words_of list.old.items ++ words_of (take n words.now))) }
+    ensures err { OnErr result (HasFirstOf (words_of list.old.items) (words_of words.now) (words_of list.new.items)) }
 {
     for word in words {
         push_word(alloc, list, word)?;
