@@ -18,13 +18,15 @@ fn ended(is_right: Mem<bool>) -> Ended {
     }
 }
 
+fn add_file(alloc: Global, view: &mut View, path: &[u8], bytes: &[u8]) -> Mem<()> {
+    view.add_file(Vec::from_slice(alloc, path)?, Vec::from_slice(alloc, bytes)?)
+}
+
 /// A view of the files `f` and `g`.
 fn view(alloc: Global, first: &[u8]) -> Mem<View> {
     let mut view = View::new(alloc);
-    let path = Vec::from_slice(alloc, b"f")?;
-    view.add_file(path, Vec::from_slice(alloc, first)?)?;
-    let path = Vec::from_slice(alloc, b"g")?;
-    view.add_file(path, Vec::from_slice(alloc, b"-c a.c")?)?;
+    add_file(alloc, &mut view, b"f", first)?;
+    add_file(alloc, &mut view, b"g", b"-c a.c")?;
     Ok(view)
 }
 
@@ -108,8 +110,7 @@ fn has(view: &View, path: &[u8], was_added: bool) -> bool {
 
 /// Whether the view is as it is to be behind a file more.
 fn adds(alloc: Global, view: &mut View, path: &[u8]) -> Mem<bool> {
-    let (name, bytes) = (Vec::from_slice(alloc, path)?, Vec::from_slice(alloc, b"y")?);
-    let added = view.add_file(name, bytes);
+    let added = add_file(alloc, view, path, b"y");
     if !has(view, path, added.is_ok()) {
         return Ok(false);
     }

@@ -2,6 +2,7 @@ pub mod Cuts
 pub mod Each
 pub mod Escaped
 pub mod Held
+pub mod Left
 pub mod Row
 pub mod Seen
 pub mod Spell

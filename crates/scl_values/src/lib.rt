@@ -5,6 +5,7 @@ mod argument;
 mod error;
 mod escaped;
 mod held;
+mod left;
 mod memory;
 mod seen;
 mod spell;

@@ -1,14 +1,16 @@
 //! Options as words: moving their values, and printing them.
-ghost use Rattle.std.specs.Prelude.{◌≡◌, ◌++◌, ◌<◌, ◌≤◌, ℕ, List, Result, Vec, length, drop, IfOk};
+ghost use Rattle.std.specs.Prelude.{◌≡◌, ◌∷◌, ◌++◌, ◌<◌, ◌≤◌, ℕ, List, Result, Vec, length, IfOk};
 ghost use Rattle.std.specs.declared.alloc.AllocError.{AllocError};
 ghost use Rattle.std.specs.declared.alloc.Global.{Global};
 ghost use Rattle.scl_values.specs.declared.argument.NormalizedDisposition.{NormalizedDisposition};
 ghost use Rattle.std.specs.Iterator.{item_count, Drains};
 ghost use Rattle.std.specs.Option.{option_map};
+ghost use Rattle.scl_values.specs.Left.{words_left};
 ghost use Rattle.scl_values.specs.Seen.{seen};
 ghost use Rattle.scl_values.specs.Spell.{normal, normal_how, delimited, spelled, flag_at, data_at, head_of, YieldsWords};
 
 use crate::argument::{ArgDisposition, Argument, Delimiter, NormalizedDisposition};
+use crate::left::Left;
 use crate::memory::Mem;
 use crate::value::ArgumentValue;
 use std::alloc::Global;
@@ -53,8 +55,7 @@ impl<T: ArgumentValue> Argument<T> {
     {
         Iter {
             alloc,
-            argument: self,
-            given: 0,
+            left: Left::Whole(self),
         }
     }
 
@@ -97,18 +98,16 @@ impl<T> Argument<T> {
 #[derive(Drop)]
 pub struct Iter<'a, T: ArgumentValue> {
     alloc: Global,
-    argument: &'a Argument<T>,
-    given: usize,
+    left: Left<'a, T>,
 }
 
 impl<'a, T: ArgumentValue> Model for Iter<'a, T> {
-    ghost use Rattle.std.specs.Prelude.{ℕ, List, drop};
-    ghost use Rattle.scl_values.specs.Seen.{seen};
-    ghost use Rattle.scl_values.specs.Spell.{spelled};
+    ghost use Rattle.std.specs.Prelude.{ℕ, List};
+    ghost use Rattle.scl_values.specs.Left.{words_left};
 
     ghost Value = { List (List ℕ) };
 
-    ghost view = { λ s. drop s.given (spelled (seen T.kind_of T.word_of s.argument.now)) };
+    ghost view = { λ s. words_left T.kind_of T.word_of s.left };
 }
 
 fn joined(alloc: Global, flag: &str, delimiter: Delimiter, value: &[u8]) -> Mem<Vec<u8>>
@@ -138,6 +137,29 @@ pub fn joined_value<T: ArgumentValue>(
     joined(alloc, flag, delimiter, value.as_slice())
 }
 
+/// The first word of the option, and what is left behind it.
+fn first_word<'a, T: ArgumentValue>(
+    alloc: Global,
+    option: &'a Argument<T>,
+) -> (Mem<Vec<u8>>, Left<'a, T>)
+    ensures { IfOk result.0 (λ word. spelled (seen T.kind_of T.word_of option.now) ≡ word.items ∷ words_left T.kind_of T.word_of result.1) }
+{
+    match option {
+        Argument::Raw(word) | Argument::UnknownFlag(word) => {
+            (Vec::from_slice(alloc, word), Left::Nothing)
+        }
+        Argument::Flag(flag, _) => (Vec::from_slice(alloc, flag.as_bytes()), Left::Nothing),
+        Argument::WithValue(flag, value, disposition) => match *disposition {
+            ArgDisposition::Separated | ArgDisposition::CanBeConcatenated(_) => {
+                (Vec::from_slice(alloc, flag.as_bytes()), Left::Value(value))
+            }
+            ArgDisposition::CanBeSeparated(delimiter) | ArgDisposition::Concatenated(delimiter) => {
+                (joined_value(alloc, flag, delimiter, value), Left::Nothing)
+            }
+        },
+    }
+}
+
 impl<'a, T: ArgumentValue> Iterator for Iter<'a, T> {
     type Item = Mem<Vec<u8>>;
 
@@ -146,30 +168,12 @@ impl<'a, T: ArgumentValue> Iterator for Iter<'a, T> {
     ghost remaining = { item_count (λ s. s) };
 
     fn next(&mut self) -> Option<Mem<Vec<u8>>> {
-        let argument: &Argument<T> = self.argument;
-        let word = match (argument, self.given) {
-            (Argument::Raw(word) | Argument::UnknownFlag(word), 0) => Vec::from_slice(
-                self.alloc,
-                word.as_slice(),
-            ),
-            (Argument::Flag(flag, _), 0) => Vec::from_slice(self.alloc, flag.as_bytes()),
-            (Argument::WithValue(flag, value, disposition), given) => match (*disposition, given) {
-                (ArgDisposition::Separated | ArgDisposition::CanBeConcatenated(_), 0) => {
-                    Vec::from_slice(self.alloc, flag.as_bytes())
-                }
-                (ArgDisposition::Separated | ArgDisposition::CanBeConcatenated(_), 1) => {
-                    value.into_arg_os_string(self.alloc)
-                }
-                (
-                    ArgDisposition::CanBeSeparated(delimiter)
-                    | ArgDisposition::Concatenated(delimiter),
-                    0,
-                ) => { joined_value(self.alloc, flag, delimiter, value) }
-                _ => return None,
-            },
-            _ => return None,
+        let (word, left) = match self.left {
+            Left::Whole(option) => first_word(self.alloc, option),
+            Left::Value(value) => (value.into_arg_os_string(self.alloc), Left::Nothing),
+            Left::Nothing => return None,
         };
-        self.given = if word.is_ok() { self.given + 1 } else { 2 };
+        self.left = if word.is_ok() { left } else { Left::Nothing };
         Some(word)
     }
 }

@@ -12,6 +12,7 @@ ghost use Rattle.scl_values.specs.Texts.{IsWord, IsWantOfMemory, PrintsBehind, P
 
 use crate::argument::{ArgDisposition, Argument, Delimiter};
 use crate::error::{ArgToStringError, ArgToStringResult};
+use crate::left::Left;
 use crate::value::{ArgumentValue, text_of_word};
 use std::alloc::Global;
 use std::marker::Model;
@@ -30,9 +31,8 @@ impl<T: ArgumentValue> Argument<T> {
     {
         IterStrings {
             alloc,
-            argument: self,
+            left: Left::Whole(self),
             closure: f,
-            given: 0,
         }
     }
 }
@@ -41,21 +41,20 @@ impl<T: ArgumentValue> Argument<T> {
 #[derive(Drop)]
 pub struct IterStrings<'a, T: ArgumentValue, F> {
     alloc: Global,
-    argument: &'a Argument<T>,
+    left: Left<'a, T>,
     closure: F,
-    given: usize,
 }
 
 impl<'a, T: ArgumentValue, F> Model for IterStrings<'a, T, F> {
-    ghost use Rattle.std.specs.Prelude.{◌≡◌, true, drop};
-    ghost use Rattle.scl_values.specs.Seen.{seen};
-    ghost use Rattle.scl_values.specs.Texts.{Printer, items_shown, is_delimited_by_ascii};
+    ghost use Rattle.std.specs.Prelude.{◌≡◌, true};
+    ghost use Rattle.scl_values.specs.Left.{items_left, has_ascii_left};
+    ghost use Rattle.scl_values.specs.Texts.{Printer};
 
     ghost Value = { Printer F };
 
-    ghost view = { λ s. record { closure = s.closure; left = drop s.given (items_shown (seen T.is_path T.word_of s.argument.now)) } };
+    ghost view = { λ s. record { closure = s.closure; left = items_left T.is_path T.word_of s.left } };
 
-    ghost invariant = { λ s. is_delimited_by_ascii s.argument.now ≡ true };
+    ghost invariant = { λ s. has_ascii_left s.left ≡ true };
 }
 
 fn text_of_flag(alloc: Global, flag: &str) -> ArgToStringResult
@@ -110,29 +109,30 @@ impl<'a, T: ArgumentValue, F: FnMut(&[u8]) -> Option<String> + Drop> Iterator
     ghost remaining = { item_count (λ s. s.left) };
 
     fn next(&mut self) -> Option<ArgToStringResult> {
-        let argument: &Argument<T> = self.argument;
-        let text = match (argument, self.given) {
-            (Argument::Raw(word) | Argument::UnknownFlag(word), 0) => {
-                text_of_word(self.alloc, word)
-            }
-            (Argument::Flag(flag, _), 0) => text_of_flag(self.alloc, flag),
-            (Argument::WithValue(flag, value, disposition), given) => match (*disposition, given) {
-                (ArgDisposition::Separated | ArgDisposition::CanBeConcatenated(_), 0) => {
-                    text_of_flag(self.alloc, flag)
+        let (text, left) = match self.left {
+            Left::Whole(option) => match option {
+                Argument::Raw(word) | Argument::UnknownFlag(word) => {
+                    (text_of_word(self.alloc, word), Left::Nothing)
                 }
-                (ArgDisposition::Separated | ArgDisposition::CanBeConcatenated(_), 1) => {
-                    value.into_arg_string(self.alloc, &mut self.closure)
-                }
-                (
+                Argument::Flag(flag, _) => (text_of_flag(self.alloc, flag), Left::Nothing),
+                Argument::WithValue(flag, value, disposition) => match *disposition {
+                    ArgDisposition::Separated | ArgDisposition::CanBeConcatenated(_) => {
+                        (text_of_flag(self.alloc, flag), Left::Value(value))
+                    }
                     ArgDisposition::CanBeSeparated(delimiter)
-                    | ArgDisposition::Concatenated(delimiter),
-                    0,
-                ) => joined_text(self.alloc, flag, delimiter, value, &mut self.closure),
-                _ => return None,
+                    | ArgDisposition::Concatenated(delimiter) => (
+                        joined_text(self.alloc, flag, delimiter, value, &mut self.closure),
+                        Left::Nothing,
+                    ),
+                },
             },
-            _ => return None,
+            Left::Value(value) => (
+                value.into_arg_string(self.alloc, &mut self.closure),
+                Left::Nothing,
+            ),
+            Left::Nothing => return None,
         };
-        self.given = if text.is_ok() { self.given + 1 } else { 2 };
+        self.left = if text.is_ok() { left } else { Left::Nothing };
         Some(text)
     }
 }

@@ -106,17 +106,15 @@ fn a_compilation_with_shared_debug_information_may_not_be_kept(
     Ok(())
 }
 
+fn add_file(alloc: Global, view: &mut View, path: &[u8], bytes: &[u8]) -> Mem<()> {
+    view.add_file(Vec::from_slice(alloc, path)?, Vec::from_slice(alloc, bytes)?)
+}
+
 /// A file that names another, and that other.
 fn nested_files(alloc: Global) -> Mem<View> {
     let mut view = View::new(alloc);
-    view.add_file(
-        Vec::from_slice(alloc, b"r")?,
-        Vec::from_slice(alloc, b"-DA @s")?,
-    )?;
-    view.add_file(
-        Vec::from_slice(alloc, b"s")?,
-        Vec::from_slice(alloc, b"-DB")?,
-    )?;
+    add_file(alloc, &mut view, b"r", b"-DA @s")?;
+    add_file(alloc, &mut view, b"s", b"-DB")?;
     Ok(view)
 }
 
@@ -135,12 +133,16 @@ fn files_inside_files_are_put_in_place_for_gcc_and_not_for_msvc(
     Ok(())
 }
 
+fn variable(alloc: Global, key: &str) -> Mem<(Vec<u8>, Vec<u8>)> {
+    let key = Vec::from_slice(alloc, key.as_bytes())?;
+    Ok((key, Vec::from_slice(alloc, b"v")?))
+}
+
 /// The pairs of three variables, two of which are Msvc's own.
 fn variables(alloc: Global) -> Mem<Vec<(Vec<u8>, Vec<u8>)>> {
     let mut pairs = Vec::new(alloc);
     for key in ["CL", "Cl", "_CL_"] {
-        let key = Vec::from_slice(alloc, key.as_bytes())?;
-        pairs.push((key, Vec::from_slice(alloc, b"v")?))?;
+        pairs.push(variable(alloc, key)?)?;
     }
     Ok(pairs)
 }

@@ -356,15 +356,19 @@ static CLANGXX: [Row; 2] = [
     ),
 ];
 
+fn push_line(lines: &mut String, keyword: &str, word: &str) -> Mem<()> {
+    lines.push_str(keyword)?;
+    lines.push_str(word)?;
+    lines.push('\n')
+}
+
 /// Appends a line for each word of a text.
 fn push_lines(lines: &mut String, keyword: &str, words: &str) -> Mem<()> {
     if words.is_empty() {
         return Ok(());
     }
     for word in words.split(' ') {
-        lines.push_str(keyword)?;
-        lines.push_str(word)?;
-        lines.push('\n')?;
+        push_line(lines, keyword, word)?;
     }
     Ok(())
 }
@@ -447,16 +451,21 @@ fn clang_for_cxx_answers_its_rows(rt: HostRuntime) -> Result<(), Fail> {
     expect_rows(&rt, Compiler::Clangxx, &CLANGXX)
 }
 
+/// Appends the line of a file that names the next one so many times.
+fn push_naming_file(alloc: Global, lines: &mut String, number: u32, times: u32) -> Mem<()> {
+    let named = format!(in alloc; "@f{}", u64::from(number) + 1)?;
+    lines.push_str(format!(in alloc; "file f{number}\t{named}")?.as_str())?;
+    for _ in 1..times {
+        lines.push_str(format!(in alloc; "\\x20{named}")?.as_str())?;
+    }
+    lines.push('\n')
+}
+
 /// `file` lines of so many files from f0 on, each of which names the next so many times, and a last one of this text.
 fn nested_files(alloc: Global, files: u32, times: u32, last: &str) -> Result<String, Fail> {
     let mut lines = String::new(alloc);
     for number in 0..files {
-        let named = format!(in alloc; "@f{}", u64::from(number) + 1)?;
-        lines.push_str(format!(in alloc; "file f{number}\t{named}")?.as_str())?;
-        for _ in 1..times {
-            lines.push_str(format!(in alloc; "\\x20{named}")?.as_str())?;
-        }
-        lines.push('\n')?;
+        push_naming_file(alloc, &mut lines, number, times)?;
     }
     lines.push_str(format!(in alloc; "file f{files}\t{last}\n")?.as_str())?;
     Ok(lines)
