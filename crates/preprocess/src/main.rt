@@ -13,7 +13,7 @@ use scl_cl::{CCompilerImpl, Compiler, CompilerArguments, Mem, Request, read_requ
 use std::alloc::Global;
 use std::io::{self, ErrorKind, Read};
 
-/// The runs of one compile command; none where the words give no record.
+/// The preprocessor's runs for a command line; none where its words give no record.
 fn runs_by<C: CCompilerImpl>(
     alloc: Global,
     compiler: &C,

@@ -4,7 +4,9 @@ ghost use Rattle.std.specs.Prelude.{◌≡◌, true};
 ghost use Rattle.scl_values.specs.Texts.{is_delimited_by_ascii};
 
 use crate::Ended;
-use scl_cl::args::{ArgDisposition, ArgToStringResult, Argument, FlagTree, SearchableArgInfo};
+use scl_cl::args::{
+    ArgDisposition, ArgToStringError, ArgToStringResult, Argument, FlagTree, SearchableArgInfo,
+};
 use scl_cl::gcc::{self, ArgData};
 use scl_cl::text::{ExpandAtArgs, GnuExpand, MsvcExpand, read_text};
 use scl_cl::{Compiler, CompilerArguments, Mem, TooManyWords, View};
@@ -19,7 +21,10 @@ fn ended(is_right: Mem<bool>) -> Ended {
 }
 
 fn add_file(alloc: Global, view: &mut View, path: &[u8], bytes: &[u8]) -> Mem<()> {
-    view.add_file(Vec::from_slice(alloc, path)?, Vec::from_slice(alloc, bytes)?)
+    view.add_file(
+        Vec::from_slice(alloc, path)?,
+        Vec::from_slice(alloc, bytes)?,
+    )
 }
 
 /// A view of the files `f` and `g`.
@@ -38,6 +43,15 @@ fn words(alloc: Global, texts: &[&str]) -> Mem<Vec<Vec<u8>>> {
     Ok(words)
 }
 
+/// Want of memory, if the iterator ended behind it.
+fn after_error(has_ended: bool) -> Mem<bool> {
+    if has_ended {
+        Err(AllocError)
+    } else {
+        Ok(false)
+    }
+}
+
 /// Whether an expansion gives so many words; after an error it is to give nothing.
 fn gives<I: Iterator<Item = Mem<Vec<u8>>>>(expansion: &mut I, count: u32) -> Mem<bool>
     requires { I.can_next expansion.now × IsFinite (I.remaining expansion.now) }
@@ -49,8 +63,7 @@ fn gives<I: Iterator<Item = Mem<Vec<u8>>>>(expansion: &mut I, count: u32) -> Mem
                 drop(word);
                 given = given.saturating_add(1);
             }
-            Some(Err(refused)) if expansion.next().is_none() => return Err(refused),
-            Some(Err(_)) => return Ok(false),
+            Some(Err(AllocError)) => return after_error(expansion.next().is_none()),
             None => return Ok(given == count),
         }
     }
@@ -103,9 +116,12 @@ pub(crate) fn decode(alloc: Global) -> Ended {
     ended(decodes(alloc))
 }
 
-/// Whether the view has its first file, and has this one where it was added.
+/// Whether the view has its first files, and has this one where it was added.
 fn has(view: &View, path: &[u8], was_added: bool) -> bool {
-    view.file(b"f") == Some(b"x".as_slice()) && view.file(path).is_some() == was_added
+    let added = was_added.then_some(b"y".as_slice());
+    view.file(b"f") == Some(b"x".as_slice())
+        && view.file(b"g") == Some(b"-c a.c".as_slice())
+        && view.file(path) == added
 }
 
 /// Whether the view is as it is to be behind a file more.
@@ -133,15 +149,6 @@ pub(crate) fn add_files(alloc: Global) -> Ended {
     ended(adds_all(alloc))
 }
 
-/// Want of memory, if the iterator ended behind it.
-fn after_error(has_ended: bool) -> Mem<bool> {
-    if has_ended {
-        Err(AllocError)
-    } else {
-        Ok(false)
-    }
-}
-
 /// Whether the texts are `-D` and `x`; after an error there is to be none.
 fn gives_texts<I: Iterator<Item = ArgToStringResult>>(texts: &mut I) -> Mem<bool>
     requires { I.can_next texts.now × IsFinite (I.remaining texts.now) }
@@ -153,9 +160,15 @@ fn gives_texts<I: Iterator<Item = ArgToStringResult>>(texts: &mut I) -> Mem<bool
                     return Ok(false);
                 }
             }
-            Some(Err(error)) => {
-                drop(error);
-                return after_error(texts.next().is_none());
+            Some(Err(ArgToStringError::Memory)) => return after_error(texts.next().is_none()),
+            Some(
+                Err(
+                    ArgToStringError::InvalidUnicode(word)
+                    | ArgToStringError::FailedPathTransform(word),
+                ),
+            ) => {
+                drop(word);
+                return Ok(false);
             }
             None => return Ok(false),
         }

@@ -44,6 +44,10 @@ pub(crate) fn ask(alloc: Global, request: &[u8], answer: &[u8]) -> Ended {
     match outcome {
         Outcome::Answered if device.taken() == answer => Ended::Done,
         Outcome::OutOfMemory if device.taken().is_empty() => Ended::Refused,
-        _ => Ended::Wrong,
+        Outcome::Answered
+        | Outcome::OutOfMemory
+        | Outcome::BadLine(_)
+        | Outcome::ReadFailed
+        | Outcome::WriteFailed => Ended::Wrong,
     }
 }

@@ -70,7 +70,7 @@ pub record PassChecks {K : Type 0} (tables : List (List (Row K))) (kept : K → 
 abbrev pub has_one_of : {K : Type 0} → List (List ℕ) → Row K → Bool
 has_one_of flags row = list_any (bytes_eq row.flag) flags
 
--- each of the flags of own words, joined to any value, is owned by its row: both checks, of the rows with these flags
+-- the rows with the flags of own words pass both checks, as if each were printed joined
 pub record JoinSafely {K : Type 0} (tables : List (List (Row K))) (flags : List (List ℕ)) : Type 0 where
   pub keeps : keeps_flags (has_one_of flags) (all_rows tables) ≡ true
   pub safe : joins_safely (has_one_of flags) (all_rows tables) (all_rows tables) ≡ true

@@ -85,7 +85,7 @@ pub record AreClear {K : Type 0} (own : List ℕ → Option (Row K)) (dashes : B
   pub are : options ≡ map shown (cut own dashes words).options
   pub clear : Each IsClear (cut own dashes words).options
 
--- an option of a kept kind, an unknown one, or a raw one where no mark ends the options
+-- an option with a value of a kept kind, a flag without one, an unknown flag, or a raw word where no mark ends the options
 abbrev pub IsKept : {K : Type 0} → Bool → (K → Bool) → Cut K → Type 0
 IsKept dashes kept (raw w) = dashes ≡ false
 IsKept dashes kept (unknown w) = Unit {0}

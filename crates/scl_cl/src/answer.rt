@@ -55,7 +55,8 @@ fn reason_text(alloc: Global, reason: &str) -> Mem<Vec<u8>>
     Ok(text)
 }
 
-/// The text of an answer: lines with LF; the text beside a reason is left out (docs/RULES.md, Answers).
+/// The text of an answer: lines with LF; the text beside a reason is left out (docs/RULES.md, Answers). It fails only for
+/// want of memory.
 pub fn answer_text(alloc: Global, answer: &CompilerArguments<Compilation>) -> Mem<Vec<u8>>
     ensures { IfOk result (λ text. text.items ≡ text_of (answer_of answer.now)) }
 {

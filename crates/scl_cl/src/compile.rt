@@ -89,7 +89,7 @@ fn answer_by<C: CCompilerImpl>(
 impl Compiler {
     /// What a command line is answered: the words behind the program `executable`, read in the
     /// directory `cwd` with the files of `view`. All are bytes. Where the answer is a command, it is read again
-    /// (docs/RULES.md, Answers, and Cutting again).
+    /// (docs/RULES.md, Answers, and Cutting again). It fails only for want of memory.
     pub fn answer(
         self,
         alloc: Global,

@@ -23,7 +23,7 @@ pub enum Compiler {
     Tasking,
 }
 
-/// The compilers: a new one is a variant, a name and a line here, and as much in the definitions.
+/// The compilers that are served (docs/DESIGN.md, Recipes, has what a new one takes).
 static SERVED: [Compiler; 8] = [
     Compiler::Gcc,
     Compiler::Gxx,

@@ -5,7 +5,7 @@ ghost use Rattle.scl_cl.specs.Written.{FieldReadsBack, FieldIsPrintable, LineRea
 /// Laws of requests (docs/RULES.md, Lines, Fields, and Requests):
 ///
 /// - `field_reads_back`: a field that is written is read back, whatever its bytes;
-/// - `field_is_printable`: a field that is written has only bytes from 21 to 7E: no space, tab or LF;
+/// - `field_is_printable`: a field that is written has only bytes from 21 to 7E (hexadecimal): no space, tab or LF;
 /// - `line_reads_back`: a line that is written says what was to be said;
 /// - `request_reads_back`: the lines of a request that is written say what was to be said, in order;
 /// - `lines_end_at_feeds`: a line ends at the first LF;

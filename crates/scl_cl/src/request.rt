@@ -10,7 +10,8 @@ use crate::line::read_line;
 use scl_text::Mem;
 use std::alloc::Global;
 
-/// The request that the bytes make, or the number of their bad line.
+/// The request that the bytes make, or the number of their bad line, counted from 1 (docs/RULES.md, Requests). The outer
+/// error is the refusal of memory.
 pub fn read_request(alloc: Global, bytes: &[u8]) -> Mem<Result<Request, u64>>
     ensures { IfOk result (λ read. MatchResult read
         (λ request. request_in (lines_of bytes.now) ≡ Ok (asked_by request))

@@ -26,7 +26,7 @@ pub enum ExpansionKind {
 }
 
 /// All the words with response files put in place, as the iterator of the kind gives them
-/// (docs/RULES.md, Expansion).
+/// (docs/RULES.md, Expansion). It fails only for want of memory.
 pub fn expand_all(
     alloc: Global,
     kind: ExpansionKind,
@@ -48,7 +48,7 @@ pub fn expand_all(
 pub struct TooManyWords;
 
 /// The words that `expand_all` gives, where they are `most` or fewer; else `TooManyWords`, as soon as one more came
-/// (docs/RULES.md, Expansion).
+/// (docs/RULES.md, Expansion). The outer error is the refusal of memory.
 pub fn expand_at_most(
     alloc: Global,
     kind: ExpansionKind,

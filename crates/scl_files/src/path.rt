@@ -173,7 +173,7 @@ pub fn extension(path: &[u8]) -> Option<&[u8]>
 
 /// The second path, which stands in the directory of the first: the second alone where it begins with
 /// `/` or the first is empty, and else both with a `/` between them, unless the first ends in one
-/// (docs/RULES.md, Paths).
+/// (docs/RULES.md, Paths). It fails only for want of memory.
 pub fn join(alloc: Global, directory: &[u8], path: &[u8]) -> Mem<Vec<u8>>
     ensures { IfOk result (λ joined. joined.items ≡ join directory.now path.now) }
 {
@@ -189,7 +189,7 @@ pub fn join(alloc: Global, directory: &[u8], path: &[u8]) -> Mem<Vec<u8>>
 }
 
 /// The path cut at the end of its file name's stem, a dot and the extension, in bytes; a path without
-/// a file name stays as it is (docs/RULES.md, Paths).
+/// a file name stays as it is (docs/RULES.md, Paths). It fails only for want of memory.
 pub fn with_extension(alloc: Global, path: &[u8], extension: &[u8]) -> Mem<Vec<u8>>
     ensures { IfOk result (λ whole. whole.items ≡ with_extension path.now extension.now) }
 {
@@ -218,7 +218,8 @@ fn parent(path: &[u8]) -> &[u8]
 }
 
 /// The path without its file name and the slashes and `.` parts before that, with a name joined on; to
-/// a path without a file name it is joined as it is (docs/RULES.md, Paths).
+/// a path without a file name it is joined as it is (docs/RULES.md, Paths). It fails only for want of
+/// memory.
 pub fn with_file_name(alloc: Global, path: &[u8], name: &[u8]) -> Mem<Vec<u8>>
     ensures { IfOk result (λ whole. whole.items ≡ with_file_name path.now name.now) }
 {

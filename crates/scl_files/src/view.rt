@@ -9,9 +9,8 @@ use scl_values::Mem;
 use std::alloc::Global;
 use std::marker::Model;
 
-/// The files, directories and other paths that a command line may ask for, and whether the
-/// compiler makes code for several architectures. Paths are compared by their components
-/// (docs/RULES.md, View).
+/// The files, directories and other paths that a command line may ask for, and whether it may name
+/// several architectures. Paths are compared by their components (docs/RULES.md, View).
 #[derive(Drop)]
 pub struct View {
     files: PathMap<Vec<u8>>,
@@ -35,7 +34,7 @@ impl Model for View {
 }
 
 impl View {
-    /// A view of nothing, for one architecture (docs/RULES.md, View).
+    /// A view of nothing, where several architectures are not allowed (docs/RULES.md, View).
     pub fn new(alloc: Global) -> View
         ensures { result ≡ empty_view }
     {
@@ -76,7 +75,7 @@ impl View {
         self.existing.add(path, ())
     }
 
-    /// Says whether the compiler makes code for several architectures (docs/RULES.md, View).
+    /// Says whether a command line may name several architectures (docs/RULES.md, View).
     pub fn set_multiarch(&mut self, multiarch: bool)
         ensures { self.new ≡ record self.old { is_multiarch = multiarch } }
     {
@@ -112,7 +111,7 @@ impl View {
         self.file(path).is_some() || self.is_dir(path) || self.was_added(path)
     }
 
-    /// Whether the compiler makes code for several architectures (docs/RULES.md, View).
+    /// Whether a command line may name several architectures (docs/RULES.md, View).
     pub fn multiarch(&self) -> bool
         ensures { result ≡ self.now.is_multiarch }
     {

@@ -23,11 +23,11 @@ runs text set p (other ∷ others) last =
     ∙ ap (λ rest. arch_run text set p other false ∷ rest) (runs text set p others last)
 
 pub one-run : OneArchitectureHasOneRun
-one-run text kind is_asked ignorable may_dist p h = rw (few (length (archs p.arch_args)) h) refl
+one-run text kind rewrites ignorable may_dist p h = rw (few (length (archs p.arch_args)) h) refl
 
 long : (others : List (List ℕ)) (last : List ℕ) → 0 < length others → 2 ≤ length (others ++ last ∷ [])
 long others last h = omega (arith, length-append others (last ∷ []))
 
 pub each-run : EachArchitectureHasItsRun
-each-run text kind is_asked ignorable may_dist p others last h e =
-    rw (e, many (length (others ++ last ∷ [])) (long others last h)) (runs text (settings kind is_asked ignorable false p) p others last)
+each-run text kind rewrites ignorable may_dist p others last h e =
+    rw (e, many (length (others ++ last ∷ [])) (long others last h)) (runs text (settings kind rewrites ignorable false p) p others last)

@@ -4,8 +4,8 @@ use Rattle.std.specs.List.{list_any, slice_split, starts_with}
 use Rattle.std.specs.Str.{bytes_eq, is_utf8}
 
 -- the flag in front of a word for the preprocessor
-unfoldable pub is_front : List ℕ → Bool
-is_front word = bytes_eq word (codes "-Xpreprocessor")
+unfoldable pub is_preprocessor_flag : List ℕ → Bool
+is_preprocessor_flag word = bytes_eq word (codes "-Xpreprocessor")
 
 -- the flag whose value is a file of diagnostics
 unfoldable pub is_diagnostics : List ℕ → Bool
@@ -27,34 +27,34 @@ some_asks texts = list_any asks_for_rules (slice_split (λ b. nat_eq b 44) texts
 unfoldable pub hands_on_rules : List ℕ → Bool
 hands_on_rules word = is_utf8 word && starts_with nat_eq word (codes "-Wp,") && some_asks (drop 4 word)
 
--- how many words belong to a flag: the front of its value and the value, where there are such
-abbrev pub value_words : List ℕ → List (List ℕ) → ℕ
-value_words flag [] = 0
-value_words flag (word ∷ words) = if has_value flag && is_front word then 2 else 0
+-- how many words belong to a flag: `-Xpreprocessor` before its value and the value, where there are such
+abbrev pub value_count : List ℕ → List (List ℕ) → ℕ
+value_count flag [] = 0
+value_count flag (word ∷ words) = if has_value flag && is_preprocessor_flag word then 2 else 0
 
--- how many words a front and the flag behind it are, with those of the flag's value: none where the flag asks for no rules
-abbrev pub flag_words : List (List ℕ) → ℕ
-flag_words [] = 0
-flag_words (flag ∷ words) = if is_utf8 flag && asks_for_rules flag then 2 + value_words flag words else 0
+-- how many words `-Xpreprocessor` and the flag behind it are, with those of the flag's value: none where the flag asks for no rules
+abbrev pub flag_count : List (List ℕ) → ℕ
+flag_count [] = 0
+flag_count (flag ∷ words) = if is_utf8 flag && asks_for_rules flag then 2 + value_count flag words else 0
 
 -- how many words at the front of these make the preprocessor write one file: none where the first does not, and more than
 -- there are where a value is missing
-unfoldable pub file_words : List (List ℕ) → ℕ
-file_words [] = 0
-file_words (word ∷ words) =
-    if is_diagnostics word then 2 else (if is_front word then flag_words words else (if hands_on_rules word then 1 else 0))
+unfoldable pub file_count : List (List ℕ) → ℕ
+file_count [] = 0
+file_count (word ∷ words) =
+    if is_diagnostics word then 2 else (if is_preprocessor_flag word then flag_count words else (if hands_on_rules word then 1 else 0))
 
 -- what is left of words where those that make the preprocessor write a file are left out, from the left
 pub data LeavesOut : List (List ℕ) → List (List ℕ) → Type 0 where
   ends : LeavesOut [] []
-  keeps : (word : List ℕ) (words kept : List (List ℕ)) → file_words (word ∷ words) ≡ 0 → LeavesOut words kept → LeavesOut (word ∷ words) (word ∷ kept)
-  leaves : (word : List ℕ) (words kept : List (List ℕ)) → 0 < file_words (word ∷ words) → LeavesOut (drop (file_words (word ∷ words)) (word ∷ words)) kept → LeavesOut (word ∷ words) kept
+  keeps : (word : List ℕ) (words kept : List (List ℕ)) → file_count (word ∷ words) ≡ 0 → LeavesOut words kept → LeavesOut (word ∷ words) (word ∷ kept)
+  leaves : (word : List ℕ) (words kept : List (List ℕ)) → 0 < file_count (word ∷ words) → LeavesOut (drop (file_count (word ∷ words)) (word ∷ words)) kept → LeavesOut (word ∷ words) kept
 
 -- what is left behind so many words that are left out
 abbrev pub left_behind : ℕ → List (List ℕ) → List (List ℕ)
 left_behind n [] = []
 left_behind (suc n) (word ∷ words) = left_behind n words
-left_behind zero (word ∷ words) = elim (file_words (word ∷ words)) [ zero ↦ word ∷ left_behind 0 words | suc n ↦ left_behind n words ]
+left_behind zero (word ∷ words) = elim (file_count (word ∷ words)) [ zero ↦ word ∷ left_behind 0 words | suc n ↦ left_behind n words ]
 
 -- the words without those that make the preprocessor write a file
 unfoldable pub without_output_files : List (List ℕ) → List (List ℕ)

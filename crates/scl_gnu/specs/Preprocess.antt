@@ -25,10 +25,10 @@ rewriting_flag kinds.Msvc = []
 rewriting_flag kinds.TaskingVX = []
 
 abbrev pub rewriting : CCompilerKind → Bool → Parsed → List (List ℕ)
-rewriting kind is_asked p = if is_asked && not p.suppress_rewrite_includes_only then rewriting_flag kind else []
+rewriting kind rewrites p = if rewrites && not p.suppress_rewrite_includes_only then rewriting_flag kind else []
 
 abbrev pub settings : CCompilerKind → Bool → List (List ℕ) → Bool → Parsed → List (List ℕ)
-settings kind is_asked ignorable may_dist p = ignoring may_dist p ignorable ++ rewriting kind is_asked p
+settings kind rewrites ignorable may_dist p = ignoring may_dist p ignorable ++ rewriting kind rewrites p
 
 -- ---- the runs
 
@@ -70,24 +70,24 @@ arch_runs text set p (arch ∷ rest) = arch_run text set p arch (is_none rest) �
 
 -- one run; or, of several architectures, which are never distributed, one for each
 abbrev pub preprocess_passes : Option (List ℕ) → CCompilerKind → Bool → List (List ℕ) → Bool → Parsed → List (List (List ℕ))
-preprocess_passes text kind is_asked ignorable may_dist p =
+preprocess_passes text kind rewrites ignorable may_dist p =
     if nat_le 2 (length (archs p.arch_args))
-    then arch_runs text (settings kind is_asked ignorable false p) p (archs p.arch_args)
-    else run_words text (settings kind is_asked ignorable may_dist p) p ∷ []
+    then arch_runs text (settings kind rewrites ignorable false p) p (archs p.arch_args)
+    else run_words text (settings kind rewrites ignorable may_dist p) p ∷ []
 
 -- ---- each compiler, with its flags that leave out what may be ignored
 
 abbrev pub line_flags : Bool → List (List ℕ)
 line_flags cache_mode = if cache_mode then [] else codes "-P" ∷ []
 
-abbrev pub is_preprocessed_assembler : Language → Bool
-is_preprocessed_assembler languages.AssemblerToPreprocess = true
-is_preprocessed_assembler _ = false
+abbrev pub is_assembler_to_preprocess : Language → Bool
+is_assembler_to_preprocess languages.AssemblerToPreprocess = true
+is_assembler_to_preprocess _ = false
 
--- Clang from version 14 on leaves out white space too, but not in assembler
+-- Clang from version 14 on leaves out white space too, but not in assembler that is to be preprocessed
 abbrev pub space_flags : Bool → Option (List ℕ) → Language → List (List ℕ)
 space_flags is_apple version language =
-    if is_minversion is_apple version 14 && not (is_preprocessed_assembler language) then codes "-fminimize-whitespace" ∷ [] else []
+    if is_minversion is_apple version 14 && not (is_assembler_to_preprocess language) then codes "-fminimize-whitespace" ∷ [] else []
 
 abbrev pub clang_flags : Bool → Option (List ℕ) → Language → Bool → List (List ℕ)
 clang_flags is_apple version language cache_mode = line_flags cache_mode ++ space_flags is_apple version language
@@ -104,16 +104,16 @@ clang_passes is_apple version may_dist rewrites cache_mode p =
 -- a record of one architecture, or of none, has one run
 abbrev pub OneArchitectureHasOneRun : Type 0
 OneArchitectureHasOneRun =
-    (text : Option (List ℕ)) (kind : CCompilerKind) (is_asked : Bool) (ignorable : List (List ℕ)) (may_dist : Bool) (p : Parsed)
+    (text : Option (List ℕ)) (kind : CCompilerKind) (rewrites : Bool) (ignorable : List (List ℕ)) (may_dist : Bool) (p : Parsed)
     → length (archs p.arch_args) < 2
-    → preprocess_passes text kind is_asked ignorable may_dist p ≡ run_words text (settings kind is_asked ignorable may_dist p) p ∷ []
+    → preprocess_passes text kind rewrites ignorable may_dist p ≡ run_words text (settings kind rewrites ignorable may_dist p) p ∷ []
 
 -- the runs of several differ in the words of their architecture, and in what the last one alone has
 abbrev pub EachArchitectureHasItsRun : Type 0
 EachArchitectureHasItsRun =
-    (text : Option (List ℕ)) (kind : CCompilerKind) (is_asked : Bool) (ignorable : List (List ℕ)) (may_dist : Bool) (p : Parsed) (others : List (List ℕ)) (last : List ℕ)
+    (text : Option (List ℕ)) (kind : CCompilerKind) (rewrites : Bool) (ignorable : List (List ℕ)) (may_dist : Bool) (p : Parsed) (others : List (List ℕ)) (last : List ℕ)
     → 0 < length others
     → archs p.arch_args ≡ others ++ last ∷ []
-    → preprocess_passes text kind is_asked ignorable may_dist p
-    ≡ map (λ arch. run_words text (settings kind is_asked ignorable false p) (with_archs (arch_words arch) (without_files p))) others
-    ++ run_words text (settings kind is_asked ignorable false p) (with_archs (arch_words last) p) ∷ []
+    → preprocess_passes text kind rewrites ignorable may_dist p
+    ≡ map (λ arch. run_words text (settings kind rewrites ignorable false p) (with_archs (arch_words arch) (without_files p))) others
+    ++ run_words text (settings kind rewrites ignorable false p) (with_archs (arch_words last) p) ∷ []

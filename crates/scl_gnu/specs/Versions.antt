@@ -1,13 +1,10 @@
 -- Which versions of Clang are new enough.
-use Rattle.std.specs.Prelude.{◌≡◌, ℕ, ◌==◌, Bool, true, false, cond, List, [], ◌∷◌, Option, find, refl}
+use Rattle.std.specs.Prelude.{ℕ, ◌==◌, Bool, true, false, cond, List, [], ◌∷◌, Option, find}
 use Rattle.std.specs.List.{list_any, slice_split}
 use Rattle.std.specs.Option.{option_and_then, option_map_or}
 use Rattle.std.specs.Ordering.{is_ge, nat_cmp, ordering_then}
 use Rattle.std.specs.Result.{result_ok}
 use Rattle.std.specs.declared.cmp.Ordering.{Ordering}
-use Rattle.semver.specs.declared.Version.{Version}
-use Rattle.semver.specs.Eval.{precedence_cmp}
-use Rattle.semver.specs.Identifiers.{parts_of}
 use Rattle.semver.specs.Order.{pre_cmp}
 use Rattle.semver.specs.Parse.{Parts, version_parts}
 
@@ -37,10 +34,6 @@ version_in text = option_and_then (λ part. result_ok (version_parts (without_qu
 -- the order of precedence, which build metadata has no part in
 abbrev pub precedence : Parts → Parts → Ordering
 precedence a b = ordering_then (nat_cmp a.0 b.0) (ordering_then (nat_cmp a.1 b.1) (ordering_then (nat_cmp a.2 b.2) (pre_cmp a.3 b.3)))
-
--- it is the order of semver's versions
-pub precedence_is : (a b : Version) → precedence (parts_of a) (parts_of b) ≡ precedence_cmp a b
-precedence_is a b = refl
 
 -- whether a text names a version that is at least `major`.0.0
 abbrev pub names_at_least : ℕ → List ℕ → Bool

@@ -78,13 +78,13 @@ object_by (Some depfile) object = object
 abbrev pub depfile_object : Bool → Parsed → Option (List ℕ)
 depfile_object is_clang parsed = if is_clang then object_by parsed.depfile (object_of parsed) else None
 
--- Nothing where no object wants the file; else its text, or that the error output is no UTF-8; or memory was refused.
+-- Nothing where no object wants the file; else that the error output is no UTF-8; else its text, or memory was refused.
 abbrev pub IsDepfileAnswer : Parsed → List ℕ → List ℕ → Option (List ℕ) → Result (Option DepfileText) DepfileError → Type 0
 IsDepfileAnswer parsed prefix stderr None (Ok None) = Unit {0}
 IsDepfileAnswer parsed prefix stderr None (Ok (Some made)) = ⊥
 IsDepfileAnswer parsed prefix stderr None (Err errors.NotUtf8) = ⊥
-IsDepfileAnswer parsed prefix stderr None (Err errors.Memory) = Unit {0}
+IsDepfileAnswer parsed prefix stderr None (Err errors.Memory) = ⊥
 IsDepfileAnswer parsed prefix stderr (Some object) (Ok None) = ⊥
 IsDepfileAnswer parsed prefix stderr (Some object) (Ok (Some made)) = IsUtf8 stderr × IsDepfile parsed object prefix stderr made
 IsDepfileAnswer parsed prefix stderr (Some object) (Err errors.NotUtf8) = IsUtf8 stderr → ⊥
-IsDepfileAnswer parsed prefix stderr (Some object) (Err errors.Memory) = Unit {0}
+IsDepfileAnswer parsed prefix stderr (Some object) (Err errors.Memory) = IsUtf8 stderr

@@ -21,7 +21,7 @@ abbrev pub flag_verdict : Place → List ℕ → Option Verdict
 flag_verdict places.Refused flag = Some (CannotCache flag)
 flag_verdict _ flag = None
 
--- what a flag of the kind says with this value; that of a module, or of a language, only clang-cl has
+-- what a flag of the kind says with this value; that of a module's file, or of a language, only clang-cl has
 abbrev pub value_verdict : Bool → List ℕ → Kind → List ℕ → Option Verdict
 value_verdict is_clang flag kind.SuppressCompilation value = Some NotCompilation
 value_verdict is_clang flag kind.Output value = refused_if (bytes_eq value (codes "nul")) (CannotCache (codes "output to nul"))

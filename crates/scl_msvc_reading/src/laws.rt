@@ -12,8 +12,8 @@ ghost use Rattle.scl_msvc_reading.specs.Rows.{msvc_tables};
 /// Laws of the written tables (docs/RULES.md, Cutting again, and Words that name response files):
 ///
 /// - `msvc_tables_pass_both_checks`: they pass both checks for the kinds that lists carry, each flag on its side;
-/// - `own_flags_join_safely`: the flags of own words and of words that are handed on, joined to any value, are owned by
-///   their rows;
+/// - `own_flags_join_safely`: the rows with the flags of own words, and of words that are handed on, pass both checks as if
+///   each were printed joined: no other row has such a flag, and no flag goes on from one;
 /// - `clang_tables_pass_both_checks_inside`: Clang's pass both for the kinds of inner options that Msvc's lists carry;
 /// - `xclang_alone_hands_words_on`, `clang_alone_hands_words_on`: no list carries an outer option with the flag `-Xclang`,
 ///   nor one with `-clang:`;

@@ -27,7 +27,7 @@ use scl_text::{ExpansionKind, Mem, View, expand_all};
 use std::alloc::Global;
 
 /// What words without response files say to Diab, cut by tables whose value rows have kinds that hold values: the
-/// record, or the first refusal (docs/RULES.md, Diab and TaskingVX).
+/// record, or the first refusal (docs/RULES.md, Diab and TaskingVX). It fails only for want of memory.
 pub fn parse_words<S: SearchableArgInfo<ArgData> + Drop>(
     alloc: Global,
     words: Vec<Vec<u8>>,
@@ -41,6 +41,7 @@ pub fn parse_words<S: SearchableArgInfo<ArgData> + Drop>(
 
 /// What words say to Diab, with the response files of the view, looked up from the directory, put in place, cut by
 /// tables whose value rows have kinds that hold values: the record, or the first refusal (docs/RULES.md, Diab and TaskingVX).
+/// It fails only for want of memory.
 pub fn parse_arguments<S: SearchableArgInfo<ArgData> + Drop>(
     alloc: Global,
     arguments: &[Vec<u8>],
@@ -55,8 +56,8 @@ pub fn parse_arguments<S: SearchableArgInfo<ArgData> + Drop>(
     parse_words(alloc, words, arg_info)
 }
 
-/// The compile command of a record, whose outcome may be kept; `MissingObj` exactly where the record has no output
-/// `obj` (docs/RULES.md, Diab and TaskingVX). The view is not asked.
+/// The compile command of a record, whose outcome may be kept (docs/RULES.md, Diab and TaskingVX). The errors are
+/// `MissingObj`, exactly where the record has no output `obj`, and the refusal of memory. The view is not asked.
 pub fn generate_compile_commands(
     alloc: Global,
     executable: &[u8],

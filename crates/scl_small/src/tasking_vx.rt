@@ -26,7 +26,8 @@ use scl_text::{Mem, View};
 use std::alloc::Global;
 
 /// What words say to TaskingVX, cut by tables whose value rows have kinds that hold values: the record, or the first
-/// refusal (docs/RULES.md, Diab and TaskingVX). It expands no response files, so directory and view are not asked.
+/// refusal (docs/RULES.md, Diab and TaskingVX). It expands no response files, so directory and view are not asked. It fails
+/// only for want of memory.
 pub fn parse_arguments<S: SearchableArgInfo<ArgData> + Drop>(
     alloc: Global,
     arguments: &[Vec<u8>],
@@ -42,8 +43,8 @@ pub fn parse_arguments<S: SearchableArgInfo<ArgData> + Drop>(
     read::<ArgData, S>(alloc, words, arg_info)
 }
 
-/// The compile command of a record, whose outcome may be kept; `MissingObj` exactly where the record has no output
-/// `obj` (docs/RULES.md, Diab and TaskingVX). The view is not asked.
+/// The compile command of a record, whose outcome may be kept (docs/RULES.md, Diab and TaskingVX). The errors are
+/// `MissingObj`, exactly where the record has no output `obj`, and the refusal of memory. The view is not asked.
 pub fn generate_compile_commands(
     alloc: Global,
     executable: &[u8],

@@ -7,4 +7,3 @@ pub mod Reasons
 pub mod Records
 pub mod Refusals
 pub mod Runs
-pub use Rattle.scl_values.specs.Words

@@ -44,7 +44,7 @@ pub fn push_dashes(alloc: Global, list: &mut Vec<Vec<u8>>, is_behind_dashes: boo
     Ok(())
 }
 
-/// A copy of a text, where there is one.
+/// A copy of a text, where there is one. It fails only for want of memory.
 pub fn copied_text(alloc: Global, text: &Option<String>) -> Mem<Option<String>>
     ensures { IfOk result (λ copy. option_map string_bytes copy ≡ option_map string_bytes text.now) }
 {
@@ -54,7 +54,7 @@ pub fn copied_text(alloc: Global, text: &Option<String>) -> Mem<Option<String>>
     }
 }
 
-/// Copies of pairs of a key and a value.
+/// Copies of pairs of a key and a value. It fails only for want of memory.
 pub fn copied_pairs(alloc: Global, pairs: &[(Vec<u8>, Vec<u8>)]) -> Mem<Vec<(Vec<u8>, Vec<u8>)>>
     ensures { IfOk result (λ copies. pairs_of copies.items ≡ pairs_of pairs.now) }
 {
@@ -67,7 +67,8 @@ pub fn copied_pairs(alloc: Global, pairs: &[(Vec<u8>, Vec<u8>)]) -> Mem<Vec<(Vec
     Ok(copies)
 }
 
-/// The command of a program, its words, its environment and its directory, without a job server.
+/// The command of a program, its words, its environment and its directory, without a job server. It fails only for want of
+/// memory.
 pub fn single_command(
     alloc: Global,
     executable: &[u8],
@@ -93,13 +94,13 @@ pub trait CommandWords {
 
     ghost words: { Self → Parsed → List ℕ → List (List ℕ) };
 
-    /// The words that make this object file.
+    /// The words that make this object file. It fails only for want of memory.
     fn words(&self, alloc: Global, parsed: &ParsedArguments, object: &[u8]) -> Mem<Vec<Vec<u8>>>
         ensures { IfOk result (λ made. words_of made.items ≡ words self.now (parsed_of parsed.now) object.now) };
 }
 
-/// The compile command of a record, and whether its outcome may be kept; `MissingObj` exactly where the record has no
-/// output `obj`.
+/// The compile command of a record, and whether its outcome may be kept. The errors are `MissingObj`, exactly where the
+/// record has no output `obj`, and the refusal of memory.
 pub fn compile_command<W: CommandWords>(
     alloc: Global,
     words: &W,

@@ -52,12 +52,13 @@ pub trait CCompilerImpl {
     fn plusplus(&self) -> bool
         ensures { result ≡ plusplus_of self.now };
 
-    /// A copy of its version, if it is known (docs/RULES.md, Compilers).
+    /// A copy of its version, if it is known (docs/RULES.md, Compilers). It fails only for want of memory.
     fn version(&self, alloc: Global) -> Mem<Option<String>>
         ensures { IfOk result (λ version. option_map string_bytes version ≡ version_of self.now) };
 
     /// What the words of a command line say; the directory and the view answer what they ask of
-    /// files. Where they have a record with an output `obj`, its command is read again (docs/RULES.md, Compilers, and Cutting again).
+    /// files. Where they have a record with an output `obj`, its command is read again (docs/RULES.md, Compilers, and
+    /// Cutting again). It fails only for want of memory.
     fn parse_arguments(
         &self,
         alloc: Global,
@@ -69,8 +70,9 @@ pub trait CCompilerImpl {
         ensures outcome { IfOk result (λ answer. outcome_of answer ≡ reading self.now (words_of arguments.now) cwd.now (pairs_of env_vars.now) view.now) }
         ensures read_again { IfOk result (λ answer. IfCommand (command_by (command self.now)) (is_read_again self.now (words_of arguments.now) cwd.now (pairs_of env_vars.now) view.now) (outcome_of answer)) };
 
-    /// The command of a record, and whether its outcome may be kept; `MissingObj` exactly where
-    /// the record has no output `obj`. The command of a record that was read is read again (docs/RULES.md, Compilers, and Cutting again).
+    /// The command of a record, and whether its outcome may be kept. The command of a record that was read is read again
+    /// (docs/RULES.md, Compilers, and Cutting again). The errors are `MissingObj`, exactly where the record has no output
+    /// `obj`, and the refusal of memory.
     fn generate_compile_commands(
         &self,
         alloc: Global,
@@ -85,12 +87,13 @@ pub trait CCompilerImpl {
             reading self.now line directory pairs files ≡ Ok (parsed_of parsed.now) → is_read_again self.now line directory pairs files (parsed_of parsed.now) (words_of answer.0.arguments.items)) }
         ensures missing { (result ≡ Err CommandError.MissingObj) ↔ (object_of (parsed_of parsed.now) ≡ None) };
 
-    /// A copy of the assembler's digest, if it is known (docs/RULES.md, Compilers).
+    /// A copy of the assembler's digest, if it is known (docs/RULES.md, Compilers). It fails only for want of memory.
     fn assembler_digest(&self, alloc: Global) -> Mem<Option<String>>
         ensures { IfOk result (λ digest. option_map string_bytes digest ≡ digest_of self.now) };
 
     /// The words of the runs of the preprocessor for a record, in order: for a distant compiler or not, with macros left in
-    /// place where that is asked, for a cache of preprocessor runs or not (docs/RULES.md, Preprocessing).
+    /// place where that is asked, for a cache of preprocessor runs or not (docs/RULES.md, Preprocessing). It fails only for
+    /// want of memory.
     fn preprocess_passes(
         &self,
         alloc: Global,

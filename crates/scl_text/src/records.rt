@@ -89,7 +89,7 @@ pub struct ParsedArguments {
     pub profile_generate: bool,
     /// Whether messages are coloured.
     pub color_mode: ColorMode,
-    /// Whether includes may not be rewritten before the compiler sees them.
+    /// Whether no run of the preprocessor may leave macros in place.
     pub suppress_rewrite_includes_only: bool,
     /// The flag that hides from a cache of preprocessor runs what it asks of the preprocessor.
     pub too_hard_for_preprocessor_cache_mode: Option<Vec<u8>>,

@@ -1,5 +1,5 @@
 //! Why a command line is refused.
-ghost use Rattle.std.specs.Prelude.{◌≡◌, Err, IfErr, IfOk, MatchResult, None, Ok};
+ghost use Rattle.std.specs.Prelude.{◌≡◌, Err, IfErr, IfOk, IsTrue, MatchOption, MatchResult, None, Ok, Some, is_some};
 ghost use Rattle.scl_text.specs.Reasons.{argument_parse};
 ghost use Rattle.scl_text.specs.Records.{outcome_of};
 ghost use Rattle.scl_text.specs.Refusals.{verdict_of, text_of, answer_of, the_input, later_inputs};
@@ -51,7 +51,8 @@ impl Refusal {
 /// The refusal of words that can't be cut, with the error's text beside the reason (docs/RULES.md, Readings). It fails only
 /// for want of memory.
 pub fn argument_parse<E: Display>(alloc: Global, error: &E) -> Mem<Refusal>
-    ensures { IfOk result (λ refusal. verdict_of refusal ≡ argument_parse) }
+    ensures verdict { IfOk result (λ refusal. verdict_of refusal ≡ argument_parse) }
+    ensures text { IfOk result (λ refusal. MatchOption (E.output error.now) (IsTrue (is_some (text_of refusal))) (λ bytes. text_of refusal ≡ Some bytes)) }
 {
     let text = format!(in alloc; "{error}")?;
     Ok(Refusal::CannotCache(ARGUMENT_PARSE, Some(text)))

@@ -31,9 +31,13 @@ pub fn language_to_clang_arg(language: Language) -> Option<&'static str>
 /// are known (docs/RULES.md, Clang).
 #[derive(Debug, Drop)]
 pub struct Clang {
+    /// Whether it is the driver for C++.
     pub clangplusplus: bool,
+    /// Whether it is Apple's, which has other versions.
     pub is_appleclang: bool,
+    /// The text of its version, if that is known.
     pub version: Option<String>,
+    /// The digest of its assembler, if that is known.
     pub assembler_digest: Option<String>,
 }
 

@@ -18,8 +18,11 @@ use std::alloc::Global;
 /// (docs/RULES.md, Gcc).
 #[derive(Debug, Drop)]
 pub struct Gcc {
+    /// Whether it is the driver for C++.
     pub gplusplus: bool,
+    /// Its version, if that is known.
     pub version: Option<String>,
+    /// The digest of its assembler, if that is known.
     pub assembler_digest: Option<String>,
 }
 

@@ -2,7 +2,7 @@
 ghost use Rattle.std.specs.Prelude.{◌≡◌, IfOk, drop};
 ghost use Rattle.std.specs.Str.{is_utf8};
 ghost use Rattle.scl_values.specs.Words.{words_of};
-ghost use Rattle.scl_gnu.specs.OutputFiles.{asks_for_rules, is_diagnostics, is_front, some_asks, has_value, hands_on_rules, value_words, flag_words, file_words, without_output_files};
+ghost use Rattle.scl_gnu.specs.OutputFiles.{asks_for_rules, is_diagnostics, is_preprocessor_flag, some_asks, has_value, hands_on_rules, value_count, flag_count, file_count, without_output_files};
 
 use scl_args::Mem;
 use scl_text::command::push_word;
@@ -10,7 +10,7 @@ use std::alloc::Global;
 use std::str::from_utf8;
 
 /// The flag in front of a word for the preprocessor.
-const FRONT: &[u8] = b"-Xpreprocessor";
+const PREPROCESSOR_FLAG: &[u8] = b"-Xpreprocessor";
 
 /// The flag whose value is a file of diagnostics.
 const DIAGNOSTICS: &[u8] = b"--serialize-diagnostics";
@@ -61,11 +61,11 @@ fn hands_on_rules(word: &[u8]) -> bool
     }
 }
 
-#[tactic(auto, unfolding(crate::specs::OutputFiles::is_front))]
-fn is_front(word: &[u8]) -> bool
-    ensures { result ≡ is_front word.now }
+#[tactic(auto, unfolding(crate::specs::OutputFiles::is_preprocessor_flag))]
+fn is_preprocessor_flag(word: &[u8]) -> bool
+    ensures { result ≡ is_preprocessor_flag word.now }
 {
-    word == FRONT
+    word == PREPROCESSOR_FLAG
 }
 
 #[tactic(auto, unfolding(crate::specs::OutputFiles::is_diagnostics))]
@@ -75,36 +75,36 @@ fn is_diagnostics(word: &[u8]) -> bool
     word == DIAGNOSTICS
 }
 
-fn value_words(flag: &[u8], words: &[Vec<u8>]) -> usize
-    ensures { result ≡ value_words flag.now (words_of words.now) }
+fn value_count(flag: &[u8], words: &[Vec<u8>]) -> usize
+    ensures { result ≡ value_count flag.now (words_of words.now) }
 {
     let [word, ..] = words else {
         return 0;
     };
-    if has_value(flag) && is_front(word) {
+    if has_value(flag) && is_preprocessor_flag(word) {
         2
     } else {
         0
     }
 }
 
-fn flag_words(words: &[Vec<u8>]) -> usize
-    ensures { result ≡ flag_words (words_of words.now) }
+fn flag_count(words: &[Vec<u8>]) -> usize
+    ensures { result ≡ flag_count (words_of words.now) }
 {
     let [flag, rest @ ..] = words else {
         return 0;
     };
     if is_text(flag) && asks_for_rules(flag) {
-        2 + value_words(flag, rest)
+        2 + value_count(flag, rest)
     } else {
         0
     }
 }
 
 /// How many words at the front make the preprocessor write one file.
-#[tactic(auto, unfolding(crate::specs::OutputFiles::file_words))]
-fn file_words(words: &[Vec<u8>]) -> usize
-    ensures { result ≡ file_words (words_of words.now) }
+#[tactic(auto, unfolding(crate::specs::OutputFiles::file_count))]
+fn file_count(words: &[Vec<u8>]) -> usize
+    ensures { result ≡ file_count (words_of words.now) }
 {
     let [word, rest @ ..] = words else {
         return 0;
@@ -112,8 +112,8 @@ fn file_words(words: &[Vec<u8>]) -> usize
     if is_diagnostics(word) {
         return 2;
     }
-    if is_front(word) {
-        return flag_words(rest);
+    if is_preprocessor_flag(word) {
+        return flag_count(rest);
     }
     if hands_on_rules(word) { 1 } else { 0 }
 }
@@ -138,7 +138,7 @@ pub fn without_output_files(alloc: Global, words: &[Vec<u8>]) -> Mem<Vec<Vec<u8>
     let mut kept = Vec::new(alloc);
     let mut rest = words;
     while let [word, ..] = rest {
-        let dropped = file_words(rest);
+        let dropped = file_count(rest);
         if dropped == 0 {
             push_word(alloc, &mut kept, word)?;
             rest = behind(rest, 1);

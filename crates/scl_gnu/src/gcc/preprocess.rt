@@ -39,12 +39,12 @@ fn push_rewriting(
     alloc: Global,
     words: &mut Vec<Vec<u8>>,
     kind: CCompilerKind,
-    is_asked: bool,
+    rewrites: bool,
     parsed: &ParsedArguments,
 ) -> Mem<()>
-    ensures { OnOk result (words_of words.new.items ≡ words_of words.old.items ++ rewriting kind is_asked (parsed_of parsed.now)) }
+    ensures { OnOk result (words_of words.new.items ≡ words_of words.old.items ++ rewriting kind rewrites (parsed_of parsed.now)) }
 {
-    if !is_asked || parsed.suppress_rewrite_includes_only {
+    if !rewrites || parsed.suppress_rewrite_includes_only {
         return Ok(());
     }
     match kind {
@@ -57,16 +57,16 @@ fn push_rewriting(
 fn settings(
     alloc: Global,
     kind: CCompilerKind,
-    is_asked: bool,
+    rewrites: bool,
     ignorable: &[Vec<u8>],
     may_dist: bool,
     parsed: &ParsedArguments,
 ) -> Mem<Vec<Vec<u8>>>
-    ensures { IfOk result (λ made. words_of made.items ≡ settings kind is_asked (words_of ignorable.now) may_dist (parsed_of parsed.now)) }
+    ensures { IfOk result (λ made. words_of made.items ≡ settings kind rewrites (words_of ignorable.now) may_dist (parsed_of parsed.now)) }
 {
     let mut made = Vec::new(alloc);
     push_ignoring(alloc, &mut made, parsed, may_dist, ignorable)?;
-    push_rewriting(alloc, &mut made, kind, is_asked, parsed)?;
+    push_rewriting(alloc, &mut made, kind, rewrites, parsed)?;
     Ok(made)
 }
 
@@ -89,7 +89,7 @@ fn words_with(
     Ok(words)
 }
 
-/// The words of a run with the record's own lists, but for those that name architectures.
+/// The words of a run with the record's lists, without the unhashed words, and with these that name architectures.
 fn run_words(
     alloc: Global,
     text: Option<&str>,
@@ -183,19 +183,19 @@ fn passes_with(
     alloc: Global,
     text: Option<&str>,
     kind: CCompilerKind,
-    is_asked: bool,
+    rewrites: bool,
     ignorable: &[Vec<u8>],
     may_dist: bool,
     parsed: &ParsedArguments,
 ) -> Mem<Vec<Vec<Vec<u8>>>>
-    ensures { IfOk result (λ made. runs_of made.items ≡ preprocess_passes (option_copied text.entry) kind is_asked (words_of ignorable.now) may_dist (parsed_of parsed.now)) }
+    ensures { IfOk result (λ made. runs_of made.items ≡ preprocess_passes (option_copied text.entry) kind rewrites (words_of ignorable.now) may_dist (parsed_of parsed.now)) }
 {
     let archs = parsed.archs(alloc)?;
     if archs.len() >= 2 {
-        let settings = settings(alloc, kind, is_asked, ignorable, false, parsed)?;
+        let settings = settings(alloc, kind, rewrites, ignorable, false, parsed)?;
         return arch_runs(alloc, text, &settings, parsed, &archs);
     }
-    let settings = settings(alloc, kind, is_asked, ignorable, may_dist, parsed)?;
+    let settings = settings(alloc, kind, rewrites, ignorable, may_dist, parsed)?;
     let mut runs = Vec::new(alloc);
     runs.push(run_words(alloc, text, &settings, parsed, &parsed.arch_args)?)?;
     Ok(runs)
@@ -203,8 +203,9 @@ fn passes_with(
 
 /// The words of the runs of the preprocessor for a record, in order, whose language word is what the closure answers: one
 /// run, or one for each of several architectures, of which the last alone makes files. The words that may be ignored stand
-/// in a run that is neither for a distant compiler nor of a program that will write a profile (docs/RULES.md,
-/// Preprocessing). It fails only for want of memory.
+/// in a run that is neither for a distant compiler nor of a program that will write a profile; runs for several
+/// architectures are never for a distant one, whatever `may_dist` says. Only for Gcc and Clang has a run a flag that leaves
+/// macros in place (docs/RULES.md, Preprocessing). It fails only for want of memory.
 pub fn preprocess_passes<T: AsStr + Drop, F: Fn(Language) -> Option<T>>(
     alloc: Global,
     parsed: &ParsedArguments,

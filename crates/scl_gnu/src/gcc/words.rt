@@ -11,7 +11,7 @@ use scl_text::command::{push_dashes, push_word, push_words};
 use scl_text::records::ParsedArguments;
 use std::alloc::Global;
 
-/// The lists of a command.
+/// The lists of a command, or of a run of the preprocessor.
 #[derive(Clone, Copy)]
 pub(super) struct Lists<'a> {
     pub preprocessor: &'a [Vec<u8>],

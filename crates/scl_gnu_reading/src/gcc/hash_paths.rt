@@ -25,7 +25,7 @@ fn module_path_in(text: &[u8]) -> &[u8]
 }
 
 /// The path of the file that the value of `-fmodule-file` names: what stands behind its first `=`, else all
-/// of it (docs/RULES.md, Gcc).
+/// of it (docs/RULES.md, Gcc). It fails only for want of memory.
 pub fn module_file_path(alloc: Global, value: &[u8]) -> Mem<Vec<u8>>
     ensures { IfOk result (λ path. path.items ≡ module_file_path value.now) }
 {
@@ -43,7 +43,7 @@ fn profile_in(alloc: Global, is_directory: bool, path: Vec<u8>) -> Mem<Vec<u8>>
 }
 
 /// The path of the profile that the value of `-fprofile-use` names in a directory; at a directory of the view
-/// it is the file `default.profdata` in there (docs/RULES.md, Gcc).
+/// it is the file `default.profdata` in there (docs/RULES.md, Gcc). It fails only for want of memory.
 pub fn resolve_profile_use_path(
     alloc: Global,
     value: &[u8],

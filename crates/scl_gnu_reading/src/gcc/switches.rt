@@ -56,9 +56,10 @@ fn assembler_of(option: &Argument<ArgData>) -> bool
     ensures { result ≡ assembler_of (seen kind_of word_of option.now) }
 {
     match option {
-        Argument::Flag(_, ArgData::NoIntegratedAs)
-        | Argument::WithValue(_, ArgData::NoIntegratedAs, _) => true,
-        _ => false,
+        Argument::Raw(_) | Argument::UnknownFlag(_) => false,
+        Argument::Flag(_, value) | Argument::WithValue(_, value, _) => {
+            matches!(value, ArgData::NoIntegratedAs)
+        }
     }
 }
 

@@ -57,8 +57,8 @@ fn cacheable(alloc: Global, parsed: &ParsedArguments, cwd: &[u8], view: &View) -
 }
 
 /// The compile command of a record, in the environment without `CL` and `_CL_`, and whether its outcome may be kept: not
-/// where debug information goes to a file that is there. `MissingObj` exactly where the record has no output `obj`
-/// (docs/RULES.md, Msvc).
+/// where debug information goes to a file that is there (docs/RULES.md, Msvc). The errors are `MissingObj`, exactly where
+/// the record has no output `obj`, and the refusal of memory.
 pub fn generate_compile_commands(
     alloc: Global,
     executable: &[u8],

@@ -162,7 +162,7 @@ fn depfile_object(parsed: &ParsedArguments, is_clang: bool) -> Option<&[u8]>
 
 /// The text of the dependency file, by the lines of the error output that begin with the prefix, and what is kept of that
 /// output; none but of a record for clang that has a dependency file and an output `obj` (docs/RULES.md, Dependency files). The errors
-/// are `NotUtf8`, exactly where there would be a text and the error output is not UTF-8, and the refusal of memory.
+/// are `NotUtf8`, exactly where there would be a text and the error output is not UTF-8, and else the refusal of memory.
 pub fn depfile_text(
     alloc: Global,
     parsed: &ParsedArguments,
@@ -182,7 +182,7 @@ pub fn depfile_text(
     Ok(Some(made))
 }
 
-/// Writes the text of a dependency file whole, or tells how much of it went out before the writer failed
+/// Writes the text of a dependency file whole, or tells how many of its bytes went out before the writer failed
 /// (docs/RULES.md, Dependency files).
 pub fn write_depfile<W: Write>(writer: &mut Counted<W>, text: &[u8]) -> Result<(), WriteFault>
     ensures { WriteEnds (W.contents writer.old.device) (W.contents writer.new.device) writer.old.failed writer.new.failed text.now result }

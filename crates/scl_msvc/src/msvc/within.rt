@@ -27,8 +27,8 @@ fn is_inner_within(
     ensures { IfOk result (λ within. within ≡ is_within most (inner_line kind cwd.now view.now (map (seen kind_of word_of) options.now))) }
 {
     let words = texts(alloc, options, &OfKinds(&[kind]))?;
-    let said = expand_at_most(alloc, ExpansionKind::Gnu, cwd, &words, view, most)?;
-    Ok(said.is_ok())
+    let expanded = expand_at_most(alloc, ExpansionKind::Gnu, cwd, &words, view, most)?;
+    Ok(expanded.is_ok())
 }
 
 /// Whether both inner command lines have at most so many words.

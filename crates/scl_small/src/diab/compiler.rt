@@ -16,6 +16,7 @@ use std::alloc::Global;
 /// Diab, and its version, if that is known (docs/RULES.md, Diab and TaskingVX).
 #[derive(Debug, Drop)]
 pub struct Diab {
+    /// Its version, if that is known.
     pub version: Option<String>,
 }
 

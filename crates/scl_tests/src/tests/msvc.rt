@@ -107,7 +107,10 @@ fn a_compilation_with_shared_debug_information_may_not_be_kept(
 }
 
 fn add_file(alloc: Global, view: &mut View, path: &[u8], bytes: &[u8]) -> Mem<()> {
-    view.add_file(Vec::from_slice(alloc, path)?, Vec::from_slice(alloc, bytes)?)
+    view.add_file(
+        Vec::from_slice(alloc, path)?,
+        Vec::from_slice(alloc, bytes)?,
+    )
 }
 
 /// A file that names another, and that other.

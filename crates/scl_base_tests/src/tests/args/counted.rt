@@ -63,6 +63,52 @@ impl Write for Whole {
     }
 }
 
+/// A device whose first call fails, and no other.
+#[derive(Drop)]
+struct FailsOnce {
+    has_failed: bool,
+}
+
+impl FailsOnce {
+    fn answer(&mut self, bytes: usize) -> io::Result<usize> {
+        if self.has_failed {
+            return Ok(bytes);
+        }
+        self.has_failed = true;
+        Err(io::Error::from(ErrorKind::Interrupted))
+    }
+}
+
+impl Read for FailsOnce {
+    fn read(&mut self, buf: &mut [u8]) -> io::Result<usize> {
+        self.answer(buf.len())
+    }
+}
+
+impl Write for FailsOnce {
+    fn write(&mut self, buf: &[u8]) -> io::Result<usize> {
+        self.answer(buf.len())
+    }
+
+    fn flush(&mut self) -> io::Result<()> {
+        Ok(())
+    }
+}
+
+/// A writer that takes one byte a call.
+#[derive(Drop)]
+struct OneByOne;
+
+impl Write for OneByOne {
+    fn write(&mut self, buf: &[u8]) -> io::Result<usize> {
+        Ok(buf.len().min(1))
+    }
+
+    fn flush(&mut self) -> io::Result<()> {
+        Ok(())
+    }
+}
+
 static KINDS: [ErrorKind; 5] = [
     ErrorKind::Interrupted,
     ErrorKind::WouldBlock,
@@ -90,6 +136,25 @@ fn a_device_is_handed_the_whole_buffer(rt: HostRuntime) {
     let mut device = Counted::new(Whole(b"abcd"));
     assert!(rt; matches!(device.read(&mut [0; 3]), Ok(3)));
     assert!(rt; matches!(device.write(b"abcd"), Ok(4)));
+}
+
+#[test]
+fn a_failed_call_is_not_made_again(rt: HostRuntime) {
+    let mut reader = Counted::new(FailsOnce { has_failed: false });
+    assert!(rt; is_refused(reader.read(&mut [0; 4]), ErrorKind::Interrupted));
+    assert!(rt; reader.failures() == 1);
+    assert!(rt; matches!(reader.read(&mut [0; 4]), Ok(4)));
+    let mut writer = Counted::new(FailsOnce { has_failed: false });
+    assert!(rt; is_refused(writer.write(b"ab"), ErrorKind::Interrupted));
+    assert!(rt; writer.failures() == 1);
+    assert!(rt; matches!(writer.write(b"ab"), Ok(2)));
+}
+
+#[test]
+fn a_short_write_is_not_made_longer(rt: HostRuntime) {
+    let mut writer = Counted::new(OneByOne);
+    assert!(rt; matches!(writer.write(b"ab"), Ok(1)));
+    assert!(rt; writer.failures() == 0);
 }
 
 #[test]
