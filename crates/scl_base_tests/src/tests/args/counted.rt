@@ -1,4 +1,6 @@
 //! The rules on devices that no clause says: which calls of real devices fail.
+ghost use Rattle.std.specs.Prelude.{◌≡◌, IfOk};
+
 use super::is_refused;
 use scl_args::Counted;
 use std::io;
@@ -70,7 +72,9 @@ struct FailsOnce {
 }
 
 impl FailsOnce {
-    fn answer(&mut self, bytes: usize) -> io::Result<usize> {
+    fn answer(&mut self, bytes: usize) -> io::Result<usize>
+        ensures { IfOk result (λ count. count ≡ bytes) }
+    {
         if self.has_failed {
             return Ok(bytes);
         }
