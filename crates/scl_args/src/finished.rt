@@ -82,7 +82,7 @@ impl<T: ReadArg> Options<T> {
         may_pass(&self.sorts, test)
     }
 
-    /// All options, or none where no option passes.
+    /// All options, or none where no sort that stands here may pass: the options that pass are the same.
     pub fn among<P: Test<T>>(&self, test: &P) -> &[Argument<T>]
         ensures { filter (P.passes test.now) (map (seen T.kind_of T.word_of) result.now) ≡ filter (P.passes test.now) self.now }
     {

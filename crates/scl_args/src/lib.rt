@@ -23,5 +23,5 @@ pub use scl_values::{
     IntoArg, Iter, IterStrings, Mem, NormalizedDisposition, PathArg, ReadArg, quoted, quoted_list,
     split_os_string_arg, without_value,
 };
-pub use sort::Sort;
+pub use sort::{Sort, sort_of};
 pub use wrapped::{WrappedApart, WrappedJoined, Wrapper, push_wrapped};

@@ -17,7 +17,7 @@ pub enum Sort<K> {
 }
 
 /// The option's sort.
-pub(crate) fn sort_of<T: ReadArg>(option: &Argument<T>) -> Sort<T::Kind>
+pub fn sort_of<T: ReadArg>(option: &Argument<T>) -> Sort<T::Kind>
     ensures { result ≡ sort_of (seen T.kind_of T.word_of option.now) }
 {
     match option {

@@ -4,7 +4,6 @@ pub mod Environment
 pub mod FixedTests
 pub mod FoundBy
 pub mod InnerBy
-pub mod InnerSorts
 pub mod Inners
 pub mod Kinds
 pub mod Places

@@ -5,26 +5,9 @@ use Rattle.scl_args.specs.declared.sort.Sort.TheVariants as sort
 use Rattle.scl_values.specs.Seen.{Seen, Raw, Unknown, Known}
 use Rattle.scl_args.specs.Sorts.{sort_of, sort_of_kinds}
 use Rattle.scl_msvc_reading.specs.contracts.msvc.data.KindPartialEq.TheImpl as kinds
-use Rattle.scl_msvc_reading.specs.contracts.msvc.place.PlacePartialEq.TheImpl as place_eq
 use Rattle.scl_msvc_reading.specs.declared.msvc.data.Kind.{Kind}
 use Rattle.scl_msvc_reading.specs.declared.msvc.data.Kind.TheVariants as kind
-use Rattle.scl_msvc_reading.specs.declared.msvc.place.Place.{Place}
-use Rattle.scl_msvc_reading.specs.declared.msvc.place.Place.TheVariants as places
 use Rattle.scl_msvc_reading.specs.Kinds.{is_input}
-use Rattle.scl_msvc_reading.specs.Places.{place, goes_to}
-
-abbrev pub place_of_sort : Sort Kind → Place
-place_of_sort sort.Raw = places.Nowhere
-place_of_sort sort.Unknown = places.Common
-place_of_sort (sort.Known k) = place k
-
-abbrev pub sort_goes_to : Place → Sort Kind → Bool
-sort_goes_to there s = place_eq.ghosts.eq (place_of_sort s) there
-
-pub goes_by_sort : (there : Place) (o : Seen Kind) → sort_goes_to there (sort_of o) ≡ false → goes_to there o ≡ false
-goes_by_sort there (Raw w) e = e
-goes_by_sort there (Unknown w) e = e
-goes_by_sort there (Known f k v h) e = e
 
 abbrev pub may_be_input : Sort Kind → Bool
 may_be_input sort.Raw = true

@@ -6,7 +6,6 @@ pub mod DiabValues
 pub mod Places
 pub mod ReadAgain
 pub mod Readings
-pub mod Sorts
 pub mod TaskingAgain
 pub mod TaskingReading
 pub mod TaskingTable

@@ -1,23 +1,27 @@
 //! Where the words of options go.
 ghost use Rattle.std.specs.Prelude.{◌≡◌};
-ghost use Rattle.scl_values.specs.Seen.{seen};
-ghost use Rattle.scl_gnu_reading.specs.Data.{kind_of, word_of};
-ghost use Rattle.scl_gnu_reading.specs.Places.{place, place_of};
-ghost use Rattle.scl_gnu_reading.specs.Sorts.{place_of_sort, sort_goes_to};
+ghost use Rattle.scl_gnu_reading.specs.Places.{place, place_of_sort, sort_goes_to};
 
 use super::data::{ArgData, Kind};
-use scl_args::{Argument, ReadArg, Sort, Test};
+use scl_args::{Argument, Sort, Test, sort_of};
 
 /// Where the words of an option go: to a list of the command, or nowhere; or the option is refused
 /// (docs/RULES.md, Gcc).
 #[derive(Clone, Copy, Debug, PartialEq, Eq)]
 pub enum Place {
+    /// The list of common words.
     Common,
+    /// The list of words that are not hashed.
     Unhashed,
+    /// The list of words that name architectures.
     Arch,
+    /// The list of words for the preprocessor.
     Preprocessor,
+    /// The list of words about dependencies.
     Dependency,
+    /// No list.
     Nowhere,
+    /// A refusal by the flag.
     Refused,
 }
 
@@ -75,29 +79,17 @@ fn place_of_sort(sort: Sort<Kind>) -> Place
     }
 }
 
-/// Where the words of the option go: an unknown flag to the common words, a word that is no option nowhere.
-pub(crate) fn place_of(option: &Argument<ArgData>) -> Place
-    ensures { result ≡ place_of (seen kind_of word_of option.now) }
-{
-    match option {
-        Argument::Raw(_) => Place::Nowhere,
-        Argument::UnknownFlag(_) => Place::Common,
-        Argument::Flag(_, value) | Argument::WithValue(_, value, _) => place_of_kind(value.kind()),
-    }
-}
-
 impl Test<ArgData> for Place {
-    ghost use Rattle.scl_gnu_reading.specs.Places.{goes_to};
-    ghost use Rattle.scl_gnu_reading.specs.Sorts.{sort_goes_to, goes_by_sort};
+    ghost use Rattle.scl_gnu_reading.specs.Places.{goes_to, sort_goes_to};
 
     ghost passes = { goes_to };
 
     ghost may_pass = { sort_goes_to };
 
-    ghost passes_by_sort = { goes_by_sort };
+    ghost passes_by_sort = { λ there option none. none };
 
     fn passes(&self, option: &Argument<ArgData>) -> bool {
-        place_of(option) == *self
+        self.may_pass(sort_of(option))
     }
 
     fn may_pass(&self, sort: Sort<Kind>) -> bool

@@ -1,13 +1,10 @@
 //! Where the words of inner options go.
 ghost use Rattle.std.specs.Prelude.{◌≡◌};
-ghost use Rattle.scl_values.specs.Seen.{seen};
-ghost use Rattle.scl_gnu_reading.specs.Data.{kind_of, word_of};
-ghost use Rattle.scl_gnu_reading.specs.Inners.{inner_place, inner_place_of};
-ghost use Rattle.scl_gnu_reading.specs.Sorts.{inner_place_of_sort, sort_goes_inside_to};
+ghost use Rattle.scl_gnu_reading.specs.Inners.{inner_place, inner_place_of_sort, sort_goes_inside_to};
 
 use crate::gcc::data::{ArgData, Kind};
 use crate::gcc::place::Place;
-use scl_args::{Argument, ReadArg, Sort, Test};
+use scl_args::{Argument, Sort, Test, sort_of};
 
 /// Where the words of an inner option of the kind go.
 pub(crate) fn inner_place_of_kind(kind: Kind) -> Place
@@ -64,34 +61,21 @@ fn inner_place_of_sort(sort: Sort<Kind>) -> Place
     }
 }
 
-fn inner_place_of(option: &Argument<ArgData>) -> Place
-    ensures { result ≡ inner_place_of (seen kind_of word_of option.now) }
-{
-    match option {
-        Argument::Raw(_) => Place::Common,
-        Argument::UnknownFlag(_) => Place::Refused,
-        Argument::Flag(_, value) | Argument::WithValue(_, value, _) => {
-            inner_place_of_kind(value.kind())
-        }
-    }
-}
-
 /// The test that inner options whose words go there pass.
 #[derive(Clone, Copy)]
 pub(crate) struct Inside(pub(crate) Place);
 
 impl Test<ArgData> for Inside {
-    ghost use Rattle.scl_gnu_reading.specs.Inners.{goes_inside_to};
-    ghost use Rattle.scl_gnu_reading.specs.Sorts.{sort_goes_inside_to, goes_inside_by_sort};
+    ghost use Rattle.scl_gnu_reading.specs.Inners.{goes_inside_to, sort_goes_inside_to};
 
     ghost passes = { λ test. goes_inside_to test.0 };
 
     ghost may_pass = { λ test. sort_goes_inside_to test.0 };
 
-    ghost passes_by_sort = { λ test. goes_inside_by_sort test.0 };
+    ghost passes_by_sort = { λ test option none. none };
 
     fn passes(&self, option: &Argument<ArgData>) -> bool {
-        inner_place_of(option) == self.0
+        self.may_pass(sort_of(option))
     }
 
     fn may_pass(&self, sort: Sort<Kind>) -> bool
