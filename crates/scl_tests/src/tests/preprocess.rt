@@ -9,6 +9,7 @@ use scl_small::tasking_vx::TaskingVX;
 use scl_text::records::{CCompilerKind, ParsedArguments, PassOutput};
 use scl_text::{CCompilerImpl, View};
 use std::alloc::Global;
+use std::process::Abort;
 use std::test::Fail;
 
 /// What a compiler reads where several architectures are meant.
@@ -22,103 +23,104 @@ fn record_of<C: CCompilerImpl>(
     record_in(answer_of(alloc, compiler, words, &view)?)
 }
 
-/// The runs of a command line, one a line.
-fn lines_of(alloc: Global, runs: &[Vec<Vec<u8>>]) -> Mem<Vec<u8>> {
-    let mut lines = Vec::new(alloc);
-    for words in runs {
-        lines.extend_from_slice(&joined(alloc, words)?)?;
-        lines.push(b'\n')?;
+/// The runs of a command line, with ` | ` between two.
+fn line_of(alloc: Global, runs: &[Vec<Vec<u8>>]) -> Mem<Vec<u8>> {
+    let mut line = Vec::new(alloc);
+    for (index, words) in runs.iter().enumerate() {
+        if index > 0 {
+            line.extend_from_slice(b" | ")?;
+        }
+        line.extend_from_slice(&joined(alloc, words)?)?;
     }
-    Ok(lines)
+    Ok(line)
 }
 
-/// The runs of a command line that may be distributed, or that are to leave macros in place, outside of the cache mode.
-fn runs_for<C: CCompilerImpl>(
-    alloc: Global,
-    compiler: &C,
-    words: &[u8],
-    may_dist: bool,
-    rewrites: bool,
-) -> Result<Vec<u8>, Fail> {
-    let record = record_of(alloc, compiler, words)?;
-    let runs = compiler.preprocess_passes(alloc, &record, may_dist, rewrites, false)?;
-    Ok(lines_of(alloc, &runs)?)
-}
+/// Behind the compiler's name what is set for its runs (`dist` for a distant compiler, `rewrite` to leave macros in place,
+/// `cache` for the cache mode), then the words of a command line, and behind ` => ` those of its runs.
+static RUNS: &str = r#"
+gcc: -c a.c -arch i386 -arch x86_64 -MMD => -x c -E -P -arch i386 a.c | -x c -E -P -MMD -MT a.o -MF a.d -arch x86_64 a.c
+gcc cache: -c a.c -arch i386 -arch x86_64 -MMD => -x c -E -arch i386 a.c | -x c -E -MMD -MT a.o -MF a.d -arch x86_64 a.c
+gcc: -c a.c -arch i386 -arch i386 => -x c -E -P -arch i386 -arch i386 a.c
+gcc dist: -c a.c => -x c -E a.c
+gcc rewrite: -c a.c => -x c -E -P -fdirectives-only a.c
+gcc rewrite: -c a.c -pedantic => -x c -E -P -pedantic a.c
+gcc: -c a.c -fprofile-generate => -x c -E -fprofile-generate a.c
+gcc dist rewrite: -c a.c -arch i386 -arch x86_64 => -x c -E -P -fdirectives-only -arch i386 a.c | -x c -E -P -fdirectives-only -arch x86_64 a.c
+clang dist rewrite: -c a.c => -x c -E -frewrite-includes a.c
+clang-13: -c a.c => -x c -E -P a.c
+clang-14: -c a.c => -x c -E -P -fminimize-whitespace a.c
+clang-14 cache: -c a.c => -x c -E -fminimize-whitespace a.c
+clang-14: -c a.S => -x assembler-with-cpp -E -P a.S
+clang-14: -c -- -a.c => -x c -E -P -fminimize-whitespace -- -a.c
+cl: -c x.c => -EP -nologo /WX- x.c
+cl: -c x.c /sourceDependencies x.d => -EP -nologo /sourceDependencies x.d /WX- x.c
+cl: /c /Tpx.c /O2 /MP => -EP -nologo /O2 /WX- -Tpx.c
+cl dist rewrite: -c x.c => -E -nologo /WX- x.c
+clang-cl: -c x.c /sourceDependencies x.d => -EP -nologo -showIncludes x.c
+clang-cl: -c x.c -depsx.d /showIncludes => -EP -nologo /showIncludes x.c
+clang-cl: -c /DA -- -x.c => -EP -nologo /DA -- -x.c
+clang-cl dist rewrite: -c x.c => -E -nologo -clang:-frewrite-includes x.c
+diab: -c a.c -Xmake-dependency -DA -fx => -E a.c -Xmake-dependency -DA -fx
+tasking: -c a.c --dep-file => -Em -o a.d a.c | -E a.c
+tasking cache: -c a.c -DA -x => -E a.c -DA -x
+"#;
 
-/// The runs of a command line, neither distributed nor with macros left in place.
 fn runs_of<C: CCompilerImpl>(
     alloc: Global,
     compiler: &C,
-    words: &[u8],
-    cache_mode: bool,
+    settings: &str,
+    words: &str,
 ) -> Result<Vec<u8>, Fail> {
-    let record = record_of(alloc, compiler, words)?;
-    let runs = compiler.preprocess_passes(alloc, &record, false, false, cache_mode)?;
-    Ok(lines_of(alloc, &runs)?)
+    let record = record_of(alloc, compiler, words.as_bytes())?;
+    let runs = compiler.preprocess_passes(
+        alloc,
+        &record,
+        settings.contains("dist"),
+        settings.contains("rewrite"),
+        settings.contains("cache"),
+    )?;
+    Ok(line_of(alloc, &runs)?)
 }
 
-/// The runs of a Clang of the version.
-fn clang_runs(
-    alloc: Global,
-    version: &str,
-    words: &[u8],
-    cache_mode: bool,
-) -> Result<Vec<u8>, Fail> {
+/// A Clang of the version.
+fn clang(alloc: Global, version: &str) -> Mem<Clang> {
     let mut clang = Clang::new(false);
     clang.version = Some(String::from_str(alloc, version)?);
-    runs_of(alloc, &clang, words, cache_mode)
+    Ok(clang)
 }
 
-#[test]
-fn gcc_has_a_run_for_each_architecture(rt: HostRuntime) -> Result<(), Fail> {
-    let gcc = Gcc::new(false);
-    let words = b"-c a.c -arch i386 -arch x86_64 -MMD";
-    let runs = runs_of(rt.alloc(), &gcc, words, false)?;
-    let want =
-        b"-x c -E -P -arch i386 a.c\n-x c -E -P -MMD -MT a.o -MF a.d -arch x86_64 a.c\n".as_slice();
-    assert!(rt; runs.as_slice() == want);
-    let cached = runs_of(rt.alloc(), &gcc, words, true)?;
-    let want =
-        b"-x c -E -arch i386 a.c\n-x c -E -MMD -MT a.o -MF a.d -arch x86_64 a.c\n".as_slice();
-    assert!(rt; cached.as_slice() == want);
-    let one = runs_of(rt.alloc(), &gcc, b"-c a.c -arch i386 -arch i386", false)?;
-    assert!(rt; one.as_slice() == b"-x c -E -P -arch i386 -arch i386 a.c\n".as_slice());
+fn runs_by_name(alloc: Global, name: &str, settings: &str, words: &str) -> Result<Vec<u8>, Fail> {
+    match name {
+        "gcc" => runs_of(alloc, &Gcc::new(false), settings, words),
+        "clang" => runs_of(alloc, &Clang::new(false), settings, words),
+        "clang-13" => runs_of(alloc, &clang(alloc, "clang 13.0.1")?, settings, words),
+        "clang-14" => {
+            let clang = clang(alloc, "\"Ubuntu Clang 14.0.0\"")?;
+            runs_of(alloc, &clang, settings, words)
+        }
+        "cl" => runs_of(alloc, &msvc(alloc, false)?, settings, words),
+        "clang-cl" => runs_of(alloc, &msvc(alloc, true)?, settings, words),
+        "diab" => runs_of(alloc, &Diab::new(), settings, words),
+        "tasking" => runs_of(alloc, &TaskingVX, settings, words),
+        _ => Err("no compiler of this name")?,
+    }
+}
+
+fn expect_runs(rt: &(impl Abort + Alloc<A = Global>), row: &str) -> Result<(), Fail> {
+    let (head, line) = row.split_once(": ").ok_or("no name")?;
+    let (name, settings) = head.split_once(' ').unwrap_or((head, ""));
+    let (words, want) = line.split_once(" => ").ok_or("no runs")?;
+    let runs = runs_by_name(rt.alloc(), name, settings, words)?;
+    assert!(rt; runs.as_slice() == want.as_bytes(), "of {row}");
     Ok(())
 }
 
 #[test]
-fn lines_are_told_apart_for_others_and_for_profiles(rt: HostRuntime) -> Result<(), Fail> {
-    let gcc = Gcc::new(false);
-    let rows: [(&[u8], bool, bool, &[u8]); 5] = [
-        (b"-c a.c", true, false, b"-x c -E a.c\n"),
-        (
-            b"-c a.c",
-            false,
-            true,
-            b"-x c -E -P -fdirectives-only a.c\n",
-        ),
-        (
-            b"-c a.c -pedantic",
-            false,
-            true,
-            b"-x c -E -P -pedantic a.c\n",
-        ),
-        (
-            b"-c a.c -fprofile-generate",
-            false,
-            false,
-            b"-x c -E -fprofile-generate a.c\n",
-        ),
-        (
-            b"-c a.c -arch i386 -arch x86_64",
-            true,
-            true,
-            b"-x c -E -P -fdirectives-only -arch i386 a.c\n-x c -E -P -fdirectives-only -arch x86_64 a.c\n",
-        ),
-    ];
-    for (words, may_dist, rewrites, want) in rows {
-        let runs = runs_for(rt.alloc(), &gcc, words, may_dist, rewrites)?;
-        assert!(rt; runs.as_slice() == want, "of {words:?}");
+fn compilers_have_their_runs(rt: HostRuntime) -> Result<(), Fail> {
+    for row in RUNS.lines() {
+        if !row.is_empty() {
+            expect_runs(&rt, row)?;
+        }
     }
     Ok(())
 }
@@ -130,9 +132,9 @@ fn any_text_names_the_language(rt: HostRuntime) -> Result<(), Fail> {
     let kinds = [
         (
             CCompilerKind::Gcc,
-            b"-x zz -E -P -Q -fdirectives-only a.c\n".as_slice(),
+            b"-x zz -E -P -Q -fdirectives-only a.c".as_slice(),
         ),
-        (CCompilerKind::Msvc, b"-x zz -E -P -Q a.c\n".as_slice()),
+        (CCompilerKind::Msvc, b"-x zz -E -P -Q a.c".as_slice()),
     ];
     for (kind, want) in kinds {
         let runs = preprocess_passes(
@@ -144,132 +146,9 @@ fn any_text_names_the_language(rt: HostRuntime) -> Result<(), Fail> {
             &ignorable,
             |_| Some("zz"),
         )?;
-        let lines = lines_of(rt.alloc(), &runs)?;
-        assert!(rt; lines.as_slice() == want);
+        let line = line_of(rt.alloc(), &runs)?;
+        assert!(rt; line.as_slice() == want);
     }
-    Ok(())
-}
-
-#[test]
-fn clang_minimizes_white_space_from_version_14_on(rt: HostRuntime) -> Result<(), Fail> {
-    let rows: [(&str, &[u8], bool, &[u8]); 5] = [
-        (
-            "\"Ubuntu Clang 14.0.0\"",
-            b"-c a.c",
-            false,
-            b"-x c -E -P -fminimize-whitespace a.c\n",
-        ),
-        (
-            "\"Ubuntu Clang 14.0.0\"",
-            b"-c a.c",
-            true,
-            b"-x c -E -fminimize-whitespace a.c\n",
-        ),
-        ("clang 13.0.1", b"-c a.c", false, b"-x c -E -P a.c\n"),
-        (
-            "clang 14.0.0",
-            b"-c a.S",
-            false,
-            b"-x assembler-with-cpp -E -P a.S\n",
-        ),
-        (
-            "clang 14.0.0",
-            b"-c -- -a.c",
-            false,
-            b"-x c -E -P -fminimize-whitespace -- -a.c\n",
-        ),
-    ];
-    for (version, words, cache_mode, want) in rows {
-        let runs = clang_runs(rt.alloc(), version, words, cache_mode)?;
-        assert!(rt; runs.as_slice() == want, "of {words:?}");
-    }
-    Ok(())
-}
-
-#[test]
-fn clang_rewrites_includes_for_a_distant_compiler(rt: HostRuntime) -> Result<(), Fail> {
-    let runs = runs_for(rt.alloc(), &Clang::new(false), b"-c a.c", true, true)?;
-    assert!(rt; runs.as_slice() == b"-x c -E -frewrite-includes a.c\n".as_slice());
-    Ok(())
-}
-
-/// The runs of cl or clang-cl, for a distant compiler with macros left in place or for none.
-fn msvc_runs(
-    alloc: Global,
-    is_clang: bool,
-    words: &[u8],
-    is_distant: bool,
-) -> Result<Vec<u8>, Fail> {
-    runs_for(
-        alloc,
-        &msvc(alloc, is_clang)?,
-        words,
-        is_distant,
-        is_distant,
-    )
-}
-
-#[test]
-fn msvc_has_one_run(rt: HostRuntime) -> Result<(), Fail> {
-    let rows: [(bool, &[u8], &[u8]); 6] = [
-        (false, b"-c x.c", b"-EP -nologo /WX- x.c\n"),
-        (
-            false,
-            b"-c x.c /sourceDependencies x.d",
-            b"-EP -nologo /sourceDependencies x.d /WX- x.c\n",
-        ),
-        (
-            true,
-            b"-c x.c /sourceDependencies x.d",
-            b"-EP -nologo -showIncludes x.c\n",
-        ),
-        (
-            true,
-            b"-c x.c -depsx.d /showIncludes",
-            b"-EP -nologo /showIncludes x.c\n",
-        ),
-        (true, b"-c /DA -- -x.c", b"-EP -nologo /DA -- -x.c\n"),
-        (
-            false,
-            b"/c /Tpx.c /O2 /MP",
-            b"-EP -nologo /O2 /WX- -Tpx.c\n",
-        ),
-    ];
-    for (is_clang, words, want) in rows {
-        let runs = msvc_runs(rt.alloc(), is_clang, words, false)?;
-        assert!(rt; runs.as_slice() == want, "of {words:?}");
-    }
-    Ok(())
-}
-
-#[test]
-fn msvc_keeps_lines_for_a_distant_compiler(rt: HostRuntime) -> Result<(), Fail> {
-    for (is_clang, want) in [
-        (false, b"-E -nologo /WX- x.c\n".as_slice()),
-        (
-            true,
-            b"-E -nologo -clang:-frewrite-includes x.c\n".as_slice(),
-        ),
-    ] {
-        let runs = msvc_runs(rt.alloc(), is_clang, b"-c x.c", true)?;
-        assert!(rt; runs.as_slice() == want);
-    }
-    Ok(())
-}
-
-#[test]
-fn diab_has_one_run_and_tasking_two(rt: HostRuntime) -> Result<(), Fail> {
-    let diab = runs_of(
-        rt.alloc(),
-        &Diab::new(),
-        b"-c a.c -Xmake-dependency -DA -fx",
-        false,
-    )?;
-    assert!(rt; diab.as_slice() == b"-E a.c -Xmake-dependency -DA -fx\n".as_slice());
-    let tasking = runs_of(rt.alloc(), &TaskingVX, b"-c a.c --dep-file", false)?;
-    assert!(rt; tasking.as_slice() == b"-Em -o a.d a.c\n-E a.c\n".as_slice());
-    let plain = runs_of(rt.alloc(), &TaskingVX, b"-c a.c -DA -x", true)?;
-    assert!(rt; plain.as_slice() == b"-E a.c -DA -x\n".as_slice());
     Ok(())
 }
 

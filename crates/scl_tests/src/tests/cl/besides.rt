@@ -1,156 +1,80 @@
 //! The texts beside reasons.
-use crate::tests::words::cut;
-use scl_cl::{Compilation, Compiler, CompilerArguments, Mem, View};
+use super::rows::{name_and_row, request_in};
+use scl_cl::{CompilerArguments, read_request};
 use std::alloc::Global;
 use std::process::Abort;
 use std::test::Fail;
 
-/// Words, and the reason for which they are refused, with the text beside it in parentheses.
-type Row = (Compiler, &'static [u8], &'static str);
+/// Rows as those of the program, behind the compiler's name: behind ` => ` stands the reason for which the words are
+/// refused, with the text beside it in parentheses, if there is one.
+static REFUSALS: &str = r#"
+gcc: -c a.c b.c c\xff\x5c.c => multiple input files (["b.c", "c\xff\x5c.c"])
+gcc: -c a.c -L => argument parse (Unexpected end of args)
+gcc: -c => no input file
+gcc: -E => -E
+gcc: -c a.c -x y => -x
+gcc: -c a.c -I @b => @
+gcc: -c a.c -I => empty value
+gcc: -c a.xyz => unknown source language
+gcc: -c -x c .. => invalid input file
+gcc: -c a.c -arch i386 -arch x86_64 => multiple different -arch, and SCCACHE_CACHE_MULTIARCH not set
+clang: -c a.c -E => -E
+clang: -c a.c -Xclang broken => Can't handle Raw arguments with -Xclang (broken)
+clang: -c a.c -Xclang \xff => Can't handle Raw arguments with -Xclang ()
+clang: -c a.c -Xclang -fabc => Can't handle UnknownFlag arguments with -Xclang (-fabc)
+clang: -c a.c -Xclang -f\xff => Can't handle UnknownFlag arguments with -Xclang ()
+clang: -c a.c -Xclang -load => argument parse (Unexpected end of args)
+clang: -c a.cppm -fmodule-outputx => unknown module output format (x)
+clang: -c a.c -Xclang -no-integrated-as => -no-integrated-as
+clang: -c a.cppm -fmodule-output\xff => unknown module output format (\xff)
+cl: /c a.c b.c => multiple input files (["b.c"])
+cl: /c x.c /reference => argument parse (Unexpected end of args)
+cl: /c x.c -Xclang -mllvm => argument parse (Unexpected end of args)
+cl: /c x.c /Fonul => output to nul
+cl: -c a.c -Zi => shared pdb
+cl: /c => no input file
+cl: /c x.xyz => unknown source language
+cl: /c /Foout/ /Tc.. => invalid input file
+cl: /c x.c @f => @
+cl: /c x.c /Fx => /Fx
+cl: /c x.c /I => empty value
+clang-cl: -c a.cppm -x c++-module => -x c++-module without -fmodule-output= or vice versa
+clang-cl: -c /Tpa.cppm -x c++-module -fmodule-output=a.pcm => -x c++-module with /Tc or /Tp
+diab: -@@foo => -@
+diab: -c a.xyz => unknown source language
+diab: -c .. => unknown source language
+diab: -c a.c -E -o => -E
+diab: -c => no input file
+diab: -c a.c b.c => multiple input files
+diab: -c a.c -L @x => @
+diab: -c a.c -I => empty value
+diab: -## -c foo.c => -##
+diab: -c a.c -o => argument parse (Unexpected end of args)
+tasking: -c a.c b.c => multiple input files
+tasking: -c a.c @r => multiple input files
+tasking: -n -c foo.c => -n
+tasking: -c a.xyz => unknown source language
+tasking: -c => no input file
+tasking: -c a.c -L => empty value
+tasking: -c a.c -o => argument parse (Unexpected end of args)
+cl: env CL \xff; /c x.c => CL environment variable value broken
+cl: env _CL_ \xff; /c x.c => _CL_ environment variable value broken
+"#;
 
-static REFUSALS: [Row; 49] = [
-    (
-        Compiler::Gcc,
-        b"-c a.c b.c c\xff\\.c",
-        "multiple input files ([\"b.c\", \"c\\xff\\x5c.c\"])",
-    ),
-    (
-        Compiler::Gcc,
-        b"-c a.c -L",
-        "argument parse (Unexpected end of args)",
-    ),
-    (Compiler::Gcc, b"-c", "no input file"),
-    (Compiler::Gcc, b"-E", "-E"),
-    (Compiler::Gcc, b"-c a.c -x y", "-x"),
-    (Compiler::Gcc, b"-c a.c -I @b", "@"),
-    (Compiler::Gcc, b"-c a.c -I", "empty value"),
-    (Compiler::Gcc, b"-c a.xyz", "unknown source language"),
-    (Compiler::Gcc, b"-c -x c ..", "invalid input file"),
-    (
-        Compiler::Gcc,
-        b"-c a.c -arch i386 -arch x86_64",
-        "multiple different -arch, and SCCACHE_CACHE_MULTIARCH not set",
-    ),
-    (Compiler::Clang, b"-c a.c -E", "-E"),
-    (
-        Compiler::Clang,
-        b"-c a.c -Xclang broken",
-        "Can't handle Raw arguments with -Xclang (broken)",
-    ),
-    (
-        Compiler::Clang,
-        b"-c a.c -Xclang \xff",
-        "Can't handle Raw arguments with -Xclang ()",
-    ),
-    (
-        Compiler::Clang,
-        b"-c a.c -Xclang -fabc",
-        "Can't handle UnknownFlag arguments with -Xclang (-fabc)",
-    ),
-    (
-        Compiler::Clang,
-        b"-c a.c -Xclang -f\xff",
-        "Can't handle UnknownFlag arguments with -Xclang ()",
-    ),
-    (
-        Compiler::Clang,
-        b"-c a.c -Xclang -load",
-        "argument parse (Unexpected end of args)",
-    ),
-    (
-        Compiler::Clang,
-        b"-c a.cppm -fmodule-outputx",
-        "unknown module output format (x)",
-    ),
-    (
-        Compiler::Clang,
-        b"-c a.c -Xclang -no-integrated-as",
-        "-no-integrated-as",
-    ),
-    (
-        Compiler::Clang,
-        b"-c a.cppm -fmodule-output\xff",
-        "unknown module output format (\\xff)",
-    ),
-    (
-        Compiler::Cl,
-        b"/c a.c b.c",
-        "multiple input files ([\"b.c\"])",
-    ),
-    (
-        Compiler::Cl,
-        b"/c x.c /reference",
-        "argument parse (Unexpected end of args)",
-    ),
-    (
-        Compiler::Cl,
-        b"/c x.c -Xclang -mllvm",
-        "argument parse (Unexpected end of args)",
-    ),
-    (Compiler::Cl, b"/c x.c /Fonul", "output to nul"),
-    (Compiler::Cl, b"-c a.c -Zi", "shared pdb"),
-    (Compiler::Cl, b"/c", "no input file"),
-    (Compiler::Cl, b"/c x.xyz", "unknown source language"),
-    (Compiler::Cl, b"/c /Foout/ /Tc..", "invalid input file"),
-    (Compiler::Cl, b"/c x.c @f", "@"),
-    (Compiler::Cl, b"/c x.c /Fx", "/Fx"),
-    (Compiler::Cl, b"/c x.c /I", "empty value"),
-    (
-        Compiler::ClangCl,
-        b"-c a.cppm -x c++-module",
-        "-x c++-module without -fmodule-output= or vice versa",
-    ),
-    (
-        Compiler::ClangCl,
-        b"-c /Tpa.cppm -x c++-module -fmodule-output=a.pcm",
-        "-x c++-module with /Tc or /Tp",
-    ),
-    (Compiler::Diab, b"-@@foo", "-@"),
-    (Compiler::Diab, b"-c a.xyz", "unknown source language"),
-    (Compiler::Diab, b"-c ..", "unknown source language"),
-    (Compiler::Diab, b"-c a.c -E -o", "-E"),
-    (Compiler::Diab, b"-c", "no input file"),
-    (Compiler::Diab, b"-c a.c b.c", "multiple input files"),
-    (Compiler::Diab, b"-c a.c -L @x", "@"),
-    (Compiler::Diab, b"-c a.c -I", "empty value"),
-    (Compiler::Diab, b"-## -c foo.c", "-##"),
-    (
-        Compiler::Diab,
-        b"-c a.c -o",
-        "argument parse (Unexpected end of args)",
-    ),
-    (Compiler::Tasking, b"-c a.c b.c", "multiple input files"),
-    (Compiler::Tasking, b"-c a.c @r", "multiple input files"),
-    (Compiler::Tasking, b"-n -c foo.c", "-n"),
-    (Compiler::Tasking, b"-c a.xyz", "unknown source language"),
-    (Compiler::Tasking, b"-c", "no input file"),
-    (Compiler::Tasking, b"-c a.c -L", "empty value"),
-    (
-        Compiler::Tasking,
-        b"-c a.c -o",
-        "argument parse (Unexpected end of args)",
-    ),
-];
-
-fn answer_to(
-    alloc: Global,
-    compiler: Compiler,
-    words: &[u8],
-    env_vars: &[(Vec<u8>, Vec<u8>)],
-) -> Mem<CompilerArguments<Compilation>> {
-    let words = cut(alloc, words)?;
-    let view = View::new(alloc);
-    compiler.answer(alloc, b"cc", &words, b"", env_vars, &view)
-}
-
-/// The reason for which words are refused, with the text beside it in parentheses.
-fn refusal(
-    alloc: Global,
-    compiler: Compiler,
-    words: &[u8],
-    env_vars: &[(Vec<u8>, Vec<u8>)],
-) -> Result<String, Fail> {
-    match answer_to(alloc, compiler, words, env_vars)? {
+/// The reason for which a request is refused, with the text beside it in parentheses.
+fn refusal(alloc: Global, request: &str) -> Result<String, Fail> {
+    let asked = read_request(alloc, request.as_bytes())?
+        .ok()
+        .ok_or("a bad line")?;
+    let answer = asked.compiler.answer(
+        alloc,
+        b"cc",
+        &asked.words,
+        &asked.directory,
+        &asked.environment,
+        &asked.view,
+    )?;
+    match answer {
         CompilerArguments::CannotCache(reason, Some(text)) => {
             Ok(format!(in alloc; "{reason} ({text})")?)
         }
@@ -159,37 +83,21 @@ fn refusal(
     }
 }
 
-fn expect_refusal(
-    rt: &(impl Abort + Alloc<A = Global>),
-    row: Row,
-    env_vars: &[(Vec<u8>, Vec<u8>)],
-) -> Result<(), Fail> {
-    let (compiler, words, want) = row;
-    let refused = refusal(rt.alloc(), compiler, words, env_vars)?;
-    assert!(rt; refused.as_str() == want, "of {words:?}");
+fn expect_refusal(rt: &(impl Abort + Alloc<A = Global>), row: &str) -> Result<(), Fail> {
+    let (compiler, row) = name_and_row(row)?;
+    let (request, want) = row.split_once(" => ").ok_or("no reason")?;
+    let request = request_in(rt.alloc(), compiler, request)?;
+    let refused = refusal(rt.alloc(), request.as_str())?;
+    assert!(rt; refused.as_str() == want, "of {request:?}");
     Ok(())
 }
 
 #[test]
 fn a_text_stands_beside_a_reason(rt: HostRuntime) -> Result<(), Fail> {
-    for row in &REFUSALS {
-        expect_refusal(&rt, *row, &[])?;
+    for row in REFUSALS.lines() {
+        if !row.is_empty() {
+            expect_refusal(&rt, row)?;
+        }
     }
     Ok(())
-}
-
-fn expect_broken(
-    rt: &(impl Abort + Alloc<A = Global>),
-    key: &[u8],
-    want: &'static str,
-) -> Result<(), Fail> {
-    let key = Vec::from_slice(rt.alloc(), key)?;
-    let variable = (key, Vec::from_slice(rt.alloc(), b"\xff")?);
-    expect_refusal(rt, (Compiler::Cl, b"/c x.c", want), &[variable])
-}
-
-#[test]
-fn no_text_stands_beside_a_broken_variable(rt: HostRuntime) -> Result<(), Fail> {
-    expect_broken(&rt, b"CL", "CL environment variable value broken")?;
-    expect_broken(&rt, b"_CL_", "_CL_ environment variable value broken")
 }

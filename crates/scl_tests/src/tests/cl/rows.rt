@@ -1,360 +1,143 @@
-//! Rows worked by hand, through the program.
+//! Rows worked by hand, through the program: texts, a row a line. Behind ` => ` stand the command's words, or the answer's
+//! one line; before it the words of the request, and before those its other lines, each ended by `; `, with a space between
+//! two fields.
 use super::run_over;
 use scl_cl::{Compiler, Mem, Outcome};
 use std::alloc::Global;
 use std::process::Abort;
 use std::test::Fail;
 
-/// Lines of the request besides words, the words, and the command's words or the answer's one line.
-pub(super) type Row = (&'static str, &'static str, &'static str);
-
 /// Of Diab.
-static DIAB: [Row; 24] = [
-    (
-        "",
-        "-c foo.cxx -fabc -I include -o foo.o -include file",
-        "-c foo.cxx -o foo.o -Iinclude -include file -fabc",
-    ),
-    ("", "-@@foo", "cannot-cache -@"),
-    ("", "-c src/a.c", "-c src/a.c -o src/a.o"),
-    ("", "-c ", "cannot-cache unknown source language"),
-    ("", "-c a.xyz", "cannot-cache unknown source language"),
-    ("", "", "not-compilation"),
-    ("", "-c a.c -L @x", "cannot-cache @"),
-    ("", "-c a.c -Xmake-dependency", "-c a.c -o a.o"),
-    (
-        "",
-        "-c foo.c -fabc -Xmake-dependency-savefile=bar -o foo.o",
-        "-c foo.c -o foo.o -fabc",
-    ),
-    ("", "-## -c foo.c", "cannot-cache -##"),
-    ("", "-shared foo.o -o foo.so bar.o", "not-compilation"),
-    ("", "-c ..", "cannot-cache unknown source language"),
-    (
-        "file foo\t-c\\x20foo.c\\x20-o\\x20foo.o\n",
-        "-@foo",
-        "-c foo.c -o foo.o",
-    ),
-    ("", "-c @a.c", "-c @a.c -o @a.o"),
-    ("", "-c", "cannot-cache no input file"),
-    ("", "-c a.c b.c", "cannot-cache multiple input files"),
-    ("", "-c a.c -o", "cannot-cache argument parse"),
-    ("", "-c a.c -E -o", "cannot-cache -E"),
-    ("", "-c a.c -I", "cannot-cache empty value"),
-    ("", "-c a.c -I\\xff", "-c a.c -o a.o -I\\xff"),
-    ("", "-c ..c", "-c ..c -o ..o"),
-    ("", "-c a.c -@", "cannot-cache -@"),
-    ("cwd /w\nfile /w\t-DA\n", "-c a.c -@", "-c a.c -o a.o -DA"),
-    (
-        "file f\t\\xef\\xbb\\xbfa.c\n",
-        "-c -@f",
-        "-c \\xef\\xbb\\xbfa.c -o \\xef\\xbb\\xbfa.o",
-    ),
-];
+static DIAB: &str = r#"
+-c foo.cxx -fabc -I include -o foo.o -include file => -c foo.cxx -o foo.o -Iinclude -include file -fabc
+-@@foo => cannot-cache -@
+-c src/a.c => -c src/a.c -o src/a.o
+-c  => cannot-cache unknown source language
+-c a.xyz => cannot-cache unknown source language
+ => not-compilation
+-c a.c -L @x => cannot-cache @
+-c a.c -Xmake-dependency => -c a.c -o a.o
+-c foo.c -fabc -Xmake-dependency-savefile=bar -o foo.o => -c foo.c -o foo.o -fabc
+-## -c foo.c => cannot-cache -##
+-shared foo.o -o foo.so bar.o => not-compilation
+-c .. => cannot-cache unknown source language
+file foo -c\x20foo.c\x20-o\x20foo.o; -@foo => -c foo.c -o foo.o
+-c @a.c => -c @a.c -o @a.o
+-c => cannot-cache no input file
+-c a.c b.c => cannot-cache multiple input files
+-c a.c -o => cannot-cache argument parse
+-c a.c -E -o => cannot-cache -E
+-c a.c -I => cannot-cache empty value
+-c a.c -I\xff => -c a.c -o a.o -I\xff
+-c ..c => -c ..c -o ..o
+-c a.c -@ => cannot-cache -@
+cwd /w; file /w -DA; -c a.c -@ => -c a.c -o a.o -DA
+file f \xef\xbb\xbfa.c; -c -@f => -c \xef\xbb\xbfa.c -o \xef\xbb\xbfa.o
+"#;
 
 /// Of TaskingVX.
-static TASKING: [Row; 14] = [
-    (
-        "",
-        "-c a.c -H file -I include -fabc",
-        "-c a.c -o a.o -Hfile -Iinclude -fabc",
-    ),
-    (
-        "file r\t-DA\n",
-        "-c a.c @r",
-        "cannot-cache multiple input files",
-    ),
-    ("", "--version -c a.c", "not-compilation"),
-    ("", "-c a.c -L @x", "-c a.c -o a.o -L@x"),
-    ("", "-c a.c -L", "cannot-cache empty value"),
-    ("", "-n -c foo.c", "cannot-cache -n"),
-    ("", "-c foo.c --dep-file=dep -o foo.o", "-c foo.c -o foo.o"),
-    ("", "--dep-file -c foo.c", "-c foo.c -o foo.o"),
-    ("", "-c a.c --output=b.o", "-c a.c -o b.o"),
-    ("", "-c a.c b.c", "cannot-cache multiple input files"),
-    ("", "a.c", "not-compilation"),
-    ("", "-c a.xyz", "cannot-cache unknown source language"),
-    ("", "-c", "cannot-cache no input file"),
-    ("", "-c a.c -o", "cannot-cache argument parse"),
-];
+static TASKING: &str = r#"
+-c a.c -H file -I include -fabc => -c a.c -o a.o -Hfile -Iinclude -fabc
+file r -DA; -c a.c @r => cannot-cache multiple input files
+--version -c a.c => not-compilation
+-c a.c -L @x => -c a.c -o a.o -L@x
+-c a.c -L => cannot-cache empty value
+-n -c foo.c => cannot-cache -n
+-c foo.c --dep-file=dep -o foo.o => -c foo.c -o foo.o
+--dep-file -c foo.c => -c foo.c -o foo.o
+-c a.c --output=b.o => -c a.c -o b.o
+-c a.c b.c => cannot-cache multiple input files
+a.c => not-compilation
+-c a.xyz => cannot-cache unknown source language
+-c => cannot-cache no input file
+-c a.c -o => cannot-cache argument parse
+"#;
 
 /// Of Gcc, as its driver for C.
-static GCC: [Row; 39] = [
-    (
-        "",
-        "-o foo.o -c foo.c",
-        "-x c -c -o foo.o -fdiagnostics-color=always foo.c",
-    ),
-    ("", "-o foo.o foo.c", "not-compilation"),
-    ("", "", "not-compilation"),
-    ("", "-c a.c b.c", "cannot-cache multiple input files"),
-    ("", "-c -x c ..", "cannot-cache invalid input file"),
-    (
-        "",
-        "-c src/foo.cc -stdlib=libc++ -MMD",
-        "-x c++ -c -o foo.o -stdlib=libc++ -MMD -MT foo.o -MF foo.d -fdiagnostics-color=always src/foo.cc",
-    ),
-    ("", "-c a.c -I", "cannot-cache empty value"),
-    ("", "-c a.c -I ", "cannot-cache empty value"),
-    (
-        "file r\t-c\\x20\"a\\x20b.c\"\\x20@r\n",
-        "@r",
-        "cannot-cache @",
-    ),
-    (
-        "",
-        "-c a.c -gsplit-dwarf -pipe",
-        "-x c -c -o a.o -pipe -gsplit-dwarf -D_gsplit_dwarf_path=a.dwo -fdiagnostics-color=always a.c",
-    ),
-    (
-        "",
-        "-c a.c -arch i386 -arch x86_64",
-        "cannot-cache multiple different -arch, and SCCACHE_CACHE_MULTIARCH not set",
-    ),
-    (
-        "multiarch\n",
-        "-c a.c -arch i386 -arch x86_64",
-        "-x c -c -o a.o -arch i386 -arch x86_64 -fdiagnostics-color=always a.c",
-    ),
-    (
-        "",
-        "-c a.s -MMD",
-        "-x assembler -c -o a.o -MMD -fdiagnostics-color=always a.s",
-    ),
-    ("", "-c a.rs", "-c -o a.o -fdiagnostics-color=always a.rs"),
-    ("", "-c a.c -fdiagnostics-color=never", "-x c -c -o a.o a.c"),
-    (
-        "",
-        "-c a.c -fno-diagnostics-color",
-        "-x c -c -o a.o -fno-diagnostics-color a.c",
-    ),
-    (
-        "",
-        "-c -- a.c",
-        "-x c -c -o a.o -- -fdiagnostics-color=always a.c",
-    ),
-    (
-        "",
-        "-c a.c --serialize-diagnostics x.dia",
-        "-x c -c -o a.o -fdiagnostics-color=always a.c",
-    ),
-    ("file r\t\\xff\n", "-c a.c @r", "cannot-cache @"),
-    (
-        "",
-        "-c \\xff.c -gsplit-dwarf",
-        "-x c -c -o \\xff.o -gsplit-dwarf -D_gsplit_dwarf_path=\\xff.dwo -fdiagnostics-color=always \\xff.c",
-    ),
-    (
-        "",
-        "-c a.c -I\\xfe\\xff",
-        "-x c -c -o a.o -I\\xfe\\xff -fdiagnostics-color=always a.c",
-    ),
-    ("", "-c a.c -L", "cannot-cache argument parse"),
-    ("", "-c a.c -x", "cannot-cache empty value"),
-    ("", "-c a.c -o", "cannot-cache empty value"),
-    (
-        "cwd /w\nfile /w//r\t-c\\x20a.c\n",
-        "@r",
-        "-x c -c -o a.o -fdiagnostics-color=always a.c",
-    ),
-    (
-        "",
-        "-c a.c -std=",
-        "-x c -c -o a.o -std -fdiagnostics-color=always a.c",
-    ),
-    (
-        "",
-        "-c a.c -L ",
-        "-x c -c -o a.o -L  -fdiagnostics-color=always a.c",
-    ),
-    ("", "-c", "cannot-cache no input file"),
-    ("", "-c a.xyz", "cannot-cache unknown source language"),
-    (
-        "",
-        "-c a.c -arch i386 -arch i386",
-        "-x c -c -o a.o -arch i386 -arch i386 -fdiagnostics-color=always a.c",
-    ),
-    ("", "-c a.c -E", "cannot-cache -E"),
-    (
-        "cwd /w\nfile /w/s\t-c\\x20\"a\\x20b.c\"\\x20@s\n",
-        "@s",
-        "cannot-cache @",
-    ),
-    ("cwd /w\nfile /w/t\t\\xff\n", "-c a.c @t", "cannot-cache @"),
-    (
-        "",
-        "-c a.c -iwithprefixdir",
-        "-x c -c -o a.o -iwithprefix dir -fdiagnostics-color=always a.c",
-    ),
-    (
-        "",
-        "-c a.c -Wp,@b",
-        "-x c -c -o a.o -Wp,@b -fdiagnostics-color=always a.c",
-    ),
-    (
-        "",
-        "-c ..c",
-        "-x c -c -o ..o -fdiagnostics-color=always ..c",
-    ),
-    (
-        "cwd /w\nfile /w\t-DA\n",
-        "-c a.c @",
-        "-x c -c -o a.o -DA -fdiagnostics-color=always a.c",
-    ),
-    (
-        "file r\t-c\\x0ca.c\\x0d-DA\n",
-        "@r",
-        "-x c -c -o a.o -DA -fdiagnostics-color=always a.c",
-    ),
-    (
-        "file r\t\\xef\\xbb\\xbfa.c\n",
-        "-c @r",
-        "-x c -c -o \\xef\\xbb\\xbfa.o -fdiagnostics-color=always \\xef\\xbb\\xbfa.c",
-    ),
-];
+static GCC: &str = r#"
+-o foo.o -c foo.c => -x c -c -o foo.o -fdiagnostics-color=always foo.c
+-o foo.o foo.c => not-compilation
+ => not-compilation
+-c a.c b.c => cannot-cache multiple input files
+-c -x c .. => cannot-cache invalid input file
+-c src/foo.cc -stdlib=libc++ -MMD => -x c++ -c -o foo.o -stdlib=libc++ -MMD -MT foo.o -MF foo.d -fdiagnostics-color=always src/foo.cc
+-c a.c -I => cannot-cache empty value
+-c a.c -I  => cannot-cache empty value
+file r -c\x20"a\x20b.c"\x20@r; @r => cannot-cache @
+-c a.c -gsplit-dwarf -pipe => -x c -c -o a.o -pipe -gsplit-dwarf -D_gsplit_dwarf_path=a.dwo -fdiagnostics-color=always a.c
+-c a.c -arch i386 -arch x86_64 => cannot-cache multiple different -arch, and SCCACHE_CACHE_MULTIARCH not set
+multiarch; -c a.c -arch i386 -arch x86_64 => -x c -c -o a.o -arch i386 -arch x86_64 -fdiagnostics-color=always a.c
+-c a.s -MMD => -x assembler -c -o a.o -MMD -fdiagnostics-color=always a.s
+-c a.rs => -c -o a.o -fdiagnostics-color=always a.rs
+-c a.c -fdiagnostics-color=never => -x c -c -o a.o a.c
+-c a.c -fno-diagnostics-color => -x c -c -o a.o -fno-diagnostics-color a.c
+-c -- a.c => -x c -c -o a.o -- -fdiagnostics-color=always a.c
+-c a.c --serialize-diagnostics x.dia => -x c -c -o a.o -fdiagnostics-color=always a.c
+file r \xff; -c a.c @r => cannot-cache @
+-c \xff.c -gsplit-dwarf => -x c -c -o \xff.o -gsplit-dwarf -D_gsplit_dwarf_path=\xff.dwo -fdiagnostics-color=always \xff.c
+-c a.c -I\xfe\xff => -x c -c -o a.o -I\xfe\xff -fdiagnostics-color=always a.c
+-c a.c -L => cannot-cache argument parse
+-c a.c -x => cannot-cache empty value
+-c a.c -o => cannot-cache empty value
+cwd /w; file /w//r -c\x20a.c; @r => -x c -c -o a.o -fdiagnostics-color=always a.c
+-c a.c -std= => -x c -c -o a.o -std -fdiagnostics-color=always a.c
+-c a.c -L  => -x c -c -o a.o -L  -fdiagnostics-color=always a.c
+-c => cannot-cache no input file
+-c a.xyz => cannot-cache unknown source language
+-c a.c -arch i386 -arch i386 => -x c -c -o a.o -arch i386 -arch i386 -fdiagnostics-color=always a.c
+-c a.c -E => cannot-cache -E
+cwd /w; file /w/s -c\x20"a\x20b.c"\x20@s; @s => cannot-cache @
+cwd /w; file /w/t \xff; -c a.c @t => cannot-cache @
+-c a.c -iwithprefixdir => -x c -c -o a.o -iwithprefix dir -fdiagnostics-color=always a.c
+-c a.c -Wp,@b => -x c -c -o a.o -Wp,@b -fdiagnostics-color=always a.c
+-c ..c => -x c -c -o ..o -fdiagnostics-color=always ..c
+cwd /w; file /w -DA; -c a.c @ => -x c -c -o a.o -DA -fdiagnostics-color=always a.c
+file r -c\x0ca.c\x0d-DA; @r => -x c -c -o a.o -DA -fdiagnostics-color=always a.c
+file r \xef\xbb\xbfa.c; -c @r => -x c -c -o \xef\xbb\xbfa.o -fdiagnostics-color=always \xef\xbb\xbfa.c
+"#;
 
 /// Of Gcc, as its driver for C++.
-static GXX: [Row; 2] = [
-    (
-        "",
-        "-c a.c",
-        "-x c++ -c -o a.o -fdiagnostics-color=always a.c",
-    ),
-    (
-        "",
-        "-c -x c a.c",
-        "-x c -c -o a.o -fdiagnostics-color=always a.c",
-    ),
-];
+static GXX: &str = r#"
+-c a.c => -x c++ -c -o a.o -fdiagnostics-color=always a.c
+-c -x c a.c => -x c -c -o a.o -fdiagnostics-color=always a.c
+"#;
 
 /// Of Clang, as its driver for C.
-static CLANG: [Row; 27] = [
-    (
-        "",
-        "-c -Xclang -include -Xclang pch.h -- -a.c",
-        "-x c -c -o -a.o -Xclang -include -Xclang pch.h -fdiagnostics-color=always -- -a.c",
-    ),
-    (
-        "",
-        "-include-pch x.pch -c a.c",
-        "-x c -c -o a.o -include-pch x.pch -fdiagnostics-color=always a.c",
-    ),
-    (
-        "",
-        "-c foo.cxx -arch xyz -fabc -I include -o foo.o -include file /winsysroot../some/dir",
-        "-x c++ -c -o foo.o -Iinclude -include file -fabc /winsysroot ../some/dir -arch xyz -fdiagnostics-color=always foo.cxx",
-    ),
-    (
-        "",
-        "-c foo.c -o foo.o -Xclang -load",
-        "cannot-cache argument parse",
-    ),
-    (
-        "",
-        "-c foo.c -o foo.o -Xclang broken",
-        "cannot-cache Can't handle Raw arguments with -Xclang",
-    ),
-    (
-        "",
-        "-c foo.c -o foo.o -Xclang -fabc",
-        "cannot-cache Can't handle UnknownFlag arguments with -Xclang",
-    ),
-    (
-        "",
-        "-c a.c --serialize-diagnostics x.dia",
-        "-x c -c -o a.o --serialize-diagnostics x.dia -fdiagnostics-color=always a.c",
-    ),
-    (
-        "",
-        "-c a.c -MFx.d -MD",
-        "-x c -c -o a.o -MF x.d -MD -MT a.o -fdiagnostics-color=always a.c",
-    ),
-    (
-        "",
-        "-c a.cppm -fmodule-output",
-        "-x c++-module -c -o a.o -fmodule-output -fdiagnostics-color=always a.cppm",
-    ),
-    (
-        "",
-        "-c a.cppm -fmodule-outputx",
-        "cannot-cache unknown module output format",
-    ),
-    (
-        "",
-        "-c -Xclang -plugin-arg-foo -Xclang bar a.c",
-        "-x c -c -o a.o -Xclang -plugin-arg-foo -Xclang bar -fdiagnostics-color=always a.c",
-    ),
-    (
-        "",
-        "-c foo.cpp -x cu --cuda-gpu-arch=sm_50 -o foo.o",
-        "-x cuda -c -o foo.o --cuda-gpu-arch=sm_50 -fdiagnostics-color=always foo.cpp",
-    ),
-    (
-        "",
-        "-c foo.hip -parallel-jobs=5 --hip-path=/usr",
-        "-x hip -c -o foo.o -parallel-jobs=5 --hip-path=/usr -fdiagnostics-color=always foo.hip",
-    ),
-    (
-        "",
-        "-c foo.c -Xclang -no-integrated-as",
-        "cannot-cache -no-integrated-as",
-    ),
-    ("", "-c a.c --config", "cannot-cache argument parse"),
-    ("", "-c a.c --config=", "cannot-cache empty value"),
-    ("", "-c a.c -Xclang -I", "cannot-cache empty value"),
-    ("", "-c -x c /", "cannot-cache invalid input file"),
-    (
-        "",
-        "-c -- a.c",
-        "-x c -c -o a.o -fdiagnostics-color=always -- a.c",
-    ),
-    (
-        "",
-        "-c a.c --",
-        "-x c -c -o a.o -fdiagnostics-color=always a.c",
-    ),
-    ("", "-c a.c -Xclang -c -E", "cannot-cache -E"),
-    ("", "-o foo.o foo.c", "not-compilation"),
-    (
-        "",
-        "-o foo.o foo.c -Xclang broken",
-        "cannot-cache Can't handle Raw arguments with -Xclang",
-    ),
-    (
-        "",
-        "-c -Xclang -plugin-arg-foo -Xclang bar -Xclang baz a.c",
-        "cannot-cache Can't handle Raw arguments with -Xclang",
-    ),
-    (
-        "",
-        "-c a.c -Xclang -include@a.h",
-        "-x c -c -o a.o -Xclang -include -Xclang @a.h -fdiagnostics-color=always a.c",
-    ),
-    (
-        "",
-        "-c a.c -Xclang -I -Xclang inc",
-        "-x c -c -o a.o -Xclang -Iinc -fdiagnostics-color=always a.c",
-    ),
-    (
-        "",
-        "-c -x c++-module .. -o m.o -fmodule-output",
-        "cannot-cache invalid input file",
-    ),
-];
+static CLANG: &str = r#"
+-c -Xclang -include -Xclang pch.h -- -a.c => -x c -c -o -a.o -Xclang -include -Xclang pch.h -fdiagnostics-color=always -- -a.c
+-include-pch x.pch -c a.c => -x c -c -o a.o -include-pch x.pch -fdiagnostics-color=always a.c
+-c foo.cxx -arch xyz -fabc -I include -o foo.o -include file /winsysroot../some/dir => -x c++ -c -o foo.o -Iinclude -include file -fabc /winsysroot ../some/dir -arch xyz -fdiagnostics-color=always foo.cxx
+-c foo.c -o foo.o -Xclang -load => cannot-cache argument parse
+-c foo.c -o foo.o -Xclang broken => cannot-cache Can't handle Raw arguments with -Xclang
+-c foo.c -o foo.o -Xclang -fabc => cannot-cache Can't handle UnknownFlag arguments with -Xclang
+-c a.c --serialize-diagnostics x.dia => -x c -c -o a.o --serialize-diagnostics x.dia -fdiagnostics-color=always a.c
+-c a.c -MFx.d -MD => -x c -c -o a.o -MF x.d -MD -MT a.o -fdiagnostics-color=always a.c
+-c a.cppm -fmodule-output => -x c++-module -c -o a.o -fmodule-output -fdiagnostics-color=always a.cppm
+-c a.cppm -fmodule-outputx => cannot-cache unknown module output format
+-c -Xclang -plugin-arg-foo -Xclang bar a.c => -x c -c -o a.o -Xclang -plugin-arg-foo -Xclang bar -fdiagnostics-color=always a.c
+-c foo.cpp -x cu --cuda-gpu-arch=sm_50 -o foo.o => -x cuda -c -o foo.o --cuda-gpu-arch=sm_50 -fdiagnostics-color=always foo.cpp
+-c foo.hip -parallel-jobs=5 --hip-path=/usr => -x hip -c -o foo.o -parallel-jobs=5 --hip-path=/usr -fdiagnostics-color=always foo.hip
+-c foo.c -Xclang -no-integrated-as => cannot-cache -no-integrated-as
+-c a.c --config => cannot-cache argument parse
+-c a.c --config= => cannot-cache empty value
+-c a.c -Xclang -I => cannot-cache empty value
+-c -x c / => cannot-cache invalid input file
+-c -- a.c => -x c -c -o a.o -fdiagnostics-color=always -- a.c
+-c a.c -- => -x c -c -o a.o -fdiagnostics-color=always a.c
+-c a.c -Xclang -c -E => cannot-cache -E
+-o foo.o foo.c => not-compilation
+-o foo.o foo.c -Xclang broken => cannot-cache Can't handle Raw arguments with -Xclang
+-c -Xclang -plugin-arg-foo -Xclang bar -Xclang baz a.c => cannot-cache Can't handle Raw arguments with -Xclang
+-c a.c -Xclang -include@a.h => -x c -c -o a.o -Xclang -include -Xclang @a.h -fdiagnostics-color=always a.c
+-c a.c -Xclang -I -Xclang inc => -x c -c -o a.o -Xclang -Iinc -fdiagnostics-color=always a.c
+-c -x c++-module .. -o m.o -fmodule-output => cannot-cache invalid input file
+"#;
 
 /// Of Clang, as its driver for C++.
-static CLANGXX: [Row; 2] = [
-    (
-        "",
-        "-c a.c",
-        "-x c++ -c -o a.o -fdiagnostics-color=always a.c",
-    ),
-    (
-        "",
-        "-c -x c a.c",
-        "-x c -c -o a.o -fdiagnostics-color=always a.c",
-    ),
-];
+static CLANGXX: &str = r#"
+-c a.c => -x c++ -c -o a.o -fdiagnostics-color=always a.c
+-c -x c a.c => -x c -c -o a.o -fdiagnostics-color=always a.c
+"#;
 
 fn push_line(lines: &mut String, keyword: &str, word: &str) -> Mem<()> {
     lines.push_str(keyword)?;
@@ -396,13 +179,41 @@ fn text_of(alloc: Global, answer: &str) -> Result<String, Fail> {
     Ok(text)
 }
 
+/// The compiler that a row of several compilers names, and the rest of the row.
+pub(super) fn name_and_row(row: &str) -> Result<(Compiler, &str), Fail> {
+    let (name, row) = row.split_once(": ").ok_or("no name")?;
+    let compiler = Compiler::named(name.as_bytes()).ok_or("no compiler of this name")?;
+    Ok((compiler, row))
+}
+
+/// A line of a request, which a row writes with a space between two fields.
+fn other_line(alloc: Global, line: &str) -> Result<String, Fail> {
+    let (keyword, fields) = line.split_once(' ').unwrap_or((line, ""));
+    let Some((first, second)) = fields.split_once(' ') else {
+        return Ok(format!(in alloc; "{line}\n")?);
+    };
+    Ok(format!(in alloc; "{keyword} {first}\t{second}\n")?)
+}
+
+/// The request of a row: its other lines and its words.
+pub(super) fn request_in(alloc: Global, compiler: Compiler, row: &str) -> Result<String, Fail> {
+    let (others, words) = row.rsplit_once("; ").unwrap_or(("", row));
+    let mut lines = String::new(alloc);
+    if !others.is_empty() {
+        for line in others.split("; ") {
+            lines.push_str(other_line(alloc, line)?.as_str())?;
+        }
+    }
+    request_of(alloc, compiler, lines.as_str(), words)
+}
+
 fn expect_row(
     rt: &(impl Abort + Alloc<A = Global>),
     compiler: Compiler,
-    row: Row,
+    row: &str,
 ) -> Result<(), Fail> {
-    let (lines, words, answer) = row;
-    let request = request_of(rt.alloc(), compiler, lines, words)?;
+    let (request, answer) = row.split_once(" => ").ok_or("no answer")?;
+    let request = request_in(rt.alloc(), compiler, request)?;
     let (outcome, written) = run_over(rt.alloc(), request.as_bytes());
     assert!(rt; outcome == Outcome::Answered, "of {request:?}");
     let want = text_of(rt.alloc(), answer)?;
@@ -413,42 +224,44 @@ fn expect_row(
 pub(super) fn expect_rows(
     rt: &(impl Abort + Alloc<A = Global>),
     compiler: Compiler,
-    rows: &[Row],
+    rows: &str,
 ) -> Result<(), Fail> {
-    for row in rows {
-        expect_row(rt, compiler, *row)?;
+    for row in rows.lines() {
+        if !row.is_empty() {
+            expect_row(rt, compiler, row)?;
+        }
     }
     Ok(())
 }
 
 #[test]
 fn diab_answers_its_rows(rt: HostRuntime) -> Result<(), Fail> {
-    expect_rows(&rt, Compiler::Diab, &DIAB)
+    expect_rows(&rt, Compiler::Diab, DIAB)
 }
 
 #[test]
 fn tasking_answers_its_rows(rt: HostRuntime) -> Result<(), Fail> {
-    expect_rows(&rt, Compiler::Tasking, &TASKING)
+    expect_rows(&rt, Compiler::Tasking, TASKING)
 }
 
 #[test]
 fn gcc_answers_its_rows(rt: HostRuntime) -> Result<(), Fail> {
-    expect_rows(&rt, Compiler::Gcc, &GCC)
+    expect_rows(&rt, Compiler::Gcc, GCC)
 }
 
 #[test]
 fn gcc_for_cxx_answers_its_rows(rt: HostRuntime) -> Result<(), Fail> {
-    expect_rows(&rt, Compiler::Gxx, &GXX)
+    expect_rows(&rt, Compiler::Gxx, GXX)
 }
 
 #[test]
 fn clang_answers_its_rows(rt: HostRuntime) -> Result<(), Fail> {
-    expect_rows(&rt, Compiler::Clang, &CLANG)
+    expect_rows(&rt, Compiler::Clang, CLANG)
 }
 
 #[test]
 fn clang_for_cxx_answers_its_rows(rt: HostRuntime) -> Result<(), Fail> {
-    expect_rows(&rt, Compiler::Clangxx, &CLANGXX)
+    expect_rows(&rt, Compiler::Clangxx, CLANGXX)
 }
 
 /// Appends the line of a file that names the next one so many times.
