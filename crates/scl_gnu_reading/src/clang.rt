@@ -1,7 +1,5 @@
-//! Clang's table, and both tables as one.
+//! Clang's table, and the trees of Gcc's and Clang's.
 
 mod args;
-mod tables;
 
-pub use args::{ARGS, table};
-pub use tables::{BothTables, BothTrees};
+pub use args::{ARGS, table, trees};

@@ -14,7 +14,7 @@ pub use depfile::{DepfileError, DepfileText, depfile_text, write_depfile};
 pub use environment::without_cl_env_vars;
 pub use scl_args::WriteFault;
 pub use scl_msvc_reading::msvc::{
-    ARGS, ArgData, BothTables, BothTrees, Kind, SLASH_ARGS, parse_arguments, slash_table, table,
+    ARGS, ArgData, Kind, SLASH_ARGS, parse_arguments, slash_table, table, trees,
 };
 pub use scl_text::MsvcExpand as ExpandIncludeFile;
 pub use within::has_at_most;

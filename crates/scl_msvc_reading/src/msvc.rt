@@ -11,9 +11,7 @@ mod outputs;
 mod parse;
 mod place;
 mod record;
-mod tables;
 
-pub use args::{ARGS, SLASH_ARGS, slash_table, table};
+pub use args::{ARGS, SLASH_ARGS, slash_table, table, trees};
 pub use data::{ArgData, Kind};
 pub use parse::parse_arguments;
-pub use tables::{BothTables, BothTrees};

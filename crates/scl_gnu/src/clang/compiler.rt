@@ -9,7 +9,7 @@ use super::preprocess::clang_passes;
 use super::version::names_at_least;
 use crate::gcc;
 use scl_args::Mem;
-use scl_gnu_reading::clang::BothTrees;
+use scl_gnu_reading::clang::trees;
 use scl_text::CCompilerImpl;
 use scl_text::command::copied_text;
 use scl_text::language::Language;
@@ -127,7 +127,7 @@ impl CCompilerImpl for Clang {
             alloc,
             arguments,
             cwd,
-            BothTrees::build(alloc)?,
+            trees(alloc)?,
             self.clangplusplus,
             CCompilerKind::Clang,
             view,

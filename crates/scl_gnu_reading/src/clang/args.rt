@@ -1,13 +1,15 @@
-//! Clang's table.
-ghost use Rattle.std.specs.Prelude.{◌≡◌, ◌∷◌, [], IsTrue};
+//! Clang's table, and the trees of Gcc's and Clang's.
+ghost use Rattle.std.specs.Prelude.{◌≡◌, ◌∷◌, [], IfOk, IsTrue};
+ghost use Rattle.std.specs.List.{flat_map};
 ghost use Rattle.scl_values.specs.Tables.{tables_hold_values};
-ghost use Rattle.scl_gnu_reading.specs.ClangRows.{clang_rows};
+ghost use Rattle.scl_gnu_reading.specs.ClangRows.{clang_rows, clang_tables};
 ghost use Rattle.scl_gnu_reading.specs.Data.{holds_value};
 
-use crate::gcc::{ArgData, Kind};
+use crate::gcc::{self, ArgData, Kind};
 use scl_args::ArgDisposition::{CanBeConcatenated, CanBeSeparated, Concatenated, Separated};
 use scl_args::ArgRow::{Flag, TakeArg};
-use scl_args::{ArgInfo, FlagTable};
+use scl_args::{ArgInfo, FlagTable, FlagTree, Mem, Tables};
+use std::alloc::Global;
 
 /// Clang's rows beside Gcc's, in the order of their flags' bytes (docs/RULES.md, Clang).
 pub static ARGS: [ArgInfo<ArgData>; 100] = [
@@ -272,4 +274,15 @@ pub fn table() -> FlagTable<'static, ArgData>
     ensures values { IsTrue (tables_hold_values holds_value (result ∷ [])) }
 {
     FlagTable::new(&ARGS).unwrap()
+}
+
+/// Prefix trees of Gcc's table and of Clang's; where both have a flag, Clang's row owns it (docs/RULES.md, Clang). The
+/// error is the refusal of memory.
+pub fn trees(alloc: Global) -> Mem<Tables<FlagTree<'static, ArgData>>>
+    ensures tables { IfOk result (λ trees. flat_map (λ tree. tree ∷ []) trees ≡ clang_tables) }
+    ensures values { IfOk result (λ trees. IsTrue (tables_hold_values holds_value (flat_map (λ tree. tree ∷ []) trees))) }
+{
+    let gcc = FlagTree::build(alloc, &gcc::table())?;
+    let clang = FlagTree::build(alloc, &table())?;
+    Ok(Tables::new(vec![in alloc; gcc, clang]?))
 }

@@ -9,7 +9,7 @@ mod place;
 
 use super::data::ArgData;
 use super::place::Place;
-use crate::clang::BothTrees;
+use crate::clang;
 pub(crate) use judge::ByInnerVerdict;
 use place::Inside;
 use scl_args::{Judge, Mem, Options, ShortFlagsJoined, WrappedApart, push_wrapped};
@@ -38,7 +38,7 @@ pub fn read_inner<J: Judge<ArgData>>(
         ExpansionKind::Gnu,
         words,
         cwd,
-        BothTrees::build(alloc)?,
+        clang::trees(alloc)?,
         false,
         judge,
         view,

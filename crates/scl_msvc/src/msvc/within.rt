@@ -10,7 +10,7 @@ ghost use Rattle.scl_msvc.specs.Within.{options_cut, inner_line, inner_lines, co
 
 use super::environment::{gives_words, surrounded};
 use scl_args::{Argument, Mem, OfKinds, cut_options, texts};
-use scl_msvc_reading::msvc::{ArgData, BothTables, Kind};
+use scl_msvc_reading::msvc::{ArgData, Kind, trees};
 use scl_text::view::View;
 use scl_text::{ExpansionKind, TooManyWords, expand_at_most};
 use std::alloc::Global;
@@ -58,7 +58,7 @@ fn are_handed_within(
 ) -> Mem<bool>
     ensures { IfOk result (λ within. within ≡ are_within most (inner_lines cwd.now view.now (options_cut is_clang (words_of words.items)))) }
 {
-    let cut = cut_options(alloc, words, BothTables::new(), is_clang)?;
+    let cut = cut_options(alloc, words, trees(alloc)?, is_clang)?;
     are_inner_within(alloc, &cut.options, cwd, view, most)
 }
 

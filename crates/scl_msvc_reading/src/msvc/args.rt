@@ -1,11 +1,15 @@
-//! Msvc's two tables.
-ghost use Rattle.std.specs.Prelude.{◌≡◌, codes};
-ghost use Rattle.scl_msvc_reading.specs.Rows.{msvc_rows};
+//! Msvc's two tables, and their trees.
+ghost use Rattle.std.specs.Prelude.{◌≡◌, ◌∷◌, [], codes, IfOk, IsTrue};
+ghost use Rattle.std.specs.List.{flat_map};
+ghost use Rattle.scl_values.specs.Tables.{tables_hold_values};
+ghost use Rattle.scl_msvc_reading.specs.Data.{holds_value};
+ghost use Rattle.scl_msvc_reading.specs.Rows.{msvc_rows, msvc_tables};
 
 use super::data::{ArgData, Kind};
 use scl_args::ArgDisposition::{CanBeSeparated, Concatenated, Separated};
 use scl_args::ArgRow::{Flag, TakeArg};
-use scl_args::{ArgInfo, FlagTable};
+use scl_args::{ArgInfo, FlagTable, FlagTree, Mem, Tables};
+use std::alloc::Global;
 
 // the rows whose flags begin with the prefix, in the order of their bytes, and that of response files
 macro_rules! rows {
@@ -290,4 +294,16 @@ pub fn slash_table() -> FlagTable<'static, ArgData>
     ensures { result ≡ msvc_rows (codes "/") }
 {
     FlagTable::new(&SLASH_ARGS).unwrap()
+}
+
+/// Prefix trees of the table of flags that begin with `-` and of that of flags that begin with `/` (docs/RULES.md, Msvc).
+/// The error is the refusal of memory.
+#[tactic(auto, using(crate::proofs::TableLaws::msvc_tables_hold_values))]
+pub fn trees(alloc: Global) -> Mem<Tables<FlagTree<'static, ArgData>>>
+    ensures tables { IfOk result (λ trees. flat_map (λ tree. tree ∷ []) trees ≡ msvc_tables) }
+    ensures values { IfOk result (λ trees. IsTrue (tables_hold_values holds_value (flat_map (λ tree. tree ∷ []) trees))) }
+{
+    let dashes = FlagTree::build(alloc, &table())?;
+    let slashes = FlagTree::build(alloc, &slash_table())?;
+    Ok(Tables::new(vec![in alloc; dashes, slashes]?))
 }

@@ -5,12 +5,12 @@ ghost use Rattle.scl_text.specs.Records.{outcome_of};
 ghost use Rattle.scl_msvc_reading.specs.InnerBy.{inner_of};
 ghost use Rattle.scl_msvc_reading.specs.Readings.{recorded, read, reading};
 
+use super::args::trees;
 use super::data::ArgData;
 use super::fixed_tests::find;
 use super::inner::{InnerOptions, both_inner};
 use super::judge::ByVerdict;
 use super::record::record_of;
-use super::tables::BothTrees;
 use scl_args::{Mem, Options};
 use scl_text::records::{CompilerArguments, ParsedArguments};
 use scl_text::view::View;
@@ -71,7 +71,7 @@ pub fn parse_arguments(
         ExpansionKind::Msvc,
         arguments,
         cwd,
-        BothTrees::build(alloc)?,
+        trees(alloc)?,
         is_clang,
         &judge,
         view,

@@ -3,7 +3,7 @@ use crate::tests::records::{self, msvc};
 use crate::tests::words::{cut, joined};
 use scl_args::{Mem, SearchableArgInfo, looks};
 use scl_gnu::gcc;
-use scl_msvc::msvc::{ARGS, BothTables, ExpandIncludeFile, Msvc, SLASH_ARGS, without_cl_env_vars};
+use scl_msvc::msvc::{ARGS, ExpandIncludeFile, Msvc, SLASH_ARGS, trees, without_cl_env_vars};
 use scl_text::records::{CCompilerKind, Cacheable, ParsedArguments, SingleCompileCommand};
 use scl_text::{CCompilerImpl, View};
 use std::alloc::Global;
@@ -192,17 +192,18 @@ fn msvc_says_what_it_is(rt: HostRuntime) -> Result<(), Fail> {
 }
 
 #[test]
-fn both_tables_have_the_same_flags(rt: HostRuntime) {
-    let tables = BothTables::new();
+fn both_trees_have_the_same_flags(rt: HostRuntime) -> Result<(), Fail> {
+    let trees = trees(rt.alloc())?;
     for (row, slash) in ARGS.iter().zip(SLASH_ARGS.iter()) {
         assert!(rt; row.flag().strip_prefix("-") == slash.flag().strip_prefix("/"));
         for flag in [row.flag(), slash.flag()] {
-            let found = tables.search(flag.as_bytes()).map(|found| found.flag());
+            let found = trees.search(flag.as_bytes()).map(|found| found.flag());
             assert!(rt; found == Some(flag));
             let bytes = flag.len() as u64;
             assert!(rt;
-                looks(&tables, flag.as_bytes()) <= bytes.saturating_add(1).saturating_mul(20)
+                looks(&trees, flag.as_bytes()) <= bytes.saturating_add(1).saturating_mul(20)
             );
         }
     }
+    Ok(())
 }

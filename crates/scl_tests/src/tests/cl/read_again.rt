@@ -86,10 +86,10 @@ fn cut_again(alloc: Global, compiler: Compiler, words: Vec<Vec<u8>>) -> Result<V
         Compiler::Tasking => Ok(options_of(alloc, words, tasking_vx::table(), false)?),
         Compiler::Gcc | Compiler::Gxx => Ok(options_of(alloc, words, gcc::table(), false)?),
         Compiler::Clang | Compiler::Clangxx => {
-            Ok(options_of(alloc, words, clang::BothTables::new(), true)?)
+            Ok(options_of(alloc, words, clang::trees(alloc)?, true)?)
         }
-        Compiler::Cl => Ok(options_of(alloc, words, msvc::BothTables::new(), false)?),
-        Compiler::ClangCl => Ok(options_of(alloc, words, msvc::BothTables::new(), true)?),
+        Compiler::Cl => Ok(options_of(alloc, words, msvc::trees(alloc)?, false)?),
+        Compiler::ClangCl => Ok(options_of(alloc, words, msvc::trees(alloc)?, true)?),
     }
 }
 
@@ -145,7 +145,7 @@ fn words_that_a_command_hands_on_are_cut_again(rt: HostRuntime) -> Result<(), Fa
             is_wrapped = word.as_slice() == b"-Xclang".as_slice();
         }
     }
-    let options = options_of(rt.alloc(), inner, clang::BothTables::new(), false)?;
+    let options = options_of(rt.alloc(), inner, clang::trees(rt.alloc())?, false)?;
     assert!(rt; options.as_slice() == b"-include pch.h".as_slice());
     Ok(())
 }

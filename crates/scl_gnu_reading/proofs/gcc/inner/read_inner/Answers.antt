@@ -8,4 +8,4 @@ returns-then-is_empty g c =
     rw (c.in_ok-new.ensures, c.new.ensures.items) (sym none)
 
 pub returns : goal.returns
-returns g c = rw c.in_ok-build.ensures.tables at c.judge_words.ensures
+returns g c = rw c.in_ok-trees.ensures.tables at c.judge_words.ensures

@@ -9,7 +9,7 @@ use Rattle.scl_msvc.proofs.msvc.within.are_handed_within.Goals as goal
 
 pub returns : goal.returns
 returns c =
-    let cut_as = rw c.new.ensures.tables at c.in_ok-cut.ensures.options in
+    let cut_as = rw c.in_ok-trees.ensures.tables at c.in_ok-cut.ensures.options in
     let options_are : map (seen kind_of word_of) c.deref.result.now ≡ options_cut c.args.is_clang (words_of c.args.words.items) =
     ap (map (seen kind_of word_of)) c.deref.ensures.value ∙ cut_as in
     let P : List (Seen Kind) → Type 0 = λ os. IfOk c.are_inner_within.result (λ within. within ≡ are_within c.args.most (inner_lines c.args.cwd.now c.args.view.now os)) in

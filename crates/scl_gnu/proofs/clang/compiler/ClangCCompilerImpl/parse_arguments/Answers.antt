@@ -7,7 +7,7 @@ use Rattle.scl_gnu.proofs.ClangAgainLaws.{command_kept}
 use Rattle.scl_gnu.proofs.clang.compiler.ClangCCompilerImpl.parse_arguments.Goals as goal
 
 pub returns-clause-outcome : goal.returns-clause-outcome
-returns-clause-outcome c = rw c.in_ok-build.ensures.tables at c.parse_arguments.ensures
+returns-clause-outcome c = rw c.in_ok-trees.ensures.tables at c.parse_arguments.ensures
 
 pub returns-clause-read_again : goal.returns-clause-read_again
 returns-clause-read_again c =
