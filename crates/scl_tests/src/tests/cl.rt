@@ -1,6 +1,7 @@
 //! The program over memory: what the contracts do not say.
 mod besides;
 mod devices;
+mod fields;
 mod msvc_rows;
 mod outcomes;
 mod read_again;

@@ -10,10 +10,7 @@ use scl_gnu::gcc::{
     module_file_path, resolve_profile_use_path,
 };
 use scl_text::language::Language;
-use scl_text::outputs::output_path;
-use scl_text::records::{
-    CCompilerKind, ColorMode, CommandError, ParsedArguments, SingleCompileCommand,
-};
+use scl_text::records::{CCompilerKind, CommandError, ParsedArguments, SingleCompileCommand};
 use scl_text::{CCompilerImpl, View};
 use std::alloc::Global;
 use std::test::Fail;
@@ -25,49 +22,6 @@ fn bytes_of(rt: &HostRuntime, text: &[u8]) -> Mem<Vec<u8>> {
 /// What Gcc reads in the directory `/w`.
 fn record_of(alloc: Global, text: &[u8]) -> Result<ParsedArguments, Fail> {
     records::record_of(alloc, &Gcc::new(false), text)
-}
-
-#[test]
-fn outputs_have_their_paths(rt: HostRuntime) -> Result<(), Fail> {
-    let text =
-        b"-c d/a.c -o o/a.o --serialize-diagnostics x.dia -MF y.d -MD -gsplit-dwarf -ftest-coverage";
-    let record = record_of(rt.alloc(), text)?;
-    let rows: [(&str, &[u8]); 5] = [
-        ("obj", b"o/a.o"),
-        ("dia", b"x.dia"),
-        ("d", b"y.d"),
-        ("dwo", b"o/a.dwo"),
-        ("gcno", b"o/a.gcno"),
-    ];
-    for (name, want) in rows {
-        assert!(rt;
-            output_path(&record.outputs, name) == Some(want),
-            "of {name}"
-        );
-    }
-    assert!(rt; record.outputs.len() == 5);
-    for (name, output) in record.outputs.iter() {
-        assert!(rt; output.optional == (name.as_str() == "dwo"), "of {name}");
-    }
-    Ok(())
-}
-
-#[test]
-fn fields_say_what_the_options_say(rt: HostRuntime) -> Result<(), Fail> {
-    let text = b"-c a.c -pedantic -std=gnu11 -Wp,-DA -stdlib=x -fprofile-arcs -fdiagnostics-color";
-    let record = record_of(rt.alloc(), text)?;
-    assert!(rt; record.too_hard_for_preprocessor_cache_mode == Some(bytes_of(&rt, b"-Wp")?));
-    assert!(rt; record.color_mode == ColorMode::On);
-    assert!(rt; record.suppress_rewrite_includes_only);
-    assert!(rt; record.profile_generate);
-    assert!(rt; record.uses_external_assembler);
-    assert!(rt; !record.double_dash_input);
-    let plain = record_of(rt.alloc(), b"-c a.c -std=c11 -pedantic")?;
-    assert!(rt; plain.too_hard_for_preprocessor_cache_mode == None);
-    assert!(rt; plain.color_mode == ColorMode::Auto);
-    assert!(rt; !plain.suppress_rewrite_includes_only);
-    assert!(rt; !plain.profile_generate);
-    Ok(())
 }
 
 /// The command of `-c a.c` with a word of its own for the language.
@@ -162,8 +116,9 @@ fn an_output_takes_its_path(rt: HostRuntime) -> Result<(), Fail> {
 
 #[test]
 fn files_beside_the_words_have_their_paths(rt: HostRuntime) -> Result<(), Fail> {
-    let rows: [(&[u8], &[u8]); 3] = [
+    let rows: [(&[u8], &[u8]); 4] = [
         (b"n=m=p.pcm", b"m=p.pcm"),
+        (b"n=\xff.pcm", b"\xff.pcm"),
         (b"m.pcm", b"m.pcm"),
         (b"=", b""),
     ];

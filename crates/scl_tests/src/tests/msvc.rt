@@ -14,69 +14,6 @@ fn record_of(alloc: Global, words: &[u8], is_clang: bool) -> Result<ParsedArgume
     records::record_of(alloc, &msvc(alloc, is_clang)?, words)
 }
 
-#[test]
-fn fields_of_msvc_say_what_the_options_say(rt: HostRuntime) -> Result<(), Fail> {
-    let text =
-        b"/c /Tpd/a.cpp /Foo/a -fmodule-file=n=\xff.pcm -fsanitize-blacklist=b /showIncludes -depsx -depsy -Xclang -fprofile-generate -Xclang -load -Xclang p.so -clang:-fprofile-use=q";
-    let record = record_of(rt.alloc(), text, true)?;
-    let paths = joined(rt.alloc(), &record.extra_hash_files)?;
-    assert!(rt; paths.as_slice() == b"/w/\xff.pcm /w/b /w/p.so /w/q".as_slice());
-    assert!(rt; record.depfile == Some(Vec::from_slice(rt.alloc(), b"y")?));
-    assert!(rt; record.msvc_show_includes);
-    assert!(rt; record.msvc_explicit_language);
-    assert!(rt; record.profile_generate);
-    Ok(())
-}
-
-#[test]
-fn fields_of_msvc_that_no_option_says_are_not_set(rt: HostRuntime) -> Result<(), Fail> {
-    let plain = record_of(rt.alloc(), b"/c a.c", false)?;
-    assert!(rt; !plain.profile_generate && !plain.msvc_show_includes);
-    assert!(rt; !plain.msvc_explicit_language && !plain.uses_external_assembler);
-    Ok(())
-}
-
-/// Words of clang-cl or cl, and an output of theirs: its name, its path, and whether it may be missing.
-type OutputRow = (&'static [u8], bool, &'static str, &'static [u8], bool);
-
-static OUTPUTS: [OutputRow; 5] = [
-    (b"/c /Tpd/a.cpp /Foo/a", true, "obj", b"o/a.obj", false),
-    (b"/c /Tpd/a.cpp /Foo/a", true, "tlh", b"o/a.tlh", true),
-    (b"/c /Tpd/a.cpp /Foo/a", true, "tli", b"o/a.tli", true),
-    (b"/c a.c -Zi -Fdp -Fdq", false, "pdb", b"q.pdb", false),
-    (
-        b"-c a.cppm -xc++-module -fmodule-output=m",
-        true,
-        "module",
-        b"m",
-        false,
-    ),
-];
-
-/// The path of an output, and whether it may be missing.
-fn output_of(
-    alloc: Global,
-    words: &[u8],
-    is_clang: bool,
-    name: &str,
-) -> Result<(Vec<u8>, bool), Fail> {
-    let mut record = record_of(alloc, words, is_clang)?;
-    let output = record.outputs.remove(name).ok_or("no output")?;
-    Ok((output.path, output.optional))
-}
-
-#[test]
-fn outputs_of_msvc_have_their_paths(rt: HostRuntime) -> Result<(), Fail> {
-    for (words, is_clang, name, want, may_be_missing) in OUTPUTS {
-        let (path, optional) = output_of(rt.alloc(), words, is_clang, name)?;
-        assert!(rt; path.as_slice() == want, "of {name}");
-        assert!(rt; optional == may_be_missing, "of {name}");
-    }
-    let record = record_of(rt.alloc(), b"/c /Tpd/a.cpp /Foo/a", true)?;
-    assert!(rt; record.outputs.len() == 3);
-    Ok(())
-}
-
 /// The command of a compilation whose debug information goes to a file beside the object.
 fn debug_command(alloc: Global, view: &View) -> Result<(SingleCompileCommand, Cacheable), Fail> {
     let cl = msvc(alloc, false)?;

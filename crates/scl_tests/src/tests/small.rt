@@ -4,7 +4,7 @@ ghost use Rattle.scl_values.specs.Tables.{tables_hold_values};
 ghost use Rattle.scl_small.specs.DiabValues.{holds_value};
 ghost use Rattle.scl_small.specs.TaskingValues as tasking;
 
-use crate::tests::records::{record_in, record_of};
+use crate::tests::records::record_in;
 use crate::tests::words::{cut, joined};
 use scl_args::ArgDisposition::{Concatenated, Separated};
 use scl_args::ArgRow::{Flag, TakeArg};
@@ -14,44 +14,13 @@ use scl_args::{
 use scl_small::diab::{self, Diab};
 use scl_small::tasking_vx::{self, TaskingVX};
 use scl_text::language::Language;
-use scl_text::outputs::{output_path, put_output};
+use scl_text::outputs::put_output;
 use scl_text::records::{
     CCompilerKind, Cacheable, CommandError, ParsedArguments, SingleCompileCommand,
 };
 use scl_text::{CCompilerImpl, Mem, View};
 use std::alloc::Global;
 use std::test::Fail;
-
-#[test]
-fn dependency_files_have_their_names(rt: HostRuntime) -> Result<(), Fail> {
-    let alloc = rt.alloc();
-    let rows: [(&[u8], &[u8]); 2] = [
-        (b"-c foo.c --dep-file=dep -o foo.o", b"dep"),
-        (b"--dep-file -c foo.c", b"foo.d"),
-    ];
-    for (line, want) in rows {
-        let path = record_of(alloc, &TaskingVX, line)?
-            .depfile
-            .ok_or("no depfile")?;
-        assert!(rt; path.as_slice() == want, "of {line:?}");
-    }
-    Ok(())
-}
-
-static SAVED: &[u8] = b"-c foo.c -fabc -Xmake-dependency-savefile=bar -o foo.o";
-
-#[test]
-fn words_stand_in_their_lists(rt: HostRuntime) -> Result<(), Fail> {
-    let saved = record_of(rt.alloc(), &Diab::new(), SAVED)?;
-    assert!(rt; saved.depfile.is_none());
-    let dependency = joined(rt.alloc(), &saved.dependency_args)?;
-    assert!(rt; dependency.as_slice() == b"-Xmake-dependency-savefile=bar".as_slice());
-    let common = joined(rt.alloc(), &saved.common_args)?;
-    assert!(rt; common.as_slice() == b"-fabc".as_slice());
-    let object = output_path(&saved.outputs, "obj");
-    assert!(rt; object == Some(b"foo.o".as_slice()));
-    Ok(())
-}
 
 /// A record of `foo.cu` with two words that are not hashed, and without an output.
 fn cuda_record(alloc: Global) -> Mem<ParsedArguments> {
