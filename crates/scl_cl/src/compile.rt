@@ -24,8 +24,11 @@ use std::alloc::{AllocError, Global};
 /// kept (docs/RULES.md, Answers).
 #[derive(Debug, PartialEq, Eq, Drop)]
 pub struct Compilation {
+    /// What was read.
     pub parsed: ParsedArguments,
+    /// The command to run.
     pub command: SingleCompileCommand,
+    /// Whether its outcome may be kept in the cache.
     pub cacheable: Cacheable,
 }
 
@@ -87,8 +90,8 @@ fn answer_by<C: CCompilerImpl>(
 }
 
 impl Compiler {
-    /// What a command line is answered: the words behind the program `executable`, read in the
-    /// directory `cwd` with the files of `view`. All are bytes. Where the answer is a command, it is read again
+    /// What a command line is answered: the words behind the program `executable`, read in the directory `cwd`, with the
+    /// environment `env_vars` and the files of `view`. All are bytes. Where the answer is a command, it is read again
     /// (docs/RULES.md, Answers, and Cutting again). It fails only for want of memory.
     pub fn answer(
         self,

@@ -14,10 +14,15 @@ use std::alloc::Global;
 /// and the files that it may see (docs/RULES.md, Requests).
 #[derive(Drop)]
 pub struct Request {
+    /// The compiler that is asked.
     pub compiler: Compiler,
+    /// The path of the directory in which the words are read.
     pub directory: Vec<u8>,
+    /// The words behind the program.
     pub words: Vec<Vec<u8>>,
+    /// The keys and values of the environment, in order.
     pub environment: Vec<(Vec<u8>, Vec<u8>)>,
+    /// The files that may be read, and what else is there.
     pub view: View,
 }
 

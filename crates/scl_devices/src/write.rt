@@ -7,6 +7,7 @@ use std::io::Write;
 /// That a writer failed, with the length of the beginning of the text that went out before.
 #[derive(Debug, Clone, Copy, PartialEq, Eq)]
 pub struct WriteFault {
+    /// How many bytes of the text went out before.
     pub written: u64,
 }
 

@@ -7,10 +7,11 @@ use scl_args::Mem;
 use scl_files::view::View;
 use std::alloc::Global;
 
-/// A compiler whose command lines are read and built. The ghost members are its own definitions:
-/// the outcome of a command line, the words of the command that makes a record's object, the environment that the command gets, whether its outcome may be kept,
-/// what it is for the words of a command to be read again, given the command line (words, directory, environment, view), its record and those words,
-/// and the runs of the preprocessor (docs/RULES.md, Compilers).
+/// A compiler whose command lines are read and built. The ghost members are its own definitions: the outcome of a command
+/// line, the words of the command that makes a record's object, the environment that the command gets, whether its outcome
+/// may be kept, what it is for the words of a command to be read again, given the command line (words, directory,
+/// environment, view), its record and those words, the runs of the preprocessor, and what `kind`, `plusplus`, `version`
+/// and `assembler_digest` answer (docs/RULES.md, Compilers).
 pub trait CCompilerImpl {
     ghost use Rattle.std.specs.Prelude.{◌≡◌, ◌↔◌, ℕ, Bool, List, Option, None, Result, Ok, IfOk};
     ghost use Rattle.std.specs.Option.{option_map};

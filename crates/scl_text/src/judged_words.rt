@@ -46,8 +46,9 @@ fn judge_cut<T: ExactArg + ReadArg, S: SearchableArgInfo<T> + Drop, J: Judge<T>>
     finish(alloc, judge, &arg_info, cut)
 }
 
-/// The options of the words, where none is refused and the last flag has its value; else the first refusal, of an empty
-/// value or the judge's, or that of a dangling end (docs/RULES.md, Readings). It fails only for want of memory.
+/// The options of the words, with response files of the kind put in place from the directory, where none is refused and
+/// the last flag has its value; else the first refusal, of an empty value or the judge's, or that of a dangling end
+/// (docs/RULES.md, Readings). It fails only for want of memory.
 pub fn judge_words<T: ExactArg + ReadArg, S: SearchableArgInfo<T> + Drop, J: Judge<T>>(
     alloc: Global,
     kind: ExpansionKind,

@@ -37,7 +37,9 @@ pub enum CCompilerKind {
 /// A file that a compilation makes: its path in bytes, and whether it may be missing.
 #[derive(Debug, PartialEq, Eq, Drop)]
 pub struct ArtifactDescriptor {
+    /// The path of the output.
     pub path: Vec<u8>,
+    /// Whether it may be missing.
     pub optional: bool,
 }
 
@@ -133,18 +135,26 @@ impl ParsedArguments {
 /// A command to run: program, words, environment and directory in bytes; `share_jobserver` is no.
 #[derive(Debug, PartialEq, Eq, Drop)]
 pub struct SingleCompileCommand {
+    /// The path of the program.
     pub executable: Vec<u8>,
+    /// The words behind the program.
     pub arguments: Vec<Vec<u8>>,
+    /// The keys and values of the environment, in order.
     pub env_vars: Vec<(Vec<u8>, Vec<u8>)>,
+    /// The path of the directory to run in.
     pub cwd: Vec<u8>,
+    /// Whether it shares the job server of the caller: always no.
     pub share_jobserver: bool,
 }
 
 /// What a run of the preprocessor gave: its status, of which 0 alone is success, and both outputs in bytes.
 #[derive(Debug, PartialEq, Eq, Drop)]
 pub struct PassOutput {
+    /// The status that it ended with; any other than 0 is a failure.
     pub status: i32,
+    /// The bytes of its output.
     pub stdout: Vec<u8>,
+    /// The bytes of its error output.
     pub stderr: Vec<u8>,
 }
 

@@ -32,7 +32,7 @@ impl<'a> Held<'a> {
     }
 
     /// The word as a text: of a path what one call of `f` answers, and `FailedPathTransform` where that is None; else
-    /// `InvalidUnicode` where the word is not UTF-8 (docs/RULES.md, Texts).
+    /// `InvalidUnicode` where the word is not UTF-8; `Memory` where memory was refused (docs/RULES.md, Texts).
     pub fn text<F: FnMut(&[u8]) -> Option<String>>(
         self,
         alloc: Global,

@@ -6,7 +6,7 @@ use crate::value::FromArg;
 use std::alloc::Global;
 
 /// The text before the first `split`, and the text after it, if it occurs.
-/// `InvalidUnicode` with the bytes, where they are not UTF-8 (docs/RULES.md, Texts).
+/// `InvalidUnicode` with the bytes, where they are not UTF-8; `Memory` where memory was refused (docs/RULES.md, Texts).
 pub fn split_os_string_arg(
     alloc: Global,
     val: Vec<u8>,

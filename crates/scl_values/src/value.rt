@@ -15,7 +15,7 @@ pub trait FromArg: Sized {
 
     ghost process_gives: { List ℕ → Result Self ArgParseError → Type 0 };
 
-    /// The value that the word stands for (docs/RULES.md, Texts).
+    /// The value that the word stands for; what errors come is the type's own to say (docs/RULES.md, Texts).
     fn process(alloc: Global, arg: Vec<u8>) -> ArgParseResult<Self>
         ensures { process_gives arg.items result };
 }
@@ -26,12 +26,13 @@ pub trait IntoArg {
 
     ghost is_path: { Self → Bool };
 
-    /// The value's word.
+    /// The value's word. It fails only for want of memory.
     fn into_arg_os_string(&self, alloc: Global) -> Mem<Vec<u8>>
         ensures { IfOk result (λ printed. printed.items ≡ word_of self.now) };
 
     /// The value as a text: a path is what one call of `f` answers, and `FailedPathTransform` where that is None.
-    /// Any other value is its word, and `InvalidUnicode` where that is not UTF-8 (docs/RULES.md, Texts).
+    /// Any other value is its word, and `InvalidUnicode` where that is not UTF-8; `Memory` where memory was refused
+    /// (docs/RULES.md, Texts).
     fn into_arg_string<F: FnMut(&[u8]) -> Option<String>>(
         &self,
         alloc: Global,

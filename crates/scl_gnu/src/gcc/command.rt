@@ -80,7 +80,7 @@ impl<'a> CommandWords for Command<'a> {
 
 /// The compile command of a record, whose language word is what the closure answers; it may always be kept in the
 /// cache (docs/RULES.md, Gcc). The errors are `MissingObj`, exactly where the record has no output `obj`, and the
-/// refusal of memory.
+/// refusal of memory. The kind and the view are not asked.
 pub fn generate_compile_commands<T: AsStr + Drop, F: Fn(Language) -> Option<T>>(
     alloc: Global,
     executable: &[u8],

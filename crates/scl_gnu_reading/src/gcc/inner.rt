@@ -17,8 +17,8 @@ use scl_text::view::View;
 use scl_text::{ExpansionKind, judge_words};
 use std::alloc::Global;
 
-/// The options of an inner command line, whose words are cut by Clang's tables and never have double dashes; or the first
-/// refusal, of an empty value or the judge's, or that of a last flag without its value (docs/RULES.md, Inner command
+/// The options of an inner command line, whose words are cut by Clang's tables, and in which `--` ends no options; or the
+/// first refusal, of an empty value or the judge's, or that of a last flag without its value (docs/RULES.md, Inner command
 /// lines). The directory and the view answer what is asked of response files. It fails only for want of memory.
 pub fn read_inner<J: Judge<ArgData>>(
     alloc: Global,

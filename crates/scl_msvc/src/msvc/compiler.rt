@@ -23,8 +23,11 @@ use std::alloc::Global;
 /// files (docs/RULES.md, Msvc).
 #[derive(Debug, PartialEq, Eq, Drop)]
 pub struct Msvc {
+    /// The prefix of the lines in which it names included files.
     pub includes_prefix: String,
+    /// Whether it is clang-cl, and not cl.
     pub is_clang: bool,
+    /// Its version, if that is known.
     pub version: Option<String>,
 }
 

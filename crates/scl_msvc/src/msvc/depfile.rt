@@ -22,7 +22,9 @@ use thiserror::Error;
 /// The text of a dependency file, and what is left of the error output that it was made from, both in bytes.
 #[derive(Debug, PartialEq, Eq, Drop)]
 pub struct DepfileText {
+    /// The bytes of the dependency file.
     pub text: Vec<u8>,
+    /// The lines of the error output that are kept, each with its LF.
     pub kept: Vec<u8>,
 }
 

@@ -276,20 +276,21 @@ macro_rules! rows {
     };
 }
 
-/// The rows whose flags begin with `-`, in the order of their flags' bytes (docs/RULES.md, Msvc).
+/// The rows whose flags begin with `-`, in the order of their flags' bytes, and behind them that of response files, `@`
+/// (docs/RULES.md, Msvc).
 pub static ARGS: [ArgInfo<ArgData>; 257] = rows!("-");
 
-/// The same rows with flags that begin with `/` (docs/RULES.md, Msvc).
+/// The same rows with `/` in place of `-`, and the row `@` (docs/RULES.md, Msvc).
 pub static SLASH_ARGS: [ArgInfo<ArgData>; 257] = rows!("/");
 
-/// The table of flags that begin with `-`.
+/// The table of the flags that begin with `-`, with the row `@`.
 pub fn table() -> FlagTable<'static, ArgData>
     ensures { result ≡ msvc_rows (codes "-") }
 {
     FlagTable::new(&ARGS).unwrap()
 }
 
-/// The table of flags that begin with `/`.
+/// The table of the flags that begin with `/`, with the row `@`.
 pub fn slash_table() -> FlagTable<'static, ArgData>
     ensures { result ≡ msvc_rows (codes "/") }
 {
