@@ -1,12 +1,13 @@
 -- Empty values of either rows: they are seen, and options that are judged and not refused have none.
 use Rattle.std.proofs.Common.{◌≡◌, ℕ, Bool, true, false, cond, ◌&&◌, ◌↔◌, List, [], ◌∷◌, ◌++◌, map, Option, None, Some, Ok, Err, refl, sym, ap, subst, ◌∙◌, if◌then◌else◌}
 use Rattle.std.proofs.lemmas.List.{append-nil}
+use Rattle.std.specs.Option.{option_or}
 use Rattle.scl_values.specs.declared.argument.ArgDisposition.{ArgDisposition}
 use Rattle.scl_values.specs.declared.argument.ArgDisposition.TheVariants as how
 use Rattle.scl_values.specs.Cuts.{Cut, raw, unknown, flag, with_value, after_delimiter, cut}
 use Rattle.scl_values.specs.Each.{Each}
 use Rattle.scl_args.specs.Empties.{is_either, finds_either, is_empty, stands_either, has_empty_value, refusing_empty}
-use Rattle.scl_args.specs.Options.{first_verdict, judged, or_else, unless}
+use Rattle.scl_args.specs.Options.{first_verdict, judged, unless}
 use Rattle.scl_values.specs.Row.{Row, Shape, bare, apart, joined, either, joins}
 use Rattle.scl_values.specs.Seen.{Seen, shown}
 use Rattle.scl_values.specs.Tables.{all_rows, owner_in}
@@ -14,7 +15,7 @@ use Rattle.scl_args.proofs.OwnerLaws.{owner_in-is}
 use Rattle.scl_again.specs.Laws.{EmptyValuesAreSeen, JudgedAreClear}
 use Rattle.scl_again.specs.Origins.{Owns, StandsEither, ValueCame, HasSome, IsClear}
 use Rattle.scl_again.proofs.OriginLaws.{CameUnmarked, all_unmarked, cut_came}
-use Rattle.scl_again.proofs.OutcomeLaws.{or_else-none, unless-none, unless-ok}
+use Rattle.scl_again.proofs.OutcomeLaws.{option_or-none, unless-none, unless-ok}
 
 -- ---- what is seen of an option that words were cut into
 
@@ -88,9 +89,9 @@ module _ {K V : Type 0} (own : List ℕ → Option (Row K)) (empty : V) (verdict
   none-else : (before os : List (Seen K)) → first_verdict (refusing_empty own empty verdict) before os ≡ None → first_verdict verdict before os ≡ None
   none-else before [] e = refl
   none-else before (o ∷ os) e =
-      let both = or_else-none (refusing_empty own empty verdict before o) (first_verdict (refusing_empty own empty verdict) (before ++ o ∷ []) os) e in
+      let both = option_or-none (refusing_empty own empty verdict before o) (first_verdict (refusing_empty own empty verdict) (before ++ o ∷ []) os) e in
       let said = not-refused (has_empty_value own o) empty (verdict before o) both.0 in
-      ap (λ x. or_else x (first_verdict verdict (before ++ o ∷ []) os)) said.1 ∙ none-else (before ++ o ∷ []) os both.1
+      ap (λ x. option_or x (first_verdict verdict (before ++ o ∷ []) os)) said.1 ∙ none-else (before ++ o ∷ []) os both.1
 
   -- so they pass the judge that knows nothing of empty values
   pub judged-else : (dangling : V) (os : List (Seen K)) (dangles : Bool) (xs : List (Seen K)) → judged (refusing_empty own empty verdict) dangling os dangles ≡ Ok xs → judged verdict dangling os dangles ≡ Ok xs
@@ -103,7 +104,7 @@ module _ {K V : Type 0} (own : List ℕ → Option (Row K)) (empty : V) (verdict
       → first_verdict (refusing_empty own empty verdict) before (map shown cs) ≡ None → Each IsClear cs
   none-empty before [] see e = tt
   none-empty before (c ∷ cs) see e =
-      let both = or_else-none (refusing_empty own empty verdict before (shown c)) (first_verdict (refusing_empty own empty verdict) (before ++ shown c ∷ []) (map shown cs)) e in
+      let both = option_or-none (refusing_empty own empty verdict before (shown c)) (first_verdict (refusing_empty own empty verdict) (before ++ shown c ∷ []) (map shown cs)) e in
       let said = not-refused (has_empty_value own (shown c)) empty (verdict before (shown c)) both.0 in
       (see.0.0 said.0, none-empty (before ++ shown c ∷ []) cs see.1 both.1)
 

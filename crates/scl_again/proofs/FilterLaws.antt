@@ -1,19 +1,20 @@
 -- What filters over options find.
 use Rattle.std.proofs.Common.{◌≡◌, ℕ, Bool, true, false, cond, ◌||◌, List, [], ◌∷◌, map, filter, Option, None, Some, refl, sym, ap, subst, ◌∙◌}
 use Rattle.std.specs.List.{list_any}
+use Rattle.std.specs.Option.{option_or}
 use Rattle.scl_values.specs.Each.{Each}
-use Rattle.scl_args.specs.Options.{last, or_else, texts}
+use Rattle.scl_args.specs.Options.{last, texts}
 use Rattle.scl_values.specs.Seen.{Seen, text_of}
 
 module _ {A : Type 0} where
-  last-nil : (P : A → Type 0) (x y : A) → or_else None (Some x) ≡ Some y → P x → P y
+  last-nil : (P : A → Type 0) (x y : A) → option_or None (Some x) ≡ Some y → P x → P y
   last-nil P x y e h = let same : x ≡ y = cc in subst P same h
 
   -- what is so of each is so of the last
   pub from-last : (P : A → Type 0) (xs : List A) (x : A) → Each P xs → last xs ≡ Some x → P x
   from-last P [] x h e = absurd (cc)
   from-last P (y ∷ xs) x h e =
-      elim (last xs) as (λ l. last xs ≡ l → or_else l (Some y) ≡ Some x → P x) [
+      elim (last xs) as (λ l. last xs ≡ l → option_or l (Some y) ≡ Some x → P x) [
         | None ↦ λ _ k. last-nil P y x k h.0
         | Some z ↦ λ l k. let same : z ≡ x = cc in from-last P xs x h.1 (l ∙ ap (λ w. let s : Option A = Some w in s) same)
       ] refl e

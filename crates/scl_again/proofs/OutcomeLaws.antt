@@ -1,6 +1,8 @@
 use Rattle.std.proofs.Common.{◌≡◌, Bool, true, false, cond, List, [], ◌∷◌, ◌++◌, Option, None, Some, Result, Ok, Err, refl, sym, ◌∙◌}
+use Rattle.std.specs.Option.{option_or}
+use Rattle.std.specs.Prelude.{ok_or}
 use Rattle.scl_values.specs.Each.{Each}
-use Rattle.scl_args.specs.Options.{first_verdict, judged, or_else, unless, wanted, ◌>>=◌}
+use Rattle.scl_args.specs.Options.{first_verdict, judged, unless, ◌>>=◌}
 use Rattle.scl_values.specs.Seen.{Seen}
 
 -- ---- what an outcome Ok says, step by step
@@ -9,9 +11,9 @@ pub bind-ok : {A B V : Type 0} (r : Result A V) (f : A → Result B V) (b : B) �
 bind-ok (Ok x) f b e = (x, refl, e)
 bind-ok (Err v) f b e = absurd (cc)
 
-pub wanted-ok : {A V : Type 0} (o : Option A) (v : V) (a : A) → wanted o v ≡ Ok a → o ≡ Some a
-wanted-ok None v a e = absurd (cc)
-wanted-ok (Some x) v a e = cc
+pub ok_or-ok : {A V : Type 0} (o : Option A) (v : V) (a : A) → ok_or o v ≡ Ok a → o ≡ Some a
+ok_or-ok None v a e = absurd (cc)
+ok_or-ok (Some x) v a e = cc
 
 pub unless-ok : {A V : Type 0} (v : Option V) (r : Result A V) (a : A) → unless v r ≡ Ok a → r ≡ Ok a
 unless-ok None r a e = e
@@ -21,9 +23,9 @@ pub unless-none : {A V : Type 0} (v : Option V) (r : Result A V) (a : A) → unl
 unless-none None r a e = refl
 unless-none (Some v) r a e = absurd (cc)
 
-pub or_else-none : {A : Type 0} (x y : Option A) → or_else x y ≡ None → (x ≡ None) × (y ≡ None)
-or_else-none None y e = (refl, e)
-or_else-none (Some a) y e = absurd (cc)
+pub option_or-none : {A : Type 0} (x y : Option A) → option_or x y ≡ None → (x ≡ None) × (y ≡ None)
+option_or-none None y e = (refl, e)
+option_or-none (Some a) y e = absurd (cc)
 
 if-ok : {A V : Type 0} (dangles : Bool) (v : V) (x a : A) → cond dangles (Err v) (Ok x) ≡ Ok a → x ≡ a
 if-ok true v x a e = absurd (cc)
@@ -38,7 +40,7 @@ module _ {K V : Type 0} (verdict : List (Seen K) → Seen K → Option V) (alone
   none-refused : (before os : List (Seen K)) → first_verdict verdict before os ≡ None → Each (λ o. verdict [] o ≡ None) os
   none-refused before [] e = tt
   none-refused before (o ∷ os) e =
-      let both = or_else-none (verdict before o) (first_verdict verdict (before ++ o ∷ []) os) e in
+      let both = option_or-none (verdict before o) (first_verdict verdict (before ++ o ∷ []) os) e in
       (sym (alone before o) ∙ both.0, none-refused (before ++ o ∷ []) os both.1)
 
   pub judged-none : (dangling : V) (os : List (Seen K)) (dangles : Bool) (xs : List (Seen K)) → judged verdict dangling os dangles ≡ Ok xs → Each (λ o. verdict [] o ≡ None) os

@@ -1,6 +1,7 @@
 -- What definitions say of a finished list of options: filters, last ones, lists of words, a first verdict.
 use Rattle.std.specs.Prelude.{ℕ, ◌==◌, ◌||◌, codes, Vec, Bool, true, false, List, [], ◌∷◌, ◌++◌, map, filter, length, nat_eq, Option, None, Some, Result, Ok, Err, if◌then◌else◌}
 use Rattle.std.specs.List.{flat_map, list_any}
+use Rattle.std.specs.Option.{option_or}
 use Rattle.std.specs.Str.{bytes_eq}
 use Rattle.std.specs.declared.alloc.Global.{Global}
 use Rattle.scl_values.specs.declared.argument.ArgDisposition.TheVariants as how
@@ -64,13 +65,9 @@ spelled_on to o = spelled (normal_on to o)
 
 -- ---- all options
 
-abbrev pub or_else : {A : Type 0} → Option A → Option A → Option A
-or_else None other = other
-or_else (Some x) other = Some x
-
 abbrev pub last : {A : Type 0} → List A → Option A
 last [] = None
-last (x ∷ xs) = or_else (last xs) (Some x)
+last (x ∷ xs) = option_or (last xs) (Some x)
 
 -- of the options that pass the test, the last
 abbrev pub last_by : {K : Type 0} → (Seen K → Bool) → List (Seen K) → Option (Seen K)
@@ -95,7 +92,7 @@ is_behind_dashes is_input os = first_is is_dashes (filter (λ o. is_dashes o || 
 -- the first verdict in order, where an option is judged after those before it
 abbrev pub first_verdict : {K V : Type 0} → (List (Seen K) → Seen K → Option V) → List (Seen K) → List (Seen K) → Option V
 first_verdict verdict before [] = None
-first_verdict verdict before (o ∷ os) = or_else (verdict before o) (first_verdict verdict (before ++ o ∷ []) os)
+first_verdict verdict before (o ∷ os) = option_or (verdict before o) (first_verdict verdict (before ++ o ∷ []) os)
 
 -- ---- tests in their order
 
@@ -103,11 +100,6 @@ infixl 10 ◌>>=◌
 abbrev pub ◌>>=◌ : {A B V : Type 0} → Result A V → (A → Result B V) → Result B V
 (Ok x) >>= f = f x
 (Err v) >>= f = Err v
-
--- the value, or the verdict where there is none
-abbrev pub wanted : {A V : Type 0} → Option A → V → Result A V
-wanted None v = Err v
-wanted (Some x) v = Ok x
 
 -- goes on where nothing is said against it
 abbrev pub unless : {A V : Type 0} → Option V → Result A V → Result A V
@@ -122,7 +114,3 @@ judged verdict dangling os dangles = unless (first_verdict verdict [] os) (if da
 
 abbrev pub all_seen : {T K : Type 0} → (T → K) → (T → List ℕ) → Vec (Argument T) Global → List (Seen K)
 all_seen kind_of word_of options = map (seen kind_of word_of) options.items
-
-abbrev pub result_by : {A B E V : Type 0} → (A → B) → (E → V) → Result A E → Result B V
-result_by f verdict_of (Ok x) = Ok (f x)
-result_by f verdict_of (Err e) = Err (verdict_of e)

@@ -1,9 +1,10 @@
 //! Verdicts on a finished list of options.
 ghost use Rattle.std.specs.Prelude.{◌≡◌, List, [], map, IfOk};
 ghost use Rattle.std.specs.Option.{option_map};
+ghost use Rattle.std.specs.Result.{result_map_both};
 ghost use Rattle.scl_args.specs.Empties.{refusing_empty};
 ghost use Rattle.scl_values.specs.Seen.{seen};
-ghost use Rattle.scl_args.specs.Options.{first_verdict, judged, result_by, all_seen};
+ghost use Rattle.scl_args.specs.Options.{first_verdict, judged, all_seen};
 ghost use Rattle.scl_values.specs.Tables.{owner_in};
 
 use crate::empties::has_empty_value;
@@ -94,7 +95,7 @@ pub fn judge_all<T: ReadArg, S: SearchableArgInfo<T>, J: Judge<T>>(
     arg_info: &S,
     cut: CutWords<T>,
 ) -> Mem<Result<Vec<Argument<T>>, J::Refusal>>
-    ensures { IfOk result (λ said. result_by (all_seen T.kind_of T.word_of) J.verdict_of said
+    ensures { IfOk result (λ said. result_map_both (all_seen T.kind_of T.word_of) J.verdict_of said
         ≡ judged (refusing_empty (owner_in (S.tables arg_info.now)) J.empty (J.verdict judge.now)) J.dangling (map (seen T.kind_of T.word_of) cut.options.items) cut.is_dangling) }
 {
     if let Some(refusal) = first_refusal(alloc, judge, arg_info, &cut.options)? {

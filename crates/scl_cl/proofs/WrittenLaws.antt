@@ -3,8 +3,8 @@ use Rattle.std.proofs.Common.{◌≡◌, ℕ, ◌+◌, ◌*◌, ◌/◌, ◌%◌
 use Rattle.std.specs.List.{flat_map, filter_map, cons_option}
 use Rattle.std.proofs.lemmas.Bool.Decides.{nat_tests}
 use Rattle.scl_values.specs.Escaped.{is_plain, digit_of, escape, escaped}
-use Rattle.scl_cl.specs.Fields.{digit_value, before, field_of, both, fields_of, two_fields}
-use Rattle.std.specs.Option.{option_map}
+use Rattle.scl_cl.specs.Fields.{digit_value, before, field_of, fields_of, two_fields}
+use Rattle.std.specs.Option.{option_map, option_zip}
 use Rattle.scl_cl.specs.Lines.{cut_at, with_first, lines_of}
 use Rattle.scl_cl.specs.Sayings.{Saying, Blank, Names, StandsIn, HasWord, HasFile, HasDirectory, HasPath, HasVariable, IsMultiarch, said, keyword_text, keyword_named}
 use Rattle.scl_cl.specs.Written.{AreBytes, ArePrintable, CanBeWritten, AllCanBeWritten, AreAllBytes, written}
@@ -66,7 +66,7 @@ cut_at-printable m (b ∷ bs) h are =
 fields-written : (a b : List ℕ) → AreBytes a → AreBytes b → two_fields (escaped a ++ 9 ∷ escaped b) ≡ Some (a, b)
 fields-written a b h k =
     ap fields_of (cut_at-mark 9 (escaped a) (escaped b) (cut_at-printable 9 (escaped a) (lit< tt) (escaped-printable a h)))
-    ∙ ap (λ f. both f (field_of (escaped b))) (field-escaped a h) ∙ ap (both (Some a)) (field-escaped b k)
+    ∙ ap (λ f. option_zip f (field_of (escaped b))) (field-escaped a h) ∙ ap (option_zip (Some a)) (field-escaped b k)
 
 pub name-back : (compiler : Compiler) → compiler_named (name_of compiler) ≡ Some compiler
 name-back compiler = grind arith

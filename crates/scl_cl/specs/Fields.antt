@@ -1,5 +1,6 @@
 -- Fields of a request's lines, and the bytes that they stand for.
 use Rattle.std.specs.Prelude.{ℕ, ◌+◌, ◌-◌, ◌*◌, ◌&&◌, List, [], ◌∷◌, Option, Some, None, ◌==◌, nat_le, if◌then◌else◌}
+use Rattle.std.specs.Option.{option_zip}
 use Rattle.scl_values.specs.Escaped.{is_plain}
 use Rattle.scl_cl.specs.Lines.{cut_at}
 
@@ -28,13 +29,9 @@ field_of (b ∷ (x ∷ (h ∷ (l ∷ rest)))) =
     if is_plain b then before (Some b) (field_of (x ∷ (h ∷ (l ∷ rest)))) else before (escaped_byte b x h l) (field_of rest)
 field_of (b ∷ rest) = if is_plain b then before (Some b) (field_of rest) else None
 
-abbrev pub both : Option (List ℕ) → Option (List ℕ) → Option (List ℕ × List ℕ)
-both (Some a) (Some b) = Some (a, b)
-both _ _ = None
-
 abbrev pub fields_of : Option (List ℕ × List ℕ) → Option (List ℕ × List ℕ)
 fields_of None = None
-fields_of (Some parts) = both (field_of parts.0) (field_of parts.1)
+fields_of (Some parts) = option_zip (field_of parts.0) (field_of parts.1)
 
 -- two fields with a tab between them
 abbrev pub two_fields : List ℕ → Option (List ℕ × List ℕ)

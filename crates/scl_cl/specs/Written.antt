@@ -3,6 +3,7 @@ use Rattle.std.specs.Prelude.{ℕ, ◌<◌, ◌≤◌, ◌≡◌, Bool, true, fa
 use Rattle.std.specs.List.{flat_map, filter_map}
 use Rattle.scl_cl.specs.declared.compiler.Compiler.{Compiler}
 use Rattle.scl_cl.specs.Lines.{cut_at, lines_of}
+use Rattle.scl_values.specs.Each.{Each}
 use Rattle.scl_values.specs.Escaped.{escaped}
 use Rattle.scl_cl.specs.Fields.{field_of}
 use Rattle.scl_cl.specs.Compilers.{name_of, compiler_named}
@@ -13,17 +14,14 @@ use Rattle.scl_cl.specs.Requests.{gathered, breaks, first_broken}
 use Rattle.scl_cl.specs.Answers.{compiled, text_of, cacheable_text, line}
 
 abbrev pub AreBytes : List ℕ → Type 0
-AreBytes [] = Unit {0}
-AreBytes (b ∷ bs) = (b < 256) × AreBytes bs
+AreBytes = Each (λ b. b < 256)
 
 abbrev pub AreAllBytes : List (List ℕ) → Type 0
-AreAllBytes [] = Unit {0}
-AreAllBytes (word ∷ words) = AreBytes word × AreAllBytes words
+AreAllBytes = Each AreBytes
 
 -- each byte is from 21 to 7E, hexadecimal: none is a space, a tab or an LF
 abbrev pub ArePrintable : List ℕ → Type 0
-ArePrintable [] = Unit {0}
-ArePrintable (b ∷ bs) = ((0x21 ≤ b) × (b ≤ 0x7e)) × ArePrintable bs
+ArePrintable = Each (λ b. (0x21 ≤ b) × (b ≤ 0x7e))
 
 -- what is said can be written: its byte strings are bytes
 abbrev pub CanBeWritten : Saying → Type 0
@@ -38,8 +36,7 @@ CanBeWritten (HasVariable key value) = AreBytes key × AreBytes value
 CanBeWritten IsMultiarch = Unit {0}
 
 abbrev pub AllCanBeWritten : List Saying → Type 0
-AllCanBeWritten [] = Unit {0}
-AllCanBeWritten (s ∷ ss) = CanBeWritten s × AllCanBeWritten ss
+AllCanBeWritten = Each CanBeWritten
 
 -- the line that says this
 abbrev pub written : Saying → List ℕ

@@ -13,7 +13,7 @@ const READS: u64 = 1 << 40;
 const BLOCK: usize = 1 << 16;
 
 /// Why not all was read.
-#[derive(Debug, Drop)]
+#[derive(Drop)]
 pub(crate) enum ReadError {
     /// Memory was refused.
     Memory,

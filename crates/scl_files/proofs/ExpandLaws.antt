@@ -7,7 +7,8 @@ use Rattle.scl_files.specs.Paths.{same_path, join}
 use Rattle.scl_files.specs.Views.{File, bytes_at, without}
 use Rattle.scl_files.specs.ResponseFiles.{file_name_in, named, files_inside}
 use Rattle.scl_files.specs.Expand.{opened, expand}
-use Rattle.scl_files.specs.ExpansionLaws.{WordsAreExpandedOneByOne, WordsOfMsvcFilesStand, AbsentFilesLeaveTheirWords, UnreadableFilesLeaveTheirWords, OpenFilesAreAbsentInside, PlainWordsStand, EachFileIsOpenOnce, IsChain, none, opens, Each, AllApart}
+use Rattle.scl_values.specs.Each.{Each}
+use Rattle.scl_files.specs.ExpansionLaws.{WordsAreExpandedOneByOne, WordsOfMsvcFilesStand, AbsentFilesLeaveTheirWords, UnreadableFilesLeaveTheirWords, OpenFilesAreAbsentInside, PlainWordsStand, EachFileIsOpenOnce, IsChain, none, opens, AllApart}
 use Rattle.scl_files.specs.ExpansionState.{hides}
 use Rattle.scl_files.specs.declared.expand.ExpansionKind.{ExpansionKind}
 use Rattle.scl_files.specs.declared.expand.ExpansionKind.TheVariants as kinds

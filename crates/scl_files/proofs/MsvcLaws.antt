@@ -6,7 +6,8 @@ use Rattle.std.proofs.lemmas.Grind.{flat_map-append}
 use Rattle.std.proofs.lemmas.Str.{length-encode, len_utf8_bounds, encode_ascii}
 use Rattle.std.proofs.lemmas.List.Folds.{list_all-append}
 use Rattle.std.specs.List.{list_all, join_with_byte}
-use Rattle.scl_files.specs.MsvcText.{is_msvc_separator, is_even, leads_to_quote, Place, split, means, keep_stretch, stretches, place_meaning, stretch_meaning, is_toggle, EachStretch, OnlyQuotesGiveEmptyArguments, leads_to_quote_or_end, in_double_quotes, msvc_quoted, QuotedWordsAreReadBack}
+use Rattle.scl_values.specs.Each.{Each}
+use Rattle.scl_files.specs.MsvcText.{is_msvc_separator, is_even, leads_to_quote, Place, split, means, keep_stretch, stretches, place_meaning, stretch_meaning, is_toggle, OnlyQuotesGiveEmptyArguments, leads_to_quote_or_end, in_double_quotes, msvc_quoted, QuotedWordsAreReadBack}
 use Rattle.scl_files.specs.MsvcReader.{backslashes, read_on}
 use Rattle.scl_files.proofs.MsvcLemmas.{places_on, msvc_stretches-on, msvc_arguments-read, bool_cases}
 
@@ -45,12 +46,12 @@ done stretch n cs last (shows h) = (λ e. absurd (omega (arith, ap length e)), t
 done stretch n cs last (toggling h z) = (λ e. h, toggles_mean_nothing stretch)
 done stretch n cs last (hides h q) = absurd (false≢true (sym last ∙ q))
 
-keep_each : (stretch : List Place) (others : List (List Place)) → EmptyByQuotes stretch → EachStretch EmptyByQuotes others → EachStretch EmptyByQuotes (keep_stretch stretch others)
+keep_each : (stretch : List Place) (others : List (List Place)) → EmptyByQuotes stretch → Each EmptyByQuotes others → Each EmptyByQuotes (keep_stretch stretch others)
 keep_each [] others h each = each
 keep_each (p ∷ ps) others h each = (h, each)
 
-abbrev Each : List ℕ → Type 0
-Each cs = (stretch : List Place) (n : ℕ) (inside : Bool) → Begun stretch n cs → EachStretch EmptyByQuotes (stretches stretch (places_on n inside cs))
+abbrev EachFrom : List ℕ → Type 0
+EachFrom cs = (stretch : List Place) (n : ℕ) (inside : Bool) → Begun stretch n cs → Each EmptyByQuotes (stretches stretch (places_on n inside cs))
 
 begun-slash : (stretch : List Place) (n : ℕ) (cs : List ℕ) → (leads_to_quote cs ≡ true) ⊎ (leads_to_quote cs ≡ false) → Begun stretch n (92 ∷ cs)
     → Begun (stretch ++ means 92 (cond (leads_to_quote cs && is_even n) [] (92 ∷ [])) ∷ []) (n + 1) cs
@@ -64,20 +65,20 @@ begun-quote stretch n cs (shows h) = shows-push stretch 34 0 _ cs h
 begun-quote stretch n cs (toggling h z) = rw z (toggling (rw (list_all-append is_toggle stretch (means 34 [] ∷ []), h) refl) refl)
 begun-quote stretch n cs (hides h l) = rw h (shows-last stretch 34 0 (34 ∷ []) cs (omega arith))
 
-each_other : (c : ℕ) (cs : List ℕ) → Each cs → (c == 92) ≡ false → (c == 34) ≡ false → (stretch : List Place) (n : ℕ) (inside : Bool)
+each_other : (c : ℕ) (cs : List ℕ) → EachFrom cs → (c == 92) ≡ false → (c == 34) ≡ false → (stretch : List Place) (n : ℕ) (inside : Bool)
     → ((is_msvc_separator c && not inside) ≡ true) ⊎ ((is_msvc_separator c && not inside) ≡ false) → Begun stretch n (c ∷ cs)
-    → EachStretch EmptyByQuotes (stretches stretch (places_on n inside (c ∷ cs)))
+    → Each EmptyByQuotes (stretches stretch (places_on n inside (c ∷ cs)))
 each_other c cs ih h k stretch n inside (inl s) b = rw (s, h, k) (keep_each stretch (stretches [] (places_on 0 inside cs)) (done stretch n (c ∷ cs) (rw (h, k) refl) b) (ih [] 0 inside (toggling refl refl)))
 each_other c cs ih h k stretch n inside (inr s) b = rw (s, h, k) (ih (stretch ++ means c (encode_utf8 c) ∷ []) 0 inside (shows-last stretch c 0 (encode_utf8 c) cs (omega (arith, length-encode c, len_utf8_bounds c))))
 
-each_char : (c : ℕ) (cs : List ℕ) → Each cs → ((c == 92) ≡ true) ⊎ ((c == 92) ≡ false) → ((c == 34) ≡ true) ⊎ ((c == 34) ≡ false) → Each (c ∷ cs)
-each_char c cs ih (inl h) k = let P : ℕ → Type 0 = λ x. Each (x ∷ cs) in
+each_char : (c : ℕ) (cs : List ℕ) → EachFrom cs → ((c == 92) ≡ true) ⊎ ((c == 92) ≡ false) → ((c == 34) ≡ true) ⊎ ((c == 34) ≡ false) → EachFrom (c ∷ cs)
+each_char c cs ih (inl h) k = let P : ℕ → Type 0 = λ x. EachFrom (x ∷ cs) in
     subst P (sym (eqb-true c 92 h)) (λ stretch n inside b. ih _ (n + 1) inside (begun-slash stretch n cs (bool_cases (leads_to_quote cs)) b))
-each_char c cs ih (inr h) (inl k) = let P : ℕ → Type 0 = λ x. Each (x ∷ cs) in
+each_char c cs ih (inr h) (inl k) = let P : ℕ → Type 0 = λ x. EachFrom (x ∷ cs) in
     subst P (sym (eqb-true c 34 k)) (λ stretch n inside b. ih _ 0 (cond (is_even n) (not inside) inside) (begun-quote stretch n cs b))
 each_char c cs ih (inr h) (inr k) = λ stretch n inside b. each_other c cs ih h k stretch n inside (bool_cases (is_msvc_separator c && not inside)) b
 
-each : (cs : List ℕ) → Each cs
+each : (cs : List ℕ) → EachFrom cs
 each [] = λ stretch n inside b. keep_each stretch [] (done stretch n [] refl b) tt
 each (c ∷ cs) = each_char c cs (each cs) (bool_cases (c == 92)) (bool_cases (c == 34))
 

@@ -1,6 +1,7 @@
 -- What is true of every expansion.
 use Rattle.std.specs.Prelude.{◌≡◌, ℕ, false, List, [], ◌∷◌, ◌++◌, Some, None, is_some}
 use Rattle.std.specs.List.{list_any}
+use Rattle.scl_values.specs.Each.{Each}
 use Rattle.scl_files.specs.Paths.{same_path}
 use Rattle.scl_files.specs.Views.{File, bytes_at}
 use Rattle.scl_files.specs.ResponseFiles.{file_name_in, named, arguments, files_inside}
@@ -47,10 +48,6 @@ pub data IsChain (kind : ExpansionKind) (directory : List ℕ) : List File → L
   none : (files : List File) → IsChain kind directory files []
   opens : (files : List File) (word : List ℕ) (level : Level) (paths : List (List ℕ)) → opened kind directory files word ≡ Some level
       → IsChain kind directory (files_inside kind level.path files) paths → IsChain kind directory files (level.path ∷ paths)
-
-abbrev pub Each : (List ℕ → Type 0) → List (List ℕ) → Type 0
-Each P [] = Unit {0}
-Each P (path ∷ paths) = P path × Each P paths
 
 -- no two of the paths have the same components
 abbrev pub AllApart : List (List ℕ) → Type 0

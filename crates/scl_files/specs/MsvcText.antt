@@ -1,6 +1,7 @@
 -- The MSVC text of a response file, from its characters.
 use Rattle.std.specs.Prelude.{◌≡◌, ℕ, zero, suc, ◌+◌, ◌%◌, ◌==◌, ◌||◌, ◌&&◌, ◌↔◌, not, Bool, true, false, cond, List, [], ◌∷◌, ◌++◌, length, drop, map, encode_utf8, encode_utf8_all, slice_index}
 use Rattle.std.specs.List.{flat_map, list_all, join_with_byte}
+use Rattle.scl_values.specs.Each.{Each}
 use Rattle.scl_files.specs.Characters.{space, tab, line_feed, carriage_return, backslash, double_quote}
 
 -- space, tab, LF and CR
@@ -95,13 +96,9 @@ is_toggle split = false
 is_toggle (means c []) = c == double_quote
 is_toggle (means c (b ∷ bs)) = false
 
-abbrev pub EachStretch : (List Place → Type 0) → List (List Place) → Type 0
-EachStretch P [] = Unit {0}
-EachStretch P (stretch ∷ others) = P stretch × EachStretch P others
-
 -- an argument is empty exactly where its stretch is toggling quotes alone
 abbrev pub OnlyQuotesGiveEmptyArguments : Type 0
-OnlyQuotesGiveEmptyArguments = (text : List ℕ) → EachStretch (λ stretch. (stretch_meaning stretch ≡ []) ↔ (list_all is_toggle stretch ≡ true)) (msvc_stretches text)
+OnlyQuotesGiveEmptyArguments = (text : List ℕ) → Each (λ stretch. (stretch_meaning stretch ≡ []) ↔ (list_all is_toggle stretch ≡ true)) (msvc_stretches text)
 
 -- past backslashes, the end of the word or a quote of it follows
 abbrev pub leads_to_quote_or_end : List ℕ → Bool

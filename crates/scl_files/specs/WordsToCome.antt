@@ -16,12 +16,13 @@ abbrev pub items_left : WordsToCome → Count
 items_left s = at_most (cond s.ended 0 (1 + length s.words))
 
 -- a call gave the first word, or an error, which ends it, or met the end
+abbrev pub Gives : {A : Type 0} → (A → List ℕ) → WordsToCome → Option (Result A AllocError) → WordsToCome → Type 0
+Gives bytes_of s None t = (t.ended ≡ true) × (s.ended ≡ false → s.words ≡ [])
+Gives bytes_of s (Some (Ok word)) t = (s.ended ≡ false) × (t.ended ≡ false) × (s.words ≡ bytes_of word ∷ t.words)
+Gives bytes_of s (Some (Err e)) t = (s.ended ≡ false) × (t.ended ≡ true)
+
 abbrev pub GivesWord : WordsToCome → Option (Result (Vec ℕ Global) AllocError) → WordsToCome → Type 0
-GivesWord s None t = (t.ended ≡ true) × (s.ended ≡ false → s.words ≡ [])
-GivesWord s (Some (Ok word)) t = (s.ended ≡ false) × (t.ended ≡ false) × (s.words ≡ word.items ∷ t.words)
-GivesWord s (Some (Err e)) t = (s.ended ≡ false) × (t.ended ≡ true)
+GivesWord = Gives (λ word. word.items)
 
 abbrev pub GivesText : WordsToCome → Option (Result (String Global) AllocError) → WordsToCome → Type 0
-GivesText s None t = (t.ended ≡ true) × (s.ended ≡ false → s.words ≡ [])
-GivesText s (Some (Ok text)) t = (s.ended ≡ false) × (t.ended ≡ false) × (s.words ≡ string_bytes text ∷ t.words)
-GivesText s (Some (Err e)) t = (s.ended ≡ false) × (t.ended ≡ true)
+GivesText = Gives string_bytes

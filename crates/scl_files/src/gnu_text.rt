@@ -10,7 +10,7 @@ use scl_values::Mem;
 use std::alloc::Global;
 use std::mem::replace;
 
-#[derive(Clone, Copy, PartialEq, Eq)]
+#[derive(Clone, Copy)]
 pub(crate) enum Mode {
     Plain,
     Escaped,
@@ -19,7 +19,7 @@ pub(crate) enum Mode {
     DoubleEscaped,
 }
 
-#[derive(Clone, Copy, PartialEq, Eq)]
+#[derive(Clone, Copy)]
 pub(crate) enum Mark {
     Separates,
     Vanishes,

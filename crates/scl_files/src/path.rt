@@ -1,5 +1,5 @@
 //! Paths as bytes, by their components.
-ghost use Rattle.std.specs.Prelude.{◌≡◌, ◌++◌, ◌+◌, [], ◌≤◌, None, length, IfOk, position, drop, not};
+ghost use Rattle.std.specs.Prelude.{◌≡◌, ◌++◌, ◌+◌, ◌≤◌, None, length, IfOk, position, drop, not};
 ghost use Rattle.std.specs.List.{before_first, suffix_len};
 ghost use Rattle.std.specs.Option.{option_copied, option_map};
 ghost use Rattle.std.specs.Iterator.{YieldsFirstBy, item_count};
@@ -231,7 +231,6 @@ pub fn with_file_name(alloc: Global, path: &[u8], name: &[u8]) -> Mem<Vec<u8>>
 
 /// Whether two paths have the same components: they start alike and have the same names
 /// (docs/RULES.md, Paths).
-#[tactic(auto)]
 pub fn same_path(a: &[u8], b: &[u8]) -> bool
     ensures { result ≡ same_path a.now b.now }
 {

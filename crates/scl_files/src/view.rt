@@ -1,5 +1,5 @@
 //! What a command line may ask of files.
-ghost use Rattle.std.specs.Prelude.{List, OnOk, OnErr, if◌then◌else◌, Some, ◌≡◌, ℕ, ◌∷◌, ◌||◌, true};
+ghost use Rattle.std.specs.Prelude.{List, OnOk, OnErr, if◌then◌else◌, Some, ◌≡◌, ℕ, ◌∷◌, true};
 ghost use Rattle.std.specs.Option.{option_copied};
 ghost use Rattle.scl_files.specs.Paths.{same_path};
 ghost use Rattle.scl_files.specs.Views.{empty_view, put_file, bytes_at, is_among, is_directory, exists};

@@ -1,17 +1,17 @@
 -- What an outcome Ok says of the options of a command line.
 use Rattle.std.proofs.Common.{◌≡◌, ℕ, Bool, true, false, List, [], ◌∷◌, ◌++◌, map, Option, None, Some, Ok, refl, ap, ◌∙◌, cond}
-use Rattle.std.specs.Prelude.{codes}
+use Rattle.std.specs.Prelude.{codes, ok_or}
 use Rattle.std.specs.Str.{bytes_eq}
 use Rattle.scl_values.specs.Cuts.{cut, is_dangling}
 use Rattle.scl_values.specs.Each.{Each}
 use Rattle.scl_args.specs.Empties.{refusing_empty}
-use Rattle.scl_args.specs.Options.{texts, wanted}
+use Rattle.scl_args.specs.Options.{texts}
 use Rattle.scl_values.specs.Row.{Row}
 use Rattle.scl_values.specs.Seen.{Seen, shown}
 use Rattle.scl_values.specs.Tables.{owner_in}
 use Rattle.scl_again.specs.Origins.{IsClear}
 use Rattle.scl_again.proofs.EmptyLaws.{judged-clear}
-use Rattle.scl_again.proofs.OutcomeLaws.{bind-ok, wanted-ok, judged-ok}
+use Rattle.scl_again.proofs.OutcomeLaws.{bind-ok, ok_or-ok, judged-ok}
 use Rattle.scl_files.specs.declared.expand.ExpansionKind.TheVariants as expansions
 use Rattle.scl_text.specs.declared.records.CCompilerKind.{CCompilerKind}
 use Rattle.scl_text.specs.Commands.{object_of}
@@ -47,15 +47,15 @@ pub record HasFound (os : List (Seen Kind)) (f : Found) : Type 0 where
 
 pub has-found : (plusplus : Bool) (os : List (Seen Kind)) (f : Found) → found plusplus os ≡ Ok f → HasFound os f
 has-found plusplus os f e =
-    let a = bind-ok (wanted (last_flag (kind.DoCompilation ∷ []) os) NotCompilation) _ f e in
+    let a = bind-ok (ok_or (last_flag (kind.DoCompilation ∷ []) os) NotCompilation) _ f e in
     let b = bind-ok (the_input (texts is_input os)) _ f a.2 in
-    let c = bind-ok (wanted (language_of plusplus (last_text (kind.Language ∷ []) os) b.0) unknown_source_language) _ f b.2 in
-    let d = bind-ok (wanted (tests.object_of (last_text (kind.Output ∷ []) os) b.0) invalid_input_file) _ f c.2 in
+    let c = bind-ok (ok_or (language_of plusplus (last_text (kind.Language ∷ []) os) b.0) unknown_source_language) _ f b.2 in
+    let d = bind-ok (ok_or (tests.object_of (last_text (kind.Output ∷ []) os) b.0) invalid_input_file) _ f c.2 in
     let m = bind-ok (module_path_unless (any (kind.ModuleOnlyFlag ∷ []) os) (last_text (kind.ClangModuleOutput ∷ []) os) b.0 d.0) _ f d.2 in
     let made : Found = record { compile_flag = a.0; input = b.0; language = c.0; object = d.0; module_path = m.0 } in
     let is : made ≡ f = cc (m.2) in
     record {
-      flag_is = wanted-ok (last_flag (kind.DoCompilation ∷ []) os) NotCompilation a.0 a.1 ∙ ap (λ x. Some x.compile_flag) is;
+      flag_is = ok_or-ok (last_flag (kind.DoCompilation ∷ []) os) NotCompilation a.0 a.1 ∙ ap (λ x. Some x.compile_flag) is;
       input_is = the_input-ok (texts is_input os) b.0 b.1 ∙ ap (λ x. x.input ∷ []) is;
     }
 

@@ -1,5 +1,5 @@
 -- The runs of the preprocessor for several architectures, made one.
-use Rattle.std.specs.Prelude.{ℕ, ℤ, pos, Bool, not, nat_eq, if◌then◌else◌, List, [], ◌∷◌, ◌++◌, map, filter, find, count_by, Option, None, Some, Vec, codes}
+use Rattle.std.specs.Prelude.{ℕ, ℤ, pos, Bool, not, nat_eq, if◌then◌else◌, List, [], ◌∷◌, ◌++◌, map, find, count_by, Option, None, Some, Vec, codes}
 use Rattle.std.specs.Fmt.{decimal}
 use Rattle.std.specs.List.{flat_map, ends_with}
 use Rattle.std.specs.Ordering.{int_eq}
@@ -28,8 +28,8 @@ abbrev pub passes_of : List (Vec ℕ Global × PassOutput) → List Pass
 passes_of pairs = map pass_of pairs
 
 -- a run that did not fail
-abbrev pub ran : Pass → Bool
-ran pass = int_eq pass.output.status (pos 0)
+abbrev pub succeeded : Pass → Bool
+succeeded pass = int_eq pass.output.status (pos 0)
 
 -- a text with a line feed at its end, if it has none
 abbrev pub ended : List ℕ → List ℕ
@@ -47,7 +47,7 @@ abbrev pub section : List ℕ → List ℕ → List ℕ
 section arch text = header arch (line_feeds (ended text)) ++ ended text
 
 abbrev pub sections : List Pass → List ℕ
-sections passes = flat_map (λ pass. section pass.arch pass.output.stdout) (filter ran passes)
+sections passes = flat_map (λ pass. section pass.arch pass.output.stdout) passes
 
 abbrev pub errors : List Pass → List ℕ
 errors passes = flat_map (λ pass. pass.output.stderr) passes
@@ -58,4 +58,4 @@ joined None passes = record { status = pos 0; stdout = sections passes; stderr =
 joined (Some failed) passes = record { status = failed.output.status; stdout = failed.output.stdout; stderr = errors passes }
 
 abbrev pub join_passes : List Pass → Output
-join_passes passes = joined (find (λ pass. not (ran pass)) passes) passes
+join_passes passes = joined (find (λ pass. not (succeeded pass)) passes) passes

@@ -1,8 +1,8 @@
 -- The tests that follow the verdicts of the options, in their order.
-use Rattle.std.specs.Prelude.{ℕ, Bool, true, false, List, [], ◌∷◌, ◌++◌, Option, None, Some, Result, Ok, codes, unwrap_or}
+use Rattle.std.specs.Prelude.{ℕ, Bool, true, false, List, [], ◌∷◌, ◌++◌, Option, None, Some, Result, Ok, codes, unwrap_or, ok_or}
 use Rattle.std.specs.Option.{option_map}
 use Rattle.scl_values.specs.Seen.{Seen}
-use Rattle.scl_args.specs.Options.{texts, wanted, ◌>>=◌}
+use Rattle.scl_args.specs.Options.{texts, ◌>>=◌}
 use Rattle.scl_text.specs.declared.language.Language.{Language}
 use Rattle.scl_text.specs.declared.language.Language.TheVariants as languages
 use Rattle.scl_text.specs.Languages.{language_of_file_name, language_of_gcc_text}
@@ -44,7 +44,7 @@ with_pcm path = with_extension path (unwrap_or (extension path) [] ++ codes ".pc
 -- where a module goes: behind =, else beside the object, under the input's file name
 abbrev pub module_path_of : Option (List ℕ) → List ℕ → List ℕ → Result (Option (List ℕ)) Verdict
 module_path_of None input object = Ok None
-module_path_of (Some []) input object = wanted (option_map (λ name. Some (with_pcm (with_file_name object name))) (file_name input)) invalid_input_file
+module_path_of (Some []) input object = ok_or (option_map (λ name. Some (with_pcm (with_file_name object name))) (file_name input)) invalid_input_file
 module_path_of (Some (byte ∷ path)) input object = Ok (Some path)
 
 -- no module goes anywhere where the module alone is asked for
@@ -54,9 +54,9 @@ module_path_unless false text input object = module_path_of text input object
 
 abbrev pub found : Bool → List (Seen Kind) → Result Found Verdict
 found plusplus os = do
-  flag ← wanted (last_flag (kind.DoCompilation ∷ []) os) NotCompilation
+  flag ← ok_or (last_flag (kind.DoCompilation ∷ []) os) NotCompilation
   input ← the_input (texts is_input os)
-  language ← wanted (language_of plusplus (last_text (kind.Language ∷ []) os) input) unknown_source_language
-  object ← wanted (object_of (last_text (kind.Output ∷ []) os) input) invalid_input_file
+  language ← ok_or (language_of plusplus (last_text (kind.Language ∷ []) os) input) unknown_source_language
+  object ← ok_or (object_of (last_text (kind.Output ∷ []) os) input) invalid_input_file
   module_path ← module_path_unless (any (kind.ModuleOnlyFlag ∷ []) os) (last_text (kind.ClangModuleOutput ∷ []) os) input object
   Ok (record { compile_flag = flag; input = input; language = language; object = object; module_path = module_path })

@@ -2,6 +2,7 @@
 use Rattle.std.specs.Prelude.{ℕ, ◌+◌, ◌==◌, Bool, true, false, not, ◌&&◌, List, [], ◌∷◌, ◌++◌, Option, None, Some, map, codes, nat_eq, drop, position, unwrap_or, is_some}
 use Rattle.std.specs.List.{starts_with}
 use Rattle.std.specs.Option.{option_map}
+use Rattle.std.specs.Bool.{then_some}
 use Rattle.scl_args.specs.Options.{is_behind_dashes}
 use Rattle.scl_values.specs.Seen.{Seen}
 use Rattle.scl_text.specs.declared.records.CCompilerKind.{CCompilerKind}
@@ -9,7 +10,7 @@ use Rattle.scl_text.specs.declared.records.CCompilerKind.TheVariants as compiler
 use Rattle.scl_text.specs.declared.records.ColorMode.TheVariants as colors
 use Rattle.scl_text.specs.declared.language.Language.{Language}
 use Rattle.scl_text.specs.Languages.{needs_c_preprocessing}
-use Rattle.scl_text.specs.Outputs.{only_if, output_at}
+use Rattle.scl_text.specs.Outputs.{output_at}
 use Rattle.scl_files.specs.Paths.{join, with_extension}
 use Rattle.scl_text.specs.Records.{Artifact, Parsed}
 use Rattle.scl_files.specs.Views.{Viewed, is_directory}
@@ -27,9 +28,9 @@ use Rattle.scl_gnu_reading.specs.Places.{words_at}
 
 -- ---- outputs
 
-abbrev pub unless_absent : Bool → Option (List ℕ) → Option (List ℕ)
-unless_absent true path = path
-unless_absent false path = None
+abbrev pub path_if : Bool → Option (List ℕ) → Option (List ℕ)
+path_if true path = path
+path_if false path = None
 
 -- where a compilation puts what it makes
 pub record OutputPaths : Type 0 where
@@ -42,10 +43,10 @@ pub record OutputPaths : Type 0 where
 
 abbrev pub output_paths : List (Seen Kind) → Found → OutputPaths
 output_paths os f = record {
-  depfile = unless_absent (needs_c_preprocessing f.language) (last_text (kind.DepArgumentPath ∷ []) os);
+  depfile = path_if (needs_c_preprocessing f.language) (last_text (kind.DepArgumentPath ∷ []) os);
   diagnostics = last_text (kind.SerializeDiagnostics ∷ []) os;
-  dwo = only_if (any (kind.SplitDwarf ∷ []) os) (with_extension f.object (codes "dwo"));
-  gcno = only_if (any (kind.Coverage ∷ kind.TestCoverage ∷ []) os) (with_extension f.object (codes "gcno"));
+  dwo = then_some (any (kind.SplitDwarf ∷ []) os) (with_extension f.object (codes "dwo"));
+  gcno = then_some (any (kind.Coverage ∷ kind.TestCoverage ∷ []) os) (with_extension f.object (codes "gcno"));
   module_path = f.module_path;
   object = f.object;
 }

@@ -1,8 +1,9 @@
 -- What an option says against caching, after those before it.
 use Rattle.std.specs.Prelude.{ℕ, Bool, not, ◌==◌, ◌&&◌, List, [], ◌∷◌, Option, None, Some, codes, if◌then◌else◌}
 use Rattle.std.specs.Str.{bytes_eq}
+use Rattle.std.specs.Option.{option_or}
 use Rattle.scl_values.specs.Seen.{Seen, Raw, Unknown, Known}
-use Rattle.scl_args.specs.Options.{names_file, or_else}
+use Rattle.scl_args.specs.Options.{names_file}
 use Rattle.scl_text.specs.declared.language.Language.{Language}
 use Rattle.scl_text.specs.Languages.{language_of_gcc_text}
 use Rattle.scl_text.specs.Reasons.{unexpanded_file}
@@ -46,7 +47,7 @@ value_verdict multiarch arch _ value = None
 
 -- what a flag with a value of the kind says, after this architecture
 abbrev pub known_verdict : Bool → Option (List ℕ) → List ℕ → Kind → List ℕ → Option Verdict
-known_verdict multiarch arch flag k value = or_else (flag_verdict (place k) flag) (value_verdict multiarch arch k value)
+known_verdict multiarch arch flag k value = option_or (flag_verdict (place k) flag) (value_verdict multiarch arch k value)
 
 abbrev pub verdict_after : Bool → Option (List ℕ) → Seen Kind → Option Verdict
 verdict_after multiarch arch (Raw w) = None

@@ -57,7 +57,19 @@ dash-none false = tt
 flagged-none : (l : Language) (input : List ℕ) → NamesNoFile input → NamesNoFile (language_flag l ++ input)
 flagged-none languages.C input n = refl
 flagged-none languages.Cxx input n = refl
-flagged-none _ input n = n
+flagged-none languages.Assembler input n = n
+flagged-none languages.AssemblerToPreprocess input n = n
+flagged-none languages.CHeader input n = n
+flagged-none languages.GenericHeader input n = n
+flagged-none languages.CxxHeader input n = n
+flagged-none languages.CxxModule input n = n
+flagged-none languages.ObjectiveC input n = n
+flagged-none languages.ObjectiveCHeader input n = n
+flagged-none languages.ObjectiveCxx input n = n
+flagged-none languages.ObjectiveCxxHeader input n = n
+flagged-none languages.Cuda input n = n
+flagged-none languages.Rust input n = n
+flagged-none languages.Hip input n = n
 
 input-none : (p : Parsed) → NamesNoFile p.input → NamesNoFile (input_word p)
 input-none p n = elim (p.msvc_explicit_language) as (λ b. NamesNoFile (if b then language_flag p.language ++ p.input else p.input)) [

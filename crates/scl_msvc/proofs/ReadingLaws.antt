@@ -1,17 +1,17 @@
 -- What an outcome Ok says of the options of a command line.
 use Rattle.std.proofs.Common.{◌≡◌, ℕ, Bool, true, false, not, ◌&&◌, List, [], ◌∷◌, map, Option, None, Some, Ok, refl, sym, ap, ◌∙◌}
 use Rattle.std.specs.Option.{option_and_then}
-use Rattle.std.specs.Prelude.{codes}
+use Rattle.std.specs.Prelude.{codes, ok_or}
 use Rattle.scl_values.specs.Cuts.{cut, is_dangling}
 use Rattle.scl_values.specs.Each.{Each}
 use Rattle.scl_args.specs.Empties.{refusing_empty}
-use Rattle.scl_args.specs.Options.{texts, wanted}
+use Rattle.scl_args.specs.Options.{texts}
 use Rattle.scl_values.specs.Seen.{Seen, Raw, Unknown, Known, shown}
 use Rattle.scl_values.specs.Tables.{owner_in}
 use Rattle.scl_again.specs.Origins.{IsClear}
 use Rattle.scl_again.proofs.EmptyLaws.{judged-clear, judged-else}
 use Rattle.scl_again.proofs.FilterLaws.{has-last}
-use Rattle.scl_again.proofs.OutcomeLaws.{bind-ok, wanted-ok, unless-ok, unless-none, judged-ok, judged-none}
+use Rattle.scl_again.proofs.OutcomeLaws.{bind-ok, ok_or-ok, unless-ok, unless-none, judged-ok, judged-none}
 use Rattle.scl_files.specs.declared.expand.ExpansionKind.TheVariants as expansions
 use Rattle.scl_text.specs.declared.language.Language.{Language}
 use Rattle.scl_text.specs.declared.language.Language.TheVariants as languages
@@ -88,21 +88,21 @@ has-found is_clang os f e =
     let compiled = any (kind.ClangLanguage ∷ []) os in
     let named = any (kind.ClangModuleOutput ∷ []) os in
     let says = any (kind.CInput ∷ kind.CxxInput ∷ []) os in
-    let a = bind-ok (wanted (last_flag (kind.DoCompilation ∷ []) os) NotCompilation) _ f e in
+    let a = bind-ok (ok_or (last_flag (kind.DoCompilation ∷ []) os) NotCompilation) _ f e in
     let b = bind-ok (input_unless (module_verdict compiled named says) (texts is_input os)) _ f a.2 in
-    let c = bind-ok (wanted (language_of compiled (explicit_language os) b.0) unknown_source_language) _ f b.2 in
-    let d = bind-ok (wanted (tests.object_of (last_text (kind.Output ∷ []) os) b.0) invalid_input_file) _ f c.2 in
+    let c = bind-ok (ok_or (language_of compiled (explicit_language os) b.0) unknown_source_language) _ f b.2 in
+    let d = bind-ok (ok_or (tests.object_of (last_text (kind.Output ∷ []) os) b.0) invalid_input_file) _ f c.2 in
     let g = bind-ok (program_database (not is_clang && any (kind.DebugInfo ∷ []) os) (last_text (kind.ProgramDatabase ∷ []) os)) _ f d.2 in
     let made : Found = record { compile_flag = a.0; input = b.0; language = c.0; object = d.0; program_database = g.0 } in
     let is : made ≡ f = cc (g.2) in
     let i = input-is (module_verdict compiled named says) (texts is_input os) b.0 b.1 in
     record {
-      flag_is = wanted-ok (last_flag (kind.DoCompilation ∷ []) os) NotCompilation a.0 a.1 ∙ ap (λ x. Some x.compile_flag) is;
+      flag_is = ok_or-ok (last_flag (kind.DoCompilation ∷ []) os) NotCompilation a.0 a.1 ∙ ap (λ x. Some x.compile_flag) is;
       input_is = i.1 ∙ ap (λ x. x.input ∷ []) is;
       language_is = λ yes.
           let said = explicit-said os yes in
           let none : module_verdict compiled named true ≡ None = ap (module_verdict compiled named) (sym yes) ∙ i.0 in
-          from-flag compiled (explicit_language os) b.0 c.0 said.0 (no-module compiled named none) said.1 (wanted-ok _ unknown_source_language c.0 c.1) ∙ ap (λ x. Some x.language) is;
+          from-flag compiled (explicit_language os) b.0 c.0 said.0 (no-module compiled named none) said.1 (ok_or-ok _ unknown_source_language c.0 c.1) ∙ ap (λ x. Some x.language) is;
     }
 
 -- ---- what was read

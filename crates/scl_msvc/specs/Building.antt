@@ -16,11 +16,23 @@ lists_with unhashed p = p.preprocessor_args ++ p.dependency_args ++ unhashed ++ 
 abbrev pub list_words : Parsed → List (List ℕ)
 list_words p = lists_with p.unhashed_args p
 
--- the flag that says that an input has the language
+-- the flag that says that an input has the language: there is one for C and one for C++
 abbrev pub language_flag : Language → List ℕ
 language_flag languages.C = codes "-Tc"
 language_flag languages.Cxx = codes "-Tp"
-language_flag _ = []
+language_flag languages.Assembler = []
+language_flag languages.AssemblerToPreprocess = []
+language_flag languages.CHeader = []
+language_flag languages.GenericHeader = []
+language_flag languages.CxxHeader = []
+language_flag languages.CxxModule = []
+language_flag languages.ObjectiveC = []
+language_flag languages.ObjectiveCHeader = []
+language_flag languages.ObjectiveCxx = []
+language_flag languages.ObjectiveCxxHeader = []
+language_flag languages.Cuda = []
+language_flag languages.Rust = []
+language_flag languages.Hip = []
 
 -- the input, together with the flag of its language where a flag said that
 abbrev pub input_word : Parsed → List ℕ

@@ -1,8 +1,8 @@
 -- What a command line has from its environment: words before and behind its own.
-use Rattle.std.specs.Prelude.{ℕ, ◌==◌, ◌||◌, not, Bool, List, [], ◌∷◌, ◌++◌, map, filter, Option, None, Some, is_some, Result, Ok, codes, if◌then◌else◌}
+use Rattle.std.specs.Prelude.{ℕ, ◌==◌, ◌||◌, not, Bool, List, [], ◌∷◌, ◌++◌, map, filter, Option, None, Some, is_some, Result, Ok, codes, if◌then◌else◌, ok_or}
 use Rattle.std.specs.Option.{option_map}
 use Rattle.std.specs.Str.{bytes_eq, chars}
-use Rattle.scl_args.specs.Options.{wanted, ◌>>=◌}
+use Rattle.scl_args.specs.Options.{◌>>=◌}
 use Rattle.scl_files.specs.Decoding.{utf8_text}
 use Rattle.scl_files.specs.MsvcText.{msvc_arguments}
 use Rattle.scl_text.specs.Records.{Verdict, CannotCache}
@@ -42,7 +42,7 @@ words_in value = option_map (λ text. map with_equals (msvc_arguments (chars tex
 -- the words of a variable, whose value is a text if it has one
 abbrev pub variable_words : Verdict → Option (List ℕ) → Result (List (List ℕ)) Verdict
 variable_words broken None = Ok []
-variable_words broken (Some value) = wanted (words_in value) broken
+variable_words broken (Some value) = ok_or (words_in value) broken
 
 -- the words of a command line between those of the two variables
 abbrev pub surrounded : List (List ℕ × List ℕ) → List (List ℕ) → Result (List (List ℕ)) Verdict

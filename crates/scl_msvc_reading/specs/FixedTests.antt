@@ -1,8 +1,9 @@
 -- The tests that follow the verdicts of the options, in their order.
-use Rattle.std.specs.Prelude.{ℕ, Bool, true, false, not, ◌&&◌, ◌||◌, List, [], ◌∷◌, Option, None, Some, Result, Ok, Err, codes, nat_eq, is_some, if◌then◌else◌}
+use Rattle.std.specs.Prelude.{ℕ, Bool, true, false, not, ◌&&◌, ◌||◌, List, [], ◌∷◌, Option, None, Some, Result, Ok, Err, codes, nat_eq, is_some, if◌then◌else◌, ok_or}
 use Rattle.std.specs.List.{ends_with}
-use Rattle.std.specs.Option.{option_map}
-use Rattle.scl_args.specs.Options.{texts, wanted, unless, or_else, ◌>>=◌}
+use Rattle.std.specs.Option.{option_map, option_or}
+use Rattle.std.specs.Bool.{then_some}
+use Rattle.scl_args.specs.Options.{texts, unless, ◌>>=◌}
 use Rattle.scl_values.specs.Seen.{Seen}
 use Rattle.scl_files.specs.Characters.{slash, backslash}
 use Rattle.scl_text.specs.declared.language.Language.{Language}
@@ -15,7 +16,6 @@ use Rattle.scl_text.specs.Refusals.{the_input}
 use Rattle.scl_msvc_reading.specs.declared.msvc.data.Kind.{Kind}
 use Rattle.scl_msvc_reading.specs.declared.msvc.data.Kind.TheVariants as kind
 use Rattle.scl_msvc_reading.specs.Kinds.{is_input, last_text, last_flag, any, explicit_language}
-use Rattle.scl_msvc_reading.specs.Verdicts.{refused_if}
 
 -- what the tests find
 pub record Found : Type 0 where
@@ -34,8 +34,8 @@ differ false other = other
 -- where a module is compiled, its output is named, and only then; its input has no other language
 abbrev pub module_verdict : (is_compiled is_named has_language : Bool) → Option Verdict
 module_verdict is_compiled is_named has_language =
-    or_else (refused_if (differ is_compiled is_named) (CannotCache (codes "-x c++-module without -fmodule-output= or vice versa")))
-    (refused_if (is_compiled && has_language) (CannotCache (codes "-x c++-module with /Tc or /Tp")))
+    option_or (then_some (differ is_compiled is_named) (CannotCache (codes "-x c++-module without -fmodule-output= or vice versa")))
+    (then_some (is_compiled && has_language) (CannotCache (codes "-x c++-module with /Tc or /Tp")))
 
 -- the one input, where nothing is said against it; of several no more is asked
 abbrev pub input_unless : Option Verdict → List (List ℕ) → Result (List ℕ) Verdict
@@ -78,9 +78,9 @@ program_database true (Some path) = if names_folder path then Err shared_databas
 
 abbrev pub found : Bool → List (Seen Kind) → Result Found Verdict
 found is_clang os = do
-  flag ← wanted (last_flag (kind.DoCompilation ∷ []) os) NotCompilation
+  flag ← ok_or (last_flag (kind.DoCompilation ∷ []) os) NotCompilation
   input ← input_unless (module_verdict (any (kind.ClangLanguage ∷ []) os) (any (kind.ClangModuleOutput ∷ []) os) (any (kind.CInput ∷ kind.CxxInput ∷ []) os)) (texts is_input os)
-  language ← wanted (language_of (any (kind.ClangLanguage ∷ []) os) (explicit_language os) input) unknown_source_language
-  object ← wanted (object_of (last_text (kind.Output ∷ []) os) input) invalid_input_file
+  language ← ok_or (language_of (any (kind.ClangLanguage ∷ []) os) (explicit_language os) input) unknown_source_language
+  object ← ok_or (object_of (last_text (kind.Output ∷ []) os) input) invalid_input_file
   database ← program_database (not is_clang && any (kind.DebugInfo ∷ []) os) (last_text (kind.ProgramDatabase ∷ []) os)
   Ok (record { compile_flag = flag; input = input; language = language; object = object; program_database = database })

@@ -1,11 +1,12 @@
 -- The record of a compilation.
 use Rattle.std.specs.Prelude.{ℕ, Bool, true, false, ◌||◌, List, [], ◌∷◌, ◌++◌, Option, None, Some, map, codes}
+use Rattle.std.specs.Bool.{then_some}
 use Rattle.scl_args.specs.Options.{is_behind_dashes}
 use Rattle.scl_values.specs.Seen.{Seen}
 use Rattle.scl_text.specs.declared.language.Language.{Language}
 use Rattle.scl_text.specs.declared.language.Language.TheVariants as languages
 use Rattle.scl_text.specs.declared.records.ColorMode.TheVariants as colors
-use Rattle.scl_text.specs.Outputs.{only_if, output_at}
+use Rattle.scl_text.specs.Outputs.{output_at}
 use Rattle.scl_files.specs.Paths.{with_extension}
 use Rattle.scl_text.specs.Records.{Artifact, Parsed}
 use Rattle.scl_files.specs.Views.{Viewed}
@@ -41,8 +42,8 @@ output_paths os f = record {
   module_path = last_text (kind.ClangModuleOutput ∷ []) os;
   object = f.object;
   program_database = f.program_database;
-  library_header = only_if (is_cxx f.language) (with_extension f.object (codes "tlh"));
-  library_source = only_if (is_cxx f.language) (with_extension f.object (codes "tli"));
+  library_header = then_some (is_cxx f.language) (with_extension f.object (codes "tlh"));
+  library_source = then_some (is_cxx f.language) (with_extension f.object (codes "tli"));
 }
 
 -- those that there are, in the order of their names; `tlh` and `tli` may be missing

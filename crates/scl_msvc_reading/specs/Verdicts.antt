@@ -1,8 +1,9 @@
 -- What an option says against caching.
-use Rattle.std.specs.Prelude.{ℕ, Bool, true, false, not, ◌||◌, List, Option, None, Some, codes}
+use Rattle.std.specs.Prelude.{ℕ, Bool, not, ◌||◌, List, Option, None, Some, codes}
 use Rattle.std.specs.Str.{bytes_eq}
+use Rattle.std.specs.Option.{option_or}
+use Rattle.std.specs.Bool.{then_some}
 use Rattle.scl_args.specs.Empties.{is_empty}
-use Rattle.scl_args.specs.Options.{or_else}
 use Rattle.scl_values.specs.Seen.{Seen, Raw, Unknown, Known}
 use Rattle.scl_text.specs.Reasons.{no_input_file}
 use Rattle.scl_text.specs.Records.{Verdict, CannotCache, NotCompilation}
@@ -12,10 +13,6 @@ use Rattle.scl_msvc_reading.specs.declared.msvc.place.Place.{Place}
 use Rattle.scl_msvc_reading.specs.declared.msvc.place.Place.TheVariants as places
 use Rattle.scl_msvc_reading.specs.Places.{place}
 
-abbrev pub refused_if : Bool → Verdict → Option Verdict
-refused_if true verdict = Some verdict
-refused_if false verdict = None
-
 -- an option whose kind is refused is refused by its flag
 abbrev pub flag_verdict : Place → List ℕ → Option Verdict
 flag_verdict places.Refused flag = Some (CannotCache flag)
@@ -24,16 +21,16 @@ flag_verdict _ flag = None
 -- what a flag of the kind says with this value; that of a module's file, or of a language, only clang-cl has
 abbrev pub value_verdict : Bool → List ℕ → Kind → List ℕ → Option Verdict
 value_verdict is_clang flag kind.SuppressCompilation value = Some NotCompilation
-value_verdict is_clang flag kind.Output value = refused_if (bytes_eq value (codes "nul")) (CannotCache (codes "output to nul"))
-value_verdict is_clang flag kind.CInput value = refused_if (is_empty value) no_input_file
-value_verdict is_clang flag kind.CxxInput value = refused_if (is_empty value) no_input_file
-value_verdict is_clang flag kind.ClangModuleFile value = refused_if (not is_clang || is_empty value) (CannotCache flag)
-value_verdict is_clang flag kind.ClangModuleOutput value = refused_if (is_empty value) (CannotCache flag)
-value_verdict is_clang flag kind.ClangLanguage value = refused_if (not is_clang || not (bytes_eq value (codes "c++-module"))) (CannotCache flag)
+value_verdict is_clang flag kind.Output value = then_some (bytes_eq value (codes "nul")) (CannotCache (codes "output to nul"))
+value_verdict is_clang flag kind.CInput value = then_some (is_empty value) no_input_file
+value_verdict is_clang flag kind.CxxInput value = then_some (is_empty value) no_input_file
+value_verdict is_clang flag kind.ClangModuleFile value = then_some (not is_clang || is_empty value) (CannotCache flag)
+value_verdict is_clang flag kind.ClangModuleOutput value = then_some (is_empty value) (CannotCache flag)
+value_verdict is_clang flag kind.ClangLanguage value = then_some (not is_clang || not (bytes_eq value (codes "c++-module"))) (CannotCache flag)
 value_verdict is_clang flag _ value = None
 
 -- what an option says, whatever stands before it
 abbrev pub verdict : Bool → List (Seen Kind) → Seen Kind → Option Verdict
 verdict is_clang before (Raw w) = None
 verdict is_clang before (Unknown w) = None
-verdict is_clang before (Known f k v how) = or_else (flag_verdict (place k) f) (value_verdict is_clang f k v)
+verdict is_clang before (Known f k v how) = option_or (flag_verdict (place k) f) (value_verdict is_clang f k v)

@@ -1,11 +1,11 @@
 use Rattle.std.proofs.Common.{◌≡◌, ℕ, true, false, List, [], ◌∷◌, ◌++◌, map, filter, Option, Result, Ok, refl, sym, ap, subst, ◌∙◌, append_assoc}
-use Rattle.std.specs.Prelude.{codes, is_some}
+use Rattle.std.specs.Prelude.{codes, is_some, ok_or}
 use Rattle.std.proofs.lemmas.List.{append-nil}
 use Rattle.std.specs.List.{flat_map}
 use Rattle.scl_values.specs.Cuts.{Cut, raw, unknown, flag, with_value, cut, is_dangling}
 use Rattle.scl_values.specs.Each.{Each}
 use Rattle.scl_args.specs.Empties.{refusing_empty}
-use Rattle.scl_args.specs.Options.{judged, wanted, is_raw, texts, side_of_flag}
+use Rattle.scl_args.specs.Options.{judged, is_raw, texts, side_of_flag}
 use Rattle.scl_values.specs.Row.{Row}
 use Rattle.scl_values.specs.Seen.{Seen, Raw, Unknown, Known, shown, plain_seen}
 use Rattle.scl_values.specs.Seen as plain
@@ -54,7 +54,7 @@ module _ {K : Type 0} (place : K → Place) where
   pub is-record : (os : List (Seen K)) (f : List ℕ) (p : Parsed) → recorded place os f ≡ Ok p → IsRecord os f p
   is-record os f p e =
       let a = bind-ok (the_input (texts (goes_to place places.Input) os)) _ p e in
-      let b = bind-ok (wanted (language_of_file_name a.0) unknown_source_language) _ p a.2 in
+      let b = bind-ok (ok_or (language_of_file_name a.0) unknown_source_language) _ p a.2 in
       let is : record_of place os f a.0 b.0 ≡ p = cc (b.2) in
       record {
         flag_is = sym (ap (λ r. r.compilation_flag) is);
@@ -68,7 +68,7 @@ module _ {K : Type 0} (place : K → Place) where
   pub has-object : (os : List (Seen K)) (f : List ℕ) (p : Parsed) → recorded place os f ≡ Ok p → is_some (object_of p) ≡ true
   has-object os f p e =
       let a = bind-ok (the_input (texts (goes_to place places.Input) os)) _ p e in
-      let b = bind-ok (wanted (language_of_file_name a.0) unknown_source_language) _ p a.2 in
+      let b = bind-ok (ok_or (language_of_file_name a.0) unknown_source_language) _ p a.2 in
       let is : record_of place os f a.0 b.0 ≡ p = cc (b.2) in
       sym (ap (λ r. is_some (object_of r)) is)
 

@@ -1,7 +1,7 @@
 use Rattle.std.proofs.Common.{◌≡◌, ℕ, false, List, [], ◌∷◌, map, refl, arith}
-use Rattle.std.specs.Prelude.{codes}
+use Rattle.std.specs.Prelude.{codes, ok_or}
 use Rattle.scl_values.specs.Cuts.{cut}
-use Rattle.scl_args.specs.Options.{side_of_flag, wanted}
+use Rattle.scl_args.specs.Options.{side_of_flag}
 use Rattle.scl_values.specs.Row.{Row, row, bare, apart}
 use Rattle.scl_values.specs.Seen.{shown}
 use Rattle.scl_values.specs.Seen as plain
@@ -49,7 +49,7 @@ pub commands_again : CommandsAreReadAgain place kinds.DoCompilation kinds.Output
 commands_again words p object e =
     let os = map shown (cut (owner_in (rows ∷ [])) false words).options in
     let r = was-read rows verdict tested words p e in
-    let b = bind-ok (wanted (last_flag_at place places.CompileFlag os) NotCompilation) _ p r.1 in
+    let b = bind-ok (ok_or (last_flag_at place places.CompileFlag os) NotCompilation) _ p r.1 in
     record-again place kinds.DoCompilation kinds.Output rows passes no_inputs reads_output words p object (codes "-c") r.0
     (is-record place os (codes "-c") p b.2) reads_compile
 
@@ -60,7 +60,7 @@ pub has_object : RecordsHaveObjects rows reading
 has_object words p e =
     let os = map shown (cut (owner_in (rows ∷ [])) false words).options in
     let r = was-read rows verdict tested words p e in
-    let b = bind-ok (wanted (last_flag_at place places.CompileFlag os) NotCompilation) _ p r.1 in
+    let b = bind-ok (ok_or (last_flag_at place places.CompileFlag os) NotCompilation) _ p r.1 in
     has-object place os (codes "-c") p b.2
 
 pub has_no_empty : LinesHaveNoEmpty rows reading

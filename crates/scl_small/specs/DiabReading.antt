@@ -1,8 +1,8 @@
 -- What a command line says to Diab.
-use Rattle.std.specs.Prelude.{ℕ, List, Option, Some, Result, if◌then◌else◌}
+use Rattle.std.specs.Prelude.{ℕ, List, Option, Some, Result, if◌then◌else◌, ok_or}
 use Rattle.scl_values.specs.Row.{Row}
 use Rattle.scl_values.specs.Seen.{Seen}
-use Rattle.scl_args.specs.Options.{names_file, wanted, ◌>>=◌}
+use Rattle.scl_args.specs.Options.{names_file, ◌>>=◌}
 use Rattle.scl_text.specs.Reasons.{unexpanded_file}
 use Rattle.scl_text.specs.Records.{Parsed, Verdict, NotCompilation}
 use Rattle.scl_files.specs.Expand.{expand}
@@ -35,7 +35,7 @@ verdict o = if names_file o then Some unexpanded_file else refused_at place o
 -- the fixed tests, and the record
 abbrev pub tested : List (Seen Kind) → Result Parsed Verdict
 tested os = do
-  flag ← wanted (last_flag_at place places.CompileFlag os) NotCompilation
+  flag ← ok_or (last_flag_at place places.CompileFlag os) NotCompilation
   recorded place os flag
 
 -- what the words say, where `own` gives a word's owner

@@ -1,9 +1,9 @@
 -- What a command line says to Diab or TaskingVX: a first verdict, and filters over the finished list of its options.
-use Rattle.std.specs.Prelude.{ℕ, false, List, [], ◌∷◌, Option, None, Some, Result, Ok, codes}
+use Rattle.std.specs.Prelude.{ℕ, false, List, [], ◌∷◌, Option, None, Some, Result, Ok, codes, ok_or}
 use Rattle.std.specs.Option.{option_map}
 use Rattle.scl_values.specs.Row.{Row}
 use Rattle.scl_values.specs.Seen.{Seen, flag_of, text_of}
-use Rattle.scl_args.specs.Options.{last_by, texts, list, side_of_flag, wanted, ◌>>=◌}
+use Rattle.scl_args.specs.Options.{last_by, texts, list, side_of_flag, ◌>>=◌}
 use Rattle.scl_files.specs.Paths.{with_extension}
 use Rattle.scl_text.specs.Languages.{language_of_file_name}
 use Rattle.scl_text.specs.Records.{Parsed, bare_record, artifact, Verdict}
@@ -62,5 +62,5 @@ module _ {K : Type 0} (place : K → Place) where
   abbrev pub recorded : List (Seen K) → List ℕ → Result Parsed Verdict
   recorded os flag = do
     input ← the_input (texts (goes_to place places.Input) os)
-    language ← wanted (language_of_file_name input) unknown_source_language
+    language ← ok_or (language_of_file_name input) unknown_source_language
     Ok (record_of os flag input language)

@@ -10,7 +10,7 @@ use scl_args::{Argument, ExactArg, ReadArg, Sort, Test, sort_of};
 use scl_text::refusal::Refusal;
 
 /// Where an option goes, or how it ends the reading (docs/RULES.md, Diab and TaskingVX).
-#[derive(Clone, Copy, Debug, PartialEq, Eq)]
+#[derive(Clone, Copy, PartialEq, Eq)]
 pub(crate) enum Place {
     /// The inputs.
     Input,

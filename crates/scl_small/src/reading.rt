@@ -6,9 +6,9 @@ ghost use Rattle.scl_text.specs.Records.{outcome_of};
 ghost use Rattle.scl_small.specs.Readings.{reads};
 
 use crate::rules::{ByRules, Rules};
-use scl_args::{SearchableArgInfo, cut_options, judge_all};
-use scl_text::Mem;
+use scl_args::SearchableArgInfo;
 use scl_text::records::{CompilerArguments, ParsedArguments};
+use scl_text::{Mem, ParserJudge, judge_cut};
 use std::alloc::Global;
 
 /// What the words say, cut by the tables.
@@ -20,8 +20,7 @@ pub(crate) fn read<T: Rules, S: SearchableArgInfo<T> + Drop>(
     requires { IsTrue (tables_hold_values T.holds_value (S.tables arg_info)) }
     ensures { IfOk result (λ answer. outcome_of answer ≡ reads T.verdict T.tested (owner_in (S.tables arg_info)) (words_of words.items)) }
 {
-    let cut = cut_options(alloc, words, &arg_info, false)?;
-    match judge_all(alloc, &ByRules, &arg_info, cut)? {
+    match judge_cut(alloc, words, arg_info, false, &ParserJudge(ByRules))? {
         Ok(options) => T::test(alloc, options),
         Err(refusal) => Ok(refusal.into_answer()),
     }

@@ -1,5 +1,5 @@
 //! Rows that are looked at one by one, and the count of looks.
-ghost use Rattle.std.specs.Prelude.{◌≡◌, ℕ, ◌+◌, ◌-◌, ◌<◌, ◌≤◌, List, map, length, is_some, true, IsTrue, IfOk, IfSome, OnSome, ◌↔◌, slice_index_or};
+ghost use Rattle.std.specs.Prelude.{◌≡◌, ℕ, ◌<◌, ◌≤◌, List, map, length, is_some, true, IsTrue, IfOk, IfSome, OnSome, ◌↔◌, slice_index_or};
 ghost use Rattle.scl_values.specs.Row.{Row, row_of, row_at};
 ghost use Rattle.scl_values.specs.Tables.{is_table, owner_in, finds_ascii_delimiter};
 ghost use Rattle.scl_tables.specs.Trees.{IsTree};

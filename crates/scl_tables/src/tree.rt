@@ -1,6 +1,6 @@
 //! The search in a prefix tree.
 ghost use Rattle.std.specs.Prelude.{◌≡◌, ◌+◌, ◌-◌, ◌*◌, ◌<◌, ◌≤◌, [], ◌∷◌, length, MatchOption, OnSome, true, false};
-ghost use Rattle.scl_values.specs.Row.{row_of, row_at, fits};
+ghost use Rattle.scl_values.specs.Row.{row_of, row_at};
 ghost use Rattle.scl_values.specs.Tables.{owner};
 ghost use Rattle.scl_tables.specs.Trees.{IsTree, OwnFits, NoneFits, ChildrenRise, NoChild, IsChild};
 ghost use Rattle.scl_tables.specs.Probes.{bits, CountsUpTo, Rises};

@@ -1,5 +1,5 @@
 -- The outputs of a compilation, in the order of their names.
-use Rattle.std.specs.Prelude.{ℕ, Bool, true, false, List, [], ◌∷◌, Option, Some, None, if◌then◌else◌}
+use Rattle.std.specs.Prelude.{ℕ, Bool, List, [], ◌∷◌, Option, Some, None, if◌then◌else◌}
 use Rattle.std.specs.Option.{option_map, option_to_list}
 use Rattle.std.specs.Str.{bytes_eq}
 use Rattle.std.specs.Ordering.{nat_cmp, match_ordering}
@@ -24,7 +24,3 @@ output_at name optional path = option_to_list (option_map (λ p. artifact name p
 abbrev pub put_optional : List Artifact → List ℕ → Bool → Option (List ℕ) → List Artifact
 put_optional old name optional None = old
 put_optional old name optional (Some path) = put_output old (artifact name path optional)
-
-abbrev pub only_if : Bool → List ℕ → Option (List ℕ)
-only_if true path = Some path
-only_if false path = None

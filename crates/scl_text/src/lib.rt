@@ -7,13 +7,15 @@ mod judged_words;
 pub mod language;
 pub mod laws;
 pub mod outputs;
+mod parser_judge;
 pub mod reasons;
 pub mod records;
 pub mod refusal;
 
 pub use compiler::CCompilerImpl;
-pub use judged_words::judge_words;
+pub use judged_words::{judge_cut, judge_words};
 pub use language::Language;
+pub use parser_judge::{ParserJudge, Refuses};
 pub use records::{CommandError, CompilerArguments, ParsedArguments};
 pub use scl_files::{
     ExpandAtArgs, ExpansionKind, GnuExpand, Mem, MsvcExpand, SplitMsvcResponseFileArgs,

@@ -1,7 +1,8 @@
 //! The outputs of a compilation, by their names.
 ghost use Rattle.std.specs.Prelude.{◌≡◌, IfOk, OnOk, OnErr};
 ghost use Rattle.std.specs.Option.{option_copied};
-ghost use Rattle.scl_text.specs.Outputs.{only_if, path_at, put_optional, put_output};
+ghost use Rattle.std.specs.Bool.{then_some};
+ghost use Rattle.scl_text.specs.Outputs.{path_at, put_optional, put_output};
 ghost use Rattle.scl_files.specs.Paths.{with_extension};
 ghost use Rattle.scl_text.specs.Records.{artifact, artifacts, path_of};
 
@@ -74,7 +75,7 @@ pub fn extended_if(
     path: &[u8],
     extension: &[u8],
 ) -> Mem<Option<Vec<u8>>>
-    ensures { IfOk result (λ whole. path_of whole ≡ only_if is_wanted (with_extension path.now extension.now)) }
+    ensures { IfOk result (λ whole. path_of whole ≡ then_some is_wanted (with_extension path.now extension.now)) }
 {
     if !is_wanted {
         return Ok(None);

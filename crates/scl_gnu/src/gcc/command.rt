@@ -61,7 +61,7 @@ fn push_back_words(alloc: Global, words: &mut Vec<Vec<u8>>, parsed: &ParsedArgum
 }
 
 /// The compile command with this text for the language.
-#[derive(Clone, Copy, Debug)]
+#[derive(Clone, Copy)]
 struct Command<'a>(Option<&'a str>);
 
 impl<'a> CommandWords for Command<'a> {

@@ -1,7 +1,7 @@
 //! The runs of the preprocessor for several architectures, made one.
 ghost use Rattle.std.specs.Prelude.{◌≡◌, ◌++◌, not, find, IfOk, OnOk};
 ghost use Rattle.std.specs.Option.{option_map};
-ghost use Rattle.scl_gnu.specs.Passes.{pass_of, passes_of, output_of, ran, ended, line_feeds, header, section, sections, errors, join_passes};
+ghost use Rattle.scl_gnu.specs.Passes.{pass_of, passes_of, output_of, succeeded, ended, line_feeds, header, section, sections, errors, join_passes};
 
 use scl_args::Mem;
 use scl_text::records::PassOutput;
@@ -51,15 +51,13 @@ fn push_section(alloc: Global, made: &mut Vec<u8>, arch: &[u8], text: &[u8]) -> 
     push_ended(made, text)
 }
 
-/// The outputs of the runs that did not fail.
+/// The outputs of the runs, one behind another.
 fn sections(alloc: Global, passes: &[(Vec<u8>, PassOutput)]) -> Mem<Vec<u8>>
     ensures { IfOk result (λ made. made.items ≡ sections (passes_of passes.now)) }
 {
     let mut made = Vec::new(alloc);
     for (arch, output) in passes {
-        if output.status == 0 {
-            push_section(alloc, &mut made, arch, &output.stdout)?;
-        }
+        push_section(alloc, &mut made, arch, &output.stdout)?;
     }
     Ok(made)
 }
@@ -77,7 +75,7 @@ fn errors(alloc: Global, passes: &[(Vec<u8>, PassOutput)]) -> Mem<Vec<u8>>
 
 /// The first run that failed.
 fn first_failed(passes: &[(Vec<u8>, PassOutput)]) -> Option<&(Vec<u8>, PassOutput)>
-    ensures { option_map (λ pass. pass_of pass.now) result ≡ find (λ pass. not (ran pass)) (passes_of passes.now) }
+    ensures { option_map (λ pass. pass_of pass.now) result ≡ find (λ pass. not (succeeded pass)) (passes_of passes.now) }
 {
     for pass in passes {
         if pass.1.status != 0 {

@@ -1,12 +1,12 @@
 //! The tests that follow the verdicts of the options.
 ghost use Rattle.std.specs.Prelude.{◌≡◌, ◌++◌, IfOk, codes, unwrap_or, [], ◌∷◌};
 ghost use Rattle.std.specs.Option.{option_copied};
+ghost use Rattle.std.specs.Result.{result_map_both};
 ghost use Rattle.scl_files.specs.Paths.{extension};
 ghost use Rattle.scl_text.specs.Records.{path_of};
 ghost use Rattle.scl_text.specs.Refusals.{verdict_of};
 ghost use Rattle.scl_gnu_reading.specs.FixedTests.{driven, language_of, object_of, with_pcm, module_path_of, module_path_unless, found};
 ghost use Rattle.scl_gnu_reading.specs.FoundBy.{found_of};
-ghost use Rattle.scl_args.specs.Options.{result_by};
 ghost use Rattle.scl_gnu_reading.specs.Kinds.{any, last_text};
 
 use super::data::{ArgData, Kind};
@@ -80,7 +80,7 @@ fn module_path_of(
     input: &[u8],
     object: &[u8],
 ) -> Mem<Result<Option<Vec<u8>>, Refusal>>
-    ensures { IfOk result (λ tested. result_by path_of verdict_of tested ≡ module_path_of (option_copied text.entry) input.now object.now) }
+    ensures { IfOk result (λ tested. result_map_both path_of verdict_of tested ≡ module_path_of (option_copied text.entry) input.now object.now) }
 {
     match text {
         None => Ok(Ok(None)),
@@ -101,7 +101,7 @@ fn module_path(
     input: &[u8],
     object: &[u8],
 ) -> Mem<Result<Option<Vec<u8>>, Refusal>>
-    ensures { IfOk result (λ tested. result_by path_of verdict_of tested
+    ensures { IfOk result (λ tested. result_map_both path_of verdict_of tested
         ≡ module_path_unless (any (Kind.ModuleOnlyFlag ∷ []) options.now) (last_text (Kind.ClangModuleOutput ∷ []) options.now) input.now object.now) }
 {
     if options.any(&OfKinds(&[Kind::ModuleOnlyFlag])) {
@@ -117,7 +117,7 @@ pub(crate) fn find(
     options: &Options<ArgData>,
     plusplus: bool,
 ) -> Mem<Result<Finding, Refusal>>
-    ensures { IfOk result (λ tested. result_by found_of verdict_of tested ≡ found plusplus options.now) }
+    ensures { IfOk result (λ tested. result_map_both found_of verdict_of tested ≡ found plusplus options.now) }
 {
     let Some(compile_flag) = options.last_flag(&OfKinds(&[Kind::DoCompilation])) else {
         return Ok(Err(Refusal::NotCompilation));

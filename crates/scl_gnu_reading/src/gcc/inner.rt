@@ -1,6 +1,6 @@
 //! Inner command lines: words that options hand on to the compiler proper, behind `-Xclang`.
 ghost use Rattle.std.specs.Prelude.{◌≡◌, ◌++◌, IfOk, OnOk};
-ghost use Rattle.scl_args.specs.Options.{result_by};
+ghost use Rattle.std.specs.Result.{result_map_both};
 ghost use Rattle.scl_values.specs.Words.{words_of};
 ghost use Rattle.scl_gnu_reading.specs.Inners.{inner_reading, inner_words_at};
 
@@ -27,7 +27,7 @@ pub fn read_inner<J: Judge<ArgData>>(
     judge: &J,
     view: &View,
 ) -> Mem<Result<Options<ArgData>, J::Refusal>>
-    ensures { IfOk result (λ said. result_by (λ options. options) J.verdict_of said
+    ensures { IfOk result (λ said. result_map_both (λ options. options) J.verdict_of said
         ≡ inner_reading J.empty (J.verdict judge.now) J.dangling cwd.now view.now (words_of words.now)) }
 {
     if words.is_empty() {

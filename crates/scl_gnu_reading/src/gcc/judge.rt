@@ -1,8 +1,7 @@
 //! What an option says against caching.
 ghost use Rattle.std.specs.Prelude.{◌≡◌, ◌∷◌, [], IfOk, map};
-ghost use Rattle.std.specs.Option.{option_map, option_copied};
+ghost use Rattle.std.specs.Option.{option_map, option_copied, option_or};
 ghost use Rattle.scl_values.specs.Seen.{seen};
-ghost use Rattle.scl_args.specs.Options.{or_else};
 ghost use Rattle.scl_text.specs.Languages.{language_of_gcc_text};
 ghost use Rattle.scl_text.specs.Refusals.{verdict_of};
 ghost use Rattle.scl_gnu_reading.specs.Data.{kind_of, word_of};
@@ -12,12 +11,11 @@ ghost use Rattle.scl_gnu_reading.specs.Kinds.{last_text};
 
 use super::data::{ArgData, Kind};
 use super::place::{Place, place_of_kind};
-use scl_args::{
-    ArgParseError, Argument, Escaped, Judge, Mem, OfKinds, ReadArg, last_text, names_file,
-};
+use scl_args::{Argument, Escaped, Mem, OfKinds, ReadArg, last_text, names_file};
+use scl_text::Refuses;
 use scl_text::language::Language;
-use scl_text::reasons::{EMPTY_VALUE, UNEXPANDED_FILE};
-use scl_text::refusal::{Refusal, argument_parse};
+use scl_text::reasons::UNEXPANDED_FILE;
+use scl_text::refusal::Refusal;
 use std::alloc::Global;
 
 /// The refusal of an option by its flag, where its place is that of refused ones.
@@ -96,7 +94,7 @@ fn judged_known(
     value: &ArgData,
 ) -> Mem<Option<Refusal>>
     ensures { IfOk result (λ said. option_map verdict_of said
-        ≡ or_else (flag_verdict (place (kind_of value.now)) flag.now) (value_verdict multiarch (last_text (Kind.Arch ∷ []) (map (seen kind_of word_of) before.now)) (kind_of value.now) (word_of value.now))) }
+        ≡ option_or (flag_verdict (place (kind_of value.now)) flag.now) (value_verdict multiarch (last_text (Kind.Arch ∷ []) (map (seen kind_of word_of) before.now)) (kind_of value.now) (word_of value.now))) }
 {
     match judged_flag(place_of_kind(value.kind()), flag) {
         Some(refusal) => Ok(Some(refusal)),
@@ -110,25 +108,12 @@ pub(crate) struct ByVerdict {
     pub(crate) multiarch: bool,
 }
 
-impl Judge<ArgData> for ByVerdict {
-    ghost use Rattle.scl_text.specs.Reasons.{argument_parse, empty_value};
-    ghost use Rattle.scl_text.specs.Records.{Verdict};
-    ghost use Rattle.scl_text.specs.Refusals.{verdict_of};
+impl Refuses<ArgData> for ByVerdict {
     ghost use Rattle.scl_gnu_reading.specs.Verdicts.{verdict};
-
-    type Refusal = Refusal;
-
-    ghost Verdict = { Verdict };
-
-    ghost verdict_of = { verdict_of };
 
     ghost verdict = { λ judge. verdict judge.multiarch };
 
-    ghost empty = { empty_value };
-
-    ghost dangling = { argument_parse };
-
-    fn judge(
+    fn refusal(
         &self,
         alloc: Global,
         before: &[Argument<ArgData>],
@@ -143,13 +128,5 @@ impl Judge<ArgData> for ByVerdict {
                 judged_known(alloc, self.multiarch, before, flag, value)
             }
         }
-    }
-
-    fn refuse_empty(&self) -> Refusal {
-        Refusal::CannotCache(EMPTY_VALUE, None)
-    }
-
-    fn refuse_dangling(&self, alloc: Global) -> Mem<Refusal> {
-        argument_parse(alloc, &ArgParseError::UnexpectedEndOfArgs)
     }
 }

@@ -3,7 +3,7 @@ ghost use Rattle.std.specs.Prelude.{◌≡◌, IfOk};
 ghost use Rattle.std.specs.Option.{option_copied};
 ghost use Rattle.scl_text.specs.Records.{artifacts, path_of};
 ghost use Rattle.scl_gnu_reading.specs.FoundBy.{found_of, paths_of};
-ghost use Rattle.scl_gnu_reading.specs.Recordings.{unless_absent, output_paths, outputs};
+ghost use Rattle.scl_gnu_reading.specs.Recordings.{path_if, output_paths, outputs};
 
 use super::data::{ArgData, Kind};
 use super::fixed_tests::Finding;
@@ -25,7 +25,7 @@ pub(crate) struct OutputFiles {
 }
 
 fn copied_if(alloc: Global, is_wanted: bool, path: Option<&[u8]>) -> Mem<Option<Vec<u8>>>
-    ensures { IfOk result (λ copy. path_of copy ≡ unless_absent is_wanted (option_copied path.entry)) }
+    ensures { IfOk result (λ copy. path_of copy ≡ path_if is_wanted (option_copied path.entry)) }
 {
     if !is_wanted {
         return Ok(None);

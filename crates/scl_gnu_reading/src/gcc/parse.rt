@@ -1,6 +1,6 @@
 //! The parser of the command lines of Gcc and Clang.
 ghost use Rattle.std.specs.Prelude.{◌≡◌, IfOk, IsTrue};
-ghost use Rattle.scl_args.specs.Options.{result_by};
+ghost use Rattle.std.specs.Result.{result_map_both};
 ghost use Rattle.scl_values.specs.Tables.{tables_hold_values};
 ghost use Rattle.scl_values.specs.Words.{words_of};
 ghost use Rattle.scl_text.specs.JudgedWords.{judged_words};
@@ -21,7 +21,7 @@ use scl_args::{Mem, OfKinds, Options, SearchableArgInfo};
 use scl_text::records::{CCompilerKind, CompilerArguments, ParsedArguments};
 use scl_text::refusal::Refusal;
 use scl_text::view::View;
-use scl_text::{ExpansionKind, judge_words};
+use scl_text::{ExpansionKind, ParserJudge, judge_words};
 use std::alloc::Global;
 
 /// The tests of options that are not refused, and the record of what they find.
@@ -57,7 +57,7 @@ fn read(
     ensures { IfOk result (λ answer. outcome_of answer ≡ read kind plusplus cwd.now view.now options) }
 {
     let words = options.texts(alloc, &OfKinds(&[Kind::XClang]))?;
-    match read_inner(alloc, &words, cwd, &ByInnerVerdict, view)? {
+    match read_inner(alloc, &words, cwd, &ParserJudge(ByInnerVerdict), view)? {
         Ok(inner) => recorded(alloc, options, inner, kind, plusplus, cwd, view),
         Err(refusal) => Ok(refusal.into_answer()),
     }
@@ -73,12 +73,12 @@ fn judged<S: SearchableArgInfo<ArgData> + Drop>(
     view: &View,
 ) -> Mem<Result<Options<ArgData>, Refusal>>
     requires { IsTrue (tables_hold_values holds_value (S.tables arg_info)) }
-    ensures { IfOk result (λ said. result_by (λ options. options) verdict_of said
+    ensures { IfOk result (λ said. result_map_both (λ options. options) verdict_of said
         ≡ judged_words ExpansionKind.Gnu empty_value (verdict view.now.is_multiarch) argument_parse (S.tables arg_info) (is_clang kind) cwd.now view.now (words_of arguments.now)) }
 {
-    let judge = ByVerdict {
+    let judge = ParserJudge(ByVerdict {
         multiarch: view.multiarch(),
-    };
+    });
     let dashes = is_clang(kind);
     judge_words(
         alloc,

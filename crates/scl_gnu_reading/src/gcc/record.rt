@@ -1,10 +1,10 @@
 //! The record of a compilation.
-ghost use Rattle.std.specs.Prelude.{◌≡◌, ◌&&◌, ◌++◌, ◌∷◌, [], IfOk};
+ghost use Rattle.std.specs.Prelude.{◌≡◌, ◌++◌, ◌∷◌, [], IfOk};
 ghost use Rattle.std.specs.Option.{option_copied};
 ghost use Rattle.scl_text.specs.Records.{parsed_of, path_of};
 ghost use Rattle.scl_values.specs.Words.{words_of};
 ghost use Rattle.scl_gnu_reading.specs.FoundBy.{found_of};
-ghost use Rattle.scl_gnu_reading.specs.Kinds.{any, last_text};
+ghost use Rattle.scl_gnu_reading.specs.Kinds.{any};
 ghost use Rattle.scl_gnu_reading.specs.Recordings.{is_clang, is_gcc, has_extensions, added_common, all_words_at, dependency_words, needs_target, suppresses_rewritten_includes, record_of};
 
 use super::added_words::{add_dependency, add_split_dwarf};

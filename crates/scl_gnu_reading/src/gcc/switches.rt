@@ -94,11 +94,10 @@ impl Test<ArgData> for Hidden {
 
     fn passes(&self, option: &Argument<ArgData>) -> bool {
         match option {
-            Argument::Flag(flag, ArgData::PreprocessorArgument(_))
-            | Argument::WithValue(flag, ArgData::PreprocessorArgument(_), _) => {
-                is_hidden_flag(flag)
+            Argument::Raw(_) | Argument::UnknownFlag(_) => false,
+            Argument::Flag(flag, value) | Argument::WithValue(flag, value, _) => {
+                matches!(value, ArgData::PreprocessorArgument(_)) && is_hidden_flag(flag)
             }
-            _ => false,
         }
     }
 

@@ -1,7 +1,7 @@
 //! What a command line has from its environment: words before and behind its own.
 ghost use Rattle.std.specs.Prelude.{◌≡◌, IfOk};
 ghost use Rattle.std.specs.Option.{option_copied, option_map};
-ghost use Rattle.scl_args.specs.Options.{result_by};
+ghost use Rattle.std.specs.Result.{result_map_both};
 ghost use Rattle.scl_values.specs.Words.{words_of};
 ghost use Rattle.scl_text.specs.Commands.{pairs_of};
 ghost use Rattle.scl_text.specs.Records.{CannotCache};
@@ -96,7 +96,7 @@ fn variable_words(
     value: Option<&[u8]>,
     broken: &'static str,
 ) -> Mem<Result<Vec<Vec<u8>>, Refusal>>
-    ensures { IfOk result (λ made. result_by (λ words. words_of words.items) verdict_of made ≡ variable_words (CannotCache broken.now) (option_copied value.entry)) }
+    ensures { IfOk result (λ made. result_map_both (λ words. words_of words.items) verdict_of made ≡ variable_words (CannotCache broken.now) (option_copied value.entry)) }
 {
     let Some(value) = value else {
         return Ok(Ok(Vec::new(alloc)));
@@ -114,7 +114,7 @@ pub(crate) fn surrounded(
     arguments: &[Vec<u8>],
     pairs: &[(Vec<u8>, Vec<u8>)],
 ) -> Mem<Result<Vec<Vec<u8>>, Refusal>>
-    ensures { IfOk result (λ made. result_by (λ words. words_of words.items) verdict_of made ≡ surrounded (pairs_of pairs.now) (words_of arguments.now)) }
+    ensures { IfOk result (λ made. result_map_both (λ words. words_of words.items) verdict_of made ≡ surrounded (pairs_of pairs.now) (words_of arguments.now)) }
 {
     let front = value_of(pairs, FRONT_VARIABLE);
     let mut words = match variable_words(alloc, front, "CL environment variable value broken")? {

@@ -25,14 +25,26 @@ pub(super) fn push_lists(
     push_words(alloc, words, &parsed.common_args)
 }
 
-/// The flag that says that an input has the language.
+/// The flag that says that an input has the language: there is one for C and one for C++.
 fn language_flag(language: Language) -> &'static [u8]
     ensures { result.now ≡ language_flag language }
 {
     match language {
         Language::C => b"-Tc",
         Language::Cxx => b"-Tp",
-        _ => b"",
+        Language::Assembler
+        | Language::AssemblerToPreprocess
+        | Language::CHeader
+        | Language::GenericHeader
+        | Language::CxxHeader
+        | Language::CxxModule
+        | Language::ObjectiveC
+        | Language::ObjectiveCHeader
+        | Language::ObjectiveCxx
+        | Language::ObjectiveCxxHeader
+        | Language::Cuda
+        | Language::Rust
+        | Language::Hip => b"",
     }
 }
 

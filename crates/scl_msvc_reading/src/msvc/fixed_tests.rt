@@ -1,7 +1,7 @@
 //! The tests that follow the verdicts of the options.
 ghost use Rattle.std.specs.Prelude.{◌≡◌, IfOk, codes};
 ghost use Rattle.std.specs.Option.{option_copied, option_map};
-ghost use Rattle.scl_args.specs.Options.{result_by};
+ghost use Rattle.std.specs.Result.{result_map_both};
 ghost use Rattle.scl_values.specs.Words.{words_of};
 ghost use Rattle.scl_files.specs.Paths.{file_name, join, with_extension};
 ghost use Rattle.scl_text.specs.Records.{path_of};
@@ -48,7 +48,7 @@ fn input_unless(
     said: Option<Refusal>,
     inputs: Vec<Vec<u8>>,
 ) -> Mem<Result<Vec<u8>, Refusal>>
-    ensures { IfOk result (λ tested. result_by (λ input. input.items) verdict_of tested ≡ input_unless (option_map verdict_of said) (words_of inputs.items)) }
+    ensures { IfOk result (λ tested. result_map_both (λ input. input.items) verdict_of tested ≡ input_unless (option_map verdict_of said) (words_of inputs.items)) }
 {
     if inputs.len() > 1 {
         drop(said);
@@ -115,7 +115,7 @@ fn program_database(
     is_apart: bool,
     path: Option<&[u8]>,
 ) -> Mem<Result<Option<Vec<u8>>, Refusal>>
-    ensures { IfOk result (λ tested. result_by path_of verdict_of tested ≡ program_database is_apart (option_copied path.entry)) }
+    ensures { IfOk result (λ tested. result_map_both path_of verdict_of tested ≡ program_database is_apart (option_copied path.entry)) }
 {
     if !is_apart {
         return Ok(Ok(None));
@@ -134,7 +134,7 @@ pub(crate) fn find(
     options: &Options<ArgData>,
     is_clang: bool,
 ) -> Mem<Result<Finding, Refusal>>
-    ensures { IfOk result (λ tested. result_by found_of verdict_of tested ≡ found is_clang options.now) }
+    ensures { IfOk result (λ tested. result_map_both found_of verdict_of tested ≡ found is_clang options.now) }
 {
     let Some(compile_flag) = options.last_flag(&OfKinds(&[Kind::DoCompilation])) else {
         return Ok(Err(Refusal::NotCompilation));

@@ -1,6 +1,6 @@
 //! Inner command lines: words that options hand on to clang, behind `-Xclang` or joined to `-clang:`.
 ghost use Rattle.std.specs.Prelude.{◌≡◌, ◌++◌, IfOk, OnOk};
-ghost use Rattle.scl_args.specs.Options.{result_by};
+ghost use Rattle.std.specs.Result.{result_map_both};
 ghost use Rattle.scl_values.specs.Words.{words_of};
 ghost use Rattle.scl_text.specs.Refusals.{verdict_of};
 ghost use Rattle.scl_msvc_reading.specs.InnerBy.{inner_of};
@@ -18,6 +18,7 @@ use scl_args::{
     Mem, OfKinds, Options, ShortFlagsJoined, WrappedApart, WrappedJoined, push_wrapped,
 };
 use scl_gnu_reading::gcc;
+use scl_text::ParserJudge;
 use scl_text::refusal::Refusal;
 use scl_text::view::View;
 use std::alloc::Global;
@@ -37,10 +38,10 @@ fn inner_options(
     cwd: &[u8],
     view: &View,
 ) -> Mem<Result<Options<gcc::ArgData>, Refusal>>
-    ensures { IfOk result (λ said. result_by (λ inner. inner) verdict_of said ≡ inner_options kind cwd.now view.now options.now) }
+    ensures { IfOk result (λ said. result_map_both (λ inner. inner) verdict_of said ≡ inner_options kind cwd.now view.now options.now) }
 {
     let words = options.texts(alloc, &OfKinds(&[kind]))?;
-    gcc::read_inner(alloc, &words, cwd, &ByInnerVerdict, view)
+    gcc::read_inner(alloc, &words, cwd, &ParserJudge(ByInnerVerdict), view)
 }
 
 /// The options of the two inner command lines; or the first refusal of one of them, that behind `-Xclang` first.
@@ -50,7 +51,7 @@ pub(crate) fn both_inner(
     cwd: &[u8],
     view: &View,
 ) -> Mem<Result<InnerOptions, Refusal>>
-    ensures { IfOk result (λ said. result_by inner_of verdict_of said ≡ both_inner cwd.now view.now options.now) }
+    ensures { IfOk result (λ said. result_map_both inner_of verdict_of said ≡ both_inner cwd.now view.now options.now) }
 {
     let xclang = match inner_options(alloc, options, Kind::XClang, cwd, view)? {
         Ok(xclang) => xclang,

@@ -1,23 +1,24 @@
 //! What an option says against caching.
 ghost use Rattle.std.specs.Prelude.{◌≡◌};
-ghost use Rattle.std.specs.Option.{option_map};
-ghost use Rattle.scl_args.specs.Options.{or_else};
+ghost use Rattle.std.specs.Option.{option_map, option_or};
+ghost use Rattle.std.specs.Bool.{then_some};
 ghost use Rattle.scl_text.specs.Records.{CannotCache};
 ghost use Rattle.scl_text.specs.Refusals.{verdict_of};
 ghost use Rattle.scl_msvc_reading.specs.Data.{kind_of, word_of};
 ghost use Rattle.scl_msvc_reading.specs.Places.{place};
-ghost use Rattle.scl_msvc_reading.specs.Verdicts.{refused_if, flag_verdict, value_verdict};
+ghost use Rattle.scl_msvc_reading.specs.Verdicts.{flag_verdict, value_verdict};
 
 use super::data::ArgData;
 use super::place::{Place, place_of_kind};
-use scl_args::{ArgParseError, Argument, Judge, Mem, ReadArg};
-use scl_text::reasons::{EMPTY_VALUE, NO_INPUT_FILE};
-use scl_text::refusal::{Refusal, argument_parse};
+use scl_args::{Argument, Mem, ReadArg};
+use scl_text::Refuses;
+use scl_text::reasons::NO_INPUT_FILE;
+use scl_text::refusal::Refusal;
 use std::alloc::Global;
 
 /// The refusal for this reason, where there is one.
 pub(crate) fn refused_if(is_refused: bool, reason: &'static str) -> Option<Refusal>
-    ensures { option_map verdict_of result ≡ refused_if is_refused (CannotCache reason.now) }
+    ensures { option_map verdict_of result ≡ then_some is_refused (CannotCache reason.now) }
 {
     if is_refused {
         Some(Refusal::CannotCache(reason, None))
@@ -65,7 +66,7 @@ fn judged_value(is_clang: bool, flag: &'static str, value: &ArgData) -> Option<R
 
 fn judged_known(is_clang: bool, flag: &'static str, value: &ArgData) -> Option<Refusal>
     ensures { option_map verdict_of result
-        ≡ or_else (flag_verdict (place (kind_of value.now)) flag.now) (value_verdict is_clang flag.now (kind_of value.now) (word_of value.now)) }
+        ≡ option_or (flag_verdict (place (kind_of value.now)) flag.now) (value_verdict is_clang flag.now (kind_of value.now) (word_of value.now)) }
 {
     match judged_flag(place_of_kind(value.kind()), flag) {
         Some(refusal) => Some(refusal),
@@ -79,25 +80,12 @@ pub(crate) struct ByVerdict {
     pub(crate) is_clang: bool,
 }
 
-impl Judge<ArgData> for ByVerdict {
-    ghost use Rattle.scl_text.specs.Reasons.{empty_value, argument_parse};
-    ghost use Rattle.scl_text.specs.Records.{Verdict};
-    ghost use Rattle.scl_text.specs.Refusals.{verdict_of};
+impl Refuses<ArgData> for ByVerdict {
     ghost use Rattle.scl_msvc_reading.specs.Verdicts.{verdict};
-
-    type Refusal = Refusal;
-
-    ghost Verdict = { Verdict };
-
-    ghost verdict_of = { verdict_of };
 
     ghost verdict = { λ judge. verdict judge.is_clang };
 
-    ghost empty = { empty_value };
-
-    ghost dangling = { argument_parse };
-
-    fn judge(
+    fn refusal(
         &self,
         _alloc: Global,
         _before: &[Argument<ArgData>],
@@ -109,13 +97,5 @@ impl Judge<ArgData> for ByVerdict {
                 Ok(judged_known(self.is_clang, flag, value))
             }
         }
-    }
-
-    fn refuse_empty(&self) -> Refusal {
-        Refusal::CannotCache(EMPTY_VALUE, None)
-    }
-
-    fn refuse_dangling(&self, alloc: Global) -> Mem<Refusal> {
-        argument_parse(alloc, &ArgParseError::UnexpectedEndOfArgs)
     }
 }

@@ -14,7 +14,7 @@ use super::record::record_of;
 use scl_args::{Mem, Options};
 use scl_text::records::{CompilerArguments, ParsedArguments};
 use scl_text::view::View;
-use scl_text::{ExpansionKind, judge_words};
+use scl_text::{ExpansionKind, ParserJudge, judge_words};
 use std::alloc::Global;
 
 /// The tests of options that are not refused, and the record of what they find.
@@ -65,7 +65,7 @@ pub fn parse_arguments(
 ) -> Mem<CompilerArguments<ParsedArguments>>
     ensures { IfOk result (λ answer. outcome_of answer ≡ reading is_clang cwd.now view.now (words_of arguments.now)) }
 {
-    let judge = ByVerdict { is_clang };
+    let judge = ParserJudge(ByVerdict { is_clang });
     match judge_words(
         alloc,
         ExpansionKind::Msvc,

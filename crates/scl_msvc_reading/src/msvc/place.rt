@@ -89,7 +89,7 @@ impl Test<ArgData> for Place {
 }
 
 /// Flags stand together with their values, but those of folders of external includes.
-#[derive(Clone, Copy, Debug)]
+#[derive(Clone, Copy)]
 pub(crate) struct ExternalIncludesApart;
 
 impl Sides for ExternalIncludesApart {

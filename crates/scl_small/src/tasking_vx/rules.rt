@@ -1,9 +1,7 @@
 //! Where TaskingVX's options go, what it says of one, and its fixed tests.
 ghost use Rattle.std.specs.Prelude.{◌≡◌, IfOk};
-ghost use Rattle.scl_args.specs.Options.{all_seen};
 ghost use Rattle.scl_text.specs.Records.{outcome_of};
 ghost use Rattle.scl_small.specs.TaskingReading.{tested};
-ghost use Rattle.scl_small.specs.TaskingValues.{kind_of, word_of};
 
 use super::args::{ArgData, Kind};
 use crate::finish::recorded;
@@ -47,13 +45,9 @@ impl Rules for ArgData {
         refused_by_place(option)
     }
 
-    fn test(
-        alloc: Global,
-        options: Vec<Argument<ArgData>>,
-    ) -> Mem<CompilerArguments<ParsedArguments>>
-        ensures { IfOk result (λ answer. outcome_of answer ≡ tested (all_seen kind_of word_of options)) }
+    fn test(alloc: Global, options: Options<ArgData>) -> Mem<CompilerArguments<ParsedArguments>>
+        ensures { IfOk result (λ answer. outcome_of answer ≡ tested options) }
     {
-        let options = Options::new(alloc, options)?;
         match options.last_flag(&Place::CompileFlag) {
             Some(_) => recorded(alloc, options, "-c"),
             None => Ok(CompilerArguments::NotCompilation),

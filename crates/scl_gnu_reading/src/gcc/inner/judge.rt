@@ -11,9 +11,9 @@ ghost use Rattle.scl_gnu_reading.specs.Inners.{raw_verdict, takes_raw};
 use super::place::inner_place_of_kind;
 use crate::gcc::data::ArgData;
 use crate::gcc::judge::judged_flag;
-use scl_args::{ArgParseError, Argument, Judge, Mem, ReadArg, last_option};
-use scl_text::reasons::EMPTY_VALUE;
-use scl_text::refusal::{Refusal, argument_parse};
+use scl_args::{Argument, Mem, ReadArg, last_option};
+use scl_text::Refuses;
+use scl_text::refusal::Refusal;
 use std::alloc::Global;
 
 /// The refusal for this reason, with the word beside it if it is a text.
@@ -48,25 +48,12 @@ fn judged_raw(alloc: Global, is_taken: bool, word: &[u8]) -> Mem<Option<Refusal>
 #[derive(Clone, Copy)]
 pub(crate) struct ByInnerVerdict;
 
-impl Judge<ArgData> for ByInnerVerdict {
-    ghost use Rattle.scl_text.specs.Reasons.{argument_parse, empty_value};
-    ghost use Rattle.scl_text.specs.Records.{Verdict};
-    ghost use Rattle.scl_text.specs.Refusals.{verdict_of};
+impl Refuses<ArgData> for ByInnerVerdict {
     ghost use Rattle.scl_gnu_reading.specs.Inners.{inner_verdict};
-
-    type Refusal = Refusal;
-
-    ghost Verdict = { Verdict };
-
-    ghost verdict_of = { verdict_of };
 
     ghost verdict = { λ _. inner_verdict };
 
-    ghost empty = { empty_value };
-
-    ghost dangling = { argument_parse };
-
-    fn judge(
+    fn refusal(
         &self,
         alloc: Global,
         before: &[Argument<ArgData>],
@@ -82,13 +69,5 @@ impl Judge<ArgData> for ByInnerVerdict {
                 Ok(judged_flag(inner_place_of_kind(value.kind()), flag))
             }
         }
-    }
-
-    fn refuse_empty(&self) -> Refusal {
-        Refusal::CannotCache(EMPTY_VALUE, None)
-    }
-
-    fn refuse_dangling(&self, alloc: Global) -> Mem<Refusal> {
-        argument_parse(alloc, &ArgParseError::UnexpectedEndOfArgs)
     }
 }
