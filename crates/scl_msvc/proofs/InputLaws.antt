@@ -24,7 +24,7 @@ use Rattle.scl_msvc_reading.specs.declared.msvc.data.Kind.{Kind}
 use Rattle.scl_msvc_reading.specs.declared.msvc.data.Kind.TheVariants as kind
 use Rattle.scl_msvc.specs.Building.{language_flag}
 use Rattle.scl_text.specs.Commands.{dash_words}
-use Rattle.scl_msvc_reading.specs.Kinds.{any, is_input, language_said, explicit_language}
+use Rattle.scl_msvc_reading.specs.Kinds.{any, is_input, language_said, explicit_language, language_inputs}
 use Rattle.scl_msvc.specs.ReadAgain.{input_option, mark_option}
 use Rattle.scl_msvc_reading.specs.Rows.{msvc_rows, msvc_tables}
 use Rattle.scl_msvc_reading.specs.Verdicts.{verdict}
@@ -123,7 +123,7 @@ module _ (is_clang : Bool) (ws : List (List ℕ)) where
   raw-marks false l x = refl
 
   module _ (l : Language) (x : List ℕ) (is_text : texts is_input os ≡ x ∷ []) where
-    raw-again : any (kind.CInput ∷ kind.CxxInput ∷ []) os ≡ false → InputRead is_clang l x false (is_behind_dashes is_input os)
+    raw-again : any language_inputs os ≡ false → InputRead is_clang l x false (is_behind_dashes is_input os)
     raw-again e =
         let marked = is_behind_dashes is_input os in
         let raws = raw-only os (any-none names_language os e) in
@@ -133,10 +133,10 @@ module _ (is_clang : Bool) (ws : List (List ℕ)) where
         ∙ (ends-input own is_clang [] [] marked x (reads-nil own is_clang) (marked-dashes msvc_tables is_clang ws is_input) (λ no. raw-is_input own is_clang ws x text (sym first ∙ no))
         ∙ ap cleanly (raw-marks marked l x))
 
-    pub reads-input : Each (λ o. verdict is_clang [] o ≡ None) os → (any (kind.CInput ∷ kind.CxxInput ∷ []) os ≡ true → explicit_language os ≡ Some l)
-        → InputRead is_clang l x (any (kind.CInput ∷ kind.CxxInput ∷ []) os) (is_behind_dashes is_input os)
+    pub reads-input : Each (λ o. verdict is_clang [] o ≡ None) os → (any language_inputs os ≡ true → explicit_language os ≡ Some l)
+        → InputRead is_clang l x (any language_inputs os) (is_behind_dashes is_input os)
     reads-input unrefused said =
-        let says = any (kind.CInput ∷ kind.CxxInput ∷ []) os in
+        let says = any language_inputs os in
         elim says as (λ b. says ≡ b → InputRead is_clang l x b (is_behind_dashes is_input os)) [
           | true ↦ λ e.
               let o = has-last (λ o. verdict is_clang [] o ≡ None) names_language os unrefused e in

@@ -22,7 +22,7 @@ use Rattle.scl_msvc.specs.Building.{command_words}
 use Rattle.scl_msvc_reading.specs.Environment.{surrounded}
 use Rattle.scl_msvc_reading.specs.FixedTests.{Found}
 use Rattle.scl_msvc_reading.specs.Inners.{Inner}
-use Rattle.scl_msvc_reading.specs.Kinds.{any, is_input, language_said}
+use Rattle.scl_msvc_reading.specs.Kinds.{any, is_input, language_said, language_inputs}
 use Rattle.scl_msvc_reading.specs.Places.{place, goes_to}
 use Rattle.scl_msvc.specs.ReadAgain as msvc
 use Rattle.scl_msvc.specs.ReadAgain.{list_of, parts, mark_option, input_option, options_of, inner_options_of, MsvcCommandsHaveOneInput}
@@ -91,7 +91,7 @@ raw-input (o ∷ os) x n t = elim (is_input o) as (λ b. is_input o ≡ b → ma
 
 module _ (os : List (Seen Kind)) (f : Found) (has : HasFound os f) where
   abbrev says : Bool
-  says = any (kind.CInput ∷ kind.CxxInput ∷ []) os
+  says = any language_inputs os
 
   of-language : (l : Language) (x : List ℕ) → (l ≡ languages.C) ⊎ (l ≡ languages.Cxx) → named_input (input_option true l x) ≡ x ∷ []
   of-language l x (inl e) = rw e refl

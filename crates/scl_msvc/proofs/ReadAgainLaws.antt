@@ -40,7 +40,7 @@ use Rattle.scl_msvc_reading.specs.Inners.{inner_list}
 use Rattle.scl_msvc_reading.specs.Kinds.{of, last_flag}
 use Rattle.scl_msvc_reading.specs.Places.{side_of_flag, words_at}
 use Rattle.scl_msvc.specs.ReadAgain as msvc
-use Rattle.scl_msvc.specs.ReadAgain.{list_of, parts, options_of, inner_options_of, behind_xclang, behind_clang, CommandIsReadAgain, MsvcCommandsAreReadAgain}
+use Rattle.scl_msvc.specs.ReadAgain.{list_of, parts, options_of, inner_options_of, CommandIsReadAgain, MsvcCommandsAreReadAgain}
 use Rattle.scl_msvc_reading.specs.Readings.{reading}
 use Rattle.scl_msvc_reading.specs.Recordings.{all_words_at, record_of}
 use Rattle.scl_msvc_reading.specs.Rows.{msvc_rows, msvc_tables}

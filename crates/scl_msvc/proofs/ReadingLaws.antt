@@ -30,7 +30,7 @@ use Rattle.scl_msvc_reading.specs.declared.msvc.data.Kind.TheVariants as kind
 use Rattle.scl_msvc_reading.specs.FixedTests as tests
 use Rattle.scl_msvc_reading.specs.FixedTests.{Found, found, input_unless, language_of, module_verdict, program_database}
 use Rattle.scl_msvc_reading.specs.Inners.{Inner, inner_verdict}
-use Rattle.scl_msvc_reading.specs.Kinds.{of, any, is_input, last_flag, last_text, language_said, explicit_language}
+use Rattle.scl_msvc_reading.specs.Kinds.{of, any, is_input, last_flag, last_text, language_said, explicit_language, language_inputs}
 use Rattle.scl_msvc.specs.ReadAgain.{options_of, inner_options_of}
 use Rattle.scl_msvc_reading.specs.Readings.{inner_options, both_inner, read, reading, recorded}
 use Rattle.scl_msvc_reading.specs.Recordings.{record_of, outputs, output_paths}
@@ -41,7 +41,7 @@ use Rattle.scl_msvc_reading.specs.Verdicts.{verdict}
 
 -- whether the option names its input's language
 abbrev pub names_language : Seen Kind → Bool
-names_language = of (kind.CInput ∷ kind.CxxInput ∷ [])
+names_language = of language_inputs
 
 input-is : (said : Option Verdict) (xs : List (List ℕ)) (x : List ℕ) → input_unless said xs ≡ Ok x → (said ≡ None) × (xs ≡ x ∷ [])
 input-is said [] x e = absurd (let no = unless-ok said (the_input []) x e in cc)
@@ -65,7 +65,7 @@ pub each-tt : {A : Type 0} (xs : List A) → Each (λ x. Unit {0}) xs
 each-tt [] = tt
 each-tt (x ∷ xs) = (tt, each-tt xs)
 
-explicit-said : (os : List (Seen Kind)) → any (kind.CInput ∷ kind.CxxInput ∷ []) os ≡ true → (l : Language) × (explicit_language os ≡ Some l)
+explicit-said : (os : List (Seen Kind)) → any language_inputs os ≡ true → (l : Language) × (explicit_language os ≡ Some l)
 explicit-said os e =
     let o = has-last (λ o. Unit {0}) names_language os (each-tt os) e in
     let l = is-said o.option o.passes in
@@ -81,13 +81,13 @@ from-flag false (Some k) input l m c s e = e
 pub record HasFound (os : List (Seen Kind)) (f : Found) : Type 0 where
   pub flag_is : last_flag (kind.DoCompilation ∷ []) os ≡ Some f.compile_flag
   pub input_is : texts is_input os ≡ f.input ∷ []
-  pub language_is : any (kind.CInput ∷ kind.CxxInput ∷ []) os ≡ true → explicit_language os ≡ Some f.language
+  pub language_is : any language_inputs os ≡ true → explicit_language os ≡ Some f.language
 
 pub has-found : (is_clang : Bool) (os : List (Seen Kind)) (f : Found) → found is_clang os ≡ Ok f → HasFound os f
 has-found is_clang os f e =
     let compiled = any (kind.ClangLanguage ∷ []) os in
     let named = any (kind.ClangModuleOutput ∷ []) os in
-    let says = any (kind.CInput ∷ kind.CxxInput ∷ []) os in
+    let says = any language_inputs os in
     let a = bind-ok (ok_or (last_flag (kind.DoCompilation ∷ []) os) NotCompilation) _ f e in
     let b = bind-ok (input_unless (module_verdict compiled named says) (texts is_input os)) _ f a.2 in
     let c = bind-ok (ok_or (language_of compiled (explicit_language os) b.0) unknown_source_language) _ f b.2 in

@@ -16,9 +16,13 @@ use Rattle.scl_msvc_reading.specs.declared.msvc.data.Kind.TheVariants as kind
 abbrev pub of : List Kind → Seen Kind → Bool
 of kinds o = of_kinds ghosts.eq kinds o
 
+-- the kinds of options that name an input and say its language
+abbrev pub language_inputs : List Kind
+language_inputs = kind.CInput ∷ kind.CxxInput ∷ []
+
 -- a word that is no option is an input, unless it is `--`; so is the value of a flag that names one with its language
 abbrev pub is_input : Seen Kind → Bool
-is_input o = (is_raw o && not (is_dashes o)) || of (kind.CInput ∷ kind.CxxInput ∷ []) o
+is_input o = (is_raw o && not (is_dashes o)) || of language_inputs o
 
 -- the language that an option of the kind says of its input
 abbrev pub language_of_kind : Kind → Option Language
@@ -51,4 +55,4 @@ any kinds os = list_any (of kinds) os
 
 -- the language of the input, as its flag says
 abbrev pub explicit_language : List (Seen Kind) → Option Language
-explicit_language os = option_and_then language_said (last_by (of (kind.CInput ∷ kind.CxxInput ∷ [])) os)
+explicit_language os = option_and_then language_said (last_by (of language_inputs) os)

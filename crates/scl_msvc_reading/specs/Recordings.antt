@@ -20,7 +20,7 @@ use Rattle.scl_msvc_reading.specs.declared.msvc.place.Place.{Place}
 use Rattle.scl_msvc_reading.specs.declared.msvc.place.Place.TheVariants as places
 use Rattle.scl_msvc_reading.specs.FixedTests.{Found}
 use Rattle.scl_msvc_reading.specs.Inners.{Inner, inner_words_at}
-use Rattle.scl_msvc_reading.specs.Kinds.{is_input, hash_role, last_text, any}
+use Rattle.scl_msvc_reading.specs.Kinds.{is_input, hash_role, last_text, any, language_inputs}
 use Rattle.scl_msvc_reading.specs.Places.{words_at}
 
 -- ---- outputs
@@ -84,7 +84,7 @@ record_of directory view os inner f = record {
   extra_hash_files = map (hash_path directory view) (all_hashed os inner);
   uses_external_assembler = false;
   msvc_show_includes = any (kind.ShowIncludes ∷ []) os;
-  msvc_explicit_language = any (kind.CInput ∷ kind.CxxInput ∷ []) os;
+  msvc_explicit_language = any language_inputs os;
   profile_generate = writes_profile inner;
   color_mode = colors.Auto;
   suppress_rewrite_includes_only = false;

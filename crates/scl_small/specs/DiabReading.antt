@@ -1,15 +1,15 @@
 -- What a command line says to Diab.
-use Rattle.std.specs.Prelude.{ℕ, List, Option, Some, Result, if◌then◌else◌, ok_or}
+use Rattle.std.specs.Prelude.{ℕ, List, Option, Some, Result, if◌then◌else◌}
 use Rattle.scl_values.specs.Row.{Row}
 use Rattle.scl_values.specs.Seen.{Seen}
-use Rattle.scl_args.specs.Options.{names_file, ◌>>=◌}
+use Rattle.scl_args.specs.Options.{names_file}
 use Rattle.scl_text.specs.Reasons.{unexpanded_file}
-use Rattle.scl_text.specs.Records.{Parsed, Verdict, NotCompilation}
+use Rattle.scl_text.specs.Records.{Parsed, Verdict}
 use Rattle.scl_files.specs.Expand.{expand}
 use Rattle.scl_files.specs.Views.{File}
 use Rattle.scl_files.specs.declared.expand.ExpansionKind.TheVariants as expansions
 use Rattle.scl_small.specs.Places.{refused_at}
-use Rattle.scl_small.specs.Readings.{last_flag_at, recorded, reads}
+use Rattle.scl_small.specs.Readings.{tested_by, reads}
 use Rattle.scl_small.specs.declared.place.Place.{Place}
 use Rattle.scl_small.specs.declared.place.Place.TheVariants as places
 use Rattle.scl_small.specs.declared.diab.args.Kind.{Kind}
@@ -32,11 +32,9 @@ place kinds.DepArgumentPath = places.Dependency
 abbrev pub verdict : Seen Kind → Option Verdict
 verdict o = if names_file o then Some unexpanded_file else refused_at place o
 
--- the fixed tests, and the record
+-- the fixed tests, and the record; the flag is the one that asked for the compilation
 abbrev pub tested : List (Seen Kind) → Result Parsed Verdict
-tested os = do
-  flag ← ok_or (last_flag_at place places.CompileFlag os) NotCompilation
-  recorded place os flag
+tested = tested_by place (λ flag. flag)
 
 -- what the words say, where `own` gives a word's owner
 abbrev pub reading : (List ℕ → Option (Row Kind)) → List (List ℕ) → Result Parsed Verdict

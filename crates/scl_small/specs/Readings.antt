@@ -6,7 +6,7 @@ use Rattle.scl_values.specs.Seen.{Seen, flag_of, text_of}
 use Rattle.scl_args.specs.Options.{last_by, texts, list, side_of_flag, ◌>>=◌}
 use Rattle.scl_files.specs.Paths.{with_extension}
 use Rattle.scl_text.specs.Languages.{language_of_file_name}
-use Rattle.scl_text.specs.Records.{Parsed, bare_record, artifact, Verdict}
+use Rattle.scl_text.specs.Records.{Parsed, bare_record, artifact, Verdict, NotCompilation}
 use Rattle.scl_text.specs.JudgedWords.{judged_cut}
 use Rattle.scl_text.specs.Reasons.{empty_value, argument_parse, unknown_source_language}
 use Rattle.scl_text.specs.Refusals.{the_input}
@@ -64,3 +64,9 @@ module _ {K : Type 0} (place : K → Place) where
     input ← the_input (texts (goes_to place places.Input) os)
     language ← ok_or (language_of_file_name input) unknown_source_language
     Ok (record_of os flag input language)
+
+  -- the fixed tests, and the record, with the flag that stands in the command for the last that asks for a compilation
+  abbrev pub tested_by : (List ℕ → List ℕ) → List (Seen K) → Result Parsed Verdict
+  tested_by flag_for os = do
+    flag ← ok_or (last_flag_at place places.CompileFlag os) NotCompilation
+    recorded os (flag_for flag)

@@ -1,10 +1,11 @@
-//! The tests of inputs and language, and the record.
+//! The fixed tests, and the record.
 ghost use Rattle.std.specs.Prelude.{◌≡◌, ◌∷◌, [], IfOk, false, codes};
 ghost use Rattle.std.specs.Option.{option_copied};
 ghost use Rattle.scl_text.specs.Records.{outcome_of, parsed_of, path_of, artifact, artifacts};
-ghost use Rattle.scl_small.specs.Readings.{record_of, recorded, object_path, dependency_path};
+ghost use Rattle.scl_small.specs.Readings.{record_of, recorded, tested_by, object_path, dependency_path};
 
 use crate::place::{Place, Placed};
+use crate::rules::Rules;
 use scl_args::{Options, ShortFlagsJoined};
 use scl_text::Mem;
 use scl_text::language::Language;
@@ -74,7 +75,7 @@ fn record_of<T: Placed>(
 }
 
 /// The answer for a compilation with the flag: the tests of inputs and language, and the record.
-pub(crate) fn recorded<T: Placed>(
+fn recorded<T: Placed>(
     alloc: Global,
     options: Options<T>,
     flag: &str,
@@ -90,4 +91,17 @@ pub(crate) fn recorded<T: Placed>(
     };
     let record = record_of(alloc, options, flag, input, language)?;
     Ok(CompilerArguments::Ok(record))
+}
+
+/// The answer for options that are not refused: the fixed tests, and the record.
+pub(crate) fn tested<T: Rules>(
+    alloc: Global,
+    options: Options<T>,
+) -> Mem<CompilerArguments<ParsedArguments>>
+    ensures { IfOk result (λ answer. outcome_of answer ≡ tested_by T.place T.compile_flag_for options) }
+{
+    match options.last_flag(&Place::CompileFlag) {
+        Some(flag) => recorded(alloc, options, T::compile_flag(flag)),
+        None => Ok(CompilerArguments::NotCompilation),
+    }
 }

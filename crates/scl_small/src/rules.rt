@@ -1,13 +1,12 @@
 //! What a compiler says of its options.
-ghost use Rattle.std.specs.Prelude.{◌≡◌, List, IfOk, Option, Result};
+ghost use Rattle.std.specs.Prelude.{◌≡◌, ℕ, List, Option};
 ghost use Rattle.std.specs.Option.{option_map};
 ghost use Rattle.scl_values.specs.Seen.{Seen, seen};
-ghost use Rattle.scl_text.specs.Records.{Parsed, Verdict, outcome_of};
+ghost use Rattle.scl_text.specs.Records.{Verdict};
 ghost use Rattle.scl_text.specs.Refusals.{verdict_of};
 
 use crate::place::Placed;
-use scl_args::{Argument, Options};
-use scl_text::records::{CompilerArguments, ParsedArguments};
+use scl_args::Argument;
 use scl_text::refusal::Refusal;
 use scl_text::{Mem, Refuses};
 use std::alloc::Global;
@@ -16,15 +15,15 @@ use std::alloc::Global;
 pub(crate) trait Rules: Placed {
     ghost verdict: { Seen Self.Kind → Option Verdict };
 
-    ghost tested: { List (Seen Self.Kind) → Result Parsed Verdict };
+    ghost compile_flag_for: { List ℕ → List ℕ };
 
     /// What is said against one option.
     fn judge(option: &Argument<Self>) -> Option<Refusal>
         ensures { option_map verdict_of result ≡ verdict (seen Self.kind_of Self.word_of option.now) };
 
-    /// The fixed tests of all options, and the record.
-    fn test(alloc: Global, options: Options<Self>) -> Mem<CompilerArguments<ParsedArguments>>
-        ensures { IfOk result (λ answer. outcome_of answer ≡ tested options) };
+    /// The flag of the command, where this one is the last that asks for a compilation.
+    fn compile_flag(flag: &'static str) -> &'static str
+        ensures { result.now ≡ compile_flag_for flag.now };
 }
 
 /// Judges each option by itself.

@@ -5,7 +5,7 @@ ghost use Rattle.scl_text.specs.Records.{parsed_of};
 ghost use Rattle.scl_msvc.specs.Building.{lists_with, language_flag, input_word, input_words};
 
 use scl_args::Mem;
-use scl_text::command::{push_dashes, push_word, push_words};
+use scl_text::command::{push_dashes, push_words};
 use scl_text::language::Language;
 use scl_text::records::ParsedArguments;
 use std::alloc::Global;

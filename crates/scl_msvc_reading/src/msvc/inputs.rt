@@ -1,13 +1,16 @@
 //! The inputs of a command line, and what their flags say of their language.
-ghost use Rattle.std.specs.Prelude.{◌≡◌, ◌∷◌, []};
+ghost use Rattle.std.specs.Prelude.{◌≡◌};
 ghost use Rattle.scl_values.specs.Seen.{seen};
 ghost use Rattle.scl_msvc_reading.specs.Data.{kind_of, word_of};
-ghost use Rattle.scl_msvc_reading.specs.Kinds.{any, explicit_language, language_of_kind, language_said};
+ghost use Rattle.scl_msvc_reading.specs.Kinds.{any, explicit_language, language_inputs, language_of_kind, language_said};
 ghost use Rattle.scl_msvc_reading.specs.Sorts.{may_be_input};
 
 use super::data::{ArgData, Kind};
 use scl_args::{Argument, OfKinds, Options, ReadArg, Sort, Test, is_dashes};
 use scl_text::language::Language;
+
+/// The kinds of options that name an input and say its language.
+const LANGUAGE_INPUTS: [Kind; 2] = [Kind::CInput, Kind::CxxInput];
 
 /// The words that are no options, but for `--`, and the values of flags that name an input.
 pub(crate) struct Inputs;
@@ -26,8 +29,8 @@ impl Test<ArgData> for Inputs {
         match option {
             Argument::Raw(_) => !is_dashes(option),
             Argument::UnknownFlag(_) => false,
-            Argument::Flag(_, value) | Argument::WithValue(_, value, _) => {
-                matches!(value.kind(), Kind::CInput | Kind::CxxInput)
+            Argument::Flag(_, _) | Argument::WithValue(_, _, _) => {
+                OfKinds(&LANGUAGE_INPUTS).passes(option)
             }
         }
     }
@@ -38,7 +41,7 @@ impl Test<ArgData> for Inputs {
         match sort {
             Sort::Raw => true,
             Sort::Unknown => false,
-            Sort::Known(kind) => matches!(kind, Kind::CInput | Kind::CxxInput),
+            Sort::Known(kind) => LANGUAGE_INPUTS.contains(&kind),
         }
     }
 }
@@ -66,14 +69,14 @@ fn language_said(option: &Argument<ArgData>) -> Option<Language>
 
 /// Whether a flag says the language of an input.
 pub(crate) fn has_explicit_language(options: &Options<ArgData>) -> bool
-    ensures { result ≡ any (Kind.CInput ∷ Kind.CxxInput ∷ []) options.now }
+    ensures { result ≡ any language_inputs options.now }
 {
-    options.any(&OfKinds(&[Kind::CInput, Kind::CxxInput]))
+    options.any(&OfKinds(&LANGUAGE_INPUTS))
 }
 
 /// The language of the input, as its flag says.
 pub(crate) fn explicit_language(options: &Options<ArgData>) -> Option<Language>
     ensures { result ≡ explicit_language options.now }
 {
-    language_said(options.last_by(&OfKinds(&[Kind::CInput, Kind::CxxInput]))?)
+    language_said(options.last_by(&OfKinds(&LANGUAGE_INPUTS))?)
 }

@@ -1,18 +1,10 @@
-//! Where Diab's options go, what it says of one, and its fixed tests.
-ghost use Rattle.std.specs.Prelude.{◌≡◌, IfOk};
-ghost use Rattle.scl_text.specs.Records.{outcome_of};
-ghost use Rattle.scl_small.specs.DiabReading.{tested};
-
+//! Where Diab's options go, what it says of one, and the flag of its command.
 use super::args::{ArgData, Kind};
-use crate::finish::recorded;
 use crate::place::{Place, Placed, refused_by_place};
 use crate::rules::Rules;
-use scl_args::{Argument, Options, names_file};
-use scl_text::Mem;
+use scl_args::{Argument, names_file};
 use scl_text::reasons::UNEXPANDED_FILE;
-use scl_text::records::{CompilerArguments, ParsedArguments};
 use scl_text::refusal::Refusal;
-use std::alloc::Global;
 
 impl Placed for ArgData {
     ghost use Rattle.scl_small.specs.DiabReading.{place};
@@ -36,11 +28,11 @@ impl Placed for ArgData {
 }
 
 impl Rules for ArgData {
-    ghost use Rattle.scl_small.specs.DiabReading.{verdict, tested};
+    ghost use Rattle.scl_small.specs.DiabReading.{verdict};
 
     ghost verdict = { verdict };
 
-    ghost tested = { tested };
+    ghost compile_flag_for = { λ flag. flag };
 
     fn judge(option: &Argument<ArgData>) -> Option<Refusal> {
         if names_file(option) {
@@ -49,12 +41,7 @@ impl Rules for ArgData {
         refused_by_place(option)
     }
 
-    fn test(alloc: Global, options: Options<ArgData>) -> Mem<CompilerArguments<ParsedArguments>>
-        ensures { IfOk result (λ answer. outcome_of answer ≡ tested options) }
-    {
-        match options.last_flag(&Place::CompileFlag) {
-            Some(flag) => recorded(alloc, options, flag),
-            None => Ok(CompilerArguments::NotCompilation),
-        }
+    fn compile_flag(flag: &'static str) -> &'static str {
+        flag
     }
 }

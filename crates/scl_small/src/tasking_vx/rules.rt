@@ -1,17 +1,9 @@
-//! Where TaskingVX's options go, what it says of one, and its fixed tests.
-ghost use Rattle.std.specs.Prelude.{◌≡◌, IfOk};
-ghost use Rattle.scl_text.specs.Records.{outcome_of};
-ghost use Rattle.scl_small.specs.TaskingReading.{tested};
-
+//! Where TaskingVX's options go, what it says of one, and the flag of its command.
 use super::args::{ArgData, Kind};
-use crate::finish::recorded;
 use crate::place::{Place, Placed, refused_by_place};
 use crate::rules::Rules;
-use scl_args::{Argument, Options};
-use scl_text::Mem;
-use scl_text::records::{CompilerArguments, ParsedArguments};
+use scl_args::Argument;
 use scl_text::refusal::Refusal;
-use std::alloc::Global;
 
 impl Placed for ArgData {
     ghost use Rattle.scl_small.specs.TaskingReading.{place};
@@ -35,22 +27,18 @@ impl Placed for ArgData {
 }
 
 impl Rules for ArgData {
-    ghost use Rattle.scl_small.specs.TaskingReading.{verdict, tested};
+    ghost use Rattle.std.specs.Prelude.{codes};
+    ghost use Rattle.scl_small.specs.TaskingReading.{verdict};
 
     ghost verdict = { verdict };
 
-    ghost tested = { tested };
+    ghost compile_flag_for = { λ _. codes "-c" };
 
     fn judge(option: &Argument<ArgData>) -> Option<Refusal> {
         refused_by_place(option)
     }
 
-    fn test(alloc: Global, options: Options<ArgData>) -> Mem<CompilerArguments<ParsedArguments>>
-        ensures { IfOk result (λ answer. outcome_of answer ≡ tested options) }
-    {
-        match options.last_flag(&Place::CompileFlag) {
-            Some(_) => recorded(alloc, options, "-c"),
-            None => Ok(CompilerArguments::NotCompilation),
-        }
+    fn compile_flag(_flag: &'static str) -> &'static str {
+        "-c"
     }
 }
