@@ -24,7 +24,7 @@ use Rattle.scl_msvc_reading.specs.declared.msvc.place.Place.TheVariants as place
 use Rattle.scl_msvc_reading.specs.Again.{is_list, carried, carried_inner}
 use Rattle.scl_msvc.specs.Building.{command_words, input_word, input_words, language_flag, list_words}
 use Rattle.scl_msvc_reading.specs.FixedTests.{Found}
-use Rattle.scl_msvc_reading.specs.Inners.{Inner, inner_list, inner_place, inner_words_at, goes_inside_to}
+use Rattle.scl_msvc_reading.specs.Inners.{BothInner, inner_list, inner_place, inner_words_at, goes_inside_to}
 use Rattle.scl_msvc_reading.specs.Kinds.{of, is_input}
 use Rattle.scl_msvc.specs.NoFiles.{CommandNamesNoFile, MsvcCommandsNameNoFile}
 use Rattle.scl_msvc_reading.specs.Places.{place, goes_to, side_of_flag}
@@ -91,7 +91,7 @@ module _ (is_clang : Bool) (ws : List (List ℕ)) where
   abbrev os : List (Seen Kind)
   os = map shown (cut (owner_in msvc_tables) is_clang ws).options
 
-  module _ (none : Each GivesNoFile os) (inner : Inner) (inside : (there : Place) → is_list there ≡ true → NameNone (inner_words_at there inner)) where
+  module _ (none : Each GivesNoFile os) (inner : BothInner) (inside : (there : Place) → is_list there ≡ true → NameNone (inner_words_at there inner)) where
     at-none : (there : Place) → is_list there ≡ true → NameNone (all_words_at there os inner)
     at-none there lists =
         let p = goes_to there in
@@ -126,7 +126,7 @@ command-none : (is_clang : Bool) (directory : List ℕ) (view : Viewed) (words :
 command-none is_clang directory view words p object e has_object none inner_none unnamed =
     let r = is-read is_clang directory view words p e in
     let os = map shown (options_of is_clang directory view words) in
-    let inner : Inner = record { xclang = map shown (inner_options_of kind.XClang directory view os); clang = map shown (inner_options_of kind.Clang directory view os) } in
+    let inner : BothInner = record { xclang = map shown (inner_options_of kind.XClang directory view os); clang = map shown (inner_options_of kind.Clang directory view os) } in
     let found = object-found directory view os inner r.tested in
     let both : Some r.tested.object ≡ Some object = sym found ∙ (ap object_of r.is ∙ has_object) in
     let same : r.tested.object ≡ object = cc in

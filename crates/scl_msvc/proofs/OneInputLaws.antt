@@ -21,7 +21,7 @@ use Rattle.scl_msvc_reading.specs.Again.{is_list}
 use Rattle.scl_msvc.specs.Building.{command_words}
 use Rattle.scl_msvc_reading.specs.Environment.{surrounded}
 use Rattle.scl_msvc_reading.specs.FixedTests.{Found}
-use Rattle.scl_msvc_reading.specs.Inners.{Inner}
+use Rattle.scl_msvc_reading.specs.Inners.{BothInner}
 use Rattle.scl_msvc_reading.specs.Kinds.{any, is_input, language_said, language_inputs}
 use Rattle.scl_msvc_reading.specs.Places.{place, goes_to}
 use Rattle.scl_msvc.specs.ReadAgain as msvc
@@ -117,7 +117,7 @@ one_input is_clang directory pairs view words p object e has_object =
     let os = map shown (options_of is_clang directory view all) in
     let xclang = inner_options_of kind.XClang directory view os in
     let clang = inner_options_of kind.Clang directory view os in
-    let inside : Inner = record { xclang = map shown xclang; clang = map shown clang } in
+    let inside : BothInner = record { xclang = map shown xclang; clang = map shown clang } in
     let made = parts p object in
     let r = is-read is_clang directory view all p given.2 in
     texts-named (cut (owner_in msvc_tables) is_clang (command_words p object)).options

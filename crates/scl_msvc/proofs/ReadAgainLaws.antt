@@ -98,7 +98,7 @@ module _ (is_clang : Bool) (ws : List (List ℕ)) (xclang clang : List (Cut gnu.
   abbrev said : Said Kind gnu.Kind
   said = msvc.said os xclang clang
 
-  abbrev inside : inners.Inner
+  abbrev inside : inners.BothInner
   inside = record { xclang = map shown xclang; clang = map shown clang }
 
   are-inners : Each (IsInner msvc_tables is_clang clang_tables again.carried again.carried_inner side_of_flag wrapped) said.inners

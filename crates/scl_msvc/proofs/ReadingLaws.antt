@@ -29,7 +29,7 @@ use Rattle.scl_msvc_reading.specs.declared.msvc.data.Kind.{Kind}
 use Rattle.scl_msvc_reading.specs.declared.msvc.data.Kind.TheVariants as kind
 use Rattle.scl_msvc_reading.specs.FixedTests as tests
 use Rattle.scl_msvc_reading.specs.FixedTests.{Found, found, input_unless, language_of, module_verdict, program_database}
-use Rattle.scl_msvc_reading.specs.Inners.{Inner, inner_verdict}
+use Rattle.scl_msvc_reading.specs.Inners.{BothInner, inner_verdict}
 use Rattle.scl_msvc_reading.specs.Kinds.{of, any, is_input, last_flag, last_text, language_said, explicit_language, language_inputs}
 use Rattle.scl_msvc.specs.ReadAgain.{options_of, inner_options_of}
 use Rattle.scl_msvc_reading.specs.Readings.{inner_options, both_inner, read, reading, recorded}
@@ -111,7 +111,7 @@ module _ (is_clang : Bool) (directory : List ℕ) (view : Viewed) (words : List 
   abbrev os : List (Seen Kind)
   os = map shown (options_of is_clang directory view words)
 
-  abbrev pub inner : Inner
+  abbrev pub inner : BothInner
   inner = record { xclang = map shown (inner_options_of kind.XClang directory view os); clang = map shown (inner_options_of kind.Clang directory view os) }
 
   pub record IsRead : Type 0 where
@@ -150,9 +150,9 @@ module _ (is_clang : Bool) (directory : List ℕ) (view : Viewed) (words : List 
       let y = bind-ok (inner_options kind.Clang directory view os) _ b.0 x.2 in
       let same_x = inner-ok kind.XClang x.0 x.1 in
       let same_y = inner-ok kind.Clang y.0 y.1 in
-      let made : Inner = record { xclang = x.0; clang = y.0 } in
+      let made : BothInner = record { xclang = x.0; clang = y.0 } in
       let is : made ≡ b.0 = cc (y.2) in
-      let inside : inner ≡ b.0 = ap (λ xs. let i : Inner = record { xclang = xs; clang = inner.clang } in i) same_x ∙ (ap (λ ys. let i : Inner = record { xclang = x.0; clang = ys } in i) same_y ∙ is) in
+      let inside : inner ≡ b.0 = ap (λ xs. let i : BothInner = record { xclang = xs; clang = inner.clang } in i) same_x ∙ (ap (λ ys. let i : BothInner = record { xclang = x.0; clang = ys } in i) same_y ∙ is) in
       let i : recorded is_clang directory view os inner ≡ Ok p = ap (recorded is_clang directory view os) inside ∙ b.2 in
       let t = bind-ok (found is_clang os) _ p i in
       record {
@@ -168,7 +168,7 @@ module _ (is_clang : Bool) (directory : List ℕ) (view : Viewed) (words : List 
 
 -- ---- the object of a record
 
-pub object-found : (directory : List ℕ) (view : Viewed) (os : List (Seen Kind)) (inside : Inner) (f : Found) → object_of (record_of directory view os inside f) ≡ Some f.object
+pub object-found : (directory : List ℕ) (view : Viewed) (os : List (Seen Kind)) (inside : BothInner) (f : Found) → object_of (record_of directory view os inside f) ≡ Some f.object
 object-found directory view os inside f =
     let paths = output_paths os f in
     elim (paths.module_path) as (λ (m : Option (List ℕ)). path_at (outputs (record paths { module_path = m })) (codes "obj") ≡ Some f.object) [ None ↦ refl | Some path ↦ refl ]

@@ -16,7 +16,7 @@ use Rattle.scl_msvc_reading.specs.declared.msvc.place.Place.TheVariants as place
 use Rattle.scl_msvc_reading.specs.Verdicts.{flag_verdict}
 
 -- the options of the two inner command lines
-pub record Inner : Type 0 where
+pub record BothInner : Type 0 where
   pub xclang : List (Seen Kind)
   pub clang : List (Seen Kind)
 
@@ -75,7 +75,7 @@ abbrev pub inner_list : Place → List (Seen Kind) → List (List ℕ)
 inner_list there inner = list side_of_flag (goes_inside_to there) inner
 
 -- those of the options behind `-Xclang`, each word behind one; then those of the options behind `-clang:`, each word joined to one
-abbrev pub inner_words_at : Place → Inner → List (List ℕ)
+abbrev pub inner_words_at : Place → BothInner → List (List ℕ)
 inner_words_at there inner =
     flat_map (wrapped_apart (codes "-Xclang")) (inner_list there inner.xclang) ++ flat_map (wrapped_joined (codes "-clang:")) (inner_list there inner.clang)
 

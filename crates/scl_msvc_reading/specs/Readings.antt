@@ -13,7 +13,7 @@ use Rattle.scl_msvc_reading.specs.declared.msvc.data.Kind.{Kind}
 use Rattle.scl_msvc_reading.specs.declared.msvc.data.Kind.TheVariants as kind
 use Rattle.scl_msvc_reading.specs.Environment.{surrounded}
 use Rattle.scl_msvc_reading.specs.FixedTests.{found}
-use Rattle.scl_msvc_reading.specs.Inners.{Inner, inner_verdict}
+use Rattle.scl_msvc_reading.specs.Inners.{BothInner, inner_verdict}
 use Rattle.scl_msvc_reading.specs.Kinds.{of}
 use Rattle.scl_msvc_reading.specs.Recordings.{record_of}
 use Rattle.scl_msvc_reading.specs.Rows.{msvc_tables}
@@ -24,14 +24,14 @@ abbrev pub inner_options : Kind → List ℕ → Viewed → List (Seen Kind) →
 inner_options k directory view os = inner_reading empty_value inner_verdict argument_parse directory view (texts (of (k ∷ [])) os)
 
 -- those of the two
-abbrev pub both_inner : List ℕ → Viewed → List (Seen Kind) → Result Inner Verdict
+abbrev pub both_inner : List ℕ → Viewed → List (Seen Kind) → Result BothInner Verdict
 both_inner directory view os = do
   xclang ← inner_options kind.XClang directory view os
   clang ← inner_options kind.Clang directory view os
   Ok (record { xclang = xclang; clang = clang })
 
 -- the tests, and the record of what they find
-abbrev pub recorded : Bool → List ℕ → Viewed → List (Seen Kind) → Inner → Result Parsed Verdict
+abbrev pub recorded : Bool → List ℕ → Viewed → List (Seen Kind) → BothInner → Result Parsed Verdict
 recorded is_clang directory view os inner = do
   f ← found is_clang os
   Ok (record_of directory view os inner f)

@@ -19,7 +19,7 @@ use Rattle.scl_msvc_reading.specs.declared.msvc.data.Kind.TheVariants as kind
 use Rattle.scl_msvc_reading.specs.declared.msvc.place.Place.{Place}
 use Rattle.scl_msvc_reading.specs.declared.msvc.place.Place.TheVariants as places
 use Rattle.scl_msvc_reading.specs.FixedTests.{Found}
-use Rattle.scl_msvc_reading.specs.Inners.{Inner, inner_words_at}
+use Rattle.scl_msvc_reading.specs.Inners.{BothInner, inner_words_at}
 use Rattle.scl_msvc_reading.specs.Kinds.{is_input, hash_role, last_text, any, language_inputs}
 use Rattle.scl_msvc_reading.specs.Places.{words_at}
 
@@ -55,19 +55,19 @@ outputs o =
 -- ---- the record
 
 -- the words at a place: those of the outer options, then those of the inner ones
-abbrev pub all_words_at : Place → List (Seen Kind) → Inner → List (List ℕ)
+abbrev pub all_words_at : Place → List (Seen Kind) → BothInner → List (List ℕ)
 all_words_at there os inner = words_at there os ++ inner_words_at there inner
 
 -- the files on whose contents the outcome depends, as the outer options name them, then the inner ones
-abbrev pub all_hashed : List (Seen Kind) → Inner → List Hashed
+abbrev pub all_hashed : List (Seen Kind) → BothInner → List Hashed
 all_hashed os inner = hashed_as hash_role os ++ gnu.hashed inner.xclang ++ gnu.hashed inner.clang
 
 -- whether the program will write a profile of its runs
-abbrev pub writes_profile : Inner → Bool
+abbrev pub writes_profile : BothInner → Bool
 writes_profile inner = gnu.any (inner_kind.ProfileGenerate ∷ []) inner.xclang || gnu.any (inner_kind.ProfileGenerate ∷ []) inner.clang
 
 -- inner options give words, hashed files and that a profile is written
-abbrev pub record_of : List ℕ → Viewed → List (Seen Kind) → Inner → Found → Parsed
+abbrev pub record_of : List ℕ → Viewed → List (Seen Kind) → BothInner → Found → Parsed
 record_of directory view os inner f = record {
   input = f.input;
   double_dash_input = is_behind_dashes is_input os;
