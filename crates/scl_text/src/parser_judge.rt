@@ -26,7 +26,7 @@ pub trait Refuses<T: ArgumentValue> {
 }
 
 /// The judge of a parser: it refuses the options that `R` refuses, and an empty value and a last flag without its value
-/// as every parser does (docs/RULES.md, Lists of options).
+/// as every parser does (docs/RULES.md, Readings).
 #[derive(Clone, Copy)]
 pub struct ParserJudge<R>(pub R);
 
