@@ -6,6 +6,7 @@ use Rattle.scl_values.specs.declared.argument.ArgDisposition.TheVariants as how
 use Rattle.scl_values.specs.Row.{Row, Shape, bare, apart, joined, either, joins}
 use Rattle.scl_values.specs.Cuts.{mark, Cut, raw, unknown, flag, with_value, starts_with_dash, after_delimiter, cut}
 use Rattle.scl_values.specs.Seen.{Seen, shown}
+use Rattle.scl_args.specs.Options.{dash_words}
 use Rattle.scl_values.specs.Each.{Each}
 
 -- whether the word ends the options
@@ -102,5 +103,4 @@ FirstRaw own dashes (with_value row v h ∷ cs) = FirstRaw own dashes cs
 
 -- the input, behind the mark if that is wanted
 abbrev pub input_words : Bool → List ℕ → List (List ℕ)
-input_words true x = mark ∷ (x ∷ [])
-input_words false x = x ∷ []
+input_words marked x = dash_words marked ++ x ∷ []

@@ -1,14 +1,15 @@
 -- What definitions say of a finished list of options: filters, last ones, lists of words, a first verdict.
-use Rattle.std.specs.Prelude.{ℕ, ◌==◌, ◌||◌, codes, Vec, Bool, true, false, List, [], ◌∷◌, ◌++◌, map, filter, length, nat_eq, Option, None, Some, Result, Ok, Err, if◌then◌else◌}
+use Rattle.std.specs.Prelude.{ℕ, ◌==◌, ◌||◌, Vec, Bool, true, false, List, [], ◌∷◌, ◌++◌, map, filter, length, nat_eq, Option, None, Some, Result, Ok, Err, if◌then◌else◌}
 use Rattle.std.specs.List.{flat_map, list_any}
-use Rattle.std.specs.Option.{option_or}
+use Rattle.std.specs.Option.{option_map, option_or}
 use Rattle.std.specs.Str.{bytes_eq}
 use Rattle.std.specs.declared.alloc.Global.{Global}
 use Rattle.scl_values.specs.declared.argument.ArgDisposition.TheVariants as how
 use Rattle.scl_values.specs.declared.argument.Argument.{Argument}
 use Rattle.scl_values.specs.declared.argument.NormalizedDisposition.{NormalizedDisposition}
 use Rattle.scl_values.specs.declared.argument.NormalizedDisposition.TheVariants as side
-use Rattle.scl_values.specs.Seen.{Seen, Raw, Unknown, Known, seen, text_of}
+use Rattle.scl_values.specs.Cuts.{mark}
+use Rattle.scl_values.specs.Seen.{Seen, Raw, Unknown, Known, seen, flag_of, text_of}
 use Rattle.scl_values.specs.Spell.{normal_how, spelled}
 
 -- ---- one option
@@ -44,9 +45,14 @@ names_file (Known f k v (Some (how.CanBeSeparated d))) = begins_with_at v
 
 -- whether the option is the raw word --
 abbrev pub is_dashes : {K : Type 0} → Seen K → Bool
-is_dashes (Raw w) = bytes_eq w (codes "--")
+is_dashes (Raw w) = bytes_eq w mark
 is_dashes (Unknown w) = false
 is_dashes (Known f k v h) = false
+
+-- `--`, where the input stands behind it
+abbrev pub dash_words : Bool → List (List ℕ)
+dash_words true = mark ∷ []
+dash_words false = []
 
 -- the option with its value on the side of its flag, where it may stand either way
 abbrev pub normal_on : {K : Type 0} → (List ℕ → NormalizedDisposition) → Seen K → Seen K
@@ -72,6 +78,14 @@ last (x ∷ xs) = option_or (last xs) (Some x)
 -- of the options that pass the test, the last
 abbrev pub last_by : {K : Type 0} → (Seen K → Bool) → List (Seen K) → Option (Seen K)
 last_by p os = last (filter p os)
+
+-- the flag of the last option that passes the test
+abbrev pub last_flag : {K : Type 0} → (Seen K → Bool) → List (Seen K) → Option (List ℕ)
+last_flag p os = option_map flag_of (last_by p os)
+
+-- the text of the last option that passes the test
+abbrev pub last_text : {K : Type 0} → (Seen K → Bool) → List (Seen K) → Option (List ℕ)
+last_text p os = option_map text_of (last_by p os)
 
 -- the texts of the options that pass the test, in order
 abbrev pub texts : {K : Type 0} → (Seen K → Bool) → List (Seen K) → List (List ℕ)

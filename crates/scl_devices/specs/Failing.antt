@@ -8,8 +8,8 @@ pub record Giving : Type 0 where
   pub calls : ℕ
 
 -- no call is left, or a call may give none
-abbrev pub GivesNone : Giving → Type 0
-GivesNone r = (r.calls ≡ 0) ⊎ (r.most ≡ 0)
+abbrev pub Fails : Giving → Type 0
+Fails r = (r.calls ≡ 0) ⊎ (r.most ≡ 0)
 
 -- how many bytes a call with so much room gives
 abbrev pub given : Giving → ℕ → ℕ
@@ -19,17 +19,17 @@ given r room = min r.most (min (length r.bytes) room)
 abbrev pub after_read : Giving → ℕ → Giving
 after_read r n = record r { bytes = drop n r.bytes; calls = r.calls - 1 }
 
--- the bytes that were taken, the room that is left, the most that a call takes, and how many calls are left
+-- the bytes that were taken, the rest of the slice, the most that a call takes, and how many calls are left
 pub record Taking : Type 0 where
   pub bytes : List ℕ
-  pub room : ℕ
+  pub rest : List ℕ
   pub most : ℕ
   pub calls : ℕ
 
 -- how many of so many bytes a call takes
 abbrev pub taken : Taking → ℕ → ℕ
-taken w len = min w.most (min len w.room)
+taken w len = min w.most (min len (length w.rest))
 
 -- the writer after a call that took so many of these bytes
 abbrev pub after_write : Taking → List ℕ → ℕ → Taking
-after_write w buf n = record w { bytes = w.bytes ++ take n buf; room = w.room - n; calls = w.calls - 1 }
+after_write w buf n = record w { bytes = w.bytes ++ take n buf; rest = drop n w.rest; calls = w.calls - 1 }

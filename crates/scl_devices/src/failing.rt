@@ -3,7 +3,7 @@ ghost use Rattle.std.specs.Prelude.{◌≡◌, ◌-◌, ◌↔◌, ◌++◌, [],
 ghost use Rattle.std.specs.Io.{ReadsAtMost, WritesAtMost};
 ghost use Rattle.std.specs.Io.KnownBytes.{ReadConsumes, WriteAppends, Keeps};
 ghost use Rattle.std.specs.IoError.{error_kind};
-ghost use Rattle.scl_devices.specs.Failing.{GivesNone, given, after_read, taken, after_write};
+ghost use Rattle.scl_devices.specs.Failing.{Fails, given, after_read, taken, after_write};
 
 use std::io;
 use std::io::{ErrorKind, Read, Write};
@@ -42,7 +42,7 @@ impl Read for FailingReader<'_> {
     fn read(&mut self, buf: &mut [u8]) -> io::Result<usize>
         ensures bound { ReadsAtMost result buf.new }
         ensures bytes { ReadConsumes (Some self.old.bytes) (Some self.new.bytes) result buf.new }
-        ensures fails { IsErr result ↔ GivesNone self.old }
+        ensures fails { IsErr result ↔ Fails self.old }
         ensures count { IfOk result (λ n. n ≡ given self.old (length buf.old)) }
         ensures copied { IfOk result (λ n. buf.new ≡ take n self.old.bytes ++ drop n buf.old) }
         ensures rest { IfOk result (λ n. self.new ≡ after_read self.old n) }
@@ -62,8 +62,8 @@ impl Read for FailingReader<'_> {
 }
 
 /// A writer into a slice that takes at most so many bytes a call, and fails after so many calls; it takes no memory
-/// (docs/RULES.md, Devices). A clause sees the bytes that were taken, the room and the calls that are left, and the
-/// most of a call.
+/// (docs/RULES.md, Devices). A clause sees the bytes that were taken, the rest of the slice, the calls that are left, and
+/// the most of a call.
 #[derive(Drop)]
 pub struct FailingWriter<'a> {
     slice: &'a mut [u8],
@@ -73,12 +73,12 @@ pub struct FailingWriter<'a> {
 }
 
 impl<'a> Model for FailingWriter<'a> {
-    ghost use Rattle.std.specs.Prelude.{◌≤◌, ◌-◌, length, take};
+    ghost use Rattle.std.specs.Prelude.{◌≤◌, length, take, drop};
     ghost use Rattle.scl_devices.specs.Failing.{Taking};
 
     ghost Value = { Taking };
 
-    ghost view = { λ w. record { bytes = take w.written w.slice.now; room = length w.slice.now - w.written; most = w.most; calls = w.calls } };
+    ghost view = { λ w. record { bytes = take w.written w.slice.now; rest = drop w.written w.slice.now; most = w.most; calls = w.calls } };
 
     ghost invariant = { λ w. w.written ≤ length w.slice.now };
 }
@@ -87,7 +87,7 @@ impl<'a> FailingWriter<'a> {
     /// Takes bytes to the front of the slice, at most `most` of them a call and as many as fit, and fails after so
     /// many calls (docs/RULES.md, Devices).
     pub fn new(slice: &'a mut [u8], most: usize, calls: u64) -> FailingWriter<'a>
-        ensures { result ≡ record { bytes = []; room = length slice.old; most = most; calls = calls } }
+        ensures { result ≡ record { bytes = []; rest = slice.old; most = most; calls = calls } }
     {
         FailingWriter {
             slice,

@@ -19,16 +19,11 @@ pub fn write_whole<W: Write>(writer: &mut Counted<W>, text: &[u8]) -> Result<(),
     while written < text.len() {
         let (_, rest) = text.split_at(written);
         let taken = match writer.write(rest) {
-            Ok(taken) => taken,
-            Err(_) => return Err(WriteFault {
+            Ok(taken) if taken > 0 => taken,
+            Ok(_) | Err(_) => return Err(WriteFault {
                 written: written as u64,
             }),
         };
-        if taken == 0 {
-            return Err(WriteFault {
-                written: written as u64,
-            });
-        }
         written += taken;
     }
     Ok(())

@@ -3,7 +3,7 @@ use Rattle.std.proofs.Common.{◌≡◌, ℕ, Bool, true, false, List, [], ◌�
 use Rattle.std.specs.Prelude.{codes, is_some, unwrap_or}
 use Rattle.scl_values.specs.Cuts.{Cut, cut}
 use Rattle.scl_values.specs.Each.{Each}
-use Rattle.scl_args.specs.Options.{side_of_flag, texts}
+use Rattle.scl_args.specs.Options.{dash_words, side_of_flag, texts}
 use Rattle.scl_values.specs.Row.{Row}
 use Rattle.scl_values.specs.Seen.{Seen, shown, flag_of, text_of}
 use Rattle.scl_values.specs.Tables.{owner_in, all_rows}
@@ -17,7 +17,7 @@ use Rattle.scl_text.specs.declared.records.CCompilerKind.{CCompilerKind}
 use Rattle.scl_text.specs.declared.records.CCompilerKind.TheVariants as compilers
 use Rattle.scl_text.specs.declared.records.ColorMode.{ColorMode}
 use Rattle.scl_text.specs.declared.records.ColorMode.TheVariants as colors
-use Rattle.scl_text.specs.Commands.{dash_words, object_of}
+use Rattle.scl_text.specs.Commands.{object_of}
 use Rattle.scl_files.specs.Expand.{expand}
 use Rattle.scl_text.specs.Languages.{gcc_text, clang_text}
 use Rattle.scl_text.specs.Records.{Parsed}

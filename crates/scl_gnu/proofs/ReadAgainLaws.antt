@@ -6,7 +6,7 @@ use Rattle.std.specs.Prelude.{codes, is_some, unwrap_or}
 use Rattle.std.specs.Str.{bytes_eq}
 use Rattle.scl_values.specs.Cuts.{Cut, cut}
 use Rattle.scl_values.specs.Each.{Each}
-use Rattle.scl_args.specs.Options.{is_behind_dashes, side_of_flag, texts}
+use Rattle.scl_args.specs.Options.{dash_words, is_behind_dashes, side_of_flag, texts}
 use Rattle.scl_values.specs.Row.{Row}
 use Rattle.scl_values.specs.Seen.{Seen, Plain, shown, flag_of}
 use Rattle.scl_values.specs.Seen as plain
@@ -27,7 +27,7 @@ use Rattle.scl_text.specs.declared.language.Language.{Language}
 use Rattle.scl_text.specs.declared.records.CCompilerKind.{CCompilerKind}
 use Rattle.scl_text.specs.declared.records.ColorMode.{ColorMode}
 use Rattle.scl_text.specs.declared.records.ColorMode.TheVariants as colors
-use Rattle.scl_text.specs.Commands.{dash_words, object_of}
+use Rattle.scl_text.specs.Commands.{object_of}
 use Rattle.scl_files.specs.Expand.{expand}
 use Rattle.scl_files.specs.Paths.{with_extension}
 use Rattle.scl_text.specs.Records.{Parsed}

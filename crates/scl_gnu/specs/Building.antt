@@ -1,8 +1,9 @@
 -- The words of a compile command.
 use Rattle.std.specs.Prelude.{ℕ, List, [], ◌∷◌, ◌++◌, Option, None, Some, codes}
+use Rattle.scl_args.specs.Options.{dash_words}
 use Rattle.scl_text.specs.declared.records.ColorMode.{ColorMode}
 use Rattle.scl_text.specs.declared.records.ColorMode.TheVariants as colors
-use Rattle.scl_text.specs.Commands.{command_by, dash_words}
+use Rattle.scl_text.specs.Commands.{command_by}
 use Rattle.scl_text.specs.Records.{Parsed}
 
 abbrev pub language_words : Option (List ℕ) → List (List ℕ)

@@ -4,7 +4,7 @@ use Rattle.std.specs.Option.{option_and_then}
 use Rattle.std.specs.Prelude.{codes}
 use Rattle.scl_values.specs.Cuts.{cut}
 use Rattle.scl_values.specs.Each.{Each}
-use Rattle.scl_args.specs.Options.{first_is, is_behind_dashes, is_dashes, texts}
+use Rattle.scl_args.specs.Options.{dash_words, first_is, is_behind_dashes, is_dashes, texts}
 use Rattle.scl_values.specs.Row.{Row, row, either, joined}
 use Rattle.scl_values.specs.Seen.{Seen, Raw, Unknown, Known, Plain, shown, text_of}
 use Rattle.scl_values.specs.Seen as plain
@@ -23,7 +23,6 @@ use Rattle.scl_text.specs.declared.language.Language.TheVariants as languages
 use Rattle.scl_msvc_reading.specs.declared.msvc.data.Kind.{Kind}
 use Rattle.scl_msvc_reading.specs.declared.msvc.data.Kind.TheVariants as kind
 use Rattle.scl_msvc.specs.Building.{language_flag}
-use Rattle.scl_text.specs.Commands.{dash_words}
 use Rattle.scl_msvc_reading.specs.Kinds.{any, is_input, language_said, explicit_language, language_inputs}
 use Rattle.scl_msvc.specs.ReadAgain.{input_option, mark_option}
 use Rattle.scl_msvc_reading.specs.Rows.{msvc_rows, msvc_tables}

@@ -3,7 +3,7 @@ use Rattle.std.proofs.Common.{◌≡◌, ℕ, Bool, true, false, List, [], ◌�
 use Rattle.std.specs.Prelude.{codes, unwrap_or}
 use Rattle.scl_values.specs.Cuts.{cut}
 use Rattle.scl_values.specs.Each.{Each}
-use Rattle.scl_args.specs.Options.{texts, ◌>>=◌}
+use Rattle.scl_args.specs.Options.{dash_words, texts, ◌>>=◌}
 use Rattle.scl_args.specs.Options as listed
 use Rattle.scl_values.specs.Seen.{Seen, shown, flag_of}
 use Rattle.scl_values.specs.Tables.{owner_in, all_rows}
@@ -12,7 +12,7 @@ use Rattle.scl_again.proofs.NoFileLaws.{each-append, HasPlainFlag, flag-none, pl
 use Rattle.scl_files.specs.declared.expand.ExpansionKind.TheVariants as expansions
 use Rattle.scl_text.specs.declared.language.Language.{Language}
 use Rattle.scl_text.specs.declared.language.Language.TheVariants as languages
-use Rattle.scl_text.specs.Commands.{dash_words, object_of}
+use Rattle.scl_text.specs.Commands.{object_of}
 use Rattle.scl_files.specs.Expand.{expand}
 use Rattle.scl_text.specs.Records.{Parsed}
 use Rattle.scl_files.specs.Views.{Viewed}

@@ -1,10 +1,11 @@
 -- The words of a compile command, and whether its outcome may be kept.
 use Rattle.std.specs.Prelude.{ℕ, List, [], ◌∷◌, ◌++◌, Option, None, Some, codes, if◌then◌else◌}
+use Rattle.scl_args.specs.Options.{dash_words}
 use Rattle.scl_text.specs.declared.language.Language.{Language}
 use Rattle.scl_text.specs.declared.language.Language.TheVariants as languages
 use Rattle.scl_text.specs.declared.records.Cacheable.{Cacheable}
 use Rattle.scl_text.specs.declared.records.Cacheable.TheVariants as cacheables
-use Rattle.scl_text.specs.Commands.{command_by, dash_words}
+use Rattle.scl_text.specs.Commands.{command_by}
 use Rattle.scl_text.specs.Outputs.{path_at}
 use Rattle.scl_files.specs.Paths.{join}
 use Rattle.scl_text.specs.Records.{Parsed}

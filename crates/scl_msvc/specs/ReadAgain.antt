@@ -1,7 +1,7 @@
 -- Commands of Msvc that are read again.
 use Rattle.std.specs.Prelude.{◌≡◌, ℕ, Bool, true, false, List, [], ◌∷◌, ◌++◌, map, codes, Some, Ok}
-use Rattle.scl_values.specs.Cuts.{mark, Cut, cut}
-use Rattle.scl_args.specs.Options.{texts}
+use Rattle.scl_values.specs.Cuts.{Cut, cut}
+use Rattle.scl_args.specs.Options.{dash_words, texts}
 use Rattle.scl_values.specs.Seen.{Seen, Plain, shown}
 use Rattle.scl_values.specs.Seen as plain
 use Rattle.scl_values.specs.Tables.{owner_in}
@@ -39,8 +39,7 @@ input_option false language input = plain.raw input
 
 -- the mark that ends the options, if it is wanted
 abbrev pub mark_option : Bool → List (Plain Kind)
-mark_option true = plain.raw mark ∷ []
-mark_option false = []
+mark_option marked = map plain.raw (dash_words marked)
 
 -- the list of the outer and inner options that go to the place; nothing is added
 abbrev pub list_of : Place → CommandList Kind gnu.Kind

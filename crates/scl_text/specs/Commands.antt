@@ -1,5 +1,5 @@
 -- What a builder makes: a command, word by word.
-use Rattle.std.specs.Prelude.{ℕ, ◌≡◌, Bool, true, false, List, [], ◌∷◌, map, Option, Vec, codes}
+use Rattle.std.specs.Prelude.{ℕ, ◌≡◌, List, map, Option, Vec, codes}
 use Rattle.std.specs.Option.{option_map}
 use Rattle.std.specs.declared.alloc.Global.{Global}
 use Rattle.scl_text.specs.Outputs.{path_at}
@@ -26,8 +26,3 @@ object_of p = path_at p.outputs (codes "obj")
 -- the words of a record's command, where it has an object file, from its words for that file
 abbrev pub command_by : (Parsed → List ℕ → List (List ℕ)) → Parsed → Option (List (List ℕ))
 command_by words p = option_map (words p) (object_of p)
-
--- `--`, where the input stands behind it
-abbrev pub dash_words : Bool → List (List ℕ)
-dash_words true = codes "--" ∷ []
-dash_words false = []
