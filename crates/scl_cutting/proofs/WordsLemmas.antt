@@ -103,8 +103,8 @@ module _ {K T : Type 0} (make : K → List ℕ → Result T ArgParseError → Ty
     (keeps : (k : K) (word : List ℕ) (v : T) → make k word (Ok v) → (kind_of v ≡ k) × (word_of v ≡ word))
     (exact : (k : K) (word : List ℕ) (made : Result T ArgParseError) → (holds k ≡ true) ⊎ (word ≡ []) → make k word made → IsOkAnd made (λ v. (kind_of v ≡ k) × (word_of v ≡ word))) where
   never_fails : (c : Cut K) (e : ArgParseError) → CutHolds holds c → FailsAt make e c → ⊥
-  never_fails (raw w) e h f = f tt
-  never_fails (unknown w) e h f = f tt
+  never_fails (raw w) e h f = f
+  never_fails (unknown w) e h f = f
   never_fails (flag row) e h f = exact row.kind [] (Err e) (inr refl) f
   never_fails (with_value row v how) e h f = exact row.kind v (Err e) (inl h) f
 

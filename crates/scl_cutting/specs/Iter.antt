@@ -29,8 +29,8 @@ module _ {T K : Type 0} (make : K → List ℕ → Result T ArgParseError → Ty
 
   -- making the option's value fails
   abbrev pub FailsAt : ArgParseError → Cut K → Type 0
-  FailsAt e (raw w) = Unit {0} → ⊥
-  FailsAt e (unknown w) = Unit {0} → ⊥
+  FailsAt e (raw w) = ⊥
+  FailsAt e (unknown w) = ⊥
   FailsAt e (flag row) = make row.kind [] (Err e)
   FailsAt e (with_value row word how) = make row.kind word (Err e)
 

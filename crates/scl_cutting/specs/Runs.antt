@@ -24,7 +24,7 @@ items_of options (Some e) = after_options options (Err e ∷ [])
 abbrev pub left_of : {K : Type 0} → Cutter (IntoIter (Vec ℕ Global) Global) K → Cutting K
 left_of s = cut_left s (words_of (into_iter_items s.arguments))
 
--- whether cutting ended because the last flag lacks its value, where no memory was wanting
+-- whether an error ended cutting, where no memory was wanting; where every value can be made, that is a last flag without its value
 abbrev pub dangles_by : Option ArgParseError → Option Bool
 dangles_by None = Some false
 dangles_by (Some error.UnexpectedEndOfArgs) = Some true

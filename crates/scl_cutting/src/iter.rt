@@ -43,9 +43,9 @@ impl<I: Iterator<Item = Vec<u8>> + Drop, T: ArgumentValue, S: SearchableArgInfo<
 
     ghost next_gives = { λ s r t.
         CutsNext I.next_gives T.make_gives
-        (record { arguments = s.arguments; own = owner_in (S.tables s.arg_info); dashes = s.double_dashes; only_raw = s.only_raw; ended = s.ended })
+        (cutter s.arguments (owner_in (S.tables s.arg_info)) s.double_dashes s.only_raw s.ended)
         r
-        (record { arguments = t.arguments; own = owner_in (S.tables t.arg_info); dashes = t.double_dashes; only_raw = t.only_raw; ended = t.ended }) };
+        (cutter t.arguments (owner_in (S.tables t.arg_info)) t.double_dashes t.only_raw t.ended) };
 
     ghost remaining = { λ s. count_unless s.ended (I.remaining s.arguments) };
 

@@ -34,7 +34,7 @@ fn skip_delimiter(delimiter: Delimiter, word: &[u8], start: usize) -> usize
 {
     match delimiter {
         Some(byte) if start < word.len() && word[start] == byte => start + 1,
-        _ => start,
+        Some(_) | None => start,
     }
 }
 
@@ -87,10 +87,8 @@ fn make_flag<T: ArgumentValue>(alloc: Global, row: &ArgInfo<T>) -> ArgParseResul
     ensures made { Makes T.make_gives (flag (row_of row.now)) result }
     ensures delimiter { IfOk result (λ option. is_delimited_by_ascii option ≡ true) }
 {
-    match T::make(alloc, row.kind(), Vec::new(alloc)) {
-        Ok(value) => Ok(Argument::Flag(row.flag(), value)),
-        Err(error) => Err(error),
-    }
+    let value = T::make(alloc, row.kind(), Vec::new(alloc))?;
+    Ok(Argument::Flag(row.flag(), value))
 }
 
 fn make_with_value<T: ArgumentValue>(
@@ -102,10 +100,8 @@ fn make_with_value<T: ArgumentValue>(
     ensures made { Makes T.make_gives (with_value (row_of row.now) word.items disposition) result }
     ensures delimiter { IfOk result (λ option. is_delimited_by_ascii option ≡ has_ascii_delimiter (shape_of disposition)) }
 {
-    match T::make(alloc, row.kind(), word) {
-        Ok(value) => Ok(Argument::WithValue(row.flag(), value, disposition)),
-        Err(error) => Err(error),
-    }
+    let value = T::make(alloc, row.kind(), word)?;
+    Ok(Argument::WithValue(row.flag(), value, disposition))
 }
 
 fn make_joined<T: ArgumentValue>(
@@ -117,10 +113,7 @@ fn make_joined<T: ArgumentValue>(
     ensures made { Makes T.make_gives (with_value (row_of row.now) word.now disposition) result }
     ensures delimiter { IfOk result (λ option. is_delimited_by_ascii option ≡ has_ascii_delimiter (shape_of disposition)) }
 {
-    match Vec::from_slice(alloc, word) {
-        Ok(value) => make_with_value(alloc, row, value, disposition),
-        Err(_) => Err(ArgParseError::Memory),
-    }
+    make_with_value(alloc, row, Vec::from_slice(alloc, word)?, disposition)
 }
 
 fn over_on_error<T: ArgumentValue>(

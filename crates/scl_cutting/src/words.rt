@@ -56,7 +56,7 @@ pub fn cut_words<T: ArgumentValue, S: SearchableArgInfo<T> + Drop>(
     Ok((options, None))
 }
 
-/// Whether cutting ended because the last flag lacks its value.
+/// Whether an error ended cutting; where every value can be made, that is a last flag without its value.
 fn dangles_by(end: Option<ArgParseError>) -> Mem<bool>
     ensures { IfOk result (λ dangles. dangles_by end ≡ Some dangles) }
 {

@@ -4,11 +4,10 @@ use Rattle.std.specs.Cmp.Lexicographic.{pointwise, slice_cmp}
 use Rattle.std.specs.Ordering.{nat_cmp, is_gt, is_lt, ordering_then, ordering_reverse, MatchOrdering}
 use Rattle.std.specs.declared.cmp.Ordering.{Ordering}
 use Rattle.std.specs.declared.cmp.Ordering.TheVariants.{Less, Equal, Greater}
-use Rattle.std.specs.List.{starts_with}
+use Rattle.std.specs.List.{starts_with, common_prefix_len}
 use Rattle.std.proofs.lemmas.Cmp.{nat_list_cmp_total}
 use Rattle.scl_values.specs.Row.{Row, joins, fits}
 use Rattle.scl_values.specs.Tables.{is_table, comes_before, has_ascii_delimiter, longer, owner}
-use Rattle.scl_tables.specs.Common.{common}
 use Rattle.scl_tables.proofs.TablesLemmas.{owner_cons, longer_longer}
 
 abbrev pub cmp : List ℕ → List ℕ → Ordering
@@ -101,37 +100,37 @@ prefix_not_after (x ∷ xs) (y ∷ ys) h =
     ] (head x y)
 
 -- a prefix of the key that comes before another list, which does not come after the key, is shorter than that list, and no longer than what the list shares with the key
-pub prefix_before : (p r key : List ℕ) → IsPrefix p key → cmp p r ≡ Less → is_gt (cmp r key) ≡ false → (length p ≤ common r key) × (length p < length r)
+pub prefix_before : (p r key : List ℕ) → IsPrefix p key → cmp p r ≡ Less → is_gt (cmp r key) ≡ false → (length p ≤ common_prefix_len nat_eq r key) × (length p < length r)
 prefix_before [] [] key h l g = absurd (cc)
 prefix_before [] (y ∷ r) key h l g = (omega arith, omega arith)
 prefix_before (x ∷ p) r [] h l g = absurd h
 prefix_before (x ∷ p) [] (z ∷ key) h l g = absurd (cc)
 prefix_before (x ∷ p) (y ∷ r) (z ∷ key) h l g =
-    elim (nat_cmp x y) as (λ o. MatchOrdering o (x < y) (x ≡ y) (y < x) → ordering_then o (cmp p r) ≡ Less → (length (x ∷ p) ≤ common (y ∷ r) (z ∷ key)) × (length (x ∷ p) < length (y ∷ r))) [
-      | Less ↦ λ m _. elim (nat_cmp y z) as (λ o. MatchOrdering o (y < z) (y ≡ z) (z < y) → is_gt (ordering_then o (cmp r key)) ≡ false → (length (x ∷ p) ≤ common (y ∷ r) (z ∷ key)) × (length (x ∷ p) < length (y ∷ r))) [
+    elim (nat_cmp x y) as (λ o. MatchOrdering o (x < y) (x ≡ y) (y < x) → ordering_then o (cmp p r) ≡ Less → (length (x ∷ p) ≤ common_prefix_len nat_eq (y ∷ r) (z ∷ key)) × (length (x ∷ p) < length (y ∷ r))) [
+      | Less ↦ λ m _. elim (nat_cmp y z) as (λ o. MatchOrdering o (y < z) (y ≡ z) (z < y) → is_gt (ordering_then o (cmp r key)) ≡ false → (length (x ∷ p) ≤ common_prefix_len nat_eq (y ∷ r) (z ∷ key)) × (length (x ∷ p) < length (y ∷ r))) [
         | Less ↦ λ n _. let e = h.0 in absurd (omega arith)
         | Equal ↦ λ n _. let e = h.0 in absurd (omega arith)
         | Greater ↦ λ n q. absurd (cc)
       ] (head y z) g
-      | Equal ↦ λ m l'. elim (nat_cmp y z) as (λ o. MatchOrdering o (y < z) (y ≡ z) (z < y) → is_gt (ordering_then o (cmp r key)) ≡ false → (length (x ∷ p) ≤ common (y ∷ r) (z ∷ key)) × (length (x ∷ p) < length (y ∷ r))) [
+      | Equal ↦ λ m l'. elim (nat_cmp y z) as (λ o. MatchOrdering o (y < z) (y ≡ z) (z < y) → is_gt (ordering_then o (cmp r key)) ≡ false → (length (x ∷ p) ≤ common_prefix_len nat_eq (y ∷ r) (z ∷ key)) × (length (x ∷ p) < length (y ∷ r))) [
         | Less ↦ λ n _. let e = h.0 in absurd (omega arith)
         | Equal ↦ λ n q.
             let more = prefix_before p r key h.1 l' q in
             let test : (y == z) ≡ true = grind (arith, nat_tests) in
-            let le : length p ≤ common r key = more.0 in
-            (rw (test, common) (omega arith), omega (arith, more.1))
+            let le : length p ≤ common_prefix_len nat_eq r key = more.0 in
+            (rw (test, common_prefix_len) (omega arith), omega (arith, more.1))
         | Greater ↦ λ n _. let e = h.0 in absurd (omega arith)
       ] (head y z) g
       | Greater ↦ λ m l'. absurd (cc)
     ] (head x y) l
 
 -- a list that does not come after the key, and is no prefix of it, shares less than the key
-pub shares_less : (r key : List ℕ) → is_gt (cmp r key) ≡ false → common r key < length r → common r key < length key
+pub shares_less : (r key : List ℕ) → is_gt (cmp r key) ≡ false → common_prefix_len nat_eq r key < length r → common_prefix_len nat_eq r key < length key
 shares_less [] key g l = absurd (omega arith)
 shares_less (y ∷ r) [] g l = absurd (cc)
 shares_less (y ∷ r) (z ∷ key) g l =
-    elim (y == z) as (λ b. (y == z) ≡ b → cond b (suc (common r key)) 0 < length (y ∷ r) → cond b (suc (common r key)) 0 < length (z ∷ key)) [
-      | true ↦ λ e l'. elim (nat_cmp y z) as (λ o. MatchOrdering o (y < z) (y ≡ z) (z < y) → is_gt (ordering_then o (cmp r key)) ≡ false → suc (common r key) < length (z ∷ key)) [
+    elim (y == z) as (λ b. (y == z) ≡ b → cond b (1 + common_prefix_len nat_eq r key) 0 < length (y ∷ r) → cond b (1 + common_prefix_len nat_eq r key) 0 < length (z ∷ key)) [
+      | true ↦ λ e l'. elim (nat_cmp y z) as (λ o. MatchOrdering o (y < z) (y ≡ z) (z < y) → is_gt (ordering_then o (cmp r key)) ≡ false → 1 + common_prefix_len nat_eq r key < length (z ∷ key)) [
         | Less ↦ λ n _. absurd (grind (arith, nat_tests))
         | Equal ↦ λ n q. let more = shares_less r key q (omega arith) in omega arith
         | Greater ↦ λ n _. absurd (grind (arith, nat_tests))
@@ -139,12 +138,12 @@ shares_less (y ∷ r) (z ∷ key) g l =
       | false ↦ λ e l'. omega arith
     ] refl l
 
-common_none : (xs ys : List ℕ) → length ys ≡ 0 → common xs ys ≡ 0
+common_none : (xs ys : List ℕ) → length ys ≡ 0 → common_prefix_len nat_eq xs ys ≡ 0
 common_none [] ys h = refl
 common_none (x ∷ xs) [] h = refl
 common_none (x ∷ xs) (y ∷ ys) h = absurd (omega arith)
 
-pub common_end : (xs ys : List ℕ) (n : ℕ) → length ys ≤ n → common xs (drop n ys) ≡ 0
+pub common_end : (xs ys : List ℕ) (n : ℕ) → length ys ≤ n → common_prefix_len nat_eq xs (drop n ys) ≡ 0
 common_end xs ys n h = common_none xs (drop n ys) (omega (arith, length-drop n ys))
 
 -- ---- the owner, by places
@@ -210,7 +209,7 @@ module _ {K : Type 0} (rows : List (Row K)) (table : is_table rows ≡ true) (wo
 
   pub fits_shorter : (m : ℕ) (row : Row K) → i ≡ m + 1 → i ≤ length rows → ((d : Row K) → slice_index_or rows m d ≡ row) → is_gt (cmp row.flag (take n word)) ≡ false
       → (k : ℕ) (d : Row K) → k < length rows → k ≢ m → fits (slice_index_or rows k d) word ≡ true
-      → (length (slice_index_or rows k d).flag ≤ common row.flag (take n word)) × (length (slice_index_or rows k d).flag < length row.flag)
+      → (length (slice_index_or rows k d).flag ≤ common_prefix_len nat_eq row.flag (take n word)) × (length (slice_index_or rows k d).flag < length row.flag)
   fits_shorter m row e le at not k d l ne f =
       let under : k < i = fits_below k d l f in
       let less : k < m = omega (arith, ne) in
@@ -231,11 +230,3 @@ other_place rows word m row at unfit k d f e =
     let there : fits (slice_index_or rows m d) word ≡ true = subst P e f in
     let here : fits row word ≡ true = rw (at d) at there in
     cc
-
-pub common_le : (xs ys : List ℕ) → common xs ys ≤ length ys
-common_le [] ys = omega arith
-common_le (x ∷ xs) [] = omega arith
-common_le (x ∷ xs) (y ∷ ys) = elim (x == y) as (λ b. cond b (suc (common xs ys)) 0 ≤ length (y ∷ ys)) [
-  | true ↦ omega (arith, common_le xs ys)
-  | false ↦ omega arith
-]

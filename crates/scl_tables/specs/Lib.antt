@@ -1,3 +1,2 @@
-pub mod Common
 pub mod Probes
 pub mod Trees

@@ -11,11 +11,12 @@ bits_up_to (suc f) n = cond (n == 0) 0 (1 + bits_up_to f (n / 2))
 unfoldable pub bits : ℕ → ℕ
 bits n = bits_up_to n n
 
--- a count of looks went up by at most n, and went up if it was below its greatest value
+-- a count of looks went up by at most n
 pub record CountsUpTo (old new n : ℕ) : Type 0 where
   pub keeps : old ≤ new
   pub most : new ≤ old + n
 
+-- a count went up, unless it stood at its greatest value
 abbrev pub Rises : ℕ → ℕ → Type 0
 Rises old new = old < 2 ^ 64 - 1 → old < new
 

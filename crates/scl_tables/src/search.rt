@@ -1,11 +1,11 @@
 //! The search for the row that owns a word, by halving.
-ghost use Rattle.std.specs.Prelude.{◌≡◌, ℕ, ◌+◌, ◌*◌, ◌<◌, ◌≤◌, length, OnSome, slice_index_or, true, false};
+ghost use Rattle.std.specs.Prelude.{◌≡◌, ℕ, ◌+◌, ◌*◌, ◌<◌, ◌≤◌, length, nat_eq, OnSome, slice_index_or, true, false};
 ghost use Rattle.std.specs.Cmp.Lexicographic.{slice_cmp};
 ghost use Rattle.std.specs.Ordering.{nat_cmp, is_gt};
 ghost use Rattle.scl_values.specs.Row.{Row, row_at};
 ghost use Rattle.scl_values.specs.Tables.{is_table, owner};
 ghost use Rattle.scl_tables.specs.Probes.{bits, CountsUpTo, Rises};
-ghost use Rattle.scl_tables.specs.Common.{common};
+ghost use Rattle.std.specs.List.{common_prefix_len};
 
 use crate::rows::{Probes, RowStore};
 use scl_values::ArgRow;
@@ -35,7 +35,7 @@ fn rows_up_to<K>(rows: &RowStore<'_, K>, key: &[u8], probes: &mut Probes) -> usi
 
 /// How many bytes two words have in common at their beginning.
 fn common_len(a: &[u8], b: &[u8]) -> usize
-    ensures { result ≡ common a.now b.now }
+    ensures { result ≡ common_prefix_len nat_eq a.now b.now }
 {
     let mut count = 0;
     while count < a.len() && count < b.len() && a[count] == b[count] {
@@ -47,7 +47,8 @@ fn common_len(a: &[u8], b: &[u8]) -> usize
 /// The longest row that fits a word.
 ///
 /// The last row that is not above a beginning of the word either fits it, or shares so little with it that all
-/// fitting flags are shorter: then the beginning is cut down to what is shared, and the search goes on.
+/// fitting flags are shorter: then the beginning is cut down to what is shared, or to one byte less where its whole
+/// flag is shared, and the search goes on.
 pub(crate) fn longest_fit<'a, K>(
     rows: &RowStore<'a, K>,
     word: &[u8],

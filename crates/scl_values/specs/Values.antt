@@ -6,8 +6,10 @@ use Rattle.scl_values.specs.declared.error.ArgParseError.TheVariants as error
 
 -- the error of a kind that holds no value and is given one
 abbrev pub IsNoValueError : ArgParseError → Type 0
+IsNoValueError error.UnexpectedEndOfArgs = ⊥
+IsNoValueError (error.InvalidUnicode word) = ⊥
 IsNoValueError (error.Other text) = text.now ≡ codes "flag takes no value"
-IsNoValueError _ = ⊥
+IsNoValueError error.Memory = ⊥
 
 module _ {K T : Type 0} (kind_of : T → K) (word_of : T → List ℕ) (holds_value : K → Bool) where
   -- a value of the kind that prints the word, or an error where a kind that holds no value is given one

@@ -42,7 +42,7 @@ impl From<AllocError> for ArgParseError {
     }
 }
 
-/// What making an option gives.
+/// An option, a value or texts that were made of words, or why none were made.
 pub type ArgParseResult<T> = Result<T, ArgParseError>;
 
 /// What can go wrong when an option is printed as texts (docs/RULES.md, Texts).

@@ -22,12 +22,12 @@ impl ArgDisposition {
         ensures { result ≡ normal_how side self }
     {
         match self {
+            ArgDisposition::Separated | ArgDisposition::Concatenated(_) => self,
             ArgDisposition::CanBeConcatenated(delimiter)
             | ArgDisposition::CanBeSeparated(delimiter) => match side {
                 NormalizedDisposition::Separated => ArgDisposition::Separated,
                 NormalizedDisposition::Concatenated => ArgDisposition::Concatenated(delimiter),
             },
-            other => other,
         }
     }
 }
@@ -43,7 +43,7 @@ impl<T: ArgumentValue> Argument<T> {
             Argument::WithValue(flag, value, disposition) => {
                 Argument::WithValue(flag, value, disposition.normalize(side))
             }
-            other => other,
+            other @ (Argument::Raw(_) | Argument::UnknownFlag(_) | Argument::Flag(_, _)) => other,
         }
     }
 
@@ -110,19 +110,6 @@ impl<'a, T: ArgumentValue> Model for Iter<'a, T> {
     ghost view = { λ s. words_left T.kind_of T.word_of s.left };
 }
 
-fn joined(alloc: Global, flag: &str, delimiter: Delimiter, value: &[u8]) -> Mem<Vec<u8>>
-    ensures { IfOk result (λ word. word.items ≡ flag.now ++ delimited delimiter value.now) }
-{
-    let mut word = Vec::from_slice(alloc, flag.as_bytes())?;
-    if !value.is_empty() {
-        if let Some(byte) = delimiter {
-            word.push(byte)?;
-        }
-        word.extend_from_slice(value)?;
-    }
-    Ok(word)
-}
-
 /// The word of an option whose value is joined to its flag, behind the delimiter if there is one (docs/RULES.md,
 /// Printing). It fails only for want of memory.
 pub fn joined_value<T: ArgumentValue>(
@@ -134,7 +121,14 @@ pub fn joined_value<T: ArgumentValue>(
     ensures { IfOk result (λ word. word.items ≡ flag.now ++ delimited delimiter (T.word_of value.now)) }
 {
     let value = value.into_arg_os_string(alloc)?;
-    joined(alloc, flag, delimiter, value.as_slice())
+    let mut word = Vec::from_slice(alloc, flag.as_bytes())?;
+    if !value.is_empty() {
+        if let Some(byte) = delimiter {
+            word.push(byte)?;
+        }
+        word.extend_from_slice(value.as_slice())?;
+    }
+    Ok(word)
 }
 
 /// The first word of the option, and what is left behind it.
@@ -145,13 +139,12 @@ fn first_word<'a, T: ArgumentValue>(
     ensures { IfOk result.0 (λ word. spelled (seen T.kind_of T.word_of option.now) ≡ word.items ∷ words_left T.kind_of T.word_of result.1) }
 {
     match option {
-        Argument::Raw(word) | Argument::UnknownFlag(word) => {
-            (Vec::from_slice(alloc, word), Left::Nothing)
+        Argument::Raw(_) | Argument::UnknownFlag(_) | Argument::Flag(_, _) => {
+            (option.to_os_string(alloc), Left::Nothing)
         }
-        Argument::Flag(flag, _) => (Vec::from_slice(alloc, flag.as_bytes()), Left::Nothing),
         Argument::WithValue(flag, value, disposition) => match *disposition {
             ArgDisposition::Separated | ArgDisposition::CanBeConcatenated(_) => {
-                (Vec::from_slice(alloc, flag.as_bytes()), Left::Value(value))
+                (option.to_os_string(alloc), Left::Value(value))
             }
             ArgDisposition::CanBeSeparated(delimiter) | ArgDisposition::Concatenated(delimiter) => {
                 (joined_value(alloc, flag, delimiter, value), Left::Nothing)

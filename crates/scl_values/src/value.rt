@@ -5,6 +5,7 @@ ghost use Rattle.std.specs.String.{string_bytes};
 ghost use Rattle.scl_values.specs.Texts.{IsWord, IsInvalidUnicode, Prints};
 
 use crate::error::{ArgParseError, ArgParseResult, ArgToStringError, ArgToStringResult};
+use crate::held::Held;
 use crate::memory::Mem;
 use std::alloc::Global;
 use std::str;
@@ -13,6 +14,7 @@ use std::str;
 pub trait FromArg: Sized {
     ghost use Rattle.scl_values.specs.declared.error.ArgParseError.{ArgParseError};
 
+    /// What may be made of a word, or which error comes.
     ghost process_gives: { List ℕ → Result Self ArgParseError → Type 0 };
 
     /// The value that the word stands for; what errors come is the type's own to say (docs/RULES.md, Texts).
@@ -22,8 +24,10 @@ pub trait FromArg: Sized {
 
 /// A value that prints one word.
 pub trait IntoArg {
+    /// The word that is printed.
     ghost word_of: { Self → List ℕ };
 
+    /// Whether a closure says the value's text.
     ghost is_path: { Self → Bool };
 
     /// The value's word. It fails only for want of memory.
@@ -50,10 +54,13 @@ pub trait ArgumentValue: IntoArg + Drop {
 
     ghost use Rattle.scl_values.specs.declared.error.ArgParseError.{ArgParseError};
 
+    /// What may be made of a kind and a word, or which error comes.
     ghost make_gives: { Self.Kind → List ℕ → Result Self ArgParseError → Type 0 };
 
+    /// Whether values of the kind hold a word.
     ghost holds_value: { Self.Kind → Bool };
 
+    /// The kind that a value was made of.
     ghost kind_of: { Self → Self.Kind };
 
     /// The value of a kind, of a word that is empty where the option has none. What errors come is the type's own to
@@ -66,10 +73,12 @@ pub trait ArgumentValue: IntoArg + Drop {
 pub trait ExactArg: ArgumentValue {
     ghost use Rattle.scl_values.specs.declared.error.ArgParseError.{ArgParseError};
 
+    /// A value is made of every word of a kind that holds one, and of the empty word of any other kind; it has both.
     ghost exact: { (kind : Self.Kind) (word : List ℕ) (made : Result Self ArgParseError)
         → (Self.holds_value kind ≡ true) ⊎ (word ≡ []) → Self.make_gives kind word made
         → IsOkAnd made (λ value. (Self.kind_of value ≡ kind) × (Self.word_of value ≡ word)) };
 
+    /// A value that was made has the kind and the word that it was made of.
     ghost keeps: { (kind : Self.Kind) (word : List ℕ) (value : Self)
         → Self.make_gives kind word (Ok value) → (Self.kind_of value ≡ kind) × (Self.word_of value ≡ word) };
 }
@@ -136,11 +145,7 @@ impl IntoArg for PathArg {
         alloc: Global,
         f: &mut F,
     ) -> ArgToStringResult {
-        let path = self.0.as_slice();
-        match f(path) {
-            Some(text) => Ok(text),
-            None => Err(ArgToStringError::FailedPathTransform(Vec::from_slice(alloc, path)?)),
-        }
+        Held::Path(self.0.as_slice()).text(alloc, f)
     }
 }
 

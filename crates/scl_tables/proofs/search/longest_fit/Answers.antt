@@ -1,10 +1,11 @@
-use Rattle.std.proofs.Common.{◌≡◌, ◌+◌, ◌-◌, ◌<◌, ◌≤◌, List, length, take, false, sym, ◌∙◌, arith, length-take-le}
+use Rattle.std.proofs.Common.{◌≡◌, ◌+◌, ◌-◌, ◌<◌, ◌≤◌, List, length, take, nat_eq, false, sym, ◌∙◌, arith, length-take-le}
 use Rattle.std.proofs.Math.Nat.{mul-le-mul_left}
 use Rattle.std.specs.Ordering.{is_gt}
 use Rattle.scl_values.specs.Row.{Row, row_of, fits}
 use Rattle.scl_tables.specs.Probes.{bits}
-use Rattle.scl_tables.specs.Common.{common}
-use Rattle.scl_tables.proofs.OrderLemmas.{cmp, fits_below, fits_shorter, none_fits, other_place, owner_some, shares_less, common_le}
+use Rattle.std.specs.List.{common_prefix_len}
+use Rattle.std.proofs.lemmas.List.Sums.{common_prefix_len-le}
+use Rattle.scl_tables.proofs.OrderLemmas.{cmp, fits_below, fits_shorter, none_fits, other_place, owner_some, shares_less}
 use Rattle.scl_tables.proofs.search.longest_fit.Goals as goal
 
 pub returns-then-found-eq0-clause-owner : goal.returns-then-found-eq0-clause-owner
@@ -28,7 +29,7 @@ loop-len-smaller-then-shared-flag g c =
     let row : Row g.row.K.Denot = row_of c.look-row.result.now in
     let not : is_gt (cmp row.flag (take c.loop-len.len c.args.word.now)) ≡ false = rw (c.look-row.ensures.row row) at (c.rows_up_to-found.ensures.below (c.rows_up_to-found.result - 1) row (omega arith)) in
     let less = rw (c.as_bytes-flag.ensures.value, c.flag.ensures) at c.if-shared-flag.true in
-    let shared : c.common_len-shared.result ≡ common row.flag (take c.loop-len.len c.args.word.now) = rw (← c.flag.ensures, ← c.as_bytes-flag.ensures.value) c.common_len-shared.ensures in
+    let shared : c.common_len-shared.result ≡ common_prefix_len nat_eq row.flag (take c.loop-len.len c.args.word.now) = rw (← c.flag.ensures, ← c.as_bytes-flag.ensures.value) c.common_len-shared.ensures in
     let all = shares_less row.flag (take c.loop-len.len c.args.word.now) not (omega (arith, less, shared)) in
     omega (arith, all, shared, length-take-le c.loop-len.len c.args.word.now)
 
@@ -39,7 +40,7 @@ loop-len-preserved-then-shared-flag g c =
     let inv = c.loop-len.invariant in
     let smaller : c.common_len-shared.result < c.loop-len.len = loop-len-smaller-then-shared-flag g c in
     let not : is_gt (cmp row.flag (take c.loop-len.len c.args.word.now)) ≡ false = rw (c.look-row.ensures.row row) at (c.rows_up_to-found.ensures.below (c.rows_up_to-found.result - 1) row (omega arith)) in
-    let shared : c.common_len-shared.result ≡ common row.flag (take c.loop-len.len c.args.word.now) = rw (← c.flag.ensures, ← c.as_bytes-flag.ensures.value) c.common_len-shared.ensures in
+    let shared : c.common_len-shared.result ≡ common_prefix_len nat_eq row.flag (take c.loop-len.len c.args.word.now) = rw (← c.flag.ensures, ← c.as_bytes-flag.ensures.value) c.common_len-shared.ensures in
     let unfit : fits row c.args.word.now ≡ false = sym c.fits.ensures ∙ c.if-fits.false in (
       omega (arith, inv.0, smaller),
       λ k d l f.
@@ -70,8 +71,8 @@ returns-then-shared-eq0-clause-owner g c =
 
 pub loop-len-smaller : goal.loop-len-smaller
 loop-len-smaller g c =
-    let all = common_le c.as_bytes-flag.result.now (take c.loop-len.len c.args.word.now) in
-    omega (arith, all, c.common_len-shared.ensures, length-take-le c.loop-len.len c.args.word.now)
+    let all = common_prefix_len-le nat_eq c.as_bytes-flag.result.now (take c.loop-len.len c.args.word.now) in
+    omega (arith, all.1, c.common_len-shared.ensures, length-take-le c.loop-len.len c.args.word.now)
 
 pub loop-len-preserved : goal.loop-len-preserved
 loop-len-preserved g c =
