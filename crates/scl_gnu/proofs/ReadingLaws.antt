@@ -1,5 +1,7 @@
 -- What an outcome Ok says of the options of a command line.
 use Rattle.std.proofs.Common.{◌≡◌, ℕ, Bool, true, false, List, [], ◌∷◌, ◌++◌, map, Option, None, Some, Ok, refl, ap, ◌∙◌, cond}
+use Rattle.std.specs.List.{find}
+use Rattle.std.specs.Option.{option_map}
 use Rattle.std.specs.Prelude.{codes, ok_or}
 use Rattle.std.specs.Str.{bytes_eq}
 use Rattle.scl_values.specs.Cuts.{cut, is_dangling}
@@ -99,7 +101,8 @@ module _ (compiler : CCompilerKind) (plusplus : Bool) (tables : List (List (Row 
 
 path-behind : (xs ys : List Artifact) (name : List ℕ) → path_at xs name ≡ None → path_at (xs ++ ys) name ≡ path_at ys name
 path-behind [] ys name e = refl
-path-behind (a ∷ xs) ys name e = elim (bytes_eq name a.name) as (λ b. cond b (Some a.path) (path_at xs name) ≡ None → cond b (Some a.path) (path_at (xs ++ ys) name) ≡ path_at ys name) [
+path-behind (a ∷ xs) ys name e = elim (bytes_eq name a.name) as (λ b. option_map (λ o. o.path) (cond b (Some a) (find (λ o. bytes_eq name o.name) xs)) ≡ None
+    → option_map (λ o. o.path) (cond b (Some a) (find (λ o. bytes_eq name o.name) (xs ++ ys))) ≡ path_at ys name) [
   | true ↦ λ n. absurd (cc)
   | false ↦ λ n. path-behind xs ys name n
 ] e

@@ -2,7 +2,7 @@ use Rattle.std.proofs.Common.{◌≡◌, ℕ, true, false, not, ◌||◌, List, 
 use Rattle.std.specs.List.{list_all}
 use Rattle.std.specs.Prelude.{codes, ok_or}
 use Rattle.scl_values.specs.Cuts.{cut}
-use Rattle.scl_args.specs.Options.{is_of, side_of_flag}
+use Rattle.scl_args.specs.Options.{is_of, last_flag, side_of_flag}
 use Rattle.scl_values.specs.Row.{Row, row, apart}
 use Rattle.scl_values.specs.Seen.{Seen, Raw, Unknown, Known, shown}
 use Rattle.scl_values.specs.Seen as plain
@@ -21,7 +21,6 @@ use Rattle.scl_text.specs.Compilers.{IfCommand}
 use Rattle.scl_small.specs.Command.{command}
 use Rattle.scl_small.specs.DiabAgain.{DiabReadsAgain}
 use Rattle.scl_small.specs.ReadAgain.{every_kind, CommandsAreReadAgain, RecordsHaveObjects, LinesHaveNoEmpty}
-use Rattle.scl_small.specs.Readings.{last_flag_at}
 use Rattle.scl_small.specs.DiabTable.{rows}
 use Rattle.scl_small.specs.DiabReading.{place, verdict, tested, reading, expanded_reading}
 use Rattle.scl_small.specs.contracts.place.PlacePartialEq.TheImpl.{ghosts}
@@ -60,8 +59,8 @@ pub commands_again : CommandsAreReadAgain place kinds.DoCompilation kinds.Output
 commands_again words p object e =
     let os = map shown (cut (owner_in (rows ∷ [])) false words).options in
     let r = was-read rows verdict tested words p e in
-    let b = bind-ok (ok_or (last_flag_at place places.CompileFlag os) NotCompilation) _ p r.1 in
-    let f = last-flag (rows ∷ []) false (goes_to place places.CompileFlag) words b.0 (ok_or-ok (last_flag_at place places.CompileFlag os) NotCompilation b.0 b.1) in
+    let b = bind-ok (ok_or (last_flag (goes_to place places.CompileFlag) os) NotCompilation) _ p r.1 in
+    let f = last-flag (rows ∷ []) false (goes_to place places.CompileFlag) words b.0 (ok_or-ok (last_flag (goes_to place places.CompileFlag) os) NotCompilation b.0 b.1) in
     let reads_flag = flag-again (rows ∷ []) false (λ k. ghosts.eq (place k) places.CompileFlag) bare_rows kinds.DoCompilation only (goes_to place places.CompileFlag) by_kind f.0 f.1 in
     record-again place kinds.DoCompilation kinds.Output rows passes no_inputs reads_output words p object b.0 r.0
     (is-record place os b.0 p b.2)
@@ -74,7 +73,7 @@ pub has_object : RecordsHaveObjects rows reading
 has_object words p e =
     let os = map shown (cut (owner_in (rows ∷ [])) false words).options in
     let r = was-read rows verdict tested words p e in
-    let b = bind-ok (ok_or (last_flag_at place places.CompileFlag os) NotCompilation) _ p r.1 in
+    let b = bind-ok (ok_or (last_flag (goes_to place places.CompileFlag) os) NotCompilation) _ p r.1 in
     has-object place os b.0 p b.2
 
 pub has_no_empty : LinesHaveNoEmpty rows reading

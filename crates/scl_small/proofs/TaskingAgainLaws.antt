@@ -1,7 +1,7 @@
 use Rattle.std.proofs.Common.{◌≡◌, ℕ, false, List, [], ◌∷◌, map, refl, arith}
 use Rattle.std.specs.Prelude.{codes, ok_or}
 use Rattle.scl_values.specs.Cuts.{cut}
-use Rattle.scl_args.specs.Options.{side_of_flag}
+use Rattle.scl_args.specs.Options.{last_flag, side_of_flag}
 use Rattle.scl_values.specs.Row.{Row, row, bare, apart}
 use Rattle.scl_values.specs.Seen.{shown}
 use Rattle.scl_values.specs.Seen as plain
@@ -15,7 +15,7 @@ use Rattle.scl_text.specs.Compilers.{IfCommand}
 use Rattle.scl_small.specs.Command.{command}
 use Rattle.scl_small.specs.TaskingAgain.{TaskingReadsAgain}
 use Rattle.scl_small.specs.ReadAgain.{every_kind, CommandsAreReadAgain, RecordsHaveObjects, LinesHaveNoEmpty}
-use Rattle.scl_small.specs.Readings.{last_flag_at}
+use Rattle.scl_small.specs.Places.{goes_to}
 use Rattle.scl_small.specs.TaskingTable.{rows}
 use Rattle.scl_small.specs.TaskingReading.{place, verdict, tested, reading}
 use Rattle.scl_small.specs.contracts.place.PlacePartialEq.TheImpl.{ghosts}
@@ -49,7 +49,7 @@ pub commands_again : CommandsAreReadAgain place kinds.DoCompilation kinds.Output
 commands_again words p object e =
     let os = map shown (cut (owner_in (rows ∷ [])) false words).options in
     let r = was-read rows verdict tested words p e in
-    let b = bind-ok (ok_or (last_flag_at place places.CompileFlag os) NotCompilation) _ p r.1 in
+    let b = bind-ok (ok_or (last_flag (goes_to place places.CompileFlag) os) NotCompilation) _ p r.1 in
     record-again place kinds.DoCompilation kinds.Output rows passes no_inputs reads_output words p object (codes "-c") r.0
     (is-record place os (codes "-c") p b.2) reads_compile
 
@@ -60,7 +60,7 @@ pub has_object : RecordsHaveObjects rows reading
 has_object words p e =
     let os = map shown (cut (owner_in (rows ∷ [])) false words).options in
     let r = was-read rows verdict tested words p e in
-    let b = bind-ok (ok_or (last_flag_at place places.CompileFlag os) NotCompilation) _ p r.1 in
+    let b = bind-ok (ok_or (last_flag (goes_to place places.CompileFlag) os) NotCompilation) _ p r.1 in
     has-object place os (codes "-c") p b.2
 
 pub has_no_empty : LinesHaveNoEmpty rows reading

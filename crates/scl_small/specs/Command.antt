@@ -17,16 +17,16 @@ abbrev pub diab_passes : Parsed → List (List (List ℕ))
 diab_passes p = diab_words p ∷ []
 
 -- what both runs of TaskingVX end with
-abbrev pub input_words : Parsed → List (List ℕ)
-input_words p = p.input ∷ [] ++ p.preprocessor_args ++ p.common_args
+abbrev pub input_and_list_words : Parsed → List (List ℕ)
+input_and_list_words p = p.input ∷ [] ++ p.preprocessor_args ++ p.common_args
 
 -- the run that writes the dependency file, if the record has one
 abbrev pub depfile_passes : Option (List ℕ) → Parsed → List (List (List ℕ))
 depfile_passes None p = []
-depfile_passes (Some depfile) p = ((codes "-Em" ∷ codes "-o" ∷ depfile ∷ []) ++ input_words p) ∷ []
+depfile_passes (Some depfile) p = ((codes "-Em" ∷ codes "-o" ∷ depfile ∷ []) ++ input_and_list_words p) ∷ []
 
 abbrev pub tasking_passes : Parsed → List (List (List ℕ))
-tasking_passes p = depfile_passes p.depfile p ++ ((codes "-E" ∷ []) ++ input_words p) ∷ []
+tasking_passes p = depfile_passes p.depfile p ++ ((codes "-E" ∷ []) ++ input_and_list_words p) ∷ []
 
 -- the words of a record, none where it has no object file
 abbrev pub command : Parsed → Option (List (List ℕ))

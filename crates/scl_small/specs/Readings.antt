@@ -1,9 +1,8 @@
 -- What a command line says to Diab or TaskingVX: a first verdict, and filters over the finished list of its options.
 use Rattle.std.specs.Prelude.{ℕ, false, List, [], ◌∷◌, Option, None, Some, Result, Ok, codes, ok_or}
-use Rattle.std.specs.Option.{option_map}
 use Rattle.scl_values.specs.Row.{Row}
-use Rattle.scl_values.specs.Seen.{Seen, flag_of, text_of}
-use Rattle.scl_args.specs.Options.{last_by, texts, list, side_of_flag, ◌>>=◌}
+use Rattle.scl_values.specs.Seen.{Seen}
+use Rattle.scl_args.specs.Options.{last_flag, last_text, texts, list, side_of_flag, ◌>>=◌}
 use Rattle.scl_files.specs.Paths.{with_extension}
 use Rattle.scl_text.specs.Languages.{language_of_file_name}
 use Rattle.scl_text.specs.Records.{Parsed, bare_record, artifact, Verdict, NotCompilation}
@@ -16,14 +15,6 @@ use Rattle.scl_small.specs.declared.place.Place.{Place}
 use Rattle.scl_small.specs.declared.place.Place.TheVariants as places
 
 module _ {K : Type 0} (place : K → Place) where
-  -- the flag of the last option that goes to the place
-  abbrev pub last_flag_at : Place → List (Seen K) → Option (List ℕ)
-  last_flag_at there os = option_map flag_of (last_by (goes_to place there) os)
-
-  -- the text of the last option that goes to the place
-  abbrev pub last_text_at : Place → List (Seen K) → Option (List ℕ)
-  last_text_at there os = option_map text_of (last_by (goes_to place there) os)
-
   -- the words of the options that go to the place, in order
   abbrev pub list_at : Place → List (Seen K) → List (List ℕ)
   list_at there os = list side_of_flag (goes_to place there) os
@@ -51,8 +42,8 @@ dependency_path (Some (byte ∷ path)) input = Some (byte ∷ path)
 module _ {K : Type 0} (place : K → Place) where
   abbrev pub record_of : List (Seen K) → List ℕ → List ℕ → Language → Parsed
   record_of os flag input language = record (bare_record input language flag) {
-    depfile = dependency_path (last_text_at place places.DepFile os) input;
-    outputs = artifact (codes "obj") (object_path (last_text_at place places.Output os) input) false ∷ [];
+    depfile = dependency_path (last_text (goes_to place places.DepFile) os) input;
+    outputs = artifact (codes "obj") (object_path (last_text (goes_to place places.Output) os) input) false ∷ [];
     dependency_args = list_at place places.Dependency os;
     preprocessor_args = list_at place places.Preprocessor os;
     common_args = list_at place places.Common os;
@@ -68,5 +59,5 @@ module _ {K : Type 0} (place : K → Place) where
   -- the fixed tests, and the record, with the flag that stands in the command for the last that asks for a compilation
   abbrev pub tested_by : (List ℕ → List ℕ) → List (Seen K) → Result Parsed Verdict
   tested_by flag_for os = do
-    flag ← ok_or (last_flag_at place places.CompileFlag os) NotCompilation
+    flag ← ok_or (last_flag (goes_to place places.CompileFlag) os) NotCompilation
     recorded os (flag_for flag)

@@ -1,11 +1,17 @@
 //! The compile command of Diab and TaskingVX.
-use scl_text::Mem;
-use scl_text::command::{CommandWords, push_word, push_words};
-use scl_text::records::ParsedArguments;
+ghost use Rattle.std.specs.Prelude.{◌≡◌, ◌↔◌, Err, IfOk, None};
+ghost use Rattle.scl_text.specs.Commands.{pairs_of, object_of};
+ghost use Rattle.scl_text.specs.Compilers.{IsAnswer};
+ghost use Rattle.scl_text.specs.Records.{parsed_of};
+ghost use Rattle.scl_small.specs.Command.{command};
+
+use scl_text::command::{CommandWords, compile_command, push_word, push_words};
+use scl_text::records::{Cacheable, CommandError, ParsedArguments, SingleCompileCommand};
+use scl_text::{Mem, View};
 use std::alloc::Global;
 
-/// The compile command of Diab and TaskingVX (docs/RULES.md, Diab and TaskingVX).
-pub(crate) struct Command;
+/// The words of the compile command of Diab and TaskingVX.
+struct Command;
 
 impl CommandWords for Command {
     ghost use Rattle.scl_small.specs.Command.{command_words};
@@ -23,4 +29,28 @@ impl CommandWords for Command {
         push_words(alloc, &mut words, &parsed.common_args)?;
         Ok(words)
     }
+}
+
+/// The compile command of a record, whose outcome may be kept (docs/RULES.md, Diab and TaskingVX). The errors are
+/// `MissingObj`, exactly where the record has no output `obj`, and the refusal of memory. The view is not asked.
+pub fn generate_compile_commands(
+    alloc: Global,
+    executable: &[u8],
+    parsed: &ParsedArguments,
+    cwd: &[u8],
+    env_vars: &[(Vec<u8>, Vec<u8>)],
+    _view: &View,
+) -> Result<(SingleCompileCommand, Cacheable), CommandError>
+    ensures command { IfOk result (λ built. IsAnswer built.0 built.1 (command (parsed_of parsed.now)) executable.now (pairs_of env_vars.now) cwd.now Cacheable.Yes) }
+    ensures missing { (result ≡ Err CommandError.MissingObj) ↔ (object_of (parsed_of parsed.now) ≡ None) }
+{
+    compile_command(
+        alloc,
+        &Command,
+        executable,
+        parsed,
+        cwd,
+        env_vars,
+        Cacheable::Yes,
+    )
 }

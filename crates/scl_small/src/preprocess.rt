@@ -3,7 +3,7 @@ ghost use Rattle.std.specs.Prelude.{◌≡◌, ◌++◌, IfOk, OnOk};
 ghost use Rattle.scl_values.specs.Words.{words_of};
 ghost use Rattle.scl_text.specs.Records.{parsed_of};
 ghost use Rattle.scl_text.specs.Runs.{runs_of};
-ghost use Rattle.scl_small.specs.Command.{diab_words, diab_passes, input_words, depfile_passes, tasking_passes};
+ghost use Rattle.scl_small.specs.Command.{diab_words, diab_passes, input_and_list_words, depfile_passes, tasking_passes};
 
 use scl_text::Mem;
 use scl_text::command::{push_word, push_words};
@@ -32,8 +32,12 @@ pub(crate) fn diab_passes(alloc: Global, parsed: &ParsedArguments) -> Mem<Vec<Ve
 }
 
 /// Puts the input and the lists behind words.
-fn push_input(alloc: Global, words: &mut Vec<Vec<u8>>, parsed: &ParsedArguments) -> Mem<()>
-    ensures { OnOk result (words_of words.new.items ≡ words_of words.old.items ++ input_words (parsed_of parsed.now)) }
+fn push_input_and_lists(
+    alloc: Global,
+    words: &mut Vec<Vec<u8>>,
+    parsed: &ParsedArguments,
+) -> Mem<()>
+    ensures { OnOk result (words_of words.new.items ≡ words_of words.old.items ++ input_and_list_words (parsed_of parsed.now)) }
 {
     push_word(alloc, words, &parsed.input)?;
     push_words(alloc, words, &parsed.preprocessor_args)?;
@@ -55,7 +59,7 @@ fn push_depfile_run(
     push_word(alloc, &mut words, b"-Em")?;
     push_word(alloc, &mut words, b"-o")?;
     push_word(alloc, &mut words, depfile)?;
-    push_input(alloc, &mut words, parsed)?;
+    push_input_and_lists(alloc, &mut words, parsed)?;
     runs.push(words)?;
     Ok(())
 }
@@ -68,7 +72,7 @@ pub(crate) fn tasking_passes(alloc: Global, parsed: &ParsedArguments) -> Mem<Vec
     push_depfile_run(alloc, &mut runs, parsed)?;
     let mut words = Vec::new(alloc);
     push_word(alloc, &mut words, b"-E")?;
-    push_input(alloc, &mut words, parsed)?;
+    push_input_and_lists(alloc, &mut words, parsed)?;
     runs.push(words)?;
     Ok(runs)
 }

@@ -7,6 +7,7 @@ use Rattle.std.specs.Prelude.{string_bytes}
 use Rattle.std.specs.Cmp.Lexicographic.{slice_cmp}
 use Rattle.std.specs.BTreeMap.{insert_entry, is_at}
 use Rattle.std.specs.Map.{lookup}
+use Rattle.std.specs.List.{find}
 use Rattle.std.specs.Option.{option_map}
 use Rattle.std.specs.Str.{bytes_eq}
 use Rattle.std.proofs.lemmas.Map.Text.{is_eq-slice_cmp}
@@ -35,7 +36,7 @@ pub path_at-artifacts : (es : List (String Global × ArtifactDescriptor)) (name 
     path_at (map artifact_of es) name ≡ option_map (λ a. a.path.items) (lookup (is_at (λ k. slice_cmp nat_cmp name (string_bytes k))) es)
 path_at-artifacts [] name = refl
 path_at-artifacts (e ∷ es) name =
-    rw (is_eq-slice_cmp name (string_bytes e.0)) (elim (bytes_eq name (string_bytes e.0)) as (λ b. cond b (Some e.1.path.items) (path_at (map artifact_of es) name) ≡ option_map (λ a. a.path.items) (cond b (Some e.1) (lookup (is_at (λ k. slice_cmp nat_cmp name (string_bytes k))) es))) [
+    rw (is_eq-slice_cmp name (string_bytes e.0)) (elim (bytes_eq name (string_bytes e.0)) as (λ b. option_map (λ output. output.path) (cond b (Some (artifact_of e)) (find (λ output. bytes_eq name output.name) (map artifact_of es))) ≡ option_map (λ a. a.path.items) (cond b (Some e.1) (lookup (is_at (λ k. slice_cmp nat_cmp name (string_bytes k))) es))) [
       | true ↦ refl
       | false ↦ path_at-artifacts es name
     ])

@@ -1,5 +1,5 @@
 -- What a builder makes: a command, word by word.
-use Rattle.std.specs.Prelude.{ℕ, ◌≡◌, List, map, Option, Vec, codes}
+use Rattle.std.specs.Prelude.{ℕ, ◌≡◌, false, List, map, Option, Vec, codes}
 use Rattle.std.specs.Option.{option_map}
 use Rattle.std.specs.declared.alloc.Global.{Global}
 use Rattle.scl_text.specs.Outputs.{path_at}

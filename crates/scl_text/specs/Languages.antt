@@ -1,9 +1,9 @@
 -- The languages of source files, by extension and by the texts of `-x`.
-use Rattle.std.specs.Prelude.{ℕ, Bool, true, false, List, [], ◌∷◌, Option, Some, None, codes, map, if◌then◌else◌}
+use Rattle.std.specs.Prelude.{ℕ, Bool, true, false, List, [], ◌∷◌, Option, Some, None, codes, find, map}
 use Rattle.std.specs.Borrow.{Bor}
 use Prim.Native.String.{String}
 use Rattle.std.specs.Str.{bytes_eq}
-use Rattle.std.specs.Option.{option_and_then}
+use Rattle.std.specs.Option.{option_and_then, option_map}
 use Rattle.scl_text.specs.declared.language.Language.{Language}
 use Rattle.scl_text.specs.declared.language.Language.TheVariants as languages
 use Rattle.scl_files.specs.Paths.{extension}
@@ -21,8 +21,7 @@ rows_of rows = map (λ row. record { text = row.0.now; language = row.1 }) rows
 
 -- the language that the text names in a table
 abbrev pub language_named : List Named → List ℕ → Option Language
-language_named [] text = None
-language_named (row ∷ rows) text = if bytes_eq row.text text then Some row.language else language_named rows text
+language_named rows text = option_map (λ row. row.language) (find (λ row. bytes_eq row.text text) rows)
 
 -- the extensions of files and their languages
 abbrev pub extensions : List Named
@@ -108,10 +107,35 @@ gcc_text languages.Hip = Some (codes "hip")
 
 -- the text that clang's -x takes
 abbrev pub clang_text : Language → Option (List ℕ)
+clang_text languages.Assembler = gcc_text languages.Assembler
+clang_text languages.AssemblerToPreprocess = gcc_text languages.AssemblerToPreprocess
+clang_text languages.C = gcc_text languages.C
+clang_text languages.CHeader = gcc_text languages.CHeader
+clang_text languages.GenericHeader = gcc_text languages.GenericHeader
+clang_text languages.Cxx = gcc_text languages.Cxx
+clang_text languages.CxxHeader = gcc_text languages.CxxHeader
+clang_text languages.CxxModule = gcc_text languages.CxxModule
+clang_text languages.ObjectiveC = gcc_text languages.ObjectiveC
+clang_text languages.ObjectiveCHeader = gcc_text languages.ObjectiveCHeader
+clang_text languages.ObjectiveCxx = gcc_text languages.ObjectiveCxx
+clang_text languages.ObjectiveCxxHeader = gcc_text languages.ObjectiveCxxHeader
 clang_text languages.Cuda = Some (codes "cuda")
-clang_text language = gcc_text language
+clang_text languages.Rust = gcc_text languages.Rust
+clang_text languages.Hip = gcc_text languages.Hip
 
 abbrev pub needs_c_preprocessing : Language → Bool
 needs_c_preprocessing languages.Assembler = false
+needs_c_preprocessing languages.AssemblerToPreprocess = true
+needs_c_preprocessing languages.C = true
+needs_c_preprocessing languages.CHeader = true
+needs_c_preprocessing languages.GenericHeader = true
+needs_c_preprocessing languages.Cxx = true
+needs_c_preprocessing languages.CxxHeader = true
+needs_c_preprocessing languages.CxxModule = true
+needs_c_preprocessing languages.ObjectiveC = true
+needs_c_preprocessing languages.ObjectiveCHeader = true
+needs_c_preprocessing languages.ObjectiveCxx = true
+needs_c_preprocessing languages.ObjectiveCxxHeader = true
+needs_c_preprocessing languages.Cuda = true
 needs_c_preprocessing languages.Rust = false
-needs_c_preprocessing _ = true
+needs_c_preprocessing languages.Hip = true

@@ -1,5 +1,5 @@
 -- The outputs of a compilation, in the order of their names.
-use Rattle.std.specs.Prelude.{ℕ, Bool, List, [], ◌∷◌, Option, Some, None, if◌then◌else◌}
+use Rattle.std.specs.Prelude.{ℕ, Bool, List, [], ◌∷◌, Option, Some, None, find}
 use Rattle.std.specs.Option.{option_map, option_to_list}
 use Rattle.std.specs.Str.{bytes_eq}
 use Rattle.std.specs.Ordering.{nat_cmp, match_ordering}
@@ -13,8 +13,7 @@ put_output (b ∷ bs) a = match_ordering (slice_cmp nat_cmp a.name b.name) (a �
 
 -- the path of the output of this name
 abbrev pub path_at : List Artifact → List ℕ → Option (List ℕ)
-path_at [] name = None
-path_at (a ∷ rest) name = if bytes_eq name a.name then Some a.path else path_at rest name
+path_at outputs name = option_map (λ output. output.path) (find (λ output. bytes_eq name output.name) outputs)
 
 -- the output of this name, if there is a path for it
 abbrev pub output_at : List ℕ → Bool → Option (List ℕ) → List Artifact

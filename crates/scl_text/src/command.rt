@@ -3,6 +3,7 @@ ghost use Rattle.std.specs.Prelude.{◌≡◌, ◌↔◌, ◌++◌, ◌∷◌, [
 ghost use Rattle.std.specs.Option.{option_map};
 ghost use Rattle.std.specs.String.{string_bytes};
 ghost use Rattle.scl_values.specs.Words.{words_of};
+ghost use Rattle.scl_args.specs.Options.{dash_words};
 ghost use Rattle.scl_args.specs.Wrapped.{HasFirstOf};
 ghost use Rattle.scl_text.specs.Commands.{Builds, pairs_of, object_of, command_by};
 ghost use Rattle.scl_text.specs.Compilers.{IsAnswer};

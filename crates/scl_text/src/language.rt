@@ -8,20 +8,35 @@ use scl_files::path::extension;
 /// A language of source files (docs/RULES.md, Languages).
 #[derive(Debug, Clone, Copy, PartialEq, Eq)]
 pub enum Language {
+    /// Assembler that is compiled as it stands.
     Assembler,
+    /// Assembler that the C preprocessor runs over first.
     AssemblerToPreprocess,
+    /// C.
     C,
+    /// A header that `-x c-header` calls one of C.
     CHeader,
+    /// A header with the extension `h`, which does not say of which language; no text of `-x` names it.
     GenericHeader,
+    /// C++.
     Cxx,
+    /// A header of C++.
     CxxHeader,
+    /// A module interface of C++.
     CxxModule,
+    /// Objective-C.
     ObjectiveC,
+    /// A header that `-x objective-c-header` calls one of Objective-C.
     ObjectiveCHeader,
+    /// Objective-C++.
     ObjectiveCxx,
+    /// A header that `-x objective-c++-header` calls one of Objective-C++.
     ObjectiveCxxHeader,
+    /// CUDA.
     Cuda,
+    /// Rust; neither gcc nor clang is given a text for it.
     Rust,
+    /// HIP.
     Hip,
 }
 
@@ -90,14 +105,15 @@ fn language_named(rows: &[(&'static str, Language)], text: &[u8]) -> Option<Lang
 }
 
 impl Language {
-    /// The language of a file, by the extension of its name (docs/RULES.md, Languages).
+    /// The language of a file, by the extension of its name; `None` without an extension, or where the table has none such
+    /// (docs/RULES.md, Languages).
     pub fn from_file_name(path: &[u8]) -> Option<Language>
         ensures { result ≡ language_of_file_name path.now }
     {
         language_named(&EXTENSIONS, extension(path)?)
     }
 
-    /// The language that a text behind `-x` names: a text that gcc or clang is given, or `rs`
+    /// The language that a text behind `-x` names: a text that gcc or clang is given, or `rs`; `None` for any other text
     /// (docs/RULES.md, Languages).
     pub fn from_gcc_arg(text: &[u8]) -> Option<Language>
         ensures { result ≡ language_of_gcc_text text.now }
@@ -134,7 +150,20 @@ impl Language {
     {
         match self {
             Language::Cuda => Some("cuda"),
-            _ => self.to_gcc_arg(),
+            Language::Assembler
+            | Language::AssemblerToPreprocess
+            | Language::C
+            | Language::CHeader
+            | Language::GenericHeader
+            | Language::Cxx
+            | Language::CxxHeader
+            | Language::CxxModule
+            | Language::ObjectiveC
+            | Language::ObjectiveCHeader
+            | Language::ObjectiveCxx
+            | Language::ObjectiveCxxHeader
+            | Language::Rust
+            | Language::Hip => self.to_gcc_arg(),
         }
     }
 
@@ -142,6 +171,21 @@ impl Language {
     pub fn needs_c_preprocessing(self) -> bool
         ensures { result ≡ needs_c_preprocessing self }
     {
-        !matches!(self, Language::Assembler | Language::Rust)
+        match self {
+            Language::Assembler | Language::Rust => false,
+            Language::AssemblerToPreprocess
+            | Language::C
+            | Language::CHeader
+            | Language::GenericHeader
+            | Language::Cxx
+            | Language::CxxHeader
+            | Language::CxxModule
+            | Language::ObjectiveC
+            | Language::ObjectiveCHeader
+            | Language::ObjectiveCxx
+            | Language::ObjectiveCxxHeader
+            | Language::Cuda
+            | Language::Hip => true,
+        }
     }
 }

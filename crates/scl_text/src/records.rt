@@ -12,25 +12,35 @@ use thiserror::Error;
 /// Whether diagnostics are coloured: never, always, or as the compiler chooses.
 #[derive(Debug, Clone, Copy, PartialEq, Eq)]
 pub enum ColorMode {
+    /// Never.
     Off,
+    /// Always.
     On,
+    /// As the compiler chooses.
     Auto,
 }
 
 /// Whether the outcome of a command may be kept in the cache.
 #[derive(Debug, Clone, Copy, PartialEq, Eq)]
 pub enum Cacheable {
+    /// It may be kept.
     Yes,
+    /// It may not be kept.
     No,
 }
 
 /// The compilers whose command lines are read.
 #[derive(Debug, Clone, Copy, PartialEq, Eq)]
 pub enum CCompilerKind {
+    /// Gcc, as either driver.
     Gcc,
+    /// Clang, as either driver.
     Clang,
+    /// Diab.
     Diab,
+    /// Microsoft's cl, and clang-cl.
     Msvc,
+    /// TaskingVX.
     TaskingVX,
 }
 
@@ -44,11 +54,14 @@ pub struct ArtifactDescriptor {
 }
 
 /// The outcome of reading a command line: what was read; or that it can't be cached, with a reason and
-/// a text beside it; or that it is no compilation (docs/RULES.md, Records).
+/// perhaps a text beside it; or that it is no compilation (docs/RULES.md, Records).
 #[derive(Debug, PartialEq, Eq, Drop)]
 pub enum CompilerArguments<T> {
+    /// What was read.
     Ok(T),
+    /// The reason, and perhaps a text that tells more.
     CannotCache(&'static str, Option<String>),
+    /// No compilation is asked for.
     NotCompilation,
 }
 
@@ -161,8 +174,10 @@ pub struct PassOutput {
 /// Why there is no command: the record has no output `obj`, or memory was refused.
 #[derive(Debug, PartialEq, Eq, Drop, Error)]
 pub enum CommandError {
+    /// The record has no output `obj`.
     #[error("Missing object file output")]
     MissingObj,
+    /// Memory was refused.
     #[error("out of memory")]
     Memory,
 }

@@ -1,5 +1,6 @@
 //! Why a command line is refused.
-ghost use Rattle.std.specs.Prelude.{◌≡◌, Err, IfErr, IfOk, IsTrue, MatchOption, MatchResult, None, Ok, Some, is_some};
+ghost use Rattle.std.specs.Prelude.{◌≡◌, Err, IfErr, IfOk, IsTrue, MatchOption, None, Some, is_some};
+ghost use Rattle.std.specs.Result.{result_map_both};
 ghost use Rattle.scl_text.specs.Reasons.{argument_parse};
 ghost use Rattle.scl_text.specs.Records.{outcome_of};
 ghost use Rattle.scl_text.specs.Refusals.{verdict_of, text_of, answer_of, the_input, later_inputs};
@@ -11,11 +12,11 @@ use scl_args::{Mem, quoted_list};
 use std::alloc::Global;
 use std::fmt::Display;
 
-/// Why a command line is refused: it can't be cached, with the reason and a text beside it, or it is no compilation
+/// Why a command line is refused: it can't be cached, with the reason and perhaps a text beside it, or it is no compilation
 /// (docs/RULES.md, Readings).
 #[derive(Debug, PartialEq, Eq, Drop)]
 pub enum Refusal {
-    /// The reason, and a text that tells more.
+    /// The reason, and perhaps a text that tells more.
     CannotCache(&'static str, Option<String>),
     /// No compilation is asked for.
     NotCompilation,
@@ -61,7 +62,7 @@ pub fn argument_parse<E: Display>(alloc: Global, error: &E) -> Mem<Refusal>
 /// The one input; refused where there is none, and where there are several, with the later ones beside the reason
 /// (docs/RULES.md, Readings). The error is the refusal of memory.
 pub fn one_input(alloc: Global, inputs: Vec<Vec<u8>>) -> Mem<Result<Vec<u8>, Refusal>>
-    ensures input { IfOk result (λ tested. MatchResult tested (λ input. the_input (words_of inputs.items) ≡ Ok input.items) (λ refusal. the_input (words_of inputs.items) ≡ Err (verdict_of refusal))) }
+    ensures input { IfOk result (λ tested. result_map_both (λ input. input.items) verdict_of tested ≡ the_input (words_of inputs.items)) }
     ensures text { IfOk result (λ tested. IfErr tested (λ refusal. text_of refusal ≡ later_inputs (words_of inputs.items))) }
 {
     let mut inputs = inputs;

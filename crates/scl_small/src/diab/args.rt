@@ -15,30 +15,50 @@ use std::alloc::Global;
 /// What Diab's options mean, without their values (docs/RULES.md, Diab and TaskingVX).
 #[derive(Clone, Copy, Debug, PartialEq, Eq)]
 pub enum Kind {
+    /// A flag by which the command line can't be cached.
     TooHardFlag,
+    /// A flag with a value by which the command line can't be cached.
     TooHard,
+    /// The flag that asks for a compilation.
     DoCompilation,
+    /// The path of the object file.
     Output,
+    /// A word that changes the outcome.
     PassThrough,
+    /// A word for the preprocessor.
     PreprocessorArgument,
+    /// A path for the preprocessor.
     PreprocessorArgumentPath,
+    /// A flag about dependencies.
     DepArgumentFlag,
+    /// A word about dependencies.
     DepArgument,
+    /// A path about dependencies.
     DepArgumentPath,
 }
 
 /// What Diab's options mean, with their values (docs/RULES.md, Diab and TaskingVX).
 #[derive(Debug, PartialEq, Eq, Drop)]
 pub enum ArgData {
+    /// A flag by which the command line can't be cached.
     TooHardFlag,
+    /// A flag with a value by which the command line can't be cached.
     TooHard(Vec<u8>),
+    /// The flag that asks for a compilation.
     DoCompilation,
+    /// The path of the object file.
     Output(PathArg),
+    /// A word that changes the outcome.
     PassThrough(Vec<u8>),
+    /// A word for the preprocessor.
     PreprocessorArgument(Vec<u8>),
+    /// A path for the preprocessor.
     PreprocessorArgumentPath(PathArg),
+    /// A flag about dependencies.
     DepArgumentFlag,
+    /// A word about dependencies.
     DepArgument(Vec<u8>),
+    /// A path about dependencies.
     DepArgumentPath(PathArg),
 }
 
