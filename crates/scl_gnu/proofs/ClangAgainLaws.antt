@@ -1,4 +1,4 @@
-use Rattle.std.proofs.Common.{ℕ, Bool, true, List, [], ◌∷◌, ◌++◌, map, Option, None, Some, refl}
+use Rattle.std.proofs.Common.{ℕ, true, List, [], ◌∷◌, ◌++◌, map, Option, None, Some, refl}
 use Rattle.std.proofs.lemmas.List.{append-nil}
 use Rattle.std.specs.Prelude.{codes}
 use Rattle.scl_values.specs.Each.{Each}
@@ -10,7 +10,7 @@ use Rattle.scl_values.specs.Tables.{owner_in, all_rows}
 use Rattle.scl_args.proofs.OwnerLaws.{owner_in-is}
 use Rattle.scl_again.specs.Checks.{is_changing, is_joining}
 use Rattle.scl_again.specs.Origins.{IsClear}
-use Rattle.scl_again.specs.Promises.{IsFaithful}
+use Rattle.scl_again.specs.Promises.{inner_of, IsFaithful}
 use Rattle.scl_again.specs.Reads.{Reads}
 use Rattle.scl_again.proofs.FreshLaws.{fresh-either}
 use Rattle.scl_again.proofs.OriginLaws.{has_row}
@@ -18,9 +18,8 @@ use Rattle.scl_again.proofs.ReadsLaws.{reads-apart, reads-either_apart, reads-jo
 use Rattle.scl_text.proofs.CompilerLaws.{command-kept}
 use Rattle.scl_files.specs.declared.expand.ExpansionKind.TheVariants as expansions
 use Rattle.scl_text.specs.declared.records.CCompilerKind.TheVariants as compilers
-use Rattle.scl_text.specs.Commands.{command_by}
-use Rattle.scl_text.specs.Compilers.{IfCommand}
 use Rattle.scl_files.specs.Expand.{expand}
+use Rattle.scl_text.specs.JudgedWords.{options_of}
 use Rattle.scl_text.specs.Languages.{clang_text}
 use Rattle.scl_files.specs.Views.{Viewed}
 use Rattle.scl_gnu_reading.specs.declared.gcc.data.Kind.{Kind}
@@ -30,9 +29,9 @@ use Rattle.scl_gnu.specs.Building.{command_words}
 use Rattle.scl_gnu_reading.specs.ClangRows.{clang_rows, clang_tables}
 use Rattle.scl_gnu_reading.specs.GccRows.{gcc_rows}
 use Rattle.scl_gnu_reading.specs.Kinds.{of}
-use Rattle.scl_gnu.specs.ReadAgain.{options_of, inner_options_of, behind_xclang, parts, clang_line, ClangCommandsAreReadAgain, ClangReadsAgain}
+use Rattle.scl_gnu.specs.ReadAgain.{inner_options_of, behind_xclang, parts, clang_line, ClangCommandsKeep}
 use Rattle.scl_gnu_reading.specs.Readings.{reading}
-use Rattle.scl_gnu_reading.proofs.CheckLaws.{clang_passes, xclang_alone}
+use Rattle.scl_gnu_reading.proofs.CheckLaws.{clang_passes, no_xclang}
 use Rattle.scl_gnu.proofs.NoFileLaws.{clang_none}
 use Rattle.scl_gnu.proofs.OwnWordsLaws.{OwnWords, AreInners}
 use Rattle.scl_gnu.proofs.ReadAgainLaws.{commands-again}
@@ -82,16 +81,16 @@ unfolding gcc_rows clang_rows xclang_row
 reads-wrapped w = reads-apart own true xclang_row w refl (record { is = refl; no_mark = refl })
 
 handed : (directory : List ℕ) (view : Viewed) (words : List (List ℕ)) →
-    let inner = inner_options_of directory view (map shown (options_of clang_tables true directory view words)) in
-    Each IsClear inner → AreInners clang_tables true (map shown inner) (behind_xclang inner ∷ [])
+    let inner = inner_options_of directory view (map shown (options_of expansions.Gnu clang_tables true directory view words)) in
+    Each IsClear inner → AreInners clang_tables true (map shown inner) (inner_of (behind_xclang inner) ∷ [])
 handed directory view words clear =
-    let os = map shown (options_of clang_tables true directory view words) in
+    let os = map shown (options_of expansions.Gnu clang_tables true directory view words) in
     record {
       are = (
         record {
           clear = record { words = expand expansions.Gnu directory view.files (texts (of (kind.XClang ∷ [])) os); are = refl; clear = clear };
           wraps = reads-wrapped;
-          alone = xclang_alone;
+          alone = no_xclang;
         },
         tt,
       );
@@ -100,19 +99,15 @@ handed directory view words clear =
       words_are = λ there. append-nil _;
     }
 
-pub commands_again : ClangCommandsAreReadAgain
-commands_again = commands-again compilers.Clang clang_tables own_words clang_text (λ inner. behind_xclang inner ∷ []) handed
-
 -- ---- the promise of a command
 
-pub command_kept : (plusplus : Bool) (directory : List ℕ) (view : Viewed) (words : List (List ℕ)) →
-    IfCommand (command_by (λ p. command_words (clang_text p.language) p)) (ClangReadsAgain directory view words) (reading compilers.Clang plusplus clang_tables directory view words)
+pub command_kept : ClangCommandsKeep
 command_kept plusplus directory view words =
     let line = clang_line directory view words in
     command-kept (λ p. command_words (clang_text p.language) p)
     (λ p object built. IsFaithful clang_tables true clang_tables line (parts (clang_text p.language) (map shown line.options) p object) object built)
     (reading compilers.Clang plusplus clang_tables directory view words)
     (λ p object e o. record {
-      again = commands_again plusplus directory view words p object e o;
+      again = commands-again compilers.Clang clang_tables own_words clang_text (λ inner. behind_xclang inner ∷ []) handed plusplus directory view words p object e o;
       no_file = clang_none plusplus directory view words p object e o;
     })

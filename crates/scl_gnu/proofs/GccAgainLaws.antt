@@ -1,4 +1,4 @@
-use Rattle.std.proofs.Common.{ℕ, Bool, false, List, [], ◌∷◌, ◌++◌, map, Option, None, Some, refl, sym, ap}
+use Rattle.std.proofs.Common.{ℕ, false, List, [], ◌∷◌, ◌++◌, map, Option, None, Some, refl, sym, ap}
 use Rattle.std.specs.Prelude.{codes}
 use Rattle.scl_values.specs.Each.{Each}
 use Rattle.scl_args.specs.Options.{side_of_flag}
@@ -13,9 +13,9 @@ use Rattle.scl_again.proofs.FreshLaws.{fresh-either}
 use Rattle.scl_again.proofs.OriginLaws.{has_row}
 use Rattle.scl_again.proofs.ReadsLaws.{reads-apart, reads-either_apart, reads-joined}
 use Rattle.scl_text.proofs.CompilerLaws.{command-kept}
+use Rattle.scl_files.specs.declared.expand.ExpansionKind.TheVariants as expansions
 use Rattle.scl_text.specs.declared.records.CCompilerKind.TheVariants as compilers
-use Rattle.scl_text.specs.Commands.{command_by}
-use Rattle.scl_text.specs.Compilers.{IfCommand}
+use Rattle.scl_text.specs.JudgedWords.{options_of}
 use Rattle.scl_text.specs.Languages.{gcc_text}
 use Rattle.scl_files.specs.Views.{Viewed}
 use Rattle.scl_gnu_reading.specs.declared.gcc.data.Kind.{Kind}
@@ -25,7 +25,7 @@ use Rattle.scl_gnu.specs.Building.{command_words}
 use Rattle.scl_gnu_reading.specs.ClangRows.{clang_tables}
 use Rattle.scl_gnu_reading.specs.GccRows.{gcc_rows}
 use Rattle.scl_gnu_reading.specs.Inners.{inner_words_at}
-use Rattle.scl_gnu.specs.ReadAgain.{options_of, inner_options_of, parts, gcc_line, GccCommandsAreReadAgain, GccReadsAgain}
+use Rattle.scl_gnu.specs.ReadAgain.{inner_options_of, parts, gcc_line, GccCommandsKeep}
 use Rattle.scl_gnu_reading.specs.Readings.{reading}
 use Rattle.scl_gnu_reading.proofs.CheckLaws.{gcc_passes}
 use Rattle.scl_gnu.proofs.InnerLaws.{no_inner}
@@ -76,7 +76,7 @@ own_words = record {
 -- ---- inner command lines
 
 handed : (directory : List ℕ) (view : Viewed) (words : List (List ℕ)) →
-    let inner = inner_options_of directory view (map shown (options_of tables false directory view words)) in
+    let inner = inner_options_of directory view (map shown (options_of expansions.Gnu tables false directory view words)) in
     Each IsClear inner → AreInners tables false (map shown inner) []
 handed directory view words clear = record {
   are = tt;
@@ -85,19 +85,15 @@ handed directory view words clear = record {
   words_are = λ there. sym (ap (inner_words_at there) (no_inner directory view words));
 }
 
-pub commands_again : GccCommandsAreReadAgain
-commands_again = commands-again compilers.Gcc tables own_words gcc_text (λ inner. []) handed
-
 -- ---- the promise of a command
 
-pub command_kept : (plusplus : Bool) (directory : List ℕ) (view : Viewed) (words : List (List ℕ)) →
-    IfCommand (command_by (λ p. command_words (gcc_text p.language) p)) (GccReadsAgain directory view words) (reading compilers.Gcc plusplus tables directory view words)
+pub command_kept : GccCommandsKeep
 command_kept plusplus directory view words =
     let line = gcc_line directory view words in
     command-kept (λ p. command_words (gcc_text p.language) p)
     (λ p object built. IsFaithful tables false clang_tables line (parts (gcc_text p.language) (map shown line.options) p object) object built)
     (reading compilers.Gcc plusplus tables directory view words)
     (λ p object e o. record {
-      again = commands_again plusplus directory view words p object e o;
+      again = commands-again compilers.Gcc tables own_words gcc_text (λ inner. []) handed plusplus directory view words p object e o;
       no_file = gcc_none plusplus directory view words p object e o;
     })

@@ -1,5 +1,5 @@
 -- The command of a record of Gcc or Clang names no response file where none was given.
-use Rattle.std.proofs.Common.{◌≡◌, ℕ, Bool, true, false, List, [], ◌∷◌, ◌++◌, map, Option, Some, refl, sym, ap, subst, ◌∙◌}
+use Rattle.std.proofs.Common.{◌≡◌, ℕ, Bool, true, false, List, [], ◌∷◌, ◌++◌, map, Option, Some, Ok, refl, sym, ap, subst, ◌∙◌}
 use Rattle.std.specs.Prelude.{codes, is_some, unwrap_or}
 use Rattle.scl_values.specs.Cuts.{Cut, cut}
 use Rattle.scl_values.specs.Each.{Each}
@@ -7,8 +7,8 @@ use Rattle.scl_args.specs.Options.{dash_words, side_of_flag, texts}
 use Rattle.scl_values.specs.Row.{Row}
 use Rattle.scl_values.specs.Seen.{Seen, shown, flag_of, text_of}
 use Rattle.scl_values.specs.Tables.{owner_in, all_rows}
-use Rattle.scl_again.specs.Commands.{Inner}
-use Rattle.scl_again.specs.NoFiles.{NamesNoFile, GivesNoFile, has_plain_flags}
+use Rattle.scl_again.specs.NoFiles.{NamesNoFile, GivesNoFile, NamesNoFileOfItsOwn, has_plain_flags}
+use Rattle.scl_again.specs.Promises.{HandedOn, inner_of, said_by}
 use Rattle.scl_again.proofs.NoFileLaws.{each-append, HasPlainFlag, flag-none, plain-found, passed, listed-none, one-none, apart-none, last-none}
 use Rattle.scl_files.specs.declared.expand.ExpansionKind.TheVariants as expansions
 use Rattle.scl_text.specs.declared.language.Language.{Language}
@@ -18,6 +18,7 @@ use Rattle.scl_text.specs.declared.records.CCompilerKind.TheVariants as compiler
 use Rattle.scl_text.specs.declared.records.ColorMode.{ColorMode}
 use Rattle.scl_text.specs.declared.records.ColorMode.TheVariants as colors
 use Rattle.scl_text.specs.Commands.{object_of}
+use Rattle.scl_text.specs.JudgedWords.{options_of}
 use Rattle.scl_files.specs.Expand.{expand}
 use Rattle.scl_text.specs.Languages.{gcc_text, clang_text}
 use Rattle.scl_text.specs.Records.{Parsed}
@@ -34,9 +35,9 @@ use Rattle.scl_gnu_reading.specs.FixedTests.{Found}
 use Rattle.scl_gnu_reading.specs.GccRows.{gcc_rows}
 use Rattle.scl_gnu_reading.specs.Inners.{inner_place, inner_words_at, goes_inside_to}
 use Rattle.scl_gnu_reading.specs.Kinds.{of, any, is_input, last_flag, last_text}
-use Rattle.scl_gnu.specs.NoFiles.{CommandsNameNoFile, GccCommandsNameNoFile, ClangCommandsNameNoFile}
 use Rattle.scl_gnu_reading.specs.Places.{place, goes_to}
-use Rattle.scl_gnu.specs.ReadAgain.{options_of, inner_options_of, behind_xclang}
+use Rattle.scl_gnu.specs.ReadAgain.{inner_options_of, line_of, gcc_line, behind_xclang, clang_line}
+use Rattle.scl_gnu_reading.specs.Readings.{reading}
 use Rattle.scl_gnu_reading.specs.Recordings.{is_clang, needs_target, added_common, added_depfile, added_dependency, all_words_at, dependency_words, record_of}
 use Rattle.scl_gnu_reading.proofs.CheckLaws.{carried_plain, carried_inner_plain}
 use Rattle.scl_gnu.proofs.InnerLaws.{no_inner}
@@ -127,14 +128,17 @@ module _ (compiler : CCompilerKind) (tables : List (List (Row Kind))) (flags : P
 -- ---- the command of a reading
 
 module _ (compiler : CCompilerKind) (tables : List (List (Row Kind))) (flags : PlainFlags tables)
-    (text : Language → Option (List ℕ)) (languages_none : (l : Language) → NameNone (language_words (text l))) (handed_on : List (Cut Kind) → List (Inner Kind Kind))
+    (text : Language → Option (List ℕ)) (languages_none : (l : Language) → NameNone (language_words (text l))) (handed_on : List (Cut Kind) → List (HandedOn Kind Kind))
     (inside : (directory : List ℕ) (view : Viewed) (words : List (List ℕ)) →
-    let inner = inner_options_of directory view (map shown (options_of tables (is_clang compiler) directory view words)) in
-    Each (λ i. Each GivesNoFile i.options) (handed_on inner) → (there : Place) → is_list there ≡ true → NameNone (inner_words_at there (map shown inner))) where
-  commands-none : CommandsNameNoFile compiler tables text handed_on
+    let inner = inner_options_of directory view (map shown (options_of expansions.Gnu tables (is_clang compiler) directory view words)) in
+    Each (λ i. Each GivesNoFile i.options) (map inner_of (handed_on inner)) → (there : Place) → is_list there ≡ true → NameNone (inner_words_at there (map shown inner))) where
+  -- where words have a record with an object, its command names no response file of its own
+  commands-none : (plusplus : Bool) (directory : List ℕ) (view : Viewed) (words : List (List ℕ)) (p : Parsed) (object : List ℕ) →
+      reading compiler plusplus tables directory view words ≡ Ok p → object_of p ≡ Some object →
+      NamesNoFileOfItsOwn (said_by (line_of tables (is_clang compiler) handed_on directory view words)) object (command_words (text p.language) p object)
   commands-none plusplus directory view words p object e has_object none inner_none unnamed =
       let r = is-read compiler plusplus tables directory view words p e in
-      let os = map shown (options_of tables (is_clang compiler) directory view words) in
+      let os = map shown (options_of expansions.Gnu tables (is_clang compiler) directory view words) in
       let inner = map shown (inner_options_of directory view os) in
       let found = object-found compiler directory view os inner r.tested in
       let both : Some r.tested.object ≡ Some object = sym found ∙ (ap object_of r.is ∙ has_object) in
@@ -155,7 +159,9 @@ gcc-languages languages.GenericHeader = tt
 gcc-languages languages.Rust = tt
 gcc-languages _ = (refl, (refl, tt))
 
-pub gcc_none : GccCommandsNameNoFile
+pub gcc_none : (plusplus : Bool) (directory : List ℕ) (view : Viewed) (words : List (List ℕ)) (p : Parsed) (object : List ℕ) →
+    reading compilers.Gcc plusplus (gcc_rows ∷ []) directory view words ≡ Ok p → object_of p ≡ Some object →
+    NamesNoFileOfItsOwn (said_by (gcc_line directory view words)) object (command_words (gcc_text p.language) p object)
 gcc_none = commands-none compilers.Gcc (gcc_rows ∷ []) gcc-flags gcc_text gcc-languages (λ inner. [])
     (λ directory view words n there lists. subst (λ inner. NameNone (inner_words_at there inner)) (sym (no_inner directory view words)) tt)
 
@@ -170,10 +176,12 @@ clang-languages languages.GenericHeader = tt
 clang-languages languages.Rust = tt
 clang-languages _ = (refl, (refl, tt))
 
-pub clang_none : ClangCommandsNameNoFile
+pub clang_none : (plusplus : Bool) (directory : List ℕ) (view : Viewed) (words : List (List ℕ)) (p : Parsed) (object : List ℕ) →
+    reading compilers.Clang plusplus clang_tables directory view words ≡ Ok p → object_of p ≡ Some object →
+    NamesNoFileOfItsOwn (said_by (clang_line directory view words)) object (command_words (clang_text p.language) p object)
 clang_none = commands-none compilers.Clang clang_tables clang-flags clang_text clang-languages (λ inner. behind_xclang inner ∷ [])
     (λ directory view words n there lists.
-    let os = map shown (options_of clang_tables true directory view words) in
+    let os = map shown (options_of expansions.Gnu clang_tables true directory view words) in
     let handed = expand expansions.Gnu directory view.files (texts (of (kind.XClang ∷ [])) os) in
     apart-none (codes "-Xclang") refl _ (listed-none (goes_inside_to there) side_of_flag _ n.0
     (plain-found clang_tables false carried_inner carried_inner_plain (goes_inside_to there) (λ f k v h e. same-list (inner_place k) there lists e) handed)))

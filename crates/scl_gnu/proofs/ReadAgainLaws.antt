@@ -1,5 +1,5 @@
 -- The command of a record of Gcc or Clang is read again.
-use Rattle.std.proofs.Common.{◌≡◌, ℕ, Bool, true, false, not, List, [], ◌∷◌, ◌++◌, map, Option, None, Some, refl, sym, ap, subst, ◌∙◌}
+use Rattle.std.proofs.Common.{◌≡◌, ℕ, Bool, true, false, not, List, [], ◌∷◌, ◌++◌, map, Option, None, Some, Ok, refl, sym, ap, subst, ◌∙◌}
 use Rattle.std.proofs.lemmas.List.{append-nil}
 use Rattle.std.specs.List.{flat_map}
 use Rattle.std.specs.Prelude.{codes, is_some, unwrap_or}
@@ -14,6 +14,7 @@ use Rattle.scl_values.specs.Tables.{owner_in}
 use Rattle.scl_again.specs.Commands.{Inner, Said, carried, values_at, IsReadAgain}
 use Rattle.scl_again.specs.Commands as command
 use Rattle.scl_again.specs.Origins.{IsClear, AreClear, input_words}
+use Rattle.scl_again.specs.Promises.{HandedOn, inner_of, said_by}
 use Rattle.scl_again.specs.Reads.{read, cleanly, Reads}
 use Rattle.scl_again.proofs.CommandLaws.{list-again, command-again}
 use Rattle.scl_again.proofs.FoundLaws.{last-flag, flag-again}
@@ -28,6 +29,7 @@ use Rattle.scl_text.specs.declared.records.CCompilerKind.{CCompilerKind}
 use Rattle.scl_text.specs.declared.records.ColorMode.{ColorMode}
 use Rattle.scl_text.specs.declared.records.ColorMode.TheVariants as colors
 use Rattle.scl_text.specs.Commands.{object_of}
+use Rattle.scl_text.specs.JudgedWords.{options_of}
 use Rattle.scl_files.specs.Expand.{expand}
 use Rattle.scl_files.specs.Paths.{with_extension}
 use Rattle.scl_text.specs.Records.{Parsed}
@@ -42,7 +44,8 @@ use Rattle.scl_gnu_reading.specs.ClangRows.{clang_tables}
 use Rattle.scl_gnu_reading.specs.FixedTests.{Found}
 use Rattle.scl_gnu_reading.specs.Kinds.{of, any, is_input, last_flag, last_text}
 use Rattle.scl_gnu_reading.specs.Places.{words_at}
-use Rattle.scl_gnu.specs.ReadAgain.{language_option, color_option, split_dwarf_option, depfile_option, target_options, list_of, parts, options_of, inner_options_of, CommandsAreReadAgain}
+use Rattle.scl_gnu.specs.ReadAgain.{language_option, color_option, split_dwarf_option, depfile_option, target_options, list_of, line_of, parts, inner_options_of}
+use Rattle.scl_gnu_reading.specs.Readings.{reading}
 use Rattle.scl_gnu_reading.specs.Recordings.{is_clang, needs_target, added_common, added_depfile, added_dependency, all_words_at, dependency_words, record_of}
 use Rattle.scl_gnu_reading.proofs.CheckLaws.{inner_passes}
 use Rattle.scl_gnu.proofs.KeptLaws.{no-raws, is_kind, compiles-alone, target-alone, is-list}
@@ -232,19 +235,24 @@ module _ (compiler : CCompilerKind) (tables : List (List (Row Kind))) (own_words
           }) reads-lists
 
 module _ (compiler : CCompilerKind) (tables : List (List (Row Kind))) (own_words : OwnWords tables (is_clang compiler))
-    (text : Language → Option (List ℕ)) (handed_on : List (Cut Kind) → List (Inner Kind Kind))
+    (text : Language → Option (List ℕ)) (handed_on : List (Cut Kind) → List (HandedOn Kind Kind))
     (handed : (directory : List ℕ) (view : Viewed) (words : List (List ℕ)) →
-    let inner = inner_options_of directory view (map shown (options_of tables (is_clang compiler) directory view words)) in
-    Each IsClear inner → AreInners tables (is_clang compiler) (map shown inner) (handed_on inner)) where
-  pub commands-again : CommandsAreReadAgain compiler tables text handed_on
+    let inner = inner_options_of directory view (map shown (options_of expansions.Gnu tables (is_clang compiler) directory view words)) in
+    Each IsClear inner → AreInners tables (is_clang compiler) (map shown inner) (map inner_of (handed_on inner))) where
+  -- where words have a record with an object, its command is read again
+  pub commands-again : (plusplus : Bool) (directory : List ℕ) (view : Viewed) (words : List (List ℕ)) (p : Parsed) (object : List ℕ) →
+      reading compiler plusplus tables directory view words ≡ Ok p → object_of p ≡ Some object →
+      let line = line_of tables (is_clang compiler) handed_on directory view words in
+      IsReadAgain tables (is_clang compiler) clang_tables (said_by line) (parts (text p.language) (map shown line.options) p object) (command_words (text p.language) p object)
   commands-again plusplus directory view words p object e has_object =
       let r = is-read compiler plusplus tables directory view words p e in
-      let os = map shown (options_of tables (is_clang compiler) directory view words) in
+      let os = map shown (options_of expansions.Gnu tables (is_clang compiler) directory view words) in
       let inner = inner_options_of directory view os in
+      let said : Said Kind Kind = said_by (line_of tables (is_clang compiler) handed_on directory view words) in
       let found = object-found compiler directory view os (map shown inner) r.tested in
       let both : Some r.tested.object ≡ Some object = sym found ∙ (ap object_of r.is ∙ has_object) in
       let same : r.tested.object ≡ object = cc in
-      subst (λ x. IsReadAgain tables (is_clang compiler) clang_tables (record { options = os; inners = handed_on inner }) (parts (text p.language) os p x) (command_words (text p.language) p x)) same
-      (subst (λ q. IsReadAgain tables (is_clang compiler) clang_tables (record { options = os; inners = handed_on inner }) (parts (text q.language) os q r.tested.object) (command_words (text q.language) q r.tested.object)) r.is
-      (record-again compiler tables own_words (expand expansions.Gnu directory view.files words) (map shown inner) (handed_on inner) (handed directory view words r.inner_clear)
+      subst (λ x. IsReadAgain tables (is_clang compiler) clang_tables said (parts (text p.language) os p x) (command_words (text p.language) p x)) same
+      (subst (λ q. IsReadAgain tables (is_clang compiler) clang_tables said (parts (text q.language) os q r.tested.object) (command_words (text q.language) q r.tested.object)) r.is
+      (record-again compiler tables own_words (expand expansions.Gnu directory view.files words) (map shown inner) (map inner_of (handed_on inner)) (handed directory view words r.inner_clear)
       r.clear directory view r.tested r.has (text r.tested.language)))

@@ -1,8 +1,9 @@
 -- What an outcome Ok says of the options of a command line.
 use Rattle.std.proofs.Common.{◌≡◌, ℕ, Bool, true, false, List, [], ◌∷◌, ◌++◌, map, Option, None, Some, Ok, refl, ap, ◌∙◌, cond}
+use Rattle.std.specs.Bool.{then_some}
 use Rattle.std.specs.List.{find}
 use Rattle.std.specs.Option.{option_map}
-use Rattle.std.specs.Prelude.{codes, ok_or}
+use Rattle.std.specs.Prelude.{codes, ok_or, if◌then◌else◌}
 use Rattle.std.specs.Str.{bytes_eq}
 use Rattle.scl_values.specs.Cuts.{cut, is_dangling}
 use Rattle.scl_values.specs.Each.{Each}
@@ -18,7 +19,9 @@ use Rattle.scl_files.specs.declared.expand.ExpansionKind.TheVariants as expansio
 use Rattle.scl_text.specs.declared.records.CCompilerKind.{CCompilerKind}
 use Rattle.scl_text.specs.Commands.{object_of}
 use Rattle.scl_files.specs.Expand.{expand}
-use Rattle.scl_text.specs.JudgedWords.{judged_words}
+use Rattle.scl_files.specs.Paths.{with_extension}
+use Rattle.scl_text.specs.Languages.{needs_c_preprocessing}
+use Rattle.scl_text.specs.JudgedWords.{judged_words, options_of}
 use Rattle.scl_text.specs.Outputs.{output_at, path_at}
 use Rattle.scl_text.specs.Reasons.{argument_parse, empty_value, invalid_input_file, unknown_source_language}
 use Rattle.scl_text.specs.Records.{Artifact, Parsed, NotCompilation}
@@ -31,9 +34,9 @@ use Rattle.scl_gnu_reading.specs.FixedTests as tests
 use Rattle.scl_gnu_reading.specs.FixedTests.{Found, found, language_of, module_path_unless}
 use Rattle.scl_gnu_reading.specs.Inners.{inner_reading, inner_verdict}
 use Rattle.scl_gnu_reading.specs.Kinds.{of, any, is_input, last_flag, last_text}
-use Rattle.scl_gnu.specs.ReadAgain.{options_of, inner_options_of}
+use Rattle.scl_gnu.specs.ReadAgain.{inner_options_of}
 use Rattle.scl_gnu_reading.specs.Readings.{read, reading, recorded}
-use Rattle.scl_gnu_reading.specs.Recordings.{is_clang, record_of, OutputPaths, outputs, output_paths}
+use Rattle.scl_gnu_reading.specs.Recordings.{is_clang, record_of}
 use Rattle.scl_gnu_reading.specs.Verdicts.{verdict}
 
 -- ---- what the tests found
@@ -65,7 +68,7 @@ has-found plusplus os f e =
 
 module _ (compiler : CCompilerKind) (plusplus : Bool) (tables : List (List (Row Kind))) (directory : List ℕ) (view : Viewed) (words : List (List ℕ)) (p : Parsed) where
   abbrev os : List (Seen Kind)
-  os = map shown (options_of tables (is_clang compiler) directory view words)
+  os = map shown (options_of expansions.Gnu tables (is_clang compiler) directory view words)
 
   abbrev inner : List (Seen Kind)
   inner = map shown (inner_options_of directory view os)
@@ -74,7 +77,7 @@ module _ (compiler : CCompilerKind) (plusplus : Bool) (tables : List (List (Row 
     pub tested : Found
     pub has : HasFound os tested
     pub is : record_of compiler directory view os inner tested ≡ p
-    pub clear : Each IsClear (options_of tables (is_clang compiler) directory view words)
+    pub clear : Each IsClear (options_of expansions.Gnu tables (is_clang compiler) directory view words)
     pub inner_clear : Each IsClear (inner_options_of directory view os)
 
   pub is-read : reading compiler plusplus tables directory view words ≡ Ok p → IsRead
@@ -115,25 +118,28 @@ module _ (name : List ℕ) where
   no-path-behind : (xs : List Artifact) (other : List ℕ) (optional : Bool) (path : Option (List ℕ)) → bytes_eq name other ≡ false → path_at xs name ≡ None → path_at (xs ++ output_at other optional path) name ≡ None
   no-path-behind xs other optional path e none = path-behind xs (output_at other optional path) name none ∙ no-path other optional path e
 
-module _ (o : OutputPaths) where
+module _ (depfile diagnostics dwo gcno module_path : Option (List ℕ)) (object : List ℕ) where
   abbrev two : List Artifact
-  two = output_at (codes "d") false o.depfile ++ output_at (codes "dia") false o.diagnostics
+  two = output_at (codes "d") false depfile ++ output_at (codes "dia") false diagnostics
 
   abbrev three : List Artifact
-  three = two ++ output_at (codes "dwo") true o.dwo
+  three = two ++ output_at (codes "dwo") true dwo
 
   abbrev four : List Artifact
-  four = three ++ output_at (codes "gcno") false o.gcno
+  four = three ++ output_at (codes "gcno") false gcno
 
-  none-before : path_at (four ++ output_at (codes "module") false o.module_path) (codes "obj") ≡ None
+  none-before : path_at (four ++ output_at (codes "module") false module_path) (codes "obj") ≡ None
   none-before =
-      no-path-behind (codes "obj") four (codes "module") false o.module_path refl
-      (no-path-behind (codes "obj") three (codes "gcno") false o.gcno refl
-      (no-path-behind (codes "obj") two (codes "dwo") true o.dwo refl
-      (no-path-behind (codes "obj") (output_at (codes "d") false o.depfile) (codes "dia") false o.diagnostics refl (no-path (codes "obj") (codes "d") false o.depfile refl))))
+      no-path-behind (codes "obj") four (codes "module") false module_path refl
+      (no-path-behind (codes "obj") three (codes "gcno") false gcno refl
+      (no-path-behind (codes "obj") two (codes "dwo") true dwo refl
+      (no-path-behind (codes "obj") (output_at (codes "d") false depfile) (codes "dia") false diagnostics refl (no-path (codes "obj") (codes "d") false depfile refl))))
 
-  object-is : path_at (outputs o) (codes "obj") ≡ Some o.object
-  object-is = path-behind (four ++ output_at (codes "module") false o.module_path) (output_at (codes "obj") false (Some o.object)) (codes "obj") none-before
+  object-is : path_at (four ++ output_at (codes "module") false module_path ++ output_at (codes "obj") false (Some object)) (codes "obj") ≡ Some object
+  object-is = path-behind (four ++ output_at (codes "module") false module_path) (output_at (codes "obj") false (Some object)) (codes "obj") none-before
 
 pub object-found : (compiler : CCompilerKind) (directory : List ℕ) (view : Viewed) (os inside : List (Seen Kind)) (f : Found) → object_of (record_of compiler directory view os inside f) ≡ Some f.object
-object-found compiler directory view os inside f = object-is (output_paths os f)
+object-found compiler directory view os inside f =
+    object-is (if needs_c_preprocessing f.language then last_text (kind.DepArgumentPath ∷ []) os else None) (last_text (kind.SerializeDiagnostics ∷ []) os)
+    (then_some (any (kind.SplitDwarf ∷ []) os) (with_extension f.object (codes "dwo")))
+    (then_some (any (kind.Coverage ∷ kind.TestCoverage ∷ []) os) (with_extension f.object (codes "gcno"))) f.module_path f.object

@@ -1,6 +1,5 @@
 pub mod Building
 pub mod ListsOf
-pub mod NoFiles
 pub mod OutputFiles
 pub mod Passes
 pub mod Preprocess

@@ -1,5 +1,6 @@
 -- The words of the runs of the preprocessor.
 use Rattle.std.specs.Prelude.{◌≡◌, ℕ, ◌<◌, Bool, true, false, not, ◌&&◌, ◌||◌, nat_le, if◌then◌else◌, List, [], ◌∷◌, ◌++◌, length, map, Option, codes}
+use Rattle.scl_text.specs.contracts.language.LanguagePartialEq.TheImpl.{ghosts}
 use Rattle.scl_text.specs.declared.language.Language.{Language}
 use Rattle.scl_text.specs.declared.language.Language.TheVariants as languages
 use Rattle.scl_text.specs.declared.records.CCompilerKind.{CCompilerKind}
@@ -80,14 +81,10 @@ preprocess_passes text kind rewrites ignorable may_dist p =
 abbrev pub line_flags : Bool → List (List ℕ)
 line_flags cache_mode = if cache_mode then [] else codes "-P" ∷ []
 
-abbrev pub is_assembler_to_preprocess : Language → Bool
-is_assembler_to_preprocess languages.AssemblerToPreprocess = true
-is_assembler_to_preprocess _ = false
-
 -- Clang from version 14 on leaves out white space too, but not in assembler that is to be preprocessed
 abbrev pub space_flags : Bool → Option (List ℕ) → Language → List (List ℕ)
 space_flags is_apple version language =
-    if is_minversion is_apple version 14 && not (is_assembler_to_preprocess language) then codes "-fminimize-whitespace" ∷ [] else []
+    if is_minversion is_apple version 14 && not (ghosts.eq language languages.AssemblerToPreprocess) then codes "-fminimize-whitespace" ∷ [] else []
 
 abbrev pub clang_flags : Bool → Option (List ℕ) → Language → Bool → List (List ℕ)
 clang_flags is_apple version language cache_mode = line_flags cache_mode ++ space_flags is_apple version language

@@ -1,12 +1,11 @@
 -- Commands of Gcc and Clang that are read again.
 use Rattle.std.specs.Prelude.{◌≡◌, ℕ, Bool, true, false, List, [], ◌∷◌, ◌++◌, map, codes, Option, None, Some, Ok, IfSome, unwrap_or, is_some}
-use Rattle.scl_values.specs.Cuts.{Cut, cut}
+use Rattle.scl_values.specs.Cuts.{Cut}
 use Rattle.scl_args.specs.Options.{texts}
 use Rattle.scl_values.specs.Row.{Row}
 use Rattle.scl_values.specs.Seen.{Seen, Plain, shown}
 use Rattle.scl_values.specs.Seen as plain
-use Rattle.scl_values.specs.Tables.{owner_in}
-use Rattle.scl_again.specs.Commands.{Inner, CommandList, Parts, IsReadAgain}
+use Rattle.scl_again.specs.Commands.{CommandList, Parts}
 use Rattle.scl_again.specs.Origins.{input_words}
 use Rattle.scl_again.specs.Promises.{HandedOn, Line, HasNoEmpty, IsFaithful}
 use Rattle.scl_files.specs.declared.expand.ExpansionKind.TheVariants as expansions
@@ -15,8 +14,9 @@ use Rattle.scl_text.specs.declared.records.CCompilerKind.{CCompilerKind}
 use Rattle.scl_text.specs.declared.records.CCompilerKind.TheVariants as compilers
 use Rattle.scl_text.specs.declared.records.ColorMode.{ColorMode}
 use Rattle.scl_text.specs.declared.records.ColorMode.TheVariants as colors
-use Rattle.scl_text.specs.Commands.{object_of}
-use Rattle.scl_files.specs.Expand.{expand}
+use Rattle.scl_text.specs.Commands.{command_by, object_of}
+use Rattle.scl_text.specs.Compilers.{IfCommand}
+use Rattle.scl_text.specs.JudgedWords.{options_of}
 use Rattle.scl_text.specs.Languages.{gcc_text, clang_text}
 use Rattle.scl_files.specs.Paths.{with_extension}
 use Rattle.scl_text.specs.Records.{Parsed}
@@ -32,7 +32,7 @@ use Rattle.scl_gnu_reading.specs.Inners.{goes_inside_to}
 use Rattle.scl_gnu_reading.specs.Kinds.{of, any, last_flag, last_text}
 use Rattle.scl_gnu_reading.specs.Places.{goes_to}
 use Rattle.scl_gnu_reading.specs.Readings.{reading}
-use Rattle.scl_gnu_reading.specs.Recordings.{is_clang, needs_target}
+use Rattle.scl_gnu_reading.specs.Recordings.{needs_target}
 
 -- ---- what a command is made of
 
@@ -80,50 +80,27 @@ parts text os p object = record {
 
 -- ---- what a command line says
 
--- what words with response files put in place are cut into
-abbrev pub options_of : List (List (Row Kind)) → Bool → List ℕ → Viewed → List (List ℕ) → List (Cut Kind)
-options_of tables dashes directory view words = (cut (owner_in tables) dashes (expand expansions.Gnu directory view.files words)).options
-
 -- the inner options that the options hand on
 abbrev pub inner_options_of : List ℕ → Viewed → List (Seen Kind) → List (Cut Kind)
-inner_options_of directory view os = options_of clang_tables false directory view (texts (of (kind.XClang ∷ [])) os)
-
--- the inner command line of these options
-abbrev pub behind_xclang : List (Cut Kind) → Inner Kind Kind
-behind_xclang inner = record { flag = codes "-Xclang"; kind = kind.XClang; options = map shown inner }
-
--- ---- the command read again
-
--- where words have a record, by these tables, its command with this text for the language is read again
-abbrev pub CommandsAreReadAgain : CCompilerKind → List (List (Row Kind)) → (Language → Option (List ℕ)) → (List (Cut Kind) → List (Inner Kind Kind)) → Type 0
-CommandsAreReadAgain compiler tables text handed_on =
-    (plusplus : Bool) (directory : List ℕ) (view : Viewed) (words : List (List ℕ)) (p : Parsed) (object : List ℕ) →
-    reading compiler plusplus tables directory view words ≡ Ok p → object_of p ≡ Some object →
-    let options = options_of tables (is_clang compiler) directory view words in
-    let inner = inner_options_of directory view (map shown options) in
-    IsReadAgain tables (is_clang compiler) clang_tables (record { options = map shown options; inners = handed_on inner })
-    (parts (text p.language) (map shown options) p object) (command_words (text p.language) p object)
-
--- Gcc has no flag that hands words on
-abbrev pub GccCommandsAreReadAgain : Type 0
-GccCommandsAreReadAgain = CommandsAreReadAgain compilers.Gcc (gcc_rows ∷ []) gcc_text (λ inner. [])
-
-abbrev pub ClangCommandsAreReadAgain : Type 0
-ClangCommandsAreReadAgain = CommandsAreReadAgain compilers.Clang clang_tables clang_text (λ inner. behind_xclang inner ∷ [])
+inner_options_of directory view os = options_of expansions.Gnu clang_tables false directory view (texts (of (kind.XClang ∷ [])) os)
 
 -- ---- the promise of a command
 
--- what the compiler cuts a command line into, and what it hands on behind `-Xclang`
-abbrev pub gcc_line : List ℕ → Viewed → List (List ℕ) → Line Kind Kind
-gcc_line directory view words = record { options = options_of (gcc_rows ∷ []) false directory view words; handed_on = [] }
+-- what a command line is cut into by the tables, and how its inner options are handed on
+abbrev pub line_of : List (List (Row Kind)) → Bool → (List (Cut Kind) → List (HandedOn Kind Kind)) → List ℕ → Viewed → List (List ℕ) → Line Kind Kind
+line_of tables dashes handed_on directory view words =
+    let options = options_of expansions.Gnu tables dashes directory view words in
+    record { options = options; handed_on = handed_on (inner_options_of directory view (map shown options)) }
 
-abbrev pub handed_by_xclang : List ℕ → Viewed → List (Cut Kind) → HandedOn Kind Kind
-handed_by_xclang directory view options = record { flag = codes "-Xclang"; kind = kind.XClang; options = inner_options_of directory view (map shown options) }
+-- Gcc has no flag that hands words on
+abbrev pub gcc_line : List ℕ → Viewed → List (List ℕ) → Line Kind Kind
+gcc_line directory view words = line_of (gcc_rows ∷ []) false (λ inner. []) directory view words
+
+abbrev pub behind_xclang : List (Cut Kind) → HandedOn Kind Kind
+behind_xclang inner = record { flag = codes "-Xclang"; kind = kind.XClang; options = inner }
 
 abbrev pub clang_line : List ℕ → Viewed → List (List ℕ) → Line Kind Kind
-clang_line directory view words =
-    let options = options_of clang_tables true directory view words in
-    record { options = options; handed_on = handed_by_xclang directory view options ∷ [] }
+clang_line directory view words = line_of clang_tables true (λ inner. behind_xclang inner ∷ []) directory view words
 
 -- what it is for the words of the command of a record, which these words have, to be read again and to name no response file of their own
 abbrev pub GccReadsAgain : List ℕ → Viewed → List (List ℕ) → Parsed → List (List ℕ) → Type 0
@@ -135,6 +112,20 @@ abbrev pub ClangReadsAgain : List ℕ → Viewed → List (List ℕ) → Parsed 
 ClangReadsAgain directory view words p command = IfSome (object_of p) (λ object.
     let line = clang_line directory view words in
     IsFaithful clang_tables true clang_tables line (parts (clang_text p.language) (map shown line.options) p object) object command)
+
+-- ---- the law of a compiler
+
+-- where words have a record, by these tables, its command with this text for the language keeps the promise
+abbrev pub CommandsKeep : CCompilerKind → List (List (Row Kind)) → (Language → Option (List ℕ)) → (List ℕ → Viewed → List (List ℕ) → Parsed → List (List ℕ) → Type 0) → Type 0
+CommandsKeep compiler tables text promise =
+    (plusplus : Bool) (directory : List ℕ) (view : Viewed) (words : List (List ℕ)) →
+    IfCommand (command_by (λ p. command_words (text p.language) p)) (promise directory view words) (reading compiler plusplus tables directory view words)
+
+abbrev pub GccCommandsKeep : Type 0
+GccCommandsKeep = CommandsKeep compilers.Gcc (gcc_rows ∷ []) gcc_text GccReadsAgain
+
+abbrev pub ClangCommandsKeep : Type 0
+ClangCommandsKeep = CommandsKeep compilers.Clang clang_tables clang_text ClangReadsAgain
 
 -- ---- records
 

@@ -6,16 +6,17 @@ use Rattle.std.specs.Ordering.{is_ge, nat_cmp, ordering_then}
 use Rattle.std.specs.Result.{result_ok}
 use Rattle.std.specs.declared.cmp.Ordering.{Ordering}
 use Rattle.semver.specs.Order.{pre_cmp}
+use Rattle.scl_files.specs.Characters.{dot, double_quote, space}
 use Rattle.semver.specs.Parse.{Parts, version_parts}
 
 abbrev pub is_space : ℕ → Bool
-is_space byte = byte == 32
+is_space byte = byte == space
 
 abbrev pub is_quote : ℕ → Bool
-is_quote byte = byte == 34
+is_quote byte = byte == double_quote
 
 abbrev pub has_dot : List ℕ → Bool
-has_dot text = list_any (λ byte. byte == 46) text
+has_dot text = list_any (λ byte. byte == dot) text
 
 -- a byte before what is kept of the bytes behind it: a quote at the end goes
 abbrev pub keep : ℕ → List ℕ → List ℕ

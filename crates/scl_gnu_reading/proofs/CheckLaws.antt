@@ -20,9 +20,9 @@ pub inner_passes : PassChecks clang_tables carried_inner side_of_flag
 unfolding gcc_rows clang_rows
 inner_passes = record { keeps = refl; safe = refl }
 
-pub xclang_alone : has_no_kept carried (codes "-Xclang") (all_rows clang_tables) ≡ true
+pub no_xclang : has_no_kept carried (codes "-Xclang") (all_rows clang_tables) ≡ true
 unfolding gcc_rows clang_rows
-xclang_alone = refl
+no_xclang = refl
 
 pub carried_plain : has_plain_flags carried (all_rows clang_tables) ≡ true
 unfolding gcc_rows clang_rows

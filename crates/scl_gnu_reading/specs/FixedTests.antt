@@ -1,8 +1,9 @@
 -- The tests that follow the verdicts of the options, in their order.
-use Rattle.std.specs.Prelude.{ℕ, Bool, true, false, List, [], ◌∷◌, ◌++◌, Option, None, Some, Result, Ok, codes, unwrap_or, ok_or}
+use Rattle.std.specs.Prelude.{ℕ, Bool, true, false, ◌&&◌, List, [], ◌∷◌, ◌++◌, Option, None, Some, Result, Ok, codes, unwrap_or, ok_or, if◌then◌else◌}
 use Rattle.std.specs.Option.{option_map}
 use Rattle.scl_values.specs.Seen.{Seen}
 use Rattle.scl_args.specs.Options.{texts, ◌>>=◌}
+use Rattle.scl_text.specs.contracts.language.LanguagePartialEq.TheImpl.{ghosts}
 use Rattle.scl_text.specs.declared.language.Language.{Language}
 use Rattle.scl_text.specs.declared.language.Language.TheVariants as languages
 use Rattle.scl_text.specs.Languages.{language_of_file_name, language_of_gcc_text}
@@ -24,8 +25,7 @@ pub record Found : Type 0 where
 
 -- a C++ driver takes files of C for C++
 abbrev pub driven : Bool → Language → Language
-driven true languages.C = languages.Cxx
-driven _ language = language
+driven plusplus language = if plusplus && ghosts.eq language languages.C then languages.Cxx else language
 
 -- the language that was asked for, else that of the file's name
 abbrev pub language_of : Bool → Option (List ℕ) → List ℕ → Option Language

@@ -1,19 +1,7 @@
 -- What the fixed tests find, as the code keeps it.
 use Rattle.scl_text.specs.Records.{path_of}
 use Rattle.scl_gnu_reading.specs.declared.gcc.fixed_tests.Finding.{Finding}
-use Rattle.scl_gnu_reading.specs.declared.gcc.outputs.OutputFiles.{OutputFiles}
 use Rattle.scl_gnu_reading.specs.FixedTests.{Found}
-use Rattle.scl_gnu_reading.specs.Recordings.{OutputPaths}
 
 abbrev pub found_of : Finding → Found
 found_of f = record { compile_flag = f.compile_flag.now; input = f.input.items; language = f.language; object = f.object.items; module_path = path_of f.module_path }
-
-abbrev pub paths_of : OutputFiles → OutputPaths
-paths_of o = record {
-  depfile = path_of o.depfile;
-  diagnostics = path_of o.diagnostics;
-  dwo = path_of o.dwo;
-  gcno = path_of o.gcno;
-  module_path = path_of o.module_path;
-  object = o.object.items;
-}

@@ -1,9 +1,10 @@
 -- What the kinds of options mean, and what the last of some options says.
-use Rattle.std.specs.Prelude.{ℕ, Bool, true, false, not, ◌&&◌, ◌||◌, List, [], ◌∷◌, Option, None, Some, codes, if◌then◌else◌}
+use Rattle.std.specs.Prelude.{ℕ, Bool, false, not, ◌&&◌, ◌||◌, List, [], ◌∷◌, Option, None, Some, codes, if◌then◌else◌}
 use Rattle.std.specs.List.{list_any}
 use Rattle.std.specs.Option.{option_map}
 use Rattle.std.specs.Str.{bytes_eq}
-use Rattle.scl_values.specs.Seen.{Seen, Raw, Unknown, Known, flag_of, text_of}
+use Rattle.scl_values.specs.Seen.{Seen, Raw, Unknown, Known}
+use Rattle.scl_args.specs.Options as options
 use Rattle.scl_args.specs.Options.{is_raw, is_dashes, of_kinds, last_by}
 use Rattle.scl_text.specs.declared.records.ColorMode.{ColorMode}
 use Rattle.scl_text.specs.declared.records.ColorMode.TheVariants as colors
@@ -35,16 +36,6 @@ color_of (Raw w) = colors.Auto
 color_of (Unknown w) = colors.Auto
 color_of (Known f k v how) = color k v
 
--- whether the assembler is a program of its own
-abbrev pub is_external : Kind → Bool
-is_external kind.NoIntegratedAs = true
-is_external _ = false
-
-abbrev pub assembler_of : Seen Kind → Bool
-assembler_of (Raw w) = false
-assembler_of (Unknown w) = false
-assembler_of (Known f k v how) = is_external k
-
 abbrev pub is_hidden_flag : List ℕ → Bool
 is_hidden_flag flag = bytes_eq flag (codes "-Wp") || bytes_eq flag (codes "-Xpreprocessor")
 
@@ -72,10 +63,10 @@ hashed os = hashed_as hash_role os
 -- ---- what the last of some options says
 
 abbrev pub last_text : List Kind → List (Seen Kind) → Option (List ℕ)
-last_text kinds os = option_map text_of (last_by (of kinds) os)
+last_text kinds os = options.last_text (of kinds) os
 
 abbrev pub last_flag : List Kind → List (Seen Kind) → Option (List ℕ)
-last_flag kinds os = option_map flag_of (last_by (of kinds) os)
+last_flag kinds os = options.last_flag (of kinds) os
 
 -- whether such an option stands
 abbrev pub any : List Kind → List (Seen Kind) → Bool
@@ -85,10 +76,10 @@ any kinds os = list_any (of kinds) os
 abbrev pub color_mode : List (Seen Kind) → Option ColorMode
 color_mode os = option_map color_of (last_by (of (kind.DiagnosticsColor ∷ kind.DiagnosticsColorFlag ∷ kind.NoDiagnosticsColorFlag ∷ [])) os)
 
--- the assembler that was asked for last
+-- whether the assembler that was asked for last is a program of its own
 abbrev pub external_assembler : List (Seen Kind) → Option Bool
-external_assembler os = option_map assembler_of (last_by (of (kind.IntegratedAs ∷ kind.NoIntegratedAs ∷ [])) os)
+external_assembler os = option_map (of (kind.NoIntegratedAs ∷ [])) (last_by (of (kind.IntegratedAs ∷ kind.NoIntegratedAs ∷ [])) os)
 
 -- what hides from a cache of preprocessor runs
 abbrev pub hidden_flag : List (Seen Kind) → Option (List ℕ)
-hidden_flag os = option_map flag_of (last_by is_hidden os)
+hidden_flag os = options.last_flag is_hidden os

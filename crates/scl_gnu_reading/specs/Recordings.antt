@@ -1,10 +1,11 @@
 -- The record of a compilation.
-use Rattle.std.specs.Prelude.{ℕ, ◌+◌, ◌==◌, Bool, true, false, not, ◌&&◌, List, [], ◌∷◌, ◌++◌, Option, None, Some, map, codes, nat_eq, drop, position, unwrap_or, is_some}
+use Rattle.std.specs.Prelude.{ℕ, ◌+◌, ◌==◌, Bool, true, false, not, ◌&&◌, List, [], ◌∷◌, ◌++◌, Option, None, Some, map, codes, nat_eq, drop, position, unwrap_or, is_some, if◌then◌else◌}
 use Rattle.std.specs.List.{starts_with}
 use Rattle.std.specs.Option.{option_map}
 use Rattle.std.specs.Bool.{then_some}
 use Rattle.scl_args.specs.Options.{is_behind_dashes}
 use Rattle.scl_values.specs.Seen.{Seen}
+use Rattle.scl_text.specs.contracts.records.CCompilerKindPartialEq.TheImpl.{ghosts}
 use Rattle.scl_text.specs.declared.records.CCompilerKind.{CCompilerKind}
 use Rattle.scl_text.specs.declared.records.CCompilerKind.TheVariants as compilers
 use Rattle.scl_text.specs.declared.records.ColorMode.TheVariants as colors
@@ -12,7 +13,7 @@ use Rattle.scl_text.specs.declared.language.Language.{Language}
 use Rattle.scl_text.specs.Languages.{needs_c_preprocessing}
 use Rattle.scl_text.specs.Outputs.{output_at}
 use Rattle.scl_files.specs.Paths.{join, with_extension}
-use Rattle.scl_text.specs.Records.{Artifact, Parsed}
+use Rattle.scl_text.specs.Records.{Artifact, Parsed, bare_record}
 use Rattle.scl_files.specs.Views.{Viewed, is_directory}
 use Rattle.scl_gnu_reading.specs.declared.gcc.hash_files.HashRole.{HashRole}
 use Rattle.scl_gnu_reading.specs.declared.gcc.hash_files.HashRole.TheVariants as roles
@@ -28,34 +29,15 @@ use Rattle.scl_gnu_reading.specs.Places.{words_at}
 
 -- ---- outputs
 
-abbrev pub path_if : Bool → Option (List ℕ) → Option (List ℕ)
-path_if true path = path
-path_if false path = None
-
--- where a compilation puts what it makes
-pub record OutputPaths : Type 0 where
-  pub depfile : Option (List ℕ)
-  pub diagnostics : Option (List ℕ)
-  pub dwo : Option (List ℕ)
-  pub gcno : Option (List ℕ)
-  pub module_path : Option (List ℕ)
-  pub object : List ℕ
-
-abbrev pub output_paths : List (Seen Kind) → Found → OutputPaths
-output_paths os f = record {
-  depfile = path_if (needs_c_preprocessing f.language) (last_text (kind.DepArgumentPath ∷ []) os);
-  diagnostics = last_text (kind.SerializeDiagnostics ∷ []) os;
-  dwo = then_some (any (kind.SplitDwarf ∷ []) os) (with_extension f.object (codes "dwo"));
-  gcno = then_some (any (kind.Coverage ∷ kind.TestCoverage ∷ []) os) (with_extension f.object (codes "gcno"));
-  module_path = f.module_path;
-  object = f.object;
-}
-
--- those that there are, in the order of their names; `dwo` alone may be missing
-abbrev pub outputs : OutputPaths → List Artifact
-outputs o =
-    output_at (codes "d") false o.depfile ++ output_at (codes "dia") false o.diagnostics ++ output_at (codes "dwo") true o.dwo
-    ++ output_at (codes "gcno") false o.gcno ++ output_at (codes "module") false o.module_path ++ output_at (codes "obj") false (Some o.object)
+-- what a compilation makes, in the order of the names; `dwo` alone may be missing
+abbrev pub outputs : List (Seen Kind) → Found → List Artifact
+outputs os f =
+    output_at (codes "d") false (if needs_c_preprocessing f.language then last_text (kind.DepArgumentPath ∷ []) os else None)
+    ++ output_at (codes "dia") false (last_text (kind.SerializeDiagnostics ∷ []) os)
+    ++ output_at (codes "dwo") true (then_some (any (kind.SplitDwarf ∷ []) os) (with_extension f.object (codes "dwo")))
+    ++ output_at (codes "gcno") false (then_some (any (kind.Coverage ∷ kind.TestCoverage ∷ []) os) (with_extension f.object (codes "gcno")))
+    ++ output_at (codes "module") false f.module_path
+    ++ output_at (codes "obj") false (Some f.object)
 
 -- ---- added options
 
@@ -102,12 +84,7 @@ hash_path directory view h = hash_path_as h.role h.text directory view
 -- ---- the record
 
 abbrev pub is_clang : CCompilerKind → Bool
-is_clang compilers.Clang = true
-is_clang _ = false
-
-abbrev pub is_gcc : CCompilerKind → Bool
-is_gcc compilers.Gcc = true
-is_gcc _ = false
+is_clang compiler = ghosts.eq compiler compilers.Clang
 
 -- without a standard, and under one with GNU's extensions
 abbrev pub has_extensions : Option (List ℕ) → Bool
@@ -116,7 +93,7 @@ has_extensions (Some text) = starts_with nat_eq text (codes "gnu")
 
 -- whether includes that were rewritten would change what a pedantic Gcc says
 abbrev pub suppresses_rewritten_includes : CCompilerKind → List (Seen Kind) → Bool
-suppresses_rewritten_includes compiler os = (is_gcc compiler && any (kind.PedanticFlag ∷ []) os) && has_extensions (last_text (kind.Standard ∷ []) os)
+suppresses_rewritten_includes compiler os = (ghosts.eq compiler compilers.Gcc && any (kind.PedanticFlag ∷ []) os) && has_extensions (last_text (kind.Standard ∷ []) os)
 
 -- whether the words about dependencies need a target
 abbrev pub needs_target : Language → List (Seen Kind) → Bool
@@ -135,23 +112,16 @@ dependency_words os inner f =
 
 -- inner options give words and hashed files alone
 abbrev pub record_of : CCompilerKind → List ℕ → Viewed → List (Seen Kind) → List (Seen Kind) → Found → Parsed
-record_of compiler directory view os inner f = record {
-  input = f.input;
+record_of compiler directory view os inner f = record (bare_record f.input f.language f.compile_flag) {
   double_dash_input = is_behind_dashes is_input os;
-  language = f.language;
-  compilation_flag = f.compile_flag;
-  depfile = None;
-  outputs = outputs (output_paths os f);
+  outputs = outputs os f;
   dependency_args = dependency_words os inner f;
   preprocessor_args = all_words_at places.Preprocessor os inner;
   common_args = all_words_at places.Common os inner ++ added_common (any (kind.SplitDwarf ∷ []) os) f.object;
   arch_args = all_words_at places.Arch os inner;
   unhashed_args = all_words_at places.Unhashed os inner;
-  extra_dist_files = [];
   extra_hash_files = map (hash_path directory view) (hashed os ++ hashed inner);
   uses_external_assembler = unwrap_or (external_assembler os) (not (is_clang compiler));
-  msvc_show_includes = false;
-  msvc_explicit_language = false;
   profile_generate = any (kind.Coverage ∷ kind.TestCoverage ∷ kind.ProfileGenerate ∷ []) os;
   color_mode = unwrap_or (color_mode os) colors.Auto;
   suppress_rewrite_includes_only = suppresses_rewritten_includes compiler os;

@@ -12,14 +12,14 @@ ghost use Rattle.scl_gnu_reading.specs.GccRows.{gcc_rows};
 ///
 /// - `gcc_table_passes_both_checks`, `clang_tables_pass_both_checks`: they pass both checks for the kinds that lists carry;
 /// - `clang_tables_pass_both_checks_inside`: Clang's pass both for the kinds of inner options that lists carry;
-/// - `xclang_alone_hands_words_on`: no list carries an outer option with the flag `-Xclang`;
+/// - `no_list_carries_xclang`: no list carries an outer option with the flag `-Xclang`;
 /// - `carried_flags_name_no_file`, `carried_inner_flags_name_no_file`: no flag of Clang's tables begins with `@`, where
 ///   lists carry the options of its row, outer or inner ones.
 pub fn of_tables()
     ensures gcc_table_passes_both_checks { PassChecks (gcc_rows ∷ []) carried side_of_flag }
     ensures clang_tables_pass_both_checks { PassChecks clang_tables carried side_of_flag }
     ensures clang_tables_pass_both_checks_inside { PassChecks clang_tables carried_inner side_of_flag }
-    ensures xclang_alone_hands_words_on { has_no_kept carried (codes "-Xclang") (all_rows clang_tables) ≡ true }
+    ensures no_list_carries_xclang { has_no_kept carried (codes "-Xclang") (all_rows clang_tables) ≡ true }
     ensures carried_flags_name_no_file { has_plain_flags carried (all_rows clang_tables) ≡ true }
     ensures carried_inner_flags_name_no_file { has_plain_flags carried_inner (all_rows clang_tables) ≡ true }
 {}

@@ -5,7 +5,7 @@ ghost use Rattle.std.specs.String.{string_bytes};
 ghost use Rattle.scl_values.specs.Words.{words_of};
 ghost use Rattle.scl_text.specs.Records.{parsed_of};
 ghost use Rattle.scl_text.specs.Runs.{runs_of};
-ghost use Rattle.scl_gnu.specs.Preprocess.{is_assembler_to_preprocess, clang_flags, clang_passes};
+ghost use Rattle.scl_gnu.specs.Preprocess.{clang_flags, clang_passes};
 
 use super::compiler::{Clang, language_to_clang_arg};
 use crate::gcc;
@@ -14,12 +14,6 @@ use scl_text::command::push_word;
 use scl_text::language::Language;
 use scl_text::records::{CCompilerKind, ParsedArguments};
 use std::alloc::Global;
-
-fn is_assembler_to_preprocess(language: Language) -> bool
-    ensures { result ≡ is_assembler_to_preprocess language }
-{
-    matches!(language, Language::AssemblerToPreprocess)
-}
 
 /// The flags that leave out what may be ignored: lines, and white space where clang is new enough and the language is not
 /// assembler that is to be preprocessed.
@@ -32,7 +26,7 @@ fn ignorable_flags(
     ensures { IfOk result (λ made. words_of made.items ≡ clang_flags clang.now.is_appleclang (option_map string_bytes clang.now.version) language cache_mode) }
 {
     let mut flags = gcc::line_flags(alloc, cache_mode)?;
-    if clang.is_minversion(alloc, 14)? && !is_assembler_to_preprocess(language) {
+    if clang.is_minversion(alloc, 14)? && language != Language::AssemblerToPreprocess {
         push_word(alloc, &mut flags, b"-fminimize-whitespace")?;
     }
     Ok(flags)

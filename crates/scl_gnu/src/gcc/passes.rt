@@ -8,7 +8,7 @@ use scl_text::records::PassOutput;
 use std::alloc::Global;
 
 /// How many line feeds a text has once it ends with one.
-fn line_feeds(text: &[u8]) -> usize
+fn ended_line_feeds(text: &[u8]) -> usize
     ensures { result ≡ line_feeds (ended text.now) }
 {
     let count = text.iter().filter(|byte| **byte == b'\n').count();
@@ -47,7 +47,7 @@ fn push_header(alloc: Global, made: &mut Vec<u8>, arch: &[u8], count: usize) -> 
 fn push_section(alloc: Global, made: &mut Vec<u8>, arch: &[u8], text: &[u8]) -> Mem<()>
     ensures { OnOk result (made.new.items ≡ made.old.items ++ section arch.now text.now) }
 {
-    push_header(alloc, made, arch, line_feeds(text))?;
+    push_header(alloc, made, arch, ended_line_feeds(text))?;
     push_ended(made, text)
 }
 

@@ -202,10 +202,11 @@ fn passes_with(
 }
 
 /// The words of the runs of the preprocessor for a record, in order, whose language word is what the closure answers: one
-/// run, or one for each of several architectures, of which the last alone makes files. The words that may be ignored stand
-/// in a run that is neither for a distant compiler nor of a program that will write a profile; runs for several
-/// architectures are never for a distant one, whatever `may_dist` says. Only for Gcc and Clang has a run a flag that leaves
-/// macros in place (docs/RULES.md, Preprocessing). It fails only for want of memory.
+/// run, or one for each of several architectures, of which the last alone makes files. A run has the words of all lists but
+/// the unhashed ones. The words that may be ignored stand in a run that is neither for a distant compiler nor of a program
+/// that will write a profile; runs for several architectures are never for a distant one, whatever `may_dist` says. Only for
+/// Gcc and Clang has a run a flag that leaves macros in place (docs/RULES.md, Preprocessing). It fails only for want of
+/// memory.
 pub fn preprocess_passes<T: AsStr + Drop, F: Fn(Language) -> Option<T>>(
     alloc: Global,
     parsed: &ParsedArguments,

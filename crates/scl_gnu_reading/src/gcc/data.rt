@@ -8,80 +8,150 @@ use std::alloc::Global;
 /// What an option of Gcc or Clang means, apart from its value (docs/RULES.md, Gcc).
 #[derive(Debug, Clone, Copy, PartialEq, Eq)]
 pub enum Kind {
+    /// A flag by which a command line can't be cached, as `-E`.
     TooHardFlag,
+    /// An option with a value by which a command line can't be cached, as `@file`.
     TooHard,
+    /// `-fdiagnostics-color`: whether messages are coloured, as its value says.
     DiagnosticsColor,
+    /// A flag that colours messages.
     DiagnosticsColorFlag,
+    /// A flag that keeps messages without colour.
     NoDiagnosticsColorFlag,
+    /// `-arch`: an architecture to compile for.
     Arch,
+    /// `--coverage`: the program counts what is run, and notes for that are an output.
     Coverage,
+    /// `-ftest-coverage`: notes for counts of what is run are an output.
     TestCoverage,
+    /// Where the dependency file goes, as `-MF`.
     DepArgumentPath,
+    /// The target that the dependency file names, as `-MT`.
     DepTarget,
+    /// A flag that asks for a dependency file or its targets, as `-MD`.
     NeedDepTarget,
+    /// `-c`: a compilation is asked for.
     DoCompilation,
+    /// A file on whose contents the outcome depends, as `-fplugin` of Clang.
     ExtraHashFile,
+    /// `-fmodule-file` of Clang: a file on whose contents the outcome depends, behind a name and `=` if there is one.
     ExtraHashFileClangModuleFile,
+    /// `-x`: the language of the input.
     Language,
+    /// `-gsplit-dwarf`: debug information in a file of its own, which is an output.
     SplitDwarf,
+    /// `-o`: the path of the object.
     Output,
+    /// An option with a word that is kept among the common words, as `-D`.
     PassThrough,
+    /// A flag that is kept among the common words.
     PassThroughFlag,
+    /// An option with a path that is kept among the common words, as `--sysroot`.
     PassThroughPath,
+    /// An option with a word for the preprocessor, as `-Xpreprocessor`.
     PreprocessorArgument,
+    /// A flag for the preprocessor, as `-nostdinc`.
     PreprocessorArgumentFlag,
+    /// An option with a path for the preprocessor, as `-I`.
     PreprocessorArgumentPath,
+    /// A flag by which the program will write a profile of its runs.
     ProfileGenerate,
+    /// Where the profile of earlier runs is, a file or the directory of one, as `-fprofile-use` of Clang.
     ClangProfileUse,
+    /// `--serialize-diagnostics` of Gcc's table: a file of messages, which is an output.
     SerializeDiagnostics,
+    /// A flag that does not change the outcome, as `-pipe`.
     UnhashedFlag,
+    /// An option with a value that does not change the outcome, as `-parallel-jobs`.
     Unhashed,
+    /// A flag that warns of what the standard does not allow, as `-pedantic`.
     PedanticFlag,
+    /// `-std`: the standard of the language.
     Standard,
+    /// `-Xclang`: a word of the inner command line.
     XClang,
+    /// A flag by which the module itself is the object, as `--precompile`.
     ModuleOnlyFlag,
+    /// `-fmodule-output`: where a module goes, behind `=`.
     ClangModuleOutput,
+    /// A flag by which the compiler assembles by itself.
     IntegratedAs,
+    /// A flag by which the assembler is a program of its own.
     NoIntegratedAs,
 }
 
 /// What an option of Gcc or Clang means, with its value: a path, a word or none (docs/RULES.md, Gcc).
 #[derive(Debug, PartialEq, Eq, Drop)]
 pub enum ArgData {
+    /// A flag by which a command line can't be cached, as `-E`.
     TooHardFlag,
+    /// An option with a value by which a command line can't be cached, as `@file`.
     TooHard(Vec<u8>),
+    /// `-fdiagnostics-color`: whether messages are coloured, as its value says.
     DiagnosticsColor(Vec<u8>),
+    /// A flag that colours messages.
     DiagnosticsColorFlag,
+    /// A flag that keeps messages without colour.
     NoDiagnosticsColorFlag,
+    /// `-arch`: an architecture to compile for.
     Arch(Vec<u8>),
+    /// `--coverage`: the program counts what is run, and notes for that are an output.
     Coverage,
+    /// `-ftest-coverage`: notes for counts of what is run are an output.
     TestCoverage,
+    /// Where the dependency file goes, as `-MF`.
     DepArgumentPath(PathArg),
+    /// The target that the dependency file names, as `-MT`.
     DepTarget(Vec<u8>),
+    /// A flag that asks for a dependency file or its targets, as `-MD`.
     NeedDepTarget,
+    /// `-c`: a compilation is asked for.
     DoCompilation,
+    /// A file on whose contents the outcome depends, as `-fplugin` of Clang.
     ExtraHashFile(PathArg),
+    /// `-fmodule-file` of Clang: a file on whose contents the outcome depends, behind a name and `=` if there is one.
     ExtraHashFileClangModuleFile(Vec<u8>),
+    /// `-x`: the language of the input.
     Language(Vec<u8>),
+    /// `-gsplit-dwarf`: debug information in a file of its own, which is an output.
     SplitDwarf,
+    /// `-o`: the path of the object.
     Output(PathArg),
+    /// An option with a word that is kept among the common words, as `-D`.
     PassThrough(Vec<u8>),
+    /// A flag that is kept among the common words.
     PassThroughFlag,
+    /// An option with a path that is kept among the common words, as `--sysroot`.
     PassThroughPath(PathArg),
+    /// An option with a word for the preprocessor, as `-Xpreprocessor`.
     PreprocessorArgument(Vec<u8>),
+    /// A flag for the preprocessor, as `-nostdinc`.
     PreprocessorArgumentFlag,
+    /// An option with a path for the preprocessor, as `-I`.
     PreprocessorArgumentPath(PathArg),
+    /// A flag by which the program will write a profile of its runs.
     ProfileGenerate,
+    /// Where the profile of earlier runs is, a file or the directory of one, as `-fprofile-use` of Clang.
     ClangProfileUse(PathArg),
+    /// `--serialize-diagnostics` of Gcc's table: a file of messages, which is an output.
     SerializeDiagnostics(PathArg),
+    /// A flag that does not change the outcome, as `-pipe`.
     UnhashedFlag,
+    /// An option with a value that does not change the outcome, as `-parallel-jobs`.
     Unhashed(Vec<u8>),
+    /// A flag that warns of what the standard does not allow, as `-pedantic`.
     PedanticFlag,
+    /// `-std`: the standard of the language.
     Standard(Vec<u8>),
+    /// `-Xclang`: a word of the inner command line.
     XClang(Vec<u8>),
+    /// A flag by which the module itself is the object, as `--precompile`.
     ModuleOnlyFlag,
+    /// `-fmodule-output`: where a module goes, behind `=`.
     ClangModuleOutput(Vec<u8>),
+    /// A flag by which the compiler assembles by itself.
     IntegratedAs,
+    /// A flag by which the assembler is a program of its own.
     NoIntegratedAs,
 }
 

@@ -32,9 +32,10 @@ pub(crate) struct Finding {
 fn driven(plusplus: bool, language: Language) -> Language
     ensures { result ≡ driven plusplus language }
 {
-    match language {
-        Language::C if plusplus => Language::Cxx,
-        _ => language,
+    if plusplus && language == Language::C {
+        Language::Cxx
+    } else {
+        language
     }
 }
 

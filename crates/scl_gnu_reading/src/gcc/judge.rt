@@ -1,12 +1,11 @@
 //! What an option says against caching.
 ghost use Rattle.std.specs.Prelude.{◌≡◌, ◌∷◌, [], IfOk, map};
-ghost use Rattle.std.specs.Option.{option_map, option_copied, option_or};
+ghost use Rattle.std.specs.Option.{option_map, option_copied};
 ghost use Rattle.scl_values.specs.Seen.{seen};
 ghost use Rattle.scl_text.specs.Languages.{language_of_gcc_text};
 ghost use Rattle.scl_text.specs.Refusals.{verdict_of};
 ghost use Rattle.scl_gnu_reading.specs.Data.{kind_of, word_of};
-ghost use Rattle.scl_gnu_reading.specs.Places.{place};
-ghost use Rattle.scl_gnu_reading.specs.Verdicts.{flag_verdict, module_output_verdict, unread_language, arch_verdict, value_verdict};
+ghost use Rattle.scl_gnu_reading.specs.Verdicts.{flag_verdict, module_output_verdict, unread_language, arch_verdict, value_verdict, known_verdict};
 ghost use Rattle.scl_gnu_reading.specs.Kinds.{last_text};
 
 use super::data::{ArgData, Kind};
@@ -94,7 +93,7 @@ fn judged_known(
     value: &ArgData,
 ) -> Mem<Option<Refusal>>
     ensures { IfOk result (λ said. option_map verdict_of said
-        ≡ option_or (flag_verdict (place (kind_of value.now)) flag.now) (value_verdict multiarch (last_text (Kind.Arch ∷ []) (map (seen kind_of word_of) before.now)) (kind_of value.now) (word_of value.now))) }
+        ≡ known_verdict multiarch (last_text (Kind.Arch ∷ []) (map (seen kind_of word_of) before.now)) flag.now (kind_of value.now) (word_of value.now)) }
 {
     match judged_flag(place_of_kind(value.kind()), flag) {
         Some(refusal) => Ok(Some(refusal)),

@@ -16,7 +16,7 @@ use super::data::{ArgData, Kind};
 use super::fixed_tests::find;
 use super::inner::{ByInnerVerdict, read_inner};
 use super::judge::ByVerdict;
-use super::record::{is_clang, record_of};
+use super::record::record_of;
 use scl_args::{Mem, OfKinds, Options, SearchableArgInfo};
 use scl_text::records::{CCompilerKind, CompilerArguments, ParsedArguments};
 use scl_text::refusal::Refusal;
@@ -79,7 +79,7 @@ fn judged<S: SearchableArgInfo<ArgData> + Drop>(
     let judge = ParserJudge(ByVerdict {
         multiarch: view.multiarch(),
     });
-    let dashes = is_clang(kind);
+    let dashes = kind == CCompilerKind::Clang;
     judge_words(
         alloc,
         ExpansionKind::Gnu,
@@ -92,10 +92,11 @@ fn judged<S: SearchableArgInfo<ArgData> + Drop>(
     )
 }
 
-/// What a command line says by the tables handed in: the record; or the first verdict in option order, that of a last
-/// flag without its value, the same of the inner options, or that of the tests after them (docs/RULES.md, Gcc, and
-/// Inner command lines). Paths and words are bytes; the directory and the view answer what is asked of files. The error
-/// is the refusal of memory.
+/// What a command line says by the tables handed in: the record; or the first refusal in option order, on each option first
+/// that of an empty value; else that of a last flag without its value; else the same of the inner options; else that of the
+/// fixed tests, of which the first is `NotCompilation` (docs/RULES.md, Gcc, and Inner command lines). For `Clang`, `--` ends
+/// the options; where `plusplus` is set, files of C are taken for C++. Paths and words are bytes; the directory and the view
+/// answer what is asked of files. It fails only for want of memory.
 pub fn parse_arguments<S: SearchableArgInfo<ArgData> + Drop>(
     alloc: Global,
     arguments: &[Vec<u8>],

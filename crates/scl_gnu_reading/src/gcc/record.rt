@@ -1,11 +1,11 @@
 //! The record of a compilation.
 ghost use Rattle.std.specs.Prelude.{◌≡◌, ◌++◌, ◌∷◌, [], IfOk};
 ghost use Rattle.std.specs.Option.{option_copied};
-ghost use Rattle.scl_text.specs.Records.{parsed_of, path_of};
+ghost use Rattle.scl_text.specs.Records.{parsed_of};
 ghost use Rattle.scl_values.specs.Words.{words_of};
 ghost use Rattle.scl_gnu_reading.specs.FoundBy.{found_of};
 ghost use Rattle.scl_gnu_reading.specs.Kinds.{any};
-ghost use Rattle.scl_gnu_reading.specs.Recordings.{is_clang, is_gcc, has_extensions, added_common, all_words_at, dependency_words, needs_target, suppresses_rewritten_includes, record_of};
+ghost use Rattle.scl_gnu_reading.specs.Recordings.{has_extensions, added_common, all_words_at, dependency_words, needs_target, suppresses_rewritten_includes, record_of};
 
 use super::added_words::{add_dependency, add_split_dwarf};
 use super::data::{ArgData, Kind};
@@ -13,26 +13,15 @@ use super::fixed_tests::Finding;
 use super::hash_files::hash_paths;
 use super::inner::push_inner;
 use super::inputs::Inputs;
-use super::outputs::output_files;
+use super::outputs::outputs_of;
 use super::place::Place;
 use super::switches::{color_mode, external_assembler, hidden_flag};
 use scl_args::{Mem, OfKinds, Options, ShortFlagsJoined};
 use scl_text::language::Language;
+use scl_text::outputs::copied_path;
 use scl_text::records::{CCompilerKind, ColorMode, ParsedArguments};
 use scl_text::view::View;
 use std::alloc::Global;
-
-pub(crate) fn is_clang(kind: CCompilerKind) -> bool
-    ensures { result ≡ is_clang kind }
-{
-    matches!(kind, CCompilerKind::Clang)
-}
-
-fn is_gcc(kind: CCompilerKind) -> bool
-    ensures { result ≡ is_gcc kind }
-{
-    matches!(kind, CCompilerKind::Gcc)
-}
 
 /// Whether the language has GNU's extensions, by the standard that was asked for.
 fn has_extensions(standard: Option<&[u8]>) -> bool
@@ -41,15 +30,6 @@ fn has_extensions(standard: Option<&[u8]>) -> bool
     match standard {
         None => true,
         Some(text) => text.starts_with(b"gnu"),
-    }
-}
-
-fn copied_flag(alloc: Global, flag: Option<&'static str>) -> Mem<Option<Vec<u8>>>
-    ensures { IfOk result (λ copy. path_of copy ≡ option_copied flag.entry) }
-{
-    match flag {
-        Some(flag) => Ok(Some(Vec::from_slice(alloc, flag.as_bytes())?)),
-        None => Ok(None),
     }
 }
 
@@ -109,7 +89,7 @@ fn common_words(
 fn suppresses_rewritten_includes(kind: CCompilerKind, options: &Options<ArgData>) -> bool
     ensures { result ≡ suppresses_rewritten_includes kind options.now }
 {
-    is_gcc(kind)
+    kind == CCompilerKind::Gcc
         && options.any(&OfKinds(&[Kind::PedanticFlag]))
         && has_extensions(options.last_text(&OfKinds(&[Kind::Standard])))
 }
@@ -126,29 +106,26 @@ pub(crate) fn record_of(
 ) -> Mem<ParsedArguments>
     ensures { IfOk result (λ parsed. parsed_of parsed ≡ record_of kind cwd.now view.now options inner.now (found_of found)) }
 {
-    let outputs = output_files(alloc, &options, &found)?.into_outputs(alloc)?;
+    let outputs = outputs_of(alloc, &options, &found)?;
     let dependency_args = dependency_words(alloc, &options, inner, &found)?;
     let profile = OfKinds(&[Kind::Coverage, Kind::TestCoverage, Kind::ProfileGenerate]);
+    let compile_flag = Vec::from_slice(alloc, found.compile_flag.as_bytes())?;
     Ok(ParsedArguments {
-        input: found.input,
         double_dash_input: options.is_behind_dashes(&Inputs),
-        language: found.language,
-        compilation_flag: Vec::from_slice(alloc, found.compile_flag.as_bytes())?,
-        depfile: None,
         outputs,
         dependency_args,
         preprocessor_args: all_words_at(alloc, &options, inner, Place::Preprocessor)?,
         arch_args: all_words_at(alloc, &options, inner, Place::Arch)?,
         unhashed_args: all_words_at(alloc, &options, inner, Place::Unhashed)?,
-        extra_dist_files: Vec::new(alloc),
         extra_hash_files: hash_paths(alloc, &options, inner, cwd, view)?,
-        uses_external_assembler: external_assembler(&options).unwrap_or(!is_clang(kind)),
-        msvc_show_includes: false,
-        msvc_explicit_language: false,
+        uses_external_assembler: external_assembler(&options).unwrap_or(
+            kind != CCompilerKind::Clang,
+        ),
         profile_generate: options.any(&profile),
         color_mode: color_mode(&options).unwrap_or(ColorMode::Auto),
         suppress_rewrite_includes_only: suppresses_rewritten_includes(kind, &options),
-        too_hard_for_preprocessor_cache_mode: copied_flag(alloc, hidden_flag(&options))?,
+        too_hard_for_preprocessor_cache_mode: copied_path(alloc, hidden_flag(&options))?,
         common_args: common_words(alloc, options, inner, &found.object)?,
+        ..ParsedArguments::bare(alloc, found.input, found.language, compile_flag)
     })
 }

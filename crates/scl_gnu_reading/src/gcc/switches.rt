@@ -4,7 +4,7 @@ ghost use Rattle.std.specs.Option.{option_copied};
 ghost use Rattle.scl_values.specs.Seen.{seen};
 ghost use Rattle.scl_gnu_reading.specs.Data.{kind_of, word_of};
 ghost use Rattle.scl_gnu_reading.specs.Sorts.{may_be_hidden};
-ghost use Rattle.scl_gnu_reading.specs.Kinds.{color_named, color_of, assembler_of, is_hidden_flag, color_mode, external_assembler, hidden_flag};
+ghost use Rattle.scl_gnu_reading.specs.Kinds.{color_named, color_of, is_hidden_flag, color_mode, external_assembler, hidden_flag};
 
 use super::data::{ArgData, Kind};
 use scl_args::{Argument, OfKinds, Options, Sort, Test};
@@ -46,31 +46,15 @@ pub(crate) fn color_mode(options: &Options<ArgData>) -> Option<ColorMode>
         Kind::DiagnosticsColorFlag,
         Kind::NoDiagnosticsColorFlag,
     ];
-    match options.last_by(&OfKinds(&kinds)) {
-        Some(option) => Some(color_of(option)),
-        None => None,
-    }
-}
-
-fn assembler_of(option: &Argument<ArgData>) -> bool
-    ensures { result ≡ assembler_of (seen kind_of word_of option.now) }
-{
-    match option {
-        Argument::Raw(_) | Argument::UnknownFlag(_) => false,
-        Argument::Flag(_, value) | Argument::WithValue(_, value, _) => {
-            matches!(value, ArgData::NoIntegratedAs)
-        }
-    }
+    Some(color_of(options.last_by(&OfKinds(&kinds))?))
 }
 
 /// Whether the assembler that was asked for last is a program of its own.
 pub(crate) fn external_assembler(options: &Options<ArgData>) -> Option<bool>
     ensures { result ≡ external_assembler options.now }
 {
-    match options.last_by(&OfKinds(&[Kind::IntegratedAs, Kind::NoIntegratedAs])) {
-        Some(option) => Some(assembler_of(option)),
-        None => None,
-    }
+    let asked = options.last_by(&OfKinds(&[Kind::IntegratedAs, Kind::NoIntegratedAs]))?;
+    Some(OfKinds(&[Kind::NoIntegratedAs]).passes(asked))
 }
 
 fn is_hidden_flag(flag: &str) -> bool
@@ -108,9 +92,9 @@ impl Test<ArgData> for Hidden {
     }
 }
 
-/// The flag of the last of those options.
-pub(crate) fn hidden_flag(options: &Options<ArgData>) -> Option<&'static str>
+/// The flag of the last of those options, as bytes.
+pub(crate) fn hidden_flag(options: &Options<ArgData>) -> Option<&'static [u8]>
     ensures { option_copied result ≡ hidden_flag options.now }
 {
-    options.last_flag(&Hidden)
+    Some(options.last_flag(&Hidden)?.as_bytes())
 }

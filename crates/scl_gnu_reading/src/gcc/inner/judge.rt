@@ -16,7 +16,7 @@ use scl_text::Refuses;
 use scl_text::refusal::Refusal;
 use std::alloc::Global;
 
-/// The refusal for this reason, with the word beside it if it is a text.
+/// The refusal for this reason, with the word beside it, or the empty text where it is not UTF-8.
 fn refused_word(alloc: Global, reason: &'static str, word: &[u8]) -> Mem<Refusal>
     ensures { IfOk result (λ refusal. verdict_of refusal ≡ CannotCache reason.now) }
 {

@@ -3,5 +3,5 @@ use Rattle.scl_gnu_reading.proofs.gcc.parse.judged.Goals as goal
 
 pub returns : goal.returns
 returns g c =
-    let said = rw (c.multiarch.ensures, c.is_clang-dashes.ensures) at c.judge_words.ensures in
+    let said = rw (c.multiarch.ensures, c.eq-dashes.ensures) at c.judge_words.ensures in
     search rules
