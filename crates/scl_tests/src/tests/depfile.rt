@@ -80,18 +80,8 @@ fn only_clang_with_a_dependency_file_has_its_text(rt: HostRuntime) -> Result<(),
     Ok(())
 }
 
-/// What clang-cl's dependency file says of a run that names one file.
+/// The text of one dependency.
 static TEXT: &[u8] = b"x.obj: x.c a.h \nx.c:\na.h:\n";
-
-#[test]
-fn the_text_is_that_of_one_dependency(rt: HostRuntime) -> Result<(), Fail> {
-    let record = record_of(rt.alloc(), b"-c x.c -depsx.d")?;
-    let stderr = b"Note:  a.h\nwarn\nNote: b c.h\nNote: a.h";
-    let got = depfile_text(rt.alloc(), &record, true, "Note: ", stderr)?.ok_or("no text")?;
-    assert!(rt; got.text.as_slice() == TEXT);
-    assert!(rt; TEXT.len() == 26);
-    Ok(())
-}
 
 /// What a writer of so many calls, that takes so many bytes a call, is said to have taken.
 fn expect_fault(

@@ -1,26 +1,19 @@
 //! Answers to command lines of at most so many words.
+use super::rows::{nested_files, request_of};
 use crate::tests::words::cut;
-use scl_cl::{Compilation, Compiler, CompilerArguments, Mem, TooManyWords, View};
+use scl_cl::{Compilation, Compiler, CompilerArguments, Mem, TooManyWords, View, read_request};
 use std::alloc::Global;
 use std::process::Abort;
 use std::test::Fail;
 
-/// Adds the file of the number, which names the next one twice.
-fn add_doubling(alloc: Global, view: &mut View, number: u32) -> Mem<()> {
-    let path = format!(in alloc; "f{number}")?.into_bytes();
-    let next = u64::from(number) + 1;
-    view.add_file(path, format!(in alloc; "@f{next} @f{next}")?.into_bytes())
-}
-
-/// Files, each of which names the next twice, and the last of which has one word.
-fn doubling_files(alloc: Global, files: u32) -> Mem<View> {
-    let mut view = View::new(alloc);
-    for number in 0..files {
-        add_doubling(alloc, &mut view, number)?;
-    }
-    let path = format!(in alloc; "f{files}")?.into_bytes();
-    view.add_file(path, Vec::from_slice(alloc, b"-DA")?)?;
-    Ok(view)
+/// The view of so many files from f0 on, each of which names the next twice, and a last one of one word.
+fn doubling_files(alloc: Global, files: u32) -> Result<View, Fail> {
+    let lines = nested_files(alloc, files, 2, "-DA")?;
+    let request = request_of(alloc, Compiler::Gcc, lines.as_str(), "")?;
+    let asked = read_request(alloc, request.as_bytes())?
+        .ok()
+        .ok_or("a bad line")?;
+    Ok(asked.view)
 }
 
 fn answer_within(
