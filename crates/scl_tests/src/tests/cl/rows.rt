@@ -1,6 +1,7 @@
 //! Rows worked by hand, through the program: texts, a row a line. Behind ` => ` stand the command's words, or the answer's
 //! one line; before it the words of the request, and before those its other lines, each ended by `; `, with a space between
-//! two fields. Requests that are refused stand in `refusals` where the text beside their reason is compared too.
+//! two fields. Words stand between spaces, so two spaces, or one at the end, hold an empty word. Refusals of which the text
+//! beside the reason is compared too stand in `refusals`.
 use super::run_over;
 use scl_cl::{Compiler, Mem, Outcome};
 use std::alloc::Global;

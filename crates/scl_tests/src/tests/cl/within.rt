@@ -47,6 +47,7 @@ fn expect_words(
 
 #[test]
 fn words_are_counted_with_files_in_place(rt: HostRuntime) -> Result<(), Fail> {
+    // ten files that double put 1,024 words in the place of one
     let view = doubling_files(rt.alloc(), 10)?;
     expect_words(&rt, Compiler::Gcc, b"-c a.c @f0", &view, 1026)?;
     expect_words(&rt, Compiler::Clang, b"-c a.c @f0", &view, 1026)?;
