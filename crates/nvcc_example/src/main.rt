@@ -1,5 +1,5 @@
 //! Reads a command line of nvcc by Gcc's parser, with a table of its own beside Gcc's and Clang's, and prints the words of
-//! the command to run in its place, or why there is none: `nvcc_example -c a.c --threads 2 -arch sm_50`.
+//! the command to run in its place, or why there is none: `nvcc_example -c a.c --threads 2 -arch compute_50 -code=sm_50`.
 #![tactic(auto)]
 
 ghost use Rattle.std.specs.Prelude.{[], ◌∷◌, IsTrue, IfOk};

@@ -1,10 +1,10 @@
-//! The program over memory: what the contracts do not say.
-mod besides;
+//! The program over memory, and the calls below it: rows worked by hand, and what becomes of requests and devices.
 mod devices;
 mod fields;
 mod msvc_rows;
 mod outcomes;
 mod read_again;
+mod refusals;
 mod requests;
 mod rows;
 mod within;

@@ -22,6 +22,7 @@ fn made(alloc: Global, text: &[u8], kept: &[u8]) -> Mem<DepfileText> {
 #[test]
 fn lines_with_the_prefix_name_dependencies(rt: HostRuntime) -> Result<(), Fail> {
     let record = record_of(rt.alloc(), b"-c x.c -depsx.d")?;
+    // error output, the text that it gives, and which of its lines are kept
     let rows: [(&[u8], &[u8], &[u8]); 6] = [
         (
             b"Note:  a.h\nwarn\nNote: b c.h\nNote: a.h\n",
@@ -75,23 +76,18 @@ fn only_clang_with_a_dependency_file_has_its_text(rt: HostRuntime) -> Result<(),
     assert!(rt; depfile_text(rt.alloc(), &record, false, "Note: ", b"\xff") == Ok(None));
     let plain = record_of(rt.alloc(), b"-c x.c")?;
     assert!(rt; depfile_text(rt.alloc(), &plain, true, "Note: ", b"\xff") == Ok(None));
+    Ok(())
+}
+
+#[test]
+fn errors_of_dependency_files_have_their_texts(rt: HostRuntime) -> Result<(), Fail> {
     let text = format!(in rt.alloc(); "{}, {}", DepfileError::NotUtf8, DepfileError::Memory)?;
     assert!(rt; text.as_str() == "error output is not UTF-8, out of memory");
     Ok(())
 }
 
-/// What clang-cl's dependency file says of a run that names one file.
+/// The text of one dependency.
 static TEXT: &[u8] = b"x.obj: x.c a.h \nx.c:\na.h:\n";
-
-#[test]
-fn the_text_is_that_of_one_dependency(rt: HostRuntime) -> Result<(), Fail> {
-    let record = record_of(rt.alloc(), b"-c x.c -depsx.d")?;
-    let stderr = b"Note:  a.h\nwarn\nNote: b c.h\nNote: a.h";
-    let got = depfile_text(rt.alloc(), &record, true, "Note: ", stderr)?.ok_or("no text")?;
-    assert!(rt; got.text.as_slice() == TEXT);
-    assert!(rt; TEXT.len() == 26);
-    Ok(())
-}
 
 /// What a writer of so many calls, that takes so many bytes a call, is said to have taken.
 fn expect_fault(
@@ -117,6 +113,7 @@ fn a_fault_names_what_went_out(rt: HostRuntime) {
     let ten = Err(WriteFault { written: 10 });
     expect_fault(&rt, 10, 1, ten, b"x.obj: x.c");
     expect_fault(&rt, 1, u64::MAX, Ok(()), TEXT);
+    // two bytes a call, the text takes thirteen calls
     for calls in 0..13 {
         let written = 2 * calls;
         let (taken, _) = TEXT.split_at(written as usize);

@@ -6,8 +6,8 @@ use crate::tests::records;
 use crate::tests::words::joined;
 use scl_args::{ArgParseError, ArgumentValue, Mem, PathArg};
 use scl_gnu::gcc::{
-    ARCH_FLAG, ArgData, Gcc, Kind, generate_compile_commands, language_to_gcc_arg,
-    module_file_path, resolve_profile_use_path,
+    ArgData, Gcc, Kind, generate_compile_commands, language_to_gcc_arg, module_file_path,
+    resolve_profile_use_path,
 };
 use scl_text::language::Language;
 use scl_text::records::{CCompilerKind, CommandError, ParsedArguments, SingleCompileCommand};
@@ -92,7 +92,6 @@ fn gcc_says_what_it_is(rt: HostRuntime) -> Result<(), Fail> {
     let digest = gcc.assembler_digest(rt.alloc())?.ok_or("no digest")?;
     assert!(rt; digest.as_str() == "d");
     assert!(rt; language_to_gcc_arg(Language::Cuda) == Some("cu"));
-    assert!(rt; ARCH_FLAG == "-arch");
     Ok(())
 }
 
@@ -115,7 +114,7 @@ fn an_output_takes_its_path(rt: HostRuntime) -> Result<(), Fail> {
 }
 
 #[test]
-fn files_beside_the_words_have_their_paths(rt: HostRuntime) -> Result<(), Fail> {
+fn files_of_modules_have_their_paths(rt: HostRuntime) -> Result<(), Fail> {
     let rows: [(&[u8], &[u8]); 4] = [
         (b"n=m=p.pcm", b"m=p.pcm"),
         (b"n=\xff.pcm", b"\xff.pcm"),
@@ -126,6 +125,11 @@ fn files_beside_the_words_have_their_paths(rt: HostRuntime) -> Result<(), Fail> 
         let path = module_file_path(rt.alloc(), value)?;
         assert!(rt; path.as_slice() == want, "of {value:?}");
     }
+    Ok(())
+}
+
+#[test]
+fn profiles_have_their_paths(rt: HostRuntime) -> Result<(), Fail> {
     let mut view = View::new(rt.alloc());
     view.add_dir(bytes_of(&rt, b"/w")?)?;
     let profiles: [(&[u8], &[u8]); 2] = [(b"", b"/w/default.profdata"), (b"p", b"/w/p")];

@@ -3,10 +3,13 @@ use crate::tests::records::{self, msvc};
 use crate::tests::words::{cut, joined};
 use scl_args::{Mem, SearchableArgInfo, looks};
 use scl_gnu::gcc;
-use scl_msvc::msvc::{ARGS, ExpandIncludeFile, Msvc, SLASH_ARGS, trees, without_cl_env_vars};
+use scl_msvc::msvc::{
+    ARGS, ArgData, ExpandIncludeFile, Msvc, SLASH_ARGS, trees, without_cl_env_vars,
+};
 use scl_text::records::{CCompilerKind, Cacheable, ParsedArguments, SingleCompileCommand};
 use scl_text::{CCompilerImpl, View};
 use std::alloc::Global;
+use std::process::Abort;
 use std::test::Fail;
 
 /// What is read in the directory `/w`.
@@ -128,19 +131,29 @@ fn msvc_says_what_it_is(rt: HostRuntime) -> Result<(), Fail> {
     Ok(())
 }
 
+fn finds<S: SearchableArgInfo<ArgData>>(trees: &S, flag: &str) -> bool {
+    match trees.search(flag.as_bytes()) {
+        Some(row) => row.flag() == flag,
+        None => false,
+    }
+}
+
+/// The flag is found. For each of its bytes and one more that may take ten looks in each of the two trees, as 257 rows
+/// have nine binary digits.
+fn expect_found<S: SearchableArgInfo<ArgData>>(rt: &impl Abort, trees: &S, flag: &str) {
+    assert!(rt; finds(trees, flag), "{flag}");
+    let bytes = flag.len() as u64;
+    let most = bytes.saturating_add(1).saturating_mul(20);
+    assert!(rt; looks(trees, flag.as_bytes()) <= most, "{flag}");
+}
+
 #[test]
 fn both_trees_have_the_same_flags(rt: HostRuntime) -> Result<(), Fail> {
     let trees = trees(rt.alloc())?;
     for (row, slash) in ARGS.iter().zip(SLASH_ARGS.iter()) {
         assert!(rt; row.flag().strip_prefix("-") == slash.flag().strip_prefix("/"));
-        for flag in [row.flag(), slash.flag()] {
-            let found = trees.search(flag.as_bytes()).map(|found| found.flag());
-            assert!(rt; found == Some(flag));
-            let bytes = flag.len() as u64;
-            assert!(rt;
-                looks(&trees, flag.as_bytes()) <= bytes.saturating_add(1).saturating_mul(20)
-            );
-        }
+        expect_found(&rt, &trees, row.flag());
+        expect_found(&rt, &trees, slash.flag());
     }
     Ok(())
 }

@@ -53,7 +53,7 @@ fn shapes() -> Option<FlagTable<'static, Value>>
 fn is_told(option: &ArgParseResult<Argument<Value>>, wanted: Option<&Told<'_>>) -> bool {
     match (option, wanted) {
         (Ok(option), Some(wanted)) => as_told(option) == *wanted,
-        _ => false,
+        (Ok(_), None) | (Err(_), Some(_)) | (Err(_), None) => false,
     }
 }
 

@@ -36,11 +36,12 @@ fn finds_kind<S: SearchableArgInfo<Value>>(tables: &S, key: &str, kind: Kind) ->
     }
 }
 
-/// Keys with the flags of gcc that they find, and how many looks that may take.
+/// Keys with the flags of gcc that they find, and how many looks that may take: eight for each byte of the key and one
+/// more, as the 86 rows have seven binary digits.
 static FOUND: [(&str, &str, u64); 3] = [
     ("-stdlib=libc++", "-stdlib", 120),
     ("-c", "-c", 24),
-    ("-iwithprefixdir", "-iwithprefix", 136),
+    ("-iwithprefixdir", "-iwithprefix", 128),
 ];
 
 fn expect_few_looks<S: SearchableArgInfo<gcc::ArgData>>(rt: &impl Abort, tables: &S) {

@@ -73,6 +73,7 @@ fn a_writer_that_fails_at_any_write_has_taken_a_beginning(rt: HostRuntime) {
     let (outcome, whole) = run_over(rt.alloc(), REQUEST);
     assert!(rt; outcome == Outcome::Answered);
     assert!(rt; whole.as_slice() == ANSWER);
+    // the answer takes sixteen writes
     for calls in 0..18 {
         expect_beginning(&rt, &mut [0; 64], 3, calls);
     }

@@ -1,26 +1,22 @@
 //! Answers to command lines of at most so many words.
+use super::rows::{nested_files, request_of};
 use crate::tests::words::cut;
-use scl_cl::{Compilation, Compiler, CompilerArguments, Mem, TooManyWords, View};
+use scl_cl::{
+    Compilation, Compiler, CompilerArguments, Mem, Request, TooManyWords, View, read_request,
+};
 use std::alloc::Global;
 use std::process::Abort;
 use std::test::Fail;
 
-/// Adds the file of the number, which names the next one twice.
-fn add_doubling(alloc: Global, view: &mut View, number: u32) -> Mem<()> {
-    let path = format!(in alloc; "f{number}")?.into_bytes();
-    let next = u64::from(number) + 1;
-    view.add_file(path, format!(in alloc; "@f{next} @f{next}")?.into_bytes())
-}
-
-/// Files, each of which names the next twice, and the last of which has one word.
-fn doubling_files(alloc: Global, files: u32) -> Mem<View> {
-    let mut view = View::new(alloc);
-    for number in 0..files {
-        add_doubling(alloc, &mut view, number)?;
-    }
-    let path = format!(in alloc; "f{files}")?.into_bytes();
-    view.add_file(path, Vec::from_slice(alloc, b"-DA")?)?;
-    Ok(view)
+/// A request without words that has so many files from f0 on, each of which names the next twice, and a last one of one
+/// word.
+fn doubling_files(alloc: Global, files: u32) -> Result<Request, Fail> {
+    let lines = nested_files(alloc, files, 2, "-DA")?;
+    let request = request_of(alloc, Compiler::Gcc, lines.as_str(), "")?;
+    let asked = read_request(alloc, request.as_bytes())?
+        .ok()
+        .ok_or("a bad line")?;
+    Ok(asked)
 }
 
 fn answer_within(
@@ -54,24 +50,31 @@ fn expect_words(
 
 #[test]
 fn words_are_counted_with_files_in_place(rt: HostRuntime) -> Result<(), Fail> {
-    let view = doubling_files(rt.alloc(), 10)?;
-    expect_words(&rt, Compiler::Gcc, b"-c a.c @f0", &view, 1026)?;
-    expect_words(&rt, Compiler::Clang, b"-c a.c @f0", &view, 1026)?;
-    expect_words(&rt, Compiler::Tasking, b"-c a.c", &view, 2)?;
-    expect_words(&rt, Compiler::Diab, b"-c a.c -DA", &view, 3)?;
-    expect_words(&rt, Compiler::Cl, b"/c a.c /DA /DB", &view, 4)
+    // ten files that double put 1,024 words in the place of one
+    let asked = doubling_files(rt.alloc(), 10)?;
+    expect_words(&rt, Compiler::Gcc, b"-c a.c @f0", &asked.view, 1026)?;
+    expect_words(&rt, Compiler::Clang, b"-c a.c @f0", &asked.view, 1026)?;
+    expect_words(&rt, Compiler::Tasking, b"-c a.c", &asked.view, 2)?;
+    expect_words(&rt, Compiler::Diab, b"-c a.c -DA", &asked.view, 3)?;
+    expect_words(&rt, Compiler::Cl, b"/c a.c /DA /DB", &asked.view, 4)
 }
 
 #[test]
 fn inner_words_are_counted(rt: HostRuntime) -> Result<(), Fail> {
-    let view = doubling_files(rt.alloc(), 10)?;
-    expect_words(&rt, Compiler::ClangCl, b"/c a.c -clang:@f0", &view, 1024)
+    let asked = doubling_files(rt.alloc(), 10)?;
+    expect_words(
+        &rt,
+        Compiler::ClangCl,
+        b"/c a.c -clang:@f0",
+        &asked.view,
+        1024,
+    )
 }
 
 #[test]
 fn an_expansion_past_its_bound_ends_at_once(rt: HostRuntime) -> Result<(), Fail> {
-    let view = doubling_files(rt.alloc(), 200)?;
-    let few = answer_within(rt.alloc(), Compiler::Gcc, b"-c a.c @f0", &view, 1000)?;
+    let asked = doubling_files(rt.alloc(), 200)?;
+    let few = answer_within(rt.alloc(), Compiler::Gcc, b"-c a.c @f0", &asked.view, 1000)?;
     assert!(rt; matches!(&few, Err(TooManyWords)));
     Ok(())
 }

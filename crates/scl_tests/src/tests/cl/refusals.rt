@@ -1,5 +1,5 @@
-//! The texts beside reasons.
-use super::rows::{name_and_row, request_in};
+//! What is refused: the reason that the program answers, and the text that stands beside it.
+use super::rows::{expect_answer, name_and_row, request_in};
 use scl_cl::{CompilerArguments, read_request};
 use std::alloc::Global;
 use std::process::Abort;
@@ -89,11 +89,13 @@ fn expect_refusal(rt: &(impl Abort + Alloc<A = Global>), row: &str) -> Result<()
     let request = request_in(rt.alloc(), compiler, request)?;
     let refused = refusal(rt.alloc(), request.as_str())?;
     assert!(rt; refused.as_str() == want, "of {request:?}");
-    Ok(())
+    let (reason, _text) = want.split_once(" (").unwrap_or((want, ""));
+    let answer = format!(in rt.alloc(); "cannot-cache {reason}")?;
+    expect_answer(rt, request.as_str(), answer.as_str())
 }
 
 #[test]
-fn a_text_stands_beside_a_reason(rt: HostRuntime) -> Result<(), Fail> {
+fn refusals_have_their_reason_and_text(rt: HostRuntime) -> Result<(), Fail> {
     for row in REFUSALS.lines() {
         if !row.is_empty() {
             expect_refusal(&rt, row)?;
