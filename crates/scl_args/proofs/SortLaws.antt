@@ -1,5 +1,5 @@
 -- What the sorts of options say of the options.
-use Rattle.std.proofs.Common.{◌≡◌, Bool, true, false, ◌||◌, List, [], ◌∷◌, ◌++◌, refl, filter, cond, ℕ, zero, suc, ◌<◌, length, get_or, arith}
+use Rattle.std.proofs.Common.{◌≡◌, Bool, true, false, ◌||◌, List, [], ◌∷◌, ◌++◌, refl, map, filter, cond, ℕ, zero, suc, ◌<◌, length, get_or, arith}
 use Rattle.std.specs.List.{list_any}
 
 or-left : (a b : Bool) → (a || b) ≡ false → a ≡ false
@@ -28,6 +28,10 @@ module _ {A : Type 0} where
 
   pub none-of : {B : Type 0} (sort : A → B) (p : B → Bool) (q : A → Bool) → ((x : A) → p (sort x) ≡ false → q x ≡ false) → (xs : List A) → list_any (λ x. p (sort x)) xs ≡ false → list_any q xs ≡ false
   none-of sort p q h xs e = any-imp (λ x. p (sort x)) q h xs e
+
+  pub any-map : {B : Type 0} (p : B → Bool) (f : A → B) (xs : List A) → list_any p (map f xs) ≡ list_any (λ x. p (f x)) xs
+  any-map p f [] = refl
+  any-map p f (x ∷ xs) = rw (any-map p f xs) refl
 
   -- a list of sorts with one more
   pub any-append : (p : A → Bool) (xs ys : List A) → list_any p (xs ++ ys) ≡ (list_any p xs || list_any p ys)

@@ -4,7 +4,6 @@ use Rattle.std.specs.List.{list_any}
 use Rattle.scl_args.specs.declared.sort.Sort.{Sort}
 use Rattle.scl_args.specs.declared.sort.Sort.TheVariants as sort
 use Rattle.scl_values.specs.Seen.{Seen, Raw, Unknown, Known}
-use Rattle.scl_args.specs.Options.{of_kinds}
 
 abbrev pub sort_of : {K : Type 0} → Seen K → Sort K
 sort_of (Raw w) = sort.Raw
@@ -20,12 +19,6 @@ is_sort_of p (sort.Known k) = p k
 -- whether the sort is of one of the kinds
 abbrev pub sort_of_kinds : {K : Type 0} → (K → K → Bool) → List K → Sort K → Bool
 sort_of_kinds same kinds s = is_sort_of (λ k. list_any (λ other. same other k) kinds) s
-
--- an option of none of the kinds is so by its sort
-pub of_kinds_by_sort : {K : Type 0} (same : K → K → Bool) (kinds : List K) (o : Seen K) → sort_of_kinds same kinds (sort_of o) ≡ false → of_kinds same kinds o ≡ false
-of_kinds_by_sort same kinds (Raw w) e = e
-of_kinds_by_sort same kinds (Unknown w) e = e
-of_kinds_by_sort same kinds (Known f k v h) e = e
 
 -- what no sort of these is, this is not
 abbrev pub IsAmong : {K : Type 0} → Sort K → List (Sort K) → Type 0

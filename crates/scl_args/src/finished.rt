@@ -1,14 +1,14 @@
 //! A finished list of options, and the sorts that stand among them.
-ghost use Rattle.std.specs.Prelude.{◌≡◌, [], false, IfOk, IsTrue, filter, map};
+ghost use Rattle.std.specs.Prelude.{◌≡◌, ◌⊎◌, [], false, IfOk, IsTrue, filter, map};
 ghost use Rattle.std.specs.List.{list_any};
 ghost use Rattle.std.specs.Option.{option_map};
-ghost use Rattle.scl_values.specs.Seen.{seen, flag_of, text_of};
+ghost use Rattle.scl_values.specs.Seen.{seen};
 ghost use Rattle.scl_args.specs.Sorts.{AreSortsOf, IsAmong};
 ghost use Rattle.scl_values.specs.Words.{words_of};
-ghost use Rattle.scl_args.specs.Options.{all_seen, is_behind_dashes, last_by, texts, list};
+ghost use Rattle.scl_args.specs.Options.{all_seen, is_behind_dashes, last_by, last_flag, last_text, texts, list};
 
-use crate::lists::{Sides, into_list, list};
-use crate::options::{Test, any, is_behind_dashes, last_by, last_flag, last_text, texts};
+use crate::lists::{Sides, list, push_whole};
+use crate::options::{Test, is_dashes, last_by, last_text, texts};
 use crate::sort::{Sort, is_same, sort_of};
 use scl_values::{Argument, Mem, ReadArg};
 use std::alloc::Global;
@@ -37,12 +37,7 @@ impl<T: ReadArg> Model for Options<T> {
 fn is_among<T: ReadArg>(sorts: &[Sort<T::Kind>], sort: Sort<T::Kind>) -> bool
     ensures { IsTrue result → IsAmong sort sorts.now }
 {
-    for other in sorts {
-        if is_same::<T>(*other, sort) {
-            return true;
-        }
-    }
-    false
+    sorts.iter().any(|other| is_same::<T>(*other, sort))
 }
 
 /// The sorts of the options, each once.
@@ -84,7 +79,8 @@ impl<T: ReadArg> Options<T> {
 
     /// All options, or none where no sort that stands here may pass: the options that pass are the same.
     pub fn among<P: Test<T>>(&self, test: &P) -> &[Argument<T>]
-        ensures { filter (P.passes test.now) (map (seen T.kind_of T.word_of) result.now) ≡ filter (P.passes test.now) self.now }
+        ensures passing { filter (P.passes test.now) (map (seen T.kind_of T.word_of) result.now) ≡ filter (P.passes test.now) self.now }
+        ensures whole { (map (seen T.kind_of T.word_of) result.now ≡ self.now) ⊎ (result.now ≡ []) }
     {
         if self.may_pass(test) {
             &self.options
@@ -102,14 +98,14 @@ impl<T: ReadArg> Options<T> {
 
     /// The flag of the last option that passes.
     pub fn last_flag<P: Test<T>>(&self, test: &P) -> Option<&'static str>
-        ensures { option_map (λ flag. flag.now) result ≡ option_map flag_of (last_by (P.passes test.now) self.now) }
+        ensures { option_map (λ flag. flag.now) result ≡ last_flag (P.passes test.now) self.now }
     {
-        last_flag(self.among(test), test)
+        Some(self.last_by(test)?.flag())
     }
 
     /// The text of the last option that passes.
     pub fn last_text<P: Test<T>>(&self, test: &P) -> Option<&[u8]>
-        ensures { option_map (λ text. text.now) result ≡ option_map text_of (last_by (P.passes test.now) self.now) }
+        ensures { option_map (λ text. text.now) result ≡ last_text (P.passes test.now) self.now }
     {
         last_text(self.among(test), test)
     }
@@ -118,7 +114,7 @@ impl<T: ReadArg> Options<T> {
     pub fn any<P: Test<T>>(&self, test: &P) -> bool
         ensures { result ≡ list_any (P.passes test.now) self.now }
     {
-        any(self.among(test), test)
+        self.among(test).iter().any(|option| test.passes(option))
     }
 
     /// The texts of the options that pass, in order. It fails only for want of memory.
@@ -141,7 +137,7 @@ impl<T: ReadArg> Options<T> {
         list(alloc, self.among(test), sides, test)
     }
 
-    /// The words of `list`; the options' memory is used again or given back as it goes.
+    /// The words of `list`; the options' memory is used again or given back as it goes. It fails only for want of memory.
     pub fn into_list<S: Sides, P: Test<T>>(
         self,
         alloc: Global,
@@ -150,13 +146,27 @@ impl<T: ReadArg> Options<T> {
     ) -> Mem<Vec<Vec<u8>>>
         ensures { IfOk result (λ words. words_of words.items ≡ list (S.side sides.now) (P.passes test.now) self) }
     {
-        into_list(alloc, self.options, sides, test)
+        let mut words = Vec::new(alloc);
+        for option in self.options {
+            if test.passes(&option) {
+                push_whole(alloc, &mut words, option, sides)?;
+            }
+        }
+        Ok(words)
     }
 
     /// Whether a raw word `--` stands before any of the options that the test takes for inputs (docs/RULES.md, Readings).
     pub fn is_behind_dashes<P: Test<T>>(&self, inputs: &P) -> bool
         ensures { result ≡ is_behind_dashes (P.passes inputs.now) self.now }
     {
-        is_behind_dashes(&self.options, inputs)
+        for option in &self.options {
+            if is_dashes(option) {
+                return true;
+            }
+            if inputs.passes(option) {
+                return false;
+            }
+        }
+        false
     }
 }

@@ -21,15 +21,19 @@ pub trait Judge<T: ArgumentValue> {
     /// Why an option is refused.
     type Refusal: Drop;
 
-    /// What a refusal is to definitions.
+    /// The type of what definitions say of a refusal.
     ghost Verdict: { Type 0 };
 
+    /// What a refusal is to them.
     ghost verdict_of: { Self.Refusal → Verdict };
 
+    /// What an option is refused for, after those before it.
     ghost verdict: { Self → List (Seen T.Kind) → Seen T.Kind → Option Verdict };
 
+    /// What `refuse_empty` gives.
     ghost empty: { Verdict };
 
+    /// What `refuse_dangling` gives.
     ghost dangling: { Verdict };
 
     /// Why the option is refused, if it is. It fails only for want of memory.

@@ -15,7 +15,8 @@ use scl_values::ArgumentValue;
 /// - `last_fit_owns`: the last row that fits a word is its owner;
 /// - `owner_is_of_all_rows`: the owner of a word in several tables is its owner in one list of all their rows;
 /// - `last_table_wins`: of several tables the longest owner wins, and at one length the last table's;
-/// - `counts_digits`: the count of a number's binary digits, which the bound on looks names, is that count;
+/// - `counts_digits`: `bits n` binary digits, which the bound on looks names, can say n, and no fewer can where n is above
+///   zero;
 /// - `looks_add_up`: the bound on the looks of a search in several tables is the sum of the tables' bounds.
 pub fn of_tables<K>()
     ensures flags_rise { FlagsRise K }

@@ -2,7 +2,7 @@
 ghost use Rattle.std.specs.Prelude.{◌≡◌, ◌++◌, map, IfOk, OnOk};
 ghost use Rattle.scl_values.specs.Seen.{seen};
 ghost use Rattle.scl_values.specs.Spell.{spell_value};
-ghost use Rattle.scl_args.specs.Options.{side_of_flag, spelled_on, list};
+ghost use Rattle.scl_args.specs.Options.{spelled_on, list};
 ghost use Rattle.scl_values.specs.Words.{words_of};
 
 use crate::options::Test;
@@ -16,6 +16,7 @@ pub trait Sides {
     ghost use Rattle.std.specs.Prelude.{ℕ, List};
     ghost use Rattle.scl_values.specs.declared.argument.NormalizedDisposition.{NormalizedDisposition};
 
+    /// The side of a flag.
     ghost side: { Self → List ℕ → NormalizedDisposition };
 
     /// The side of the flag.
@@ -23,19 +24,7 @@ pub trait Sides {
         ensures { result ≡ side self.now flag.now };
 }
 
-/// The side of an option in a list: a flag of two bytes stands together with its value, any other apart
-/// (docs/RULES.md, Printing).
-fn side_of_flag(flag: &str) -> NormalizedDisposition
-    ensures { result ≡ side_of_flag flag.now }
-{
-    if flag.len() == 2 {
-        NormalizedDisposition::Concatenated
-    } else {
-        NormalizedDisposition::Separated
-    }
-}
-
-/// Flags of two bytes stand together with their values, any others apart.
+/// Flags of two bytes stand together with their values, any others apart (docs/RULES.md, Printing).
 #[derive(Clone, Copy, Debug)]
 pub struct ShortFlagsJoined;
 
@@ -45,7 +34,11 @@ impl Sides for ShortFlagsJoined {
     ghost side = { λ _. side_of_flag };
 
     fn side(&self, flag: &str) -> NormalizedDisposition {
-        side_of_flag(flag)
+        if flag.len() == 2 {
+            NormalizedDisposition::Concatenated
+        } else {
+            NormalizedDisposition::Separated
+        }
     }
 }
 
@@ -97,7 +90,7 @@ fn push_option<T: ArgumentValue, S: Sides>(
 }
 
 /// Puts the words of the option behind others as `push_option` does; the word of one without a flag is moved.
-fn push_whole<T: ArgumentValue, S: Sides>(
+pub(crate) fn push_whole<T: ArgumentValue, S: Sides>(
     alloc: Global,
     words: &mut Vec<Vec<u8>>,
     option: Argument<T>,
@@ -130,25 +123,6 @@ pub(crate) fn list<T: ArgumentValue, S: Sides, P: Test<T>>(
     for option in options {
         if test.passes(option) {
             push_option(alloc, &mut words, option, sides)?;
-        }
-    }
-    Ok(words)
-}
-
-/// The words of the options that pass, each option on the side of its flag, as `list` gives them; the memory of each option
-/// is used again or given back as it goes. It fails only for want of memory.
-pub(crate) fn into_list<T: ArgumentValue, S: Sides, P: Test<T>>(
-    alloc: Global,
-    options: Vec<Argument<T>>,
-    sides: &S,
-    test: &P,
-) -> Mem<Vec<Vec<u8>>>
-    ensures { IfOk result (λ words. words_of words.items ≡ list (S.side sides.now) (P.passes test.now) (map (seen T.kind_of T.word_of) options.items)) }
-{
-    let mut words = Vec::new(alloc);
-    for option in options {
-        if test.passes(&option) {
-            push_whole(alloc, &mut words, option, sides)?;
         }
     }
     Ok(words)

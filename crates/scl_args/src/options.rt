@@ -1,14 +1,13 @@
 //! Filters over a finished list of options: the last that passes a test, its flag or text, whether any passes, the texts of
 //! those that do.
 ghost use Rattle.std.specs.Prelude.{◌≡◌, IfOk, map};
-ghost use Rattle.std.specs.List.{list_any};
 ghost use Rattle.std.specs.Option.{option_map};
-ghost use Rattle.scl_values.specs.Seen.{seen, flag_of, text_of};
+ghost use Rattle.scl_values.specs.Seen.{seen};
 ghost use Rattle.scl_values.specs.Words.{words_of};
 ghost use Rattle.scl_args.specs.Sorts.{sort_of_kinds};
-ghost use Rattle.scl_args.specs.Options.{begins_with_at, names_file, is_dashes, is_behind_dashes, last, last_by, texts};
+ghost use Rattle.scl_args.specs.Options.{begins_with_at, names_file, is_dashes, last, last_by, last_text, texts};
 
-use crate::sort::Sort;
+use crate::sort::{Sort, sort_of};
 use scl_values::{ArgDisposition, Argument, ArgumentValue, Mem, ReadArg};
 use std::alloc::Global;
 
@@ -19,10 +18,13 @@ pub trait Test<T: ArgumentValue> {
     ghost use Rattle.scl_args.specs.Sorts.{sort_of};
     ghost use Rattle.scl_args.specs.declared.sort.Sort.{Sort};
 
+    /// Whether an option passes.
     ghost passes: { Self → Seen T.Kind → Bool };
 
+    /// Whether options of a sort may pass.
     ghost may_pass: { Self → Sort T.Kind → Bool };
 
+    /// No option passes whose sort may not.
     ghost passes_by_sort: { (test : Self) (option : Seen T.Kind) → may_pass test (sort_of option) ≡ false → passes test option ≡ false };
 
     /// Whether the option passes.
@@ -43,21 +45,16 @@ where
     T::Kind: PartialEq,
 {
     ghost use Rattle.scl_args.specs.Options.{of_kinds};
-    ghost use Rattle.scl_args.specs.Sorts.{sort_of_kinds, of_kinds_by_sort};
+    ghost use Rattle.scl_args.specs.Sorts.{sort_of_kinds};
 
     ghost passes = { λ test. of_kinds T.Kind.eq test.0.now };
 
     ghost may_pass = { λ test. sort_of_kinds T.Kind.eq test.0.now };
 
-    ghost passes_by_sort = { λ test. of_kinds_by_sort T.Kind.eq test.0.now };
+    ghost passes_by_sort = { λ test option none. none };
 
     fn passes(&self, option: &Argument<T>) -> bool {
-        match option {
-            Argument::Raw(_) | Argument::UnknownFlag(_) => false,
-            Argument::Flag(_, value) | Argument::WithValue(_, value, _) => {
-                self.0.contains(&value.kind())
-            }
-        }
+        <Self as Test<T>>::may_pass(self, sort_of(option))
     }
 
     fn may_pass(&self, sort: Sort<T::Kind>) -> bool
@@ -87,18 +84,6 @@ pub(crate) fn last_by<'a, T: ArgumentValue, P: Test<T>>(
     None
 }
 
-/// Whether any of the options passes.
-pub(crate) fn any<T: ArgumentValue, P: Test<T>>(options: &[Argument<T>], test: &P) -> bool
-    ensures { result ≡ list_any (P.passes test.now) (map (seen T.kind_of T.word_of) options.now) }
-{
-    for option in options {
-        if test.passes(option) {
-            return true;
-        }
-    }
-    false
-}
-
 /// The last of the options.
 pub fn last_option<T: ArgumentValue>(options: &[Argument<T>]) -> Option<&Argument<T>>
     ensures { option_map (λ option. seen T.kind_of T.word_of option.now) result ≡ last (map (seen T.kind_of T.word_of) options.now) }
@@ -106,30 +91,14 @@ pub fn last_option<T: ArgumentValue>(options: &[Argument<T>]) -> Option<&Argumen
     options.last()
 }
 
-/// The flag of the last of the options that pass.
-pub(crate) fn last_flag<T: ArgumentValue, P: Test<T>>(
-    options: &[Argument<T>],
-    test: &P,
-) -> Option<&'static str>
-    ensures { option_map (λ flag. flag.now) result ≡ option_map flag_of (last_by (P.passes test.now) (map (seen T.kind_of T.word_of) options.now)) }
-{
-    match last_by(options, test) {
-        Some(option) => Some(option.flag()),
-        None => None,
-    }
-}
-
 /// The text of the last of the options that pass.
 pub fn last_text<'a, T: ReadArg, P: Test<T>>(
     options: &'a [Argument<T>],
     test: &P,
 ) -> Option<&'a [u8]>
-    ensures { option_map (λ text. text.now) result ≡ option_map text_of (last_by (P.passes test.now) (map (seen T.kind_of T.word_of) options.now)) }
+    ensures { option_map (λ text. text.now) result ≡ last_text (P.passes test.now) (map (seen T.kind_of T.word_of) options.now) }
 {
-    match last_by(options, test) {
-        Some(option) => Some(option.text()),
-        None => None,
-    }
+    Some(last_by(options, test)?.text())
 }
 
 /// The texts of the options that pass, in order. It fails only for want of memory.
@@ -157,24 +126,6 @@ pub fn is_dashes<T: ArgumentValue>(option: &Argument<T>) -> bool
         Argument::Raw(word) => word.as_slice() == b"--".as_slice(),
         Argument::UnknownFlag(_) | Argument::Flag(_, _) | Argument::WithValue(_, _, _) => false,
     }
-}
-
-/// Whether a raw word `--` stands before any of the options that the test takes for inputs (docs/RULES.md, Readings).
-pub(crate) fn is_behind_dashes<T: ArgumentValue, P: Test<T>>(
-    options: &[Argument<T>],
-    inputs: &P,
-) -> bool
-    ensures { result ≡ is_behind_dashes (P.passes inputs.now) (map (seen T.kind_of T.word_of) options.now) }
-{
-    for option in options {
-        if is_dashes(option) {
-            return true;
-        }
-        if inputs.passes(option) {
-            return false;
-        }
-    }
-    false
 }
 
 fn begins_with_at(value: &[u8]) -> bool

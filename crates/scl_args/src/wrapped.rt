@@ -11,6 +11,7 @@ use std::alloc::Global;
 pub trait Wrapper {
     ghost use Rattle.std.specs.Prelude.{ℕ, List};
 
+    /// The words that a word becomes.
     ghost wrapped: { Self → List ℕ → List (List ℕ) };
 
     /// Puts what the word becomes behind other words; where memory is refused, the first of that may stand there already.

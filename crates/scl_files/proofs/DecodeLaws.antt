@@ -9,7 +9,9 @@ use Rattle.std.specs.Char.Utf16.{utf16_chars, lone_unit_char, surrogate_pair_cha
 use Rattle.std.specs.List.{flat_map, list_any}
 use Rattle.std.specs.Option.{option_map}
 use borrow.Author.Tests.{lt-ltb, le-ltb, lt-leb, le-leb}
-use Rattle.scl_files.specs.Decoding.{ByteOrder, little_end_first, big_end_first, units, units_text, utf16_text, unit_bytes, utf16_file, decoded, Utf8FilesAreReadBack, Utf16FilesAreReadBack}
+use Rattle.scl_files.specs.declared.decode.Order.{Order}
+use Rattle.scl_files.specs.declared.decode.Order.TheVariants as orders
+use Rattle.scl_files.specs.Decoding.{units, units_text, utf16_text, unit_bytes, utf16_file, decoded, Utf8FilesAreReadBack, Utf16FilesAreReadBack}
 use Rattle.scl_files.proofs.DecodeLemmas.{utf8-yes}
 
 pub utf8_files_are_read_back : Utf8FilesAreReadBack
@@ -66,21 +68,21 @@ text_of_units cs h = rw (all_chars cs h, none_unpaired cs, same_chars cs) refl
 
 -- ---- the bytes of units
 
-unit_again : (order : ByteOrder) (unit : ℕ) (bytes : List ℕ) → units order (unit_bytes order unit ++ bytes) ≡ option_map (λ us. unit ∷ us) (units order bytes)
-unit_again little_end_first unit bytes = let same : unit / 256 * 256 + unit % 256 ≡ unit = omega arith in rw same refl
-unit_again big_end_first unit bytes = let same : unit / 256 * 256 + unit % 256 ≡ unit = omega arith in rw same refl
+unit_again : (order : Order) (unit : ℕ) (bytes : List ℕ) → units order (unit_bytes order unit ++ bytes) ≡ option_map (λ us. unit ∷ us) (units order bytes)
+unit_again orders.LittleEndFirst unit bytes = let same : unit / 256 * 256 + unit % 256 ≡ unit = omega arith in rw same refl
+unit_again orders.BigEndFirst unit bytes = let same : unit / 256 * 256 + unit % 256 ≡ unit = omega arith in rw same refl
 
-units_again : (order : ByteOrder) (us : List ℕ) → units order (flat_map (unit_bytes order) us) ≡ Some us
+units_again : (order : Order) (us : List ℕ) → units order (flat_map (unit_bytes order) us) ≡ Some us
 units_again order [] = refl
 units_again order (u ∷ us) = unit_again order u (flat_map (unit_bytes order) us) ∙ rw (units_again order us) refl
 
-text_again : (order : ByteOrder) (cs : List ℕ) → scalars cs ≡ true → utf16_text order (flat_map (unit_bytes order) (flat_map encode_utf16 cs)) ≡ Some (encode_utf8_all cs)
+text_again : (order : Order) (cs : List ℕ) → scalars cs ≡ true → utf16_text order (flat_map (unit_bytes order) (flat_map encode_utf16 cs)) ≡ Some (encode_utf8_all cs)
 text_again order cs h = rw (units_again order (flat_map encode_utf16 cs)) (text_of_units cs h)
 
-file_again : (order : ByteOrder) (cs : List ℕ) → scalars cs ≡ true → decoded (utf16_file order cs) ≡ Some (encode_utf8_all cs)
+file_again : (order : Order) (cs : List ℕ) → scalars cs ≡ true → decoded (utf16_file order cs) ≡ Some (encode_utf8_all cs)
 unfolding decoded
-file_again little_end_first cs h = text_again little_end_first cs h
-file_again big_end_first cs h = text_again big_end_first cs h
+file_again orders.LittleEndFirst cs h = text_again orders.LittleEndFirst cs h
+file_again orders.BigEndFirst cs h = text_again orders.BigEndFirst cs h
 
 pub utf16_files_are_read_back : Utf16FilesAreReadBack
 utf16_files_are_read_back = file_again

@@ -5,7 +5,8 @@ use Rattle.std.proofs.Common.{map, take, encode_utf8}
 use Rattle.std.proofs.lemmas.Str.{encodes-append, IsUtf8-from_is_utf8, is_utf8-from_IsUtf8}
 use Rattle.std.specs.Str.{IsUtf8, is_utf8}
 use Rattle.std.specs.Option.{option_map}
-use Rattle.scl_files.specs.Decoding.{ByteOrder, unit_of, units, utf8_text, windows_text, windows_char}
+use Rattle.scl_files.specs.declared.decode.Order.{Order}
+use Rattle.scl_files.specs.Decoding.{unit_of, units, utf8_text, windows_text, windows_char}
 
 pub utf8-yes : (bs : List ℕ) → IsUtf8 bs → utf8_text bs ≡ Some bs
 utf8-yes bs h = rw (is_utf8-from_IsUtf8 bs h) refl
@@ -23,18 +24,18 @@ map_same : (o : Option (List ℕ)) (f g : List ℕ → List ℕ) → ((us : List
 map_same None f g h = refl
 map_same (Some us) f g h = ap Some (h us)
 
-pub units-more : (order : ByteOrder) (rest made : List ℕ) → 1 < length rest
+pub units-more : (order : Order) (rest made : List ℕ) → 1 < length rest
     → option_map (λ us. (made ++ unit_of order (get_or rest 0 0) (get_or rest 1 0) ∷ []) ++ us) (units order (drop 2 rest)) ≡ option_map (λ us. made ++ us) (units order rest)
 units-more order [] made h = absurd (omega arith)
 units-more order (a ∷ []) made h = absurd (omega arith)
 units-more order (a ∷ (b ∷ bytes)) made h =
     map_same (units order bytes) _ _ (λ us. append_assoc made (unit_of order a b ∷ []) us) ∙ sym (map_under (units order bytes) (λ us. made ++ us) (unit_of order a b))
 
-pub units-all : (order : ByteOrder) (rest made : List ℕ) → length rest ≡ 0 → option_map (λ us. made ++ us) (units order rest) ≡ Some made
+pub units-all : (order : Order) (rest made : List ℕ) → length rest ≡ 0 → option_map (λ us. made ++ us) (units order rest) ≡ Some made
 units-all order [] made h = ap Some (append-nil made)
 units-all order (a ∷ rest) made h = absurd (omega arith)
 
-pub units-odd : (order : ByteOrder) (rest made : List ℕ) → length rest ≡ 1 → option_map (λ us. made ++ us) (units order rest) ≡ None
+pub units-odd : (order : Order) (rest made : List ℕ) → length rest ≡ 1 → option_map (λ us. made ++ us) (units order rest) ≡ None
 units-odd order [] made h = absurd (omega arith)
 units-odd order (a ∷ []) made h = refl
 units-odd order (a ∷ (b ∷ rest)) made h = absurd (omega arith)

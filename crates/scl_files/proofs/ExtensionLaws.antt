@@ -10,8 +10,8 @@ use Rattle.std.specs.Str.{bytes_eq}
 use Rattle.std.proofs.lemmas.Bool.{false≢true, cases_Bool}
 use Rattle.std.proofs.lemmas.List.{append_assoc, append-nil, length-append}
 use Rattle.std.specs.Option.{option_map, option_and_then}
-use Rattle.std.specs.List.{slice_split, onto_first, list_all, before_last, after_last, suffix_len}
-use Rattle.scl_files.specs.Paths.{is_slash, is_dot, is_one_part, is_file_name, is_name, is_plain_extension, Place, placed, places, places_after, last_place, unless_parent, file_place, file_name, stem_of_name, extension_of_name, extended_name, extended_at, extension}
+use Rattle.std.specs.List.{slice_split, last_or, onto_first, list_all, before_last, after_last, suffix_len}
+use Rattle.scl_files.specs.Paths.{is_slash, is_dot, is_one_part, is_file_name, is_name, is_plain_extension, Place, placed, places, places_after, unless_parent, file_place, file_name, stem_of_name, extension_of_name, extended_name, extended_at, extension}
 use Rattle.scl_files.proofs.PathLaws.{AllParts, slashed, both, negated, file_place-slashed}
 
 onto_first-parts : (x : ℕ) (parts : List (List ℕ)) → AllParts parts → is_slash x ≡ false → AllParts (onto_first x parts)
@@ -39,12 +39,12 @@ behind : (before p : List ℕ) (ps : List (List ℕ)) (place : Place) → Stands
 unfolding Stands
 behind before p ps place s = (p ∷ s.0, s.1, record { whole = ap (λ qs. p ∷ qs) s.2.whole; ahead = s.2.ahead ∙ simp append_assoc; named = s.2.named })
 
-last_stands : (before : List ℕ) (parts : List (List ℕ)) (found : Option Place) (place : Place) → last_place found (places_after before parts) ≡ Some place → (found ≡ Some place) ⊎ Stands before parts place
+last_stands : (before : List ℕ) (parts : List (List ℕ)) (found : Option Place) (place : Place) → last_or found (places_after before parts) ≡ Some place → (found ≡ Some place) ⊎ Stands before parts place
 unfolding Stands
 last_stands before [] found place h = inl h
 last_stands before (p ∷ ps) found place h = elim (cases_Bool (is_name p)) [
   | inl named ↦
-      let later : last_place (Some (placed before p)) (places_after (before ++ p ++ 47 ∷ []) ps) ≡ Some place = rw named at h in
+      let later : last_or (Some (placed before p)) (places_after (before ++ p ++ 47 ∷ []) ps) ≡ Some place = rw named at h in
       elim (last_stands (before ++ p ++ 47 ∷ []) ps (Some (placed before p)) place later) [
         | inl e ↦
             let same : placed before p ≡ place = cc in
@@ -60,7 +60,7 @@ last_stands before (p ∷ ps) found place h = elim (cases_Bool (is_name p)) [
         | inr stands ↦ inr (behind before p ps place stands)
       ]
   | inr other ↦
-      let later : last_place found (places_after (before ++ p ++ 47 ∷ []) ps) ≡ Some place = rw other at h in
+      let later : last_or found (places_after (before ++ p ++ 47 ∷ []) ps) ≡ Some place = rw other at h in
       elim (last_stands (before ++ p ++ 47 ∷ []) ps found place later) [
         | inl e ↦ inl e
         | inr stands ↦ inr (behind before p ps place stands)
@@ -85,7 +85,7 @@ record IsFilePlace (place : Place) (front : List (List ℕ)) : Type 0 where
 
 file_place-stands : (path : List ℕ) (place : Place) → file_place path ≡ Some place → (front : List (List ℕ)) × IsFilePlace place front
 unfolding places Stands
-file_place-stands path place h = elim (last_stands [] (slice_split is_slash path) None place (unless_parent-Some (last_place None (places path)) place h)) [
+file_place-stands path place h = elim (last_stands [] (slice_split is_slash path) None place (unless_parent-Some (last_or None (places path)) place h)) [
   | inl e ↦ absurd (cc)
   | inr stands ↦
       let parts = front_parts stands.0 place.name stands.1 (subst AllParts stands.2.whole (parts_of path)) in

@@ -9,8 +9,8 @@ use Rattle.std.specs.Bool.{Decides}
 use Rattle.std.specs.Str.{bytes_eq}
 use Rattle.std.specs.Cmp.Lexicographic.{pointwise}
 use lib.Pointwise.{pointwise_decides}
-use Rattle.std.specs.List.{slice_split}
-use Rattle.scl_files.specs.Paths.{is_slash, is_one_part, is_file_name, is_name, Place, placed, places, places_after, Components, same_components, last_place, file_place, file_name, join, ends_with_slash, begins_with_slash}
+use Rattle.std.specs.List.{slice_split, last_or}
+use Rattle.scl_files.specs.Paths.{is_slash, is_one_part, is_file_name, is_name, Place, placed, places, places_after, Components, same_components, file_place, file_name, join, ends_with_slash, begins_with_slash}
 
 -- parts with a slash behind each
 abbrev pub slashed : List (List ℕ) → List ℕ
@@ -64,7 +64,7 @@ places_after-append before (p ∷ ps) more =
       | false ↦ rest ∙ ap (λ b. places_after (before ++ p ++ 47 ∷ []) ps ++ places_after b more) same
     ]
 
-last_place-append : (found : Option Place) (places : List Place) (place : Place) → last_place found (places ++ place ∷ []) ≡ Some place
+last_place-append : (found : Option Place) (places : List Place) (place : Place) → last_or found (places ++ place ∷ []) ≡ Some place
 last_place-append found [] place = refl
 last_place-append found (p ∷ ps) place = last_place-append (Some p) ps place
 

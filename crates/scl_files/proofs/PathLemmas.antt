@@ -1,8 +1,11 @@
 -- Cutting a path at its slashes.
-use Rattle.std.proofs.Common.{◌≡◌, ℕ, suc, ◌+◌, ◌<◌, ◌≤◌, ltb, true, false, cond, not, length-drop, List, [], ◌∷◌, ◌++◌, length, take, drop, position, None, Some, refl, sym, ap, ◌∙◌, arith, ◌⊎◌, inl, inr}
+use Rattle.std.proofs.Common.{◌≡◌, ℕ, suc, ◌+◌, ◌<◌, ◌≤◌, ltb, true, false, cond, not, length-drop, List, [], ◌∷◌, ◌++◌, length, take, drop, map, position, Option, None, Some, refl, sym, ap, ◌∙◌, arith, ◌⊎◌, inl, inr}
 use Rattle.std.proofs.lemmas.Bool.{ltb-true, eqb-true, false≢true, cases_lt}
 use Rattle.std.proofs.lemmas.Grind.{common_steps}
-use Rattle.std.specs.List.{slice_split, onto_first, before_first, after_first, position_or_len}
+use Rattle.std.proofs.lemmas.Iterator.{YieldsList, items_from_drains}
+use Rattle.std.specs.Iterator.{Drains}
+use Rattle.std.specs.Option.{option_map}
+use Rattle.std.specs.List.{slice_split, onto_first, before_first, after_first, position_or_len, last_or}
 use Rattle.std.proofs.lemmas.List.Splits.{slice_split_first}
 use Rattle.std.proofs.lemmas.List.{append_assoc, length-take, take_min, drop-drop, take_all, length-take-le}
 use Rattle.std.proofs.Math.Seq.{drop-length, take-add}
@@ -107,3 +110,12 @@ take-through_part path part at p =
     in take-add at (length part) path ∙ ap (λ ys. take at path ++ ys) count
 
 pub ruleset place_rules = (places_from-end, places_from-name, places_from-skip, take-through_part)
+
+-- ---- the last that an iterator yields
+
+last_or-map : {A B : Type 0} (f : A → B) (o : Option A) (xs : List A) → option_map f (last_or o xs) ≡ last_or (option_map f o) (map f xs)
+last_or-map f o [] = refl
+last_or-map f o (x ∷ xs) = last_or-map f (Some x) xs
+
+pub last_from_yields_List : {S A B : Type 0} {steps : S → Option A → S → Type 0} {v : A → B} {s : S} {all : List B} (r : Option A) → ((xs : List A) × Drains steps s xs × (r ≡ last_or None xs)) → YieldsList steps v s all → option_map v r ≡ last_or None all
+last_from_yields_List {v = v} r ran yields = ap (option_map v) ran.2 ∙ last_or-map v None ran.0 ∙ ap (last_or None) (items_from_drains ran.0 (ran.1.1.0, ran.1.1.1, λ _. (ran.1.0, ran.1.1.2)) yields)

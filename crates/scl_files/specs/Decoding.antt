@@ -5,6 +5,8 @@ use Rattle.std.specs.Str.{is_utf8, all_scalars}
 use Rattle.std.specs.List.{starts_with, flat_map}
 use Rattle.std.specs.Char.Escape.{encode_utf16}
 use Rattle.std.specs.Char.Utf16.{has_unpaired_surrogate, utf16_lossy_chars}
+use Rattle.scl_files.specs.declared.decode.Order.{Order}
+use Rattle.scl_files.specs.declared.decode.Order.TheVariants as orders
 
 -- ---- UTF-8
 
@@ -14,17 +16,12 @@ utf8_text bytes = cond (is_utf8 bytes) (Some bytes) None
 
 -- ---- UTF-16
 
--- the order of the bytes of a 16-bit number
-pub data ByteOrder : Type 0 where
-  little_end_first : ByteOrder
-  big_end_first : ByteOrder
-
-abbrev pub unit_of : ByteOrder → ℕ → ℕ → ℕ
-unit_of little_end_first a b = b * 256 + a
-unit_of big_end_first a b = a * 256 + b
+abbrev pub unit_of : Order → ℕ → ℕ → ℕ
+unit_of orders.LittleEndFirst a b = b * 256 + a
+unit_of orders.BigEndFirst a b = a * 256 + b
 
 -- the 16-bit numbers, if the bytes are even in number
-abbrev pub units : ByteOrder → List ℕ → Option (List ℕ)
+abbrev pub units : Order → List ℕ → Option (List ℕ)
 units order [] = Some []
 units order (a ∷ []) = None
 units order (a ∷ (b ∷ bytes)) = option_map (λ us. unit_of order a b ∷ us) (units order bytes)
@@ -33,7 +30,7 @@ units order (a ∷ (b ∷ bytes)) = option_map (λ us. unit_of order a b ∷ us)
 abbrev pub units_text : List ℕ → Option (List ℕ)
 units_text us = cond (has_unpaired_surrogate us) None (Some (encode_utf8_all (utf16_lossy_chars us)))
 
-abbrev pub utf16_text : ByteOrder → List ℕ → Option (List ℕ)
+abbrev pub utf16_text : Order → List ℕ → Option (List ℕ)
 utf16_text order bytes = option_and_then units_text (units order bytes)
 
 -- ---- windows-1252
@@ -58,30 +55,30 @@ windows_text bytes = encode_utf8_all (map windows_char bytes)
 abbrev pub utf8_mark : List ℕ
 utf8_mark = 0xEF ∷ 0xBB ∷ 0xBF ∷ []
 
-abbrev pub utf16_mark : ByteOrder → List ℕ
-utf16_mark little_end_first = 0xFF ∷ 0xFE ∷ []
-utf16_mark big_end_first = 0xFE ∷ 0xFF ∷ []
+abbrev pub utf16_mark : Order → List ℕ
+utf16_mark orders.LittleEndFirst = 0xFF ∷ 0xFE ∷ []
+utf16_mark orders.BigEndFirst = 0xFE ∷ 0xFF ∷ []
 
 -- the text of a file's bytes in UTF-8, without its mark; none if they are malformed
 unfoldable pub decoded : List ℕ → Option (List ℕ)
 decoded bytes =
     cond (starts_with nat_eq bytes utf8_mark) (utf8_text (drop 3 bytes))
-    (cond (starts_with nat_eq bytes (utf16_mark little_end_first)) (utf16_text little_end_first (drop 2 bytes))
-    (cond (starts_with nat_eq bytes (utf16_mark big_end_first)) (utf16_text big_end_first (drop 2 bytes)) (Some (windows_text bytes))))
+    (cond (starts_with nat_eq bytes (utf16_mark orders.LittleEndFirst)) (utf16_text orders.LittleEndFirst (drop 2 bytes))
+    (cond (starts_with nat_eq bytes (utf16_mark orders.BigEndFirst)) (utf16_text orders.BigEndFirst (drop 2 bytes)) (Some (windows_text bytes))))
 
 -- ---- laws
 
 -- the two bytes of a 16-bit number
-abbrev pub unit_bytes : ByteOrder → ℕ → List ℕ
-unit_bytes little_end_first unit = unit % 256 ∷ unit / 256 ∷ []
-unit_bytes big_end_first unit = unit / 256 ∷ unit % 256 ∷ []
+abbrev pub unit_bytes : Order → ℕ → List ℕ
+unit_bytes orders.LittleEndFirst unit = unit % 256 ∷ unit / 256 ∷ []
+unit_bytes orders.BigEndFirst unit = unit / 256 ∷ unit % 256 ∷ []
 
 -- characters as they stand in a UTF-16 file
-abbrev pub utf16_file : ByteOrder → List ℕ → List ℕ
+abbrev pub utf16_file : Order → List ℕ → List ℕ
 utf16_file order cs = utf16_mark order ++ flat_map (unit_bytes order) (flat_map encode_utf16 cs)
 
 abbrev pub Utf16FilesAreReadBack : Type 0
-Utf16FilesAreReadBack = (order : ByteOrder) (cs : List ℕ) → all_scalars cs ≡ true → decoded (utf16_file order cs) ≡ Some (encode_utf8_all cs)
+Utf16FilesAreReadBack = (order : Order) (cs : List ℕ) → all_scalars cs ≡ true → decoded (utf16_file order cs) ≡ Some (encode_utf8_all cs)
 
 abbrev pub Utf8FilesAreReadBack : Type 0
 Utf8FilesAreReadBack = (cs : List ℕ) → all_scalars cs ≡ true → decoded (utf8_mark ++ encode_utf8_all cs) ≡ Some (encode_utf8_all cs)

@@ -15,6 +15,5 @@ pub mod WordsToCome
 pub mod ExpansionState
 pub mod GnuReader
 pub mod MsvcReader
-pub mod Orders
 pub mod PathEntries
 pub mod PathMaps

@@ -1,6 +1,6 @@
 -- Paths by their components. A path is its bytes.
 use Rattle.std.specs.Prelude.{ℕ, ◌==◌, ◌&&◌, ◌||◌, not, Bool, true, false, List, [], ◌∷◌, ◌++◌, length, take, drop, map, Option, None, Some, codes, nat_eq, if◌then◌else◌, is_some}
-use Rattle.std.specs.List.{list_all, slice_split, starts_with, ends_with, before_first, before_last, after_last}
+use Rattle.std.specs.List.{list_all, slice_split, starts_with, ends_with, before_first, before_last, after_last, last_or}
 use Rattle.std.specs.Option.{option_map, option_and_then}
 use Rattle.std.specs.Str.{bytes_eq}
 use Rattle.std.specs.Cmp.Lexicographic.{pointwise}
@@ -71,17 +71,13 @@ same_components a b = bytes_eq a.start b.start && pointwise bytes_eq a.names b.n
 abbrev pub same_path : List ℕ → List ℕ → Bool
 same_path a b = same_components (components a) (components b)
 
-abbrev pub last_place : Option Place → List Place → Option Place
-last_place found [] = found
-last_place found (place ∷ rest) = last_place (Some place) rest
-
 abbrev pub unless_parent : Option Place → Option Place
 unless_parent None = None
 unless_parent (Some place) = if bytes_eq place.name (codes "..") then None else Some place
 
 -- where the file name stands: the last component, unless that is `.`, `..`, the root or absent
 abbrev pub file_place : List ℕ → Option Place
-file_place path = unless_parent (last_place None (places path))
+file_place path = unless_parent (last_or None (places path))
 
 abbrev pub file_name : List ℕ → Option (List ℕ)
 file_name path = option_map (λ place. place.name) (file_place path)

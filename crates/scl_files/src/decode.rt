@@ -3,7 +3,6 @@ ghost use Rattle.std.specs.Prelude.{◌≡◌, IfOk};
 ghost use Rattle.std.specs.Option.{option_map, option_copied};
 ghost use Rattle.std.specs.String.{string_bytes};
 ghost use Rattle.scl_files.specs.Decoding.{unit_of, units, utf8_text, utf16_text, windows_char, windows_text, decoded};
-ghost use Rattle.scl_files.specs.Orders.{order_of};
 
 use bstr::ByteSlice;
 use scl_values::Mem;
@@ -45,7 +44,7 @@ fn windows_text(alloc: Global, bytes: &[u8]) -> Mem<String>
 }
 
 fn unit_of(order: Order, a: u8, b: u8) -> u16
-    ensures { result ≡ unit_of (order_of order) a b }
+    ensures { result ≡ unit_of order a b }
 {
     match order {
         Order::LittleEndFirst => u16::from(b) * 256 + u16::from(a),
@@ -55,7 +54,7 @@ fn unit_of(order: Order, a: u8, b: u8) -> u16
 
 #[tactic(auto, using(crate::proofs::DecodeLemmas::units_rules))]
 fn units(alloc: Global, bytes: &[u8], order: Order) -> Mem<Option<Vec<u16>>>
-    ensures { IfOk result (λ o. option_map (λ v. v.items) o ≡ units (order_of order) bytes.now) }
+    ensures { IfOk result (λ o. option_map (λ v. v.items) o ≡ units order bytes.now) }
 {
     let mut made = Vec::new(alloc);
     let mut rest = bytes;
@@ -71,15 +70,12 @@ fn units(alloc: Global, bytes: &[u8], order: Order) -> Mem<Option<Vec<u16>>>
 }
 
 fn utf16_text(alloc: Global, bytes: &[u8], order: Order) -> Mem<Option<String>>
-    ensures { IfOk result (λ o. option_map string_bytes o ≡ utf16_text (order_of order) bytes.now) }
+    ensures { IfOk result (λ o. option_map string_bytes o ≡ utf16_text order bytes.now) }
 {
     let Some(units) = units(alloc, bytes, order)? else {
         return Ok(None);
     };
-    match String::from_utf16(alloc, &units)? {
-        Ok(text) => Ok(Some(text)),
-        Err(_) => Ok(None),
-    }
+    Ok(String::from_utf16(alloc, &units)?.ok())
 }
 
 /// The bytes as a text, if they are UTF-8.
@@ -87,10 +83,7 @@ fn utf16_text(alloc: Global, bytes: &[u8], order: Order) -> Mem<Option<String>>
 pub(crate) fn utf8_text(bytes: &[u8]) -> Option<&str>
     ensures { option_copied result ≡ utf8_text bytes.now }
 {
-    match bytes.to_str() {
-        Ok(text) => Some(text),
-        Err(_) => None,
-    }
+    bytes.to_str().ok()
 }
 
 /// The text of bytes in UTF-8, all of them: a leading mark `EF BB BF` is part of it. None if they are

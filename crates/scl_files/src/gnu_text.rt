@@ -61,7 +61,7 @@ impl Mode {
     }
 }
 
-fn put(arguments: &mut Vec<Vec<u8>>, argument: String) -> Mem<()>
+fn keep(arguments: &mut Vec<Vec<u8>>, argument: String) -> Mem<()>
     ensures { OnOk result (words_of arguments.new.items ≡ words_of arguments.old.items ++ keep (string_bytes argument) []) }
 {
     if !argument.is_empty() {
@@ -86,12 +86,12 @@ pub fn split_gnu_response_file_args(alloc: Global, text: &str) -> Mem<Vec<Vec<u8
         match mark {
             Mark::Separates => {
                 let ended = replace(&mut argument, String::new(alloc));
-                put(&mut arguments, ended)?;
+                keep(&mut arguments, ended)?;
             }
             Mark::Vanishes => {}
             Mark::Stands => argument.push(c)?,
         }
     }
-    put(&mut arguments, argument)?;
+    keep(&mut arguments, argument)?;
     Ok(arguments)
 }

@@ -1,9 +1,9 @@
 //! Paths as bytes, by their components.
 ghost use Rattle.std.specs.Prelude.{◌≡◌, ◌++◌, ◌+◌, ◌≤◌, None, length, IfOk, position, drop, not};
-ghost use Rattle.std.specs.List.{before_first, suffix_len};
+ghost use Rattle.std.specs.List.{before_first, last_or, suffix_len};
 ghost use Rattle.std.specs.Option.{option_copied, option_map};
 ghost use Rattle.std.specs.Iterator.{YieldsFirstBy, item_count};
-ghost use Rattle.scl_files.specs.Paths.{placed, places, places_from, start, last_place, file_place, stem_of_name, extension, join, with_extension, parent, with_file_name, same_path, file_name, is_name, is_slash, is_dot, extension_of_name};
+ghost use Rattle.scl_files.specs.Paths.{placed, places, places_from, start, file_place, stem_of_name, extension, join, with_extension, parent, with_file_name, same_path, file_name, is_name, is_slash, is_dot, extension_of_name};
 
 use scl_values::Mem;
 use std::alloc::Global;
@@ -39,11 +39,7 @@ fn part_from(path: &[u8], at: usize) -> &[u8]
 fn is_name(part: &[u8]) -> bool
     ensures { result ≡ is_name part.now }
 {
-    match part {
-        [] => false,
-        [byte] => *byte != b'.',
-        _ => true,
-    }
+    !part.is_empty() && part != b".".as_slice()
 }
 
 /// A name in a path, with the bytes before it and the path through it.
@@ -111,14 +107,11 @@ fn start(path: &[u8]) -> &[u8]
     }
 }
 
+/// The last of the path's names.
 fn last_place(path: &[u8]) -> Option<Place<'_>>
-    ensures { option_map (λ place. placed place.before.now place.name.now) result ≡ last_place None (places path.now) }
+    ensures { option_map (λ place. placed place.before.now place.name.now) result ≡ last_or None (places path.now) }
 {
-    let mut last = None;
-    for place in Places::new(path) {
-        last = Some(place);
-    }
-    last
+    Places::new(path).last()
 }
 
 /// Where the file name stands: the last component, unless that is `.`, `..`, the root or absent.
@@ -239,9 +232,11 @@ pub fn same_path(a: &[u8], b: &[u8]) -> bool
     }
     let mut others = Places::new(b);
     for place in Places::new(a) {
-        match others.next() {
-            Some(other) if place.name == other.name => {}
-            _ => return false,
+        let Some(other) = others.next() else {
+            return false;
+        };
+        if place.name != other.name {
+            return false;
         }
     }
     others.next().is_none()

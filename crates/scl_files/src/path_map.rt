@@ -62,10 +62,8 @@ impl<T> PathMap<T> {
     pub(crate) fn get(&self, path: &[u8]) -> Option<&T>
         ensures { option_copied result ≡ value_at path.now self.now }
     {
-        match place_of(&self.entries, &self.newest, path) {
-            Some(at) => Some(&self.entries[at].value),
-            None => None,
-        }
+        let at = place_of(&self.entries, &self.newest, path)?;
+        Some(&self.entries[at].value)
     }
 
     /// Whether a value was added at the path.

@@ -46,8 +46,8 @@ impl View {
         }
     }
 
-    /// Adds a file, in place of an earlier one at the path, whose bytes are given back. Where memory
-    /// is refused the view is as it was (docs/RULES.md, View).
+    /// Adds a file, in place of an earlier one at the path, whose memory is freed. Where memory is refused
+    /// the view is as it was (docs/RULES.md, View).
     pub fn add_file(&mut self, path: Vec<u8>, bytes: Vec<u8>) -> Mem<()>
         ensures ok { OnOk result (self.new ≡ record self.old { files = put_file (record { path = path.items; bytes = bytes.items }) self.old.files }) }
         ensures found { OnOk result ((other : List ℕ) → bytes_at other self.new.files ≡ (if same_path path.items other then Some bytes.items else bytes_at other self.old.files)) }

@@ -1,10 +1,10 @@
 -- A path that does not begin with @ does not with another extension either.
 use Rattle.std.proofs.Common.{◌≡◌, ℕ, ◌==◌, true, false, List, [], ◌∷◌, ◌++◌, length, take, zero, suc, Option, None, Some, refl, subst, if◌then◌else◌}
-use Rattle.std.specs.List.{slice_split, onto_first, before_last}
+use Rattle.std.specs.List.{slice_split, onto_first, before_last, last_or}
 use Rattle.std.specs.Str.{bytes_eq}
 use Rattle.scl_values.specs.Each.{Each}
 use Rattle.scl_args.specs.Options.{begins_with_at}
-use Rattle.scl_files.specs.Paths.{is_slash, is_dot, is_name, Place, placed, places, places_after, last_place, unless_parent, file_place, stem_of_name, extended_at, with_extension}
+use Rattle.scl_files.specs.Paths.{is_slash, is_dot, is_name, Place, placed, places, places_after, unless_parent, file_place, stem_of_name, extended_at, with_extension}
 
 abbrev No : List ℕ → Type 0
 No w = begins_with_at w ≡ false
@@ -82,7 +82,7 @@ first-places (p ∷ ps) n =
       | false ↦ later
     ]
 
-last-so : (found : Option Place) (xs : List Place) (q : Place) → ((y : Place) → found ≡ Some y → PlaceNo y) → Each PlaceNo xs → last_place found xs ≡ Some q → PlaceNo q
+last-so : (found : Option Place) (xs : List Place) (q : Place) → ((y : Place) → found ≡ Some y → PlaceNo y) → Each PlaceNo xs → last_or found xs ≡ Some q → PlaceNo q
 last-so found [] q h e is = h q is
 last-so found (x ∷ xs) q h e is = last-so (Some x) xs q (λ y s. let same : x ≡ y = cc in subst PlaceNo same e.0) e.1 is
 
@@ -94,7 +94,7 @@ unless_parent-is (Some p) q h =
 file_place-no : (path : List ℕ) (q : Place) → No path → file_place path ≡ Some q → PlaceNo q
 unfolding places
 file_place-no path q n e =
-    last-so None (places path) q (λ y s. absurd (cc)) (first-places (slice_split is_slash path) (first-no path n)) (unless_parent-is (last_place None (places path)) q e)
+    last-so None (places path) q (λ y s. absurd (cc)) (first-places (slice_split is_slash path) (first-no path n)) (unless_parent-is (last_or None (places path)) q e)
 
 extended-no : (path extension : List ℕ) (found : Option Place) → No path → No extension → ((q : Place) → found ≡ Some q → PlaceNo q) → No (extended_at path found extension)
 extended-no path extension None n m h = n

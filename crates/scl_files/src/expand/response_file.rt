@@ -18,15 +18,15 @@ pub(super) fn file_name_in(kind: ExpansionKind, word: &[u8]) -> Option<&[u8]>
     ensures { option_copied result ≡ file_name_in kind word.now }
 {
     match kind {
-        ExpansionKind::Gnu | ExpansionKind::Msvc => match word {
-            [b'@', name @ ..] => Some(name),
-            _ => None,
-        },
-        ExpansionKind::Diab => match word {
-            [b'-', b'@', b'E' | b'O' | b'@', ..] => None,
-            [b'-', b'@', name @ ..] => Some(name),
-            _ => None,
-        },
+        ExpansionKind::Gnu | ExpansionKind::Msvc => word.strip_prefix(b"@"),
+        ExpansionKind::Diab => {
+            let name = word.strip_prefix(b"-@")?;
+            if matches!(name, [b'E' | b'O' | b'@', ..]) {
+                None
+            } else {
+                Some(name)
+            }
+        }
     }
 }
 

@@ -2,7 +2,7 @@ use Rattle.std.proofs.Common.{◌≡◌, map}
 use Rattle.scl_values.specs.Seen.{seen}
 use Rattle.scl_values.specs.Words.{words_of}
 use Rattle.scl_args.specs.Options.{list}
-use Rattle.scl_args.proofs.lists.into_list.Given as goal
+use Rattle.scl_args.proofs.finished.Options.into_list.Given as goal
 
 abbrev pub invariant-loop-option : goal.invariant-loop-option
 invariant-loop-option g l =
