@@ -2,13 +2,13 @@
 ghost use Rattle.std.specs.Prelude.{IfSome, IsTrue};
 ghost use Rattle.scl_values.specs.Tables.{rows_hold_values};
 
-use super::values::{Kind, Told, Value, are_told, as_told, table_of};
+use super::values::{Kind, Told, Value, are_told, as_told, table_of, tree_of};
 use crate::tests::{makes, words_of};
 use scl_args::ArgDisposition::{CanBeConcatenated, CanBeSeparated, Concatenated, Separated};
 use scl_args::ArgRow::{Flag, TakeArg};
 use scl_args::{
     ArgParseError, ArgParseResult, ArgRow, ArgsIter, Argument, ArgumentValue, FlagTable, IntoArg,
-    cut_options, cut_words,
+    SearchableArgInfo, cut_options, cut_words,
 };
 use scl_gnu::gcc;
 use std::process::Abort;
@@ -57,17 +57,24 @@ fn is_told(option: &ArgParseResult<Argument<Value>>, wanted: Option<&Told<'_>>) 
     }
 }
 
-#[test]
-fn words_behind_double_dashes_are_raw(rt: HostRuntime) -> Result<(), Fail> {
-    let table = table_of(&SHAPES)?;
+fn expect_options<S: SearchableArgInfo<Value> + Drop>(
+    rt: &(impl Abort + AllocGlobal),
+    shapes: S,
+) -> Result<(), Fail> {
     let words = words_of(rt.alloc(), WORDS)?;
-    let arguments = ArgsIter::new(rt.alloc(), words.into_iter(), table).with_double_dashes();
+    let arguments = ArgsIter::new(rt.alloc(), words.into_iter(), shapes).with_double_dashes();
     let mut wanted = OPTIONS.iter();
     for option in arguments {
         assert!(rt; is_told(&option, wanted.next()));
     }
     assert!(rt; wanted.next().is_none());
     Ok(())
+}
+
+#[test]
+fn words_behind_double_dashes_are_raw(rt: HostRuntime) -> Result<(), Fail> {
+    expect_options(&rt, table_of(&SHAPES)?)?;
+    expect_options(&rt, tree_of(rt.alloc(), &SHAPES)?)
 }
 
 #[test]
@@ -106,13 +113,13 @@ static LAST: [(&'static [ArgRow<Kind>], bool); 5] = [
     ),
 ];
 
-fn expect_last(
+fn expect_last<S: SearchableArgInfo<Value> + Drop>(
     rt: &(impl Abort + AllocGlobal),
-    rows: &'static [ArgRow<Kind>],
+    rows: S,
     is_wanting: bool,
 ) -> Result<(), Fail> {
     let words = words_of(rt.alloc(), "-foo")?;
-    let (options, end) = cut_words(rt.alloc(), words, table_of(rows)?, false)?;
+    let (options, end) = cut_words(rt.alloc(), words, rows, false)?;
     if is_wanting {
         assert!(rt; options.is_empty());
         assert!(rt; matches!(end, Some(ArgParseError::UnexpectedEndOfArgs)));
@@ -127,7 +134,8 @@ fn expect_last(
 #[test]
 fn a_last_flag_may_lack_its_value_or_have_the_empty_value(rt: HostRuntime) -> Result<(), Fail> {
     for (rows, is_wanting) in &LAST {
-        expect_last(&rt, rows, *is_wanting)?;
+        expect_last(&rt, table_of(rows)?, *is_wanting)?;
+        expect_last(&rt, tree_of(rt.alloc(), rows)?, *is_wanting)?;
     }
     Ok(())
 }

@@ -1,5 +1,5 @@
 //! What a search finds in tables, in trees and in pairs and lists of them, and how often it looks.
-use super::values::{Kind, Value, table_of};
+use super::values::{Kind, Value, table_of, tree_of};
 use scl_args::ArgDisposition::{CanBeSeparated, Concatenated};
 use scl_args::ArgRow::{Flag, TakeArg};
 use scl_args::{ArgRow, ArgumentValue, FlagTable, FlagTree, SearchableArgInfo, Tables, looks};
@@ -17,8 +17,12 @@ fn pair_of(
     Ok((table_of(first)?, table_of(second)?))
 }
 
-fn tree_of(alloc: Global, rows: Rows) -> Result<FlagTree<'static, Value>, Fail> {
-    Ok(FlagTree::build(alloc, &table_of(rows)?)?)
+fn trees_of(
+    alloc: Global,
+    first: Rows,
+    second: Rows,
+) -> Result<(FlagTree<'static, Value>, FlagTree<'static, Value>), Fail> {
+    Ok((tree_of(alloc, first)?, tree_of(alloc, second)?))
 }
 
 /// Whether a search for the key finds the row of the flag.
@@ -141,6 +145,8 @@ fn finds_both<S: SearchableArgInfo<Value>>(tables: &S) -> bool {
 fn of_two_tables_the_longer_flag_wins(rt: HostRuntime) -> Result<(), Fail> {
     assert!(rt; finds_both(&pair_of(&INCLUDE, &INCLUDE_PCH)?));
     assert!(rt; finds_both(&pair_of(&INCLUDE_PCH, &INCLUDE)?));
+    assert!(rt; finds_both(&trees_of(rt.alloc(), &INCLUDE, &INCLUDE_PCH)?));
+    assert!(rt; finds_both(&trees_of(rt.alloc(), &INCLUDE_PCH, &INCLUDE)?));
     Ok(())
 }
 
@@ -153,9 +159,7 @@ fn finds_the_second<S: SearchableArgInfo<Value>>(tied: &S) -> bool {
 #[test]
 fn of_one_length_the_second_table_wins(rt: HostRuntime) -> Result<(), Fail> {
     assert!(rt; finds_the_second(&pair_of(&INCLUDE, &OTHER_INCLUDE)?));
-    let first = tree_of(rt.alloc(), &INCLUDE)?;
-    let second = tree_of(rt.alloc(), &OTHER_INCLUDE)?;
-    assert!(rt; finds_the_second(&(first, second)));
+    assert!(rt; finds_the_second(&trees_of(rt.alloc(), &INCLUDE, &OTHER_INCLUDE)?));
     Ok(())
 }
 

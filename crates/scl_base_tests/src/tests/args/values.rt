@@ -3,7 +3,7 @@ ghost use Rattle.std.specs.Prelude.{◌≡◌, IsOkAnd, true, false};
 
 use scl_args::{
     ArgDisposition, ArgParseResult, ArgRow, ArgToStringResult, Argument, ArgumentValue, ExactArg,
-    FlagTable, Held, IntoArg, Mem, ReadArg,
+    FlagTable, FlagTree, Held, IntoArg, Mem, ReadArg,
 };
 use std::alloc::Global;
 use std::test::Fail;
@@ -103,6 +103,13 @@ pub(super) fn are_told(options: &[Argument<Value>], told: &[Told<'_>]) -> bool {
 
 pub(super) fn table_of(rows: &'static [ArgRow<Kind>]) -> Result<FlagTable<'static, Value>, Fail> {
     Ok(FlagTable::new(rows).ok_or("the rows make no table")?)
+}
+
+pub(super) fn tree_of(
+    alloc: Global,
+    rows: &'static [ArgRow<Kind>],
+) -> Result<FlagTree<'static, Value>, Fail> {
+    Ok(FlagTree::build(alloc, &table_of(rows)?)?)
 }
 
 /// An option with a value.
