@@ -5,7 +5,8 @@ use Rattle.std.specs.Option.{option_to_list, ok_or}
 use Rattle.std.proofs.lemmas.Grind.{flat_map-append, fold-append}
 use Rattle.std.proofs.lemmas.List.{reverse-append}
 use Rattle.scl_cl.specs.Lines.{lines_of}
-use Rattle.scl_cl.specs.Sayings.{Saying, Blank, Names, StandsIn, HasWord, HasFile, HasDirectory, HasPath, HasVariable, IsMultiarch, said}
+use Rattle.scl_cl.specs.Sayings.{Saying, said}
+use Rattle.scl_cl.specs.Sayings as sayings
 use Rattle.scl_cl.specs.Requests.{Gathered, gathered, breaks, first_broken, request_in, request_of, request_unless, viewed_directory_in, path_in}
 use Rattle.scl_cl.specs.Drafts.{with_line}
 
@@ -29,26 +30,26 @@ flat_more f xs y = flat_map-append f xs (y ∷ []) ∙ ap (λ zs. flat_map f xs 
 
 -- one line's part of a list is the same turned round
 viewed_directory_in-turned : (y : Saying) → reverse (viewed_directory_in y) ≡ viewed_directory_in y
-viewed_directory_in-turned Blank = refl
-viewed_directory_in-turned (Names _) = refl
-viewed_directory_in-turned (StandsIn _) = refl
-viewed_directory_in-turned (HasWord _) = refl
-viewed_directory_in-turned (HasFile _ _) = refl
-viewed_directory_in-turned (HasDirectory _) = refl
-viewed_directory_in-turned (HasPath _) = refl
-viewed_directory_in-turned (HasVariable _ _) = refl
-viewed_directory_in-turned IsMultiarch = refl
+viewed_directory_in-turned sayings.Blank = refl
+viewed_directory_in-turned (sayings.Compiler _) = refl
+viewed_directory_in-turned (sayings.Directory _) = refl
+viewed_directory_in-turned (sayings.Word _) = refl
+viewed_directory_in-turned (sayings.File _ _) = refl
+viewed_directory_in-turned (sayings.ViewedDirectory _) = refl
+viewed_directory_in-turned (sayings.Existing _) = refl
+viewed_directory_in-turned (sayings.Variable _ _) = refl
+viewed_directory_in-turned sayings.Multiarch = refl
 
 path_in-turned : (y : Saying) → reverse (path_in y) ≡ path_in y
-path_in-turned Blank = refl
-path_in-turned (Names _) = refl
-path_in-turned (StandsIn _) = refl
-path_in-turned (HasWord _) = refl
-path_in-turned (HasFile _ _) = refl
-path_in-turned (HasDirectory _) = refl
-path_in-turned (HasPath _) = refl
-path_in-turned (HasVariable _ _) = refl
-path_in-turned IsMultiarch = refl
+path_in-turned sayings.Blank = refl
+path_in-turned (sayings.Compiler _) = refl
+path_in-turned (sayings.Directory _) = refl
+path_in-turned (sayings.Word _) = refl
+path_in-turned (sayings.File _ _) = refl
+path_in-turned (sayings.ViewedDirectory _) = refl
+path_in-turned (sayings.Existing _) = refl
+path_in-turned (sayings.Variable _ _) = refl
+path_in-turned sayings.Multiarch = refl
 
 -- one more line adds what it names
 pub gathered-more : (before : List Saying) (line : Saying) → with_line (gathered before) line ≡ gathered (before ++ line ∷ [])

@@ -6,10 +6,13 @@ use Rattle.scl_values.specs.Escaped.{is_plain, digit_of, escape, escaped}
 use Rattle.scl_cl.specs.Fields.{digit_value, before, field_of, fields_of, two_fields}
 use Rattle.std.specs.Option.{option_map, option_zip}
 use Rattle.scl_cl.specs.Lines.{cut_at, with_first, lines_of}
-use Rattle.scl_cl.specs.Sayings.{Saying, Blank, Names, StandsIn, HasWord, HasFile, HasDirectory, HasPath, HasVariable, IsMultiarch, said, keyword_text, keyword_named}
+use Rattle.scl_cl.specs.Sayings.{Saying, said, keyword_text, keyword_named}
+use Rattle.scl_cl.specs.Sayings as sayings
 use Rattle.scl_cl.specs.Written.{AreBytes, ArePrintable, CanBeWritten, AllCanBeWritten, AreAllBytes, written}
 use Rattle.scl_cl.specs.Answers.{compiled, text_of, cacheable_text, line, arg_line}
 use Rattle.scl_cl.specs.Compilers.{name_of, compiler_named}
+use Rattle.scl_text.specs.declared.records.Cacheable.{Cacheable}
+use Rattle.scl_text.specs.declared.records.Cacheable.TheVariants as cacheable
 use Rattle.scl_cl.specs.declared.compiler.Compiler.{Compiler}
 use Rattle.scl_cl.specs.declared.keyword.Keyword as keywords
 use Rattle.scl_cl.proofs.CutLaws.{cut_at-mark, cut_at-append, lines_of-cut}
@@ -75,15 +78,15 @@ pub keyword-back : (k : keywords.Keyword) → keyword_named (keyword_text k) ≡
 keyword-back k = grind arith
 
 pub said-written : (s : Saying) → CanBeWritten s → said (written s) ≡ Some s
-said-written Blank can = refl
-said-written (Names compiler) can = ap (option_map Names) (name-back compiler)
-said-written (StandsIn directory) can = ap (option_map StandsIn) (field-escaped directory can)
-said-written (HasWord word) can = ap (option_map HasWord) (field-escaped word can)
-said-written (HasFile path bytes) can = ap (option_map (λ p. HasFile p.0 p.1)) (fields-written path bytes can.0 can.1)
-said-written (HasDirectory path) can = ap (option_map HasDirectory) (field-escaped path can)
-said-written (HasPath path) can = ap (option_map HasPath) (field-escaped path can)
-said-written (HasVariable key value) can = ap (option_map (λ p. HasVariable p.0 p.1)) (fields-written key value can.0 can.1)
-said-written IsMultiarch can = refl
+said-written sayings.Blank can = refl
+said-written (sayings.Compiler compiler) can = ap (option_map sayings.Compiler) (name-back compiler)
+said-written (sayings.Directory directory) can = ap (option_map sayings.Directory) (field-escaped directory can)
+said-written (sayings.Word word) can = ap (option_map sayings.Word) (field-escaped word can)
+said-written (sayings.File path bytes) can = ap (option_map (λ p. sayings.File p.0 p.1)) (fields-written path bytes can.0 can.1)
+said-written (sayings.ViewedDirectory path) can = ap (option_map sayings.ViewedDirectory) (field-escaped path can)
+said-written (sayings.Existing path) can = ap (option_map sayings.Existing) (field-escaped path can)
+said-written (sayings.Variable key value) can = ap (option_map (λ p. sayings.Variable p.0 p.1)) (fields-written key value can.0 can.1)
+said-written sayings.Multiarch can = refl
 
 -- a line ends at the first LF
 pub lines-feed : (text rest : List ℕ) → cut_at 10 text ≡ None → lines_of (text ++ 10 ∷ rest) ≡ text ∷ lines_of rest
@@ -103,15 +106,15 @@ name-no-feed : (compiler : Compiler) → cut_at 10 (codes "compiler " ++ name_of
 name-no-feed compiler = grind arith
 
 written-no-feed : (s : Saying) → CanBeWritten s → cut_at 10 (written s) ≡ None
-written-no-feed Blank can = refl
-written-no-feed (Names compiler) can = name-no-feed compiler
-written-no-feed (StandsIn directory) can = no-feed_behind (codes "cwd ") directory refl can
-written-no-feed (HasWord word) can = no-feed_behind (codes "word ") word refl can
-written-no-feed (HasFile path bytes) can = no-feed_pair (codes "file ") path bytes refl can.0 can.1
-written-no-feed (HasDirectory path) can = no-feed_behind (codes "dir ") path refl can
-written-no-feed (HasPath path) can = no-feed_behind (codes "exists ") path refl can
-written-no-feed (HasVariable key value) can = no-feed_pair (codes "env ") key value refl can.0 can.1
-written-no-feed IsMultiarch can = refl
+written-no-feed sayings.Blank can = refl
+written-no-feed (sayings.Compiler compiler) can = name-no-feed compiler
+written-no-feed (sayings.Directory directory) can = no-feed_behind (codes "cwd ") directory refl can
+written-no-feed (sayings.Word word) can = no-feed_behind (codes "word ") word refl can
+written-no-feed (sayings.File path bytes) can = no-feed_pair (codes "file ") path bytes refl can.0 can.1
+written-no-feed (sayings.ViewedDirectory path) can = no-feed_behind (codes "dir ") path refl can
+written-no-feed (sayings.Existing path) can = no-feed_behind (codes "exists ") path refl can
+written-no-feed (sayings.Variable key value) can = no-feed_pair (codes "env ") key value refl can.0 can.1
+written-no-feed sayings.Multiarch can = refl
 
 -- a line that was written, before other lines
 lines-line : (text rest : List ℕ) → cut_at 10 text ≡ None → lines_of (line text ++ rest) ≡ text ∷ lines_of rest
@@ -125,9 +128,9 @@ request-written (s ∷ ss) can =
     ∙ ap (λ o. cons_option o (filter_map said (lines_of rest))) (said-written s can.0)
     ∙ ap (λ xs. s ∷ xs) (request-written ss can.1)
 
-cacheable-no-feed : (is_cacheable : Bool) → cut_at 10 (cacheable_text is_cacheable) ≡ None
-cacheable-no-feed true = refl
-cacheable-no-feed false = refl
+cacheable-no-feed : (kept : Cacheable) → cut_at 10 (cacheable_text kept) ≡ None
+cacheable-no-feed cacheable.Yes = refl
+cacheable-no-feed cacheable.No = refl
 
 abbrev arg_text : List ℕ → List ℕ
 arg_text word = codes "arg " ++ escaped word
@@ -139,10 +142,10 @@ args-lines (word ∷ words) rest are =
     ∙ lines-line (arg_text word) (flat_map arg_line words ++ rest) (no-feed_behind (codes "arg ") word refl are.0)
     ∙ ap (λ ls. arg_text word ∷ ls) (args-lines words rest are.1)
 
-pub answer-lines : (words : List (List ℕ)) (is_cacheable : Bool) → AreAllBytes words → lines_of (text_of (compiled words is_cacheable)) ≡ (codes "ok" ∷ map arg_text words) ++ cacheable_text is_cacheable ∷ []
-answer-lines words is_cacheable are =
-    let last : List ℕ = line (cacheable_text is_cacheable) in
-    let end : lines_of last ≡ cacheable_text is_cacheable ∷ [] = lines-feed (cacheable_text is_cacheable) [] (cacheable-no-feed is_cacheable) in
+pub answer-lines : (words : List (List ℕ)) (kept : Cacheable) → AreAllBytes words → lines_of (text_of (compiled words kept)) ≡ (codes "ok" ∷ map arg_text words) ++ cacheable_text kept ∷ []
+answer-lines words kept are =
+    let last : List ℕ = line (cacheable_text kept) in
+    let end : lines_of last ≡ cacheable_text kept ∷ [] = lines-feed (cacheable_text kept) [] (cacheable-no-feed kept) in
     ap lines_of (append_assoc (line (codes "ok")) (flat_map arg_line words) last)
     ∙ lines-line (codes "ok") (flat_map arg_line words ++ last) refl
     ∙ ap (λ ls. codes "ok" ∷ ls) (args-lines words last are ∙ ap (λ ls. map arg_text words ++ ls) end)

@@ -1,6 +1,7 @@
 -- The answer to a request, and its text.
-use Rattle.std.specs.Prelude.{◌≡◌, ℕ, Bool, true, false, List, [], ◌∷◌, ◌++◌, codes, Option, None, Some, Result, Ok, Err, is_some}
+use Rattle.std.specs.Prelude.{◌≡◌, ℕ, true, false, List, [], ◌∷◌, ◌++◌, codes, Option, None, Some, Result, Ok, Err, is_some}
 use Rattle.std.specs.List.{flat_map}
+use Rattle.scl_files.specs.Characters.{line_feed}
 use Rattle.scl_values.specs.Escaped.{escaped}
 use Rattle.scl_text.specs.Records.{Parsed, Verdict, CannotCache, NotCompilation}
 use Rattle.scl_text.specs.declared.records.Cacheable.{Cacheable}
@@ -29,37 +30,33 @@ use Rattle.scl_cl.specs.declared.compiler.Compiler.TheVariants as compilers
 use Rattle.scl_cl.specs.Requests.{Request}
 
 pub data Answer : Type 0 where
-  compiled : (words : List (List ℕ)) (is_cacheable : Bool) → Answer
+  compiled : (words : List (List ℕ)) (kept : Cacheable) → Answer
   cannot_cache : (reason : List ℕ) → Answer
   not_compilation : Answer
 
 -- a text and its LF
 abbrev pub line : List ℕ → List ℕ
-line text = text ++ 10 ∷ []
+line text = text ++ line_feed ∷ []
 
 -- the line of a word
 abbrev pub arg_line : List ℕ → List ℕ
 arg_line word = codes "arg " ++ line (escaped word)
 
-abbrev pub cacheable_text : Bool → List ℕ
-cacheable_text true = codes "cacheable yes"
-cacheable_text false = codes "cacheable no"
+-- whether the outcome may be kept
+abbrev pub cacheable_text : Cacheable → List ℕ
+cacheable_text cacheable.Yes = codes "cacheable yes"
+cacheable_text cacheable.No = codes "cacheable no"
 
 -- the text of an answer, by lines with LF; a reason is not escaped
 abbrev pub text_of : Answer → List ℕ
-text_of (compiled words is_cacheable) = line (codes "ok") ++ flat_map arg_line words ++ line (cacheable_text is_cacheable)
+text_of (compiled words kept) = line (codes "ok") ++ flat_map arg_line words ++ line (cacheable_text kept)
 text_of (cannot_cache reason) = codes "cannot-cache " ++ line reason
 text_of not_compilation = line (codes "not-compilation")
-
--- whether the outcome may be kept
-abbrev pub is_kept : Cacheable → Bool
-is_kept cacheable.Yes = true
-is_kept cacheable.No = false
 
 -- the answer of a record: its command's words; a record without output `obj`, as none is that was read, would be refused
 abbrev pub answer_with : Option (List (List ℕ)) → Cacheable → Answer
 answer_with None kept = cannot_cache (codes "Missing object file output")
-answer_with (Some words) kept = compiled words (is_kept kept)
+answer_with (Some words) kept = compiled words kept
 
 -- the answer of a reading, by the words of what was read and by whether its outcome may be kept
 abbrev pub answer_from : (Parsed → Option (List (List ℕ))) → (Parsed → Cacheable) → Result Parsed Verdict → Answer
@@ -128,7 +125,7 @@ read_again_by compilers.Tasking request = TaskingReadsAgain request.words
 
 -- where the answer is a command, what was read is a record, and the two keep the promise
 abbrev pub Keeps : (Parsed → List (List ℕ) → Type 0) → Result Parsed Verdict → Answer → Type 0
-Keeps promise said (compiled words is_cacheable) = (parsed : Parsed) × (said ≡ Ok parsed) × promise parsed words
+Keeps promise said (compiled words kept) = (parsed : Parsed) × (said ≡ Ok parsed) × promise parsed words
 Keeps promise said (cannot_cache reason) = Unit {0}
 Keeps promise said not_compilation = Unit {0}
 

@@ -6,11 +6,11 @@ use Rattle.scl_text.specs.Records.{Parsed, Verdict, parsed_of}
 use Rattle.scl_text.specs.declared.records.CompilerArguments.{CompilerArguments}
 use Rattle.scl_text.specs.declared.records.CompilerArguments.TheVariants as outcomes
 use Rattle.scl_cl.specs.declared.compile.Compilation.{Compilation}
-use Rattle.scl_cl.specs.Answers.{Answer, compiled, cannot_cache, not_compilation, is_kept}
+use Rattle.scl_cl.specs.Answers.{Answer, compiled, cannot_cache, not_compilation}
 
 -- the answer, less the text beside a reason
 abbrev pub answer_of : CompilerArguments Compilation → Answer
-answer_of (outcomes.Ok compilation) = compiled (words_of compilation.command.arguments.items) (is_kept compilation.cacheable)
+answer_of (outcomes.Ok compilation) = compiled (words_of compilation.command.arguments.items) compilation.cacheable
 answer_of (outcomes.CannotCache reason text) = cannot_cache reason.now
 answer_of outcomes.NotCompilation = not_compilation
 

@@ -1,6 +1,7 @@
 -- Fields of a request's lines, and the bytes that they stand for.
 use Rattle.std.specs.Prelude.{ℕ, ◌+◌, ◌-◌, ◌*◌, ◌&&◌, List, [], ◌∷◌, Option, Some, None, ◌==◌, nat_le, if◌then◌else◌}
 use Rattle.std.specs.Option.{option_zip}
+use Rattle.scl_files.specs.Characters.{tab, backslash}
 use Rattle.scl_values.specs.Escaped.{is_plain}
 use Rattle.scl_cl.specs.Lines.{cut_at}
 
@@ -16,7 +17,7 @@ pair_value _ _ = None
 
 -- the byte of a backslash, an x and two digits: its value is sixteen times the first and the second
 abbrev pub escaped_byte : ℕ → ℕ → ℕ → ℕ → Option ℕ
-escaped_byte backslash x high low = if backslash == 0x5c && x == 0x78 then pair_value (digit_value high) (digit_value low) else None
+escaped_byte first letter high low = if first == backslash && letter == 0x78 then pair_value (digit_value high) (digit_value low) else None
 
 abbrev pub before : Option ℕ → Option (List ℕ) → Option (List ℕ)
 before (Some b) (Some bs) = Some (b ∷ bs)
@@ -35,4 +36,4 @@ fields_of (Some parts) = option_zip (field_of parts.0) (field_of parts.1)
 
 -- two fields with a tab between them
 abbrev pub two_fields : List ℕ → Option (List ℕ × List ℕ)
-two_fields text = fields_of (cut_at 9 text)
+two_fields text = fields_of (cut_at tab text)

@@ -1,6 +1,7 @@
 -- The lines of a request's bytes.
 use Rattle.std.specs.Prelude.{ℕ, List, [], ◌∷◌, Option, Some, None, ◌==◌, if◌then◌else◌}
 use Rattle.std.specs.List.{onto_first}
+use Rattle.scl_files.specs.Characters.{line_feed}
 
 -- what stands before a mark and behind it, with one more byte before
 abbrev pub with_first : ℕ → Option (List ℕ × List ℕ) → Option (List ℕ × List ℕ)
@@ -15,4 +16,4 @@ cut_at mark (b ∷ bs) = if b == mark then Some ([], bs) else with_first b (cut_
 -- the lines, each up to its LF, which the last may lack
 abbrev pub lines_of : List ℕ → List (List ℕ)
 lines_of [] = []
-lines_of (b ∷ bs) = if b == 10 then [] ∷ lines_of bs else onto_first b (lines_of bs)
+lines_of (b ∷ bs) = if b == line_feed then [] ∷ lines_of bs else onto_first b (lines_of bs)

@@ -4,7 +4,8 @@ use Rattle.std.specs.List.{flat_map, filter_map, list_any}
 use Rattle.std.specs.Option.{option_to_list, ok_or}
 use Rattle.scl_files.specs.Views.{Viewed, File, put_file}
 use Rattle.scl_cl.specs.declared.compiler.Compiler.{Compiler}
-use Rattle.scl_cl.specs.Sayings.{Saying, Names, StandsIn, HasWord, HasFile, HasDirectory, HasPath, HasVariable, IsMultiarch, said}
+use Rattle.scl_cl.specs.Sayings.{Saying, said}
+use Rattle.scl_cl.specs.Sayings as sayings
 
 -- what a request asks for
 pub record Request : Type 0 where
@@ -20,35 +21,35 @@ asked compiler words directory environment view =
     record { compiler = compiler; directory = directory; words = words; environment = environment; view = view }
 
 abbrev pub compiler_in : Saying → List Compiler
-compiler_in (Names compiler) = compiler ∷ []
+compiler_in (sayings.Compiler compiler) = compiler ∷ []
 compiler_in _ = []
 
 abbrev pub directory_in : Saying → List (List ℕ)
-directory_in (StandsIn directory) = directory ∷ []
+directory_in (sayings.Directory directory) = directory ∷ []
 directory_in _ = []
 
 abbrev pub word_in : Saying → List (List ℕ)
-word_in (HasWord word) = word ∷ []
+word_in (sayings.Word word) = word ∷ []
 word_in _ = []
 
 abbrev pub variable_in : Saying → List (List ℕ × List ℕ)
-variable_in (HasVariable key value) = (key, value) ∷ []
+variable_in (sayings.Variable key value) = (key, value) ∷ []
 variable_in _ = []
 
 abbrev pub file_in : Saying → List File
-file_in (HasFile path bytes) = record { path = path; bytes = bytes } ∷ []
+file_in (sayings.File path bytes) = record { path = path; bytes = bytes } ∷ []
 file_in _ = []
 
 abbrev pub viewed_directory_in : Saying → List (List ℕ)
-viewed_directory_in (HasDirectory path) = path ∷ []
+viewed_directory_in (sayings.ViewedDirectory path) = path ∷ []
 viewed_directory_in _ = []
 
 abbrev pub path_in : Saying → List (List ℕ)
-path_in (HasPath path) = path ∷ []
+path_in (sayings.Existing path) = path ∷ []
 path_in _ = []
 
 abbrev pub is_multiarch : Saying → Bool
-is_multiarch IsMultiarch = true
+is_multiarch sayings.Multiarch = true
 is_multiarch _ = false
 
 -- the files with others added, one after the other
@@ -107,8 +108,8 @@ is_given (_ ∷ _) = true
 -- whether a line breaks a rule behind lines that name this: it says nothing, or names again what stands once
 abbrev pub breaks : Gathered → Option Saying → Bool
 breaks g None = true
-breaks g (Some (Names _)) = is_given g.compilers
-breaks g (Some (StandsIn _)) = is_given g.directories
+breaks g (Some (sayings.Compiler _)) = is_given g.compilers
+breaks g (Some (sayings.Directory _)) = is_given g.directories
 breaks g (Some _) = false
 
 -- the number of the first line that breaks a rule; the first of these has the number n and stands behind lines that say this

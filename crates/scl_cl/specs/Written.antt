@@ -1,6 +1,8 @@
 -- Requests and answers as they are written.
 use Rattle.std.specs.Prelude.{ℕ, ◌<◌, ◌≤◌, ◌≡◌, Bool, true, false, List, [], ◌∷◌, ◌++◌, map, codes, Some, None, MatchOption, length, take, slice_index_or, ◌+◌}
 use Rattle.std.specs.List.{flat_map, filter_map}
+use Rattle.scl_text.specs.declared.records.Cacheable.{Cacheable}
+use Rattle.scl_files.specs.Characters.{tab, line_feed}
 use Rattle.scl_cl.specs.declared.compiler.Compiler.{Compiler}
 use Rattle.scl_cl.specs.Lines.{cut_at, lines_of}
 use Rattle.scl_values.specs.Each.{Each}
@@ -8,7 +10,7 @@ use Rattle.scl_values.specs.Escaped.{escaped}
 use Rattle.scl_cl.specs.Fields.{field_of}
 use Rattle.scl_cl.specs.Compilers.{name_of, compiler_named}
 use Rattle.scl_cl.specs.declared.keyword.Keyword.{Keyword}
-use Rattle.scl_cl.specs.Sayings.{Saying, Blank, Names, StandsIn, HasWord, HasFile, HasDirectory, HasPath, HasVariable, IsMultiarch, said, keyword_named}
+use Rattle.scl_cl.specs.Sayings.{Saying, said, keyword_named}
 use Rattle.scl_cl.specs.Sayings as sayings
 use Rattle.scl_cl.specs.Requests.{gathered, breaks, first_broken}
 use Rattle.scl_cl.specs.Answers.{compiled, text_of, cacheable_text, line}
@@ -25,30 +27,30 @@ ArePrintable = Each (λ b. (0x21 ≤ b) × (b ≤ 0x7e))
 
 -- what is said can be written: its byte strings are bytes
 abbrev pub CanBeWritten : Saying → Type 0
-CanBeWritten Blank = Unit {0}
-CanBeWritten (Names compiler) = Unit {0}
-CanBeWritten (StandsIn directory) = AreBytes directory
-CanBeWritten (HasWord word) = AreBytes word
-CanBeWritten (HasFile path bytes) = AreBytes path × AreBytes bytes
-CanBeWritten (HasDirectory path) = AreBytes path
-CanBeWritten (HasPath path) = AreBytes path
-CanBeWritten (HasVariable key value) = AreBytes key × AreBytes value
-CanBeWritten IsMultiarch = Unit {0}
+CanBeWritten sayings.Blank = Unit {0}
+CanBeWritten (sayings.Compiler compiler) = Unit {0}
+CanBeWritten (sayings.Directory directory) = AreBytes directory
+CanBeWritten (sayings.Word word) = AreBytes word
+CanBeWritten (sayings.File path bytes) = AreBytes path × AreBytes bytes
+CanBeWritten (sayings.ViewedDirectory path) = AreBytes path
+CanBeWritten (sayings.Existing path) = AreBytes path
+CanBeWritten (sayings.Variable key value) = AreBytes key × AreBytes value
+CanBeWritten sayings.Multiarch = Unit {0}
 
 abbrev pub AllCanBeWritten : List Saying → Type 0
 AllCanBeWritten = Each CanBeWritten
 
 -- the line that says this
 abbrev pub written : Saying → List ℕ
-written Blank = []
-written (Names compiler) = codes "compiler " ++ name_of compiler
-written (StandsIn directory) = codes "cwd " ++ escaped directory
-written (HasWord word) = codes "word " ++ escaped word
-written (HasFile path bytes) = codes "file " ++ escaped path ++ 9 ∷ escaped bytes
-written (HasDirectory path) = codes "dir " ++ escaped path
-written (HasPath path) = codes "exists " ++ escaped path
-written (HasVariable key value) = codes "env " ++ escaped key ++ 9 ∷ escaped value
-written IsMultiarch = codes "multiarch"
+written sayings.Blank = []
+written (sayings.Compiler compiler) = codes "compiler " ++ name_of compiler
+written (sayings.Directory directory) = codes "cwd " ++ escaped directory
+written (sayings.Word word) = codes "word " ++ escaped word
+written (sayings.File path bytes) = codes "file " ++ escaped path ++ tab ∷ escaped bytes
+written (sayings.ViewedDirectory path) = codes "dir " ++ escaped path
+written (sayings.Existing path) = codes "exists " ++ escaped path
+written (sayings.Variable key value) = codes "env " ++ escaped key ++ tab ∷ escaped value
+written sayings.Multiarch = codes "multiarch"
 
 -- A field that is written is read back.
 abbrev pub FieldReadsBack : Type 0
@@ -68,12 +70,12 @@ RequestReadsBack = (all : List Saying) → AllCanBeWritten all → filter_map sa
 
 -- A line ends at the first LF; bytes without one are one line.
 abbrev pub LinesEndAtFeeds : Type 0
-LinesEndAtFeeds = (line rest : List ℕ) → cut_at 10 line ≡ None → lines_of (line ++ 10 ∷ rest) ≡ line ∷ lines_of rest
+LinesEndAtFeeds = (line rest : List ℕ) → cut_at line_feed line ≡ None → lines_of (line ++ line_feed ∷ rest) ≡ line ∷ lines_of rest
 
 -- The lines of the text of a command are `ok`, one line for each word, and whether it can be cached.
 abbrev pub AnswerHasLines : Type 0
-AnswerHasLines = (words : List (List ℕ)) (is_cacheable : Bool) → AreAllBytes words
-    → lines_of (text_of (compiled words is_cacheable)) ≡ (codes "ok" ∷ map (λ word. codes "arg " ++ escaped word) words) ++ cacheable_text is_cacheable ∷ []
+AnswerHasLines = (words : List (List ℕ)) (kept : Cacheable) → AreAllBytes words
+    → lines_of (text_of (compiled words kept)) ≡ (codes "ok" ∷ map (λ word. codes "arg " ++ escaped word) words) ++ cacheable_text kept ∷ []
 
 -- The k-th line breaks a rule behind those before it.
 abbrev pub breaks_at : List (List ℕ) → ℕ → Bool

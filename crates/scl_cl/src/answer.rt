@@ -31,15 +31,14 @@ fn push_args(alloc: Global, text: &mut Vec<u8>, words: &[Vec<u8>]) -> Mem<()>
 }
 
 /// The text of a command.
-fn compiled_text(alloc: Global, words: &[Vec<u8>], is_cacheable: bool) -> Mem<Vec<u8>>
-    ensures { IfOk result (λ text. text.items ≡ text_of (compiled (words_of words.now) is_cacheable)) }
+fn compiled_text(alloc: Global, words: &[Vec<u8>], cacheable: Cacheable) -> Mem<Vec<u8>>
+    ensures { IfOk result (λ text. text.items ≡ text_of (compiled (words_of words.now) cacheable)) }
 {
     let mut text = Vec::from_slice(alloc, b"ok\n")?;
     push_args(alloc, &mut text, words)?;
-    let last = if is_cacheable {
-        b"cacheable yes\n".as_slice()
-    } else {
-        b"cacheable no\n".as_slice()
+    let last = match cacheable {
+        Cacheable::Yes => b"cacheable yes\n".as_slice(),
+        Cacheable::No => b"cacheable no\n".as_slice(),
     };
     text.extend_from_slice(last)?;
     Ok(text)
@@ -64,7 +63,7 @@ pub fn answer_text(alloc: Global, answer: &CompilerArguments<Compilation>) -> Me
         CompilerArguments::Ok(compilation) => compiled_text(
             alloc,
             &compilation.command.arguments,
-            compilation.cacheable == Cacheable::Yes,
+            compilation.cacheable,
         ),
         CompilerArguments::CannotCache(reason, _) => reason_text(alloc, reason),
         CompilerArguments::NotCompilation => Vec::from_slice(alloc, b"not-compilation\n"),

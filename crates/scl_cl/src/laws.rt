@@ -1,4 +1,4 @@
-//! Laws of the definitions of requests and answers, each a clause of a function without a body.
+//! Laws of the definitions of requests and answers, each a clause of a function that does nothing.
 ghost use Rattle.scl_cl.specs.Answers.{AnswersAreReadAgain, RecordsHaveCommands};
 ghost use Rattle.scl_cl.specs.Written.{FieldReadsBack, FieldIsPrintable, LineReadsBack, RequestReadsBack, LinesEndAtFeeds, AnswerHasLines, BadLineIsFirst, NamesReadBack};
 

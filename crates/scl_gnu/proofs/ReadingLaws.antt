@@ -106,9 +106,9 @@ path-behind : (xs ys : List Artifact) (name : List ℕ) → path_at xs name ≡ 
 path-behind [] ys name e = refl
 path-behind (a ∷ xs) ys name e = elim (bytes_eq name a.name) as (λ b. option_map (λ o. o.path) (cond b (Some a) (find (λ o. bytes_eq name o.name) xs)) ≡ None
     → option_map (λ o. o.path) (cond b (Some a) (find (λ o. bytes_eq name o.name) (xs ++ ys))) ≡ path_at ys name) [
-  | true ↦ λ n. absurd (cc)
-  | false ↦ λ n. path-behind xs ys name n
-] e
+      | true ↦ λ n. absurd (cc)
+      | false ↦ λ n. path-behind xs ys name n
+    ] e
 
 module _ (name : List ℕ) where
   no-path : (other : List ℕ) (optional : Bool) (path : Option (List ℕ)) → bytes_eq name other ≡ false → path_at (output_at other optional path) name ≡ None
