@@ -88,10 +88,10 @@ found_all kind path files (p ∷ ps) h = let here = apart kind path p files h.0 
 
 both : (kind : ExpansionKind) (directory : List ℕ) (files : List File) (paths : List (List ℕ)) → IsChain kind directory files paths → Found files paths × AllApart paths
 both kind directory _ _ (none files) = (tt, tt)
-both kind directory _ _ (opens files word level paths o chain) =
-    let more = both kind directory (files_inside kind level.path files) paths chain in
-    let all = found_all kind level.path files paths more.0 in
-    ((opened-found kind directory files word level o, all.0), (all.1, more.1))
+both kind directory _ _ (opens files word open_file paths o chain) =
+    let more = both kind directory (files_inside kind open_file.path files) paths chain in
+    let all = found_all kind open_file.path files paths more.0 in
+    ((opened-found kind directory files word open_file o, all.0), (all.1, more.1))
 
 pub open_once : EachFileIsOpenOnce
 open_once kind directory files paths chain = (both kind directory files paths chain).1

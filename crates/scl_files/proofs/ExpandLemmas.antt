@@ -3,7 +3,7 @@ use Rattle.std.proofs.Common.{◌≡◌, ℕ, zero, suc, ◌≤◌, List, [], �
 use Rattle.std.specs.List.{flat_map}
 use Rattle.scl_files.specs.Views.{File}
 use Rattle.scl_files.specs.ResponseFiles.{files_inside}
-use Rattle.scl_files.specs.Expand.{Level, opened, in_place, expand_within, expand}
+use Rattle.scl_files.specs.Expand.{OpenFile, opened, in_place, expand_within, expand}
 use Rattle.scl_files.specs.declared.expand.ExpansionKind.{ExpansionKind}
 use Rattle.scl_files.proofs.OpenLemmas.{opened-none, opened-less}
 
@@ -19,7 +19,7 @@ flat_map-self : (f : List ℕ → List (List ℕ)) (words : List (List ℕ)) →
 flat_map-self f [] h = refl
 flat_map-self f (w ∷ ws) h = rw (h w, flat_map-self f ws h) refl
 
-pub in_place-same : (word : List ℕ) (f g : Level → List (List ℕ)) (o : Option Level) → ((file : Level) → o ≡ Some file → f file ≡ g file) → in_place word f o ≡ in_place word g o
+pub in_place-same : (word : List ℕ) (f g : OpenFile → List (List ℕ)) (o : Option OpenFile) → ((file : OpenFile) → o ≡ Some file → f file ≡ g file) → in_place word f o ≡ in_place word g o
 in_place-same word f g None h = refl
 in_place-same word f g (Some file) h = h file refl
 

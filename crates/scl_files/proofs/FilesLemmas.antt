@@ -32,10 +32,6 @@ hide_none : {X : Type 0} (b : Bool) → cond {A = Option X} b None None ≡ None
 hide_none true = refl
 hide_none false = refl
 
-hide_twice : {X : Type 0} (a b : Bool) (y : Option X) → cond a None (cond b None y) ≡ cond (cond b true a) None y
-hide_twice a true y = hide_none a
-hide_twice a false y = refl
-
 look_past : {X : Type 0} (hidden here : Bool) (x y z : Option X) → z ≡ cond hidden None y → (hidden ≡ true → here ≡ false) → cond here x z ≡ cond hidden None (cond here x y)
 look_past true here x y z e h = rw (h refl) e
 look_past false here x y z e h = rw e refl

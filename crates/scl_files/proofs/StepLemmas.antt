@@ -3,11 +3,11 @@ use Rattle.std.proofs.Common.{◌≡◌, ◌≢◌, ℕ, zero, suc, ◌+◌, ◌
 use Rattle.std.specs.declared.alloc.AllocError.{AllocError}
 use Rattle.scl_files.specs.Views.{File}
 use Rattle.scl_files.specs.ResponseFiles.{files_inside}
-use Rattle.scl_files.specs.Expand.{Level, opened, in_place, expand}
+use Rattle.scl_files.specs.Expand.{OpenFile, opened, in_place, expand}
 use Rattle.scl_files.specs.declared.expand.engine.Step.{Step}
 use Rattle.scl_files.specs.declared.expand.engine.Expansion.{Expansion}
 use Rattle.scl_files.specs.declared.expand.engine.WordsLeft.{WordsLeft}
-use Rattle.scl_files.specs.ExpansionState.{StepsFrom, words_left, levels, closed, left, total, cost, steps_within, steps, steps_left}
+use Rattle.scl_files.specs.ExpansionState.{StepsFrom, words_left, open_files, closed, left, total, cost, steps_within, steps, steps_left}
 use Rattle.scl_files.specs.declared.expand.ExpansionKind.{ExpansionKind}
 use Rattle.scl_files.proofs.OpenLemmas.{opened-none, opened-less}
 use Rattle.scl_files.proofs.ExpandLemmas.{no_files, expand-cons, expand-nil}
@@ -20,7 +20,7 @@ total-length : (f : List ℕ → ℕ) (words : List (List ℕ)) → ((word : Lis
 total-length f [] h = refl
 total-length f (w ∷ ws) h = rw (h w, total-length f ws h) (omega arith)
 
-cost-same : (f g : Level → ℕ) (o : Option Level) → ((file : Level) → o ≡ Some file → f file ≡ g file) → cost f o ≡ cost g o
+cost-same : (f g : OpenFile → ℕ) (o : Option OpenFile) → ((file : OpenFile) → o ≡ Some file → f file ≡ g file) → cost f o ≡ cost g o
 cost-same f g None h = refl
 cost-same f g (Some file) h = ap (λ n. 2 + n) (h file refl)
 
@@ -62,37 +62,37 @@ module _ (kind : ExpansionKind) (directory : List ℕ) (files : List File) where
   steps-first words word = let e = steps-cons kind directory files word words in omega arith
 
   -- the file opened last has this word and others left
-  pub left-next : (levels : List Level) (words : List (List ℕ)) (path : List ℕ) (word : List ℕ) (others : List (List ℕ))
-      → left kind directory files (record { path = path; words = word ∷ others } ∷ levels) words
-      ≡ From (left kind directory files (record { path = path; words = others } ∷ levels) words) word (files_inside kind path (closed kind files levels))
-  left-next levels words path word others =
-      rw (expand-cons kind directory (files_inside kind path (closed kind files levels)) word others) (simp append_assoc)
+  pub left-next : (open_files : List OpenFile) (words : List (List ℕ)) (path : List ℕ) (word : List ℕ) (others : List (List ℕ))
+      → left kind directory files (record { path = path; words = word ∷ others } ∷ open_files) words
+      ≡ From (left kind directory files (record { path = path; words = others } ∷ open_files) words) word (files_inside kind path (closed kind files open_files))
+  left-next open_files words path word others =
+      rw (expand-cons kind directory (files_inside kind path (closed kind files open_files)) word others) (simp append_assoc)
 
-  pub steps-next : (levels : List Level) (words : List (List ℕ)) (path : List ℕ) (word : List ℕ) (others : List (List ℕ))
-      → steps_left kind directory files (record { path = path; words = word ∷ others } ∷ levels) words
-      ≡ CostFrom (steps_left kind directory files (record { path = path; words = others } ∷ levels) words) word (files_inside kind path (closed kind files levels))
-  steps-next levels words path word others =
-      rw (steps-cons kind directory (files_inside kind path (closed kind files levels)) word others) (omega arith)
+  pub steps-next : (open_files : List OpenFile) (words : List (List ℕ)) (path : List ℕ) (word : List ℕ) (others : List (List ℕ))
+      → steps_left kind directory files (record { path = path; words = word ∷ others } ∷ open_files) words
+      ≡ CostFrom (steps_left kind directory files (record { path = path; words = others } ∷ open_files) words) word (files_inside kind path (closed kind files open_files))
+  steps-next open_files words path word others =
+      rw (steps-cons kind directory (files_inside kind path (closed kind files open_files)) word others) (omega arith)
 
   -- the file opened last has no word left
-  pub left-close : (levels : List Level) (words : List (List ℕ)) (path : List ℕ)
-      → left kind directory files (record { path = path; words = [] } ∷ levels) words ≡ left kind directory files levels words
-  left-close levels words path = rw (expand-nil kind directory (files_inside kind path (closed kind files levels))) refl
+  pub left-close : (open_files : List OpenFile) (words : List (List ℕ)) (path : List ℕ)
+      → left kind directory files (record { path = path; words = [] } ∷ open_files) words ≡ left kind directory files open_files words
+  left-close open_files words path = rw (expand-nil kind directory (files_inside kind path (closed kind files open_files))) refl
 
-  pub steps-close : (levels : List Level) (words : List (List ℕ)) (path : List ℕ)
-      → steps_left kind directory files levels words < steps_left kind directory files (record { path = path; words = [] } ∷ levels) words
-  steps-close levels words path = omega arith
+  pub steps-close : (open_files : List OpenFile) (words : List (List ℕ)) (path : List ℕ)
+      → steps_left kind directory files open_files words < steps_left kind directory files (record { path = path; words = [] } ∷ open_files) words
+  steps-close open_files words path = omega arith
 
   -- the file opened last, whichever it is, has this word and others left
   pub left-inner : (those : List (List ℕ × WordsLeft)) (words : List (List ℕ)) (word : List ℕ) (others : List (List ℕ)) → those ≢ []
-      → left kind directory files (levels (word ∷ others) those) words ≡ From (left kind directory files (levels others those) words) word (closed kind files (levels others those))
+      → left kind directory files (open_files (word ∷ others) those) words ≡ From (left kind directory files (open_files others those) words) word (closed kind files (open_files others those))
   left-inner [] words word others h = absurd (h refl)
-  left-inner (file ∷ those) words word others h = left-next (levels (words_left file.1) those) words file.0 word others
+  left-inner (file ∷ those) words word others h = left-next (open_files (words_left file.1) those) words file.0 word others
 
   pub steps-inner : (those : List (List ℕ × WordsLeft)) (words : List (List ℕ)) (word : List ℕ) (others : List (List ℕ)) → those ≢ []
-      → steps_left kind directory files (levels (word ∷ others) those) words ≡ CostFrom (steps_left kind directory files (levels others those) words) word (closed kind files (levels others those))
+      → steps_left kind directory files (open_files (word ∷ others) those) words ≡ CostFrom (steps_left kind directory files (open_files others those) words) word (closed kind files (open_files others those))
   steps-inner [] words word others h = absurd (h refl)
-  steps-inner (file ∷ those) words word others h = steps-next (levels (words_left file.1) those) words file.0 word others
+  steps-inner (file ∷ those) words word others h = steps-next (open_files (words_left file.1) those) words file.0 word others
 
 pub steps_by : (a b : List (List ℕ)) (n m : ℕ) (r : Result Step AllocError) (t : Expansion) → a ≡ b → n ≡ m → IfOk r (λ step. StepsFrom b m step t) → IfOk r (λ step. StepsFrom a n step t)
 steps_by a b n m r t e f h = rw (e, f) h

@@ -1,5 +1,5 @@
 -- What a view finds, by what its maps find.
-use Rattle.std.proofs.Common.{◌≡◌, ℕ, true, false, cond, List, [], ◌∷◌, map, Bool, None, Some, Result, Ok, Err, OnOk, Vec, refl, sym, ap, ◌∙◌}
+use Rattle.std.proofs.Common.{◌≡◌, ℕ, true, false, cond, ◌||◌, List, [], ◌∷◌, map, Bool, None, Some, Result, Ok, Err, OnOk, Vec, refl, sym, ap, ◌∙◌}
 use Rattle.std.proofs.lemmas.Bool.{false≢true}
 use Rattle.std.specs.Option.{option_map, is_some}
 use Rattle.std.specs.declared.alloc.Global.{Global}
@@ -19,7 +19,7 @@ bytes_at_lem path (entry ∷ entries) =
 pub is_among_lem : {T : Type 0} (path : List ℕ) (entries : List (List ℕ × T)) → is_among path (map entry_path entries) ≡ is_some (value_at path entries)
 is_among_lem path [] = refl
 is_among_lem path (entry ∷ entries) =
-    elim (same_path entry.0 path) as (λ b. cond b true (is_among path (map entry_path entries)) ≡ is_some (cond b (Some entry.1) (value_at path entries))) [
+    elim (same_path entry.0 path) as (λ b. (b || is_among path (map entry_path entries)) ≡ is_some (cond b (Some entry.1) (value_at path entries))) [
       | true ↦ refl
       | false ↦ is_among_lem path entries
     ]

@@ -7,21 +7,21 @@ use Rattle.scl_files.specs.ResponseFiles.{named, arguments, files_inside}
 use Rattle.scl_files.specs.declared.expand.ExpansionKind.{ExpansionKind}
 
 -- a file that is open, and its words that are left
-pub record Level : Type 0 where
+pub record OpenFile : Type 0 where
   pub path : List ℕ
   pub words : List (List ℕ)
 
-abbrev pub level_at : List ℕ → Option (List (List ℕ)) → Option Level
-level_at path None = None
-level_at path (Some words) = Some (record { path = path; words = words })
+abbrev pub open_file_at : List ℕ → Option (List (List ℕ)) → Option OpenFile
+open_file_at path None = None
+open_file_at path (Some words) = Some (record { path = path; words = words })
 
 -- the file among these that the word names, if its text can be read
-unfoldable pub opened : ExpansionKind → List ℕ → List File → List ℕ → Option Level
+unfoldable pub opened : ExpansionKind → List ℕ → List File → List ℕ → Option OpenFile
 opened kind directory files word =
-    option_and_then (λ path. level_at path (option_and_then (arguments kind) (bytes_at path files))) (named kind directory word)
+    option_and_then (λ path. open_file_at path (option_and_then (arguments kind) (bytes_at path files))) (named kind directory word)
 
 -- the word, or what stands in the file that it names
-abbrev pub in_place : List ℕ → (Level → List (List ℕ)) → Option Level → List (List ℕ)
+abbrev pub in_place : List ℕ → (OpenFile → List (List ℕ)) → Option OpenFile → List (List ℕ)
 in_place word words_in None = word ∷ []
 in_place word words_in (Some file) = words_in file
 

@@ -5,7 +5,7 @@ use Rattle.scl_values.specs.Each.{Each}
 use Rattle.scl_files.specs.Paths.{same_path}
 use Rattle.scl_files.specs.Views.{File, bytes_at}
 use Rattle.scl_files.specs.ResponseFiles.{file_name_in, named, arguments, files_inside}
-use Rattle.scl_files.specs.Expand.{Level, opened, in_place, expand}
+use Rattle.scl_files.specs.Expand.{OpenFile, opened, in_place, expand}
 use Rattle.scl_files.specs.declared.expand.ExpansionKind.{ExpansionKind}
 use Rattle.scl_files.specs.declared.expand.ExpansionKind.TheVariants as kinds
 
@@ -46,8 +46,8 @@ PlainWordsStand =
 -- the paths of files that are open, each named by a word while the ones before it are open
 pub data IsChain (kind : ExpansionKind) (directory : List ℕ) : List File → List (List ℕ) → Type 0 where
   none : (files : List File) → IsChain kind directory files []
-  opens : (files : List File) (word : List ℕ) (level : Level) (paths : List (List ℕ)) → opened kind directory files word ≡ Some level
-      → IsChain kind directory (files_inside kind level.path files) paths → IsChain kind directory files (level.path ∷ paths)
+  opens : (files : List File) (word : List ℕ) (open_file : OpenFile) (paths : List (List ℕ)) → opened kind directory files word ≡ Some open_file
+      → IsChain kind directory (files_inside kind open_file.path files) paths → IsChain kind directory files (open_file.path ∷ paths)
 
 -- no two of the paths have the same components
 abbrev pub AllApart : List (List ℕ) → Type 0

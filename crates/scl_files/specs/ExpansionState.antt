@@ -1,12 +1,13 @@
 -- What is left of an expansion that has begun.
-use Rattle.std.specs.Prelude.{◌≡◌, ℕ, zero, suc, ◌+◌, ◌<◌, List, [], ◌∷◌, ◌++◌, length, Bool, true, false, cond, Option, None, Some, Vec}
+use Rattle.std.specs.Prelude.{◌≡◌, ℕ, zero, suc, ◌+◌, ◌<◌, List, [], ◌∷◌, ◌++◌, length, Bool, true, Option, None, Some, Vec}
 use Rattle.std.specs.declared.alloc.Global.{Global}
+use Rattle.std.specs.List.{list_any}
 use Rattle.std.specs.Vec.Iter.{into_iter_items}
 use Rattle.scl_files.specs.Views.{File}
 use Rattle.scl_values.specs.Words.{words_of}
 use Rattle.scl_files.specs.Paths.{same_path}
 use Rattle.scl_files.specs.ResponseFiles.{files_inside}
-use Rattle.scl_files.specs.Expand.{Level, opened, in_place, expand}
+use Rattle.scl_files.specs.Expand.{OpenFile, opened, in_place, expand}
 use Rattle.scl_files.specs.declared.expand.ExpansionKind.{ExpansionKind}
 use Rattle.scl_files.specs.declared.expand.ExpansionKind.TheVariants as kinds
 use Rattle.scl_files.specs.declared.expand.engine.WordsLeft.{WordsLeft}
@@ -18,13 +19,13 @@ abbrev pub words_left : WordsLeft → List (List ℕ)
 words_left w = words_of (into_iter_items w.words)
 
 -- a file that a word opens
-abbrev pub opens : (Vec ℕ Global × WordsLeft) → Level
+abbrev pub opens : (Vec ℕ Global × WordsLeft) → OpenFile
 opens file = record { path = file.0.items; words = words_left file.1 }
 
 -- the files that are open, the last opened first: that one has these words left, and each other those around the next
-abbrev pub levels : List (List ℕ) → List (List ℕ × WordsLeft) → List Level
-levels inner [] = []
-levels inner (file ∷ files) = record { path = file.0; words = inner } ∷ levels (words_left file.1) files
+abbrev pub open_files : List (List ℕ) → List (List ℕ × WordsLeft) → List OpenFile
+open_files inner [] = []
+open_files inner (file ∷ files) = record { path = file.0; words = inner } ∷ open_files (words_left file.1) files
 
 -- while a file is open at the one path, no word opens one at the other
 abbrev pub hides : ExpansionKind → List ℕ → List ℕ → Bool
@@ -33,29 +34,28 @@ hides kinds.Msvc path other = true
 hides kinds.Diab path other = same_path path other
 
 -- while these files are open, no word opens one at the path
-abbrev pub is_shut : ExpansionKind → List ℕ → List Level → Bool
-is_shut kind path [] = false
-is_shut kind path (level ∷ levels) = cond (hides kind level.path path) true (is_shut kind path levels)
+abbrev pub is_shut : ExpansionKind → List ℕ → List OpenFile → Bool
+is_shut kind path open_files = list_any (λ open_file. hides kind open_file.path path) open_files
 
 -- the files that a word may open while these are open
-abbrev pub closed : ExpansionKind → List File → List Level → List File
+abbrev pub closed : ExpansionKind → List File → List OpenFile → List File
 closed kind files [] = files
-closed kind files (level ∷ levels) = files_inside kind level.path (closed kind files levels)
+closed kind files (open_file ∷ open_files) = files_inside kind open_file.path (closed kind files open_files)
 
 -- what is left of the open files
-abbrev pub left_open : ExpansionKind → List ℕ → List File → List Level → List (List ℕ)
+abbrev pub left_open : ExpansionKind → List ℕ → List File → List OpenFile → List (List ℕ)
 left_open kind directory files [] = []
-left_open kind directory files (level ∷ levels) = expand kind directory (closed kind files (level ∷ levels)) level.words ++ left_open kind directory files levels
+left_open kind directory files (open_file ∷ open_files) = expand kind directory (closed kind files (open_file ∷ open_files)) open_file.words ++ left_open kind directory files open_files
 
-abbrev pub left : ExpansionKind → List ℕ → List File → List Level → List (List ℕ) → List (List ℕ)
-left kind directory files levels words = left_open kind directory files levels ++ expand kind directory files words
+abbrev pub left : ExpansionKind → List ℕ → List File → List OpenFile → List (List ℕ) → List (List ℕ)
+left kind directory files open_files words = left_open kind directory files open_files ++ expand kind directory files words
 
 -- the sum of a number for each word
 abbrev pub total : (List ℕ → ℕ) → List (List ℕ) → ℕ
 total f [] = 0
 total f (word ∷ words) = f word + total f words
 
-abbrev pub cost : (Level → ℕ) → Option Level → ℕ
+abbrev pub cost : (OpenFile → ℕ) → Option OpenFile → ℕ
 cost inside None = 1
 cost inside (Some file) = 2 + inside file
 
@@ -68,24 +68,24 @@ steps_within (suc n) kind directory files words =
 unfoldable pub steps : ExpansionKind → List ℕ → List File → List (List ℕ) → ℕ
 steps kind directory files words = steps_within (length files) kind directory files words
 
-abbrev pub steps_open : ExpansionKind → List ℕ → List File → List Level → ℕ
+abbrev pub steps_open : ExpansionKind → List ℕ → List File → List OpenFile → ℕ
 steps_open kind directory files [] = 0
-steps_open kind directory files (level ∷ levels) = 1 + steps kind directory (closed kind files (level ∷ levels)) level.words + steps_open kind directory files levels
+steps_open kind directory files (open_file ∷ open_files) = 1 + steps kind directory (closed kind files (open_file ∷ open_files)) open_file.words + steps_open kind directory files open_files
 
-abbrev pub steps_left : ExpansionKind → List ℕ → List File → List Level → List (List ℕ) → ℕ
-steps_left kind directory files levels words = steps_open kind directory files levels + steps kind directory files words
+abbrev pub steps_left : ExpansionKind → List ℕ → List File → List OpenFile → List (List ℕ) → ℕ
+steps_left kind directory files open_files words = steps_open kind directory files open_files + steps kind directory files words
 
-abbrev pub levels_of : Expansion → List Level
-levels_of e = levels (words_left e.inner) e.open_files
+abbrev pub open_files_of : Expansion → List OpenFile
+open_files_of e = open_files (words_left e.inner) e.open_files
 
 abbrev pub left_of : Expansion → List (List ℕ)
-left_of e = left e.kind e.directory.now e.view.now.files (levels_of e) (words_of e.words.now)
+left_of e = left e.kind e.directory.now e.view.now.files (open_files_of e) (words_of e.words.now)
 
 abbrev pub steps_of : Expansion → ℕ
-steps_of e = steps_left e.kind e.directory.now e.view.now.files (levels_of e) (words_of e.words.now)
+steps_of e = steps_left e.kind e.directory.now e.view.now.files (open_files_of e) (words_of e.words.now)
 
 abbrev pub closed_of : Expansion → List File
-closed_of e = closed e.kind e.view.now.files (levels_of e)
+closed_of e = closed e.kind e.view.now.files (open_files_of e)
 
 -- what was left where the word came before
 abbrev pub left_before : Expansion → List ℕ → List (List ℕ)

@@ -1,5 +1,6 @@
 -- What a view holds: files, directories and other paths that exist, all by paths that are compared by their components.
-use Rattle.std.specs.Prelude.{ℕ, Bool, true, false, cond, ◌||◌, List, [], ◌∷◌, Option, None, Some, is_some, Vec}
+use Rattle.std.specs.Prelude.{ℕ, Bool, false, cond, ◌||◌, List, [], ◌∷◌, Option, None, Some, is_some, Vec}
+use Rattle.std.specs.List.{list_any}
 use Rattle.std.specs.declared.alloc.Global.{Global}
 use Rattle.scl_files.specs.Paths.{same_path}
 
@@ -33,8 +34,7 @@ put_file file files = cond (is_some (bytes_at file.path files)) (with_bytes file
 
 -- the path is among these
 abbrev pub is_among : List ℕ → List (List ℕ) → Bool
-is_among path [] = false
-is_among path (other ∷ others) = cond (same_path other path) true (is_among path others)
+is_among path others = list_any (λ other. same_path other path) others
 
 abbrev pub is_directory : List ℕ → Viewed → Bool
 is_directory path view = is_among path view.directories

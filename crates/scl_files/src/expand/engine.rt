@@ -50,7 +50,7 @@ pub(super) enum Step {
 }
 
 impl<'a> Expansion<'a> {
-    ghost use Rattle.scl_files.specs.ExpansionState.{is_shut, opens, levels_of, closed_of, left_of, left_before, steps_before, StepsFrom, Steps};
+    ghost use Rattle.scl_files.specs.ExpansionState.{is_shut, opens, open_files_of, closed_of, left_of, left_before, steps_before, StepsFrom, Steps};
     ghost use Rattle.scl_files.specs.Expand.{opened, expand};
     ghost use Rattle.scl_values.specs.Words.{words_of};
 
@@ -78,7 +78,7 @@ impl<'a> Expansion<'a> {
 
     /// Whether no word opens a file at the path now.
     fn is_shut(&self, path: &[u8]) -> bool
-        ensures { result ≡ is_shut self.now.kind path.now (levels_of self.now) }
+        ensures { result ≡ is_shut self.now.kind path.now (open_files_of self.now) }
     {
         match self.kind {
             ExpansionKind::Gnu | ExpansionKind::Diab => self.open_files.contains(path),

@@ -1,7 +1,7 @@
 use Rattle.std.proofs.Common.{◌≡◌, ◌≢◌, [], ◌∷◌, sym, ◌∙◌}
 use Rattle.std.proofs.lemmas.Bool.{false≢true}
 use Rattle.scl_values.specs.Words.{words_of}
-use Rattle.scl_files.specs.ExpansionState.{words_left, levels}
+use Rattle.scl_files.specs.ExpansionState.{words_left, open_files}
 use Rattle.scl_files.proofs.StepLemmas.{left-inner, steps-inner, left-close, steps-close, steps_by}
 use Rattle.scl_files.proofs.expand.engine.Expansion.step.Goals as goal
 
@@ -19,7 +19,7 @@ returns c =
     let self = c.args.self.now in
     let these : self.open_files ≡ (c.in-Some-pop._path.items, c.in-Some-pop.around) ∷ c.pop.new.self = c.in-Some-pop.ensures in
     let none : words_left self.inner ≡ [] = c.in_default.ensures.0 in
-    let others = levels (words_left c.in-Some-pop.around) c.pop.new.self in
+    let others = open_files (words_left c.in-Some-pop.around) c.pop.new.self in
     rw (these, none) (
       left-close self.kind self.directory.now self.view.now.files others (words_of self.words.now) c.in-Some-pop._path.items,
       steps-close self.kind self.directory.now self.view.now.files others (words_of self.words.now) c.in-Some-pop._path.items,
