@@ -15,8 +15,8 @@ ghost use Rattle.scl_msvc_reading.specs.Rows.{msvc_tables};
 /// - `own_flags_join_safely`: the rows with the flags of own words, and of words that are handed on, pass both checks as if
 ///   each were printed joined: no other row has such a flag, and no flag goes on from one;
 /// - `clang_tables_pass_both_checks_inside`: Clang's pass both for the kinds of inner options that Msvc's lists carry;
-/// - `no_list_carries_xclang`, `no_list_carries_clang`: no list carries an outer option with the flag `-Xclang`,
-///   nor one with `-clang:`;
+/// - `no_list_carries_xclang`, `no_list_carries_clang`: no list carries an outer option with the flag `-Xclang`, nor one with
+///   `-clang:`;
 /// - `carried_flags_name_no_file`, `carried_inner_flags_name_no_file`: no flag of Msvc's tables begins with `@`, where lists
 ///   carry the options of its row, nor one of Clang's that inner lists carry.
 pub fn of_tables()

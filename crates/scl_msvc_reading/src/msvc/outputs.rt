@@ -23,24 +23,18 @@ pub(crate) fn outputs_of(
     ensures { IfOk result (λ made. artifacts made ≡ outputs options.now (found_of found.now)) }
 {
     let module_path = options.last_text(&OfKinds(&[Kind::ClangModuleOutput]));
-    let database = found.program_database.as_ref().map(|path| path.as_slice());
-    let is_cxx = found.language == Language::Cxx;
-    let object = &found.object;
-    let mut made = BTreeMap::new(alloc);
     let module_path = copied_path(alloc, module_path)?;
+    let object = Vec::from_slice(alloc, &found.object)?;
+    let database = found.program_database.as_ref().map(|path| path.as_slice());
+    let database = copied_path(alloc, database)?;
+    let is_cxx = found.language == Language::Cxx;
+    let header = extended_if(alloc, is_cxx, &found.object, b"tlh")?;
+    let source = extended_if(alloc, is_cxx, &found.object, b"tli")?;
+    let mut made = BTreeMap::new(alloc);
     put_optional(alloc, &mut made, "module", false, module_path)?;
-    let own = Vec::from_slice(alloc, object)?;
-    put_optional(alloc, &mut made, "obj", false, Some(own))?;
-    put_optional(
-        alloc,
-        &mut made,
-        "pdb",
-        false,
-        copied_path(alloc, database)?,
-    )?;
-    let header = extended_if(alloc, is_cxx, object, b"tlh")?;
+    put_optional(alloc, &mut made, "obj", false, Some(object))?;
+    put_optional(alloc, &mut made, "pdb", false, database)?;
     put_optional(alloc, &mut made, "tlh", true, header)?;
-    let source = extended_if(alloc, is_cxx, object, b"tli")?;
     put_optional(alloc, &mut made, "tli", true, source)?;
     Ok(made)
 }
