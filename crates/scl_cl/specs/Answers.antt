@@ -15,9 +15,8 @@ use Rattle.scl_gnu_reading.specs.GccRows.{gcc_rows}
 use Rattle.scl_gnu.specs.ReadAgain.{GccReadsAgain, ClangReadsAgain}
 use Rattle.scl_gnu_reading.specs.Readings as gcc_reading
 use Rattle.scl_msvc.specs.Building as msvc
-use Rattle.scl_msvc_reading.specs.Environment.{without_cl_env_vars}
+use Rattle.scl_msvc.specs.Environment.{surrounded_reading, without_cl_env_vars}
 use Rattle.scl_msvc.specs.Promises.{MsvcReadsAgain}
-use Rattle.scl_msvc_reading.specs.Readings as msvc_reading
 use Rattle.scl_small.specs.Command.{command}
 use Rattle.scl_small.specs.DiabAgain.{DiabReadsAgain}
 use Rattle.scl_small.specs.DiabReading as diab
@@ -70,8 +69,8 @@ reading_by compilers.Gcc request = gcc_reading.reading kinds.Gcc false (gcc_rows
 reading_by compilers.Gxx request = gcc_reading.reading kinds.Gcc true (gcc_rows ∷ []) request.directory request.view request.words
 reading_by compilers.Clang request = gcc_reading.reading kinds.Clang false clang_tables request.directory request.view request.words
 reading_by compilers.Clangxx request = gcc_reading.reading kinds.Clang true clang_tables request.directory request.view request.words
-reading_by compilers.Cl request = msvc_reading.reading_within false request.directory request.environment request.view request.words
-reading_by compilers.ClangCl request = msvc_reading.reading_within true request.directory request.environment request.view request.words
+reading_by compilers.Cl request = surrounded_reading false request.directory request.environment request.view request.words
+reading_by compilers.ClangCl request = surrounded_reading true request.directory request.environment request.view request.words
 reading_by compilers.Diab request = diab.expanded_reading (owner_in (diab_table.rows ∷ [])) request.directory request.view.files request.words
 reading_by compilers.Tasking request = tasking.reading (owner_in (tasking_table.rows ∷ [])) request.words
 

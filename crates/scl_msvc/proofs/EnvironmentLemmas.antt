@@ -3,7 +3,7 @@ use Rattle.std.proofs.Common.{◌≡◌, ℕ, zero, suc, ◌<◌, Bool, true, fa
 use Rattle.std.proofs.lemmas.List.{append-nil}
 use Rattle.std.specs.Prelude.{is_some}
 use Rattle.std.proofs.lemmas.Grind.{common_steps}
-use Rattle.scl_msvc_reading.specs.Environment.{with_equals, front_variable, back_variable, value_of, gives_words, surrounded}
+use Rattle.scl_msvc.specs.Environment.{with_equals, front_variable, back_variable, value_of, gives_words, surrounded}
 
 pub equals_put : (bytes : List ℕ) (i : ℕ) → i < length bytes → slice_index bytes i ≡ 35 → slice_set bytes i 61 ≡ take i bytes ++ with_equals (drop i bytes)
 equals_put [] i within e = grind (arith, common_steps)

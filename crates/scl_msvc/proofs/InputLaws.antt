@@ -6,7 +6,7 @@ use Rattle.scl_values.specs.Cuts.{cut}
 use Rattle.scl_values.specs.Each.{Each}
 use Rattle.scl_args.specs.Options.{dash_words, first_is, is_behind_dashes, is_dashes, texts}
 use Rattle.scl_values.specs.Row.{Row, row, either, joined}
-use Rattle.scl_values.specs.Seen.{Seen, Raw, Unknown, Known, Plain, shown, text_of}
+use Rattle.scl_values.specs.Seen.{Seen, Raw, Unknown, Known, shown, text_of}
 use Rattle.scl_values.specs.Seen as plain
 use Rattle.scl_values.specs.Tables.{owner_in, all_rows}
 use Rattle.scl_args.proofs.OwnerLaws.{owner_in-is}

@@ -1,5 +1,5 @@
 -- Lists carry options of the kinds that the checks of tables are for, and unknown ones.
-use Rattle.std.proofs.Common.{◌≡◌, ℕ, Bool, true, false, cond, List, [], ◌∷◌, refl, arith}
+use Rattle.std.proofs.Common.{◌≡◌, ℕ, Bool, true, false, cond, List, [], ◌∷◌, map, refl, arith}
 use Rattle.std.specs.List.{list_any}
 use Rattle.std.specs.Prelude.{codes}
 use Rattle.std.specs.Str.{bytes_eq}
@@ -8,6 +8,7 @@ use Rattle.scl_values.specs.Seen.{shown}
 use Rattle.scl_args.specs.Wrapped.{wrapped_apart, wrapped_joined}
 use Rattle.scl_again.specs.Commands.{Inner}
 use Rattle.scl_again.specs.Origins.{IsKept}
+use Rattle.scl_again.specs.Promises.{inner_of}
 use Rattle.scl_again.proofs.CommandLaws.{IsList}
 use Rattle.scl_again.proofs.RawLaws.{HasNoRaws}
 use Rattle.scl_gnu_reading.specs.declared.gcc.data.Kind as gnu
@@ -21,7 +22,8 @@ use Rattle.scl_msvc_reading.specs.declared.msvc.place.Place.TheVariants as place
 use Rattle.scl_msvc_reading.specs.Again.{is_list, carried, carried_inner}
 use Rattle.scl_msvc_reading.specs.Inners.{inner_place, goes_inside_to}
 use Rattle.scl_msvc_reading.specs.Places.{place, goes_to, side_of_flag}
-use Rattle.scl_msvc.specs.ReadAgain.{list_of, behind_xclang, behind_clang}
+use Rattle.scl_msvc.specs.Promises.{handed_on}
+use Rattle.scl_msvc.specs.ReadAgain.{list_of}
 use Rattle.scl_msvc_reading.specs.Rows.{msvc_tables}
 
 -- ---- places
@@ -56,7 +58,7 @@ module _ (there : Place) (lists : is_list there ≡ true) where
   no-raws = record { carries_none = λ w. nowhere; adds_none = refl }
 
   pub is-list : (dashes : Bool) (xclang clang : List (Cut gnu.Kind)) →
-      IsList msvc_tables dashes clang_tables carried carried_inner side_of_flag wrapped (behind_xclang xclang ∷ behind_clang clang ∷ []) (list_of there)
+      IsList msvc_tables dashes clang_tables carried carried_inner side_of_flag wrapped (map inner_of (handed_on xclang clang)) (list_of there)
   is-list dashes xclang clang = record { keeps = keeps dashes; keeps_inner = keeps_inner; adds_none = (refl, (refl, tt)) }
 
 -- ---- kinds

@@ -3,11 +3,12 @@ use Rattle.std.proofs.Common.{◌≡◌, ℕ, Bool, true, false, List, [], ◌�
 use Rattle.std.specs.Prelude.{codes, unwrap_or}
 use Rattle.scl_values.specs.Cuts.{cut}
 use Rattle.scl_values.specs.Each.{Each}
-use Rattle.scl_args.specs.Options.{dash_words, texts, ◌>>=◌}
+use Rattle.scl_args.specs.Options.{dash_words, texts}
 use Rattle.scl_args.specs.Options as listed
 use Rattle.scl_values.specs.Seen.{Seen, shown, flag_of}
 use Rattle.scl_values.specs.Tables.{owner_in, all_rows}
-use Rattle.scl_again.specs.NoFiles.{NamesNoFile, GivesNoFile, has_plain_flags}
+use Rattle.scl_again.specs.NoFiles.{NamesNoFile, GivesNoFile, NamesNoFileOfItsOwn, has_plain_flags}
+use Rattle.scl_again.specs.Promises.{said_by}
 use Rattle.scl_again.proofs.NoFileLaws.{each-append, HasPlainFlag, flag-none, plain-found, listed-none, one-none, apart-none, joined-none, last-none}
 use Rattle.scl_files.specs.declared.expand.ExpansionKind.TheVariants as expansions
 use Rattle.scl_text.specs.declared.language.Language.{Language}
@@ -26,9 +27,9 @@ use Rattle.scl_msvc.specs.Building.{command_words, input_word, input_words, lang
 use Rattle.scl_msvc_reading.specs.FixedTests.{Found}
 use Rattle.scl_msvc_reading.specs.Inners.{BothInner, inner_list, inner_place, inner_words_at, goes_inside_to}
 use Rattle.scl_msvc_reading.specs.Kinds.{of, is_input}
-use Rattle.scl_msvc.specs.NoFiles.{CommandNamesNoFile, MsvcCommandsNameNoFile}
 use Rattle.scl_msvc_reading.specs.Places.{place, goes_to, side_of_flag}
-use Rattle.scl_msvc.specs.ReadAgain.{options_of, inner_options_of}
+use Rattle.scl_msvc.specs.Promises.{msvc_line}
+use Rattle.scl_msvc.specs.ReadAgain.{outer_options_of, inner_options_of}
 use Rattle.scl_msvc_reading.specs.Readings.{reading}
 use Rattle.scl_msvc_reading.specs.Recordings.{all_words_at, record_of}
 use Rattle.scl_msvc_reading.specs.Rows.{msvc_rows, msvc_tables}
@@ -121,11 +122,11 @@ module _ (is_clang : Bool) (ws : List (List ℕ)) where
 
 -- ---- the command of a reading
 
-command-none : (is_clang : Bool) (directory : List ℕ) (view : Viewed) (words : List (List ℕ)) (p : Parsed) (object : List ℕ) → reading is_clang directory view words ≡ Ok p → object_of p ≡ Some object
-    → CommandNamesNoFile is_clang directory view words p object
+pub command-none : (is_clang : Bool) (directory : List ℕ) (view : Viewed) (words : List (List ℕ)) (p : Parsed) (object : List ℕ) → reading is_clang directory view words ≡ Ok p → object_of p ≡ Some object
+    → NamesNoFileOfItsOwn (said_by (msvc_line is_clang directory view words)) object (command_words p object)
 command-none is_clang directory view words p object e has_object none inner_none unnamed =
     let r = is-read is_clang directory view words p e in
-    let os = map shown (options_of is_clang directory view words) in
+    let os = map shown (outer_options_of is_clang directory view words) in
     let inner : BothInner = record { xclang = map shown (inner_options_of kind.XClang directory view os); clang = map shown (inner_options_of kind.Clang directory view os) } in
     let found = object-found directory view os inner r.tested in
     let both : Some r.tested.object ≡ Some object = sym found ∙ (ap object_of r.is ∙ has_object) in
@@ -136,7 +137,3 @@ command-none is_clang directory view words p object e has_object none inner_none
     (record-none is_clang (expand expansions.Msvc directory view.files words) none inner
     (λ there lists. append _ _ (apart-none (codes "-Xclang") refl _ (inside-none there lists (words_of kind.XClang) inner_none.0)) (joined-none (codes "-clang:") refl _))
     directory view r.tested r.has))
-
-pub commands_none : MsvcCommandsNameNoFile
-commands_none is_clang directory pairs view words all p object all_words e has_object =
-    command-none is_clang directory view all p object (sym (ap (λ w. w >>= reading is_clang directory view) all_words) ∙ e) has_object

@@ -1,5 +1,5 @@
 -- The command of a record of Msvc has one input.
-use Rattle.std.proofs.Common.{◌≡◌, ℕ, Bool, true, false, cond, ◌⊎◌, inl, inr, List, [], ◌∷◌, ◌++◌, map, filter, None, Some, refl, sym, ap, subst, ◌∙◌}
+use Rattle.std.proofs.Common.{◌≡◌, ℕ, Bool, true, false, cond, ◌⊎◌, inl, inr, List, [], ◌∷◌, ◌++◌, map, filter, None, Some, Ok, refl, sym, ap, subst, ◌∙◌}
 use Rattle.std.specs.List.{flat_map}
 use Rattle.std.specs.Option.{option_and_then}
 use Rattle.scl_values.specs.Cuts.{Cut, raw, unknown, flag, with_value, cut}
@@ -8,29 +8,31 @@ use Rattle.scl_args.specs.Options.{texts}
 use Rattle.scl_values.specs.Seen.{Seen, Raw, Unknown, Known, Plain, plain, plain_seen, shown, text_of}
 use Rattle.scl_values.specs.Seen as plain
 use Rattle.scl_values.specs.Tables.{owner_in}
+use Rattle.scl_again.specs.Promises.{said_by}
 use Rattle.scl_again.proofs.FilterLaws.{any-none, has-last}
 use Rattle.scl_again.proofs.NoneLaws.{HasNone, own-alone}
-use Rattle.scl_again.proofs.OutcomeLaws.{bind-ok}
 use Rattle.scl_text.specs.declared.language.Language.{Language}
 use Rattle.scl_text.specs.declared.language.Language.TheVariants as languages
+use Rattle.scl_text.specs.Commands.{object_of}
+use Rattle.scl_text.specs.Records.{Parsed}
+use Rattle.scl_files.specs.Views.{Viewed}
 use Rattle.scl_msvc_reading.specs.declared.msvc.data.Kind.{Kind}
 use Rattle.scl_msvc_reading.specs.declared.msvc.data.Kind.TheVariants as kind
 use Rattle.scl_msvc_reading.specs.declared.msvc.place.Place.{Place}
 use Rattle.scl_msvc_reading.specs.declared.msvc.place.Place.TheVariants as places
 use Rattle.scl_msvc_reading.specs.Again.{is_list}
 use Rattle.scl_msvc.specs.Building.{command_words}
-use Rattle.scl_msvc_reading.specs.Environment.{surrounded}
 use Rattle.scl_msvc_reading.specs.FixedTests.{Found}
 use Rattle.scl_msvc_reading.specs.Inners.{BothInner}
 use Rattle.scl_msvc_reading.specs.Kinds.{any, is_input, language_said, language_inputs}
 use Rattle.scl_msvc_reading.specs.Places.{place, goes_to}
-use Rattle.scl_msvc.specs.ReadAgain as msvc
-use Rattle.scl_msvc.specs.ReadAgain.{list_of, parts, mark_option, input_option, options_of, inner_options_of, MsvcCommandsHaveOneInput}
+use Rattle.scl_msvc.specs.Promises.{msvc_line}
+use Rattle.scl_msvc.specs.ReadAgain.{list_of, parts, mark_option, input_option, HasOneInput, outer_options_of, inner_options_of}
 use Rattle.scl_msvc_reading.specs.Readings.{reading}
 use Rattle.scl_msvc_reading.specs.Recordings.{record_of}
 use Rattle.scl_msvc_reading.specs.Rows.{msvc_tables}
 use Rattle.scl_msvc.proofs.KeptLaws.{same-list}
-use Rattle.scl_msvc.proofs.ReadAgainLaws.{commands_again}
+use Rattle.scl_msvc.proofs.ReadAgainLaws.{command-read}
 use Rattle.scl_msvc.proofs.ReadingLaws.{names_language, each-tt, HasFound, is-read}
 
 -- the input that an option is, if it is one
@@ -109,20 +111,17 @@ module _ (os : List (Seen Kind)) (f : Found) (has : HasFound os f) where
   marked-input true = ap (λ xs. xs ++ []) own-input
   marked-input false = ap (λ xs. xs ++ []) own-input
 
-pub one_input : MsvcCommandsHaveOneInput
-one_input is_clang directory pairs view words p object e has_object =
-    let given = bind-ok (surrounded pairs words) (reading is_clang directory view) p e in
-    let all = given.0 in
-    let again = commands_again is_clang directory pairs view words all p object given.1 e has_object in
-    let os = map shown (options_of is_clang directory view all) in
-    let xclang = inner_options_of kind.XClang directory view os in
-    let clang = inner_options_of kind.Clang directory view os in
-    let inside : BothInner = record { xclang = map shown xclang; clang = map shown clang } in
+pub one-input : (is_clang : Bool) (directory : List ℕ) (view : Viewed) (words : List (List ℕ)) (p : Parsed) (object : List ℕ) → reading is_clang directory view words ≡ Ok p → object_of p ≡ Some object
+    → HasOneInput is_clang p (command_words p object)
+one-input is_clang directory view words p object e has_object =
+    let again = command-read is_clang directory view words p object e has_object in
+    let os = map shown (outer_options_of is_clang directory view words) in
+    let inside : BothInner = record { xclang = map shown (inner_options_of kind.XClang directory view os); clang = map shown (inner_options_of kind.Clang directory view os) } in
     let made = parts p object in
-    let r = is-read is_clang directory view all p given.2 in
+    let r = is-read is_clang directory view words p e in
     texts-named (cut (owner_in msvc_tables) is_clang (command_words p object)).options
     ∙ (ap (λ s. flat_map named_input s.options) again.outer
-    ∙ (own-alone named_input (msvc.said os xclang clang) made.front made.back made.lists ((λ w. refl), ((λ w. refl), tt))
+    ∙ (own-alone named_input (said_by (msvc_line is_clang directory view words)) made.front made.back made.lists ((λ w. refl), ((λ w. refl), tt))
     (list-none places.Preprocessor refl, (list-none places.Dependency refl, (list-none places.Unhashed refl, (list-none places.Common refl, tt))))
     ∙ subst (λ q. flat_map named_input (mark_option q.double_dash_input ++ input_option q.msvc_explicit_language q.language q.input ∷ []) ≡ q.input ∷ []) r.is
     (marked-input os r.tested r.has (record_of directory view os inside r.tested).double_dash_input)))

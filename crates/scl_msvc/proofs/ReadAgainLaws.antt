@@ -5,15 +5,16 @@ use Rattle.std.specs.List.{flat_map, list_all}
 use Rattle.std.specs.Prelude.{codes, not, ◌||◌}
 use Rattle.scl_values.specs.Cuts.{Cut, cut}
 use Rattle.scl_values.specs.Each.{Each}
-use Rattle.scl_args.specs.Options.{texts, ◌>>=◌}
+use Rattle.scl_args.specs.Options.{last_flag, texts}
 use Rattle.scl_values.specs.Row.{Row, row, apart}
 use Rattle.scl_values.specs.Seen.{Seen, Plain, shown}
 use Rattle.scl_values.specs.Seen as plain
 use Rattle.scl_values.specs.Tables.{owner_in, all_rows}
 use Rattle.scl_args.specs.Wrapped.{wrapped_apart, wrapped_joined}
-use Rattle.scl_again.specs.Commands.{Inner, Said, carried, values_at, IsReadAgain}
+use Rattle.scl_again.specs.Commands.{Said, carried, values_at, IsReadAgain}
 use Rattle.scl_again.specs.Commands as command
 use Rattle.scl_again.specs.Origins.{IsClear, AreClear}
+use Rattle.scl_again.specs.Promises.{Line, said_by}
 use Rattle.scl_again.specs.Reads.{Reads}
 use Rattle.scl_again.proofs.CommandLaws.{IsInner, list-again, command-again}
 use Rattle.scl_again.proofs.FoundLaws.{is_bare, last-flag, flag-again}
@@ -37,10 +38,11 @@ use Rattle.scl_msvc.specs.Building.{command_words, input_words, list_words}
 use Rattle.scl_msvc_reading.specs.FixedTests.{Found}
 use Rattle.scl_msvc_reading.specs.Inners as inners
 use Rattle.scl_msvc_reading.specs.Inners.{inner_list}
-use Rattle.scl_msvc_reading.specs.Kinds.{of, last_flag}
+use Rattle.scl_msvc_reading.specs.Kinds.{of}
 use Rattle.scl_msvc_reading.specs.Places.{side_of_flag, words_at}
 use Rattle.scl_msvc.specs.ReadAgain as msvc
-use Rattle.scl_msvc.specs.ReadAgain.{list_of, parts, options_of, inner_options_of, CommandIsReadAgain, MsvcCommandsAreReadAgain}
+use Rattle.scl_msvc.specs.Promises.{handed_on, msvc_line}
+use Rattle.scl_msvc.specs.ReadAgain.{list_of, parts, outer_options_of, inner_options_of}
 use Rattle.scl_msvc_reading.specs.Readings.{reading}
 use Rattle.scl_msvc_reading.specs.Recordings.{all_words_at, record_of}
 use Rattle.scl_msvc_reading.specs.Rows.{msvc_rows, msvc_tables}
@@ -95,8 +97,11 @@ module _ (is_clang : Bool) (ws : List (List ℕ)) (xclang clang : List (Cut gnu.
   abbrev Printed : List (List ℕ) → List (Plain Kind) → Type 0
   Printed words options = Reads own is_clang words options
 
+  abbrev line : Line Kind gnu.Kind
+  line = record { options = cs; handed_on = handed_on xclang clang }
+
   abbrev said : Said Kind gnu.Kind
-  said = msvc.said os xclang clang
+  said = said_by line
 
   abbrev inside : inners.BothInner
   inside = record { xclang = map shown xclang; clang = map shown clang }
@@ -112,7 +117,7 @@ module _ (is_clang : Bool) (ws : List (List ℕ)) (xclang clang : List (Cut gnu.
 
   -- ---- in front
 
-  reads-compile : (f : List ℕ) → last_flag (kind.DoCompilation ∷ []) os ≡ Some f → Printed (f ∷ []) (plain.flag f kind.DoCompilation ∷ [])
+  reads-compile : (f : List ℕ) → last_flag (of (kind.DoCompilation ∷ [])) os ≡ Some f → Printed (f ∷ []) (plain.flag f kind.DoCompilation ∷ [])
   reads-compile f e =
       let o = last-flag msvc_tables is_clang (of (kind.DoCompilation ∷ [])) ws f e in
       subst (λ x. Printed (x ∷ []) (plain.flag x kind.DoCompilation ∷ [])) o.2
@@ -178,23 +183,20 @@ module _ (is_clang : Bool) (ws : List (List ℕ)) (xclang clang : List (Cut gnu.
 
 -- ---- the command of a reading
 
-command-read : (is_clang : Bool) (directory : List ℕ) (view : Viewed) (words : List (List ℕ)) (p : Parsed) (object : List ℕ) → reading is_clang directory view words ≡ Ok p → object_of p ≡ Some object
-    → CommandIsReadAgain is_clang directory view words p object
+pub command-read : (is_clang : Bool) (directory : List ℕ) (view : Viewed) (words : List (List ℕ)) (p : Parsed) (object : List ℕ) → reading is_clang directory view words ≡ Ok p → object_of p ≡ Some object
+    → IsReadAgain msvc_tables is_clang clang_tables (said_by (msvc_line is_clang directory view words)) (parts p object) (command_words p object)
 command-read is_clang directory view words p object e has_object =
     let r = is-read is_clang directory view words p e in
-    let os = map shown (options_of is_clang directory view words) in
+    let os = map shown (outer_options_of is_clang directory view words) in
     let xclang = inner_options_of kind.XClang directory view os in
     let clang = inner_options_of kind.Clang directory view os in
     let found = object-found directory view os (record { xclang = map shown xclang; clang = map shown clang }) r.tested in
     let both : Some r.tested.object ≡ Some object = sym found ∙ (ap object_of r.is ∙ has_object) in
     let same : r.tested.object ≡ object = cc in
     let words_of = λ (k : Kind). expand expansions.Gnu directory view.files (texts (of (k ∷ [])) os) in
-    subst (λ x. IsReadAgain msvc_tables is_clang clang_tables (msvc.said os xclang clang) (parts p x) (command_words p x)) same
-    (subst (λ q. IsReadAgain msvc_tables is_clang clang_tables (msvc.said os xclang clang) (parts q r.tested.object) (command_words q r.tested.object)) r.is
+    let said = said_by (msvc_line is_clang directory view words) in
+    subst (λ x. IsReadAgain msvc_tables is_clang clang_tables said (parts p x) (command_words p x)) same
+    (subst (λ q. IsReadAgain msvc_tables is_clang clang_tables said (parts q r.tested.object) (command_words q r.tested.object)) r.is
     (record-again is_clang (expand expansions.Msvc directory view.files words) xclang clang
     (record { words = words_of kind.XClang; are = refl; clear = r.xclang_clear }) (record { words = words_of kind.Clang; are = refl; clear = r.clang_clear })
     r.clear directory view r.tested r.has r.unrefused))
-
-pub commands_again : MsvcCommandsAreReadAgain
-commands_again is_clang directory pairs view words all p object all_words e has_object =
-    command-read is_clang directory view all p object (sym (ap (λ w. w >>= reading is_clang directory view) all_words) ∙ e) has_object

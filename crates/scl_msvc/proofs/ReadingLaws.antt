@@ -1,11 +1,11 @@
 -- What an outcome Ok says of the options of a command line.
-use Rattle.std.proofs.Common.{◌≡◌, ℕ, Bool, true, false, not, ◌&&◌, List, [], ◌∷◌, map, Option, None, Some, Ok, refl, sym, ap, ◌∙◌}
+use Rattle.std.proofs.Common.{◌≡◌, ℕ, Bool, true, false, not, ◌&&◌, List, [], ◌∷◌, ◌++◌, map, Option, None, Some, Ok, refl, sym, ap, ◌∙◌}
 use Rattle.std.specs.Option.{option_and_then}
 use Rattle.std.specs.Prelude.{codes, ok_or}
 use Rattle.scl_values.specs.Cuts.{cut, is_dangling}
 use Rattle.scl_values.specs.Each.{Each}
 use Rattle.scl_args.specs.Empties.{refusing_empty}
-use Rattle.scl_args.specs.Options.{texts}
+use Rattle.scl_args.specs.Options.{last_flag, last_text, texts}
 use Rattle.scl_values.specs.Seen.{Seen, Raw, Unknown, Known, shown}
 use Rattle.scl_values.specs.Tables.{owner_in}
 use Rattle.scl_again.specs.Origins.{IsClear}
@@ -18,7 +18,7 @@ use Rattle.scl_text.specs.declared.language.Language.TheVariants as languages
 use Rattle.scl_text.specs.Commands.{object_of}
 use Rattle.scl_files.specs.Expand.{expand}
 use Rattle.scl_text.specs.JudgedWords.{judged_words}
-use Rattle.scl_text.specs.Outputs.{path_at}
+use Rattle.scl_text.specs.Outputs.{output_at, path_at}
 use Rattle.scl_text.specs.Reasons.{empty_value, argument_parse, invalid_input_file, unknown_source_language}
 use Rattle.scl_text.specs.Records.{Parsed, Verdict, NotCompilation}
 use Rattle.scl_text.specs.Refusals.{the_input}
@@ -30,10 +30,10 @@ use Rattle.scl_msvc_reading.specs.declared.msvc.data.Kind.TheVariants as kind
 use Rattle.scl_msvc_reading.specs.FixedTests as tests
 use Rattle.scl_msvc_reading.specs.FixedTests.{Found, found, input_unless, language_of, module_verdict, program_database}
 use Rattle.scl_msvc_reading.specs.Inners.{BothInner, inner_verdict}
-use Rattle.scl_msvc_reading.specs.Kinds.{of, any, is_input, last_flag, last_text, language_said, explicit_language, language_inputs}
-use Rattle.scl_msvc.specs.ReadAgain.{options_of, inner_options_of}
+use Rattle.scl_msvc_reading.specs.Kinds.{of, any, is_input, language_said, explicit_language, language_inputs}
+use Rattle.scl_msvc.specs.ReadAgain.{outer_options_of, inner_options_of}
 use Rattle.scl_msvc_reading.specs.Readings.{inner_options, both_inner, read, reading, recorded}
-use Rattle.scl_msvc_reading.specs.Recordings.{record_of, outputs, output_paths}
+use Rattle.scl_msvc_reading.specs.Recordings.{record_of, library_file}
 use Rattle.scl_msvc_reading.specs.Rows.{msvc_tables}
 use Rattle.scl_msvc_reading.specs.Verdicts.{verdict}
 
@@ -79,7 +79,7 @@ from-flag false (Some k) input l m c s e = e
 -- ---- what the tests found
 
 pub record HasFound (os : List (Seen Kind)) (f : Found) : Type 0 where
-  pub flag_is : last_flag (kind.DoCompilation ∷ []) os ≡ Some f.compile_flag
+  pub flag_is : last_flag (of (kind.DoCompilation ∷ [])) os ≡ Some f.compile_flag
   pub input_is : texts is_input os ≡ f.input ∷ []
   pub language_is : any language_inputs os ≡ true → explicit_language os ≡ Some f.language
 
@@ -88,16 +88,16 @@ has-found is_clang os f e =
     let compiled = any (kind.ClangLanguage ∷ []) os in
     let named = any (kind.ClangModuleOutput ∷ []) os in
     let says = any language_inputs os in
-    let a = bind-ok (ok_or (last_flag (kind.DoCompilation ∷ []) os) NotCompilation) _ f e in
+    let a = bind-ok (ok_or (last_flag (of (kind.DoCompilation ∷ [])) os) NotCompilation) _ f e in
     let b = bind-ok (input_unless (module_verdict compiled named says) (texts is_input os)) _ f a.2 in
     let c = bind-ok (ok_or (language_of compiled (explicit_language os) b.0) unknown_source_language) _ f b.2 in
-    let d = bind-ok (ok_or (tests.object_of (last_text (kind.Output ∷ []) os) b.0) invalid_input_file) _ f c.2 in
-    let g = bind-ok (program_database (not is_clang && any (kind.DebugInfo ∷ []) os) (last_text (kind.ProgramDatabase ∷ []) os)) _ f d.2 in
+    let d = bind-ok (ok_or (tests.object_of (last_text (of (kind.Output ∷ [])) os) b.0) invalid_input_file) _ f c.2 in
+    let g = bind-ok (program_database (not is_clang && any (kind.DebugInfo ∷ []) os) (last_text (of (kind.ProgramDatabase ∷ [])) os)) _ f d.2 in
     let made : Found = record { compile_flag = a.0; input = b.0; language = c.0; object = d.0; program_database = g.0 } in
     let is : made ≡ f = cc (g.2) in
     let i = input-is (module_verdict compiled named says) (texts is_input os) b.0 b.1 in
     record {
-      flag_is = ok_or-ok (last_flag (kind.DoCompilation ∷ []) os) NotCompilation a.0 a.1 ∙ ap (λ x. Some x.compile_flag) is;
+      flag_is = ok_or-ok (last_flag (of (kind.DoCompilation ∷ [])) os) NotCompilation a.0 a.1 ∙ ap (λ x. Some x.compile_flag) is;
       input_is = i.1 ∙ ap (λ x. x.input ∷ []) is;
       language_is = λ yes.
           let said = explicit-said os yes in
@@ -109,7 +109,7 @@ has-found is_clang os f e =
 
 module _ (is_clang : Bool) (directory : List ℕ) (view : Viewed) (words : List (List ℕ)) (p : Parsed) where
   abbrev os : List (Seen Kind)
-  os = map shown (options_of is_clang directory view words)
+  os = map shown (outer_options_of is_clang directory view words)
 
   abbrev pub inner : BothInner
   inner = record { xclang = map shown (inner_options_of kind.XClang directory view os); clang = map shown (inner_options_of kind.Clang directory view os) }
@@ -118,7 +118,7 @@ module _ (is_clang : Bool) (directory : List ℕ) (view : Viewed) (words : List 
     pub tested : Found
     pub has : HasFound os tested
     pub unrefused : Each (λ o. verdict is_clang [] o ≡ None) os
-    pub clear : Each IsClear (options_of is_clang directory view words)
+    pub clear : Each IsClear (outer_options_of is_clang directory view words)
     pub xclang_clear : Each IsClear (inner_options_of kind.XClang directory view os)
     pub clang_clear : Each IsClear (inner_options_of kind.Clang directory view os)
     pub is : record_of directory view os inner tested ≡ p
@@ -168,7 +168,11 @@ module _ (is_clang : Bool) (directory : List ℕ) (view : Viewed) (words : List 
 
 -- ---- the object of a record
 
+object-put : (module_path : Option (List ℕ)) (object : List ℕ) (database header source : Option (List ℕ)) →
+    path_at (output_at (codes "module") false module_path ++ output_at (codes "obj") false (Some object) ++ output_at (codes "pdb") false database ++ output_at (codes "tlh") true header ++ output_at (codes "tli") true source) (codes "obj") ≡ Some object
+object-put None object database header source = refl
+object-put (Some path) object database header source = refl
+
 pub object-found : (directory : List ℕ) (view : Viewed) (os : List (Seen Kind)) (inside : BothInner) (f : Found) → object_of (record_of directory view os inside f) ≡ Some f.object
 object-found directory view os inside f =
-    let paths = output_paths os f in
-    elim (paths.module_path) as (λ (m : Option (List ℕ)). path_at (outputs (record paths { module_path = m })) (codes "obj") ≡ Some f.object) [ None ↦ refl | Some path ↦ refl ]
+    object-put (last_text (of (kind.ClangModuleOutput ∷ [])) os) f.object f.program_database (library_file f (codes "tlh")) (library_file f (codes "tli"))

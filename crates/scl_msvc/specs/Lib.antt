@@ -1,6 +1,6 @@
 pub mod Building
 pub mod Depfile
-pub mod NoFiles
+pub mod Environment
 pub mod Preprocess
 pub mod Promises
 pub mod ReadAgain

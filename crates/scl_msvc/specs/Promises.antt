@@ -4,31 +4,39 @@ use Rattle.scl_values.specs.Cuts.{Cut}
 use Rattle.scl_values.specs.Seen.{shown}
 use Rattle.scl_again.specs.Promises.{HandedOn, Line, HasNoEmpty, IsFaithful}
 use Rattle.scl_text.specs.Commands.{object_of}
+use Rattle.scl_text.specs.Compilers.{IfCommand}
 use Rattle.scl_text.specs.Records.{Parsed}
 use Rattle.scl_files.specs.Views.{Viewed}
 use Rattle.scl_gnu_reading.specs.declared.gcc.data.Kind as gnu
 use Rattle.scl_gnu_reading.specs.ClangRows.{clang_tables}
 use Rattle.scl_msvc_reading.specs.declared.msvc.data.Kind.{Kind}
 use Rattle.scl_msvc_reading.specs.declared.msvc.data.Kind.TheVariants as kind
-use Rattle.scl_msvc_reading.specs.Environment.{surrounded}
-use Rattle.scl_msvc.specs.ReadAgain.{parts, options_of, inner_options_of, HasOneInput}
-use Rattle.scl_msvc_reading.specs.Readings.{reading_within}
+use Rattle.scl_msvc.specs.Building.{command}
+use Rattle.scl_msvc.specs.ReadAgain.{parts, outer_options_of, inner_options_of, HasOneInput}
+use Rattle.scl_msvc.specs.Environment.{surrounded, surrounded_reading}
 use Rattle.scl_msvc_reading.specs.Rows.{msvc_tables}
 
--- what these options hand on by a flag of this kind
-abbrev pub handed_by : List ℕ → Kind → List ℕ → Viewed → List (Cut Kind) → HandedOn Kind gnu.Kind
-handed_by flag k directory view options = record { flag = flag; kind = k; options = inner_options_of k directory view (map shown options) }
+-- words that are handed on behind `-Xclang` and `-clang:`, and are cut into these
+abbrev pub handed_on : (xclang clang : List (Cut gnu.Kind)) → List (HandedOn Kind gnu.Kind)
+handed_on xclang clang = record { flag = codes "-Xclang"; kind = kind.XClang; options = xclang } ∷ record { flag = codes "-clang:"; kind = kind.Clang; options = clang } ∷ []
 
 -- what words are cut into, and what they hand on behind `-Xclang` and `-clang:`
 abbrev pub msvc_line : Bool → List ℕ → Viewed → List (List ℕ) → Line Kind gnu.Kind
 msvc_line is_clang directory view words =
-    let options = options_of is_clang directory view words in
-    record { options = options; handed_on = handed_by (codes "-Xclang") kind.XClang directory view options ∷ handed_by (codes "-clang:") kind.Clang directory view options ∷ [] }
+    let options = outer_options_of is_clang directory view words in
+    let os = map shown options in
+    record { options = options; handed_on = handed_on (inner_options_of kind.XClang directory view os) (inner_options_of kind.Clang directory view os) }
 
 -- what it is for the words of the command of a record, which these words have between those of the environment, to be read again, to have one input and to name no response file of their own
 abbrev pub MsvcReadsAgain : Bool → List ℕ → List (List ℕ × List ℕ) → Viewed → List (List ℕ) → Parsed → List (List ℕ) → Type 0
 MsvcReadsAgain is_clang directory pairs view words p command = IfSome (object_of p) (λ object. IfOk (surrounded pairs words) (λ all.
     IsFaithful msvc_tables is_clang clang_tables (msvc_line is_clang directory view all) (parts p object) object command × HasOneInput is_clang p command))
+
+-- where words have a record, its command is read again, has one input, and names no response file of its own
+abbrev pub MsvcCommandsAreReadAgain : Type 0
+MsvcCommandsAreReadAgain =
+    (is_clang : Bool) (directory : List ℕ) (pairs : List (List ℕ × List ℕ)) (view : Viewed) (words : List (List ℕ)) →
+    IfCommand command (MsvcReadsAgain is_clang directory pairs view words) (surrounded_reading is_clang directory pairs view words)
 
 -- ---- records
 
@@ -36,10 +44,10 @@ MsvcReadsAgain is_clang directory pairs view words p command = IfSome (object_of
 abbrev pub MsvcRecordsHaveObjects : Type 0
 MsvcRecordsHaveObjects =
     (is_clang : Bool) (directory : List ℕ) (pairs : List (List ℕ × List ℕ)) (view : Viewed) (words : List (List ℕ)) (p : Parsed) →
-    reading_within is_clang directory pairs view words ≡ Ok p → is_some (object_of p) ≡ true
+    surrounded_reading is_clang directory pairs view words ≡ Ok p → is_some (object_of p) ≡ true
 
 -- where words, which with those of the environment are all these, have a record, no option of an either row has an empty value in their line
 abbrev pub MsvcLinesHaveNoEmpty : Type 0
 MsvcLinesHaveNoEmpty =
     (is_clang : Bool) (directory : List ℕ) (pairs : List (List ℕ × List ℕ)) (view : Viewed) (words all : List (List ℕ)) (p : Parsed) →
-    surrounded pairs words ≡ Ok all → reading_within is_clang directory pairs view words ≡ Ok p → HasNoEmpty (msvc_line is_clang directory view all)
+    surrounded pairs words ≡ Ok all → surrounded_reading is_clang directory pairs view words ≡ Ok p → HasNoEmpty (msvc_line is_clang directory view all)

@@ -10,7 +10,7 @@ use Rattle.scl_text.specs.Records.{Verdict}
 use Rattle.scl_files.specs.Views.{Viewed}
 use Rattle.scl_msvc_reading.specs.declared.msvc.data.Kind.{Kind}
 use Rattle.scl_msvc_reading.specs.declared.msvc.data.Kind.TheVariants as kind
-use Rattle.scl_msvc_reading.specs.Environment.{surrounded}
+use Rattle.scl_msvc.specs.Environment.{surrounded}
 use Rattle.scl_msvc_reading.specs.Kinds.{of}
 use Rattle.scl_msvc_reading.specs.Rows.{msvc_tables}
 
@@ -30,9 +30,9 @@ abbrev pub command_lines_of : Bool → List ℕ → Viewed → List (List ℕ) �
 command_lines_of is_clang directory view all = all ∷ inner_lines directory view (options_cut is_clang all)
 
 -- the words of each command line that is read; none where the environment is broken
-abbrev pub command_lines_within : Bool → List ℕ → Viewed → Result (List (List ℕ)) Verdict → List (List (List ℕ))
-command_lines_within is_clang directory view (Ok words) = command_lines_of is_clang directory view (expand expansions.Msvc directory view.files words)
-command_lines_within is_clang directory view (Err broken) = []
+abbrev pub surrounded_lines : Bool → List ℕ → Viewed → Result (List (List ℕ)) Verdict → List (List (List ℕ))
+surrounded_lines is_clang directory view (Ok words) = command_lines_of is_clang directory view (expand expansions.Msvc directory view.files words)
+surrounded_lines is_clang directory view (Err broken) = []
 
 abbrev pub command_lines : Bool → List ℕ → List (List ℕ × List ℕ) → Viewed → List (List ℕ) → List (List (List ℕ))
-command_lines is_clang directory pairs view words = command_lines_within is_clang directory view (surrounded pairs words)
+command_lines is_clang directory pairs view words = surrounded_lines is_clang directory view (surrounded pairs words)

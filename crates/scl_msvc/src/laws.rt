@@ -1,7 +1,5 @@
 //! What follows for the commands of Msvc: each law is a clause of a function that does nothing.
-ghost use Rattle.scl_msvc.specs.NoFiles.{MsvcCommandsNameNoFile};
-ghost use Rattle.scl_msvc.specs.Promises.{MsvcRecordsHaveObjects, MsvcLinesHaveNoEmpty};
-ghost use Rattle.scl_msvc.specs.ReadAgain.{MsvcCommandsAreReadAgain, MsvcCommandsHaveOneInput};
+ghost use Rattle.scl_msvc.specs.Promises.{MsvcCommandsAreReadAgain, MsvcLinesHaveNoEmpty, MsvcRecordsHaveObjects};
 
 pub use scl_msvc_reading::laws::of_tables;
 
@@ -15,17 +13,13 @@ pub fn of_records()
     ensures has_no_empty { MsvcLinesHaveNoEmpty }
 {}
 
-/// Laws of the commands of records of Msvc (docs/RULES.md, Cutting again, and Words that name response files):
+/// The law of the commands of records of Msvc (docs/RULES.md, Cutting again, and Words that name response files):
 ///
-/// - `are_read_again`: a command, cut again by Msvc's tables, gives its own words and the carried options, with unchanged
-///   values, and the input; and the words behind `-Xclang`, and those behind `-clang:`, cut again, give the inner options,
-///   list by list;
-/// - `have_one_input`: a command, cut again by Msvc's tables, has one input, the record's, raw or as the value of the flag of
-///   its language;
-/// - `name_no_file`: no word of a command begins with `@`, where no option's value, no input, no unknown flag, outer or
-///   inner, and not the object does.
+/// - a command, cut again by Msvc's tables, gives its own words and the carried options, with unchanged values, and the
+///   input; and the words behind `-Xclang`, and those behind `-clang:`, cut again, give the inner options, list by list;
+/// - it has one input, the record's, raw or as the value of the flag of its language;
+/// - no word of it begins with `@`, where no option's value, no input, no unknown flag, outer or inner, and not the object
+///   does.
 pub fn of_commands()
     ensures are_read_again { MsvcCommandsAreReadAgain }
-    ensures have_one_input { MsvcCommandsHaveOneInput }
-    ensures name_no_file { MsvcCommandsNameNoFile }
 {}

@@ -3,7 +3,7 @@ use Rattle.std.specs.Prelude.{ℕ, Bool, true, false, not, ◌&&◌, ◌||◌, L
 use Rattle.std.specs.List.{ends_with}
 use Rattle.std.specs.Option.{option_map, option_or}
 use Rattle.std.specs.Bool.{then_some}
-use Rattle.scl_args.specs.Options.{texts, unless, ◌>>=◌}
+use Rattle.scl_args.specs.Options.{last_flag, last_text, texts, unless, ◌>>=◌}
 use Rattle.scl_values.specs.Seen.{Seen}
 use Rattle.scl_files.specs.Characters.{slash, backslash}
 use Rattle.scl_text.specs.declared.language.Language.{Language}
@@ -15,7 +15,7 @@ use Rattle.scl_text.specs.Records.{Verdict, CannotCache, NotCompilation}
 use Rattle.scl_text.specs.Refusals.{the_input}
 use Rattle.scl_msvc_reading.specs.declared.msvc.data.Kind.{Kind}
 use Rattle.scl_msvc_reading.specs.declared.msvc.data.Kind.TheVariants as kind
-use Rattle.scl_msvc_reading.specs.Kinds.{is_input, last_text, last_flag, any, explicit_language, language_inputs}
+use Rattle.scl_msvc_reading.specs.Kinds.{of, is_input, any, explicit_language, language_inputs}
 
 -- what the tests find
 pub record Found : Type 0 where
@@ -78,9 +78,9 @@ program_database true (Some path) = if names_folder path then Err shared_databas
 
 abbrev pub found : Bool → List (Seen Kind) → Result Found Verdict
 found is_clang os = do
-  flag ← ok_or (last_flag (kind.DoCompilation ∷ []) os) NotCompilation
+  flag ← ok_or (last_flag (of (kind.DoCompilation ∷ [])) os) NotCompilation
   input ← input_unless (module_verdict (any (kind.ClangLanguage ∷ []) os) (any (kind.ClangModuleOutput ∷ []) os) (any language_inputs os)) (texts is_input os)
   language ← ok_or (language_of (any (kind.ClangLanguage ∷ []) os) (explicit_language os) input) unknown_source_language
-  object ← ok_or (object_of (last_text (kind.Output ∷ []) os) input) invalid_input_file
-  database ← program_database (not is_clang && any (kind.DebugInfo ∷ []) os) (last_text (kind.ProgramDatabase ∷ []) os)
+  object ← ok_or (object_of (last_text (of (kind.Output ∷ [])) os) input) invalid_input_file
+  database ← program_database (not is_clang && any (kind.DebugInfo ∷ []) os) (last_text (of (kind.ProgramDatabase ∷ [])) os)
   Ok (record { compile_flag = flag; input = input; language = language; object = object; program_database = database })

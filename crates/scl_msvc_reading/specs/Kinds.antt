@@ -1,9 +1,9 @@
--- What the kinds of options mean, and what the last of some options says.
-use Rattle.std.specs.Prelude.{ℕ, Bool, not, ◌&&◌, ◌||◌, List, [], ◌∷◌, Option, None, Some}
+-- What the kinds of options mean, and what some of them say of the input.
+use Rattle.std.specs.Prelude.{Bool, not, ◌&&◌, ◌||◌, List, [], ◌∷◌, Option, None, Some}
 use Rattle.std.specs.List.{list_any}
-use Rattle.std.specs.Option.{option_map, option_and_then}
+use Rattle.std.specs.Option.{option_and_then}
 use Rattle.scl_args.specs.Options.{is_raw, is_dashes, of_kinds, last_by}
-use Rattle.scl_values.specs.Seen.{Seen, Raw, Unknown, Known, flag_of, text_of}
+use Rattle.scl_values.specs.Seen.{Seen, Raw, Unknown, Known}
 use Rattle.scl_text.specs.declared.language.Language.{Language}
 use Rattle.scl_text.specs.declared.language.Language.TheVariants as languages
 use Rattle.scl_gnu_reading.specs.declared.gcc.hash_files.HashRole.{HashRole}
@@ -41,13 +41,7 @@ hash_role kind.ExtraHashFile = Some roles.File
 hash_role kind.ClangModuleFile = Some roles.Module
 hash_role _ = None
 
--- ---- what the last of some options says
-
-abbrev pub last_text : List Kind → List (Seen Kind) → Option (List ℕ)
-last_text kinds os = option_map text_of (last_by (of kinds) os)
-
-abbrev pub last_flag : List Kind → List (Seen Kind) → Option (List ℕ)
-last_flag kinds os = option_map flag_of (last_by (of kinds) os)
+-- ---- all options
 
 -- whether such an option stands
 abbrev pub any : List Kind → List (Seen Kind) → Bool

@@ -1,6 +1,5 @@
 pub mod Again
 pub mod Data
-pub mod Environment
 pub mod FixedTests
 pub mod FoundBy
 pub mod InnerBy

@@ -11,7 +11,6 @@ use Rattle.scl_gnu_reading.specs.declared.gcc.data.Kind as gnu
 use Rattle.scl_gnu_reading.specs.Inners.{inner_reading}
 use Rattle.scl_msvc_reading.specs.declared.msvc.data.Kind.{Kind}
 use Rattle.scl_msvc_reading.specs.declared.msvc.data.Kind.TheVariants as kind
-use Rattle.scl_msvc_reading.specs.Environment.{surrounded}
 use Rattle.scl_msvc_reading.specs.FixedTests.{found}
 use Rattle.scl_msvc_reading.specs.Inners.{BothInner, inner_verdict}
 use Rattle.scl_msvc_reading.specs.Kinds.{of}
@@ -47,9 +46,3 @@ abbrev pub reading : Bool → List ℕ → Viewed → List (List ℕ) → Result
 reading is_clang directory view words = do
   os ← judged_words expansions.Msvc empty_value (verdict is_clang) argument_parse msvc_tables is_clang directory view words
   read is_clang directory view os
-
--- the words between those of the two variables of the environment
-abbrev pub reading_within : Bool → List ℕ → List (List ℕ × List ℕ) → Viewed → List (List ℕ) → Result Parsed Verdict
-reading_within is_clang directory pairs view words = do
-  all ← surrounded pairs words
-  reading is_clang directory view all

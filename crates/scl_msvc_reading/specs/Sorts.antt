@@ -6,7 +6,6 @@ use Rattle.scl_values.specs.Seen.{Seen, Raw, Unknown, Known}
 use Rattle.scl_args.specs.Sorts.{sort_of, sort_of_kinds}
 use Rattle.scl_msvc_reading.specs.contracts.msvc.data.KindPartialEq.TheImpl as kinds
 use Rattle.scl_msvc_reading.specs.declared.msvc.data.Kind.{Kind}
-use Rattle.scl_msvc_reading.specs.declared.msvc.data.Kind.TheVariants as kind
 use Rattle.scl_msvc_reading.specs.Kinds.{is_input, language_inputs}
 
 abbrev pub may_be_input : Sort Kind → Bool

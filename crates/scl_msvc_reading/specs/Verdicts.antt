@@ -29,8 +29,12 @@ value_verdict is_clang flag kind.ClangModuleOutput value = then_some (is_empty v
 value_verdict is_clang flag kind.ClangLanguage value = then_some (not is_clang || not (bytes_eq value (codes "c++-module"))) (CannotCache flag)
 value_verdict is_clang flag _ value = None
 
+-- what an option with this flag and value says: what its kind does, else what its value does
+abbrev pub known_verdict : Bool → List ℕ → Kind → List ℕ → Option Verdict
+known_verdict is_clang flag k value = option_or (flag_verdict (place k) flag) (value_verdict is_clang flag k value)
+
 -- what an option says, whatever stands before it
 abbrev pub verdict : Bool → List (Seen Kind) → Seen Kind → Option Verdict
 verdict is_clang before (Raw w) = None
 verdict is_clang before (Unknown w) = None
-verdict is_clang before (Known f k v how) = option_or (flag_verdict (place k) f) (value_verdict is_clang f k v)
+verdict is_clang before (Known f k v how) = known_verdict is_clang f k v

@@ -15,16 +15,16 @@ ghost use Rattle.scl_msvc_reading.specs.Rows.{msvc_tables};
 /// - `own_flags_join_safely`: the rows with the flags of own words, and of words that are handed on, pass both checks as if
 ///   each were printed joined: no other row has such a flag, and no flag goes on from one;
 /// - `clang_tables_pass_both_checks_inside`: Clang's pass both for the kinds of inner options that Msvc's lists carry;
-/// - `xclang_alone_hands_words_on`, `clang_alone_hands_words_on`: no list carries an outer option with the flag `-Xclang`,
-///   nor one with `-clang:`;
+/// - `no_list_carries_xclang`, `no_list_carries_clang`: no list carries an outer option with the flag `-Xclang`, nor one with
+///   `-clang:`;
 /// - `carried_flags_name_no_file`, `carried_inner_flags_name_no_file`: no flag of Msvc's tables begins with `@`, where lists
 ///   carry the options of its row, nor one of Clang's that inner lists carry.
 pub fn of_tables()
     ensures msvc_tables_pass_both_checks { PassChecks msvc_tables carried side_of_flag }
     ensures own_flags_join_safely { JoinSafely msvc_tables (codes "-Fo" ∷ codes "-Tc" ∷ codes "-Tp" ∷ codes "-clang:" ∷ []) }
     ensures clang_tables_pass_both_checks_inside { PassChecks clang_tables carried_inner listed.side_of_flag }
-    ensures xclang_alone_hands_words_on { has_no_kept carried (codes "-Xclang") (all_rows msvc_tables) ≡ true }
-    ensures clang_alone_hands_words_on { has_no_kept carried (codes "-clang:") (all_rows msvc_tables) ≡ true }
+    ensures no_list_carries_xclang { has_no_kept carried (codes "-Xclang") (all_rows msvc_tables) ≡ true }
+    ensures no_list_carries_clang { has_no_kept carried (codes "-clang:") (all_rows msvc_tables) ≡ true }
     ensures carried_flags_name_no_file { has_plain_flags carried (all_rows msvc_tables) ≡ true }
     ensures carried_inner_flags_name_no_file { has_plain_flags carried_inner (all_rows clang_tables) ≡ true }
 {}

@@ -4,7 +4,7 @@ ghost use Rattle.scl_text.specs.Commands.{pairs_of, object_of};
 ghost use Rattle.scl_text.specs.Compilers.{IsAnswer};
 ghost use Rattle.scl_text.specs.Records.{parsed_of};
 ghost use Rattle.scl_msvc.specs.Building.{command, cacheable};
-ghost use Rattle.scl_msvc_reading.specs.Environment.{without_cl_env_vars};
+ghost use Rattle.scl_msvc.specs.Environment.{without_cl_env_vars};
 
 use super::environment::without_cl_env_vars;
 use super::words::{push_input, push_lists};

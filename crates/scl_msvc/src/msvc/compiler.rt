@@ -3,7 +3,7 @@ ghost use Rattle.std.specs.Prelude.{◌≡◌, IfOk, None};
 ghost use Rattle.scl_values.specs.Words.{words_of};
 ghost use Rattle.scl_text.specs.Commands.{pairs_of};
 ghost use Rattle.scl_text.specs.Records.{outcome_of};
-ghost use Rattle.scl_msvc_reading.specs.Readings.{reading_within};
+ghost use Rattle.scl_msvc.specs.Environment.{surrounded_reading};
 
 use super::command::generate_compile_commands;
 use super::environment::{gives_words, surrounded};
@@ -48,7 +48,7 @@ impl Msvc {
 
 /// What the words say between those that the environment gives.
 #[tactic(auto, using(crate::proofs::EnvironmentLemmas::surrounded_by_none))]
-fn parse_within(
+fn parse_surrounded(
     alloc: Global,
     arguments: &[Vec<u8>],
     cwd: &[u8],
@@ -56,7 +56,7 @@ fn parse_within(
     is_clang: bool,
     view: &View,
 ) -> Mem<CompilerArguments<ParsedArguments>>
-    ensures { IfOk result (λ answer. outcome_of answer ≡ reading_within is_clang cwd.now (pairs_of env_vars.now) view.now (words_of arguments.now)) }
+    ensures { IfOk result (λ answer. outcome_of answer ≡ surrounded_reading is_clang cwd.now (pairs_of env_vars.now) view.now (words_of arguments.now)) }
 {
     if !gives_words(env_vars) {
         return parse_arguments(alloc, arguments, cwd, is_clang, view);
@@ -73,10 +73,10 @@ impl CCompilerImpl for Msvc {
     ghost use Rattle.std.specs.String.{string_bytes};
     ghost use Rattle.scl_text.specs.declared.records.CCompilerKind.TheVariants as compilers;
     ghost use Rattle.scl_msvc.specs.Building.{command_words, cacheable};
-    ghost use Rattle.scl_msvc_reading.specs.Environment.{without_cl_env_vars};
+    ghost use Rattle.scl_msvc.specs.Environment.{without_cl_env_vars};
     ghost use Rattle.scl_msvc.specs.Preprocess.{passes};
     ghost use Rattle.scl_msvc.specs.Promises.{MsvcReadsAgain};
-    ghost use Rattle.scl_msvc_reading.specs.Readings.{reading_within};
+    ghost use Rattle.scl_msvc.specs.Environment.{surrounded_reading};
 
     ghost kind_of = { λ _. compilers.Msvc };
 
@@ -86,7 +86,7 @@ impl CCompilerImpl for Msvc {
 
     ghost digest_of = { λ _. None };
 
-    ghost reading = { λ msvc words directory env_vars view. reading_within msvc.is_clang directory env_vars view words };
+    ghost reading = { λ msvc words directory env_vars view. surrounded_reading msvc.is_clang directory env_vars view words };
 
     ghost command = { λ _. command_words };
 
@@ -118,7 +118,7 @@ impl CCompilerImpl for Msvc {
         env_vars: &[(Vec<u8>, Vec<u8>)],
         view: &View,
     ) -> Mem<CompilerArguments<ParsedArguments>> {
-        parse_within(alloc, arguments, cwd, env_vars, self.is_clang, view)
+        parse_surrounded(alloc, arguments, cwd, env_vars, self.is_clang, view)
     }
 
     fn generate_compile_commands(

@@ -6,7 +6,7 @@ ghost use Rattle.scl_values.specs.Words.{words_of};
 ghost use Rattle.scl_text.specs.Commands.{pairs_of};
 ghost use Rattle.scl_text.specs.Records.{CannotCache};
 ghost use Rattle.scl_text.specs.Refusals.{verdict_of};
-ghost use Rattle.scl_msvc_reading.specs.Environment.{is_variable, without_cl_env_vars, value_of, gives_words, with_equals, words_in, variable_words, surrounded};
+ghost use Rattle.scl_msvc.specs.Environment.{is_variable, without_cl_env_vars, value_of, gives_words, with_equals, words_in, variable_words, surrounded};
 
 use scl_args::Mem;
 use scl_text::command::push_words;

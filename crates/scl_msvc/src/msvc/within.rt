@@ -81,8 +81,9 @@ fn are_all_within(
 
 /// Whether the words of a command line, with those of `CL` and `_CL_`, are at most so many where response files are put in
 /// place, and so are those of each of its inner command lines (docs/RULES.md, Expansion). Where a variable is broken no
-/// words are read. It fails only for want of memory, of which it asks for so many words at most, and for the trees of the
-/// tables and what files and those variables hold; where a variable stands, for the given words too.
+/// words are read. It fails only for want of memory, of which it asks for so many words at most for each command line, an
+/// inner one's as they are handed on besides, and for the options of the first, the trees of the tables and what files and
+/// those variables hold; where a variable stands, for the given words too.
 #[tactic(auto, using(crate::proofs::EnvironmentLemmas::surrounded_by_none))]
 pub fn has_at_most(
     alloc: Global,

@@ -8,62 +8,114 @@ use std::alloc::Global;
 /// What an option of Msvc means, apart from its value (docs/RULES.md, Msvc).
 #[derive(Debug, Clone, Copy, PartialEq, Eq)]
 pub enum Kind {
+    /// A flag that is refused.
     TooHardFlag,
+    /// A word whose flag is refused.
     TooHard,
+    /// A path whose flag is refused, as that of a response file.
     TooHardPath,
+    /// A flag with which nothing is compiled.
     SuppressCompilation,
+    /// A flag that asks for a compilation.
     DoCompilation,
+    /// The path of the object, or its folder.
     Output,
+    /// The path of an input in C.
     CInput,
+    /// The path of an input in C++.
     CxxInput,
+    /// The language of all inputs, which clang-cl alone takes.
     ClangLanguage,
+    /// A module's file, behind its name and `=` or alone, which clang-cl alone takes; it is hashed.
     ClangModuleFile,
+    /// The path of the module that is made.
     ClangModuleOutput,
+    /// The path of a file that is hashed.
     ExtraHashFile,
+    /// A flag with which cl puts debug information into a file of its own.
     DebugInfo,
+    /// The path of the file of debug information.
     ProgramDatabase,
+    /// The path of the dependency file.
     DepFile,
+    /// A flag with which included files are named.
     ShowIncludes,
+    /// A word for the preprocessor.
     PreprocessorArgument,
+    /// A path for the preprocessor.
     PreprocessorArgumentPath,
+    /// The path of a folder of external includes.
     ExternalIncludePath,
+    /// A flag that is handed on as it is.
     PassThrough,
+    /// A path that is handed on as it is.
     PassThroughWithPath,
+    /// A word that is handed on as it is.
     PassThroughWithSuffix,
+    /// A word of the inner command line behind `-Xclang`.
     XClang,
+    /// A word of the inner command line behind `-clang:`.
     Clang,
+    /// A flag that is left out of the command.
     Ignore,
+    /// A word that is left out of the command with its flag.
     IgnoreWithSuffix,
 }
 
 /// What an option of Msvc means, with its value: a path, a word or none (docs/RULES.md, Msvc).
 #[derive(Debug, PartialEq, Eq, Drop)]
 pub enum ArgData {
+    /// A flag that is refused.
     TooHardFlag,
+    /// A word whose flag is refused.
     TooHard(Vec<u8>),
+    /// A path whose flag is refused, as that of a response file.
     TooHardPath(PathArg),
+    /// A flag with which nothing is compiled.
     SuppressCompilation,
+    /// A flag that asks for a compilation.
     DoCompilation,
+    /// The path of the object, or its folder.
     Output(PathArg),
+    /// The path of an input in C.
     CInput(PathArg),
+    /// The path of an input in C++.
     CxxInput(PathArg),
+    /// The language of all inputs, which clang-cl alone takes.
     ClangLanguage(Vec<u8>),
+    /// A module's file, behind its name and `=` or alone, which clang-cl alone takes; it is hashed.
     ClangModuleFile(Vec<u8>),
+    /// The path of the module that is made.
     ClangModuleOutput(Vec<u8>),
+    /// The path of a file that is hashed.
     ExtraHashFile(PathArg),
+    /// A flag with which cl puts debug information into a file of its own.
     DebugInfo,
+    /// The path of the file of debug information.
     ProgramDatabase(PathArg),
+    /// The path of the dependency file.
     DepFile(PathArg),
+    /// A flag with which included files are named.
     ShowIncludes,
+    /// A word for the preprocessor.
     PreprocessorArgument(Vec<u8>),
+    /// A path for the preprocessor.
     PreprocessorArgumentPath(PathArg),
+    /// The path of a folder of external includes.
     ExternalIncludePath(PathArg),
+    /// A flag that is handed on as it is.
     PassThrough,
+    /// A path that is handed on as it is.
     PassThroughWithPath(PathArg),
+    /// A word that is handed on as it is.
     PassThroughWithSuffix(Vec<u8>),
+    /// A word of the inner command line behind `-Xclang`.
     XClang(Vec<u8>),
+    /// A word of the inner command line behind `-clang:`.
     Clang(Vec<u8>),
+    /// A flag that is left out of the command.
     Ignore,
+    /// A word that is left out of the command with its flag.
     IgnoreWithSuffix(Vec<u8>),
 }
 

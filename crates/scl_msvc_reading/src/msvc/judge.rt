@@ -1,12 +1,11 @@
 //! What an option says against caching.
 ghost use Rattle.std.specs.Prelude.{◌≡◌};
-ghost use Rattle.std.specs.Option.{option_map, option_or};
+ghost use Rattle.std.specs.Option.{option_map};
 ghost use Rattle.std.specs.Bool.{then_some};
 ghost use Rattle.scl_text.specs.Records.{CannotCache};
 ghost use Rattle.scl_text.specs.Refusals.{verdict_of};
 ghost use Rattle.scl_msvc_reading.specs.Data.{kind_of, word_of};
-ghost use Rattle.scl_msvc_reading.specs.Places.{place};
-ghost use Rattle.scl_msvc_reading.specs.Verdicts.{flag_verdict, value_verdict};
+ghost use Rattle.scl_msvc_reading.specs.Verdicts.{flag_verdict, known_verdict, value_verdict};
 
 use super::data::ArgData;
 use super::place::{Place, place_of_kind};
@@ -65,8 +64,7 @@ fn judged_value(is_clang: bool, flag: &'static str, value: &ArgData) -> Option<R
 }
 
 fn judged_known(is_clang: bool, flag: &'static str, value: &ArgData) -> Option<Refusal>
-    ensures { option_map verdict_of result
-        ≡ option_or (flag_verdict (place (kind_of value.now)) flag.now) (value_verdict is_clang flag.now (kind_of value.now) (word_of value.now)) }
+    ensures { option_map verdict_of result ≡ known_verdict is_clang flag.now (kind_of value.now) (word_of value.now) }
 {
     match judged_flag(place_of_kind(value.kind()), flag) {
         Some(refusal) => Some(refusal),

@@ -53,9 +53,11 @@ fn read(
     }
 }
 
-/// What a command line of cl, or of clang-cl, says: the record; or the first verdict in option order, that of a last flag
-/// without its value, the same of the inner options, or that of the tests after them (docs/RULES.md, Msvc). Paths and
-/// words are bytes; the directory and the view answer what is asked of files. The error is the refusal of memory.
+/// What a command line of cl, or of clang-cl, says: the record; or the first refusal in option order, on each option first
+/// that of an empty value; else that of a last flag without its value; else the same of the inner options, those behind
+/// `-Xclang` before those behind `-clang:`; else that of the fixed tests, the first of which is `NotCompilation`
+/// (docs/RULES.md, Msvc). Paths and words are bytes; the directory and the view answer what is asked of files. The error is
+/// the refusal of memory.
 pub fn parse_arguments(
     alloc: Global,
     arguments: &[Vec<u8>],

@@ -11,12 +11,12 @@ use super::fixed_tests::Finding;
 use super::hash_files::hash_paths;
 use super::inner::{InnerOptions, push_inner};
 use super::inputs::{Inputs, has_explicit_language};
-use super::outputs::output_files;
+use super::outputs::outputs_of;
 use super::place::{ExternalIncludesApart, Place};
 use scl_args::{Mem, OfKinds, Options};
 use scl_gnu_reading::gcc;
 use scl_text::outputs::copied_path;
-use scl_text::records::{ColorMode, ParsedArguments};
+use scl_text::records::ParsedArguments;
 use scl_text::view::View;
 use std::alloc::Global;
 
@@ -62,28 +62,21 @@ pub(crate) fn record_of(
 ) -> Mem<ParsedArguments>
     ensures { IfOk result (λ parsed. parsed_of parsed ≡ record_of cwd.now view.now options (inner_of inner.now) (found_of found)) }
 {
-    let outputs = output_files(alloc, &options, &found)?.into_outputs(alloc)?;
+    let outputs = outputs_of(alloc, &options, &found)?;
     let depfile = options.last_text(&OfKinds(&[Kind::DepFile]));
+    let flag = Vec::from_slice(alloc, found.compile_flag.as_bytes())?;
     Ok(ParsedArguments {
-        input: found.input,
         double_dash_input: options.is_behind_dashes(&Inputs),
-        language: found.language,
-        compilation_flag: Vec::from_slice(alloc, found.compile_flag.as_bytes())?,
         depfile: copied_path(alloc, depfile)?,
         outputs,
         dependency_args: all_words_at(alloc, &options, inner, Place::Dependency)?,
         preprocessor_args: all_words_at(alloc, &options, inner, Place::Preprocessor)?,
-        arch_args: Vec::new(alloc),
         unhashed_args: all_words_at(alloc, &options, inner, Place::Unhashed)?,
-        extra_dist_files: Vec::new(alloc),
         extra_hash_files: hash_paths(alloc, &options, inner, cwd, view)?,
-        uses_external_assembler: false,
         msvc_show_includes: options.any(&OfKinds(&[Kind::ShowIncludes])),
         msvc_explicit_language: has_explicit_language(&options),
         profile_generate: writes_profile(inner),
-        color_mode: ColorMode::Auto,
-        suppress_rewrite_includes_only: false,
-        too_hard_for_preprocessor_cache_mode: None,
         common_args: common_words(alloc, options, inner)?,
+        ..ParsedArguments::bare(alloc, found.input, found.language, flag)
     })
 }

@@ -10,11 +10,11 @@ returns-clause-own_flags_join_safely c = own_joins
 pub returns-clause-clang_tables_pass_both_checks_inside : goal.returns-clause-clang_tables_pass_both_checks_inside
 returns-clause-clang_tables_pass_both_checks_inside c = inner_passes
 
-pub returns-clause-xclang_alone_hands_words_on : goal.returns-clause-xclang_alone_hands_words_on
-returns-clause-xclang_alone_hands_words_on c = xclang_alone
+pub returns-clause-no_list_carries_xclang : goal.returns-clause-no_list_carries_xclang
+returns-clause-no_list_carries_xclang c = xclang_alone
 
-pub returns-clause-clang_alone_hands_words_on : goal.returns-clause-clang_alone_hands_words_on
-returns-clause-clang_alone_hands_words_on c = clang_alone
+pub returns-clause-no_list_carries_clang : goal.returns-clause-no_list_carries_clang
+returns-clause-no_list_carries_clang c = clang_alone
 
 pub returns-clause-carried_flags_name_no_file : goal.returns-clause-carried_flags_name_no_file
 returns-clause-carried_flags_name_no_file c = carried_plain

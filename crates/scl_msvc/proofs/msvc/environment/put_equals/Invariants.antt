@@ -1,5 +1,5 @@
 use Rattle.std.proofs.Common.{◌≡◌, ◌++◌, take, drop}
-use Rattle.scl_msvc_reading.specs.Environment.{with_equals}
+use Rattle.scl_msvc.specs.Environment.{with_equals}
 use Rattle.scl_msvc.proofs.msvc.environment.put_equals.Given as goal
 
 abbrev pub invariant-loop-byte : goal.invariant-loop-byte

@@ -1,6 +1,6 @@
 use Rattle.std.proofs.Common.{◌≡◌, drop}
 use Rattle.scl_text.specs.Commands.{pairs_of}
-use Rattle.scl_msvc_reading.specs.Environment.{value_of}
+use Rattle.scl_msvc.specs.Environment.{value_of}
 use Rattle.scl_msvc.proofs.msvc.environment.value_of.Given as goal
 
 abbrev pub invariant-loop-name : goal.invariant-loop-name

@@ -1,6 +1,6 @@
 use Rattle.std.proofs.Common.{◌≡◌, ◌++◌, drop}
 use Rattle.scl_text.specs.Commands.{pairs_of}
-use Rattle.scl_msvc_reading.specs.Environment.{without_cl_env_vars}
+use Rattle.scl_msvc.specs.Environment.{without_cl_env_vars}
 use Rattle.scl_msvc.proofs.msvc.environment.without_cl_env_vars.Given as goal
 
 abbrev pub invariant-loop-key : goal.invariant-loop-key

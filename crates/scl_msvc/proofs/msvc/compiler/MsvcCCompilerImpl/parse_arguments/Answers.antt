@@ -9,4 +9,4 @@ pub returns-clause-read_again : goal.returns-clause-read_again
 returns-clause-read_again c =
     let is_clang = c.args.self.now.is_clang in
     parsed-kept command (MsvcReadsAgain is_clang c.args.cwd.now (pairs_of c.args.env_vars.now) c.args.view.now _) _
-    (command_kept is_clang c.args.cwd.now (pairs_of c.args.env_vars.now) c.args.view.now _) _ c.parse_within.ensures
+    (command_kept is_clang c.args.cwd.now (pairs_of c.args.env_vars.now) c.args.view.now _) _ c.parse_surrounded.ensures

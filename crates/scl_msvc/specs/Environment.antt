@@ -1,11 +1,13 @@
--- What a command line has from its environment: words before and behind its own.
+-- What a command line has from its environment: words before and behind its own, and how it is read with them.
 use Rattle.std.specs.Prelude.{ℕ, ◌==◌, ◌||◌, not, Bool, List, [], ◌∷◌, ◌++◌, map, filter, Option, None, Some, is_some, Result, Ok, codes, if◌then◌else◌, ok_or}
 use Rattle.std.specs.Option.{option_map}
 use Rattle.std.specs.Str.{bytes_eq, chars}
 use Rattle.scl_args.specs.Options.{◌>>=◌}
 use Rattle.scl_files.specs.Decoding.{utf8_text}
 use Rattle.scl_files.specs.MsvcText.{msvc_arguments}
-use Rattle.scl_text.specs.Records.{Verdict, CannotCache}
+use Rattle.scl_text.specs.Records.{Parsed, Verdict, CannotCache}
+use Rattle.scl_files.specs.Views.{Viewed}
+use Rattle.scl_msvc_reading.specs.Readings.{reading}
 
 -- the variable whose words stand before those of a command line, and that whose words stand behind them
 abbrev pub front_variable : List ℕ
@@ -50,3 +52,9 @@ surrounded pairs words = do
   front ← variable_words (CannotCache (codes "CL environment variable value broken")) (value_of front_variable pairs)
   back ← variable_words (CannotCache (codes "_CL_ environment variable value broken")) (value_of back_variable pairs)
   Ok (front ++ words ++ back)
+
+-- what the words say between those of the two variables
+abbrev pub surrounded_reading : Bool → List ℕ → List (List ℕ × List ℕ) → Viewed → List (List ℕ) → Result Parsed Verdict
+surrounded_reading is_clang directory pairs view words = do
+  all ← surrounded pairs words
+  reading is_clang directory view all
