@@ -10,12 +10,12 @@ use Rattle.scl_files.specs.declared.expand.ExpansionKind.TheVariants as expansio
 use Rattle.scl_text.specs.declared.language.Language.{Language}
 use Rattle.scl_text.specs.declared.language.Language.TheVariants as languages
 use Rattle.scl_text.specs.Commands.{object_of}
+use Rattle.scl_text.specs.JudgedWords as judged
 use Rattle.scl_files.specs.Expand.{expand}
 use Rattle.scl_text.specs.Records.{Parsed}
 use Rattle.scl_files.specs.Views.{Viewed}
 use Rattle.scl_gnu_reading.specs.declared.gcc.data.Kind as gnu
 use Rattle.scl_gnu_reading.specs.ClangRows.{clang_tables}
-use Rattle.scl_gnu.specs.ReadAgain as gnu_again
 use Rattle.scl_msvc_reading.specs.declared.msvc.data.Kind.{Kind}
 use Rattle.scl_msvc_reading.specs.declared.msvc.data.Kind.TheVariants as kind
 use Rattle.scl_msvc_reading.specs.declared.msvc.place.Place.{Place}
@@ -61,7 +61,7 @@ options_of is_clang directory view words = (cut (owner_in msvc_tables) is_clang 
 
 -- the inner options whose words the options of the kind hand on
 abbrev pub inner_options_of : Kind → List ℕ → Viewed → List (Seen Kind) → List (Cut gnu.Kind)
-inner_options_of k directory view os = gnu_again.options_of clang_tables false directory view (texts (of (k ∷ [])) os)
+inner_options_of k directory view os = judged.options_of expansions.Gnu clang_tables false directory view (texts (of (k ∷ [])) os)
 
 -- the inner command lines of these options
 abbrev pub behind_xclang : List (Cut gnu.Kind) → Inner Kind gnu.Kind
