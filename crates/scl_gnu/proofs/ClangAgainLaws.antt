@@ -29,7 +29,7 @@ use Rattle.scl_gnu.specs.Building.{command_words}
 use Rattle.scl_gnu_reading.specs.ClangRows.{clang_rows, clang_tables}
 use Rattle.scl_gnu_reading.specs.GccRows.{gcc_rows}
 use Rattle.scl_gnu_reading.specs.Kinds.{of}
-use Rattle.scl_gnu.specs.ReadAgain.{inner_options_of, behind_xclang, parts, clang_line, ClangCommandsKeep}
+use Rattle.scl_gnu.specs.ReadAgain.{inner_options_of, behind_xclang, parts, clang_line, ClangCommandsAreFaithful}
 use Rattle.scl_gnu_reading.specs.Readings.{reading}
 use Rattle.scl_gnu_reading.proofs.CheckLaws.{clang_passes, no_xclang}
 use Rattle.scl_gnu.proofs.NoFileLaws.{clang_none}
@@ -101,7 +101,7 @@ handed directory view words clear =
 
 -- ---- the promise of a command
 
-pub command_kept : ClangCommandsKeep
+pub command_kept : ClangCommandsAreFaithful
 command_kept plusplus directory view words =
     let line = clang_line directory view words in
     command-kept (λ p. command_words (clang_text p.language) p)

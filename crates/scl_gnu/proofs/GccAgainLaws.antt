@@ -25,7 +25,7 @@ use Rattle.scl_gnu.specs.Building.{command_words}
 use Rattle.scl_gnu_reading.specs.ClangRows.{clang_tables}
 use Rattle.scl_gnu_reading.specs.GccRows.{gcc_rows}
 use Rattle.scl_gnu_reading.specs.Inners.{inner_words_at}
-use Rattle.scl_gnu.specs.ReadAgain.{inner_options_of, parts, gcc_line, GccCommandsKeep}
+use Rattle.scl_gnu.specs.ReadAgain.{inner_options_of, parts, gcc_line, GccCommandsAreFaithful}
 use Rattle.scl_gnu_reading.specs.Readings.{reading}
 use Rattle.scl_gnu_reading.proofs.CheckLaws.{gcc_passes}
 use Rattle.scl_gnu.proofs.InnerLaws.{no_inner}
@@ -87,7 +87,7 @@ handed directory view words clear = record {
 
 -- ---- the promise of a command
 
-pub command_kept : GccCommandsKeep
+pub command_kept : GccCommandsAreFaithful
 command_kept plusplus directory view words =
     let line = gcc_line directory view words in
     command-kept (λ p. command_words (gcc_text p.language) p)

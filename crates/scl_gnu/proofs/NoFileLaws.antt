@@ -3,7 +3,7 @@ use Rattle.std.proofs.Common.{◌≡◌, ℕ, Bool, true, false, List, [], ◌�
 use Rattle.std.specs.Prelude.{codes, is_some, unwrap_or}
 use Rattle.scl_values.specs.Cuts.{Cut, cut}
 use Rattle.scl_values.specs.Each.{Each}
-use Rattle.scl_args.specs.Options.{dash_words, side_of_flag, texts}
+use Rattle.scl_args.specs.Options.{last_flag, last_text, dash_words, side_of_flag, texts}
 use Rattle.scl_values.specs.Row.{Row}
 use Rattle.scl_values.specs.Seen.{Seen, shown, flag_of, text_of}
 use Rattle.scl_values.specs.Tables.{owner_in, all_rows}
@@ -34,7 +34,7 @@ use Rattle.scl_gnu_reading.specs.ClangRows.{clang_rows, clang_tables}
 use Rattle.scl_gnu_reading.specs.FixedTests.{Found}
 use Rattle.scl_gnu_reading.specs.GccRows.{gcc_rows}
 use Rattle.scl_gnu_reading.specs.Inners.{inner_place, inner_words_at, goes_inside_to}
-use Rattle.scl_gnu_reading.specs.Kinds.{of, any, is_input, last_flag, last_text}
+use Rattle.scl_gnu_reading.specs.Kinds.{of, any, is_input}
 use Rattle.scl_gnu_reading.specs.Places.{place, goes_to}
 use Rattle.scl_gnu.specs.ReadAgain.{inner_options_of, line_of, gcc_line, behind_xclang, clang_line}
 use Rattle.scl_gnu_reading.specs.Readings.{reading}
@@ -94,10 +94,10 @@ module _ (compiler : CCompilerKind) (tables : List (List (Row Kind))) (flags : P
         (plain-found tables (is_clang compiler) carried flags.carries p (λ f k v h e. same-list (place k) there lists e) ws)) (inside there lists)
 
     -- the last flag of a kind with plain flags, else another
-    last-flag : (k : Kind) (other : List ℕ) → has_plain_flags (is_kind k) (all_rows tables) ≡ true → NamesNoFile other → NamesNoFile (unwrap_or (last_flag (k ∷ []) os) other)
+    last-flag : (k : Kind) (other : List ℕ) → has_plain_flags (is_kind k) (all_rows tables) ≡ true → NamesNoFile other → NamesNoFile (unwrap_or (last_flag (of (k ∷ [])) os) other)
     last-flag k other plain n = last-none HasPlainFlag flag_of flag-none (of (k ∷ [])) os other (plain-found tables (is_clang compiler) (is_kind k) plain (of (k ∷ [])) (λ f x v h e. e) ws) n
 
-    last-value : (k : Kind) (other : List ℕ) → NamesNoFile other → NamesNoFile (unwrap_or (last_text (k ∷ []) os) other)
+    last-value : (k : Kind) (other : List ℕ) → NamesNoFile other → NamesNoFile (unwrap_or (last_text (of (k ∷ [])) os) other)
     last-value k other n = last-none GivesNoFile text_of (λ o h. h) (of (k ∷ [])) os other (passed (of (k ∷ [])) GivesNoFile os none) n
 
     module _ (directory : List ℕ) (view : Viewed) (f : Found) (has : HasFound os f) (no : NamesNoFile f.object) (text : Option (List ℕ)) (language : NameNone (language_words text)) where
@@ -106,7 +106,7 @@ module _ (compiler : CCompilerKind) (tables : List (List (Row Kind))) (flags : P
 
       dependency-none : NameNone (dependency_words os inner f)
       dependency-none = append _ _ (at-none places.Dependency refl)
-          (target-none (needs_target f.language os) (is_some (last_text (kind.DepArgumentPath ∷ []) os)) (last_flag (kind.DepTarget ∷ []) os) (last_text (kind.DepTarget ∷ []) os) f.object
+          (target-none (needs_target f.language os) (is_some (last_text (of (kind.DepArgumentPath ∷ [])) os)) (last_flag (of (kind.DepTarget ∷ [])) os) (last_text (of (kind.DepTarget ∷ [])) os) f.object
           (last-flag kind.DepTarget (codes "-MT") flags.targets refl) (last-value kind.DepTarget f.object no) no)
 
       lists-none : NameNone (list_words record_is)

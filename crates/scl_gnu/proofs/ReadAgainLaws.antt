@@ -6,7 +6,7 @@ use Rattle.std.specs.Prelude.{codes, is_some, unwrap_or}
 use Rattle.std.specs.Str.{bytes_eq}
 use Rattle.scl_values.specs.Cuts.{Cut, cut}
 use Rattle.scl_values.specs.Each.{Each}
-use Rattle.scl_args.specs.Options.{dash_words, is_behind_dashes, side_of_flag, texts}
+use Rattle.scl_args.specs.Options.{last_flag, last_text, dash_words, is_behind_dashes, side_of_flag, texts}
 use Rattle.scl_values.specs.Row.{Row}
 use Rattle.scl_values.specs.Seen.{Seen, Plain, shown, flag_of}
 use Rattle.scl_values.specs.Seen as plain
@@ -42,7 +42,7 @@ use Rattle.scl_gnu_reading.specs.Again as again
 use Rattle.scl_gnu.specs.Building.{language_words, color_words, front_words, list_words, back_words, command_words}
 use Rattle.scl_gnu_reading.specs.ClangRows.{clang_tables}
 use Rattle.scl_gnu_reading.specs.FixedTests.{Found}
-use Rattle.scl_gnu_reading.specs.Kinds.{of, any, is_input, last_flag, last_text}
+use Rattle.scl_gnu_reading.specs.Kinds.{of, any, is_input}
 use Rattle.scl_gnu_reading.specs.Places.{words_at}
 use Rattle.scl_gnu.specs.ReadAgain.{language_option, color_option, split_dwarf_option, depfile_option, target_options, list_of, line_of, parts, inner_options_of}
 use Rattle.scl_gnu_reading.specs.Readings.{reading}
@@ -83,13 +83,13 @@ module _ (compiler : CCompilerKind) (tables : List (List (Row Kind))) (own_words
   reads-language None = reads-nil own dashes
   reads-language (Some text) = own_words.language text
 
-  reads-compile : (f : List ℕ) → last_flag (kind.DoCompilation ∷ []) os ≡ Some f → Printed (f ∷ []) (plain.flag f kind.DoCompilation ∷ [])
+  reads-compile : (f : List ℕ) → last_flag (of (kind.DoCompilation ∷ [])) os ≡ Some f → Printed (f ∷ []) (plain.flag f kind.DoCompilation ∷ [])
   reads-compile f e =
       let o = last-flag tables dashes (of (kind.DoCompilation ∷ [])) ws f e in
       subst (λ x. Printed (x ∷ []) (plain.flag x kind.DoCompilation ∷ [])) o.2
       (flag-again tables dashes (is_kind kind.DoCompilation) own_words.compile_flags kind.DoCompilation compiles-alone (of (kind.DoCompilation ∷ [])) (λ x. refl) o.0 o.1)
 
-  reads-front : (text : Option (List ℕ)) (f object : List ℕ) → last_flag (kind.DoCompilation ∷ []) os ≡ Some f →
+  reads-front : (text : Option (List ℕ)) (f object : List ℕ) → last_flag (of (kind.DoCompilation ∷ [])) os ≡ Some f →
       Printed (language_words text ++ f ∷ codes "-o" ∷ object ∷ []) (language_option text ++ plain.flag f kind.DoCompilation ∷ plain.value (codes "-o") kind.Output object ∷ [])
   reads-front text f object e = reads-append own dashes _ _ _ _ (reads-language text) (reads-append own dashes _ _ _ _ (reads-compile f e) (own_words.output object))
 
@@ -103,9 +103,9 @@ module _ (compiler : CCompilerKind) (tables : List (List (Row Kind))) (own_words
   reads-depfile true object = reads-nil own dashes
   reads-depfile false object = own_words.depfile (with_extension object (codes "d"))
 
-  module _ (flag_at : Option (List ℕ)) (is_last : last_flag (kind.DepTarget ∷ []) os ≡ flag_at) where
+  module _ (flag_at : Option (List ℕ)) (is_last : last_flag (of (kind.DepTarget ∷ [])) os ≡ flag_at) where
     reads-target : (target : List ℕ) → Printed (unwrap_or flag_at (codes "-MT") ∷ target ∷ []) (plain.value (unwrap_or flag_at (codes "-MT")) kind.DepTarget target ∷ [])
-    reads-target target = elim flag_at as (λ f. last_flag (kind.DepTarget ∷ []) os ≡ f → Printed (unwrap_or f (codes "-MT") ∷ target ∷ []) (plain.value (unwrap_or f (codes "-MT")) kind.DepTarget target ∷ [])) [
+    reads-target target = elim flag_at as (λ f. last_flag (of (kind.DepTarget ∷ [])) os ≡ f → Printed (unwrap_or f (codes "-MT") ∷ target ∷ []) (plain.value (unwrap_or f (codes "-MT")) kind.DepTarget target ∷ [])) [
       | None ↦ λ e. own_words.target target
       | Some f ↦ λ e.
           let o = last-flag tables dashes (of (kind.DepTarget ∷ [])) ws f e in
@@ -114,7 +114,7 @@ module _ (compiler : CCompilerKind) (tables : List (List (Row Kind))) (own_words
     ] is_last
 
     other-flag : bytes_eq (unwrap_or flag_at (codes "-MT")) xclang ≡ false
-    other-flag = elim flag_at as (λ f. last_flag (kind.DepTarget ∷ []) os ≡ f → bytes_eq (unwrap_or f (codes "-MT")) xclang ≡ false) [
+    other-flag = elim flag_at as (λ f. last_flag (of (kind.DepTarget ∷ [])) os ≡ f → bytes_eq (unwrap_or f (codes "-MT")) xclang ≡ false) [
       | None ↦ λ e. refl
       | Some f ↦ λ e.
           let o = last-flag tables dashes (of (kind.DepTarget ∷ [])) ws f e in
@@ -174,14 +174,14 @@ module _ (compiler : CCompilerKind) (tables : List (List (Row Kind))) (own_words
       made = parts text os record_is f.object
 
       abbrev targets : List (Plain Kind)
-      targets = target_options (needs_target f.language os) (is_some (last_text (kind.DepArgumentPath ∷ []) os)) (last_flag (kind.DepTarget ∷ []) os) (last_text (kind.DepTarget ∷ []) os) f.object
+      targets = target_options (needs_target f.language os) (is_some (last_text (of (kind.DepArgumentPath ∷ [])) os)) (last_flag (of (kind.DepTarget ∷ [])) os) (last_text (of (kind.DepTarget ∷ [])) os) f.object
 
       no-targets : values_at xclang targets ≡ []
-      no-targets = none-target (last_flag (kind.DepTarget ∷ []) os) refl (needs_target f.language os) (is_some (last_text (kind.DepArgumentPath ∷ []) os)) (last_text (kind.DepTarget ∷ []) os) f.object
+      no-targets = none-target (last_flag (of (kind.DepTarget ∷ [])) os) refl (needs_target f.language os) (is_some (last_text (of (kind.DepArgumentPath ∷ [])) os)) (last_text (of (kind.DepTarget ∷ [])) os) f.object
 
       reads-dependencies : Printed (dependency_words os inner f) (carried said (list_of places.Dependency targets))
       reads-dependencies = reads-list places.Dependency refl _ targets
-          (reads-dependency (last_flag (kind.DepTarget ∷ []) os) refl (needs_target f.language os) (is_some (last_text (kind.DepArgumentPath ∷ []) os)) (last_text (kind.DepTarget ∷ []) os) f.object) no-targets
+          (reads-dependency (last_flag (of (kind.DepTarget ∷ [])) os) refl (needs_target f.language os) (is_some (last_text (of (kind.DepArgumentPath ∷ [])) os)) (last_text (of (kind.DepTarget ∷ [])) os) f.object) no-targets
 
       abbrev is_split : Bool
       is_split = any (kind.SplitDwarf ∷ []) os
@@ -218,7 +218,7 @@ module _ (compiler : CCompilerKind) (tables : List (List (Row Kind))) (own_words
             no_raws = (
               no-raws places.Preprocessor refl [] refl,
               (
-                no-raws places.Dependency refl targets (no_raw-target (needs_target f.language os) (is_some (last_text (kind.DepArgumentPath ∷ []) os)) (last_flag (kind.DepTarget ∷ []) os) (last_text (kind.DepTarget ∷ []) os) f.object),
+                no-raws places.Dependency refl targets (no_raw-target (needs_target f.language os) (is_some (last_text (of (kind.DepArgumentPath ∷ [])) os)) (last_flag (of (kind.DepTarget ∷ [])) os) (last_text (of (kind.DepTarget ∷ [])) os) f.object),
                 (
                   no-raws places.Unhashed refl [] refl,
                   (

@@ -8,7 +8,7 @@ use Rattle.std.specs.Str.{bytes_eq}
 use Rattle.scl_values.specs.Cuts.{cut, is_dangling}
 use Rattle.scl_values.specs.Each.{Each}
 use Rattle.scl_args.specs.Empties.{refusing_empty}
-use Rattle.scl_args.specs.Options.{texts}
+use Rattle.scl_args.specs.Options.{last_flag, last_text, texts}
 use Rattle.scl_values.specs.Row.{Row}
 use Rattle.scl_values.specs.Seen.{Seen, shown}
 use Rattle.scl_values.specs.Tables.{owner_in}
@@ -33,7 +33,7 @@ use Rattle.scl_gnu_reading.specs.ClangRows.{clang_tables}
 use Rattle.scl_gnu_reading.specs.FixedTests as tests
 use Rattle.scl_gnu_reading.specs.FixedTests.{Found, found, language_of, module_path_unless}
 use Rattle.scl_gnu_reading.specs.Inners.{inner_reading, inner_verdict}
-use Rattle.scl_gnu_reading.specs.Kinds.{of, any, is_input, last_flag, last_text}
+use Rattle.scl_gnu_reading.specs.Kinds.{of, any, is_input}
 use Rattle.scl_gnu.specs.ReadAgain.{inner_options_of}
 use Rattle.scl_gnu_reading.specs.Readings.{read, reading, recorded}
 use Rattle.scl_gnu_reading.specs.Recordings.{is_clang, record_of}
@@ -47,20 +47,20 @@ the_input-ok (y ∷ []) x e = cc
 the_input-ok (y ∷ z ∷ ys) x e = absurd (cc)
 
 pub record HasFound (os : List (Seen Kind)) (f : Found) : Type 0 where
-  pub flag_is : last_flag (kind.DoCompilation ∷ []) os ≡ Some f.compile_flag
+  pub flag_is : last_flag (of (kind.DoCompilation ∷ [])) os ≡ Some f.compile_flag
   pub input_is : texts is_input os ≡ f.input ∷ []
 
 pub has-found : (plusplus : Bool) (os : List (Seen Kind)) (f : Found) → found plusplus os ≡ Ok f → HasFound os f
 has-found plusplus os f e =
-    let a = bind-ok (ok_or (last_flag (kind.DoCompilation ∷ []) os) NotCompilation) _ f e in
+    let a = bind-ok (ok_or (last_flag (of (kind.DoCompilation ∷ [])) os) NotCompilation) _ f e in
     let b = bind-ok (the_input (texts is_input os)) _ f a.2 in
-    let c = bind-ok (ok_or (language_of plusplus (last_text (kind.Language ∷ []) os) b.0) unknown_source_language) _ f b.2 in
-    let d = bind-ok (ok_or (tests.object_of (last_text (kind.Output ∷ []) os) b.0) invalid_input_file) _ f c.2 in
-    let m = bind-ok (module_path_unless (any (kind.ModuleOnlyFlag ∷ []) os) (last_text (kind.ClangModuleOutput ∷ []) os) b.0 d.0) _ f d.2 in
+    let c = bind-ok (ok_or (language_of plusplus (last_text (of (kind.Language ∷ [])) os) b.0) unknown_source_language) _ f b.2 in
+    let d = bind-ok (ok_or (tests.object_of (last_text (of (kind.Output ∷ [])) os) b.0) invalid_input_file) _ f c.2 in
+    let m = bind-ok (module_path_unless (any (kind.ModuleOnlyFlag ∷ []) os) (last_text (of (kind.ClangModuleOutput ∷ [])) os) b.0 d.0) _ f d.2 in
     let made : Found = record { compile_flag = a.0; input = b.0; language = c.0; object = d.0; module_path = m.0 } in
     let is : made ≡ f = cc (m.2) in
     record {
-      flag_is = ok_or-ok (last_flag (kind.DoCompilation ∷ []) os) NotCompilation a.0 a.1 ∙ ap (λ x. Some x.compile_flag) is;
+      flag_is = ok_or-ok (last_flag (of (kind.DoCompilation ∷ [])) os) NotCompilation a.0 a.1 ∙ ap (λ x. Some x.compile_flag) is;
       input_is = the_input-ok (texts is_input os) b.0 b.1 ∙ ap (λ x. x.input ∷ []) is;
     }
 
@@ -140,6 +140,6 @@ module _ (depfile diagnostics dwo gcno module_path : Option (List ℕ)) (object 
 
 pub object-found : (compiler : CCompilerKind) (directory : List ℕ) (view : Viewed) (os inside : List (Seen Kind)) (f : Found) → object_of (record_of compiler directory view os inside f) ≡ Some f.object
 object-found compiler directory view os inside f =
-    object-is (if needs_c_preprocessing f.language then last_text (kind.DepArgumentPath ∷ []) os else None) (last_text (kind.SerializeDiagnostics ∷ []) os)
+    object-is (if needs_c_preprocessing f.language then last_text (of (kind.DepArgumentPath ∷ [])) os else None) (last_text (of (kind.SerializeDiagnostics ∷ [])) os)
     (then_some (any (kind.SplitDwarf ∷ []) os) (with_extension f.object (codes "dwo")))
     (then_some (any (kind.Coverage ∷ kind.TestCoverage ∷ []) os) (with_extension f.object (codes "gcno"))) f.module_path f.object

@@ -1,7 +1,7 @@
 -- Commands of Gcc and Clang that are read again.
 use Rattle.std.specs.Prelude.{◌≡◌, ℕ, Bool, true, false, List, [], ◌∷◌, ◌++◌, map, codes, Option, None, Some, Ok, IfSome, unwrap_or, is_some}
 use Rattle.scl_values.specs.Cuts.{Cut}
-use Rattle.scl_args.specs.Options.{texts}
+use Rattle.scl_args.specs.Options.{last_flag, last_text, texts}
 use Rattle.scl_values.specs.Row.{Row}
 use Rattle.scl_values.specs.Seen.{Seen, Plain, shown}
 use Rattle.scl_values.specs.Seen as plain
@@ -29,7 +29,7 @@ use Rattle.scl_gnu.specs.Building.{command_words}
 use Rattle.scl_gnu_reading.specs.ClangRows.{clang_tables}
 use Rattle.scl_gnu_reading.specs.GccRows.{gcc_rows}
 use Rattle.scl_gnu_reading.specs.Inners.{goes_inside_to}
-use Rattle.scl_gnu_reading.specs.Kinds.{of, any, last_flag, last_text}
+use Rattle.scl_gnu_reading.specs.Kinds.{of, any}
 use Rattle.scl_gnu_reading.specs.Places.{goes_to}
 use Rattle.scl_gnu_reading.specs.Readings.{reading}
 use Rattle.scl_gnu_reading.specs.Recordings.{needs_target}
@@ -70,8 +70,8 @@ parts text os p object = record {
   front = language_option text ++ plain.flag p.compilation_flag kind.DoCompilation ∷ plain.value (codes "-o") kind.Output object ∷ [];
   lists =
       list_of places.Preprocessor [] ∷
-      list_of places.Dependency (target_options (needs_target p.language os) (is_some (last_text (kind.DepArgumentPath ∷ []) os))
-      (last_flag (kind.DepTarget ∷ []) os) (last_text (kind.DepTarget ∷ []) os) object) ∷
+      list_of places.Dependency (target_options (needs_target p.language os) (is_some (last_text (of (kind.DepArgumentPath ∷ [])) os))
+      (last_flag (of (kind.DepTarget ∷ [])) os) (last_text (of (kind.DepTarget ∷ [])) os) object) ∷
       list_of places.Unhashed [] ∷
       list_of places.Common (split_dwarf_option (any (kind.SplitDwarf ∷ []) os) object) ∷
       list_of places.Arch [] ∷ [];
@@ -116,16 +116,16 @@ ClangReadsAgain directory view words p command = IfSome (object_of p) (λ object
 -- ---- the law of a compiler
 
 -- where words have a record, by these tables, its command with this text for the language keeps the promise
-abbrev pub CommandsKeep : CCompilerKind → List (List (Row Kind)) → (Language → Option (List ℕ)) → (List ℕ → Viewed → List (List ℕ) → Parsed → List (List ℕ) → Type 0) → Type 0
-CommandsKeep compiler tables text promise =
+abbrev pub CommandsAreFaithful : CCompilerKind → List (List (Row Kind)) → (Language → Option (List ℕ)) → (List ℕ → Viewed → List (List ℕ) → Parsed → List (List ℕ) → Type 0) → Type 0
+CommandsAreFaithful compiler tables text promise =
     (plusplus : Bool) (directory : List ℕ) (view : Viewed) (words : List (List ℕ)) →
     IfCommand (command_by (λ p. command_words (text p.language) p)) (promise directory view words) (reading compiler plusplus tables directory view words)
 
-abbrev pub GccCommandsKeep : Type 0
-GccCommandsKeep = CommandsKeep compilers.Gcc (gcc_rows ∷ []) gcc_text GccReadsAgain
+abbrev pub GccCommandsAreFaithful : Type 0
+GccCommandsAreFaithful = CommandsAreFaithful compilers.Gcc (gcc_rows ∷ []) gcc_text GccReadsAgain
 
-abbrev pub ClangCommandsKeep : Type 0
-ClangCommandsKeep = CommandsKeep compilers.Clang clang_tables clang_text ClangReadsAgain
+abbrev pub ClangCommandsAreFaithful : Type 0
+ClangCommandsAreFaithful = CommandsAreFaithful compilers.Clang clang_tables clang_text ClangReadsAgain
 
 -- ---- records
 

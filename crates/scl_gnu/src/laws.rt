@@ -1,7 +1,7 @@
 //! What follows for the commands of Gcc and Clang: each law is a clause of a function that does nothing.
 ghost use Rattle.scl_gnu.specs.OutputFiles.{OutputFilesAreLeftOut};
 ghost use Rattle.scl_gnu.specs.Preprocess.{OneArchitectureHasOneRun, EachArchitectureHasItsRun};
-ghost use Rattle.scl_gnu.specs.ReadAgain.{GccCommandsKeep, ClangCommandsKeep, GccRecordsHaveObjects, ClangRecordsHaveObjects, GccLinesHaveNoEmpty, ClangLinesHaveNoEmpty};
+ghost use Rattle.scl_gnu.specs.ReadAgain.{GccCommandsAreFaithful, ClangCommandsAreFaithful, GccRecordsHaveObjects, ClangRecordsHaveObjects, GccLinesHaveNoEmpty, ClangLinesHaveNoEmpty};
 
 pub use scl_gnu_reading::laws::of_tables;
 
@@ -19,14 +19,14 @@ pub fn of_records()
 
 /// Laws of the commands of records of Gcc and of Clang (docs/RULES.md, Cutting again, and Words that name response files):
 ///
-/// - `gcc_commands_keep`, `clang_commands_keep`: where words have a record, its command keeps what the calls promise of it. It
-///   is read again: cut again by the compiler's tables, it gives its own words, the carried options and those that are
-///   added, with unchanged values, and the input; and of Clang's the words behind `-Xclang`, cut again, give the inner
-///   options, list by list. And it names no response file of its own: no word of it begins with `@`, where no option's
-///   value, no input, no unknown flag, outer or inner, and not the object does.
+/// - `gcc_commands_are_faithful`, `clang_commands_are_faithful`: where words have a record, its command keeps what the calls
+///   promise of it. It is read again: cut again by the compiler's tables, it gives its own words, the carried options and
+///   those that are added, with unchanged values, and the input; and of Clang's the words behind `-Xclang`, cut again, give
+///   the inner options, list by list. And it names no response file of its own: no word of it begins with `@`, where no
+///   option's value, no input, no unknown flag, outer or inner, and not the object does.
 pub fn of_commands()
-    ensures gcc_commands_keep { GccCommandsKeep }
-    ensures clang_commands_keep { ClangCommandsKeep }
+    ensures gcc_commands_are_faithful { GccCommandsAreFaithful }
+    ensures clang_commands_are_faithful { ClangCommandsAreFaithful }
 {}
 
 /// Laws of the preprocessor's runs (docs/RULES.md, Preprocessing):

@@ -2,7 +2,7 @@
 use Rattle.std.specs.Prelude.{ℕ, Bool, true, false, ◌&&◌, List, [], ◌∷◌, ◌++◌, Option, None, Some, Result, Ok, codes, unwrap_or, ok_or, if◌then◌else◌}
 use Rattle.std.specs.Option.{option_map}
 use Rattle.scl_values.specs.Seen.{Seen}
-use Rattle.scl_args.specs.Options.{texts, ◌>>=◌}
+use Rattle.scl_args.specs.Options.{last_flag, last_text, texts, ◌>>=◌}
 use Rattle.scl_text.specs.contracts.language.LanguagePartialEq.TheImpl.{ghosts}
 use Rattle.scl_text.specs.declared.language.Language.{Language}
 use Rattle.scl_text.specs.declared.language.Language.TheVariants as languages
@@ -13,7 +13,7 @@ use Rattle.scl_text.specs.Records.{Verdict, NotCompilation}
 use Rattle.scl_text.specs.Refusals.{the_input}
 use Rattle.scl_gnu_reading.specs.declared.gcc.data.Kind.{Kind}
 use Rattle.scl_gnu_reading.specs.declared.gcc.data.Kind.TheVariants as kind
-use Rattle.scl_gnu_reading.specs.Kinds.{is_input, last_text, last_flag, any}
+use Rattle.scl_gnu_reading.specs.Kinds.{of, is_input, any}
 
 -- what the tests find
 pub record Found : Type 0 where
@@ -54,9 +54,9 @@ module_path_unless false text input object = module_path_of text input object
 
 abbrev pub found : Bool → List (Seen Kind) → Result Found Verdict
 found plusplus os = do
-  flag ← ok_or (last_flag (kind.DoCompilation ∷ []) os) NotCompilation
+  flag ← ok_or (last_flag (of (kind.DoCompilation ∷ [])) os) NotCompilation
   input ← the_input (texts is_input os)
-  language ← ok_or (language_of plusplus (last_text (kind.Language ∷ []) os) input) unknown_source_language
-  object ← ok_or (object_of (last_text (kind.Output ∷ []) os) input) invalid_input_file
-  module_path ← module_path_unless (any (kind.ModuleOnlyFlag ∷ []) os) (last_text (kind.ClangModuleOutput ∷ []) os) input object
+  language ← ok_or (language_of plusplus (last_text (of (kind.Language ∷ [])) os) input) unknown_source_language
+  object ← ok_or (object_of (last_text (of (kind.Output ∷ [])) os) input) invalid_input_file
+  module_path ← module_path_unless (any (kind.ModuleOnlyFlag ∷ []) os) (last_text (of (kind.ClangModuleOutput ∷ [])) os) input object
   Ok (record { compile_flag = flag; input = input; language = language; object = object; module_path = module_path })

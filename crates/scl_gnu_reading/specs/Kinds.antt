@@ -4,8 +4,7 @@ use Rattle.std.specs.List.{list_any}
 use Rattle.std.specs.Option.{option_map}
 use Rattle.std.specs.Str.{bytes_eq}
 use Rattle.scl_values.specs.Seen.{Seen, Raw, Unknown, Known}
-use Rattle.scl_args.specs.Options as options
-use Rattle.scl_args.specs.Options.{is_raw, is_dashes, of_kinds, last_by}
+use Rattle.scl_args.specs.Options.{is_raw, is_dashes, of_kinds, last_by, last_flag}
 use Rattle.scl_text.specs.declared.records.ColorMode.{ColorMode}
 use Rattle.scl_text.specs.declared.records.ColorMode.TheVariants as colors
 use Rattle.scl_gnu_reading.specs.declared.gcc.data.Kind.{Kind}
@@ -62,12 +61,6 @@ hashed os = hashed_as hash_role os
 
 -- ---- what the last of some options says
 
-abbrev pub last_text : List Kind → List (Seen Kind) → Option (List ℕ)
-last_text kinds os = options.last_text (of kinds) os
-
-abbrev pub last_flag : List Kind → List (Seen Kind) → Option (List ℕ)
-last_flag kinds os = options.last_flag (of kinds) os
-
 -- whether such an option stands
 abbrev pub any : List Kind → List (Seen Kind) → Bool
 any kinds os = list_any (of kinds) os
@@ -82,4 +75,4 @@ external_assembler os = option_map (of (kind.NoIntegratedAs ∷ [])) (last_by (o
 
 -- what hides from a cache of preprocessor runs
 abbrev pub hidden_flag : List (Seen Kind) → Option (List ℕ)
-hidden_flag os = options.last_flag is_hidden os
+hidden_flag os = last_flag is_hidden os

@@ -3,7 +3,7 @@ use Rattle.std.specs.Prelude.{ℕ, ◌+◌, ◌==◌, Bool, true, false, not, �
 use Rattle.std.specs.List.{starts_with}
 use Rattle.std.specs.Option.{option_map}
 use Rattle.std.specs.Bool.{then_some}
-use Rattle.scl_args.specs.Options.{is_behind_dashes}
+use Rattle.scl_args.specs.Options.{last_flag, last_text, is_behind_dashes}
 use Rattle.scl_values.specs.Seen.{Seen}
 use Rattle.scl_text.specs.contracts.records.CCompilerKindPartialEq.TheImpl.{ghosts}
 use Rattle.scl_text.specs.declared.records.CCompilerKind.{CCompilerKind}
@@ -23,7 +23,7 @@ use Rattle.scl_gnu_reading.specs.declared.gcc.data.Kind.{Kind}
 use Rattle.scl_gnu_reading.specs.declared.gcc.data.Kind.TheVariants as kind
 use Rattle.scl_gnu_reading.specs.declared.gcc.place.Place.{Place}
 use Rattle.scl_gnu_reading.specs.declared.gcc.place.Place.TheVariants as places
-use Rattle.scl_gnu_reading.specs.Kinds.{hashed, any, last_text, last_flag, is_input, color_mode, external_assembler, hidden_flag}
+use Rattle.scl_gnu_reading.specs.Kinds.{of, hashed, any, is_input, color_mode, external_assembler, hidden_flag}
 use Rattle.scl_gnu_reading.specs.Inners.{inner_words_at}
 use Rattle.scl_gnu_reading.specs.Places.{words_at}
 
@@ -32,8 +32,8 @@ use Rattle.scl_gnu_reading.specs.Places.{words_at}
 -- what a compilation makes, in the order of the names; `dwo` alone may be missing
 abbrev pub outputs : List (Seen Kind) → Found → List Artifact
 outputs os f =
-    output_at (codes "d") false (if needs_c_preprocessing f.language then last_text (kind.DepArgumentPath ∷ []) os else None)
-    ++ output_at (codes "dia") false (last_text (kind.SerializeDiagnostics ∷ []) os)
+    output_at (codes "d") false (if needs_c_preprocessing f.language then last_text (of (kind.DepArgumentPath ∷ [])) os else None)
+    ++ output_at (codes "dia") false (last_text (of (kind.SerializeDiagnostics ∷ [])) os)
     ++ output_at (codes "dwo") true (then_some (any (kind.SplitDwarf ∷ []) os) (with_extension f.object (codes "dwo")))
     ++ output_at (codes "gcno") false (then_some (any (kind.Coverage ∷ kind.TestCoverage ∷ []) os) (with_extension f.object (codes "gcno")))
     ++ output_at (codes "module") false f.module_path
@@ -93,7 +93,7 @@ has_extensions (Some text) = starts_with nat_eq text (codes "gnu")
 
 -- whether includes that were rewritten would change what a pedantic Gcc says
 abbrev pub suppresses_rewritten_includes : CCompilerKind → List (Seen Kind) → Bool
-suppresses_rewritten_includes compiler os = (ghosts.eq compiler compilers.Gcc && any (kind.PedanticFlag ∷ []) os) && has_extensions (last_text (kind.Standard ∷ []) os)
+suppresses_rewritten_includes compiler os = (ghosts.eq compiler compilers.Gcc && any (kind.PedanticFlag ∷ []) os) && has_extensions (last_text (of (kind.Standard ∷ [])) os)
 
 -- whether the words about dependencies need a target
 abbrev pub needs_target : Language → List (Seen Kind) → Bool
@@ -107,8 +107,8 @@ all_words_at there os inner = words_at there os ++ inner_words_at there inner
 abbrev pub dependency_words : List (Seen Kind) → List (Seen Kind) → Found → List (List ℕ)
 dependency_words os inner f =
     all_words_at places.Dependency os inner
-    ++ added_dependency (needs_target f.language os) (is_some (last_text (kind.DepArgumentPath ∷ []) os))
-    (last_flag (kind.DepTarget ∷ []) os) (last_text (kind.DepTarget ∷ []) os) f.object
+    ++ added_dependency (needs_target f.language os) (is_some (last_text (of (kind.DepArgumentPath ∷ [])) os))
+    (last_flag (of (kind.DepTarget ∷ [])) os) (last_text (of (kind.DepTarget ∷ [])) os) f.object
 
 -- inner options give words and hashed files alone
 abbrev pub record_of : CCompilerKind → List ℕ → Viewed → List (Seen Kind) → List (Seen Kind) → Found → Parsed

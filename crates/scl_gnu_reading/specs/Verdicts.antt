@@ -3,7 +3,7 @@ use Rattle.std.specs.Prelude.{ℕ, Bool, not, ◌==◌, ◌&&◌, List, [], ◌�
 use Rattle.std.specs.Str.{bytes_eq}
 use Rattle.std.specs.Option.{option_or}
 use Rattle.scl_values.specs.Seen.{Seen, Raw, Unknown, Known}
-use Rattle.scl_args.specs.Options.{names_file}
+use Rattle.scl_args.specs.Options.{last_text, names_file}
 use Rattle.scl_text.specs.declared.language.Language.{Language}
 use Rattle.scl_text.specs.Languages.{language_of_gcc_text}
 use Rattle.scl_text.specs.Reasons.{unexpanded_file}
@@ -12,7 +12,7 @@ use Rattle.scl_gnu_reading.specs.declared.gcc.data.Kind.{Kind}
 use Rattle.scl_gnu_reading.specs.declared.gcc.data.Kind.TheVariants as kind
 use Rattle.scl_gnu_reading.specs.declared.gcc.place.Place.{Place}
 use Rattle.scl_gnu_reading.specs.declared.gcc.place.Place.TheVariants as places
-use Rattle.scl_gnu_reading.specs.Kinds.{last_text}
+use Rattle.scl_gnu_reading.specs.Kinds.{of}
 use Rattle.scl_gnu_reading.specs.Places.{place}
 
 abbrev pub refusal : List ℕ → Option Verdict
@@ -56,4 +56,4 @@ verdict_after multiarch arch (Known f k v how) = known_verdict multiarch arch f 
 
 -- what an option says after others, of which the last architecture counts: a value that names a file is refused first
 abbrev pub verdict : Bool → List (Seen Kind) → Seen Kind → Option Verdict
-verdict multiarch before o = if names_file o then Some unexpanded_file else verdict_after multiarch (last_text (kind.Arch ∷ []) before) o
+verdict multiarch before o = if names_file o then Some unexpanded_file else verdict_after multiarch (last_text (of (kind.Arch ∷ [])) before) o

@@ -7,7 +7,7 @@ use Rattle.scl_text.specs.Records.{Parsed}
 use Rattle.scl_gnu_reading.specs.ClangRows.{clang_tables}
 use Rattle.scl_msvc.specs.Building.{command_words}
 use Rattle.scl_msvc.specs.Environment.{surrounded, surrounded_reading}
-use Rattle.scl_msvc.specs.Promises.{msvc_line, MsvcCommandsAreReadAgain}
+use Rattle.scl_msvc.specs.Promises.{msvc_line, MsvcCommandsAreFaithful}
 use Rattle.scl_msvc.specs.ReadAgain.{parts, HasOneInput}
 use Rattle.scl_msvc_reading.specs.Readings.{reading}
 use Rattle.scl_msvc_reading.specs.Rows.{msvc_tables}
@@ -19,7 +19,7 @@ if-ok : {A E : Type 0} (r : Result A E) (P : A → Type 0) → ((a : A) → r �
 if-ok (Ok a) P h = h a refl
 if-ok (Err e) P h = tt
 
-pub command_kept : MsvcCommandsAreReadAgain
+pub command_kept : MsvcCommandsAreFaithful
 command_kept is_clang directory pairs view words =
     let again : Parsed → List ℕ → List (List ℕ) → List (List ℕ) → Type 0 = λ p object built all.
     IsFaithful msvc_tables is_clang clang_tables (msvc_line is_clang directory view all) (parts p object) object built

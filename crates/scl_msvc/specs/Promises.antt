@@ -33,8 +33,8 @@ MsvcReadsAgain is_clang directory pairs view words p command = IfSome (object_of
     IsFaithful msvc_tables is_clang clang_tables (msvc_line is_clang directory view all) (parts p object) object command × HasOneInput is_clang p command))
 
 -- where words have a record, its command is read again, has one input, and names no response file of its own
-abbrev pub MsvcCommandsAreReadAgain : Type 0
-MsvcCommandsAreReadAgain =
+abbrev pub MsvcCommandsAreFaithful : Type 0
+MsvcCommandsAreFaithful =
     (is_clang : Bool) (directory : List ℕ) (pairs : List (List ℕ × List ℕ)) (view : Viewed) (words : List (List ℕ)) →
     IfCommand command (MsvcReadsAgain is_clang directory pairs view words) (surrounded_reading is_clang directory pairs view words)
 

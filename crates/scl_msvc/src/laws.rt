@@ -1,5 +1,5 @@
 //! What follows for the commands of Msvc: each law is a clause of a function that does nothing.
-ghost use Rattle.scl_msvc.specs.Promises.{MsvcCommandsAreReadAgain, MsvcLinesHaveNoEmpty, MsvcRecordsHaveObjects};
+ghost use Rattle.scl_msvc.specs.Promises.{MsvcCommandsAreFaithful, MsvcLinesHaveNoEmpty, MsvcRecordsHaveObjects};
 
 pub use scl_msvc_reading::laws::of_tables;
 
@@ -21,5 +21,5 @@ pub fn of_records()
 /// - no word of it begins with `@`, where no option's value, no input, no unknown flag, outer or inner, and not the object
 ///   does.
 pub fn of_commands()
-    ensures are_read_again { MsvcCommandsAreReadAgain }
+    ensures commands_are_faithful { MsvcCommandsAreFaithful }
 {}

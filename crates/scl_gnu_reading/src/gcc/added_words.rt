@@ -2,7 +2,8 @@
 ghost use Rattle.std.specs.Prelude.{◌≡◌, ◌++◌, ◌∷◌, [], OnOk, IfOk, codes, is_some};
 ghost use Rattle.scl_files.specs.Paths.{with_extension};
 ghost use Rattle.scl_values.specs.Words.{words_of};
-ghost use Rattle.scl_gnu_reading.specs.Kinds.{last_text, last_flag};
+ghost use Rattle.scl_args.specs.Options.{last_flag, last_text};
+ghost use Rattle.scl_gnu_reading.specs.Kinds.{of};
 ghost use Rattle.scl_gnu_reading.specs.Recordings.{added_common, added_depfile, added_dependency};
 
 use super::data::{ArgData, Kind};
@@ -60,7 +61,7 @@ pub(crate) fn add_dependency(
     object: &[u8],
 ) -> Mem<()>
     ensures { OnOk result (words_of dependency.new.items ≡ words_of dependency.old.items
-        ++ added_dependency is_needed (is_some (last_text (Kind.DepArgumentPath ∷ []) options.now)) (last_flag (Kind.DepTarget ∷ []) options.now) (last_text (Kind.DepTarget ∷ []) options.now) object.now) }
+        ++ added_dependency is_needed (is_some (last_text (of (Kind.DepArgumentPath ∷ [])) options.now)) (last_flag (of (Kind.DepTarget ∷ [])) options.now) (last_text (of (Kind.DepTarget ∷ [])) options.now) object.now) }
 {
     if !is_needed {
         return Ok(());

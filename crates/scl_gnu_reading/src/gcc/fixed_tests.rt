@@ -7,7 +7,8 @@ ghost use Rattle.scl_text.specs.Records.{path_of};
 ghost use Rattle.scl_text.specs.Refusals.{verdict_of};
 ghost use Rattle.scl_gnu_reading.specs.FixedTests.{driven, language_of, object_of, with_pcm, module_path_of, module_path_unless, found};
 ghost use Rattle.scl_gnu_reading.specs.FoundBy.{found_of};
-ghost use Rattle.scl_gnu_reading.specs.Kinds.{any, last_text};
+ghost use Rattle.scl_args.specs.Options.{last_text};
+ghost use Rattle.scl_gnu_reading.specs.Kinds.{any, of};
 
 use super::data::{ArgData, Kind};
 use super::inputs::Inputs;
@@ -103,7 +104,7 @@ fn module_path(
     object: &[u8],
 ) -> Mem<Result<Option<Vec<u8>>, Refusal>>
     ensures { IfOk result (λ tested. result_map_both path_of verdict_of tested
-        ≡ module_path_unless (any (Kind.ModuleOnlyFlag ∷ []) options.now) (last_text (Kind.ClangModuleOutput ∷ []) options.now) input.now object.now) }
+        ≡ module_path_unless (any (Kind.ModuleOnlyFlag ∷ []) options.now) (last_text (of (Kind.ClangModuleOutput ∷ [])) options.now) input.now object.now) }
 {
     if options.any(&OfKinds(&[Kind::ModuleOnlyFlag])) {
         return Ok(Ok(None));

@@ -6,7 +6,8 @@ ghost use Rattle.scl_text.specs.Languages.{language_of_gcc_text};
 ghost use Rattle.scl_text.specs.Refusals.{verdict_of};
 ghost use Rattle.scl_gnu_reading.specs.Data.{kind_of, word_of};
 ghost use Rattle.scl_gnu_reading.specs.Verdicts.{flag_verdict, module_output_verdict, unread_language, arch_verdict, value_verdict, known_verdict};
-ghost use Rattle.scl_gnu_reading.specs.Kinds.{last_text};
+ghost use Rattle.scl_args.specs.Options.{last_text};
+ghost use Rattle.scl_gnu_reading.specs.Kinds.{of};
 
 use super::data::{ArgData, Kind};
 use super::place::{Place, place_of_kind};
@@ -72,7 +73,7 @@ fn judged_value(
     before: &[Argument<ArgData>],
     value: &ArgData,
 ) -> Mem<Option<Refusal>>
-    ensures { IfOk result (λ said. option_map verdict_of said ≡ value_verdict multiarch (last_text (Kind.Arch ∷ []) (map (seen kind_of word_of) before.now)) (kind_of value.now) (word_of value.now)) }
+    ensures { IfOk result (λ said. option_map verdict_of said ≡ value_verdict multiarch (last_text (of (Kind.Arch ∷ [])) (map (seen kind_of word_of) before.now)) (kind_of value.now) (word_of value.now)) }
 {
     match value {
         ArgData::ClangModuleOutput(text) => judged_module_output(alloc, text),
@@ -93,7 +94,7 @@ fn judged_known(
     value: &ArgData,
 ) -> Mem<Option<Refusal>>
     ensures { IfOk result (λ said. option_map verdict_of said
-        ≡ known_verdict multiarch (last_text (Kind.Arch ∷ []) (map (seen kind_of word_of) before.now)) flag.now (kind_of value.now) (word_of value.now)) }
+        ≡ known_verdict multiarch (last_text (of (Kind.Arch ∷ [])) (map (seen kind_of word_of) before.now)) flag.now (kind_of value.now) (word_of value.now)) }
 {
     match judged_flag(place_of_kind(value.kind()), flag) {
         Some(refusal) => Ok(Some(refusal)),
