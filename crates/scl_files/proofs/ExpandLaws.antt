@@ -4,16 +4,15 @@ use Rattle.std.proofs.lemmas.Bool.{false≢true}
 use Rattle.std.specs.List.{list_any}
 use Rattle.std.specs.Option.{option_map, is_some}
 use Rattle.scl_files.specs.Paths.{same_path, join}
-use Rattle.scl_files.specs.Views.{File, bytes_at, without}
-use Rattle.scl_files.specs.ResponseFiles.{file_name_in, named, files_inside}
+use Rattle.scl_files.specs.Views.{File, bytes_at}
+use Rattle.scl_files.specs.ResponseFiles.{file_name_in, named, hides, files_inside}
 use Rattle.scl_files.specs.Expand.{opened, expand}
 use Rattle.scl_values.specs.Each.{Each}
 use Rattle.scl_files.specs.ExpansionLaws.{WordsAreExpandedOneByOne, WordsOfMsvcFilesStand, AbsentFilesLeaveTheirWords, UnreadableFilesLeaveTheirWords, OpenFilesAreAbsentInside, PlainWordsStand, EachFileIsOpenOnce, IsChain, none, opens, AllApart}
-use Rattle.scl_files.specs.ExpansionState.{hides}
 use Rattle.scl_files.specs.declared.expand.ExpansionKind.{ExpansionKind}
 use Rattle.scl_files.specs.declared.expand.ExpansionKind.TheVariants as kinds
 use Rattle.scl_files.proofs.SamePath.{same_path-same}
-use Rattle.scl_files.proofs.FilesLemmas.{bytes_at-without, bytes_at-inside}
+use Rattle.scl_files.proofs.FilesLemmas.{bytes_at-inside, inside_msvc}
 use Rattle.scl_files.proofs.OpenLemmas.{opened-no_name, opened-found}
 use Rattle.scl_files.proofs.ExpandLemmas.{expand-cons, expand-nil, expand-no_files, in_place-same}
 
@@ -23,7 +22,7 @@ one_by_one kind directory files word words = expand-cons kind directory files wo
 pub msvc_stands : WordsOfMsvcFilesStand
 msvc_stands directory files word words =
     expand-cons kinds.Msvc directory files word words
-    ∙ ap (λ ws. ws ++ expand kinds.Msvc directory files words) (in_place-same word _ _ (opened kinds.Msvc directory files word) (λ file e. expand-no_files kinds.Msvc directory file.words))
+    ∙ ap (λ ws. ws ++ expand kinds.Msvc directory files words) (in_place-same word _ _ (opened kinds.Msvc directory files word) (λ file e. rw (inside_msvc file.path files) (expand-no_files kinds.Msvc directory file.words)))
 
 -- a word that opens no file stays
 pub unopened_stays : (kind : ExpansionKind) (directory : List ℕ) (files : List File) (word : List ℕ) (words : List (List ℕ)) → opened kind directory files word ≡ None
@@ -70,14 +69,16 @@ found_apart : (b : Bool) (o : Option (List ℕ)) → is_some (cond b None o) ≡
 found_apart true o h = absurd (false≢true h)
 found_apart false o h = (refl, h)
 
-apart_without : (path other : List ℕ) (files : List File) → is_some (bytes_at other (without path files)) ≡ true → (same_path path other ≡ false) × (is_some (bytes_at other files) ≡ true)
-apart_without path other files h = found_apart (same_path path other) (bytes_at other files) (rw bytes_at-without at h)
+apart_paths : (kind : ExpansionKind) (path other : List ℕ) → hides kind path other ≡ false → same_path path other ≡ false
+apart_paths kinds.Gnu path other h = h
+apart_paths kinds.Msvc path other h = absurd (false≢true (sym h))
+apart_paths kinds.Diab path other h = h
 
 -- what a file may name is apart from it, and is found with it
 apart : (kind : ExpansionKind) (path other : List ℕ) (files : List File) → is_some (bytes_at other (files_inside kind path files)) ≡ true → (same_path path other ≡ false) × (is_some (bytes_at other files) ≡ true)
-apart kinds.Gnu path other files h = apart_without path other files h
-apart kinds.Msvc path other files h = absurd (false≢true h)
-apart kinds.Diab path other files h = apart_without path other files h
+apart kind path other files h =
+    let parts = found_apart (hides kind path other) (bytes_at other files) (rw (bytes_at-inside kind other path files) at h) in
+    (apart_paths kind path other parts.0, parts.1)
 
 abbrev Found : List File → List (List ℕ) → Type 0
 Found files paths = Each (λ other. is_some (bytes_at other files) ≡ true) paths

@@ -1,15 +1,13 @@
 -- What is left of an expansion that has begun.
-use Rattle.std.specs.Prelude.{◌≡◌, ℕ, zero, suc, ◌+◌, ◌<◌, List, [], ◌∷◌, ◌++◌, length, Bool, true, Option, None, Some, Vec}
+use Rattle.std.specs.Prelude.{◌≡◌, ℕ, zero, suc, ◌+◌, ◌<◌, List, [], ◌∷◌, ◌++◌, length, Bool, Option, None, Some, Vec}
 use Rattle.std.specs.declared.alloc.Global.{Global}
 use Rattle.std.specs.List.{list_any}
 use Rattle.std.specs.Vec.Iter.{into_iter_items}
 use Rattle.scl_files.specs.Views.{File}
 use Rattle.scl_values.specs.Words.{words_of}
-use Rattle.scl_files.specs.Paths.{same_path}
-use Rattle.scl_files.specs.ResponseFiles.{files_inside}
+use Rattle.scl_files.specs.ResponseFiles.{hides, files_inside}
 use Rattle.scl_files.specs.Expand.{OpenFile, opened, in_place, expand}
 use Rattle.scl_files.specs.declared.expand.ExpansionKind.{ExpansionKind}
-use Rattle.scl_files.specs.declared.expand.ExpansionKind.TheVariants as kinds
 use Rattle.scl_files.specs.declared.expand.engine.WordsLeft.{WordsLeft}
 use Rattle.scl_files.specs.declared.expand.engine.Expansion.{Expansion}
 use Rattle.scl_files.specs.declared.expand.engine.Step.{Step}
@@ -26,12 +24,6 @@ opens file = record { path = file.0.items; words = words_left file.1 }
 abbrev pub open_files : List (List ℕ) → List (List ℕ × WordsLeft) → List OpenFile
 open_files inner [] = []
 open_files inner (file ∷ files) = record { path = file.0; words = inner } ∷ open_files (words_left file.1) files
-
--- while a file is open at the one path, no word opens one at the other
-abbrev pub hides : ExpansionKind → List ℕ → List ℕ → Bool
-hides kinds.Gnu path other = same_path path other
-hides kinds.Msvc path other = true
-hides kinds.Diab path other = same_path path other
 
 -- while these files are open, no word opens one at the path
 abbrev pub is_shut : ExpansionKind → List ℕ → List OpenFile → Bool

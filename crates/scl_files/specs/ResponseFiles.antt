@@ -1,10 +1,10 @@
 -- How a word names a response file, and what words stand in the file.
-use Rattle.std.specs.Prelude.{ℕ, ◌==◌, ◌&&◌, ◌||◌, not, Bool, false, cond, List, [], ◌∷◌, Option, None, Some}
+use Rattle.std.specs.Prelude.{ℕ, ◌==◌, ◌&&◌, ◌||◌, not, Bool, true, false, cond, filter, List, [], ◌∷◌, Option, None, Some}
 use Rattle.std.specs.Option.{option_map, option_and_then}
 use Rattle.std.specs.Str.{chars}
 use Rattle.scl_files.specs.Characters.{at_sign, capital_e, capital_o, dash}
-use Rattle.scl_files.specs.Paths.{join}
-use Rattle.scl_files.specs.Views.{File, without}
+use Rattle.scl_files.specs.Paths.{join, same_path}
+use Rattle.scl_files.specs.Views.{File}
 use Rattle.scl_files.specs.GnuText.{gnu_arguments}
 use Rattle.scl_files.specs.MsvcText.{msvc_arguments}
 use Rattle.scl_files.specs.DiabText.{diab_arguments}
@@ -44,8 +44,12 @@ arguments kinds.Gnu bytes = option_map (λ text. gnu_arguments (chars text)) (ut
 arguments kinds.Msvc bytes = option_map (λ text. msvc_arguments (chars text)) (decoded bytes)
 arguments kinds.Diab bytes = option_and_then (λ text. diab_arguments (chars text)) (utf8_text bytes)
 
--- the files that the words of the file at the path may name: for Gnu and Diab all others, for Msvc none
+-- while a file is open at the one path, no word opens one at the other
+abbrev pub hides : ExpansionKind → List ℕ → List ℕ → Bool
+hides kinds.Gnu path other = same_path path other
+hides kinds.Msvc path other = true
+hides kinds.Diab path other = same_path path other
+
+-- the files that the words of the file at the path may name
 abbrev pub files_inside : ExpansionKind → List ℕ → List File → List File
-files_inside kinds.Gnu path files = without path files
-files_inside kinds.Msvc path files = []
-files_inside kinds.Diab path files = without path files
+files_inside kind path files = filter (λ file. not (hides kind path file.path)) files

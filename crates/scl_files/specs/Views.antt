@@ -43,11 +43,6 @@ is_directory path view = is_among path view.directories
 abbrev pub exists : List ℕ → Viewed → Bool
 exists path view = is_some (bytes_at path view.files) || (is_directory path view || is_among path view.existing)
 
--- the files without those at the path
-abbrev pub without : List ℕ → List File → List File
-without path [] = []
-without path (file ∷ files) = cond (same_path file.path path) (without path files) (file ∷ without path files)
-
 -- what an entry of a path and its value is
 abbrev pub file_of : List ℕ × Vec ℕ Global → File
 file_of entry = record { path = entry.0; bytes = entry.1.items }
