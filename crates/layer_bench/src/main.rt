@@ -27,11 +27,17 @@ fn measure(rt: &HostRuntime, part: &str, kind: &str, size: &str) -> io::Result<(
     }
 }
 
-fn main(rt: HostRuntime) -> io::Result<()> {
+/// The words behind the name of the program.
+fn given_words(rt: &HostRuntime) -> io::Result<Vec<String>> {
     let mut words = Vec::new(rt.alloc());
-    for word in env::args(&rt)?.skip(1) {
+    for word in env::args(rt)?.skip(1) {
         words.push(word)?;
     }
+    Ok(words)
+}
+
+fn main(rt: HostRuntime) -> io::Result<()> {
+    let words = given_words(&rt)?;
     for asked in words.chunks_exact(3) {
         if let [part, kind, size] = asked {
             measure(&rt, part.as_str(), kind.as_str(), size.as_str())?;

@@ -33,6 +33,15 @@ static MSVC_WORDS: [&[u8]; 10] = [
     b"source\\main.cpp",
 ];
 
+/// The looks of one search for each word.
+fn looked_once<T: ArgumentValue, S: SearchableArgInfo<T>>(table: &S, words: &[&[u8]]) -> u64 {
+    let mut sum: u64 = 0;
+    for word in words {
+        sum = sum.wrapping_add(looks(table, word));
+    }
+    sum
+}
+
 /// The looks of so many rounds of searches for each word.
 fn looked<T: ArgumentValue, S: SearchableArgInfo<T>>(
     table: &S,
@@ -41,9 +50,7 @@ fn looked<T: ArgumentValue, S: SearchableArgInfo<T>>(
 ) -> u64 {
     let mut sum: u64 = 0;
     for _ in 0..rounds {
-        for word in words {
-            sum = sum.wrapping_add(looks(table, word));
-        }
+        sum = sum.wrapping_add(looked_once(table, words));
     }
     sum
 }

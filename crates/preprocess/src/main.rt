@@ -47,12 +47,17 @@ fn runs_of(alloc: Global, request: &Request) -> Mem<Option<Vec<Vec<Vec<u8>>>>> {
     }
 }
 
+fn print_run(rt: &impl Print, words: &[Vec<u8>]) -> io::Result<()> {
+    println!(rt; "run")?;
+    for word in words {
+        println!(rt; "arg {}", Escaped(word))?;
+    }
+    Ok(())
+}
+
 fn print_runs(rt: &impl Print, runs: &[Vec<Vec<u8>>]) -> io::Result<()> {
-    for run in runs {
-        println!(rt; "run")?;
-        for word in run {
-            println!(rt; "arg {}", Escaped(word))?;
-        }
+    for words in runs {
+        print_run(rt, words)?;
     }
     Ok(())
 }
