@@ -23,9 +23,9 @@ with_line g line = record {
   };
 }
 
--- what a draft keeps
-abbrev pub kept_by : Draft → Gathered
-kept_by draft = record {
+-- what the lines of a draft name
+abbrev pub gathered_by : Draft → Gathered
+gathered_by draft = record {
   compilers = option_to_list draft.compiler;
   directories = map (λ path. path.items) (option_to_list draft.directory);
   words = words_of draft.words.items;

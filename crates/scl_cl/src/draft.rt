@@ -2,7 +2,7 @@
 ghost use Rattle.std.specs.Prelude.{◌≡◌, OnOk, false, Some, []};
 ghost use Rattle.std.specs.Option.{option_map};
 ghost use Rattle.scl_cl.specs.Requests.{breaks, gathered, request_of};
-ghost use Rattle.scl_cl.specs.Drafts.{with_line, kept_by, asked_by};
+ghost use Rattle.scl_cl.specs.Drafts.{with_line, gathered_by, asked_by};
 ghost use Rattle.scl_cl.specs.LinesRead.{said_by};
 
 use crate::compiler::Compiler;
@@ -39,7 +39,7 @@ pub(crate) struct Draft {
 impl Draft {
     /// A draft without any line.
     pub(crate) fn new(alloc: Global) -> Draft
-        ensures { kept_by result ≡ gathered [] }
+        ensures { gathered_by result ≡ gathered [] }
     {
         Draft {
             compiler: None,
@@ -52,7 +52,7 @@ impl Draft {
 
     /// Whether the line says again what stands once.
     pub(crate) fn refuses(&self, line: &Line) -> bool
-        ensures { result ≡ breaks (kept_by self.now) (Some (said_by line.now)) }
+        ensures { result ≡ breaks (gathered_by self.now) (Some (said_by line.now)) }
     {
         match line {
             Line::Compiler(_) => self.compiler.is_some(),
@@ -69,8 +69,8 @@ impl Draft {
 
     /// Takes what the line says.
     pub(crate) fn take(&mut self, line: Line) -> Mem<()>
-        requires { breaks (kept_by self.old) (Some (said_by line)) ≡ false }
-        ensures { OnOk result (kept_by self.new ≡ with_line (kept_by self.old) (said_by line)) }
+        requires { breaks (gathered_by self.old) (Some (said_by line)) ≡ false }
+        ensures { OnOk result (gathered_by self.new ≡ with_line (gathered_by self.old) (said_by line)) }
     {
         match line {
             Line::Blank => {}
@@ -88,7 +88,7 @@ impl Draft {
 
     /// The request, if a line named a compiler.
     pub(crate) fn finish(self, alloc: Global) -> Option<Request>
-        ensures { option_map asked_by result ≡ request_of (kept_by self) }
+        ensures { option_map asked_by result ≡ request_of (gathered_by self) }
     {
         Some(Request {
             compiler: self.compiler?,
