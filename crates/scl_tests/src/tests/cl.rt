@@ -9,8 +9,9 @@ mod requests;
 mod rows;
 mod within;
 
-use scl_cl::{Counted, Outcome, run};
+use scl_cl::{Counted, Outcome, Request, read_request, run};
 use std::alloc::Global;
+use std::test::Fail;
 
 /// How a run over memory ends, and what it writes.
 fn run_over(alloc: Global, request: &[u8]) -> (Outcome, Vec<u8>) {
@@ -18,4 +19,9 @@ fn run_over(alloc: Global, request: &[u8]) -> (Outcome, Vec<u8>) {
     let mut reader = Counted::new(request);
     let outcome = run(alloc, &mut reader, &mut Counted::new(&mut written));
     (outcome, written)
+}
+
+/// What a request asks; each of its lines is a request's.
+pub(crate) fn asked_by(alloc: Global, request: &[u8]) -> Result<Request, Fail> {
+    Ok(read_request(alloc, request)?.ok().ok_or("a bad line")?)
 }

@@ -1,4 +1,5 @@
 //! Calls of Msvc's module.
+use crate::tests::cl::asked_by;
 use crate::tests::records::{self, msvc};
 use crate::tests::words::{cut, joined};
 use scl_args::{Mem, SearchableArgInfo, looks};
@@ -46,26 +47,14 @@ fn a_compilation_with_shared_debug_information_may_not_be_kept(
     Ok(())
 }
 
-fn add_file(alloc: Global, view: &mut View, path: &[u8], bytes: &[u8]) -> Mem<()> {
-    view.add_file(
-        Vec::from_slice(alloc, path)?,
-        Vec::from_slice(alloc, bytes)?,
-    )
-}
-
 /// A file that names another, and that other.
-fn nested_files(alloc: Global) -> Mem<View> {
-    let mut view = View::new(alloc);
-    add_file(alloc, &mut view, b"r", b"-DA @s")?;
-    add_file(alloc, &mut view, b"s", b"-DB")?;
-    Ok(view)
-}
+static NESTED_FILES: &[u8] = b"compiler gcc\nfile r\t-DA\\x20@s\nfile s\t-DB\n";
 
 #[test]
 fn files_inside_files_are_put_in_place_for_gcc_and_not_for_msvc(
     rt: HostRuntime,
 ) -> Result<(), Fail> {
-    let (alloc, view) = (rt.alloc(), nested_files(rt.alloc())?);
+    let (alloc, view) = (rt.alloc(), asked_by(rt.alloc(), NESTED_FILES)?.view);
     let words = cut(alloc, b"@r")?;
     let gcc: Vec<Vec<u8>> = gcc::ExpandIncludeFile::new(alloc, b"", &words, &view).try_collect(
         alloc,

@@ -1,8 +1,9 @@
 //! The fields of the records that the compilers' parsers give.
+use super::asked_by;
 use super::rows::{name_and_row, request_in};
 use crate::tests::records::{msvc, record_in};
 use crate::tests::words::joined;
-use scl_cl::{CCompilerImpl, ColorMode, Compiler, Mem, ParsedArguments, Request, read_request};
+use scl_cl::{CCompilerImpl, ColorMode, Compiler, Mem, ParsedArguments, Request};
 use scl_gnu::clang::Clang;
 use scl_gnu::gcc::Gcc;
 use scl_small::diab::Diab;
@@ -147,9 +148,7 @@ fn expect_fields(rt: &(impl Abort + Alloc<A = Global>), row: &str) -> Result<(),
     let (compiler, row) = name_and_row(row)?;
     let (request, fields) = row.split_once(" => ").ok_or("no fields")?;
     let request = request_in(rt.alloc(), compiler, request)?;
-    let asked = read_request(rt.alloc(), request.as_bytes())?
-        .ok()
-        .ok_or("a bad line")?;
+    let asked = asked_by(rt.alloc(), request.as_bytes())?;
     let record = parsed(rt.alloc(), &asked)?;
     for wanted in fields.split(" | ") {
         let (name, want) = wanted.split_once(' ').ok_or("no value")?;

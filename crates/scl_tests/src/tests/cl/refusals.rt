@@ -1,6 +1,7 @@
 //! What is refused: the reason that the program answers, and the text that stands beside it.
+use super::asked_by;
 use super::rows::{expect_answer, name_and_row, request_in};
-use scl_cl::{CompilerArguments, read_request};
+use scl_cl::{Compilation, CompilerArguments};
 use std::alloc::Global;
 use std::process::Abort;
 use std::test::Fail;
@@ -61,11 +62,20 @@ cl: env CL \xff; /c x.c => CL environment variable value broken
 cl: env _CL_ \xff; /c x.c => _CL_ environment variable value broken
 "#;
 
-/// The reason for which a request is refused, with the text beside it in parentheses.
+/// The reason that an answer tells, with the text beside it in parentheses.
+fn refusal_in(alloc: Global, answer: &CompilerArguments<Compilation>) -> Result<String, Fail> {
+    match answer {
+        CompilerArguments::CannotCache(reason, Some(text)) => {
+            Ok(format!(in alloc; "{reason} ({text})")?)
+        }
+        CompilerArguments::CannotCache(reason, None) => Ok(String::from_str(alloc, reason)?),
+        CompilerArguments::Ok(_) | CompilerArguments::NotCompilation => Err("not refused")?,
+    }
+}
+
+/// The reason for which a request is refused.
 fn refusal(alloc: Global, request: &str) -> Result<String, Fail> {
-    let asked = read_request(alloc, request.as_bytes())?
-        .ok()
-        .ok_or("a bad line")?;
+    let asked = asked_by(alloc, request.as_bytes())?;
     let answer = asked.compiler.answer(
         alloc,
         b"cc",
@@ -74,13 +84,7 @@ fn refusal(alloc: Global, request: &str) -> Result<String, Fail> {
         &asked.environment,
         &asked.view,
     )?;
-    match answer {
-        CompilerArguments::CannotCache(reason, Some(text)) => {
-            Ok(format!(in alloc; "{reason} ({text})")?)
-        }
-        CompilerArguments::CannotCache(reason, None) => Ok(String::from_str(alloc, reason)?),
-        CompilerArguments::Ok(_) | CompilerArguments::NotCompilation => Err("not refused")?,
-    }
+    refusal_in(alloc, &answer)
 }
 
 fn expect_refusal(rt: &(impl Abort + Alloc<A = Global>), row: &str) -> Result<(), Fail> {

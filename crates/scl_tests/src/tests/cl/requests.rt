@@ -1,6 +1,6 @@
 //! The lines of requests.
-use super::run_over;
-use scl_cl::{Compiler, Outcome, read_request};
+use super::{asked_by, run_over};
+use scl_cl::{Compiler, Outcome};
 use std::alloc::Global;
 use std::process::Abort;
 use std::test::Fail;
@@ -147,7 +147,7 @@ fn the_directory_stands_at_most_once(rt: HostRuntime) {
 fn a_request_has_what_its_lines_say(rt: HostRuntime) -> Result<(), Fail> {
     let bytes =
         b"word -c\nfile a/./b\tone\nenv A\tx\\x09y\ncompiler g++\ncwd /w\\x20d\ndir d\nmultiarch\nexists e\nword \nfile a/b\ttwo\nenv B\t";
-    let request = read_request(rt.alloc(), bytes)?.ok().ok_or("a bad line")?;
+    let request = asked_by(rt.alloc(), bytes)?;
     assert!(rt; request.compiler == Compiler::Gxx);
     assert!(rt; request.directory.as_slice() == b"/w d".as_slice());
     assert!(rt; request.words.len() == 2);
@@ -169,9 +169,7 @@ fn a_request_has_what_its_lines_say(rt: HostRuntime) -> Result<(), Fail> {
 
 #[test]
 fn without_a_line_the_directory_is_empty(rt: HostRuntime) -> Result<(), Fail> {
-    let request = read_request(rt.alloc(), b"compiler tasking")?
-        .ok()
-        .ok_or("a bad line")?;
+    let request = asked_by(rt.alloc(), b"compiler tasking")?;
     assert!(rt; request.compiler == Compiler::Tasking);
     assert!(rt; request.directory.is_empty() && request.words.is_empty());
     assert!(rt; request.environment.is_empty() && !request.view.multiarch());

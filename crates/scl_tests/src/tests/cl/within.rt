@@ -1,9 +1,8 @@
 //! Answers to command lines of at most so many words.
+use super::asked_by;
 use super::rows::{nested_files, request_of};
 use crate::tests::words::cut;
-use scl_cl::{
-    Compilation, Compiler, CompilerArguments, Mem, Request, TooManyWords, View, read_request,
-};
+use scl_cl::{Compilation, Compiler, CompilerArguments, Mem, Request, TooManyWords, View};
 use std::alloc::Global;
 use std::process::Abort;
 use std::test::Fail;
@@ -13,10 +12,7 @@ use std::test::Fail;
 fn doubling_files(alloc: Global, files: u32) -> Result<Request, Fail> {
     let lines = nested_files(alloc, files, 2, "-DA")?;
     let request = request_of(alloc, Compiler::Gcc, lines.as_str(), "")?;
-    let asked = read_request(alloc, request.as_bytes())?
-        .ok()
-        .ok_or("a bad line")?;
-    Ok(asked)
+    asked_by(alloc, request.as_bytes())
 }
 
 fn answer_within(
