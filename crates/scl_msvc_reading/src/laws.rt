@@ -8,6 +8,16 @@ ghost use Rattle.scl_gnu_reading.specs.ClangRows.{clang_tables};
 ghost use Rattle.scl_msvc_reading.specs.Again.{carried, carried_inner};
 ghost use Rattle.scl_msvc_reading.specs.Places.{side_of_flag};
 ghost use Rattle.scl_msvc_reading.specs.Rows.{msvc_tables};
+ghost use Rattle.scl_msvc_reading.specs.declared.msvc.data.Kind.{Kind};
+ghost use Rattle.scl_msvc_reading.specs.declared.msvc.place.Place.{Place};
+ghost use Rattle.scl_msvc_reading.specs.contracts.msvc.data.KindPartialEq.TheImpl as kinds;
+ghost use Rattle.scl_msvc_reading.specs.contracts.msvc.place.PlacePartialEq.TheImpl as places;
+
+/// Laws of `==`, which definitions cite: kinds of options that are equal are one, and so are places.
+pub fn of_equality()
+    ensures kinds_are_told_apart { (a b : Kind) → kinds.ghosts.eq a b ≡ true → a ≡ b }
+    ensures places_are_told_apart { (a b : Place) → places.ghosts.eq a b ≡ true → a ≡ b }
+{}
 
 /// Laws of the written tables (docs/RULES.md, Cutting again, and Words that name response files):
 ///

@@ -1,5 +1,5 @@
 //! What follows for the tables and commands of Diab and TaskingVX: each law is a clause of a function that does nothing.
-ghost use Rattle.std.specs.Prelude.{◌∷◌, []};
+ghost use Rattle.std.specs.Prelude.{◌≡◌, ◌∷◌, [], true};
 ghost use Rattle.scl_args.specs.Options.{side_of_flag};
 ghost use Rattle.scl_again.specs.Checks.{PassChecks};
 ghost use Rattle.scl_small.specs.ReadAgain.{every_kind, CommandsAreReadAgain, RecordsHaveObjects, LinesHaveNoEmpty};
@@ -9,6 +9,13 @@ ghost use Rattle.scl_small.specs.TaskingTable as tasking_table;
 ghost use Rattle.scl_small.specs.TaskingReading as tasking;
 ghost use Rattle.scl_small.specs.declared.diab.args.Kind.TheVariants as diab_kinds;
 ghost use Rattle.scl_small.specs.declared.tasking_vx.args.Kind.TheVariants as tasking_kinds;
+ghost use Rattle.scl_small.specs.declared.place.Place.{Place};
+ghost use Rattle.scl_small.specs.contracts.place.PlacePartialEq.TheImpl as places;
+
+/// The law of `==`, which definitions cite: places of options that are equal are one.
+pub fn of_equality()
+    ensures places_are_told_apart { (a b : Place) → places.ghosts.eq a b ≡ true → a ≡ b }
+{}
 
 /// Laws of the written tables: each passes both checks (docs/RULES.md, Cutting again).
 pub fn of_tables()
