@@ -17,10 +17,10 @@ use Rattle.scl_values.specs.Seen.{Plain, plain, plain_seen, Seen, shown}
 use Rattle.scl_values.specs.Seen as plain
 use Rattle.scl_again.specs.Reads.{Reads}
 use Rattle.scl_again.specs.Checks.{extends, keeps_flags, joins_safely, is_changing, is_changing_shape, is_joining, is_together}
-use Rattle.scl_again.specs.Origins.{is_mark, Owns, StandsEither, ValueCame, HasSome, IsClear, IsKept}
+use Rattle.scl_again.specs.Origins.{is_mark, Owns, StandsEither, ValueCame, HasSome, IsClear, IsKept, FirstIsOwned, PrintsOwned}
 use Rattle.scl_tables.proofs.PrefixLemmas.{both}
 use Rattle.scl_again.proofs.OriginLaws.{owned_word, has_row, CameUnmarked, all_unmarked, cut_came}
-use Rattle.scl_again.specs.Laws.{PrintsAgain}
+use Rattle.scl_again.specs.Laws.{PrintsAgain, PrintedWordsHaveTheirOwner}
 use Rattle.scl_args.proofs.OwnerLaws.{owner_in-is}
 use Rattle.scl_again.proofs.AgainChecks.{owner-flag, flag-no_dash, owner-joined}
 use Rattle.scl_again.proofs.ReadsLaws.{reads-flag, reads-apart, reads-either_apart, reads-joined, reads-either_joined, reads-unknown, reads-raw, reads-append, reads-nil}
@@ -76,8 +76,15 @@ module _ {K : Type 0} (own : List ℕ → Option (Row K)) (dashes : Bool) (rows 
         no_mark = no-mark dashes row.flag (delimited d (x ∷ xs)) (flag-no_dash changing joining rows keeps row has c);
       }
 
+  owns-either_flag : (row : Row K) (d : Option ℕ) → row.shape ≡ either d → Has rows row → Owns own dashes row.flag row
+  owns-either_flag row d s has = owns-flag row has (covers row (ap (is_changing_shape (kept row.kind)) s))
+
+  owns-either_joined : (row : Row K) (d : Option ℕ) (v : List ℕ) → row.shape ≡ either d → Has rows row → HasSome (either d) v → is_together (to row.flag) ≡ true → Owns own dashes (row.flag ++ delimited d v) row
+  owns-either_joined row d [] s has some t = absurd some
+  owns-either_joined row d (x ∷ xs) s has some t = owns-joined row d x xs has s t
+
   again-either_apart : (row : Row K) (d : Option ℕ) (v : List ℕ) → row.shape ≡ either d → Has rows row → Reads own dashes (row.flag ∷ (v ∷ [])) (plain.value row.flag row.kind v ∷ [])
-  again-either_apart row d v s has = reads-either_apart own dashes row d v s (owns-flag row has (covers row (ap (is_changing_shape (kept row.kind)) s)))
+  again-either_apart row d v s has = reads-either_apart own dashes row d v s (owns-either_flag row d s has)
 
   again-either_joined : (row : Row K) (d : Option ℕ) (v : List ℕ) → row.shape ≡ either d → Has rows row → HasSome (either d) v → is_together (to row.flag) ≡ true → Reads own dashes ((row.flag ++ delimited d v) ∷ []) (plain.value row.flag row.kind v ∷ [])
   again-either_joined row d [] s has some t = absurd some
@@ -108,6 +115,12 @@ module _ {K : Type 0} (own : List ℕ → Option (Row K)) (dashes : Bool) (rows 
   owns-cat row None (x ∷ xs) s k j o = o
   owns-cat row (Some d) (x ∷ xs) s k j o = owns-cat_delimiter row d x xs s k (equal d x j) o
 
+  owns-joined_value : (row : Row K) (d : Option ℕ) (v : List ℕ) (h : ArgDisposition) → row.shape ≡ joined d → kept row.kind ≡ true → ValueCame own dashes row (joined d) v h → Owns own dashes (row.flag ++ delimited d v) row
+  owns-joined_value row d v h e k came = subst (λ u. Owns own dashes (row.flag ++ delimited d u) row) (sym came.1.3) (owns-cat row d came.1.0 e k came.1.2 came.1.1)
+
+  has-either : (row : Row K) (d : Option ℕ) (v : List ℕ) (h : ArgDisposition) → StandsEither own dashes row d v h → Has rows row
+  has-either row d v h came = let w = owned_word own dashes row d v h came in has_row own dashes rows by_rows row w.0 w.1
+
   again-shape : (row : Row K) (s : Shape) (v : List ℕ) (h : ArgDisposition) → row.shape ≡ s → ValueCame own dashes row s v h → HasSome s v → kept row.kind ≡ true → Again row v h (to row.flag)
   again-shape row bare v h e came some k = absurd came
   again-shape row apart v h e came some k = elim (to row.flag) as (λ s. Again row v h s) [
@@ -115,12 +128,49 @@ module _ {K : Type 0} (own : List ℕ → Option (Row K)) (dashes : Bool) (rows 
     | side.Separated ↦ rw came.0 (reads-apart own dashes row v e came.1)
   ]
   again-shape row (joined d) v h e came some k =
-      let o : Owns own dashes (row.flag ++ delimited d v) row = subst (λ u. Owns own dashes (row.flag ++ delimited d u) row) (sym came.1.3) (owns-cat row d came.1.0 e k came.1.2 came.1.1) in
+      let o = owns-joined_value row d v h e k came in
       elim (to row.flag) as (λ s. Again row v h s) [
         | side.Concatenated ↦ rw came.0 (reads-joined own dashes row d v e o)
         | side.Separated ↦ rw came.0 (reads-joined own dashes row d v e o)
       ]
-  again-shape row (either d) v h e came some k = again-either row d v h (to row.flag) e (let w = owned_word own dashes row d v h came in has_row own dashes rows by_rows row w.0 w.1) some refl came
+  again-shape row (either d) v h e came some k = again-either row d v h (to row.flag) e (has-either row d v h came) some refl came
+
+  abbrev Owned : Row K → List ℕ → ArgDisposition → NormalizedDisposition → Type 0
+  Owned row v h s = FirstIsOwned own dashes row (spell_value row.flag v (normal_how s h))
+
+  owned-either : (row : Row K) (d : Option ℕ) (v : List ℕ) (h : ArgDisposition) (s : NormalizedDisposition) → row.shape ≡ either d → Has rows row → HasSome (either d) v → to row.flag ≡ s → StandsEither own dashes row d v h → Owned row v h s
+  owned-either row d v how.Separated s e has some t k = absurd k
+  owned-either row d v (how.CanBeConcatenated f) side.Concatenated e has some t k = owns-either_joined row f v (e ∙ ap either k.0) has (subst (λ g. HasSome (either g) v) k.0 some) (ap is_together t)
+  owned-either row d v (how.CanBeConcatenated f) side.Separated e has some t k = owns-either_flag row d e has
+  owned-either row d v (how.CanBeSeparated f) side.Concatenated e has some t k = owns-either_joined row f v (e ∙ ap either k.0) has (subst (λ g. HasSome (either g) v) k.0 some) (ap is_together t)
+  owned-either row d v (how.CanBeSeparated f) side.Separated e has some t k = owns-either_flag row d e has
+  owned-either row d [] (how.Concatenated f) s e has some t k = absurd some
+  owned-either row d (x ∷ xs) (how.Concatenated f) s e has some t k = absurd (let n : x ∷ xs ≡ [] = k.0 in cc)
+
+  owned-shape : (row : Row K) (s : Shape) (v : List ℕ) (h : ArgDisposition) → row.shape ≡ s → ValueCame own dashes row s v h → HasSome s v → kept row.kind ≡ true → Owned row v h (to row.flag)
+  owned-shape row bare v h e came some k = absurd came
+  owned-shape row apart v h e came some k = elim (to row.flag) as (λ s. Owned row v h s) [
+    | side.Concatenated ↦ rw came.0 came.1
+    | side.Separated ↦ rw came.0 came.1
+  ]
+  owned-shape row (joined d) v h e came some k =
+      let o = owns-joined_value row d v h e k came in
+      elim (to row.flag) as (λ s. Owned row v h s) [
+        | side.Concatenated ↦ rw came.0 o
+        | side.Separated ↦ rw came.0 o
+      ]
+  owned-shape row (either d) v h e came some k = owned-either row d v h (to row.flag) e (has-either row d v h came) some refl came
+
+  -- the first word that an option prints, owned by its row
+  owned : (c : Cut K) → CameUnmarked own dashes c → IsClear c → IsKept dashes kept c → PrintsOwned own dashes to c
+  owned (raw w) came clear k = tt
+  owned (unknown w) came clear k = tt
+  owned (flag row) came clear k = came.0
+  owned (with_value row v h) came clear k = owned-shape row row.shape v h refl came clear k
+
+  pub each-owned : (cs : List (Cut K)) → Each (CameUnmarked own dashes) cs → Each IsClear cs → Each (λ c. IsKept dashes kept c → PrintsOwned own dashes to c) cs
+  each-owned [] came clear = tt
+  each-owned (c ∷ cs) came clear = (λ k. owned c came.0 clear.0 k, each-owned cs came.1 clear.1)
 
   -- an option that words were cut into, printed and cut again
   pub again : (c : Cut K) → CameUnmarked own dashes c → IsClear c → IsKept dashes kept c → Reads own dashes (spelled_on to (shown c)) (plain c ∷ [])
@@ -144,6 +194,11 @@ module _ {K : Type 0} (own : List ℕ → Option (Row K)) (dashes : Bool) (rows 
       seen-again (unknown w) a b d = again (unknown w) a b d
       seen-again (flag row) a b d = again (flag row) a b d
       seen-again (with_value row v h) a b d = again (with_value row v h) a b d
+
+-- by tables that pass both checks, the first word that an option prints is owned by its row
+pub prints_owned : {K : Type 0} → PrintedWordsHaveTheirOwner K
+prints_owned tables dashes kept to pass words clear =
+    each-owned (owner_in tables) dashes (all_rows tables) (owner_in-is tables) kept to _ _ (λ row e. e) (λ row e. e) pass.keeps pass.safe _ (all_unmarked (owner_in tables) dashes _ (cut_came (owner_in tables) dashes (all_rows tables) (owner_in-is tables) words)) clear
 
 -- by tables that pass both checks, a list of options of a cutting is read again
 pub prints_again : {K : Type 0} → PrintsAgain K

@@ -15,7 +15,7 @@ use Rattle.scl_values.specs.Spell.{delimited, normal_how, spell_value}
 use Rattle.scl_values.specs.Tables.{owner_in, all_rows}
 use Rattle.scl_args.specs.Wrapped.{wrapped_apart, wrapped_joined}
 use Rattle.scl_args.proofs.OwnerLaws.{owner_in-is}
-use Rattle.scl_again.specs.NoFiles.{NamesNoFile, GivesNoFile, is_plain, has_plain_flags}
+use Rattle.scl_again.specs.NoFiles.{NamesNoFile, GivesNoFile, is_plain_flag, has_plain_flags}
 use Rattle.scl_again.proofs.AgainChecks.{implied}
 use Rattle.scl_again.proofs.FilterLaws.{from-last}
 use Rattle.scl_again.proofs.OriginLaws.{CameUnmarked, all_unmarked, cut_came, has_row, value_row}
@@ -28,11 +28,11 @@ each-append P [] ys h k = k
 each-append P (x ∷ xs) ys h k = (h.0, each-append P xs ys h.1 k)
 
 -- what begins with a plain word names no file
-pub plain-first : (f rest : List ℕ) → is_plain f ≡ true → NamesNoFile (f ++ rest)
+pub plain-first : (f rest : List ℕ) → is_plain_flag f ≡ true → NamesNoFile (f ++ rest)
 plain-first [] rest e = absurd (cc)
 plain-first (x ∷ f) rest e = elim (x == 64) as (λ b. not b ≡ true → b ≡ false) [ true ↦ λ n. absurd (cc) | false ↦ λ n. refl ] e
 
-pub plain-itself : (f : List ℕ) → is_plain f ≡ true → NamesNoFile f
+pub plain-itself : (f : List ℕ) → is_plain_flag f ≡ true → NamesNoFile f
 plain-itself [] e = refl
 plain-itself (x ∷ f) e = plain-first (x ∷ []) f e
 
@@ -42,9 +42,9 @@ plain-itself (x ∷ f) e = plain-first (x ∷ []) f e
 abbrev pub HasPlainFlag : {K : Type 0} → Seen K → Type 0
 HasPlainFlag (Raw w) = Unit {0}
 HasPlainFlag (Unknown w) = Unit {0}
-HasPlainFlag (Known f k v h) = is_plain f ≡ true
+HasPlainFlag (Known f k v h) = is_plain_flag f ≡ true
 
-value-words : (f v : List ℕ) (d : ArgDisposition) → is_plain f ≡ true → NamesNoFile v → Each NamesNoFile (spell_value f v d)
+value-words : (f v : List ℕ) (d : ArgDisposition) → is_plain_flag f ≡ true → NamesNoFile v → Each NamesNoFile (spell_value f v d)
 value-words f v how.Separated p n = (plain-itself f p, (n, tt))
 value-words f v (how.CanBeConcatenated d) p n = (plain-itself f p, (n, tt))
 value-words f v (how.CanBeSeparated d) p n = (plain-first f (delimited d v) p, tt)
@@ -67,8 +67,8 @@ module _ {K : Type 0} (tables : List (List (Row K))) (dashes : Bool) (t : K → 
   abbrev own : List ℕ → Option (Row K)
   own = owner_in tables
 
-  plain-row : (row : Row K) → Has (all_rows tables) row → t row.kind ≡ true → is_plain row.flag ≡ true
-  plain-row row has e = implied (t row.kind) (is_plain row.flag) (has-all (λ row. not (t row.kind) || is_plain row.flag) (all_rows tables) row plain has) e
+  plain-row : (row : Row K) → Has (all_rows tables) row → t row.kind ≡ true → is_plain_flag row.flag ≡ true
+  plain-row row has e = implied (t row.kind) (is_plain_flag row.flag) (has-all (λ row. not (t row.kind) || is_plain_flag row.flag) (all_rows tables) row plain has) e
 
   module _ (p : Seen K → Bool) (keeps : (f : List ℕ) (k : K) (v : List ℕ) (h : Option ArgDisposition) → p (Known f k v h) ≡ true → t k ≡ true) where
     plain-cut : (c : Cut K) → CameUnmarked own dashes c → p (shown c) ≡ true → HasPlainFlag (shown c)
@@ -113,7 +113,7 @@ module _ {K : Type 0} (p : Seen K → Bool) where
   one-none os x n e = (subst (λ xs. Each NamesNoFile xs) e (texts-of (filter p os) (passed GivesNoFile os n))).0
 
 -- words behind a wrapper
-module _ (wrapper : List ℕ) (plain : is_plain wrapper ≡ true) where
+module _ (wrapper : List ℕ) (plain : is_plain_flag wrapper ≡ true) where
   pub apart-none : (ws : List (List ℕ)) → Each NamesNoFile ws → Each NamesNoFile (flat_map (wrapped_apart wrapper) ws)
   apart-none [] h = tt
   apart-none (w ∷ ws) h = (plain-itself wrapper plain, (h.0, apart-none ws h.1))

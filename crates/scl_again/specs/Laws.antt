@@ -10,7 +10,7 @@ use Rattle.scl_args.specs.Options.{judged, list}
 use Rattle.scl_values.specs.Each.{Each}
 use Rattle.scl_again.specs.Reads.{Reads}
 use Rattle.scl_again.specs.Checks.{PassChecks, is_last, next_is_clear}
-use Rattle.scl_again.specs.Origins.{AllCame, BeginsWithMark, HasNoOwner, IsClear, IsKept}
+use Rattle.scl_again.specs.Origins.{AllCame, BeginsWithMark, HasNoOwner, IsClear, IsKept, PrintsOwned}
 
 -- each option of a cutting came from a word of its row or of none, up to the mark; it and what stands behind it are raw
 abbrev pub OptionsCame : Type 0 → Type 0
@@ -37,6 +37,13 @@ JudgedAreClear K V = (tables : List (List (Row K))) (dashes : Bool) (words : Lis
 -- in a table, no flag goes on after a flag where the next greater one does not
 abbrev pub NextFlagSuffices : Type 0 → Type 0
 NextFlagSuffices K = (rows : List (Row K)) → is_table rows ≡ true → (f : List ℕ) → next_is_clear f rows ≡ true → is_last f rows ≡ true
+
+-- by tables that pass both checks, the first word that an option of a cutting prints is owned by the option's row: the flag, where the value stands apart
+abbrev pub PrintedWordsHaveTheirOwner : Type 0 → Type 0
+PrintedWordsHaveTheirOwner K = (tables : List (List (Row K))) (dashes : Bool) (kept : K → Bool) (to : List ℕ → NormalizedDisposition) → PassChecks tables kept to →
+    (words : List (List ℕ)) →
+    let options = (cut (owner_in tables) dashes words).options in
+    Each IsClear options → Each (λ c. IsKept dashes kept c → PrintsOwned (owner_in tables) dashes to c) options
 
 -- by tables that pass both checks, a list of options of a cutting, printed, is cut into those options again, whatever words follow
 abbrev pub PrintsAgain : Type 0 → Type 0

@@ -23,10 +23,10 @@ NamesNoFileOfItsOwn said object command =
 -- ---- tables
 
 -- whether the word has a first byte, which is not @
-abbrev pub is_plain : List ℕ → Bool
-is_plain [] = false
-is_plain (x ∷ xs) = not (x == 64)
+abbrev pub is_plain_flag : List ℕ → Bool
+is_plain_flag [] = false
+is_plain_flag (x ∷ xs) = not (x == 64)
 
 -- whether the rows of these kinds have plain flags
 abbrev pub has_plain_flags : {K : Type 0} → (K → Bool) → List (Row K) → Bool
-has_plain_flags t rows = list_all (λ row. not (t row.kind) || is_plain row.flag) rows
+has_plain_flags t rows = list_all (λ row. not (t row.kind) || is_plain_flag row.flag) rows

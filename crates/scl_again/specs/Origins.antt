@@ -3,10 +3,11 @@ use Rattle.std.specs.Prelude.{◌≡◌, ℕ, Bool, true, false, ◌&&◌, List,
 use Rattle.std.specs.Str.{bytes_eq}
 use Rattle.scl_values.specs.declared.argument.ArgDisposition.{ArgDisposition}
 use Rattle.scl_values.specs.declared.argument.ArgDisposition.TheVariants as how
+use Rattle.scl_values.specs.declared.argument.NormalizedDisposition.{NormalizedDisposition}
 use Rattle.scl_values.specs.Row.{Row, Shape, bare, apart, joined, either, joins}
 use Rattle.scl_values.specs.Cuts.{mark, Cut, raw, unknown, flag, with_value, starts_with_dash, after_delimiter, cut}
 use Rattle.scl_values.specs.Seen.{Seen, shown}
-use Rattle.scl_args.specs.Options.{dash_words}
+use Rattle.scl_args.specs.Options.{dash_words, spelled_on}
 use Rattle.scl_values.specs.Each.{Each}
 
 -- whether the word ends the options
@@ -92,6 +93,18 @@ IsKept dashes kept (raw w) = dashes ≡ false
 IsKept dashes kept (unknown w) = Unit {0}
 IsKept dashes kept (flag row) = Unit {0}
 IsKept dashes kept (with_value row v h) = kept row.kind ≡ true
+
+-- the row owns the first of the words
+abbrev pub FirstIsOwned : {K : Type 0} → (List ℕ → Option (Row K)) → Bool → Row K → List (List ℕ) → Type 0
+FirstIsOwned own dashes row [] = ⊥
+FirstIsOwned own dashes row (w ∷ ws) = Owns own dashes w row
+
+-- the row of the option, where it has one, owns the first word that the option prints
+abbrev pub PrintsOwned : {K : Type 0} → (List ℕ → Option (Row K)) → Bool → (List ℕ → NormalizedDisposition) → Cut K → Type 0
+PrintsOwned own dashes to (raw w) = Unit {0}
+PrintsOwned own dashes to (unknown w) = Unit {0}
+PrintsOwned own dashes to (flag row) = FirstIsOwned own dashes row (spelled_on to (shown (flag row)))
+PrintsOwned own dashes to (with_value row v h) = FirstIsOwned own dashes row (spelled_on to (shown (with_value row v h)))
 
 -- the first raw word is an input or the mark
 abbrev pub FirstRaw : {K : Type 0} → (List ℕ → Option (Row K)) → Bool → List (Cut K) → Type 0

@@ -1,6 +1,6 @@
 //! What follows from the definitions of cutting and printing for words that are printed and cut again: each law is a
 //! clause of a function that does nothing.
-ghost use Rattle.scl_again.specs.Laws.{PrintsAgain, OptionsCame, RawAndUnknownWordsHaveNoOwner, EmptyValuesAreSeen, JudgedAreClear, NextFlagSuffices};
+ghost use Rattle.scl_again.specs.Laws.{PrintsAgain, OptionsCame, RawAndUnknownWordsHaveNoOwner, EmptyValuesAreSeen, JudgedAreClear, NextFlagSuffices, PrintedWordsHaveTheirOwner};
 
 /// Laws of words that options print and that are cut again (docs/RULES.md, Cutting again):
 ///
@@ -13,8 +13,10 @@ ghost use Rattle.scl_again.specs.Laws.{PrintsAgain, OptionsCame, RawAndUnknownWo
 /// - `judged_options_are_clear`: options that words are cut into, of which none is refused where empty values of either
 ///   rows are, have no such values;
 /// - `next_flag_suffices`: in a table, no flag goes on after a flag where the next greater one does not;
-/// - `prints_again`: by tables that pass two checks for the kinds of these options, options that words were cut into,
-///   without empty values of either rows (and without raw ones, where `--` ends options), printed, are cut into those
+/// - `printed_words_have_their_owner`: by tables that pass two checks for the kinds of these options, the first word that an
+///   option prints, of those that words were cut into without empty values of either rows, is owned by the row of the
+///   option: its flag where the value stands apart, else the flag with the value;
+/// - `prints_again`: by such tables, such options (without raw ones, where `--` ends options), printed, are cut into those
 ///   options again, whatever words follow.
 pub fn of_words_cut_again<K, V>()
     ensures options_came { OptionsCame K }
@@ -22,5 +24,6 @@ pub fn of_words_cut_again<K, V>()
     ensures empty_values_are_seen { EmptyValuesAreSeen K }
     ensures judged_options_are_clear { JudgedAreClear K V }
     ensures next_flag_suffices { NextFlagSuffices K }
+    ensures printed_words_have_their_owner { PrintedWordsHaveTheirOwner K }
     ensures prints_again { PrintsAgain K }
 {}

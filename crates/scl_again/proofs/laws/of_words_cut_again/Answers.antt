@@ -3,7 +3,7 @@ use Rattle.scl_args.proofs.OwnerLaws.{owner_in-is}
 use Rattle.scl_again.proofs.OriginLaws.{cut_came, none_owned}
 use Rattle.scl_again.proofs.EmptyLaws.{empty_values_are_seen, judged-clear}
 use Rattle.scl_again.proofs.NextFlagLaws.{is_last-next}
-use Rattle.scl_again.proofs.AgainLaws.{prints_again}
+use Rattle.scl_again.proofs.AgainLaws.{prints_again, prints_owned}
 use Rattle.scl_again.proofs.laws.of_words_cut_again.Goals as goal
 
 pub returns-clause-options_came : goal.returns-clause-options_came
@@ -22,6 +22,9 @@ returns-clause-judged_options_are_clear g c = judged-clear
 
 pub returns-clause-next_flag_suffices : goal.returns-clause-next_flag_suffices
 returns-clause-next_flag_suffices g c = λ rows table f clear. is_last-next f rows table clear
+
+pub returns-clause-printed_words_have_their_owner : goal.returns-clause-printed_words_have_their_owner
+returns-clause-printed_words_have_their_owner g c = prints_owned
 
 pub returns-clause-prints_again : goal.returns-clause-prints_again
 returns-clause-prints_again g c = prints_again
