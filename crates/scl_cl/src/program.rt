@@ -1,5 +1,5 @@
 //! The program, over a reader and a writer.
-ghost use Rattle.std.specs.Prelude.{◌≡◌, ◌≢◌, ◌^◌, ◌≤◌, ◌⊎◌, ℕ, List, length, take, IfOk, IfSome, MatchResult, Ok, Err};
+ghost use Rattle.std.specs.Prelude.{◌≡◌, ◌≢◌, ◌^◌, ◌<◌, ◌⊎◌, ℕ, List, length, take, IfOk, IfSome, MatchResult, Ok, Err};
 ghost use Rattle.std.specs.Io.KnownBytes.{Appends, IsAtEnd};
 ghost use Rattle.scl_devices.specs.Counts.{one_more};
 ghost use Rattle.scl_cl.specs.Transfers.{Gave};
@@ -64,9 +64,9 @@ pub fn run<R: Read, W: Write>(
     ensures read_failed { result ≡ Outcome.ReadFailed → (reader.new.failed ≡ one_more reader.old.failed)
         ⊎ (Gave (R.remaining reader.old.device) (R.remaining reader.new.device) (2 ^ 40) × (reader.new.failed ≡ reader.old.failed)) }
     ensures reader_told { result ≢ Outcome.ReadFailed → reader.new.failed ≡ reader.old.failed }
-    // A beginning of the answer was written, and the writer failed.
+    // A beginning of the answer was written, not all of it, and the writer failed.
     ensures write_failed { result ≡ Outcome.WriteFailed → IfSome (R.remaining reader.old.device) (λ bytes.
-        (text : List ℕ) × (n : ℕ) × (answer bytes ≡ Ok text) × (n ≤ length text) × Appends (W.contents writer.old.device) (W.contents writer.new.device) (take n text)) }
+        (text : List ℕ) × (n : ℕ) × (answer bytes ≡ Ok text) × (n < length text) × Appends (W.contents writer.old.device) (W.contents writer.new.device) (take n text)) }
     // The first write that fails ends the run, and is told.
     ensures writer_failed { result ≡ Outcome.WriteFailed → writer.new.failed ≡ one_more writer.old.failed }
     ensures writer_told { result ≢ Outcome.WriteFailed → writer.new.failed ≡ writer.old.failed }
