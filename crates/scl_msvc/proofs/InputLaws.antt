@@ -1,7 +1,7 @@
 -- The input of a command is read again: raw, behind the mark or before any, or as the value of the flag of its language.
 use Rattle.std.proofs.Common.{◌≡◌, ℕ, Bool, true, false, cond, ◌||◌, List, [], ◌∷◌, ◌++◌, map, Option, None, Some, refl, sym, ap, subst, ◌∙◌}
 use Rattle.std.specs.Option.{option_and_then}
-use Rattle.std.specs.Prelude.{codes}
+use Rattle.std.specs.Prelude.{codes, unwrap_or}
 use Rattle.scl_values.specs.Cuts.{cut}
 use Rattle.scl_values.specs.Each.{Each}
 use Rattle.scl_args.specs.Options.{dash_words, first_is, is_behind_dashes, is_dashes, texts}
@@ -72,7 +72,7 @@ module _ (dashes : Bool) where
 
 abbrev InputRead : Bool → Language → List ℕ → (is_said marked : Bool) → Type 0
 InputRead dashes l x is_said marked =
-    read own dashes (dash_words marked ++ cond is_said (language_flag l ++ x) x ∷ []) ≡ cleanly (mark_option marked ++ input_option is_said l x ∷ [])
+    read own dashes (dash_words marked ++ cond is_said (unwrap_or (language_flag l) [] ++ x) x ∷ []) ≡ cleanly (mark_option marked ++ input_option is_said l x ∷ [])
 
 -- an option that names its input's language, and is not refused
 said-again : (is_clang : Bool) (l : Language) (x : List ℕ) (o : Seen Kind) → names_language o ≡ true → language_said o ≡ Some l → text_of o ≡ x → verdict is_clang [] o ≡ None

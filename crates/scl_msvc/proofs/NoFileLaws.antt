@@ -55,7 +55,7 @@ dash-none : (marked : Bool) → NameNone (dash_words marked)
 dash-none true = (refl, tt)
 dash-none false = tt
 
-flagged-none : (l : Language) (input : List ℕ) → NamesNoFile input → NamesNoFile (language_flag l ++ input)
+flagged-none : (l : Language) (input : List ℕ) → NamesNoFile input → NamesNoFile (unwrap_or (language_flag l) [] ++ input)
 flagged-none languages.C input n = refl
 flagged-none languages.Cxx input n = refl
 flagged-none languages.Assembler input n = n
@@ -73,7 +73,7 @@ flagged-none languages.Rust input n = n
 flagged-none languages.Hip input n = n
 
 input-none : (p : Parsed) → NamesNoFile p.input → NamesNoFile (input_word p)
-input-none p n = elim (p.msvc_explicit_language) as (λ b. NamesNoFile (if b then language_flag p.language ++ p.input else p.input)) [
+input-none p n = elim (p.msvc_explicit_language) as (λ b. NamesNoFile (if b then unwrap_or (language_flag p.language) [] ++ p.input else p.input)) [
   | true ↦ flagged-none p.language p.input n
   | false ↦ n
 ]

@@ -1,5 +1,5 @@
 -- The words of a compile command, and whether its outcome may be kept.
-use Rattle.std.specs.Prelude.{ℕ, List, [], ◌∷◌, ◌++◌, Option, None, Some, codes, if◌then◌else◌}
+use Rattle.std.specs.Prelude.{ℕ, List, [], ◌∷◌, ◌++◌, Option, None, Some, codes, unwrap_or, if◌then◌else◌}
 use Rattle.scl_args.specs.Options.{dash_words}
 use Rattle.scl_text.specs.declared.language.Language.{Language}
 use Rattle.scl_text.specs.declared.language.Language.TheVariants as languages
@@ -18,26 +18,26 @@ abbrev pub list_words : Parsed → List (List ℕ)
 list_words p = lists_with p.unhashed_args p
 
 -- the flag that says that an input has the language: there is one for C and one for C++
-abbrev pub language_flag : Language → List ℕ
-language_flag languages.C = codes "-Tc"
-language_flag languages.Cxx = codes "-Tp"
-language_flag languages.Assembler = []
-language_flag languages.AssemblerToPreprocess = []
-language_flag languages.CHeader = []
-language_flag languages.GenericHeader = []
-language_flag languages.CxxHeader = []
-language_flag languages.CxxModule = []
-language_flag languages.ObjectiveC = []
-language_flag languages.ObjectiveCHeader = []
-language_flag languages.ObjectiveCxx = []
-language_flag languages.ObjectiveCxxHeader = []
-language_flag languages.Cuda = []
-language_flag languages.Rust = []
-language_flag languages.Hip = []
+abbrev pub language_flag : Language → Option (List ℕ)
+language_flag languages.C = Some (codes "-Tc")
+language_flag languages.Cxx = Some (codes "-Tp")
+language_flag languages.Assembler = None
+language_flag languages.AssemblerToPreprocess = None
+language_flag languages.CHeader = None
+language_flag languages.GenericHeader = None
+language_flag languages.CxxHeader = None
+language_flag languages.CxxModule = None
+language_flag languages.ObjectiveC = None
+language_flag languages.ObjectiveCHeader = None
+language_flag languages.ObjectiveCxx = None
+language_flag languages.ObjectiveCxxHeader = None
+language_flag languages.Cuda = None
+language_flag languages.Rust = None
+language_flag languages.Hip = None
 
 -- the input, together with the flag of its language where a flag said that
 abbrev pub input_word : Parsed → List ℕ
-input_word p = if p.msvc_explicit_language then language_flag p.language ++ p.input else p.input
+input_word p = if p.msvc_explicit_language then unwrap_or (language_flag p.language) [] ++ p.input else p.input
 
 abbrev pub input_words : Parsed → List (List ℕ)
 input_words p = dash_words p.double_dash_input ++ input_word p ∷ []

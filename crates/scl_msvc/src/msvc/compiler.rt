@@ -6,7 +6,7 @@ ghost use Rattle.scl_text.specs.Records.{outcome_of};
 ghost use Rattle.scl_msvc.specs.Environment.{surrounded_reading};
 
 use super::command::generate_compile_commands;
-use super::environment::{gives_words, surrounded};
+use super::environment::surrounded;
 use super::preprocess::passes;
 use scl_args::Mem;
 use scl_msvc_reading::msvc::parse_arguments;
@@ -47,7 +47,6 @@ impl Msvc {
 }
 
 /// What the words say between those that the environment gives.
-#[tactic(auto, using(crate::proofs::EnvironmentLemmas::surrounded_by_none))]
 fn parse_surrounded(
     alloc: Global,
     arguments: &[Vec<u8>],
@@ -58,11 +57,9 @@ fn parse_surrounded(
 ) -> Mem<CompilerArguments<ParsedArguments>>
     ensures { IfOk result (λ answer. outcome_of answer ≡ surrounded_reading is_clang cwd.now (pairs_of env_vars.now) view.now (words_of arguments.now)) }
 {
-    if !gives_words(env_vars) {
-        return parse_arguments(alloc, arguments, cwd, is_clang, view);
-    }
     match surrounded(alloc, arguments, env_vars)? {
-        Ok(words) => parse_arguments(alloc, &words, cwd, is_clang, view),
+        Ok(None) => parse_arguments(alloc, arguments, cwd, is_clang, view),
+        Ok(Some(words)) => parse_arguments(alloc, &words, cwd, is_clang, view),
         Err(refusal) => Ok(refusal.into_answer()),
     }
 }

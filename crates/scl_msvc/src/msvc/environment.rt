@@ -1,6 +1,6 @@
 //! What a command line has from its environment: words before and behind its own.
 ghost use Rattle.std.specs.Prelude.{◌≡◌, IfOk};
-ghost use Rattle.std.specs.Option.{option_copied, option_map};
+ghost use Rattle.std.specs.Option.{option_copied, option_map, option_map_or};
 ghost use Rattle.std.specs.Result.{result_map_both};
 ghost use Rattle.scl_values.specs.Words.{words_of};
 ghost use Rattle.scl_text.specs.Commands.{pairs_of};
@@ -30,12 +30,12 @@ fn is_variable(key: &[u8]) -> bool
 /// Msvc). It fails only for want of memory.
 pub fn without_cl_env_vars(
     alloc: Global,
-    pairs: &[(Vec<u8>, Vec<u8>)],
+    env_vars: &[(Vec<u8>, Vec<u8>)],
 ) -> Mem<Vec<(Vec<u8>, Vec<u8>)>>
-    ensures { IfOk result (λ kept. pairs_of kept.items ≡ without_cl_env_vars (pairs_of pairs.now)) }
+    ensures { IfOk result (λ kept. pairs_of kept.items ≡ without_cl_env_vars (pairs_of env_vars.now)) }
 {
     let mut kept = Vec::new(alloc);
-    for (key, value) in pairs {
+    for (key, value) in env_vars {
         if !is_variable(key) {
             let key = Vec::from_slice(alloc, key)?;
             kept.push((key, Vec::from_slice(alloc, value)?))?;
@@ -45,10 +45,10 @@ pub fn without_cl_env_vars(
 }
 
 /// The value of the first pair with the key.
-fn value_of<'a>(pairs: &'a [(Vec<u8>, Vec<u8>)], key: &[u8]) -> Option<&'a [u8]>
-    ensures { option_copied result ≡ value_of key.now (pairs_of pairs.now) }
+fn value_of<'a>(env_vars: &'a [(Vec<u8>, Vec<u8>)], key: &[u8]) -> Option<&'a [u8]>
+    ensures { option_copied result ≡ value_of key.now (pairs_of env_vars.now) }
 {
-    for (name, value) in pairs {
+    for (name, value) in env_vars {
         if name.as_slice() == key {
             return Some(value);
         }
@@ -57,10 +57,10 @@ fn value_of<'a>(pairs: &'a [(Vec<u8>, Vec<u8>)], key: &[u8]) -> Option<&'a [u8]>
 }
 
 /// Whether the environment has one of the two variables.
-pub(crate) fn gives_words(pairs: &[(Vec<u8>, Vec<u8>)]) -> bool
-    ensures { result ≡ gives_words (pairs_of pairs.now) }
+fn gives_words(env_vars: &[(Vec<u8>, Vec<u8>)]) -> bool
+    ensures { result ≡ gives_words (pairs_of env_vars.now) }
 {
-    value_of(pairs, FRONT_VARIABLE).is_some() || value_of(pairs, BACK_VARIABLE).is_some()
+    value_of(env_vars, FRONT_VARIABLE).is_some() || value_of(env_vars, BACK_VARIABLE).is_some()
 }
 
 /// Puts `=` in the place of the first `#`.
@@ -107,26 +107,31 @@ fn variable_words(
     }
 }
 
-/// The words of a command line between those that its environment gives: of `CL` before and of `_CL_` behind them;
-/// refused where a value is no text.
+/// The words of a command line between those that its environment gives: of `CL` before and of `_CL_` behind them; `None`
+/// where it has neither, so that they are the given words; refused where a value is no text.
+#[tactic(auto, using(crate::proofs::EnvironmentLemmas::surrounded_by_none))]
 pub(crate) fn surrounded(
     alloc: Global,
     arguments: &[Vec<u8>],
-    pairs: &[(Vec<u8>, Vec<u8>)],
-) -> Mem<Result<Vec<Vec<u8>>, Refusal>>
-    ensures { IfOk result (λ made. result_map_both (λ words. words_of words.items) verdict_of made ≡ surrounded (pairs_of pairs.now) (words_of arguments.now)) }
+    env_vars: &[(Vec<u8>, Vec<u8>)],
+) -> Mem<Result<Option<Vec<Vec<u8>>>, Refusal>>
+    ensures { IfOk result (λ made. result_map_both (λ words. option_map_or (λ w. words_of w.items) words (words_of arguments.now)) verdict_of made
+        ≡ surrounded (pairs_of env_vars.now) (words_of arguments.now)) }
 {
-    let front = value_of(pairs, FRONT_VARIABLE);
+    if !gives_words(env_vars) {
+        return Ok(Ok(None));
+    }
+    let front = value_of(env_vars, FRONT_VARIABLE);
     let mut words = match variable_words(alloc, front, "CL environment variable value broken")? {
         Ok(words) => words,
         Err(refusal) => return Ok(Err(refusal)),
     };
-    let back = value_of(pairs, BACK_VARIABLE);
+    let back = value_of(env_vars, BACK_VARIABLE);
     let back = match variable_words(alloc, back, "_CL_ environment variable value broken")? {
         Ok(words) => words,
         Err(refusal) => return Ok(Err(refusal)),
     };
     push_words(alloc, &mut words, arguments)?;
     push_words(alloc, &mut words, &back)?;
-    Ok(Ok(words))
+    Ok(Ok(Some(words)))
 }

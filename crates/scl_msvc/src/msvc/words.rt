@@ -1,5 +1,6 @@
 //! What compile commands and runs of the preprocessor share: the lists in their order, and the input.
 ghost use Rattle.std.specs.Prelude.{◌≡◌, ◌++◌, IfOk, OnOk};
+ghost use Rattle.std.specs.Option.{option_copied};
 ghost use Rattle.scl_values.specs.Words.{words_of};
 ghost use Rattle.scl_text.specs.Records.{parsed_of};
 ghost use Rattle.scl_msvc.specs.Building.{lists_with, language_flag, input_word, input_words};
@@ -26,12 +27,12 @@ pub(super) fn push_lists(
 }
 
 /// The flag that says that an input has the language: there is one for C and one for C++.
-fn language_flag(language: Language) -> &'static [u8]
-    ensures { result.now ≡ language_flag language }
+fn language_flag(language: Language) -> Option<&'static [u8]>
+    ensures { option_copied result ≡ language_flag language }
 {
     match language {
-        Language::C => b"-Tc",
-        Language::Cxx => b"-Tp",
+        Language::C => Some(b"-Tc"),
+        Language::Cxx => Some(b"-Tp"),
         Language::Assembler
         | Language::AssemblerToPreprocess
         | Language::CHeader
@@ -44,17 +45,19 @@ fn language_flag(language: Language) -> &'static [u8]
         | Language::ObjectiveCxxHeader
         | Language::Cuda
         | Language::Rust
-        | Language::Hip => b"",
+        | Language::Hip => None,
     }
 }
 
 fn input_word(alloc: Global, parsed: &ParsedArguments) -> Mem<Vec<u8>>
     ensures { IfOk result (λ word. word.items ≡ input_word (parsed_of parsed.now)) }
 {
-    if !parsed.msvc_explicit_language {
-        return Vec::from_slice(alloc, &parsed.input);
+    let mut word = Vec::new(alloc);
+    if parsed.msvc_explicit_language
+        && let Some(flag) = language_flag(parsed.language)
+    {
+        word.extend_from_slice(flag)?;
     }
-    let mut word = Vec::from_slice(alloc, language_flag(parsed.language))?;
     word.extend_from_slice(&parsed.input)?;
     Ok(word)
 }
