@@ -1,8 +1,11 @@
 -- How a version's text is cut: at spaces, and before the quotes at its end.
-use Rattle.std.proofs.Common.{◌≡◌, ◌≢◌, ℕ, suc, ◌+◌, ◌<◌, true, false, List, [], ◌∷◌, ◌++◌, None, Some, length, take, drop, refl, sym, ap, ◌∙◌, arith, inl, inr}
+use Rattle.std.proofs.Common.{◌≡◌, ◌≢◌, ℕ, suc, ◌+◌, ◌-◌, ◌<◌, true, false, List, [], ◌∷◌, ◌++◌, None, Some, length, take, drop, get_or, refl, sym, ap, ◌∙◌, arith, inl, inr}
 use Rattle.std.proofs.lemmas.Bool.{cases_Bool}
-use Rattle.std.specs.List.{after_first, before_first, find, onto_first, position_or_len, slice_split}
-use Rattle.scl_gnu.specs.Versions.{has_dot, is_quote, is_space, keep, without_quotes}
+use Rattle.std.proofs.lemmas.List.{length-append, reverse-append, take-append-le, take_all, take_more}
+use Rattle.std.proofs.lemmas.List.Sums.{suffix_len_is}
+use Rattle.std.proofs.Math.Seq.{take-length}
+use Rattle.std.specs.List.{after_first, before_first, find, onto_first, position_or_len, prefix_len, slice_split, suffix_len}
+use Rattle.scl_gnu.specs.Versions.{has_dot, is_quote, is_space, without_quotes}
 
 split_none : (bs : List ℕ) → position_or_len is_space bs ≡ length bs → slice_split is_space bs ≡ bs ∷ []
 split_none [] e = refl
@@ -47,13 +50,26 @@ module _ (rest : List ℕ) where
     last_passed no_dot = rw (split_none rest whole, no_dot) refl
 
 pub quote_goes : (front : List ℕ) → without_quotes (front ++ 34 ∷ []) ≡ without_quotes front
-quote_goes [] = refl
-quote_goes (b ∷ bs) = ap (keep b) (quote_goes bs)
+quote_goes front =
+    let whole = front ++ 34 ∷ [] in
+    let more : suffix_len is_quote whole ≡ 1 + suffix_len is_quote front = ap (prefix_len is_quote) (reverse-append front (34 ∷ [])) in
+    let same : length whole - suffix_len is_quote whole ≡ length front - suffix_len is_quote front = omega (arith, more, length-append front (34 ∷ [])) in
+    ap (λ n. take n whole) same ∙ take-append-le (length front - suffix_len is_quote front) front (34 ∷ []) (omega arith)
+
+is-quote : (b : ℕ) → is_quote b ≡ true → b ≡ 34
+is-quote b quote = grind (arith, quote)
+
+ends-quoted : (bs : List ℕ) → 0 < length bs → is_quote (get_or bs (length bs - 1) 0) ≡ true → bs ≡ take (length bs - 1) bs ++ 34 ∷ []
+ends-quoted bs some quote =
+    let on : length bs ≡ length bs - 1 + 1 = omega arith in
+    sym (take-length bs) ∙ ap (λ n. take n bs) on ∙ take_more bs (length bs - 1) 0 (omega arith)
+    ∙ ap (λ b. take (length bs - 1) bs ++ b ∷ []) (is-quote (get_or bs (length bs - 1) 0) quote)
 
 pub nothing_goes : (bs : List ℕ) → ((front : List ℕ) → bs ≢ front ++ 34 ∷ []) → without_quotes bs ≡ bs
-nothing_goes [] last = refl
-nothing_goes (b ∷ []) last = elim (cases_Bool (is_quote b)) [
-  | inl quote ↦ absurd (last [] (ap (λ x. x ∷ []) (grind (arith, quote))))
-  | inr other ↦ rw other refl
-]
-nothing_goes (b ∷ next ∷ rest) last = ap (keep b) (nothing_goes (next ∷ rest) (λ front e. last (b ∷ front) (ap (λ xs. b ∷ xs) e)))
+nothing_goes bs last =
+    let stops : 0 < length bs → is_quote (get_or bs (length bs - 1) 0) ≡ false = λ some. elim (cases_Bool (is_quote (get_or bs (length bs - 1) 0))) [
+      | inl quote ↦ absurd (last (take (length bs - 1) bs) (ends-quoted bs some quote))
+      | inr other ↦ other
+    ] in
+    let none : suffix_len is_quote bs ≡ length bs - length bs = suffix_len_is is_quote bs (length bs) 0 (omega arith) (λ k from to. absurd (omega (arith, from, to))) stops in
+    take_all (length bs - suffix_len is_quote bs) bs (omega (arith, none))

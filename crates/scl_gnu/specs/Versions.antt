@@ -1,6 +1,6 @@
 -- Which versions of Clang are new enough.
-use Rattle.std.specs.Prelude.{ℕ, ◌==◌, Bool, true, false, cond, List, [], ◌∷◌, Option, find}
-use Rattle.std.specs.List.{list_any, slice_split}
+use Rattle.std.specs.Prelude.{ℕ, ◌==◌, ◌-◌, Bool, true, false, List, [], Option, find, length, take}
+use Rattle.std.specs.List.{list_any, slice_split, suffix_len}
 use Rattle.std.specs.Option.{option_and_then, option_map_or}
 use Rattle.std.specs.Ordering.{is_ge, nat_cmp, ordering_then}
 use Rattle.std.specs.Result.{result_ok}
@@ -18,15 +18,9 @@ is_quote byte = byte == double_quote
 abbrev pub has_dot : List ℕ → Bool
 has_dot text = list_any (λ byte. byte == dot) text
 
--- a byte before what is kept of the bytes behind it: a quote at the end goes
-abbrev pub keep : ℕ → List ℕ → List ℕ
-keep byte [] = cond (is_quote byte) [] (byte ∷ [])
-keep byte (next ∷ rest) = byte ∷ next ∷ rest
-
 -- the text without the quotes at its end
 abbrev pub without_quotes : List ℕ → List ℕ
-without_quotes [] = []
-without_quotes (byte ∷ rest) = keep byte (without_quotes rest)
+without_quotes text = take (length text - suffix_len is_quote text) text
 
 -- the semantic version that a text names: the first part between spaces that holds a dot, without the quotes at its end
 abbrev pub version_in : List ℕ → Option Parts

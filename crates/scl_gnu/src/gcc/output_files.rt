@@ -7,7 +7,6 @@ ghost use Rattle.scl_gnu.specs.OutputFiles.{asks_for_rules, is_diagnostics, is_p
 use scl_args::Mem;
 use scl_text::command::push_word;
 use std::alloc::Global;
-use std::str::from_utf8;
 
 /// The flag in front of a word for the preprocessor.
 const PREPROCESSOR_FLAG: &[u8] = b"-Xpreprocessor";
@@ -19,10 +18,7 @@ const DIAGNOSTICS: &[u8] = b"--serialize-diagnostics";
 fn is_text(word: &[u8]) -> bool
     ensures { result ≡ is_utf8 word.now }
 {
-    match from_utf8(word) {
-        Ok(_) => true,
-        Err(_) => false,
-    }
+    str::from_utf8(word).is_ok()
 }
 
 #[tactic(auto, unfolding(crate::specs::OutputFiles::asks_for_rules))]
@@ -122,11 +118,7 @@ fn file_count(words: &[Vec<u8>]) -> usize
 fn behind(words: &[Vec<u8>], count: usize) -> &[Vec<u8>]
     ensures { result.now ≡ drop count words.now }
 {
-    if count < words.len() {
-        &words[count..]
-    } else {
-        &[]
-    }
+    words.get(count..).unwrap_or(&[])
 }
 
 /// The words without those that make the preprocessor write a file, as they stand for the preprocessor or among the common
