@@ -55,7 +55,7 @@ has-found plusplus os f e =
     let a = bind-ok (ok_or (last_flag (of (kind.DoCompilation ∷ [])) os) NotCompilation) _ f e in
     let b = bind-ok (the_input (texts is_input os)) _ f a.2 in
     let c = bind-ok (ok_or (language_of plusplus (last_text (of (kind.Language ∷ [])) os) b.0) unknown_source_language) _ f b.2 in
-    let d = bind-ok (ok_or (tests.object_of (last_text (of (kind.Output ∷ [])) os) b.0) invalid_input_file) _ f c.2 in
+    let d = bind-ok (ok_or (tests.object_path (last_text (of (kind.Output ∷ [])) os) b.0) invalid_input_file) _ f c.2 in
     let m = bind-ok (module_path_unless (any (kind.ModuleOnlyFlag ∷ []) os) (last_text (of (kind.ClangModuleOutput ∷ [])) os) b.0 d.0) _ f d.2 in
     let made : Found = record { compile_flag = a.0; input = b.0; language = c.0; object = d.0; module_path = m.0 } in
     let is : made ≡ f = cc (m.2) in

@@ -33,9 +33,9 @@ language_of plusplus None input = option_map (driven plusplus) (language_of_file
 language_of plusplus (Some text) input = language_of_gcc_text text
 
 -- the path that was asked for, else the input's file name with extension o
-abbrev pub object_of : Option (List ℕ) → List ℕ → Option (List ℕ)
-object_of None input = option_map (λ name. with_extension name (codes "o")) (file_name input)
-object_of (Some path) input = Some path
+abbrev pub object_path : Option (List ℕ) → List ℕ → Option (List ℕ)
+object_path None input = option_map (λ name. with_extension name (codes "o")) (file_name input)
+object_path (Some path) input = Some path
 
 -- the path with `.pcm` behind its extension
 abbrev pub with_pcm : List ℕ → List ℕ
@@ -57,6 +57,6 @@ found plusplus os = do
   flag ← ok_or (last_flag (of (kind.DoCompilation ∷ [])) os) NotCompilation
   input ← the_input (texts is_input os)
   language ← ok_or (language_of plusplus (last_text (of (kind.Language ∷ [])) os) input) unknown_source_language
-  object ← ok_or (object_of (last_text (of (kind.Output ∷ [])) os) input) invalid_input_file
+  object ← ok_or (object_path (last_text (of (kind.Output ∷ [])) os) input) invalid_input_file
   module_path ← module_path_unless (any (kind.ModuleOnlyFlag ∷ []) os) (last_text (of (kind.ClangModuleOutput ∷ [])) os) input object
   Ok (record { compile_flag = flag; input = input; language = language; object = object; module_path = module_path })

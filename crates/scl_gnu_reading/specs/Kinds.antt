@@ -35,14 +35,14 @@ color_of (Raw w) = colors.Auto
 color_of (Unknown w) = colors.Auto
 color_of (Known f k v how) = color k v
 
-abbrev pub is_hidden_flag : List ℕ → Bool
-is_hidden_flag flag = bytes_eq flag (codes "-Wp") || bytes_eq flag (codes "-Xpreprocessor")
+abbrev pub is_hiding_flag : List ℕ → Bool
+is_hiding_flag flag = bytes_eq flag (codes "-Wp") || bytes_eq flag (codes "-Xpreprocessor")
 
 -- whether the option hides from a cache of preprocessor runs what it asks of the preprocessor
-abbrev pub is_hidden : Seen Kind → Bool
-is_hidden (Raw w) = false
-is_hidden (Unknown w) = false
-is_hidden (Known f k v how) = ghosts.eq k kind.PreprocessorArgument && is_hidden_flag f
+abbrev pub is_hiding : Seen Kind → Bool
+is_hiding (Raw w) = false
+is_hiding (Unknown w) = false
+is_hiding (Known f k v how) = ghosts.eq k kind.PreprocessorArgument && is_hiding_flag f
 
 -- a word that is no option is an input, unless it is `--`
 abbrev pub is_input : Seen Kind → Bool
@@ -74,5 +74,5 @@ abbrev pub external_assembler : List (Seen Kind) → Option Bool
 external_assembler os = option_map (of (kind.NoIntegratedAs ∷ [])) (last_by (of (kind.IntegratedAs ∷ kind.NoIntegratedAs ∷ [])) os)
 
 -- what hides from a cache of preprocessor runs
-abbrev pub hidden_flag : List (Seen Kind) → Option (List ℕ)
-hidden_flag os = last_flag is_hidden os
+abbrev pub hiding_flag : List (Seen Kind) → Option (List ℕ)
+hiding_flag os = last_flag is_hiding os

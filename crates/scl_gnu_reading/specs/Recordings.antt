@@ -23,7 +23,7 @@ use Rattle.scl_gnu_reading.specs.declared.gcc.data.Kind.{Kind}
 use Rattle.scl_gnu_reading.specs.declared.gcc.data.Kind.TheVariants as kind
 use Rattle.scl_gnu_reading.specs.declared.gcc.place.Place.{Place}
 use Rattle.scl_gnu_reading.specs.declared.gcc.place.Place.TheVariants as places
-use Rattle.scl_gnu_reading.specs.Kinds.{of, hashed, any, is_input, color_mode, external_assembler, hidden_flag}
+use Rattle.scl_gnu_reading.specs.Kinds.{of, hashed, any, is_input, color_mode, external_assembler, hiding_flag}
 use Rattle.scl_gnu_reading.specs.Inners.{inner_words_at}
 use Rattle.scl_gnu_reading.specs.Places.{words_at}
 
@@ -125,5 +125,5 @@ record_of compiler directory view os inner f = record (bare_record f.input f.lan
   profile_generate = any (kind.Coverage ∷ kind.TestCoverage ∷ kind.ProfileGenerate ∷ []) os;
   color_mode = unwrap_or (color_mode os) colors.Auto;
   suppress_rewrite_includes_only = suppresses_rewritten_includes compiler os;
-  too_hard_for_preprocessor_cache_mode = hidden_flag os;
+  too_hard_for_preprocessor_cache_mode = hiding_flag os;
 }

@@ -91,7 +91,7 @@ has-found is_clang os f e =
     let a = bind-ok (ok_or (last_flag (of (kind.DoCompilation ∷ [])) os) NotCompilation) _ f e in
     let b = bind-ok (input_unless (module_verdict compiled named says) (texts is_input os)) _ f a.2 in
     let c = bind-ok (ok_or (language_of compiled (explicit_language os) b.0) unknown_source_language) _ f b.2 in
-    let d = bind-ok (ok_or (tests.object_of (last_text (of (kind.Output ∷ [])) os) b.0) invalid_input_file) _ f c.2 in
+    let d = bind-ok (ok_or (tests.object_path (last_text (of (kind.Output ∷ [])) os) b.0) invalid_input_file) _ f c.2 in
     let g = bind-ok (program_database (not is_clang && any (kind.DebugInfo ∷ []) os) (last_text (of (kind.ProgramDatabase ∷ [])) os)) _ f d.2 in
     let made : Found = record { compile_flag = a.0; input = b.0; language = c.0; object = d.0; program_database = g.0 } in
     let is : made ≡ f = cc (g.2) in

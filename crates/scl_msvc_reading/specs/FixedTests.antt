@@ -59,9 +59,9 @@ abbrev pub with_default_extension : List ℕ → List ℕ → List ℕ
 with_default_extension path default = if is_some (extension path) then path else with_extension path default
 
 -- the path that was asked for, or the input's file name in that folder, else beside the input
-abbrev pub object_of : Option (List ℕ) → List ℕ → Option (List ℕ)
-object_of None input = Some (with_extension input (codes "obj"))
-object_of (Some path) input =
+abbrev pub object_path : Option (List ℕ) → List ℕ → Option (List ℕ)
+object_path None input = Some (with_extension input (codes "obj"))
+object_path (Some path) input =
     if names_folder path then option_map (λ name. with_extension (join path name) (codes "obj")) (file_name input)
     else Some (with_default_extension path (codes "obj"))
 
@@ -81,6 +81,6 @@ found is_clang os = do
   flag ← ok_or (last_flag (of (kind.DoCompilation ∷ [])) os) NotCompilation
   input ← input_unless (module_verdict (any (kind.ClangLanguage ∷ []) os) (any (kind.ClangModuleOutput ∷ []) os) (any language_inputs os)) (texts is_input os)
   language ← ok_or (language_of (any (kind.ClangLanguage ∷ []) os) (explicit_language os) input) unknown_source_language
-  object ← ok_or (object_of (last_text (of (kind.Output ∷ [])) os) input) invalid_input_file
+  object ← ok_or (object_path (last_text (of (kind.Output ∷ [])) os) input) invalid_input_file
   database ← program_database (not is_clang && any (kind.DebugInfo ∷ []) os) (last_text (of (kind.ProgramDatabase ∷ [])) os)
   Ok (record { compile_flag = flag; input = input; language = language; object = object; program_database = database })

@@ -1,7 +1,7 @@
 //! The compile command of Diab and TaskingVX.
 ghost use Rattle.std.specs.Prelude.{◌≡◌, ◌↔◌, Err, IfOk, None};
 ghost use Rattle.scl_text.specs.Commands.{pairs_of, object_of};
-ghost use Rattle.scl_text.specs.Compilers.{IsAnswer};
+ghost use Rattle.scl_text.specs.Compilers.{IsBuiltCommand};
 ghost use Rattle.scl_text.specs.Records.{parsed_of};
 ghost use Rattle.scl_small.specs.Command.{command};
 
@@ -41,7 +41,7 @@ pub fn generate_compile_commands(
     env_vars: &[(Vec<u8>, Vec<u8>)],
     _view: &View,
 ) -> Result<(SingleCompileCommand, Cacheable), CommandError>
-    ensures command { IfOk result (λ built. IsAnswer built.0 built.1 (command (parsed_of parsed.now)) executable.now (pairs_of env_vars.now) cwd.now Cacheable.Yes) }
+    ensures command { IfOk result (λ built. IsBuiltCommand built.0 built.1 (command (parsed_of parsed.now)) executable.now (pairs_of env_vars.now) cwd.now Cacheable.Yes) }
     ensures missing { (result ≡ Err CommandError.MissingObj) ↔ (object_of (parsed_of parsed.now) ≡ None) }
 {
     compile_command(

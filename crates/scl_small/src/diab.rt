@@ -11,7 +11,7 @@ mod compiler;
 mod rules;
 
 pub use crate::command::generate_compile_commands;
-use crate::reading::read;
+use crate::reading::read_words;
 pub use args::{ARGS, ArgData, Kind, table};
 pub use compiler::Diab;
 use scl_args::SearchableArgInfo;
@@ -30,7 +30,7 @@ pub fn parse_words<S: SearchableArgInfo<ArgData> + Drop>(
     requires { IsTrue (tables_hold_values holds_value (S.tables arg_info)) }
     ensures { IfOk result (λ answer. outcome_of answer ≡ reading (owner_in (S.tables arg_info)) (words_of words.items)) }
 {
-    read::<ArgData, S>(alloc, words, arg_info)
+    read_words::<ArgData, S>(alloc, words, arg_info)
 }
 
 /// What words say to Diab, with the response files of the view, looked up from the directory, put in place, cut by

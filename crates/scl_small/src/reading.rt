@@ -13,7 +13,7 @@ use scl_text::{Mem, ParserJudge, judge_cut};
 use std::alloc::Global;
 
 /// What the words say, cut by the tables.
-pub(crate) fn read<T: Rules, S: SearchableArgInfo<T> + Drop>(
+pub(crate) fn read_words<T: Rules, S: SearchableArgInfo<T> + Drop>(
     alloc: Global,
     words: Vec<Vec<u8>>,
     arg_info: S,

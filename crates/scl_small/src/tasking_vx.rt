@@ -11,7 +11,7 @@ mod compiler;
 mod rules;
 
 pub use crate::command::generate_compile_commands;
-use crate::reading::read;
+use crate::reading::read_words;
 pub use args::{ARGS, ArgData, Kind, table};
 pub use compiler::TaskingVX;
 use scl_args::SearchableArgInfo;
@@ -35,5 +35,5 @@ pub fn parse_arguments<S: SearchableArgInfo<ArgData> + Drop>(
 {
     let mut words = Vec::with_capacity(alloc, arguments.len())?;
     push_words(alloc, &mut words, arguments)?;
-    read::<ArgData, S>(alloc, words, arg_info)
+    read_words::<ArgData, S>(alloc, words, arg_info)
 }

@@ -3,7 +3,7 @@ use Rattle.std.specs.Option.{option_map}
 use Rattle.std.specs.Prelude.{IfOk, IfSome}
 use Rattle.scl_values.specs.Words.{words_of}
 use Rattle.scl_text.specs.Commands.{command_by, object_of}
-use Rattle.scl_text.specs.Compilers.{IsAnswer, IfCommand}
+use Rattle.scl_text.specs.Compilers.{IsBuiltCommand, IfCommand}
 use Rattle.scl_text.specs.Records.{Parsed, Verdict, outcome_of}
 use Rattle.scl_text.specs.declared.records.CompilerArguments.{CompilerArguments}
 use Rattle.scl_text.specs.declared.records.Cacheable.{Cacheable}
@@ -30,7 +30,7 @@ pub built-kept : {E : Type 0} (command : Parsed → Option (List (List ℕ))) (p
     (said : List (List ℕ) → List ℕ → List (List ℕ × List ℕ) → Viewed → Result Parsed Verdict) →
     ((words : List (List ℕ)) (directory : List ℕ) (pairs : List (List ℕ × List ℕ)) (view : Viewed) → IfCommand command (promise words directory pairs view) (said words directory pairs view)) →
     (p : Parsed) (executable : List ℕ) (env_vars : List (List ℕ × List ℕ)) (cwd : List ℕ) (cacheable : Cacheable) (r : Result (SingleCompileCommand × Cacheable) E) →
-    IfOk r (λ answer. IsAnswer answer.0 answer.1 (command p) executable env_vars cwd cacheable) →
+    IfOk r (λ answer. IsBuiltCommand answer.0 answer.1 (command p) executable env_vars cwd cacheable) →
     IfOk r (λ answer. (words : List (List ℕ)) (directory : List ℕ) (pairs : List (List ℕ × List ℕ)) (view : Viewed) →
     said words directory pairs view ≡ Ok p → promise words directory pairs view p (words_of answer.0.arguments.items))
 built-kept command promise said kept p executable env_vars cwd cacheable (Ok answer) is = λ words directory pairs view e.

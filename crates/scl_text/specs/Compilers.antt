@@ -7,7 +7,7 @@ use Rattle.scl_text.specs.declared.records.SingleCompileCommand.{SingleCompileCo
 use Rattle.scl_text.specs.declared.records.Cacheable.{Cacheable}
 
 -- the command has these words, if there are any, with this program, environment and directory, and may be kept or not
-pub record IsAnswer (command : SingleCompileCommand) (cacheable : Cacheable) (words : Option (List (List ℕ))) (executable : List ℕ) (env_vars : List (List ℕ × List ℕ)) (cwd : List ℕ) (kept : Cacheable) : Type 0 where
+pub record IsBuiltCommand (command : SingleCompileCommand) (cacheable : Cacheable) (words : Option (List (List ℕ))) (executable : List ℕ) (env_vars : List (List ℕ × List ℕ)) (cwd : List ℕ) (kept : Cacheable) : Type 0 where
   pub words_are : words ≡ Some (words_of command.arguments.items)
   pub builds : Builds command executable (words_of command.arguments.items) env_vars cwd
   pub kept_is : cacheable ≡ kept

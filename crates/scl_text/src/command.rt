@@ -6,7 +6,7 @@ ghost use Rattle.scl_values.specs.Words.{words_of};
 ghost use Rattle.scl_args.specs.Options.{dash_words};
 ghost use Rattle.scl_args.specs.Wrapped.{HasFirstOf};
 ghost use Rattle.scl_text.specs.Commands.{Builds, pairs_of, object_of, command_by};
-ghost use Rattle.scl_text.specs.Compilers.{IsAnswer};
+ghost use Rattle.scl_text.specs.Compilers.{IsBuiltCommand};
 ghost use Rattle.scl_text.specs.Records.{parsed_of};
 
 use crate::outputs::output_path;
@@ -14,7 +14,7 @@ use crate::records::{Cacheable, CommandError, ParsedArguments, SingleCompileComm
 use scl_args::Mem;
 use std::alloc::Global;
 
-/// Puts a copy of a word behind those of a list, which stays as it was where memory is refused.
+/// Puts a copy of a word behind those of a list. It fails only for want of memory, and leaves the list as it was.
 pub fn push_word(alloc: Global, list: &mut Vec<Vec<u8>>, word: &[u8]) -> Mem<()>
     ensures ok { OnOk result (words_of list.new.items ≡ words_of list.old.items ++ word.now ∷ []) }
     ensures err { OnErr result (list.new.items ≡ list.old.items) }
@@ -23,7 +23,7 @@ pub fn push_word(alloc: Global, list: &mut Vec<Vec<u8>>, word: &[u8]) -> Mem<()>
     Ok(())
 }
 
-/// Puts copies of words behind those of a list; where memory is refused, the first of them may stand there already.
+/// Puts copies of words behind those of a list. It fails only for want of memory; the first of them may stand there then.
 pub fn push_words(alloc: Global, list: &mut Vec<Vec<u8>>, words: &[Vec<u8>]) -> Mem<()>
     ensures ok { OnOk result (words_of list.new.items ≡ words_of list.old.items ++ words_of words.now) }
     ensures err { OnErr result (HasFirstOf (words_of list.old.items) (words_of words.now) (words_of list.new.items)) }
@@ -34,7 +34,7 @@ pub fn push_words(alloc: Global, list: &mut Vec<Vec<u8>>, words: &[Vec<u8>]) -> 
     Ok(())
 }
 
-/// Puts `--` behind words, where an input stands behind it; the list stays as it was where memory is refused.
+/// Puts `--` behind words, where an input stands behind it. It fails only for want of memory, and leaves the list as it was.
 pub fn push_dashes(alloc: Global, list: &mut Vec<Vec<u8>>, is_behind_dashes: bool) -> Mem<()>
     ensures ok { OnOk result (words_of list.new.items ≡ words_of list.old.items ++ dash_words is_behind_dashes) }
     ensures err { OnErr result (list.new.items ≡ list.old.items) }
@@ -93,6 +93,7 @@ pub trait CommandWords {
     ghost use Rattle.std.specs.Prelude.{ℕ, List};
     ghost use Rattle.scl_text.specs.Records.{Parsed};
 
+    /// The words of a record's command, for this object.
     ghost words: { Self → Parsed → List ℕ → List (List ℕ) };
 
     /// The words that make this object file. It fails only for want of memory.
@@ -111,7 +112,7 @@ pub fn compile_command<W: CommandWords>(
     env_vars: &[(Vec<u8>, Vec<u8>)],
     cacheable: Cacheable,
 ) -> Result<(SingleCompileCommand, Cacheable), CommandError>
-    ensures command { IfOk result (λ built. IsAnswer built.0 built.1 (command_by (W.words words.now) (parsed_of parsed.now)) executable.now (pairs_of env_vars.now) cwd.now cacheable) }
+    ensures command { IfOk result (λ built. IsBuiltCommand built.0 built.1 (command_by (W.words words.now) (parsed_of parsed.now)) executable.now (pairs_of env_vars.now) cwd.now cacheable) }
     ensures missing { (result ≡ Err CommandError.MissingObj) ↔ (object_of (parsed_of parsed.now) ≡ None) }
 {
     let Some(object) = output_path(&parsed.outputs, "obj") else {

@@ -7,11 +7,7 @@ use scl_args::Mem;
 use scl_files::view::View;
 use std::alloc::Global;
 
-/// A compiler whose command lines are read and built. The ghost members are its own definitions: the outcome of a command
-/// line, the words of the command that makes a record's object, the environment that the command gets, whether its outcome
-/// may be kept, what it is for the words of a command to be read again, given the command line (words, directory,
-/// environment, view), its record and those words, the runs of the preprocessor, and what `kind`, `plusplus`, `version`
-/// and `assembler_digest` answer (docs/RULES.md, Compilers).
+/// A compiler whose command lines are read and built. The ghost members are its own definitions (docs/RULES.md, Compilers).
 pub trait CCompilerImpl {
     ghost use Rattle.std.specs.Prelude.{◌≡◌, ◌↔◌, ℕ, Bool, List, Option, None, Result, Ok, IfOk};
     ghost use Rattle.std.specs.Option.{option_map};
@@ -19,30 +15,41 @@ pub trait CCompilerImpl {
     ghost use Rattle.scl_values.specs.Words.{words_of};
     ghost use Rattle.scl_files.specs.Views.{Viewed};
     ghost use Rattle.scl_text.specs.Commands.{pairs_of, object_of, command_by};
-    ghost use Rattle.scl_text.specs.Compilers.{IsAnswer, IfCommand};
+    ghost use Rattle.scl_text.specs.Compilers.{IsBuiltCommand, IfCommand};
     ghost use Rattle.scl_text.specs.Records.{Parsed, Verdict, parsed_of, outcome_of};
     ghost use Rattle.scl_text.specs.Runs.{runs_of};
     ghost use Rattle.scl_text.specs.declared.records.CCompilerKind.{CCompilerKind};
     ghost use Rattle.scl_text.specs.declared.records.Cacheable.{Cacheable};
 
+    /// What `kind` answers.
     ghost kind_of: { Self → CCompilerKind };
 
+    /// What `plusplus` answers.
     ghost plusplus_of: { Self → Bool };
 
+    /// The text that `version` copies.
     ghost version_of: { Self → Option (List ℕ) };
 
+    /// The text that `assembler_digest` copies.
     ghost digest_of: { Self → Option (List ℕ) };
 
+    /// The outcome of a command line: of its words, directory, environment and view.
     ghost reading: { Self → List (List ℕ) → List ℕ → List (List ℕ × List ℕ) → Viewed → Result Parsed Verdict };
 
+    /// The words of the command of a record, for this object.
     ghost command: { Self → Parsed → List ℕ → List (List ℕ) };
 
+    /// The environment that the command gets.
     ghost environment: { Self → List (List ℕ × List ℕ) → List (List ℕ × List ℕ) };
 
+    /// Whether the outcome of a record's command may be kept, by directory and view.
     ghost cacheable: { Self → Parsed → List ℕ → Viewed → Cacheable };
 
+    /// Of a command line (words, directory, environment, view), its record and these words: the words are read again as
+    /// what the command line says.
     ghost is_read_again: { Self → List (List ℕ) → List ℕ → List (List ℕ × List ℕ) → Viewed → Parsed → List (List ℕ) → Type 0 };
 
+    /// The runs of the preprocessor.
     ghost passes: { Self → (may_dist rewrites cache_mode : Bool) → Parsed → List (List (List ℕ)) };
 
     /// Which compiler it is (docs/RULES.md, Compilers).
@@ -83,7 +90,7 @@ pub trait CCompilerImpl {
         env_vars: &[(Vec<u8>, Vec<u8>)],
         view: &View,
     ) -> Result<(SingleCompileCommand, Cacheable), CommandError>
-        ensures command { IfOk result (λ answer. IsAnswer answer.0 answer.1 (command_by (command self.now) (parsed_of parsed.now)) executable.now (environment self.now (pairs_of env_vars.now)) cwd.now (cacheable self.now (parsed_of parsed.now) cwd.now view.now)) }
+        ensures command { IfOk result (λ answer. IsBuiltCommand answer.0 answer.1 (command_by (command self.now) (parsed_of parsed.now)) executable.now (environment self.now (pairs_of env_vars.now)) cwd.now (cacheable self.now (parsed_of parsed.now) cwd.now view.now)) }
         ensures read_again { IfOk result (λ answer. (line : List (List ℕ)) (directory : List ℕ) (pairs : List (List ℕ × List ℕ)) (files : Viewed) →
             reading self.now line directory pairs files ≡ Ok (parsed_of parsed.now) → is_read_again self.now line directory pairs files (parsed_of parsed.now) (words_of answer.0.arguments.items)) }
         ensures missing { (result ≡ Err CommandError.MissingObj) ↔ (object_of (parsed_of parsed.now) ≡ None) };

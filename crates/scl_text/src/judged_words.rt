@@ -49,7 +49,9 @@ pub fn judge_cut<T: ExactArg + ReadArg, S: SearchableArgInfo<T> + Drop, J: Judge
     finish(alloc, judge, &arg_info, cut)
 }
 
-/// The same of words with response files of the kind put in place from the directory.
+/// The options of words in which response files of the kind are put in place from the directory, where none is refused and
+/// the last flag has its value; else the first refusal, of an empty value or the judge's, or that of a dangling end
+/// (docs/RULES.md, Readings, and Expansion). It fails only for want of memory.
 pub fn judge_words<T: ExactArg + ReadArg, S: SearchableArgInfo<T> + Drop, J: Judge<T>>(
     alloc: Global,
     kind: ExpansionKind,

@@ -12,8 +12,8 @@ use scl_files::path::with_extension;
 use std::alloc::Global;
 use std::collections::BTreeMap;
 
-/// Puts an output at its name, in place of one of that name; the outputs stay as they were where
-/// memory is refused (docs/RULES.md, Records).
+/// Puts an output at its name, in place of one of that name (docs/RULES.md, Records). It fails only for want of memory, and
+/// leaves the outputs as they were.
 #[tactic(auto, using(crate::proofs::OutputLemmas::put_entry))]
 pub fn put_output(
     alloc: Global,
@@ -40,8 +40,8 @@ pub fn output_path<'a>(
     Some(&outputs.get(name)?.path)
 }
 
-/// Puts an output at its name, if there is a path for it; the outputs stay as they were where memory is refused
-/// (docs/RULES.md, Records).
+/// Puts an output at its name, if there is a path for it (docs/RULES.md, Records). It fails only for want of memory, and
+/// leaves the outputs as they were.
 pub fn put_optional(
     alloc: Global,
     outputs: &mut BTreeMap<String, ArtifactDescriptor>,

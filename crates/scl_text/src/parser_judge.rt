@@ -12,6 +12,7 @@ pub trait Refuses<T: ArgumentValue> {
     ghost use Rattle.scl_text.specs.Records.{Verdict};
     ghost use Rattle.scl_text.specs.Refusals.{verdict_of};
 
+    /// Why an option is refused, if it is, after those before it.
     ghost verdict: { Self → List (Seen T.Kind) → Seen T.Kind → Option Verdict };
 
     /// Why the option is refused, if it is. It fails only for want of memory.

@@ -2,7 +2,7 @@
 ghost use Rattle.std.specs.Prelude.{◌≡◌, ◌++◌, ◌↔◌, IfOk, OnOk, Err, None};
 ghost use Rattle.std.specs.Option.{option_copied, option_map};
 ghost use Rattle.scl_text.specs.Commands.{pairs_of, object_of};
-ghost use Rattle.scl_text.specs.Compilers.{IsAnswer};
+ghost use Rattle.scl_text.specs.Compilers.{IsBuiltCommand};
 ghost use Rattle.scl_text.specs.Languages.{gcc_text};
 ghost use Rattle.scl_text.specs.Records.{parsed_of};
 ghost use Rattle.scl_values.specs.Words.{words_of};
@@ -93,7 +93,7 @@ pub fn generate_compile_commands<T: AsStr + Drop, F: Fn(Language) -> Option<T>>(
 ) -> Result<(SingleCompileCommand, Cacheable), CommandError>
     requires { F.IsAlwaysCallable language_to_arg }
     ensures command { IfOk result (λ built. (text : _) × F.post language_to_arg parsed.now.language text
-        × IsAnswer built.0 built.1 (command (option_map T.text text) (parsed_of parsed.now)) executable.now (pairs_of env_vars.now) cwd.now Cacheable.Yes) }
+        × IsBuiltCommand built.0 built.1 (command (option_map T.text text) (parsed_of parsed.now)) executable.now (pairs_of env_vars.now) cwd.now Cacheable.Yes) }
     ensures missing { (result ≡ Err CommandError.MissingObj) ↔ (object_of (parsed_of parsed.now) ≡ None) }
 {
     let text = language_to_arg(parsed.language);

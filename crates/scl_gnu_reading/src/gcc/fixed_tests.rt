@@ -5,7 +5,7 @@ ghost use Rattle.std.specs.Result.{result_map_both};
 ghost use Rattle.scl_files.specs.Paths.{extension};
 ghost use Rattle.scl_text.specs.Records.{path_of};
 ghost use Rattle.scl_text.specs.Refusals.{verdict_of};
-ghost use Rattle.scl_gnu_reading.specs.FixedTests.{driven, language_of, object_of, with_pcm, module_path_of, module_path_unless, found};
+ghost use Rattle.scl_gnu_reading.specs.FixedTests.{driven, language_of, object_path, with_pcm, module_path_of, module_path_unless, found};
 ghost use Rattle.scl_gnu_reading.specs.FoundBy.{found_of};
 ghost use Rattle.scl_args.specs.Options.{last_text};
 ghost use Rattle.scl_gnu_reading.specs.Kinds.{any, of};
@@ -49,8 +49,8 @@ fn language_of(plusplus: bool, text: Option<&[u8]>, input: &[u8]) -> Option<Lang
     }
 }
 
-fn object_of(alloc: Global, output: Option<&[u8]>, input: &[u8]) -> Mem<Option<Vec<u8>>>
-    ensures { IfOk result (λ object. path_of object ≡ object_of (option_copied output.entry) input.now) }
+fn object_path(alloc: Global, output: Option<&[u8]>, input: &[u8]) -> Mem<Option<Vec<u8>>>
+    ensures { IfOk result (λ object. path_of object ≡ object_path (option_copied output.entry) input.now) }
 {
     if let Some(path) = output {
         return Ok(Some(Vec::from_slice(alloc, path)?));
@@ -133,7 +133,7 @@ pub(crate) fn find(
         return Ok(Err(Refusal::CannotCache(UNKNOWN_SOURCE_LANGUAGE, None)));
     };
     let output = options.last_text(&OfKinds(&[Kind::Output]));
-    let Some(object) = object_of(alloc, output, &input)? else {
+    let Some(object) = object_path(alloc, output, &input)? else {
         return Ok(Err(Refusal::CannotCache(INVALID_INPUT_FILE, None)));
     };
     let module_path = match module_path(alloc, options, &input, &object)? {

@@ -30,6 +30,7 @@ pub trait NamesHashed: ReadArg {
     ghost use Rattle.std.specs.Prelude.{Option};
     ghost use Rattle.scl_gnu_reading.specs.declared.gcc.hash_files.HashRole.{HashRole};
 
+    /// How options of the kind name such a file, if they do.
     ghost role: { Self.Kind → Option HashRole };
 
     /// How options of the kind name such a file, if they do.
@@ -123,8 +124,8 @@ fn push_paths<T: NamesHashed>(
     Ok(())
 }
 
-/// Puts the paths of the files that the options name, from the directory, behind others (docs/RULES.md, Gcc); where memory is
-/// refused, the first of them may stand there already.
+/// Puts the paths of the files that the options name, from the directory, behind others (docs/RULES.md, Gcc). It fails only
+/// for want of memory; the first of them may stand there then.
 pub fn push_hashed<T: NamesHashed>(
     alloc: Global,
     paths: &mut Vec<Vec<u8>>,

@@ -15,7 +15,7 @@ use super::inner::push_inner;
 use super::inputs::Inputs;
 use super::outputs::outputs_of;
 use super::place::Place;
-use super::switches::{color_mode, external_assembler, hidden_flag};
+use super::switches::{color_mode, external_assembler, hiding_flag};
 use scl_args::{Mem, OfKinds, Options, ShortFlagsJoined};
 use scl_text::language::Language;
 use scl_text::outputs::copied_path;
@@ -124,7 +124,7 @@ pub(crate) fn record_of(
         profile_generate: options.any(&profile),
         color_mode: color_mode(&options).unwrap_or(ColorMode::Auto),
         suppress_rewrite_includes_only: suppresses_rewritten_includes(kind, &options),
-        too_hard_for_preprocessor_cache_mode: copied_path(alloc, hidden_flag(&options))?,
+        too_hard_for_preprocessor_cache_mode: copied_path(alloc, hiding_flag(&options))?,
         common_args: common_words(alloc, options, inner, &found.object)?,
         ..ParsedArguments::bare(alloc, found.input, found.language, compile_flag)
     })

@@ -3,8 +3,8 @@ ghost use Rattle.std.specs.Prelude.{◌≡◌};
 ghost use Rattle.std.specs.Option.{option_copied};
 ghost use Rattle.scl_values.specs.Seen.{seen};
 ghost use Rattle.scl_gnu_reading.specs.Data.{kind_of, word_of};
-ghost use Rattle.scl_gnu_reading.specs.Sorts.{may_be_hidden};
-ghost use Rattle.scl_gnu_reading.specs.Kinds.{color_named, color_of, is_hidden_flag, color_mode, external_assembler, hidden_flag};
+ghost use Rattle.scl_gnu_reading.specs.Sorts.{may_hide};
+ghost use Rattle.scl_gnu_reading.specs.Kinds.{color_named, color_of, is_hiding_flag, color_mode, external_assembler, hiding_flag};
 
 use super::data::{ArgData, Kind};
 use scl_args::{Argument, OfKinds, Options, Sort, Test};
@@ -57,44 +57,44 @@ pub(crate) fn external_assembler(options: &Options<ArgData>) -> Option<bool>
     Some(OfKinds(&[Kind::NoIntegratedAs]).passes(asked))
 }
 
-fn is_hidden_flag(flag: &str) -> bool
-    ensures { result ≡ is_hidden_flag flag.now }
+fn is_hiding_flag(flag: &str) -> bool
+    ensures { result ≡ is_hiding_flag flag.now }
 {
     flag == "-Wp" || flag == "-Xpreprocessor"
 }
 
 /// The options that hide from a cache of preprocessor runs what they ask of the preprocessor.
-struct Hidden;
+struct Hiding;
 
-impl Test<ArgData> for Hidden {
-    ghost use Rattle.scl_gnu_reading.specs.Kinds.{is_hidden};
-    ghost use Rattle.scl_gnu_reading.specs.Sorts.{may_be_hidden, hidden_by_sort};
+impl Test<ArgData> for Hiding {
+    ghost use Rattle.scl_gnu_reading.specs.Kinds.{is_hiding};
+    ghost use Rattle.scl_gnu_reading.specs.Sorts.{may_hide, hiding_by_sort};
 
-    ghost passes = { λ _. is_hidden };
+    ghost passes = { λ _. is_hiding };
 
-    ghost may_pass = { λ _. may_be_hidden };
+    ghost may_pass = { λ _. may_hide };
 
-    ghost passes_by_sort = { λ _. hidden_by_sort };
+    ghost passes_by_sort = { λ _. hiding_by_sort };
 
     fn passes(&self, option: &Argument<ArgData>) -> bool {
         match option {
             Argument::Raw(_) | Argument::UnknownFlag(_) => false,
             Argument::Flag(flag, value) | Argument::WithValue(flag, value, _) => {
-                matches!(value, ArgData::PreprocessorArgument(_)) && is_hidden_flag(flag)
+                matches!(value, ArgData::PreprocessorArgument(_)) && is_hiding_flag(flag)
             }
         }
     }
 
     fn may_pass(&self, sort: Sort<Kind>) -> bool
-        ensures { result ≡ may_be_hidden sort }
+        ensures { result ≡ may_hide sort }
     {
         sort == Sort::Known(Kind::PreprocessorArgument)
     }
 }
 
 /// The flag of the last of those options, as bytes.
-pub(crate) fn hidden_flag(options: &Options<ArgData>) -> Option<&'static [u8]>
-    ensures { option_copied result ≡ hidden_flag options.now }
+pub(crate) fn hiding_flag(options: &Options<ArgData>) -> Option<&'static [u8]>
+    ensures { option_copied result ≡ hiding_flag options.now }
 {
-    Some(options.last_flag(&Hidden)?.as_bytes())
+    Some(options.last_flag(&Hiding)?.as_bytes())
 }

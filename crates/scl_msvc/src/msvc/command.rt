@@ -1,7 +1,7 @@
 //! The builder of Msvc's compile commands.
 ghost use Rattle.std.specs.Prelude.{◌≡◌, ◌++◌, ◌↔◌, IfOk, Err, None, codes};
 ghost use Rattle.scl_text.specs.Commands.{pairs_of, object_of};
-ghost use Rattle.scl_text.specs.Compilers.{IsAnswer};
+ghost use Rattle.scl_text.specs.Compilers.{IsBuiltCommand};
 ghost use Rattle.scl_text.specs.Records.{parsed_of};
 ghost use Rattle.scl_msvc.specs.Building.{command, cacheable};
 ghost use Rattle.scl_msvc.specs.Environment.{without_cl_env_vars};
@@ -67,7 +67,7 @@ pub fn generate_compile_commands(
     env_vars: &[(Vec<u8>, Vec<u8>)],
     view: &View,
 ) -> Result<(SingleCompileCommand, Cacheable), CommandError>
-    ensures command { IfOk result (λ built. IsAnswer built.0 built.1 (command (parsed_of parsed.now)) executable.now (without_cl_env_vars (pairs_of env_vars.now)) cwd.now (cacheable (parsed_of parsed.now) cwd.now view.now)) }
+    ensures command { IfOk result (λ built. IsBuiltCommand built.0 built.1 (command (parsed_of parsed.now)) executable.now (without_cl_env_vars (pairs_of env_vars.now)) cwd.now (cacheable (parsed_of parsed.now) cwd.now view.now)) }
     ensures missing { (result ≡ Err CommandError.MissingObj) ↔ (object_of (parsed_of parsed.now) ≡ None) }
 {
     if output_path(&parsed.outputs, "obj").is_none() {

@@ -31,8 +31,10 @@ pub struct DepfileText {
 /// Why there is no text of a dependency file: the error output is not UTF-8, or memory was refused.
 #[derive(Debug, PartialEq, Eq, Drop, Error)]
 pub enum DepfileError {
+    /// There would be a text, and the error output is not UTF-8.
     #[error("error output is not UTF-8")]
     NotUtf8,
+    /// A request for memory was refused.
     #[error("out of memory")]
     Memory,
 }
@@ -163,8 +165,9 @@ fn depfile_object(parsed: &ParsedArguments, is_clang: bool) -> Option<&[u8]>
 }
 
 /// The text of the dependency file, by the lines of the error output that begin with the prefix, and what is kept of that
-/// output; none but of a record for clang that has a dependency file and an output `obj` (docs/RULES.md, Dependency files). The errors
-/// are `NotUtf8`, exactly where there would be a text and the error output is not UTF-8, and else the refusal of memory.
+/// output; none but of a record for clang that has a dependency file and an output `obj` (docs/RULES.md, Dependency files).
+/// The errors are `NotUtf8`, exactly where there would be a text and the error output is not UTF-8, and else the refusal of
+/// memory.
 pub fn depfile_text(
     alloc: Global,
     parsed: &ParsedArguments,

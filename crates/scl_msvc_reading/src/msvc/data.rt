@@ -46,11 +46,11 @@ pub enum Kind {
     PreprocessorArgumentPath,
     /// The path of a folder of external includes.
     ExternalIncludePath,
-    /// A flag that is handed on as it is.
+    /// A flag that is kept among the common words.
     PassThrough,
-    /// A path that is handed on as it is.
+    /// An option with a path that is kept among the common words.
     PassThroughWithPath,
-    /// A word that is handed on as it is.
+    /// An option with a word that is kept among the common words.
     PassThroughWithSuffix,
     /// A word of the inner command line behind `-Xclang`.
     XClang,
@@ -103,11 +103,11 @@ pub enum ArgData {
     PreprocessorArgumentPath(PathArg),
     /// The path of a folder of external includes.
     ExternalIncludePath(PathArg),
-    /// A flag that is handed on as it is.
+    /// A flag that is kept among the common words.
     PassThrough,
-    /// A path that is handed on as it is.
+    /// An option with a path that is kept among the common words.
     PassThroughWithPath(PathArg),
-    /// A word that is handed on as it is.
+    /// An option with a word that is kept among the common words.
     PassThroughWithSuffix(Vec<u8>),
     /// A word of the inner command line behind `-Xclang`.
     XClang(Vec<u8>),

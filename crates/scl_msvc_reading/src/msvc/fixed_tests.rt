@@ -6,7 +6,7 @@ ghost use Rattle.scl_values.specs.Words.{words_of};
 ghost use Rattle.scl_files.specs.Paths.{file_name, join, with_extension};
 ghost use Rattle.scl_text.specs.Records.{path_of};
 ghost use Rattle.scl_text.specs.Refusals.{verdict_of};
-ghost use Rattle.scl_msvc_reading.specs.FixedTests.{module_verdict, input_unless, language_of, names_folder, with_default_extension, object_of, program_database, found};
+ghost use Rattle.scl_msvc_reading.specs.FixedTests.{module_verdict, input_unless, language_of, names_folder, with_default_extension, object_path, program_database, found};
 ghost use Rattle.scl_msvc_reading.specs.FoundBy.{found_of};
 
 use super::data::{ArgData, Kind};
@@ -99,8 +99,8 @@ fn object_in(alloc: Global, folder: &[u8], input: &[u8]) -> Mem<Option<Vec<u8>>>
     Ok(Some(with_extension(alloc, &path, b"obj")?))
 }
 
-fn object_of(alloc: Global, output: Option<&[u8]>, input: &[u8]) -> Mem<Option<Vec<u8>>>
-    ensures { IfOk result (λ object. path_of object ≡ object_of (option_copied output.entry) input.now) }
+fn object_path(alloc: Global, output: Option<&[u8]>, input: &[u8]) -> Mem<Option<Vec<u8>>>
+    ensures { IfOk result (λ object. path_of object ≡ object_path (option_copied output.entry) input.now) }
 {
     match output {
         None => Ok(Some(with_extension(alloc, input, b"obj")?)),
@@ -150,7 +150,7 @@ pub(crate) fn find(
         return Ok(Err(Refusal::CannotCache(UNKNOWN_SOURCE_LANGUAGE, None)));
     };
     let output = options.last_text(&OfKinds(&[Kind::Output]));
-    let Some(object) = object_of(alloc, output, &input)? else {
+    let Some(object) = object_path(alloc, output, &input)? else {
         return Ok(Err(Refusal::CannotCache(INVALID_INPUT_FILE, None)));
     };
     let is_apart = !is_clang && options.any(&OfKinds(&[Kind::DebugInfo]));

@@ -38,10 +38,10 @@ impl CCompilerImpl for Diab {
     ghost use Rattle.scl_small.specs.DiabTable.{rows};
     ghost use Rattle.scl_small.specs.DiabReading.{expanded_reading};
     ghost use Rattle.scl_small.specs.Command.{command_words, diab_passes};
-    ghost use Rattle.scl_text.specs.declared.records.CCompilerKind.TheVariants as kinds;
-    ghost use Rattle.scl_text.specs.declared.records.Cacheable.TheVariants as answers;
+    ghost use Rattle.scl_text.specs.declared.records.CCompilerKind.TheVariants as compilers;
+    ghost use Rattle.scl_text.specs.declared.records.Cacheable.TheVariants as cacheables;
 
-    ghost kind_of = { λ _. kinds.Diab };
+    ghost kind_of = { λ _. compilers.Diab };
 
     ghost plusplus_of = { λ _. false };
 
@@ -49,15 +49,15 @@ impl CCompilerImpl for Diab {
 
     ghost digest_of = { λ _. None };
 
-    ghost reading = { λ _ words cwd env_vars view. expanded_reading (owner_in (rows ∷ [])) cwd view.files words };
+    ghost reading = { λ _ words directory env_vars view. expanded_reading (owner_in (rows ∷ [])) directory view.files words };
 
     ghost command = { λ _. command_words };
 
     ghost environment = { λ _ env_vars. env_vars };
 
-    ghost cacheable = { λ _ parsed cwd view. answers.Yes };
+    ghost cacheable = { λ _ _ _ _. cacheables.Yes };
 
-    ghost is_read_again = { λ _ words cwd env_vars view. DiabReadsAgain cwd view.files words };
+    ghost is_read_again = { λ _ words directory env_vars view. DiabReadsAgain directory view.files words };
 
     ghost passes = { λ _ may_dist rewrites cache_mode. diab_passes };
 

@@ -21,10 +21,10 @@ impl CCompilerImpl for TaskingVX {
     ghost use Rattle.scl_small.specs.TaskingTable.{rows};
     ghost use Rattle.scl_small.specs.TaskingReading.{reading};
     ghost use Rattle.scl_small.specs.Command.{command_words, tasking_passes};
-    ghost use Rattle.scl_text.specs.declared.records.CCompilerKind.TheVariants as kinds;
-    ghost use Rattle.scl_text.specs.declared.records.Cacheable.TheVariants as answers;
+    ghost use Rattle.scl_text.specs.declared.records.CCompilerKind.TheVariants as compilers;
+    ghost use Rattle.scl_text.specs.declared.records.Cacheable.TheVariants as cacheables;
 
-    ghost kind_of = { λ _. kinds.TaskingVX };
+    ghost kind_of = { λ _. compilers.TaskingVX };
 
     ghost plusplus_of = { λ _. false };
 
@@ -32,15 +32,15 @@ impl CCompilerImpl for TaskingVX {
 
     ghost digest_of = { λ _. None };
 
-    ghost reading = { λ _ words cwd env_vars view. reading (owner_in (rows ∷ [])) words };
+    ghost reading = { λ _ words directory env_vars view. reading (owner_in (rows ∷ [])) words };
 
     ghost command = { λ _. command_words };
 
     ghost environment = { λ _ env_vars. env_vars };
 
-    ghost cacheable = { λ _ parsed cwd view. answers.Yes };
+    ghost cacheable = { λ _ _ _ _. cacheables.Yes };
 
-    ghost is_read_again = { λ _ words cwd env_vars view. TaskingReadsAgain words };
+    ghost is_read_again = { λ _ words directory env_vars view. TaskingReadsAgain words };
 
     ghost passes = { λ _ may_dist rewrites cache_mode. tasking_passes };
 
