@@ -126,7 +126,7 @@ fn compilers_have_their_runs(rt: HostRuntime) -> Result<(), Fail> {
 }
 
 #[test]
-fn any_text_names_the_language(rt: HostRuntime) -> Result<(), Fail> {
+fn runs_take_the_text_of_the_closure_and_the_words_to_ignore(rt: HostRuntime) -> Result<(), Fail> {
     let record = record_of(rt.alloc(), &Gcc::new(false), b"-c a.c")?;
     let ignorable = cut(rt.alloc(), b"-P -Q")?;
     let kinds = [

@@ -9,7 +9,8 @@ use crate::tests::words::{cut, joined};
 use scl_args::ArgDisposition::{Concatenated, Separated};
 use scl_args::ArgRow::{Flag, TakeArg};
 use scl_args::{
-    ArgInfo, ArgParseError, ArgumentValue, FlagTable, IntoArg, PathArg, SearchableArgInfo,
+    ArgInfo, ArgParseError, ArgToStringError, ArgumentValue, FlagTable, IntoArg, PathArg,
+    SearchableArgInfo,
 };
 use scl_small::diab::{self, Diab};
 use scl_small::tasking_vx::{self, TaskingVX};
@@ -178,6 +179,7 @@ fn a_path_without_a_text_is_an_error(rt: HostRuntime) -> Result<(), Fail> {
     let word = diab::ArgData::PassThrough(Vec::from_slice(alloc, b"a")?);
     assert!(rt; word.into_arg_string(alloc, &mut none)?.as_str() == "a");
     let path = tasking_vx::ArgData::Output(PathArg(Vec::from_slice(alloc, b"a")?));
-    assert!(rt; path.into_arg_string(alloc, &mut none).is_err());
+    let failed = ArgToStringError::FailedPathTransform(Vec::from_slice(alloc, b"a")?);
+    assert!(rt; path.into_arg_string(alloc, &mut none) == Err(failed));
     Ok(())
 }

@@ -43,10 +43,41 @@ fn an_option_with_a_flag_has_its_flag_and_its_data(rt: HostRuntime) -> Result<()
     Ok(())
 }
 
+/// How a value stands, the side to which it is moved, and how it stands then.
+static MOVED: [(ArgDisposition, NormalizedDisposition, ArgDisposition); 6] = [
+    (
+        CanBeSeparated(None),
+        NormalizedDisposition::Separated,
+        Separated,
+    ),
+    (
+        CanBeConcatenated(None),
+        NormalizedDisposition::Separated,
+        Separated,
+    ),
+    (
+        CanBeSeparated(Some(b'=')),
+        NormalizedDisposition::Concatenated,
+        Concatenated(Some(b'=')),
+    ),
+    (
+        CanBeConcatenated(Some(b'=')),
+        NormalizedDisposition::Concatenated,
+        Concatenated(Some(b'=')),
+    ),
+    (Separated, NormalizedDisposition::Concatenated, Separated),
+    (
+        Concatenated(None),
+        NormalizedDisposition::Separated,
+        Concatenated(None),
+    ),
+];
+
 #[test]
-fn a_value_is_moved_to_its_side(rt: HostRuntime) -> Result<(), Fail> {
-    let option = valued(rt.alloc(), "-foo", b"bar", CanBeSeparated(None))?;
-    let apart = option.normalize(NormalizedDisposition::Separated);
-    assert!(rt; as_told(&apart) == Told::Value("-foo", b"bar", Separated));
+fn only_a_value_that_may_stand_either_way_is_moved(rt: HostRuntime) -> Result<(), Fail> {
+    for (how, side, wanted) in MOVED {
+        let option = valued(rt.alloc(), "-foo", b"bar", how)?.normalize(side);
+        assert!(rt; as_told(&option) == Told::Value("-foo", b"bar", wanted));
+    }
     Ok(())
 }

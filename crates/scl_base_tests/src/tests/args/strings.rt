@@ -70,7 +70,7 @@ impl ArgumentValue for Value {
     }
 }
 
-// Gives each path the same text, and counts the paths.
+/// Gives each path the same text, and counts the paths.
 #[derive(Drop)]
 struct Renamer {
     answer: Option<String>,
@@ -94,7 +94,7 @@ fn push_line(alloc: Global, lines: &mut String, text: ArgToStringResult) -> Mem<
     lines.push('\n')
 }
 
-// Compares what the option prints, an item a line, where each path prints as the answer; and how many paths that were.
+/// Compares what the option prints, an item a line, where each path prints as the answer; and how many paths that were.
 fn expect_texts(
     rt: &(impl Abort + AllocGlobal),
     option: &Argument<Value>,
@@ -123,7 +123,7 @@ fn expect_texts(
     Ok(())
 }
 
-// Compares what an option with a path prints.
+/// Compares what an option with a path prints.
 fn expect_path(
     rt: &(impl Abort + AllocGlobal),
     flag: &'static str,
@@ -146,6 +146,8 @@ fn a_path_is_asked_for_once(rt: HostRuntime) -> Result<(), Fail> {
     expect_path(&rt, "-foo", b"p", joined, Some(""), "-foo\n")?;
     let apart = ArgDisposition::Separated;
     expect_path(&rt, "-foo", b"p", apart, Some("q"), "-foo\nq\n")?;
+    let lines = "-foo\nPath \"p\" could not be transformed\n";
+    expect_path(&rt, "-foo", b"p", apart, None, lines)?;
     let lines = "Path \"a\" could not be transformed\n";
     expect_path(
         &rt,
@@ -162,8 +164,18 @@ fn words_and_flags_are_printed_without_a_path(rt: HostRuntime) -> Result<(), Fai
     let word = Argument::Raw(Vec::from_slice(rt.alloc(), b"\xff")?);
     let lines = "String \"\\xff\" contained invalid unicode\n";
     expect_texts(&rt, &word, Some("q"), lines, 0)?;
+    let unknown = Argument::UnknownFlag(Vec::from_slice(rt.alloc(), b"-new")?);
+    expect_texts(&rt, &unknown, Some("q"), "-new\n", 0)?;
     let flag = Argument::Flag("-c", Value::make(rt.alloc(), false, Vec::new(rt.alloc()))?);
     expect_texts(&rt, &flag, None, "-c\n", 0)
+}
+
+#[test]
+fn a_value_that_is_no_text_ends_the_texts(rt: HostRuntime) -> Result<(), Fail> {
+    let word = Value::Word(Vec::from_slice(rt.alloc(), b"\xff")?);
+    let option = Argument::WithValue("-foo", word, ArgDisposition::Separated);
+    let lines = "-foo\nString \"\\xff\" contained invalid unicode\n";
+    expect_texts(&rt, &option, Some("q"), lines, 0)
 }
 
 #[test]

@@ -1,5 +1,6 @@
 //! Texts that are read by their marks or by the local codepage.
 use scl_text::{Mem, from_local_codepage, read_text};
+use std::test::Fail;
 
 /// Whether a text was read, and the one that is wanted, or none if none is.
 fn reads(text: &Mem<Option<String>>, wanted: Option<&[u8]>) -> bool {
@@ -28,6 +29,28 @@ fn texts_are_read_by_their_marks(rt: HostRuntime) {
     for (bytes, wanted) in rows {
         assert!(rt; reads(&read_text(rt.alloc(), bytes), wanted), "{bytes:?}");
     }
+}
+
+/// What windows-1252 has at the bytes from 80 to 9F, in order.
+static HIGH: &str = "\u{20AC}\u{81}\u{201A}\u{192}\u{201E}\u{2026}\u{2020}\u{2021}\u{2C6}\u{2030}\
+    \u{160}\u{2039}\u{152}\u{8D}\u{17D}\u{8F}\u{90}\u{2018}\u{2019}\u{201C}\
+    \u{201D}\u{2022}\u{2013}\u{2014}\u{2DC}\u{2122}\u{161}\u{203A}\u{153}\u{9D}\u{17E}\u{178}";
+
+#[test]
+fn bytes_without_a_mark_are_windows_1252(rt: HostRuntime) -> Result<(), Fail> {
+    let mut bytes = Vec::new(rt.alloc());
+    for byte in 0x80..=0x9fu8 {
+        bytes.push(byte)?;
+    }
+    assert!(rt; reads(&read_text(rt.alloc(), &bytes), Some(HIGH.as_bytes())));
+    let own = "\u{7F}\u{A0}\u{FF}";
+    assert!(rt;
+        reads(
+            &read_text(rt.alloc(), b"\x7f\xa0\xff"),
+            Some(own.as_bytes())
+        )
+    );
+    Ok(())
 }
 
 #[test]

@@ -1,12 +1,32 @@
 //! Texts of response files that are cut into words.
-use crate::tests::{are_words, gives, says};
+use crate::tests::{are_words, gives, says, words_of};
 use scl_text::{SplitMsvcResponseFileArgs, msvc_words, split_diab, split_gnu_response_file_args};
 use std::test::Fail;
 
+/// Letters with all white space of Unicode between them, and behind the last one characters that are none.
+static SPACED: &str = "a\tb\nc\u{B}d\u{C}e\rf g\u{85}h\u{A0}i\u{1680}j\
+    \u{2000}k\u{2001}l\u{2002}m\u{2003}n\u{2004}o\u{2005}p\u{2006}q\u{2007}r\u{2008}s\u{2009}t\u{200A}u\
+    \u{2028}v\u{2029}w\u{202F}x\u{205F}y\u{3000}z\u{1C}\u{180E}\u{200B}\u{FEFF}";
+
+/// The words of that text, with a space between two.
+static LETTERS: &str =
+    "a b c d e f g h i j k l m n o p q r s t u v w x y z\u{1C}\u{180E}\u{200B}\u{FEFF}";
+
 #[test]
-fn diab_texts_are_cut_at_the_white_space_of_unicode(rt: HostRuntime) {
-    let text = " -c\u{3000}a.c\u{85}-@f\u{200B}\n";
-    let wanted = ["-c", "a.c", "-@f\u{200B}"];
+fn each_kind_of_text_has_its_separators(rt: HostRuntime) -> Result<(), Fail> {
+    let words = split_gnu_response_file_args(rt.alloc(), "a\tb\nc\u{C}d\re\u{B}f g");
+    assert!(rt; gives(&words, &["a", "b", "c", "d", "e\u{B}f", "g"]));
+    let words = msvc_words(rt.alloc(), "a\tb\nc\rd\u{C}e f");
+    assert!(rt; gives(&words, &["a", "b", "c", "d\u{C}e", "f"]));
+    let letters = words_of(rt.alloc(), LETTERS)?;
+    assert!(rt; matches!(split_diab(rt.alloc(), SPACED), Ok(Some(words)) if words == letters));
+    Ok(())
+}
+
+#[test]
+fn white_space_around_words_of_diab_gives_no_empty_word(rt: HostRuntime) {
+    let text = " -c\u{3000}\u{85}-@f\n";
+    let wanted = ["-c", "-@f"];
     assert!(rt;
         matches!(split_diab(rt.alloc(), text), Ok(Some(words)) if are_words(&words, &wanted))
     );

@@ -17,8 +17,10 @@ use std::test::Fail;
 static RECORDS: &str = r#"
 diab: -c foo.c -fabc -Xmake-dependency-savefile=bar -o foo.o => depfile none | outputs obj foo.o
 diab: -c foo.c -fabc -Xmake-dependency-savefile=bar -o foo.o => dependency_args -Xmake-dependency-savefile=bar | common_args -fabc
+diab: -c foo.cxx => language Cxx
 tasking: -c foo.c --dep-file=dep -o foo.o => depfile dep
 tasking: --dep-file -c foo.c => depfile foo.d
+tasking: -c foo.s => language Assembler
 gcc: -c d/a.c -o o/a.o --serialize-diagnostics x.dia -MF y.d -MD -gsplit-dwarf -ftest-coverage => outputs d y.d, dia x.dia, dwo? o/a.dwo, gcno o/a.gcno, obj o/a.o
 gcc: -c a.c -stdlib=x => uses_external_assembler yes | double_dash_input no
 gcc: -c a.c -Wp,-DA -fprofile-arcs => too_hard_for_preprocessor_cache_mode -Wp | profile_generate yes
@@ -27,6 +29,10 @@ gcc: -c a.c -pedantic -std=gnu11 => suppress_rewrite_includes_only yes
 gcc: -c a.c -std=c11 -pedantic => suppress_rewrite_includes_only no
 gcc: -c a.c -fdiagnostics-color => color_mode On
 gcc: -c a.c -pedantic => color_mode Auto
+gcc: -c a.c -x hip => language Hip
+g++: -c a.c => language Cxx
+g++: -c a.m => language ObjectiveC
+clang: -c a.h => language GenericHeader
 clang: -c a.cppm -fmodule-output => outputs module a.cppm.pcm, obj a.o
 clang: -c s/a.cppm -o o/b.o -fmodule-output => outputs module o/a.cppm.pcm, obj o/b.o
 clang: -c a.cppm -fmodule-output -fmodule-output=m.pcm => outputs module m.pcm, obj a.o
@@ -43,9 +49,11 @@ clang: -c a.c --serialize-diagnostics x.dia => outputs obj a.o | common_args --s
 clang: -c a.c -MD -Xclang -dependency-file -Xclang x.d -Xclang -fno-color-diagnostics => outputs obj a.o | color_mode Auto
 clang: -c a.c -MD -Xclang -dependency-file -Xclang x.d => dependency_args -MD -Xclang -dependency-file -Xclang x.d -MT a.o -MF a.d
 cl: /c a.c => msvc_show_includes no | msvc_explicit_language no | profile_generate no | uses_external_assembler no
+cl: /c /Tcfoo.cpp => language C
 cl: /c a.c -Zi -Fdp -Fdq => outputs obj a.obj, pdb q.pdb
 clang-cl: /c /Tpd/a.cpp /Foo/a => outputs obj o/a.obj, tlh? o/a.tlh, tli? o/a.tli | msvc_explicit_language yes
 clang-cl: -c a.cppm -xc++-module -fmodule-output=m => outputs module m, obj a.obj
+clang-cl: -c a.c -xc++-module -fmodule-output=m => language CxxModule
 clang-cl: /c a.c /showIncludes -depsx -depsy => msvc_show_includes yes | depfile y
 clang-cl: /c a.c -Xclang -fprofile-generate => profile_generate yes
 clang-cl: cwd /w; /c a.c -fmodule-file=n=m.pcm -fsanitize-blacklist=b -Xclang -load -Xclang p.so -clang:-fprofile-use=q => extra_hash_files /w/m.pcm /w/b /w/p.so /w/q
@@ -113,12 +121,13 @@ fn color_name(mode: ColorMode) -> &'static [u8] {
     }
 }
 
-/// What the record has in a field of several words or outputs.
+/// What the record has in a field of several words or outputs, or the name of its language.
 fn list(alloc: Global, record: &ParsedArguments, name: &str) -> Result<Vec<u8>, Fail> {
     match name {
         "outputs" => Ok(outputs_of(alloc, record)?),
         "dependency_args" => Ok(joined(alloc, &record.dependency_args)?),
         "common_args" => Ok(joined(alloc, &record.common_args)?),
+        "language" => Ok(format!(in alloc; "{:?}", record.language)?.into_bytes()),
         "extra_hash_files" => Ok(joined(alloc, &record.extra_hash_files)?),
         _ => Err("no field of this name")?,
     }

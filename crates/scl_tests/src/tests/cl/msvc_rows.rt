@@ -11,7 +11,6 @@ static CL: &str = r#"
 /c /EP foo.c b.c => not-compilation
 /E -c -Fx foo.c => not-compilation
 /Fx /E -c foo.c => cannot-cache /Fx
--c foo.c -Zi => cannot-cache shared pdb
 -c foo.c -Zi -Fda/ => cannot-cache shared pdb
 -c foo.c -Zi /Fda\x5c => cannot-cache shared pdb
 -c foo.c -Zi -Fda/ -Fdp => -c -Fofoo.obj -Zi -Fda/ -Fdp foo.c
@@ -29,24 +28,18 @@ static CL: &str = r#"
 /c x.c /external:I@foo => /c -Fox.obj /external:I @foo x.c
 /c x.c -external:I foo => /c -Fox.obj -external:I foo x.c
 /c /work/x.c => cannot-cache no input file
-/c x.c y.c => cannot-cache multiple input files
-/c x.c /Tcy.c => cannot-cache multiple input files
-/c x.c -fmodule-output=a y.c => cannot-cache multiple input files
 /c -fmodule-output=a => cannot-cache -x c++-module without -fmodule-output= or vice versa
 /c /Tc => cannot-cache empty value
 /c /Tc.. => /c -Fo.. -Tc..
 /c x.c -fmodule-file=a => cannot-cache -fmodule-file
 /c x.c /fmodule-output => cannot-cache /fmodule-output
 -c a.cppm -x c++-module -fmodule-output=a.pcm => cannot-cache -x
-/c x.c /ifcOutput o => cannot-cache /ifcOutput
 /c x.c /FI => cannot-cache empty value
 /c x.c /U => /c -Fox.obj /U x.c
-/c x.c -Xclang => cannot-cache argument parse
 /c x.c -- -Y => /c -Fox.obj -- -Y x.c
 /c x.c -unknown => /c -Fox.obj -unknown x.c
 /c x.c /showIncludes => /c -Fox.obj /showIncludes x.c
 /c x.c -Xclang -E => cannot-cache -E
-/c x.c -clang:-mllvm => cannot-cache argument parse
 x.c -Xclang -E => cannot-cache -E
 /c x.c -clang:-E -Xclang -S -Xclang -P => cannot-cache -P
 /c x.c -clang: => /c -Fox.obj -clang: x.c

@@ -1,7 +1,7 @@
 //! Rows worked by hand, through the program: texts, a row a line. Behind ` => ` stand the command's words, or the answer's
 //! one line; before it the words of the request, and before those its other lines, each ended by `; `, with a space between
-//! two fields. Words stand between spaces, so two spaces, or one at the end, hold an empty word. Refusals of which the text
-//! beside the reason is compared too stand in `refusals`.
+//! two fields. Words stand between spaces, so two spaces, or one at the end, hold an empty word. Refusals with a text beside
+//! the reason stand in `refusals`, where the text is compared too.
 use super::run_over;
 use scl_cl::{Compiler, Mem, Outcome};
 use std::alloc::Global;
@@ -29,7 +29,6 @@ file f \xef\xbb\xbfa.c; -c -@f => -c \xef\xbb\xbfa.c -o \xef\xbb\xbfa.o
 /// Of TaskingVX.
 static TASKING: &str = r#"
 -c a.c -H file -I include -fabc => -c a.c -o a.o -Hfile -Iinclude -fabc
-file r -DA; -c a.c @r => cannot-cache multiple input files
 --version -c a.c => not-compilation
 -c a.c -L @x => -c a.c -o a.o -L@x
 -c foo.c --dep-file=dep -o foo.o => -c foo.c -o foo.o
@@ -43,7 +42,6 @@ static GCC: &str = r#"
 -o foo.o -c foo.c => -x c -c -o foo.o -fdiagnostics-color=always foo.c
 -o foo.o foo.c => not-compilation
  => not-compilation
--c a.c b.c => cannot-cache multiple input files
 -c src/foo.cc -stdlib=libc++ -MMD => -x c++ -c -o foo.o -stdlib=libc++ -MMD -MT foo.o -MF foo.d -fdiagnostics-color=always src/foo.cc
 -c a.c -I  => cannot-cache empty value
 file r -c\x20"a\x20b.c"\x20@r; @r => cannot-cache @
@@ -64,7 +62,6 @@ cwd /w; file /w//r -c\x20a.c; @r => -x c -c -o a.o -fdiagnostics-color=always a.
 -c a.c -std= => -x c -c -o a.o -std -fdiagnostics-color=always a.c
 -c a.c -L  => -x c -c -o a.o -L  -fdiagnostics-color=always a.c
 -c a.c -arch i386 -arch i386 => -x c -c -o a.o -arch i386 -arch i386 -fdiagnostics-color=always a.c
--c a.c -E => cannot-cache -E
 cwd /w; file /w/s -c\x20"a\x20b.c"\x20@s; @s => cannot-cache @
 cwd /w; file /w/t \xff; -c a.c @t => cannot-cache @
 -c a.c -iwithprefixdir => -x c -c -o a.o -iwithprefix dir -fdiagnostics-color=always a.c
@@ -86,17 +83,12 @@ static CLANG: &str = r#"
 -c -Xclang -include -Xclang pch.h -- -a.c => -x c -c -o -a.o -Xclang -include -Xclang pch.h -fdiagnostics-color=always -- -a.c
 -include-pch x.pch -c a.c => -x c -c -o a.o -include-pch x.pch -fdiagnostics-color=always a.c
 -c foo.cxx -arch xyz -fabc -I include -o foo.o -include file /winsysroot../some/dir => -x c++ -c -o foo.o -Iinclude -include file -fabc /winsysroot ../some/dir -arch xyz -fdiagnostics-color=always foo.cxx
--c foo.c -o foo.o -Xclang -load => cannot-cache argument parse
--c foo.c -o foo.o -Xclang broken => cannot-cache Can't handle Raw arguments with -Xclang
--c foo.c -o foo.o -Xclang -fabc => cannot-cache Can't handle UnknownFlag arguments with -Xclang
 -c a.c --serialize-diagnostics x.dia => -x c -c -o a.o --serialize-diagnostics x.dia -fdiagnostics-color=always a.c
 -c a.c -MFx.d -MD => -x c -c -o a.o -MF x.d -MD -MT a.o -fdiagnostics-color=always a.c
 -c a.cppm -fmodule-output => -x c++-module -c -o a.o -fmodule-output -fdiagnostics-color=always a.cppm
 -c -Xclang -plugin-arg-foo -Xclang bar a.c => -x c -c -o a.o -Xclang -plugin-arg-foo -Xclang bar -fdiagnostics-color=always a.c
 -c foo.cpp -x cu --cuda-gpu-arch=sm_50 -o foo.o => -x cuda -c -o foo.o --cuda-gpu-arch=sm_50 -fdiagnostics-color=always foo.cpp
 -c foo.hip -parallel-jobs=5 --hip-path=/usr => -x hip -c -o foo.o -parallel-jobs=5 --hip-path=/usr -fdiagnostics-color=always foo.hip
--c foo.c -Xclang -no-integrated-as => cannot-cache -no-integrated-as
--c a.c --config => cannot-cache argument parse
 -c a.c --config= => cannot-cache empty value
 -c a.c -Xclang -I => cannot-cache empty value
 -c -x c / => cannot-cache invalid input file
@@ -104,8 +96,6 @@ static CLANG: &str = r#"
 -c a.c -- => -x c -c -o a.o -fdiagnostics-color=always a.c
 -c a.c -Xclang -c -E => cannot-cache -E
 -o foo.o foo.c => not-compilation
--o foo.o foo.c -Xclang broken => cannot-cache Can't handle Raw arguments with -Xclang
--c -Xclang -plugin-arg-foo -Xclang bar -Xclang baz a.c => cannot-cache Can't handle Raw arguments with -Xclang
 -c a.c -Xclang -include@a.h => -x c -c -o a.o -Xclang -include -Xclang @a.h -fdiagnostics-color=always a.c
 -c a.c -Xclang -I -Xclang inc => -x c -c -o a.o -Xclang -Iinc -fdiagnostics-color=always a.c
 -c -x c++-module .. -o m.o -fmodule-output => cannot-cache invalid input file

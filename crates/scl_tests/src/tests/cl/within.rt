@@ -1,76 +1,105 @@
 //! Answers to command lines of at most so many words.
 use super::asked_by;
 use super::rows::{nested_files, request_of};
-use crate::tests::words::cut;
-use scl_cl::{Compilation, Compiler, CompilerArguments, Mem, Request, TooManyWords, View};
+use scl_cl::{Compilation, Compiler, CompilerArguments, Mem, Request, TooManyWords};
 use std::alloc::Global;
 use std::process::Abort;
 use std::test::Fail;
 
-/// A request without words that has so many files from f0 on, each of which names the next twice, and a last one of one
-/// word.
-fn doubling_files(alloc: Global, files: u32) -> Result<Request, Fail> {
+/// A request of words, with so many files from f0 on, each of which names the next twice, and a last one of one word.
+fn with_doubling_files(
+    alloc: Global,
+    files: u32,
+    compiler: Compiler,
+    words: &str,
+) -> Result<Request, Fail> {
     let lines = nested_files(alloc, files, 2, "-DA")?;
-    let request = request_of(alloc, Compiler::Gcc, lines.as_str(), "")?;
+    let request = request_of(alloc, compiler, lines.as_str(), words)?;
     asked_by(alloc, request.as_bytes())
 }
 
+/// What is answered where at most so many words may come.
 fn answer_within(
     alloc: Global,
-    compiler: Compiler,
-    words: &[u8],
-    view: &View,
+    asked: &Request,
     most: usize,
 ) -> Mem<Result<CompilerArguments<Compilation>, TooManyWords>> {
-    let words = cut(alloc, words)?;
-    compiler.answer_within(alloc, b"", &words, b"", &[], view, most)
+    asked.compiler.answer_within(
+        alloc,
+        b"",
+        &asked.words,
+        &asked.directory,
+        &asked.environment,
+        &asked.view,
+        most,
+    )
 }
 
-/// The command is answered where so many words may come, and not where one less may.
+/// The request is answered where so many words may come, and not where one less may.
 fn expect_words(
     rt: &(impl Abort + Alloc<A = Global>),
-    compiler: Compiler,
-    words: &[u8],
-    view: &View,
+    asked: &Request,
     count: usize,
 ) -> Result<(), Fail> {
-    let enough = answer_within(rt.alloc(), compiler, words, view, count)?;
+    let enough = answer_within(rt.alloc(), asked, count)?;
     assert!(rt;
         matches!(&enough, Ok(CompilerArguments::Ok(_))),
-        "of {words:?}"
+        "of {:?}",
+        &asked.words
     );
-    let few = answer_within(rt.alloc(), compiler, words, view, count.saturating_sub(1))?;
-    assert!(rt; matches!(&few, Err(TooManyWords)), "of {words:?}");
+    let few = answer_within(rt.alloc(), asked, count.saturating_sub(1))?;
+    assert!(rt; matches!(&few, Err(TooManyWords)), "of {:?}", &asked.words);
+    Ok(())
+}
+
+/// Words beside ten files that double, and how many they are with the files in place: `@f0` stands for 1,024.
+static COUNTED: [(Compiler, &str, usize); 5] = [
+    (Compiler::Gcc, "-c a.c @f0", 1026),
+    (Compiler::Clang, "-c a.c @f0", 1026),
+    (Compiler::Tasking, "-c a.c", 2),
+    (Compiler::Diab, "-c a.c -DA", 3),
+    (Compiler::Cl, "/c a.c /DA /DB", 4),
+];
+
+#[test]
+fn words_are_counted_with_files_in_place(rt: HostRuntime) -> Result<(), Fail> {
+    for (compiler, words, count) in COUNTED {
+        let asked = with_doubling_files(rt.alloc(), 10, compiler, words)?;
+        expect_words(&rt, &asked, count)?;
+    }
     Ok(())
 }
 
 #[test]
-fn words_are_counted_with_files_in_place(rt: HostRuntime) -> Result<(), Fail> {
-    // ten files that double put 1,024 words in the place of one
-    let asked = doubling_files(rt.alloc(), 10)?;
-    expect_words(&rt, Compiler::Gcc, b"-c a.c @f0", &asked.view, 1026)?;
-    expect_words(&rt, Compiler::Clang, b"-c a.c @f0", &asked.view, 1026)?;
-    expect_words(&rt, Compiler::Tasking, b"-c a.c", &asked.view, 2)?;
-    expect_words(&rt, Compiler::Diab, b"-c a.c -DA", &asked.view, 3)?;
-    expect_words(&rt, Compiler::Cl, b"/c a.c /DA /DB", &asked.view, 4)
+fn inner_words_are_counted(rt: HostRuntime) -> Result<(), Fail> {
+    let asked = with_doubling_files(rt.alloc(), 10, Compiler::ClangCl, "/c a.c -clang:@f0")?;
+    expect_words(&rt, &asked, 1024)
 }
 
 #[test]
-fn inner_words_are_counted(rt: HostRuntime) -> Result<(), Fail> {
-    let asked = doubling_files(rt.alloc(), 10)?;
-    expect_words(
-        &rt,
-        Compiler::ClangCl,
-        b"/c a.c -clang:@f0",
-        &asked.view,
-        1024,
-    )
+fn words_of_variables_are_counted(rt: HostRuntime) -> Result<(), Fail> {
+    let request = b"compiler cl\nword /c\nword a.c\nenv CL\t/DA\\x20/DB\nenv _CL_\t/DC\n";
+    expect_words(&rt, &asked_by(rt.alloc(), request)?, 5)
+}
+
+#[test]
+fn a_broken_variable_gives_no_words(rt: HostRuntime) -> Result<(), Fail> {
+    let asked = asked_by(
+        rt.alloc(),
+        b"compiler cl\nword /c\nword a.c\nenv CL\t\\xff\n",
+    )?;
+    let answer = answer_within(rt.alloc(), &asked, 0)?;
+    let broken = "CL environment variable value broken";
+    assert!(rt;
+        matches!(&answer, Ok(CompilerArguments::CannotCache(reason, None)) if *reason == broken)
+    );
+    Ok(())
 }
 
 #[test]
 fn an_expansion_past_its_bound_ends_at_once(rt: HostRuntime) -> Result<(), Fail> {
-    let asked = doubling_files(rt.alloc(), 200)?;
-    let few = answer_within(rt.alloc(), Compiler::Gcc, b"-c a.c @f0", &asked.view, 1000)?;
+    let asked = with_doubling_files(rt.alloc(), 200, Compiler::Gcc, "-c a.c @f0")?;
+    let few = answer_within(rt.alloc(), &asked, 1000)?;
     assert!(rt; matches!(&few, Err(TooManyWords)));
     Ok(())
 }
