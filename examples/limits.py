@@ -244,7 +244,7 @@ def try_row(program, number, row):
     """Tries a row with each of its compilers and gives what is not as it says."""
     compilers, words, text = row
     _, quote = SAYS[number]
-    faults = [] if quote in text else [f"the row no longer says: {quote}"]
+    faults = [] if quote in text else [f"the row does not say: {quote}"]
     for compiler in compilers:
         faults += try_with(compiler, program, number, words)
     return faults

@@ -1,7 +1,7 @@
 #!/usr/bin/env python3
 """Refuses each request for memory of a run in turn, and fails each read and each write in turn, and checks what the
 program says: status 3 and nothing written where memory was refused, status 4 and nothing written where a read failed, status 4
-and a beginning of the answer where a write failed.
+and a beginning of the answer, less than the whole, where a write failed.
 
 usage: examples/refusals.py PATH_OF_CCLINE [REQUEST_FILE ..]   (it needs cc; without files: requests of its own)
        examples/refusals.py --calls PATH_OF_REFUSALS
