@@ -6,9 +6,7 @@ ghost use Rattle.scl_args.specs.Options.{spelled_on, list};
 ghost use Rattle.scl_values.specs.Words.{words_of};
 
 use crate::options::Test;
-use scl_values::{
-    ArgDisposition, Argument, ArgumentValue, Mem, NormalizedDisposition, joined_value,
-};
+use scl_values::{ArgDisposition, Argument, Mem, NormalizedDisposition, ReadArg, joined_word};
 use std::alloc::Global;
 
 /// On which side of its flag an option of a list prints a value that may stand either way (docs/RULES.md, Printing).
@@ -42,7 +40,7 @@ impl Sides for ShortFlagsJoined {
     }
 }
 
-fn push_value<T: ArgumentValue>(
+fn push_value<T: ReadArg>(
     alloc: Global,
     words: &mut Vec<Vec<u8>>,
     flag: &str,
@@ -54,10 +52,10 @@ fn push_value<T: ArgumentValue>(
     match disposition {
         ArgDisposition::Separated | ArgDisposition::CanBeConcatenated(_) => {
             words.push(Vec::from_slice(alloc, flag.as_bytes())?)?;
-            words.push(value.into_arg_os_string(alloc)?)?;
+            words.push(Vec::from_slice(alloc, value.word())?)?;
         }
         ArgDisposition::CanBeSeparated(delimiter) | ArgDisposition::Concatenated(delimiter) => {
-            words.push(joined_value(alloc, flag, delimiter, value)?)?;
+            words.push(joined_word(alloc, flag, delimiter, value.word())?)?;
         }
     }
     Ok(())
@@ -65,7 +63,7 @@ fn push_value<T: ArgumentValue>(
 
 /// Puts the words of the option, on the side of its flag, behind others. It fails only for want of memory, and the first of
 /// two words may then stand there.
-fn push_option<T: ArgumentValue, S: Sides>(
+fn push_option<T: ReadArg, S: Sides>(
     alloc: Global,
     words: &mut Vec<Vec<u8>>,
     option: &Argument<T>,
@@ -90,7 +88,7 @@ fn push_option<T: ArgumentValue, S: Sides>(
 }
 
 /// Puts the words of the option behind others as `push_option` does; the word of one without a flag is moved.
-pub(crate) fn push_whole<T: ArgumentValue, S: Sides>(
+pub(crate) fn push_whole<T: ReadArg, S: Sides>(
     alloc: Global,
     words: &mut Vec<Vec<u8>>,
     option: Argument<T>,
@@ -111,7 +109,7 @@ pub(crate) fn push_whole<T: ArgumentValue, S: Sides>(
 
 /// The words of the options that pass, each option on the side of its flag (docs/RULES.md, Lists of options). It fails only
 /// for want of memory.
-pub(crate) fn list<T: ArgumentValue, S: Sides, P: Test<T>>(
+pub(crate) fn list<T: ReadArg, S: Sides, P: Test<T>>(
     alloc: Global,
     options: &[Argument<T>],
     sides: &S,

@@ -1,6 +1,7 @@
 -- The way through a prefix tree that a word's bytes go.
 use Rattle.std.proofs.Common.{◌≡◌, ◌≢◌, ℕ, zero, suc, ◌+◌, ◌*◌, ◌-◌, ◌<◌, ◌≤◌, Bool, true, false, nat_lt, nat_eq, ◌==◌, List, [], ◌∷◌, length, map, slice_index, slice_index_or, Option, None, Some, MatchOption, refl, sym, ap, subst, ◌∙◌, inl, inr, ◌⊎◌, arith}
 use Rattle.std.proofs.lemmas.Bool.Decides.{nat_tests}
+use Rattle.std.proofs.Math.Nat.{mul-le-mul_left}
 use Rattle.std.proofs.lemmas.List.{get_or-map, length-map}
 use Rattle.std.specs.List.{starts_with}
 use Rattle.scl_tables.specs.declared.nodes.Node.{Node}
@@ -60,8 +61,8 @@ module _ {K : Type 0} (rows : List (Row K)) (nodes : List Node) (node : Node) (i
   pub few : RiseIn rows (group_of node) → node.end_child - node.first_child ≤ length rows
   few rises = elim is.others as (λ _. node.end_child - node.first_child ≤ length rows) [ inl c ↦ omega (arith, c.1.few, rises.within, rises.order) | inr c ↦ omega (arith, c.few, rises.within, rises.order) ]
 
-  deeper : (i : ℕ) (other : Group) → node.first_child ≤ i → i < node.end_child → (slice_index_or (map group_of nodes) i other).depth ≡ node.depth + 1
-  deeper i other p q = elim is.others as (λ _. (slice_index_or (map group_of nodes) i other).depth ≡ node.depth + 1) [ inl c ↦ c.1.deeper i other p q | inr c ↦ c.deeper i other p q ]
+  deeper : (i : ℕ) (other : Group) → node.first_child ≤ i → i < node.end_child → node.depth < (slice_index_or (map group_of nodes) i other).depth
+  deeper i other p q = elim is.others as (λ _. node.depth < (slice_index_or (map group_of nodes) i other).depth) [ inl c ↦ c.1.deeper i other p q | inr c ↦ c.deeper i other p q ]
 
   rise : (i j : ℕ) (other : Group) → node.first_child ≤ i → i < j → j < node.end_child → (slice_index_or (map group_of nodes) i other).byte < (slice_index_or (map group_of nodes) j other).byte
   rise i j other p q r = elim is.others as (λ _. (slice_index_or (map group_of nodes) i other).byte < (slice_index_or (map group_of nodes) j other).byte) [ inl c ↦ c.1.rise i j other p q r | inr c ↦ c.rise i j other p q r ]
@@ -177,8 +178,8 @@ module _ {K : Type 0} (rows : List (Row K)) (nodes : List Node) (node : Node) (i
           let Q : Group → Type 0 = λ group. (group.first ≤ k) × (k < group.end) in
           subst Q (child_group no_node) (subst P same (below.first none, below.end none))
 
-      pub child_deeper : child.depth ≡ node.depth + 1
-      child_deeper = let P : Group → Type 0 = λ group. group.depth ≡ node.depth + 1 in subst P (child_group no_node) (deeper chosen.place (group_of no_node) chosen.from chosen.to)
+      pub child_deeper : node.depth < child.depth
+      child_deeper = let P : Group → Type 0 = λ group. node.depth < group.depth in subst P (child_group no_node) (deeper chosen.place (group_of no_node) chosen.from chosen.to)
 
       pub on_to_child : (found : Option (Row K)) → Behind rows nodes word node found → Before rows word child found
       on_to_child None behind = λ k other l f. in_child k other f (behind k other l f)
@@ -228,9 +229,6 @@ module _ {K : Type 0} (rows : List (Row K)) (nodes : List Node) (tree : IsTree r
       let all : group_of root ≡ whole rows = ap group_of (sym (at root)) ∙ tree.root root in
       λ k other l f. (omega (arith, ap (λ group. group.first) all), omega (arith, l, ap (λ group. group.end) all))
 
-  pub root_depth : (root : Node) → ((other : Node) → slice_index_or nodes 0 other ≡ root) → root.depth ≡ 0
-  root_depth root at = ap (λ group. group.depth) (ap group_of (sym (at root)) ∙ tree.root root)
-
   pub tried : (node : Node) → IsNode rows (map group_of nodes) node → RiseIn rows (group_of node) → (found : Option (Row K)) → Before rows word node found
       → (own : Option (Bor (ArgRow K))) → MatchOption own (NoneFits rows node word) (λ row. OwnFits rows node word (row_of row.now)) → (now : Option (Row K)) → now ≡ longer_of own found → Behind rows nodes word node now
   tried node is rises found before None none now e = subst (Behind rows nodes word node) (sym e) (none_tried rows nodes node is word rises none found before)
@@ -238,6 +236,6 @@ module _ {K : Type 0} (rows : List (Row K)) (nodes : List Node) (tree : IsTree r
 
 -- ---- counts
 
-pub root_count : (has_row : Bool) (before looked tried rows : ℕ) → looked ≤ before + 1 → tried ≤ looked + 1 → (has_row ≡ false → tried ≡ looked) → (has_row ≡ true → 0 < rows) → tried ≤ before + 1 * (bits rows + 1)
-root_count true before looked tried rows l t free some = let half = bits_half rows 0 (some refl) (omega arith) in omega (arith, l, t, half)
-root_count false before looked tried rows l t free some = let same = free refl in omega (arith, l, same)
+pub root_count : (steps : ℕ) (has_row : Bool) (before looked tried rows : ℕ) → looked ≤ before + 1 → tried ≤ looked + 1 → (has_row ≡ false → tried ≡ looked) → (has_row ≡ true → 0 < rows) → tried ≤ before + (steps + 1) * (bits rows + 1)
+root_count steps true before looked tried rows l t free some = let half = bits_half rows 0 (some refl) (omega arith) in let once = mul-le-mul_left (bits rows + 1) (let one : 1 ≤ steps + 1 = omega arith in one) in omega (arith, l, t, half, once)
+root_count steps false before looked tried rows l t free some = let same = free refl in let once = mul-le-mul_left (bits rows + 1) (let one : 1 ≤ steps + 1 = omega arith in one) in omega (arith, l, same, once)

@@ -1,17 +1,17 @@
 -- Prefix trees over the rows of a table.
-use Rattle.std.proofs.Common.{◌≡◌, ◌≢◌, ℕ, zero, suc, ◌+◌, ◌/◌, ◌<◌, ◌≤◌, Bool, true, false, nat_lt, ◌==◌, List, [], ◌∷◌, ◌++◌, length, map, drop, slice_index, slice_index_or, refl, sym, ap, subst, ◌∙◌, inl, inr, ◌⊎◌, set, arith, length-append}
+use Rattle.std.proofs.Common.{◌≡◌, ◌≢◌, ℕ, zero, suc, ◌+◌, ◌-◌, ◌/◌, ◌<◌, ◌≤◌, Bool, true, false, nat_lt, ◌==◌, List, [], ◌∷◌, ◌++◌, length, map, drop, slice_index, slice_index_or, refl, sym, ap, subst, ◌∙◌, inl, inr, ◌⊎◌, set, arith, length-append}
 use Rattle.std.proofs.lemmas.Bool.Decides.{nat_tests}
 use Rattle.std.proofs.lemmas.List.{get_or_append_left, get_or-set_same, get_or-set_other, length-map, length-set}
 use Rattle.std.proofs.Math.Seq.{get_or-append_seam, map-set_same}
 use Rattle.std.specs.Ordering.{nat_cmp, ordering_then, MatchOrdering}
 use Rattle.std.specs.declared.cmp.Ordering.{Ordering}
 use Rattle.std.specs.declared.cmp.Ordering.TheVariants.{Less, Equal, Greater}
-use Rattle.std.proofs.lemmas.List.{get_or-map}
+use Rattle.std.proofs.lemmas.List.{get_or-map, get_or_default}
 use Rattle.scl_values.specs.declared.argument.ArgRow.{ArgRow}
 use Rattle.scl_tables.specs.declared.nodes.Node.{Node}
 use Rattle.scl_values.specs.Row.{Row, row_of}
 use Rattle.scl_values.specs.Tables.{is_table}
-use Rattle.scl_tables.specs.Trees.{Group, group_of, whole, RiseBehind, RiseIn, IsBelow, AreChildren, IsNode, IsTree, Grows, ChildrenRise}
+use Rattle.scl_tables.specs.Trees.{Group, group_of, whole, RiseBehind, RiseIn, IsBelow, AreChildren, IsBare, IsNode, IsTree, Grows, ChildrenRise}
 use Rattle.scl_tables.specs.Probes.{bits}
 use Rattle.scl_tables.proofs.BitsLemmas.{bits_half}
 use Rattle.scl_tables.proofs.OrderLemmas.{cmp, head, rising}
@@ -89,6 +89,32 @@ module _ {K : Type 0} (rows : List (Row K)) (depth first end : ℕ) (rises : Ris
         subst P more ((later_byte (slice_index_or rows j other).flag (slice_index_or rows k other).flag depth at_j at_k (rises.rise j k other (omega arith) q (omega arith))).1 (same j other p (omega arith) ∙ sym (same k other (omega arith) r)));
   }
 
+  -- all rows go on with the byte with which the first and the last do
+  pub shared_more : (byte : ℕ) → first < end → ((other : Row K) → depth < length (slice_index_or rows first other).flag)
+      → ((other : Row K) → slice_index (slice_index_or rows first other).flag depth ≡ byte) → ((other : Row K) → slice_index (slice_index_or rows (end - 1) other).flag depth ≡ byte)
+      → RiseBehind rows (depth + 1) first end
+  shared_more byte some long at_first at_last = child_rises first end byte (omega arith) (omega (arith, some)) (omega arith) (longer_all long) same
+    where
+      from_first : (k : ℕ) (other : Row K) → first ≤ k → k < end → byte ≤ slice_index (slice_index_or rows k other).flag depth
+      from_first k other p q =
+          elim (first == k) as (λ b. (first == k) ≡ b → byte ≤ slice_index (slice_index_or rows k other).flag depth) [
+            | true ↦ λ e. let eq : first ≡ k = grind (arith, nat_tests) in let P : ℕ → Type 0 = λ i. byte ≤ slice_index (slice_index_or rows i other).flag depth in subst P eq (let here = at_first other in omega (arith, here))
+            | false ↦ λ e. let rise = bytes_rise first k other (omega arith) (grind (arith, nat_tests)) q (long other) in let here = at_first other in omega (arith, rise, here)
+          ] refl
+
+      to_last : (k : ℕ) (other : Row K) → first ≤ k → k < end → slice_index (slice_index_or rows k other).flag depth ≤ byte
+      to_last k other p q =
+          elim (k == end - 1) as (λ b. (k == end - 1) ≡ b → slice_index (slice_index_or rows k other).flag depth ≤ byte) [
+            | true ↦ λ e. let eq : end - 1 ≡ k = grind (arith, nat_tests) in let P : ℕ → Type 0 = λ i. slice_index (slice_index_or rows i other).flag depth ≤ byte in subst P eq (let here = at_last other in omega (arith, here))
+            | false ↦ λ e.
+                let ne : k ≢ end - 1 = grind (arith, nat_tests) in
+                let rise = bytes_rise k (end - 1) other p (omega (arith, q, ne)) (omega (arith, q)) (longer_all long k other p q) in
+                let here = at_last other in omega (arith, rise, here)
+          ] refl
+
+      same : (k : ℕ) (other : Row K) → first ≤ k → k < end → slice_index (slice_index_or rows k other).flag depth ≡ byte
+      same k other p q = let low = from_first k other p q in let high = to_last k other p q in omega (arith, low, high)
+
   -- rows behind the last with a byte have greater ones
   pub greater_behind : (s t byte : ℕ) → first ≤ s → s < t → ((other : Row K) → slice_index (slice_index_or rows s other).flag depth ≡ byte) → ((other : Row K) → depth < length (slice_index_or rows s other).flag)
       → ((other : Row K) → t < end → slice_index (slice_index_or rows t other).flag depth ≢ byte)
@@ -137,7 +163,7 @@ pushed_keeps groups group i other l = get_or_append_left groups (group ∷ []) o
 
 -- one more child, whose rows are the next ones
 module _ {K : Type 0} (rows : List (Row K)) (groups : List Group) (group : Group) (depth low first at : ℕ) (low_in : low ≤ length groups)
-    (children : AreChildren rows groups depth low (length groups) first at) (deeper : group.depth ≡ depth + 1) (from : group.first ≡ at) (some : at < group.end)
+    (children : AreChildren rows groups depth low (length groups) first at) (deeper : depth < group.depth) (from : group.first ≡ at) (some : at < group.end)
     (longer : (k : ℕ) (other : Row K) → at ≤ k → k < group.end → depth < length (slice_index_or rows k other).flag)
     (same : (k : ℕ) (other : Row K) → at ≤ k → k < group.end → slice_index (slice_index_or rows k other).flag depth ≡ group.byte)
     (greater : (i : ℕ) (other : Group) → low ≤ i → i < length groups → (slice_index_or groups i other).byte < group.byte) where
@@ -151,7 +177,7 @@ module _ {K : Type 0} (rows : List (Row K)) (groups : List Group) (group : Group
   one_more_child = record {
     few = omega (arith, children.few, some);
     within = omega (arith, length-append groups (group ∷ []));
-    deeper = λ i other p q. one_more (λ i. (slice_index_or more i other).depth ≡ depth + 1) low (length groups)
+    deeper = λ i other p q. one_more (λ i. depth < (slice_index_or more i other).depth) low (length groups)
         (λ i p q. rw (pushed_keeps groups group i other q) (children.deeper i other p q)) (rw (here other) deeper) i p q;
     rise = λ i j other p q r. one_more (λ j. i < j → (slice_index_or more i other).byte < (slice_index_or more j other).byte) low (length groups)
         (λ j p' r q. rw (pushed_keeps groups group i other (omega arith), pushed_keeps groups group j other r) (children.rise i j other p q r))
@@ -191,7 +217,7 @@ groups_pushed (x ∷ nodes) node = ap (λ rest. group_of x ∷ rest) (groups_pus
 
 pub no_children : {K : Type 0} (rows : List (Row K)) (nodes : List Node) (depth first end : ℕ) → first ≤ end → Growing rows nodes nodes depth first first end
 no_children rows nodes depth first end o = record {
-  grows = record { longer = omega arith; keeps = λ i other l. refl; rise = λ i other l m. absurd (omega (arith, l, m)) };
+  grows = record { longer = omega arith; keeps = λ i other l. refl; rise = λ i other l m. absurd (omega (arith, l, m)); bare = λ i other l m. absurd (omega (arith, l, m)) };
   from = omega arith;
   to = o;
   children = record {
@@ -206,7 +232,7 @@ no_children rows nodes depth first end o = record {
 
 module _ {K : Type 0} (rows : List (Row K)) (old new : List Node) (depth from first next end : ℕ) (rises : RiseBehind rows depth from end) (inside : from ≤ first)
     (longer : (k : ℕ) (other : Row K) → first ≤ k → k < end → depth < length (slice_index_or rows k other).flag) (growing : Growing rows old new depth first next end)
-    (child : Node) (deeper : child.depth ≡ depth + 1) (starts : child.first_row ≡ next) (some : next < child.end_row) (ends : child.end_row ≤ end)
+    (child : Node) (bare : IsBare child) (child_rows : RiseIn rows (group_of child)) (deeper : depth < child.depth) (starts : child.first_row ≡ next) (some : next < child.end_row) (ends : child.end_row ≤ end)
     (same : (k : ℕ) (other : Row K) → next ≤ k → k < child.end_row → slice_index (slice_index_or rows k other).flag depth ≡ child.byte)
     (changes : (other : Row K) → child.end_row < end → slice_index (slice_index_or rows child.end_row other).flag depth ≢ child.byte) where
   abbrev pushed : List Node
@@ -224,18 +250,17 @@ module _ {K : Type 0} (rows : List (Row K)) (old new : List Node) (depth from fi
   row : Row K
   row = some_row rows (omega (arith, rises.within, some, ends))
 
-  child_rows : RiseIn rows (group_of child)
-  child_rows =
-      let P : ℕ → ℕ → Type 0 = λ d s. RiseBehind rows d s child.end_row in
-      let at_next : RiseBehind rows (depth + 1) next child.end_row = child_rises rows depth from end rises next child.end_row child.byte (omega (arith, inside, growing.from)) (omega (arith, some)) ends
-      (λ k other p q. longer k other (omega (arith, growing.from, p)) (omega (arith, q, ends))) same in
-      subst (λ s. P child.depth s) (sym starts) (subst (λ d. P d next) (sym deeper) at_next)
-
   rise_more : (i : ℕ) (other : Group) → length old ≤ i → i < length pushed → RiseIn rows (slice_index_or (map group_of pushed) i other)
   rise_more i other l m =
       rw (groups_pushed new child) (one_more (λ i. RiseIn rows (slice_index_or (groups ++ group_of child ∷ []) i other)) (length old) (length groups)
       (λ i p q. rw (pushed_keeps groups (group_of child) i other q) (growing.grows.rise i other p (omega (arith, q, count))))
       (rw (get_or-append_seam groups (group_of child) [] other) child_rows) i l (omega (arith, m, count, count_more)))
+
+  bare_more : (i : ℕ) (other : Node) → length old ≤ i → i < length pushed → IsBare (slice_index_or pushed i other)
+  bare_more i other l m =
+      one_more (λ i. IsBare (slice_index_or pushed i other)) (length old) (length new)
+      (λ i p q. rw (get_or_append_left new (child ∷ []) other i q) (growing.grows.bare i other p q))
+      (rw (get_or-append_seam new child [] other) bare) i l (omega (arith, m, count_more))
 
   greater : (k : ℕ) (other : Row K) → child.end_row ≤ k → k < end → child.byte < slice_index (slice_index_or rows k other).flag depth
   greater = greater_behind rows depth from end rises next child.end_row child.byte (omega (arith, inside, growing.from)) some
@@ -247,6 +272,7 @@ module _ {K : Type 0} (rows : List (Row K)) (old new : List Node) (depth from fi
       longer = omega (arith, growing.grows.longer, count_more);
       keeps = λ i other l. get_or_append_left new (child ∷ []) other i (omega (arith, l, growing.grows.longer)) ∙ growing.grows.keeps i other l;
       rise = rise_more;
+      bare = bare_more;
     };
     from = omega (arith, growing.from, some);
     to = ends;
@@ -315,14 +341,43 @@ pub record Built {K : Type 0} (rows : List (Row K)) (nodes : List Node) (index :
   pub root : (other : Node) → group_of (slice_index_or nodes 0 other) ≡ whole rows
   pub rise : (i : ℕ) (other : Group) → i < length nodes → RiseIn rows (slice_index_or (map group_of nodes) i other)
   pub is_node : (i : ℕ) (other : Node) → 0 ≤ i → i < index → IsNode rows (map group_of nodes) (slice_index_or nodes i other)
+  pub bare : (i : ℕ) (other : Node) → index ≤ i → i < length nodes → IsBare (slice_index_or nodes i other)
 
-pub root_built : {K : Type 0} (rows : List (Row K)) (root : Node) → is_table rows ≡ true → group_of root ≡ whole rows → Built rows (root ∷ []) 0
-root_built {K = K} rows root table is = record {
+pub root_built : {K : Type 0} (rows : List (Row K)) (root : Node) → is_table rows ≡ true → group_of root ≡ whole rows → IsBare root → Built rows (root ∷ []) 0
+root_built {K = K} rows root table is bare = record {
   some = omega arith;
   root = λ other. is;
   rise = λ i other l. let first : i ≡ 0 = omega arith in let P : ℕ → Type 0 = λ i. RiseIn rows (slice_index_or (map group_of (root ∷ [])) i other) in
       subst P (sym first) (subst (RiseIn rows) (sym is) (record { order = omega arith; within = omega arith; long = λ k o f e. omega arith; rise = λ j k o f l e. rising rows table j k o l e }));
   is_node = λ i other p q. absurd (omega (arith, q));
+  bare = λ i other p q. let first : i ≡ 0 = omega (arith, q) in let P : ℕ → Type 0 = λ i. IsBare (slice_index_or (root ∷ []) i other) in subst P (sym first) bare;
+}
+
+-- a single row is its node's own
+bare_is_node : {K : Type 0} (rows : List (Row K)) (groups : List Group) (node : Node) → IsBare node → node.has_row ≡ true → IsNode rows groups node
+bare_is_node rows groups node bare own = record {
+  own = λ _. omega (arith, bare.single own);
+  short = λ _ some. absurd (omega (arith, some, bare.childless));
+  others = inl (
+    own,
+    record {
+      few = omega (arith, bare.single own, bare.childless);
+      within = omega (arith, bare.childless);
+      deeper = λ i other p q. absurd (omega (arith, q, bare.childless));
+      rise = λ i j other p q r. absurd (omega (arith, r, bare.childless));
+      all_below = λ k p q. absurd (omega (arith, p, q, bare.single own));
+    },
+  );
+}
+
+pub leaf_built : {K : Type 0} (rows : List (Row K)) (nodes : List Node) (index : ℕ) (node : Node) → Built rows nodes index → index < length nodes → node ≡ slice_index_or nodes index node → node.has_row ≡ true → Built rows nodes (index + 1)
+leaf_built rows nodes index node built l is own = record {
+  some = built.some;
+  root = built.root;
+  rise = built.rise;
+  is_node = λ i other p q. one_more (λ i. IsNode rows (map group_of nodes) (slice_index_or nodes i other)) 0 index (λ i p q. built.is_node i other p q)
+      (subst (IsNode rows (map group_of nodes)) (is ∙ get_or_default nodes index node other l) (bare_is_node rows (map group_of nodes) node (subst IsBare (sym is) (built.bare index node (omega arith) l)) own)) i p q;
+  bare = λ i other p q. built.bare i other (omega (arith, p)) q;
 }
 
 module _ {K : Type 0} (rows : List (Row K)) (old new : List Node) (grows : Grows rows old new) where
@@ -357,6 +412,12 @@ module _ {K : Type 0} (rows : List (Row K)) (old new : List Node) (grows : Grows
             (λ i p q. let ne : i ≢ index = omega (arith, q) in
             rw (get_or-set_other new index i node other ne, grows.keeps i other (omega (arith, q, l))) (node_keeps (slice_index_or old i other) (built.is_node i other p q)))
             (rw (get_or-set_same new index node other inside) is) i p q);
+        bare = λ i other p q.
+            let ne : i ≢ index = omega (arith, p) in
+            rw (get_or-set_other new index i node other ne) (elim (nat_lt i (length old)) as (λ b. nat_lt i (length old) ≡ b → IsBare (slice_index_or new i other)) [
+              | true ↦ λ e. let before : i < length old = grind (arith, nat_tests) in rw (grows.keeps i other before) (built.bare i other (omega (arith, p)) before)
+              | false ↦ λ e. let behind : length old ≤ i = grind (arith, nat_tests) in grows.bare i other behind (omega (arith, q, count))
+            ] refl);
       }
     where
       first_set : map group_of (set new index node) ≡ map group_of new → (other : Node) → group_of (slice_index_or (set new index node) 0 other) ≡ group_of (slice_index_or new 0 other)

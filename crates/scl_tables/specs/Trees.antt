@@ -41,11 +41,11 @@ pub record IsBelow {K : Type 0} (rows : List (Row K)) (groups : List Group) (dep
   pub longer : (other : Row K) → depth < length (slice_index_or rows k other).flag
   pub byte : (other : Row K) (none : Group) → slice_index (slice_index_or rows k other).flag depth ≡ (slice_index_or groups child none).byte
 
--- the groups from one place to another are children that have the rows: one byte deeper, in the order of their bytes, and no more than the rows
+-- the groups from one place to another are children that have the rows: deeper, in the order of their bytes, and no more than the rows
 pub record AreChildren {K : Type 0} (rows : List (Row K)) (groups : List Group) (depth low high first end : ℕ) : Type 0 where
   pub few : high + first ≤ low + end
   pub within : high ≤ length groups
-  pub deeper : (i : ℕ) (other : Group) → low ≤ i → i < high → (slice_index_or groups i other).depth ≡ depth + 1
+  pub deeper : (i : ℕ) (other : Group) → low ≤ i → i < high → depth < (slice_index_or groups i other).depth
   pub rise : (i j : ℕ) (other : Group) → low ≤ i → i < j → j < high → (slice_index_or groups i other).byte < (slice_index_or groups j other).byte
   pub all_below : (k : ℕ) → first ≤ k → k < end → IsBelow rows groups depth low high k
 
@@ -56,6 +56,11 @@ pub record IsNode {K : Type 0} (rows : List (Row K)) (groups : List Group) (node
   pub others : ((node.has_row ≡ true) × AreChildren rows groups node.depth node.first_child node.end_child (node.first_row + 1) node.end_row)
       ⊎ AreChildren rows groups node.depth node.first_child node.end_child node.first_row node.end_row
 
+-- a node without children, which has its row where that is the only one
+pub record IsBare (node : Node) : Type 0 where
+  pub single : node.has_row ≡ true → node.end_row ≡ node.first_row + 1
+  pub childless : node.end_child ≡ 0
+
 -- the nodes are a tree of the rows: the first has them all
 pub record IsTree {K : Type 0} (rows : List (Row K)) (nodes : List Node) : Type 0 where
   pub some : 0 < length nodes
@@ -63,11 +68,12 @@ pub record IsTree {K : Type 0} (rows : List (Row K)) (nodes : List Node) : Type 
   pub rise : (i : ℕ) (other : Group) → i < length nodes → RiseIn rows (slice_index_or (map group_of nodes) i other)
   pub is_node : (i : ℕ) (other : Node) → i < length nodes → IsNode rows (map group_of nodes) (slice_index_or nodes i other)
 
--- more nodes, of rows that rise, stand behind those that there were
+-- more bare nodes, of rows that rise, stand behind those that there were
 pub record Grows {K : Type 0} (rows : List (Row K)) (old new : List Node) : Type 0 where
   pub longer : length old ≤ length new
   pub keeps : (i : ℕ) (other : Node) → i < length old → slice_index_or new i other ≡ slice_index_or old i other
   pub rise : (i : ℕ) (other : Group) → length old ≤ i → i < length new → RiseIn rows (slice_index_or (map group_of new) i other)
+  pub bare : (i : ℕ) (other : Node) → length old ≤ i → i < length new → IsBare (slice_index_or new i other)
 
 -- ---- on the way that a word's bytes go
 

@@ -2,15 +2,16 @@
 ghost use Rattle.std.specs.Prelude.{◌≡◌, ℕ, ◌+◌, ◌<◌, ◌≤◌, ◌≢◌, ◌^◌, map, length, true, false, IsTrue, IfOk, slice_index, slice_index_or};
 ghost use Rattle.scl_values.specs.Row.{Row, row_of};
 ghost use Rattle.scl_values.specs.Tables.{is_table};
-ghost use Rattle.scl_tables.specs.Trees.{group_of, RiseIn, IsNode, IsTree, Grows};
+ghost use Rattle.scl_tables.specs.Trees.{group_of, RiseBehind, RiseIn, IsBare, IsNode, IsTree, Grows};
 
 use scl_values::{ArgRow, Mem};
 use std::alloc::Global;
 
-/// A node of a prefix tree. Its rows are those whose flags begin with the bytes on the way to it.
+/// A node of a prefix tree. Its rows are those whose flags begin with the bytes on the way to it, which are all that
+/// they share where there are two rows or more.
 #[derive(Clone, Copy)]
 pub(crate) struct Node {
-    /// The last byte on the way.
+    /// The byte on the way behind those on the way to its parent.
     pub(crate) byte: u8,
     /// Whether the first of its rows is its own, and not of a child.
     pub(crate) has_row: bool,
@@ -22,16 +23,18 @@ pub(crate) struct Node {
     pub(crate) end_child: usize,
 }
 
-/// A node with these rows, and no children yet.
+/// A node with these rows, and no children yet. A single row is its own.
 fn bare_node(byte: u8, depth: usize, first_row: usize, end_row: usize) -> Node
+    requires { first_row ≤ end_row }
     ensures byte { result.byte ≡ byte }
     ensures depth { result.depth ≡ depth }
     ensures first { result.first_row ≡ first_row }
     ensures end { result.end_row ≡ end_row }
+    ensures bare { IsBare result }
 {
     Node {
         byte,
-        has_row: false,
+        has_row: end_row - first_row == 1,
         depth,
         first_row,
         end_row,
@@ -50,12 +53,41 @@ fn byte_at<K>(rows: &[ArgRow<K>], index: usize, depth: usize) -> u8
     rows[index].flag().as_bytes()[depth]
 }
 
+fn flag_len<K>(rows: &[ArgRow<K>], index: usize) -> usize
+    requires { index < length rows.now }
+    ensures { (other : Row K) → length (slice_index_or (map row_of rows.now) index other).flag ≡ result }
+{
+    rows[index].flag().len()
+}
+
+/// How many bytes the rows' flags share where there are two or more, which is what the first and the last share.
+fn shared_len<K>(rows: &[ArgRow<K>], depth: usize, first_row: usize, end_row: usize) -> usize
+    requires some { first_row < end_row }
+    requires rise { RiseBehind (map row_of rows.now) depth first_row end_row }
+    ensures rise { RiseBehind (map row_of rows.now) result first_row end_row }
+    ensures most { depth ≤ result }
+{
+    if end_row - first_row == 1 {
+        return depth;
+    }
+    let first_len = flag_len(rows, first_row);
+    let mut len = depth;
+    while len < first_len && byte_at(rows, first_row, len) == byte_at(rows, end_row - 1, len) {
+        len += 1;
+    }
+    len
+}
+
 /// The child for a row and those behind it that go on with the same byte.
 fn child_at<K>(rows: &[ArgRow<K>], node: &Node, first_row: usize) -> Node
     requires within { first_row < node.now.end_row }
     requires rows { node.now.end_row ≤ length rows.now }
+    requires from { node.now.first_row ≤ first_row }
+    requires rise { RiseIn (map row_of rows.now) (group_of node.now) }
     requires long { (k : ℕ) (other : Row K) → first_row ≤ k → k < node.now.end_row → node.now.depth < length (slice_index_or (map row_of rows.now) k other).flag }
-    ensures depth { result.depth ≡ node.now.depth + 1 }
+    ensures depth { node.now.depth < result.depth }
+    ensures bare { IsBare result }
+    ensures rise { RiseIn (map row_of rows.now) (group_of result) }
     ensures first { result.first_row ≡ first_row }
     ensures some { first_row < result.end_row }
     ensures end { result.end_row ≤ node.now.end_row }
@@ -67,7 +99,8 @@ fn child_at<K>(rows: &[ArgRow<K>], node: &Node, first_row: usize) -> Node
     while end_row < node.end_row && byte_at(rows, end_row, node.depth) == byte {
         end_row += 1;
     }
-    bare_node(byte, node.depth + 1, first_row, end_row)
+    let depth = shared_len(rows, node.depth + 1, first_row, end_row);
+    bare_node(byte, depth, first_row, end_row)
 }
 
 /// Whether the node's first row is its own: its flag ends here, or it is the only one.
@@ -110,16 +143,19 @@ fn grown<K>(rows: &[ArgRow<K>], node: Node, nodes: &mut Vec<Node>) -> Mem<Node>
 }
 
 /// The nodes of the tree of a table's rows: the first is the root, and a node's children stand side by side behind it.
+/// Any other node has a row of its own, or two children or more, so there are at most two for each row, and the root.
 pub(crate) fn nodes_of<K>(alloc: Global, rows: &[ArgRow<K>]) -> Mem<Vec<Node>>
     requires { is_table (map row_of rows.now) ≡ true }
     ensures { IfOk result (λ nodes. IsTree (map row_of rows.now) nodes.items) }
 {
-    let mut nodes = Vec::new(alloc);
+    let mut nodes = Vec::with_capacity(alloc, rows.len().saturating_mul(2).saturating_add(1))?;
     nodes.push(bare_node(0, 0, 0, rows.len()))?;
     let mut index = 0;
     while index < nodes.len() {
         let node = nodes[index];
-        nodes[index] = grown(rows, node, &mut nodes)?;
+        if !node.has_row {
+            nodes[index] = grown(rows, node, &mut nodes)?;
+        }
         index += 1;
     }
     Ok(nodes)

@@ -173,7 +173,7 @@ impl NodeStore {
     }
 }
 
-/// The rows of a table as a prefix tree: an edge is a byte, and children stand in the order of their bytes
+/// The rows of a table as a prefix tree: an edge begins with a byte, and children stand in the order of these bytes
 /// (docs/RULES.md, Looks).
 #[derive(Drop)]
 pub struct FlagTree<'a, T: ArgumentValue> {

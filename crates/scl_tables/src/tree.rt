@@ -69,8 +69,8 @@ fn deepest_fit<'a, K>(
 {
     let mut node = nodes.look(0, probes);
     let mut found = own_fit(rows, node, word, probes);
-    for byte in word {
-        let Some(child) = child_for(nodes, node, *byte, probes) else {
+    while node.depth < word.len() {
+        let Some(child) = child_for(nodes, node, word[node.depth], probes) else {
             return found;
         };
         node = child;

@@ -18,7 +18,7 @@ pub use error::{ArgParseError, ArgParseResult, ArgToStringError, ArgToStringResu
 pub use escaped::{Escaped, quoted, quoted_list};
 pub use held::{Held, ReadArg, without_value};
 pub use memory::Mem;
-pub use spell::{Iter, joined_value};
+pub use spell::{Iter, joined_value, joined_word};
 pub use split::split_os_string_arg;
 pub use strings::IterStrings;
 pub use value::{ArgumentValue, ExactArg, FromArg, IntoArg, PathArg};

@@ -121,12 +121,22 @@ pub fn joined_value<T: ArgumentValue>(
     ensures { IfOk result (λ word. word.items ≡ flag.now ++ delimited delimiter (T.word_of value.now)) }
 {
     let value = value.into_arg_os_string(alloc)?;
-    let mut word = Vec::from_slice(alloc, flag.as_bytes())?;
+    joined_word(alloc, flag, delimiter, value.as_slice())
+}
+
+/// The word of a flag that this value is joined to, behind the delimiter if there is one (docs/RULES.md, Printing). It
+/// fails only for want of memory.
+pub fn joined_word(alloc: Global, flag: &str, delimiter: Delimiter, value: &[u8]) -> Mem<Vec<u8>>
+    ensures { IfOk result (λ word. word.items ≡ flag.now ++ delimited delimiter value.now) }
+{
+    let room = flag.len().saturating_add(value.len()).saturating_add(1);
+    let mut word = Vec::with_capacity(alloc, room)?;
+    word.extend_from_slice(flag.as_bytes())?;
     if !value.is_empty() {
         if let Some(byte) = delimiter {
             word.push(byte)?;
         }
-        word.extend_from_slice(value.as_slice())?;
+        word.extend_from_slice(value)?;
     }
     Ok(word)
 }

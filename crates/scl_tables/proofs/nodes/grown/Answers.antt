@@ -18,7 +18,7 @@ loop-next-preserved g c =
     rw c.in_ok-push.ensures.items (one_more_grown (map row_of c.args.rows.now) c.args.nodes.now.items c.loop-next.nodes.items c.args.node.depth c.args.node.first_row c.if-has_row.first c.loop-next.next c.args.node.end_row c.requires
     (starts_inside c.has_own_row-has_row.result c.args.node.first_row c.if-has_row.first starts)
     (longer_from (map row_of c.args.rows.now) c.args.node.depth c.args.node.first_row c.if-has_row.first c.args.node.end_row c.has_own_row-has_row.result c.requires starts c.has_own_row-has_row.ensures.long)
-    c.loop-next.invariant c.child_at-child.result c.child_at-child.ensures.depth c.child_at-child.ensures.first c.child_at-child.ensures.some c.child_at-child.ensures.end c.child_at-child.ensures.same c.child_at-child.ensures.next)
+    c.loop-next.invariant c.child_at-child.result c.child_at-child.ensures.bare c.child_at-child.ensures.rise c.child_at-child.ensures.depth c.child_at-child.ensures.first c.child_at-child.ensures.some c.child_at-child.ensures.end c.child_at-child.ensures.same c.child_at-child.ensures.next)
 
 pub returns-clause-node : goal.returns-clause-node
 returns-clause-node g c =
