@@ -1,5 +1,7 @@
 //! Words in which response files are put in place.
-ghost use Rattle.std.specs.Prelude.{◌≡◌, ◌<◌, ◌≤◌, length, IfOk, MatchResult};
+ghost use Rattle.std.specs.Prelude.{◌≡◌, ◌<◌, ◌≤◌, length, is_some, IfOk, MatchResult};
+ghost use Rattle.std.specs.List.{list_any};
+ghost use Rattle.scl_files.specs.ResponseFiles.{file_name_in};
 ghost use Rattle.scl_values.specs.Words.{words_of};
 ghost use Rattle.scl_files.specs.Expand.{expand};
 
@@ -13,6 +15,7 @@ mod response_file;
 
 use iterators::Expand;
 pub use iterators::{ExpandAtArgs, GnuExpand, MsvcExpand};
+use response_file::file_name_in;
 
 /// Whose response files are put in place (docs/RULES.md, Expansion).
 #[derive(Clone, Copy, Debug, PartialEq, Eq)]
@@ -41,6 +44,42 @@ pub fn expand_all(
         all.push(word?)?;
     }
     Ok(all)
+}
+
+/// Whether the word names a file.
+fn names_file(kind: ExpansionKind, word: &[u8]) -> bool
+    ensures { result ≡ is_some (file_name_in kind word.now) }
+{
+    file_name_in(kind, word).is_some()
+}
+
+/// Whether any of the words names a file.
+fn name_files(kind: ExpansionKind, words: &[Vec<u8>]) -> bool
+    ensures { result ≡ list_any (λ word. is_some (file_name_in kind word)) (words_of words.now) }
+{
+    for word in words {
+        if names_file(kind, word) {
+            return true;
+        }
+    }
+    false
+}
+
+/// The words that `expand_all` gives, of words that are handed over: where none of them names a file they are the same
+/// (docs/RULES.md, Expansion). It fails only for want of memory.
+pub fn expand_words(
+    alloc: Global,
+    kind: ExpansionKind,
+    cwd: &[u8],
+    words: Vec<Vec<u8>>,
+    view: &View,
+) -> Mem<Vec<Vec<u8>>>
+    ensures { IfOk result (λ v. words_of v.items ≡ expand kind cwd.now view.now.files (words_of words.items)) }
+{
+    if name_files(kind, &words) {
+        return expand_all(alloc, kind, cwd, &words, view);
+    }
+    Ok(words)
 }
 
 /// That an expansion gives more words than were asked for.

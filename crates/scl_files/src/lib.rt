@@ -15,6 +15,7 @@ pub use decode::{from_local_codepage, read_text};
 pub use diab_text::split_diab;
 pub use expand::{
     ExpandAtArgs, ExpansionKind, GnuExpand, MsvcExpand, TooManyWords, expand_all, expand_at_most,
+    expand_words,
 };
 pub use gnu_text::split_gnu_response_file_args;
 pub use msvc_text::{SplitMsvcResponseFileArgs, msvc_words};
