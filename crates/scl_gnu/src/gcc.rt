@@ -7,7 +7,9 @@ mod passes;
 mod preprocess;
 mod words;
 
-pub use command::{generate_compile_commands, language_to_gcc_arg};
+pub use command::{
+    generate_compile_commands, generate_compile_commands_owned, language_to_gcc_arg,
+};
 pub use compiler::Gcc;
 pub use output_files::without_output_files;
 pub use passes::join_passes;
@@ -15,6 +17,6 @@ pub(crate) use preprocess::line_flags;
 pub use preprocess::preprocess_passes;
 pub use scl_gnu_reading::gcc::{
     ARCH_FLAG, ARGS, ArgData, HashRole, Kind, NamesHashed, module_file_path, parse_arguments,
-    push_hashed, read_inner, resolve_profile_use_path, table,
+    parse_arguments_owned, push_hashed, read_inner, resolve_profile_use_path, table,
 };
 pub use scl_text::GnuExpand as ExpandIncludeFile;

@@ -20,4 +20,4 @@ pub use data::{ArgData, Kind};
 pub use hash_files::{HashRole, NamesHashed, push_hashed};
 pub use hash_paths::{module_file_path, resolve_profile_use_path};
 pub use inner::read_inner;
-pub use parse::parse_arguments;
+pub use parse::{parse_arguments, parse_arguments_owned};

@@ -11,11 +11,11 @@ use Rattle.scl_files.specs.Paths.{join}
 use Rattle.scl_text.specs.Records.{Parsed}
 use Rattle.scl_files.specs.Views.{Viewed, exists}
 
-abbrev pub lists_with : (unhashed : List (List ℕ)) → Parsed → List (List ℕ)
-lists_with unhashed p = p.preprocessor_args ++ p.dependency_args ++ unhashed ++ p.common_args
+abbrev pub lists_in_order : (preprocessor dependency unhashed common : List (List ℕ)) → List (List ℕ)
+lists_in_order preprocessor dependency unhashed common = preprocessor ++ dependency ++ unhashed ++ common
 
 abbrev pub list_words : Parsed → List (List ℕ)
-list_words p = lists_with p.unhashed_args p
+list_words p = lists_in_order p.preprocessor_args p.dependency_args p.unhashed_args p.common_args
 
 -- the flag that says that an input has the language: there is one for C and one for C++
 abbrev pub language_flag : Language → Option (List ℕ)

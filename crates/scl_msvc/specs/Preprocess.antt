@@ -1,7 +1,7 @@
 -- The words of the one run of the preprocessor.
 use Rattle.std.specs.Prelude.{ℕ, Bool, ◌&&◌, ◌||◌, if◌then◌else◌, List, [], ◌∷◌, ◌++◌, Option, None, Some, codes}
 use Rattle.scl_text.specs.Records.{Parsed}
-use Rattle.scl_msvc.specs.Building.{lists_with, input_words}
+use Rattle.scl_msvc.specs.Building.{lists_in_order, input_words}
 
 -- lines are told apart for a distant compiler, and where the program will write a profile
 abbrev pub first_word : Bool → Parsed → List ℕ
@@ -20,12 +20,16 @@ written_includes (Some depfile) = codes "/sourceDependencies" ∷ depfile ∷ []
 abbrev pub include_words : Bool → Parsed → List (List ℕ)
 include_words is_clang p = if is_clang then shown_includes p.depfile p.msvc_show_includes else written_includes p.depfile ++ codes "/WX-" ∷ []
 
+-- the lists of the record, less the words that do not change the outcome
+abbrev pub run_lists : Parsed → List (List ℕ)
+run_lists p = lists_in_order p.preprocessor_args p.dependency_args [] p.common_args
+
 abbrev pub rewriting : Bool → Bool → List (List ℕ)
 rewriting is_clang is_asked = if is_asked && is_clang then codes "-clang:-frewrite-includes" ∷ [] else []
 
 abbrev pub preprocess_words : Bool → (may_dist rewrites : Bool) → Parsed → List (List ℕ)
 preprocess_words is_clang may_dist rewrites p =
-    first_word may_dist p ∷ codes "-nologo" ∷ lists_with [] p ++ include_words is_clang p ++ rewriting is_clang rewrites ++ input_words p
+    first_word may_dist p ∷ codes "-nologo" ∷ run_lists p ++ include_words is_clang p ++ rewriting is_clang rewrites ++ input_words p
 
 abbrev pub passes : Bool → (may_dist rewrites : Bool) → Parsed → List (List (List ℕ))
 passes is_clang may_dist rewrites p = preprocess_words is_clang may_dist rewrites p ∷ []

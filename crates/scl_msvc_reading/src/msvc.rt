@@ -14,4 +14,4 @@ mod record;
 
 pub use args::{ARGS, SLASH_ARGS, slash_table, table, trees};
 pub use data::{ArgData, Kind};
-pub use parse::parse_arguments;
+pub use parse::{parse_arguments, parse_arguments_owned};

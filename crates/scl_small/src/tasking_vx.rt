@@ -10,15 +10,31 @@ mod args;
 mod compiler;
 mod rules;
 
-pub use crate::command::generate_compile_commands;
+pub use crate::command::{generate_compile_commands, generate_compile_commands_owned};
 use crate::reading::read_words;
 pub use args::{ARGS, ArgData, Kind, table};
 pub use compiler::TaskingVX;
 use scl_args::SearchableArgInfo;
-use scl_text::command::push_words;
+use scl_text::command::copied_words;
 use scl_text::records::{CompilerArguments, ParsedArguments};
 use scl_text::{Mem, View};
 use std::alloc::Global;
+
+/// What words that are handed over say to TaskingVX, cut by tables whose value rows have kinds that hold values: the record,
+/// or the first refusal (docs/RULES.md, Diab and TaskingVX). It expands no response files, so directory and view are not
+/// asked. It fails only for want of memory.
+pub fn parse_arguments_owned<S: SearchableArgInfo<ArgData> + Drop>(
+    alloc: Global,
+    arguments: Vec<Vec<u8>>,
+    _cwd: &[u8],
+    arg_info: S,
+    _view: &View,
+) -> Mem<CompilerArguments<ParsedArguments>>
+    requires { IsTrue (tables_hold_values holds_value (S.tables arg_info)) }
+    ensures { IfOk result (λ answer. outcome_of answer ≡ reading (owner_in (S.tables arg_info)) (words_of arguments.items)) }
+{
+    read_words::<ArgData, S>(alloc, arguments, arg_info)
+}
 
 /// What words say to TaskingVX, cut by tables whose value rows have kinds that hold values: the record, or the first
 /// refusal (docs/RULES.md, Diab and TaskingVX). It expands no response files, so directory and view are not asked. It fails
@@ -26,14 +42,13 @@ use std::alloc::Global;
 pub fn parse_arguments<S: SearchableArgInfo<ArgData> + Drop>(
     alloc: Global,
     arguments: &[Vec<u8>],
-    _cwd: &[u8],
+    cwd: &[u8],
     arg_info: S,
-    _view: &View,
+    view: &View,
 ) -> Mem<CompilerArguments<ParsedArguments>>
     requires { IsTrue (tables_hold_values holds_value (S.tables arg_info)) }
     ensures { IfOk result (λ answer. outcome_of answer ≡ reading (owner_in (S.tables arg_info)) (words_of arguments.now)) }
 {
-    let mut words = Vec::with_capacity(alloc, arguments.len())?;
-    push_words(alloc, &mut words, arguments)?;
-    read_words::<ArgData, S>(alloc, words, arg_info)
+    let arguments = copied_words(alloc, arguments)?;
+    parse_arguments_owned(alloc, arguments, cwd, arg_info, view)
 }

@@ -7,7 +7,7 @@ use Rattle.std.specs.Prelude.{string_bytes}
 use Rattle.std.specs.Cmp.Lexicographic.{slice_cmp}
 use Rattle.std.specs.BTreeMap.{insert_entry, is_at}
 use Rattle.std.specs.Map.{lookup}
-use Rattle.std.specs.List.{find}
+use Rattle.std.specs.List.{find, AllZip}
 use Rattle.std.specs.Option.{option_map}
 use Rattle.std.specs.Str.{bytes_eq}
 use Rattle.std.proofs.lemmas.Map.Text.{is_eq-slice_cmp}
@@ -40,3 +40,19 @@ path_at-artifacts (e ∷ es) name =
       | true ↦ refl
       | false ↦ path_at-artifacts es name
     ])
+
+-- the output has the same name, path and mark
+abbrev pub IsCopied : String Global × ArtifactDescriptor → String Global × ArtifactDescriptor → Type 0
+IsCopied e f = (string_bytes f.0 ≡ string_bytes e.0) × ((f.1.path.items ≡ e.1.path.items) × (f.1.optional ≡ e.1.optional))
+
+-- what a copy of the map has
+pub copied_entries : (es fs : List (String Global × ArtifactDescriptor)) → AllZip IsCopied es fs → map artifact_of fs ≡ map artifact_of es
+copied_entries [] [] h = refl
+copied_entries [] (f ∷ fs) h = absurd h
+copied_entries (e ∷ es) [] h = absurd h
+copied_entries (e ∷ es) (f ∷ fs) h =
+    let name : string_bytes f.0 ≡ string_bytes e.0 = h.0.0 in
+    let path : f.1.path.items ≡ e.1.path.items = h.0.1.0 in
+    let mark : f.1.optional ≡ e.1.optional = h.0.1.1 in
+    let rest : map artifact_of fs ≡ map artifact_of es = copied_entries es fs h.1 in
+    rw (name, path, mark, rest) refl

@@ -34,6 +34,24 @@ pub fn push_words(alloc: Global, list: &mut Vec<Vec<u8>>, words: &[Vec<u8>]) -> 
     Ok(())
 }
 
+/// Copies of words. It fails only for want of memory.
+pub fn copied_words(alloc: Global, words: &[Vec<u8>]) -> Mem<Vec<Vec<u8>>>
+    ensures { IfOk result (λ copies. words_of copies.items ≡ words_of words.now) }
+{
+    let mut copies = Vec::with_capacity(alloc, words.len())?;
+    push_words(alloc, &mut copies, words)?;
+    Ok(copies)
+}
+
+/// Puts words behind those of a list. It fails only for want of memory, and leaves the list as it was.
+pub fn append_words(list: &mut Vec<Vec<u8>>, words: Vec<Vec<u8>>) -> Mem<()>
+    ensures ok { OnOk result (words_of list.new.items ≡ words_of list.old.items ++ words_of words.items) }
+    ensures err { OnErr result (list.new.items ≡ list.old.items) }
+{
+    let mut words = words;
+    list.append(&mut words)
+}
+
 /// Puts `--` behind words, where an input stands behind it. It fails only for want of memory, and leaves the list as it was.
 pub fn push_dashes(alloc: Global, list: &mut Vec<Vec<u8>>, is_behind_dashes: bool) -> Mem<()>
     ensures ok { OnOk result (words_of list.new.items ≡ words_of list.old.items ++ dash_words is_behind_dashes) }
@@ -97,8 +115,8 @@ pub trait CommandWords {
     ghost words: { Self → Parsed → List ℕ → List (List ℕ) };
 
     /// The words that make this object file. It fails only for want of memory.
-    fn words(&self, alloc: Global, parsed: &ParsedArguments, object: &[u8]) -> Mem<Vec<Vec<u8>>>
-        ensures { IfOk result (λ made. words_of made.items ≡ words self.now (parsed_of parsed.now) object.now) };
+    fn words(&self, alloc: Global, parsed: ParsedArguments, object: &[u8]) -> Mem<Vec<Vec<u8>>>
+        ensures { IfOk result (λ made. words_of made.items ≡ words self.now (parsed_of parsed) object.now) };
 }
 
 /// The compile command of a record, and whether its outcome may be kept. The errors are `MissingObj`, exactly where the
@@ -107,18 +125,19 @@ pub fn compile_command<W: CommandWords>(
     alloc: Global,
     words: &W,
     executable: &[u8],
-    parsed: &ParsedArguments,
+    parsed: ParsedArguments,
     cwd: &[u8],
     env_vars: &[(Vec<u8>, Vec<u8>)],
     cacheable: Cacheable,
 ) -> Result<(SingleCompileCommand, Cacheable), CommandError>
-    ensures command { IfOk result (λ built. IsBuiltCommand built.0 built.1 (command_by (W.words words.now) (parsed_of parsed.now)) executable.now (pairs_of env_vars.now) cwd.now cacheable) }
-    ensures missing { (result ≡ Err CommandError.MissingObj) ↔ (object_of (parsed_of parsed.now) ≡ None) }
+    ensures command { IfOk result (λ built. IsBuiltCommand built.0 built.1 (command_by (W.words words.now) (parsed_of parsed)) executable.now (pairs_of env_vars.now) cwd.now cacheable) }
+    ensures missing { (result ≡ Err CommandError.MissingObj) ↔ (object_of (parsed_of parsed) ≡ None) }
 {
     let Some(object) = output_path(&parsed.outputs, "obj") else {
         return Err(CommandError::MissingObj);
     };
-    let arguments = words.words(alloc, parsed, object)?;
+    let object = Vec::from_slice(alloc, object)?;
+    let arguments = words.words(alloc, parsed, &object)?;
     let env_vars = copied_pairs(alloc, env_vars)?;
     let command = single_command(alloc, executable, arguments, env_vars, cwd)?;
     Ok((command, cacheable))

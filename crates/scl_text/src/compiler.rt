@@ -1,4 +1,5 @@
 //! What every compiler answers.
+use crate::command::copied_words;
 use crate::records::{
     CCompilerKind, Cacheable, CommandError, CompilerArguments, ParsedArguments,
     SingleCompileCommand,
@@ -64,9 +65,21 @@ pub trait CCompilerImpl {
     fn version(&self, alloc: Global) -> Mem<Option<String>>
         ensures { IfOk result (λ version. option_map string_bytes version ≡ version_of self.now) };
 
-    /// What the words of a command line say; the directory and the view answer what they ask of
+    /// What the words of a command line, which are handed over, say; the directory and the view answer what they ask of
     /// files. Where they have a record with an output `obj`, its command is read again (docs/RULES.md, Compilers, and
     /// Cutting again). It fails only for want of memory.
+    fn parse_arguments_owned(
+        &self,
+        alloc: Global,
+        arguments: Vec<Vec<u8>>,
+        cwd: &[u8],
+        env_vars: &[(Vec<u8>, Vec<u8>)],
+        view: &View,
+    ) -> Mem<CompilerArguments<ParsedArguments>>
+        ensures outcome { IfOk result (λ answer. outcome_of answer ≡ reading self.now (words_of arguments.items) cwd.now (pairs_of env_vars.now) view.now) }
+        ensures read_again { IfOk result (λ answer. IfCommand (command_by (command self.now)) (is_read_again self.now (words_of arguments.items) cwd.now (pairs_of env_vars.now) view.now) (outcome_of answer)) };
+
+    /// What `parse_arguments_owned` gives for copies of the words. It fails only for want of memory.
     fn parse_arguments(
         &self,
         alloc: Global,
@@ -76,11 +89,30 @@ pub trait CCompilerImpl {
         view: &View,
     ) -> Mem<CompilerArguments<ParsedArguments>>
         ensures outcome { IfOk result (λ answer. outcome_of answer ≡ reading self.now (words_of arguments.now) cwd.now (pairs_of env_vars.now) view.now) }
-        ensures read_again { IfOk result (λ answer. IfCommand (command_by (command self.now)) (is_read_again self.now (words_of arguments.now) cwd.now (pairs_of env_vars.now) view.now) (outcome_of answer)) };
+        ensures read_again { IfOk result (λ answer. IfCommand (command_by (command self.now)) (is_read_again self.now (words_of arguments.now) cwd.now (pairs_of env_vars.now) view.now) (outcome_of answer)) }
+    {
+        let arguments = copied_words(alloc, arguments)?;
+        self.parse_arguments_owned(alloc, arguments, cwd, env_vars, view)
+    }
 
-    /// The command of a record, and whether its outcome may be kept. The command of a record that was read is read again
-    /// (docs/RULES.md, Compilers, and Cutting again). The errors are `MissingObj`, exactly where the record has no output
-    /// `obj`, and the refusal of memory.
+    /// The command of a record, which is handed over, and whether its outcome may be kept. The command of a record that was
+    /// read is read again (docs/RULES.md, Compilers, and Cutting again). The errors are `MissingObj`, exactly where the record
+    /// has no output `obj`, and the refusal of memory.
+    fn generate_compile_commands_owned(
+        &self,
+        alloc: Global,
+        executable: &[u8],
+        parsed: ParsedArguments,
+        cwd: &[u8],
+        env_vars: &[(Vec<u8>, Vec<u8>)],
+        view: &View,
+    ) -> Result<(SingleCompileCommand, Cacheable), CommandError>
+        ensures command { IfOk result (λ answer. IsBuiltCommand answer.0 answer.1 (command_by (command self.now) (parsed_of parsed)) executable.now (environment self.now (pairs_of env_vars.now)) cwd.now (cacheable self.now (parsed_of parsed) cwd.now view.now)) }
+        ensures read_again { IfOk result (λ answer. (line : List (List ℕ)) (directory : List ℕ) (pairs : List (List ℕ × List ℕ)) (files : Viewed) →
+            reading self.now line directory pairs files ≡ Ok (parsed_of parsed) → is_read_again self.now line directory pairs files (parsed_of parsed) (words_of answer.0.arguments.items)) }
+        ensures missing { (result ≡ Err CommandError.MissingObj) ↔ (object_of (parsed_of parsed) ≡ None) };
+
+    /// What `generate_compile_commands_owned` gives for a copy of the record, with the same errors.
     fn generate_compile_commands(
         &self,
         alloc: Global,
@@ -93,7 +125,11 @@ pub trait CCompilerImpl {
         ensures command { IfOk result (λ answer. IsBuiltCommand answer.0 answer.1 (command_by (command self.now) (parsed_of parsed.now)) executable.now (environment self.now (pairs_of env_vars.now)) cwd.now (cacheable self.now (parsed_of parsed.now) cwd.now view.now)) }
         ensures read_again { IfOk result (λ answer. (line : List (List ℕ)) (directory : List ℕ) (pairs : List (List ℕ × List ℕ)) (files : Viewed) →
             reading self.now line directory pairs files ≡ Ok (parsed_of parsed.now) → is_read_again self.now line directory pairs files (parsed_of parsed.now) (words_of answer.0.arguments.items)) }
-        ensures missing { (result ≡ Err CommandError.MissingObj) ↔ (object_of (parsed_of parsed.now) ≡ None) };
+        ensures missing { (result ≡ Err CommandError.MissingObj) ↔ (object_of (parsed_of parsed.now) ≡ None) }
+    {
+        let parsed = parsed.copied_for_command(alloc)?;
+        self.generate_compile_commands_owned(alloc, executable, parsed, cwd, env_vars, view)
+    }
 
     /// A copy of the assembler's digest, if it is known (docs/RULES.md, Compilers). It fails only for want of memory.
     fn assembler_digest(&self, alloc: Global) -> Mem<Option<String>>

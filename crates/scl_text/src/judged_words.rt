@@ -11,7 +11,7 @@ ghost use Rattle.scl_text.specs.JudgedWords.{judged_cut, judged_words};
 use scl_args::{
     CutWords, ExactArg, Judge, Mem, Options, ReadArg, SearchableArgInfo, cut_options, judge_all,
 };
-use scl_files::expand::{ExpansionKind, expand_all};
+use scl_files::expand::{ExpansionKind, expand_words};
 use scl_files::view::View;
 use std::alloc::Global;
 
@@ -55,7 +55,7 @@ pub fn judge_cut<T: ExactArg + ReadArg, S: SearchableArgInfo<T> + Drop, J: Judge
 pub fn judge_words<T: ExactArg + ReadArg, S: SearchableArgInfo<T> + Drop, J: Judge<T>>(
     alloc: Global,
     kind: ExpansionKind,
-    words: &[Vec<u8>],
+    words: Vec<Vec<u8>>,
     cwd: &[u8],
     arg_info: S,
     double_dashes: bool,
@@ -64,8 +64,8 @@ pub fn judge_words<T: ExactArg + ReadArg, S: SearchableArgInfo<T> + Drop, J: Jud
 ) -> Mem<Result<Options<T>, J::Refusal>>
     requires { IsTrue (tables_hold_values T.holds_value (S.tables arg_info)) }
     ensures { IfOk result (λ said. result_map_both (λ options. options) J.verdict_of said
-        ≡ judged_words kind J.empty (J.verdict judge.now) J.dangling (S.tables arg_info) double_dashes cwd.now view.now (words_of words.now)) }
+        ≡ judged_words kind J.empty (J.verdict judge.now) J.dangling (S.tables arg_info) double_dashes cwd.now view.now (words_of words.items)) }
 {
-    let words = expand_all(alloc, kind, cwd, words, view)?;
+    let words = expand_words(alloc, kind, cwd, words, view)?;
     judge_cut(alloc, words, arg_info, double_dashes, judge)
 }

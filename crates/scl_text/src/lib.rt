@@ -19,6 +19,6 @@ pub use parser_judge::{ParserJudge, Refuses};
 pub use records::{CommandError, CompilerArguments, ParsedArguments};
 pub use scl_files::{
     ExpandAtArgs, ExpansionKind, GnuExpand, Mem, MsvcExpand, SplitMsvcResponseFileArgs,
-    TooManyWords, View, expand, expand_all, expand_at_most, from_local_codepage, msvc_words, path,
-    read_text, split_diab, split_gnu_response_file_args, view,
+    TooManyWords, View, expand, expand_all, expand_at_most, expand_words, from_local_codepage,
+    msvc_words, path, read_text, split_diab, split_gnu_response_file_args, view,
 };

@@ -115,15 +115,15 @@ impl CCompilerImpl for Clang {
         copied_text(alloc, &self.version)
     }
 
-    fn parse_arguments(
+    fn parse_arguments_owned(
         &self,
         alloc: Global,
-        arguments: &[Vec<u8>],
+        arguments: Vec<Vec<u8>>,
         cwd: &[u8],
         _env_vars: &[(Vec<u8>, Vec<u8>)],
         view: &View,
     ) -> Mem<CompilerArguments<ParsedArguments>> {
-        gcc::parse_arguments(
+        gcc::parse_arguments_owned(
             alloc,
             arguments,
             cwd,
@@ -134,16 +134,16 @@ impl CCompilerImpl for Clang {
         )
     }
 
-    fn generate_compile_commands(
+    fn generate_compile_commands_owned(
         &self,
         alloc: Global,
         executable: &[u8],
-        parsed: &ParsedArguments,
+        parsed: ParsedArguments,
         cwd: &[u8],
         env_vars: &[(Vec<u8>, Vec<u8>)],
         view: &View,
     ) -> Result<(SingleCompileCommand, Cacheable), CommandError> {
-        gcc::generate_compile_commands(
+        gcc::generate_compile_commands_owned(
             alloc,
             executable,
             parsed,

@@ -6,17 +6,18 @@ ghost use Rattle.scl_text.specs.Compilers.{IsBuiltCommand};
 ghost use Rattle.scl_text.specs.Languages.{gcc_text};
 ghost use Rattle.scl_text.specs.Records.{parsed_of};
 ghost use Rattle.scl_values.specs.Words.{words_of};
-ghost use Rattle.scl_gnu.specs.Building.{front_words, color_words, back_words, command};
+ghost use Rattle.scl_gnu.specs.Building.{front_words, color_words, command};
 
-use super::words::{Lists, push_input, push_language, push_lists};
+use super::words::{Lists, push_language, push_lists};
 use scl_args::Mem;
-use scl_text::command::{CommandWords, compile_command, push_word};
+use scl_text::command::{CommandWords, compile_command, push_dashes, push_word};
 use scl_text::language::Language;
 use scl_text::records::{
     CCompilerKind, Cacheable, ColorMode, CommandError, ParsedArguments, SingleCompileCommand,
 };
 use scl_text::view::View;
 use std::alloc::Global;
+use std::borrow::CowSlice;
 use std::convert::AsStr;
 
 /// The text that gcc's `-x` takes for the language, if there is one (docs/RULES.md, Languages).
@@ -53,13 +54,6 @@ fn push_color(alloc: Global, words: &mut Vec<Vec<u8>>, mode: ColorMode) -> Mem<(
     }
 }
 
-fn push_back_words(alloc: Global, words: &mut Vec<Vec<u8>>, parsed: &ParsedArguments) -> Mem<()>
-    ensures { OnOk result (words_of words.new.items ≡ words_of words.old.items ++ back_words (parsed_of parsed.now)) }
-{
-    push_color(alloc, words, parsed.color_mode)?;
-    push_input(alloc, words, parsed)
-}
-
 /// The compile command with this text for the language.
 #[derive(Clone, Copy)]
 struct Command<'a>(Option<&'a str>);
@@ -70,21 +64,41 @@ impl<'a> CommandWords for Command<'a> {
 
     ghost words = { λ command. command_words (option_copied command.0) };
 
-    fn words(&self, alloc: Global, parsed: &ParsedArguments, object: &[u8]) -> Mem<Vec<Vec<u8>>> {
-        let mut words = front_words(alloc, self.0, object, parsed)?;
-        push_lists(alloc, &mut words, Lists::of_command(parsed))?;
-        push_back_words(alloc, &mut words, parsed)?;
+    fn words(&self, alloc: Global, parsed: ParsedArguments, object: &[u8]) -> Mem<Vec<Vec<u8>>> {
+        let mut words = front_words(alloc, self.0, object, &parsed)?;
+        let ParsedArguments {
+            input,
+            double_dash_input,
+            color_mode,
+            preprocessor_args,
+            dependency_args,
+            unhashed_args,
+            common_args,
+            arch_args,
+            ..
+        } = parsed;
+        let lists = Lists {
+            preprocessor: CowSlice::Owned(preprocessor_args),
+            dependency: CowSlice::Owned(dependency_args),
+            unhashed: CowSlice::Owned(unhashed_args),
+            common: CowSlice::Owned(common_args),
+            arch: CowSlice::Owned(arch_args),
+        };
+        push_lists(alloc, &mut words, lists)?;
+        push_color(alloc, &mut words, color_mode)?;
+        push_dashes(alloc, &mut words, double_dash_input)?;
+        words.push(input)?;
         Ok(words)
     }
 }
 
-/// The compile command of a record, whose language word is what the closure answers; it may always be kept in the
-/// cache (docs/RULES.md, Gcc). The errors are `MissingObj`, exactly where the record has no output `obj`, and the
+/// The compile command of a record, which is handed over, and whose language word is what the closure answers; it may always
+/// be kept in the cache (docs/RULES.md, Gcc). The errors are `MissingObj`, exactly where the record has no output `obj`, and the
 /// refusal of memory. The kind and the view are not asked.
-pub fn generate_compile_commands<T: AsStr + Drop, F: Fn(Language) -> Option<T>>(
+pub fn generate_compile_commands_owned<T: AsStr + Drop, F: Fn(Language) -> Option<T>>(
     alloc: Global,
     executable: &[u8],
-    parsed: &ParsedArguments,
+    parsed: ParsedArguments,
     cwd: &[u8],
     env_vars: &[(Vec<u8>, Vec<u8>)],
     _kind: CCompilerKind,
@@ -92,9 +106,9 @@ pub fn generate_compile_commands<T: AsStr + Drop, F: Fn(Language) -> Option<T>>(
     _view: &View,
 ) -> Result<(SingleCompileCommand, Cacheable), CommandError>
     requires { F.IsAlwaysCallable language_to_arg }
-    ensures command { IfOk result (λ built. (text : _) × F.post language_to_arg parsed.now.language text
-        × IsBuiltCommand built.0 built.1 (command (option_map T.text text) (parsed_of parsed.now)) executable.now (pairs_of env_vars.now) cwd.now Cacheable.Yes) }
-    ensures missing { (result ≡ Err CommandError.MissingObj) ↔ (object_of (parsed_of parsed.now) ≡ None) }
+    ensures command { IfOk result (λ built. (text : _) × F.post language_to_arg parsed.language text
+        × IsBuiltCommand built.0 built.1 (command (option_map T.text text) (parsed_of parsed)) executable.now (pairs_of env_vars.now) cwd.now Cacheable.Yes) }
+    ensures missing { (result ≡ Err CommandError.MissingObj) ↔ (object_of (parsed_of parsed) ≡ None) }
 {
     let text = language_to_arg(parsed.language);
     let command = Command(text.as_ref().map(|text| text.as_str()));
@@ -106,5 +120,34 @@ pub fn generate_compile_commands<T: AsStr + Drop, F: Fn(Language) -> Option<T>>(
         cwd,
         env_vars,
         Cacheable::Yes,
+    )
+}
+
+/// What `generate_compile_commands_owned` gives for a copy of the record, with the same errors.
+pub fn generate_compile_commands<T: AsStr + Drop, F: Fn(Language) -> Option<T>>(
+    alloc: Global,
+    executable: &[u8],
+    parsed: &ParsedArguments,
+    cwd: &[u8],
+    env_vars: &[(Vec<u8>, Vec<u8>)],
+    kind: CCompilerKind,
+    language_to_arg: F,
+    view: &View,
+) -> Result<(SingleCompileCommand, Cacheable), CommandError>
+    requires { F.IsAlwaysCallable language_to_arg }
+    ensures command { IfOk result (λ built. (text : _) × F.post language_to_arg parsed.now.language text
+        × IsBuiltCommand built.0 built.1 (command (option_map T.text text) (parsed_of parsed.now)) executable.now (pairs_of env_vars.now) cwd.now Cacheable.Yes) }
+    ensures missing { (result ≡ Err CommandError.MissingObj) ↔ (object_of (parsed_of parsed.now) ≡ None) }
+{
+    let parsed = parsed.copied_for_command(alloc)?;
+    generate_compile_commands_owned(
+        alloc,
+        executable,
+        parsed,
+        cwd,
+        env_vars,
+        kind,
+        language_to_arg,
+        view,
     )
 }

@@ -1,10 +1,10 @@
 //! Gcc.
 ghost use Rattle.std.specs.Prelude.{◌≡◌, None};
 
-use super::command::{generate_compile_commands, language_to_gcc_arg};
+use super::command::{generate_compile_commands_owned, language_to_gcc_arg};
 use super::preprocess::gcc_passes;
 use scl_args::{FlagTree, Mem};
-use scl_gnu_reading::gcc::{parse_arguments, table};
+use scl_gnu_reading::gcc::{parse_arguments_owned, table};
 use scl_text::CCompilerImpl;
 use scl_text::command::copied_text;
 use scl_text::records::{
@@ -85,15 +85,15 @@ impl CCompilerImpl for Gcc {
         copied_text(alloc, &self.version)
     }
 
-    fn parse_arguments(
+    fn parse_arguments_owned(
         &self,
         alloc: Global,
-        arguments: &[Vec<u8>],
+        arguments: Vec<Vec<u8>>,
         cwd: &[u8],
         _env_vars: &[(Vec<u8>, Vec<u8>)],
         view: &View,
     ) -> Mem<CompilerArguments<ParsedArguments>> {
-        parse_arguments(
+        parse_arguments_owned(
             alloc,
             arguments,
             cwd,
@@ -104,16 +104,16 @@ impl CCompilerImpl for Gcc {
         )
     }
 
-    fn generate_compile_commands(
+    fn generate_compile_commands_owned(
         &self,
         alloc: Global,
         executable: &[u8],
-        parsed: &ParsedArguments,
+        parsed: ParsedArguments,
         cwd: &[u8],
         env_vars: &[(Vec<u8>, Vec<u8>)],
         view: &View,
     ) -> Result<(SingleCompileCommand, Cacheable), CommandError> {
-        generate_compile_commands(
+        generate_compile_commands_owned(
             alloc,
             executable,
             parsed,

@@ -16,6 +16,7 @@ use scl_text::command::{push_word, push_words};
 use scl_text::language::Language;
 use scl_text::records::{CCompilerKind, ParsedArguments};
 use std::alloc::Global;
+use std::borrow::CowSlice;
 use std::convert::AsStr;
 
 /// Puts the flags behind words that leave out what may be ignored, but not where lines are to be told apart.
@@ -90,21 +91,21 @@ fn words_with(
 }
 
 /// The words of a run with the record's lists, without the unhashed words, and with these that name architectures.
-fn run_words(
+fn run_words<'a>(
     alloc: Global,
     text: Option<&str>,
     settings: &[Vec<u8>],
-    parsed: &ParsedArguments,
-    arch: &[Vec<u8>],
+    parsed: &'a ParsedArguments,
+    arch: &'a [Vec<u8>],
 ) -> Mem<Vec<Vec<u8>>>
     ensures { IfOk result (λ made. words_of made.items ≡ run_words (option_copied text.entry) (words_of settings.now) (with_archs (words_of arch.now) (parsed_of parsed.now))) }
 {
     let lists = Lists {
-        preprocessor: &parsed.preprocessor_args,
-        dependency: &parsed.dependency_args,
-        unhashed: &[],
-        common: &parsed.common_args,
-        arch,
+        preprocessor: CowSlice::Borrowed(&parsed.preprocessor_args),
+        dependency: CowSlice::Borrowed(&parsed.dependency_args),
+        unhashed: CowSlice::Borrowed(&[]),
+        common: CowSlice::Borrowed(&parsed.common_args),
+        arch: CowSlice::Borrowed(arch),
     };
     words_with(alloc, text, settings, lists, parsed)
 }
@@ -122,11 +123,11 @@ fn quiet_words(
     let preprocessor = without_output_files(alloc, &parsed.preprocessor_args)?;
     let common = without_output_files(alloc, &parsed.common_args)?;
     let lists = Lists {
-        preprocessor: &preprocessor,
-        dependency: &[],
-        unhashed: &[],
-        common: &common,
-        arch,
+        preprocessor: CowSlice::Owned(preprocessor),
+        dependency: CowSlice::Borrowed(&[]),
+        unhashed: CowSlice::Borrowed(&[]),
+        common: CowSlice::Owned(common),
+        arch: CowSlice::Borrowed(arch),
     };
     words_with(alloc, text, settings, lists, parsed)
 }

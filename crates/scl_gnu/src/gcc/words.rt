@@ -3,37 +3,23 @@ ghost use Rattle.std.specs.Prelude.{◌≡◌, ◌++◌, OnOk};
 ghost use Rattle.std.specs.Option.{option_copied};
 ghost use Rattle.scl_values.specs.Words.{words_of};
 ghost use Rattle.scl_text.specs.Records.{parsed_of};
-ghost use Rattle.scl_gnu.specs.Building.{language_words, list_words, input_words};
-ghost use Rattle.scl_gnu.specs.ListsOf.{lists_of};
+ghost use Rattle.scl_gnu.specs.Building.{language_words, input_words};
+ghost use Rattle.scl_gnu.specs.ListsOf.{list_of, lists_of};
 
 use scl_args::Mem;
-use scl_text::command::{push_dashes, push_word, push_words};
+use scl_text::command::{append_words, push_dashes, push_word, push_words};
 use scl_text::records::ParsedArguments;
 use std::alloc::Global;
+use std::borrow::CowSlice;
 
-/// The lists of a command, or of a run of the preprocessor.
-#[derive(Clone, Copy)]
+/// The lists of a command, handed over, or of a run of the preprocessor, which mostly lends them.
+#[derive(Drop)]
 pub(super) struct Lists<'a> {
-    pub preprocessor: &'a [Vec<u8>],
-    pub dependency: &'a [Vec<u8>],
-    pub unhashed: &'a [Vec<u8>],
-    pub common: &'a [Vec<u8>],
-    pub arch: &'a [Vec<u8>],
-}
-
-impl<'a> Lists<'a> {
-    /// The lists of a record's compile command.
-    pub fn of_command(parsed: &'a ParsedArguments) -> Lists<'a>
-        ensures { lists_of result ≡ list_words (parsed_of parsed.now) }
-    {
-        Lists {
-            preprocessor: &parsed.preprocessor_args,
-            dependency: &parsed.dependency_args,
-            unhashed: &parsed.unhashed_args,
-            common: &parsed.common_args,
-            arch: &parsed.arch_args,
-        }
-    }
+    pub preprocessor: CowSlice<'a, Vec<u8>>,
+    pub dependency: CowSlice<'a, Vec<u8>>,
+    pub unhashed: CowSlice<'a, Vec<u8>>,
+    pub common: CowSlice<'a, Vec<u8>>,
+    pub arch: CowSlice<'a, Vec<u8>>,
 }
 
 /// Puts the flag and the text of a language behind words, if there is one.
@@ -47,15 +33,25 @@ pub(super) fn push_language(alloc: Global, words: &mut Vec<Vec<u8>>, text: Optio
     Ok(())
 }
 
+/// Puts a list behind words: copies of its words where it is lent.
+fn push_list(alloc: Global, words: &mut Vec<Vec<u8>>, list: CowSlice<Vec<u8>>) -> Mem<()>
+    ensures { OnOk result (words_of words.new.items ≡ words_of words.old.items ++ list_of list.entry) }
+{
+    match list {
+        CowSlice::Borrowed(lent) => push_words(alloc, words, lent),
+        CowSlice::Owned(list) => append_words(words, list),
+    }
+}
+
 /// Puts the lists behind words, in their order.
 pub(super) fn push_lists(alloc: Global, words: &mut Vec<Vec<u8>>, lists: Lists) -> Mem<()>
     ensures { OnOk result (words_of words.new.items ≡ words_of words.old.items ++ lists_of lists.entry) }
 {
-    push_words(alloc, words, lists.preprocessor)?;
-    push_words(alloc, words, lists.dependency)?;
-    push_words(alloc, words, lists.unhashed)?;
-    push_words(alloc, words, lists.common)?;
-    push_words(alloc, words, lists.arch)
+    push_list(alloc, words, lists.preprocessor)?;
+    push_list(alloc, words, lists.dependency)?;
+    push_list(alloc, words, lists.unhashed)?;
+    push_list(alloc, words, lists.common)?;
+    push_list(alloc, words, lists.arch)
 }
 
 /// Puts the input behind words, and `--` before it where it stands behind that.

@@ -12,7 +12,8 @@ use super::place::Place;
 use crate::clang;
 pub(crate) use judge::ByInnerVerdict;
 use place::Inside;
-use scl_args::{Judge, Mem, Options, ShortFlagsJoined, WrappedApart, push_wrapped};
+use scl_args::{Judge, Mem, Options, ShortFlagsJoined};
+use scl_text::command::push_word;
 use scl_text::view::View;
 use scl_text::{ExpansionKind, judge_words};
 use std::alloc::Global;
@@ -22,15 +23,15 @@ use std::alloc::Global;
 /// lines). The directory and the view answer what is asked of response files. It fails only for want of memory.
 pub fn read_inner<J: Judge<ArgData>>(
     alloc: Global,
-    words: &[Vec<u8>],
+    words: Vec<Vec<u8>>,
     cwd: &[u8],
     judge: &J,
     view: &View,
 ) -> Mem<Result<Options<ArgData>, J::Refusal>>
     ensures { IfOk result (λ said. result_map_both (λ options. options) J.verdict_of said
-        ≡ inner_reading J.empty (J.verdict judge.now) J.dangling cwd.now view.now (words_of words.now)) }
+        ≡ inner_reading J.empty (J.verdict judge.now) J.dangling cwd.now view.now (words_of words.items)) }
 {
-    if words.is_empty() {
+    if words.as_slice().is_empty() {
         return Ok(Ok(Options::new(alloc, Vec::new(alloc))?));
     }
     judge_words(
@@ -54,6 +55,9 @@ pub(crate) fn push_inner(
 ) -> Mem<()>
     ensures { OnOk result (words_of words.new.items ≡ words_of words.old.items ++ inner_words_at there inner.now) }
 {
-    let inner = inner.list(alloc, &ShortFlagsJoined, &Inside(there))?;
-    push_wrapped(alloc, words, &inner, &WrappedApart("-Xclang"))
+    for word in inner.list(alloc, &ShortFlagsJoined, &Inside(there))? {
+        push_word(alloc, words, b"-Xclang")?;
+        words.push(word)?;
+    }
+    Ok(())
 }

@@ -18,6 +18,7 @@ use super::inner::{ByInnerVerdict, read_inner};
 use super::judge::ByVerdict;
 use super::record::record_of;
 use scl_args::{Mem, OfKinds, Options, SearchableArgInfo};
+use scl_text::command::copied_words;
 use scl_text::records::{CCompilerKind, CompilerArguments, ParsedArguments};
 use scl_text::refusal::Refusal;
 use scl_text::view::View;
@@ -57,7 +58,7 @@ fn read(
     ensures { IfOk result (λ answer. outcome_of answer ≡ read kind plusplus cwd.now view.now options) }
 {
     let words = options.texts(alloc, &OfKinds(&[Kind::XClang]))?;
-    match read_inner(alloc, &words, cwd, &ParserJudge(ByInnerVerdict), view)? {
+    match read_inner(alloc, words, cwd, &ParserJudge(ByInnerVerdict), view)? {
         Ok(inner) => recorded(alloc, options, inner, kind, plusplus, cwd, view),
         Err(refusal) => Ok(refusal.into_answer()),
     }
@@ -66,7 +67,7 @@ fn read(
 /// The options of a command line by the tables handed in, where none is refused.
 fn judged<S: SearchableArgInfo<ArgData> + Drop>(
     alloc: Global,
-    arguments: &[Vec<u8>],
+    arguments: Vec<Vec<u8>>,
     cwd: &[u8],
     arg_info: S,
     kind: CCompilerKind,
@@ -74,7 +75,7 @@ fn judged<S: SearchableArgInfo<ArgData> + Drop>(
 ) -> Mem<Result<Options<ArgData>, Refusal>>
     requires { IsTrue (tables_hold_values holds_value (S.tables arg_info)) }
     ensures { IfOk result (λ said. result_map_both (λ options. options) verdict_of said
-        ≡ judged_words ExpansionKind.Gnu empty_value (verdict view.now.is_multiarch) argument_parse (S.tables arg_info) (is_clang kind) cwd.now view.now (words_of arguments.now)) }
+        ≡ judged_words ExpansionKind.Gnu empty_value (verdict view.now.is_multiarch) argument_parse (S.tables arg_info) (is_clang kind) cwd.now view.now (words_of arguments.items)) }
 {
     let judge = ParserJudge(ByVerdict {
         multiarch: view.multiarch(),
@@ -92,11 +93,30 @@ fn judged<S: SearchableArgInfo<ArgData> + Drop>(
     )
 }
 
-/// What a command line says by the tables handed in: the record; or the first refusal in option order, on each option first
-/// that of an empty value; else that of a last flag without its value; else the same of the inner options; else that of the
-/// fixed tests, of which the first is `NotCompilation` (docs/RULES.md, Gcc, and Inner command lines). For `Clang`, `--` ends
-/// the options; where `plusplus` is set, files of C are taken for C++. Paths and words are bytes; the directory and the view
-/// answer what is asked of files. It fails only for want of memory.
+/// What a command line, whose words are handed over, says by the tables handed in: the record; or the first refusal in option
+/// order, on each option first that of an empty value; else that of a last flag without its value; else the same of the inner
+/// options; else that of the fixed tests, of which the first is `NotCompilation` (docs/RULES.md, Gcc, and Inner command
+/// lines). For `Clang`, `--` ends the options; where `plusplus` is set, files of C are taken for C++. Paths and words are
+/// bytes; the directory and the view answer what is asked of files. It fails only for want of memory.
+pub fn parse_arguments_owned<S: SearchableArgInfo<ArgData> + Drop>(
+    alloc: Global,
+    arguments: Vec<Vec<u8>>,
+    cwd: &[u8],
+    arg_info: S,
+    plusplus: bool,
+    kind: CCompilerKind,
+    view: &View,
+) -> Mem<CompilerArguments<ParsedArguments>>
+    requires { IsTrue (tables_hold_values holds_value (S.tables arg_info)) }
+    ensures { IfOk result (λ answer. outcome_of answer ≡ reading kind plusplus (S.tables arg_info) cwd.now view.now (words_of arguments.items)) }
+{
+    match judged(alloc, arguments, cwd, arg_info, kind, view)? {
+        Ok(options) => read(alloc, options, cwd, plusplus, kind, view),
+        Err(refusal) => Ok(refusal.into_answer()),
+    }
+}
+
+/// What `parse_arguments_owned` gives for copies of the words. It fails only for want of memory.
 pub fn parse_arguments<S: SearchableArgInfo<ArgData> + Drop>(
     alloc: Global,
     arguments: &[Vec<u8>],
@@ -109,8 +129,6 @@ pub fn parse_arguments<S: SearchableArgInfo<ArgData> + Drop>(
     requires { IsTrue (tables_hold_values holds_value (S.tables arg_info)) }
     ensures { IfOk result (λ answer. outcome_of answer ≡ reading kind plusplus (S.tables arg_info) cwd.now view.now (words_of arguments.now)) }
 {
-    match judged(alloc, arguments, cwd, arg_info, kind, view)? {
-        Ok(options) => read(alloc, options, cwd, plusplus, kind, view),
-        Err(refusal) => Ok(refusal.into_answer()),
-    }
+    let arguments = copied_words(alloc, arguments)?;
+    parse_arguments_owned(alloc, arguments, cwd, arg_info, plusplus, kind, view)
 }

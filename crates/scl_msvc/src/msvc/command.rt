@@ -7,9 +7,9 @@ ghost use Rattle.scl_msvc.specs.Building.{command, cacheable};
 ghost use Rattle.scl_msvc.specs.Environment.{without_cl_env_vars};
 
 use super::environment::without_cl_env_vars;
-use super::words::{push_input, push_lists};
+use super::words::{Lists, append_lists, push_input};
 use scl_args::Mem;
-use scl_text::command::{CommandWords, compile_command, push_word};
+use scl_text::command::{CommandWords, append_words, compile_command};
 use scl_text::outputs::output_path;
 use scl_text::path::join;
 use scl_text::records::{Cacheable, CommandError, ParsedArguments, SingleCompileCommand};
@@ -32,12 +32,28 @@ impl CommandWords for Command {
 
     ghost words = { λ _. command_words };
 
-    fn words(&self, alloc: Global, parsed: &ParsedArguments, object: &[u8]) -> Mem<Vec<Vec<u8>>> {
+    fn words(&self, alloc: Global, parsed: ParsedArguments, object: &[u8]) -> Mem<Vec<Vec<u8>>> {
+        let mut input = Vec::new(alloc);
+        push_input(alloc, &mut input, &parsed)?;
+        let ParsedArguments {
+            compilation_flag,
+            preprocessor_args: preprocessor,
+            dependency_args: dependency,
+            unhashed_args: unhashed,
+            common_args: common,
+            ..
+        } = parsed;
+        let lists = Lists {
+            preprocessor,
+            dependency,
+            unhashed,
+            common,
+        };
         let mut words = Vec::new(alloc);
-        push_word(alloc, &mut words, &parsed.compilation_flag)?;
+        words.push(compilation_flag)?;
         words.push(object_word(alloc, object)?)?;
-        push_lists(alloc, &mut words, parsed, &parsed.unhashed_args)?;
-        push_input(alloc, &mut words, parsed)?;
+        append_lists(&mut words, lists)?;
+        append_words(&mut words, input)?;
         Ok(words)
     }
 }
@@ -56,6 +72,30 @@ fn cacheable(alloc: Global, parsed: &ParsedArguments, cwd: &[u8], view: &View) -
     }
 }
 
+/// The compile command of a record that is handed over, in the environment without `CL` and `_CL_`, and whether its outcome
+/// may be kept: not where debug information goes to a file that is there (docs/RULES.md, Msvc). The errors are `MissingObj`,
+/// exactly where the record has no output `obj`, and the refusal of memory.
+pub fn generate_compile_commands_owned(
+    alloc: Global,
+    executable: &[u8],
+    parsed: ParsedArguments,
+    cwd: &[u8],
+    env_vars: &[(Vec<u8>, Vec<u8>)],
+    view: &View,
+) -> Result<(SingleCompileCommand, Cacheable), CommandError>
+    ensures command { IfOk result (λ built. IsBuiltCommand built.0 built.1 (command (parsed_of parsed)) executable.now (without_cl_env_vars (pairs_of env_vars.now)) cwd.now (cacheable (parsed_of parsed) cwd.now view.now)) }
+    ensures missing { (result ≡ Err CommandError.MissingObj) ↔ (object_of (parsed_of parsed) ≡ None) }
+{
+    if output_path(&parsed.outputs, "obj").is_none() {
+        return Err(CommandError::MissingObj);
+    }
+    let cacheable = cacheable(alloc, &parsed, cwd, view)?;
+    let env_vars = without_cl_env_vars(alloc, env_vars)?;
+    compile_command(
+        alloc, &Command, executable, parsed, cwd, &env_vars, cacheable,
+    )
+}
+
 /// The compile command of a record, in the environment without `CL` and `_CL_`, and whether its outcome may be kept: not
 /// where debug information goes to a file that is there (docs/RULES.md, Msvc). The errors are `MissingObj`, exactly where
 /// the record has no output `obj`, and the refusal of memory.
@@ -70,12 +110,6 @@ pub fn generate_compile_commands(
     ensures command { IfOk result (λ built. IsBuiltCommand built.0 built.1 (command (parsed_of parsed.now)) executable.now (without_cl_env_vars (pairs_of env_vars.now)) cwd.now (cacheable (parsed_of parsed.now) cwd.now view.now)) }
     ensures missing { (result ≡ Err CommandError.MissingObj) ↔ (object_of (parsed_of parsed.now) ≡ None) }
 {
-    if output_path(&parsed.outputs, "obj").is_none() {
-        return Err(CommandError::MissingObj);
-    }
-    let cacheable = cacheable(alloc, parsed, cwd, view)?;
-    let env_vars = without_cl_env_vars(alloc, env_vars)?;
-    compile_command(
-        alloc, &Command, executable, parsed, cwd, &env_vars, cacheable,
-    )
+    let parsed = parsed.copied_for_command(alloc)?;
+    generate_compile_commands_owned(alloc, executable, parsed, cwd, env_vars, view)
 }

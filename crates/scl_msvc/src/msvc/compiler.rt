@@ -5,11 +5,11 @@ ghost use Rattle.scl_text.specs.Commands.{pairs_of};
 ghost use Rattle.scl_text.specs.Records.{outcome_of};
 ghost use Rattle.scl_msvc.specs.Environment.{surrounded_reading};
 
-use super::command::generate_compile_commands;
+use super::command::generate_compile_commands_owned;
 use super::environment::surrounded;
 use super::preprocess::passes;
 use scl_args::Mem;
-use scl_msvc_reading::msvc::parse_arguments;
+use scl_msvc_reading::msvc::parse_arguments_owned;
 use scl_text::CCompilerImpl;
 use scl_text::command::copied_text;
 use scl_text::records::{
@@ -49,17 +49,16 @@ impl Msvc {
 /// What the words say between those that the environment gives.
 fn parse_surrounded(
     alloc: Global,
-    arguments: &[Vec<u8>],
+    arguments: Vec<Vec<u8>>,
     cwd: &[u8],
     env_vars: &[(Vec<u8>, Vec<u8>)],
     is_clang: bool,
     view: &View,
 ) -> Mem<CompilerArguments<ParsedArguments>>
-    ensures { IfOk result (λ answer. outcome_of answer ≡ surrounded_reading is_clang cwd.now (pairs_of env_vars.now) view.now (words_of arguments.now)) }
+    ensures { IfOk result (λ answer. outcome_of answer ≡ surrounded_reading is_clang cwd.now (pairs_of env_vars.now) view.now (words_of arguments.items)) }
 {
     match surrounded(alloc, arguments, env_vars)? {
-        Ok(None) => parse_arguments(alloc, arguments, cwd, is_clang, view),
-        Ok(Some(words)) => parse_arguments(alloc, &words, cwd, is_clang, view),
+        Ok(words) => parse_arguments_owned(alloc, words, cwd, is_clang, view),
         Err(refusal) => Ok(refusal.into_answer()),
     }
 }
@@ -107,10 +106,10 @@ impl CCompilerImpl for Msvc {
         copied_text(alloc, &self.version)
     }
 
-    fn parse_arguments(
+    fn parse_arguments_owned(
         &self,
         alloc: Global,
-        arguments: &[Vec<u8>],
+        arguments: Vec<Vec<u8>>,
         cwd: &[u8],
         env_vars: &[(Vec<u8>, Vec<u8>)],
         view: &View,
@@ -118,16 +117,16 @@ impl CCompilerImpl for Msvc {
         parse_surrounded(alloc, arguments, cwd, env_vars, self.is_clang, view)
     }
 
-    fn generate_compile_commands(
+    fn generate_compile_commands_owned(
         &self,
         alloc: Global,
         executable: &[u8],
-        parsed: &ParsedArguments,
+        parsed: ParsedArguments,
         cwd: &[u8],
         env_vars: &[(Vec<u8>, Vec<u8>)],
         view: &View,
     ) -> Result<(SingleCompileCommand, Cacheable), CommandError> {
-        generate_compile_commands(alloc, executable, parsed, cwd, env_vars, view)
+        generate_compile_commands_owned(alloc, executable, parsed, cwd, env_vars, view)
     }
 
     fn assembler_digest(&self, _alloc: Global) -> Mem<Option<String>> {

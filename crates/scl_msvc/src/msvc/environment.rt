@@ -1,6 +1,6 @@
 //! What a command line has from its environment: words before and behind its own.
 ghost use Rattle.std.specs.Prelude.{◌≡◌, IfOk};
-ghost use Rattle.std.specs.Option.{option_copied, option_map, option_map_or};
+ghost use Rattle.std.specs.Option.{option_copied, option_map};
 ghost use Rattle.std.specs.Result.{result_map_both};
 ghost use Rattle.scl_values.specs.Words.{words_of};
 ghost use Rattle.scl_text.specs.Commands.{pairs_of};
@@ -9,7 +9,7 @@ ghost use Rattle.scl_text.specs.Refusals.{verdict_of};
 ghost use Rattle.scl_msvc.specs.Environment.{is_variable, without_cl_env_vars, value_of, gives_words, with_equals, words_in, variable_words, surrounded};
 
 use scl_args::Mem;
-use scl_text::command::push_words;
+use scl_text::command::append_words;
 use scl_text::refusal::Refusal;
 use scl_text::{from_local_codepage, msvc_words};
 use std::alloc::Global;
@@ -57,7 +57,7 @@ fn value_of<'a>(env_vars: &'a [(Vec<u8>, Vec<u8>)], key: &[u8]) -> Option<&'a [u
 }
 
 /// Whether the environment has one of the two variables.
-fn gives_words(env_vars: &[(Vec<u8>, Vec<u8>)]) -> bool
+pub(super) fn gives_words(env_vars: &[(Vec<u8>, Vec<u8>)]) -> bool
     ensures { result ≡ gives_words (pairs_of env_vars.now) }
 {
     value_of(env_vars, FRONT_VARIABLE).is_some() || value_of(env_vars, BACK_VARIABLE).is_some()
@@ -107,19 +107,18 @@ fn variable_words(
     }
 }
 
-/// The words of a command line between those that its environment gives: of `CL` before and of `_CL_` behind them; `None`
-/// where it has neither, so that they are the given words; refused where a value is no text.
+/// Words that are handed over, between those that the environment gives: of `CL` before and of `_CL_` behind them. Where it
+/// has neither they are the given ones, unmoved; refused where a value is no text.
 #[tactic(auto, using(crate::proofs::EnvironmentLemmas::surrounded_by_none))]
-pub(crate) fn surrounded(
+pub(super) fn surrounded(
     alloc: Global,
-    arguments: &[Vec<u8>],
+    arguments: Vec<Vec<u8>>,
     env_vars: &[(Vec<u8>, Vec<u8>)],
-) -> Mem<Result<Option<Vec<Vec<u8>>>, Refusal>>
-    ensures { IfOk result (λ made. result_map_both (λ words. option_map_or (λ w. words_of w.items) words (words_of arguments.now)) verdict_of made
-        ≡ surrounded (pairs_of env_vars.now) (words_of arguments.now)) }
+) -> Mem<Result<Vec<Vec<u8>>, Refusal>>
+    ensures { IfOk result (λ made. result_map_both (λ words. words_of words.items) verdict_of made ≡ surrounded (pairs_of env_vars.now) (words_of arguments.items)) }
 {
     if !gives_words(env_vars) {
-        return Ok(Ok(None));
+        return Ok(Ok(arguments));
     }
     let front = value_of(env_vars, FRONT_VARIABLE);
     let mut words = match variable_words(alloc, front, "CL environment variable value broken")? {
@@ -131,7 +130,7 @@ pub(crate) fn surrounded(
         Ok(words) => words,
         Err(refusal) => return Ok(Err(refusal)),
     };
-    push_words(alloc, &mut words, arguments)?;
-    push_words(alloc, &mut words, &back)?;
-    Ok(Ok(Some(words)))
+    append_words(&mut words, arguments)?;
+    append_words(&mut words, back)?;
+    Ok(Ok(words))
 }

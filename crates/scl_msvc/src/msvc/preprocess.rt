@@ -3,11 +3,12 @@ ghost use Rattle.std.specs.Prelude.{◌≡◌, ◌++◌, IfOk, OnOk};
 ghost use Rattle.scl_values.specs.Words.{words_of};
 ghost use Rattle.scl_text.specs.Records.{parsed_of};
 ghost use Rattle.scl_text.specs.Runs.{runs_of};
-ghost use Rattle.scl_msvc.specs.Preprocess.{first_word, shown_includes, written_includes, include_words, rewriting, preprocess_words, passes};
+ghost use Rattle.scl_msvc.specs.Preprocess.{first_word, shown_includes, written_includes, run_lists, include_words, rewriting, preprocess_words, passes};
+ghost use Rattle.scl_msvc.specs.ListsOf.{lists_of};
 
-use super::words::{push_input, push_lists};
+use super::words::{Lists, append_lists, push_input};
 use scl_args::Mem;
-use scl_text::command::push_word;
+use scl_text::command::{copied_words, push_word};
 use scl_text::records::ParsedArguments;
 use std::alloc::Global;
 
@@ -75,6 +76,18 @@ fn push_rewriting(
     Ok(())
 }
 
+/// Copies of a record's lists for a run, which is not given the words that do not change the outcome.
+fn lists_of_run(alloc: Global, parsed: &ParsedArguments) -> Mem<Lists>
+    ensures { IfOk result (λ lists. lists_of lists ≡ run_lists (parsed_of parsed.now)) }
+{
+    Ok(Lists {
+        preprocessor: copied_words(alloc, &parsed.preprocessor_args)?,
+        dependency: copied_words(alloc, &parsed.dependency_args)?,
+        unhashed: Vec::new(alloc),
+        common: copied_words(alloc, &parsed.common_args)?,
+    })
+}
+
 fn preprocess_words(
     alloc: Global,
     parsed: &ParsedArguments,
@@ -87,7 +100,7 @@ fn preprocess_words(
     let mut words = Vec::new(alloc);
     push_word(alloc, &mut words, first_word(parsed, may_dist))?;
     push_word(alloc, &mut words, b"-nologo")?;
-    push_lists(alloc, &mut words, parsed, &[])?;
+    append_lists(&mut words, lists_of_run(alloc, parsed)?)?;
     push_includes(alloc, &mut words, parsed, is_clang)?;
     push_rewriting(alloc, &mut words, is_clang, rewrite_includes_only)?;
     push_input(alloc, &mut words, parsed)?;

@@ -8,9 +8,10 @@ ghost use Rattle.scl_files.specs.Within.{is_within, are_within};
 ghost use Rattle.scl_msvc_reading.specs.Data.{kind_of, word_of};
 ghost use Rattle.scl_msvc.specs.Within.{options_cut, inner_line, inner_lines, command_lines_of, command_lines};
 
-use super::environment::surrounded;
+use super::environment::{gives_words, surrounded};
 use scl_args::{Argument, Mem, OfKinds, cut_options, texts};
 use scl_msvc_reading::msvc::{ArgData, Kind, trees};
+use scl_text::command::copied_words;
 use scl_text::view::View;
 use scl_text::{ExpansionKind, TooManyWords, expand_at_most};
 use std::alloc::Global;
@@ -84,6 +85,7 @@ fn are_all_within(
 /// words are read. It fails only for want of memory, of which it asks for so many words at most for each command line, an
 /// inner one's as they are handed on besides, and for the options of the first, the trees of the tables and what files and
 /// those variables hold; where a variable stands, for the given words too.
+#[tactic(auto, using(crate::proofs::EnvironmentLemmas::surrounded_by_none))]
 pub fn has_at_most(
     alloc: Global,
     arguments: &[Vec<u8>],
@@ -95,9 +97,11 @@ pub fn has_at_most(
 ) -> Mem<bool>
     ensures { IfOk result (λ within. within ≡ are_within most (command_lines is_clang cwd.now (pairs_of env_vars.now) view.now (words_of arguments.now))) }
 {
-    match surrounded(alloc, arguments, env_vars)? {
-        Ok(None) => are_all_within(alloc, arguments, cwd, is_clang, view, most),
-        Ok(Some(words)) => are_all_within(alloc, &words, cwd, is_clang, view, most),
+    if !gives_words(env_vars) {
+        return are_all_within(alloc, arguments, cwd, is_clang, view, most);
+    }
+    match surrounded(alloc, copied_words(alloc, arguments)?, env_vars)? {
+        Ok(words) => are_all_within(alloc, &words, cwd, is_clang, view, most),
         Err(_broken) => Ok(true),
     }
 }

@@ -3,27 +3,32 @@ ghost use Rattle.std.specs.Prelude.{◌≡◌, ◌++◌, IfOk, OnOk};
 ghost use Rattle.std.specs.Option.{option_copied};
 ghost use Rattle.scl_values.specs.Words.{words_of};
 ghost use Rattle.scl_text.specs.Records.{parsed_of};
-ghost use Rattle.scl_msvc.specs.Building.{lists_with, language_flag, input_word, input_words};
+ghost use Rattle.scl_msvc.specs.Building.{language_flag, input_word, input_words};
+ghost use Rattle.scl_msvc.specs.ListsOf.{lists_of};
 
 use scl_args::Mem;
-use scl_text::command::{push_dashes, push_words};
+use scl_text::command::{append_words, push_dashes};
 use scl_text::language::Language;
 use scl_text::records::ParsedArguments;
 use std::alloc::Global;
 
-/// Puts the lists of a record behind words, in their order, with these for the words that do not change the outcome.
-pub(super) fn push_lists(
-    alloc: Global,
-    words: &mut Vec<Vec<u8>>,
-    parsed: &ParsedArguments,
-    unhashed: &[Vec<u8>],
-) -> Mem<()>
-    ensures { OnOk result (words_of words.new.items ≡ words_of words.old.items ++ lists_with (words_of unhashed.now) (parsed_of parsed.now)) }
+/// The lists of a command, or of a run of the preprocessor.
+#[derive(Drop)]
+pub(super) struct Lists {
+    pub preprocessor: Vec<Vec<u8>>,
+    pub dependency: Vec<Vec<u8>>,
+    pub unhashed: Vec<Vec<u8>>,
+    pub common: Vec<Vec<u8>>,
+}
+
+/// Puts the lists behind words, in their order.
+pub(super) fn append_lists(words: &mut Vec<Vec<u8>>, lists: Lists) -> Mem<()>
+    ensures { OnOk result (words_of words.new.items ≡ words_of words.old.items ++ lists_of lists) }
 {
-    push_words(alloc, words, &parsed.preprocessor_args)?;
-    push_words(alloc, words, &parsed.dependency_args)?;
-    push_words(alloc, words, unhashed)?;
-    push_words(alloc, words, &parsed.common_args)
+    append_words(words, lists.preprocessor)?;
+    append_words(words, lists.dependency)?;
+    append_words(words, lists.unhashed)?;
+    append_words(words, lists.common)
 }
 
 /// The flag that says that an input has the language: there is one for C and one for C++.

@@ -1,7 +1,9 @@
 //! Inner command lines: words that options hand on to clang, behind `-Xclang` or joined to `-clang:`.
-ghost use Rattle.std.specs.Prelude.{◌≡◌, ◌++◌, IfOk, OnOk};
+ghost use Rattle.std.specs.Prelude.{◌≡◌, ◌++◌, IfOk, OnOk, codes};
+ghost use Rattle.std.specs.List.{flat_map};
 ghost use Rattle.std.specs.Result.{result_map_both};
 ghost use Rattle.scl_values.specs.Words.{words_of};
+ghost use Rattle.scl_args.specs.Wrapped.{wrapped_apart, wrapped_joined};
 ghost use Rattle.scl_text.specs.Refusals.{verdict_of};
 ghost use Rattle.scl_msvc_reading.specs.InnerBy.{inner_of};
 ghost use Rattle.scl_msvc_reading.specs.Inners.{inner_list, inner_words_at};
@@ -14,13 +16,13 @@ use super::data::{ArgData, Kind};
 use super::place::Place;
 use judge::ByInnerVerdict;
 use place::Inside;
-use scl_args::{
-    Mem, OfKinds, Options, ShortFlagsJoined, WrappedApart, WrappedJoined, push_wrapped,
-};
+use scl_args::{Mem, OfKinds, Options, ShortFlagsJoined};
 use scl_gnu_reading::gcc;
 use scl_text::ParserJudge;
+use scl_text::command::push_word;
 use scl_text::refusal::Refusal;
 use scl_text::view::View;
+use scl_values::joined_word;
 use std::alloc::Global;
 
 /// The options of the two inner command lines.
@@ -41,7 +43,7 @@ fn inner_options(
     ensures { IfOk result (λ said. result_map_both (λ inner. inner) verdict_of said ≡ inner_options kind cwd.now view.now options.now) }
 {
     let words = options.texts(alloc, &OfKinds(&[kind]))?;
-    gcc::read_inner(alloc, &words, cwd, &ParserJudge(ByInnerVerdict), view)
+    gcc::read_inner(alloc, words, cwd, &ParserJudge(ByInnerVerdict), view)
 }
 
 /// The options of the two inner command lines; or the first refusal of one of them, that behind `-Xclang` first.
@@ -70,6 +72,28 @@ fn inner_list(alloc: Global, inner: &Options<gcc::ArgData>, there: Place) -> Mem
     inner.list(alloc, &ShortFlagsJoined, &Inside(there))
 }
 
+/// Puts words behind others, each behind `-Xclang`.
+fn push_behind_xclang(alloc: Global, words: &mut Vec<Vec<u8>>, inner: Vec<Vec<u8>>) -> Mem<()>
+    ensures { OnOk result (words_of words.new.items ≡ words_of words.old.items ++ flat_map (wrapped_apart (codes "-Xclang")) (words_of inner.items)) }
+{
+    for word in inner {
+        push_word(alloc, words, b"-Xclang")?;
+        words.push(word)?;
+    }
+    Ok(())
+}
+
+/// Puts words behind others, each joined to `-clang:`.
+#[tactic(auto, using(crate::proofs::InnerLemmas::undelimited))]
+fn push_joined_to_clang(alloc: Global, words: &mut Vec<Vec<u8>>, inner: Vec<Vec<u8>>) -> Mem<()>
+    ensures { OnOk result (words_of words.new.items ≡ words_of words.old.items ++ flat_map (wrapped_joined (codes "-clang:")) (words_of inner.items)) }
+{
+    for word in inner {
+        words.push(joined_word(alloc, "-clang:", None, &word)?)?;
+    }
+    Ok(())
+}
+
 /// Puts the words of the inner options that go there, each with the flag that hands it on, behind others.
 pub(crate) fn push_inner(
     alloc: Global,
@@ -79,8 +103,6 @@ pub(crate) fn push_inner(
 ) -> Mem<()>
     ensures { OnOk result (words_of words.new.items ≡ words_of words.old.items ++ inner_words_at there (inner_of inner.now)) }
 {
-    let xclang = inner_list(alloc, &inner.xclang, there)?;
-    push_wrapped(alloc, words, &xclang, &WrappedApart("-Xclang"))?;
-    let clang = inner_list(alloc, &inner.clang, there)?;
-    push_wrapped(alloc, words, &clang, &WrappedJoined("-clang:"))
+    push_behind_xclang(alloc, words, inner_list(alloc, &inner.xclang, there)?)?;
+    push_joined_to_clang(alloc, words, inner_list(alloc, &inner.clang, there)?)
 }

@@ -12,6 +12,7 @@ use super::inner::{InnerOptions, both_inner};
 use super::judge::ByVerdict;
 use super::record::record_of;
 use scl_args::{Mem, Options};
+use scl_text::command::copied_words;
 use scl_text::records::{CompilerArguments, ParsedArguments};
 use scl_text::view::View;
 use scl_text::{ExpansionKind, ParserJudge, judge_words};
@@ -53,19 +54,19 @@ fn read(
     }
 }
 
-/// What a command line of cl, or of clang-cl, says: the record; or the first refusal in option order, on each option first
-/// that of an empty value; else that of a last flag without its value; else the same of the inner options, those behind
-/// `-Xclang` before those behind `-clang:`; else that of the fixed tests, the first of which is `NotCompilation`
-/// (docs/RULES.md, Msvc). Paths and words are bytes; the directory and the view answer what is asked of files. The error is
-/// the refusal of memory.
-pub fn parse_arguments(
+/// What a command line of cl, or of clang-cl, whose words are handed over, says: the record; or the first refusal in option
+/// order, on each option first that of an empty value; else that of a last flag without its value; else the same of the inner
+/// options, those behind `-Xclang` before those behind `-clang:`; else that of the fixed tests, the first of which is
+/// `NotCompilation` (docs/RULES.md, Msvc). Paths and words are bytes; the directory and the view answer what is asked of
+/// files. The error is the refusal of memory.
+pub fn parse_arguments_owned(
     alloc: Global,
-    arguments: &[Vec<u8>],
+    arguments: Vec<Vec<u8>>,
     cwd: &[u8],
     is_clang: bool,
     view: &View,
 ) -> Mem<CompilerArguments<ParsedArguments>>
-    ensures { IfOk result (λ answer. outcome_of answer ≡ reading is_clang cwd.now view.now (words_of arguments.now)) }
+    ensures { IfOk result (λ answer. outcome_of answer ≡ reading is_clang cwd.now view.now (words_of arguments.items)) }
 {
     let judge = ParserJudge(ByVerdict { is_clang });
     match judge_words(
@@ -81,4 +82,22 @@ pub fn parse_arguments(
         Ok(options) => read(alloc, options, cwd, is_clang, view),
         Err(refusal) => Ok(refusal.into_answer()),
     }
+}
+
+/// What a command line of cl, or of clang-cl, says: the record; or the first refusal in option order, on each option first
+/// that of an empty value; else that of a last flag without its value; else the same of the inner options, those behind
+/// `-Xclang` before those behind `-clang:`; else that of the fixed tests, the first of which is `NotCompilation`
+/// (docs/RULES.md, Msvc). Paths and words are bytes; the directory and the view answer what is asked of files. The error is
+/// the refusal of memory.
+pub fn parse_arguments(
+    alloc: Global,
+    arguments: &[Vec<u8>],
+    cwd: &[u8],
+    is_clang: bool,
+    view: &View,
+) -> Mem<CompilerArguments<ParsedArguments>>
+    ensures { IfOk result (λ answer. outcome_of answer ≡ reading is_clang cwd.now view.now (words_of arguments.now)) }
+{
+    let arguments = copied_words(alloc, arguments)?;
+    parse_arguments_owned(alloc, arguments, cwd, is_clang, view)
 }

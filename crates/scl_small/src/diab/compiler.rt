@@ -2,7 +2,7 @@
 ghost use Rattle.std.specs.Prelude.{◌≡◌, None};
 
 use super::args::table;
-use super::{generate_compile_commands, parse_arguments};
+use super::{generate_compile_commands_owned, parse_arguments_owned};
 use crate::preprocess::diab_passes;
 use scl_args::FlagTree;
 use scl_text::command::copied_text;
@@ -73,28 +73,28 @@ impl CCompilerImpl for Diab {
         copied_text(alloc, &self.version)
     }
 
-    fn parse_arguments(
+    fn parse_arguments_owned(
         &self,
         alloc: Global,
-        arguments: &[Vec<u8>],
+        arguments: Vec<Vec<u8>>,
         cwd: &[u8],
         _env_vars: &[(Vec<u8>, Vec<u8>)],
         view: &View,
     ) -> Mem<CompilerArguments<ParsedArguments>> {
         let tree = FlagTree::build(alloc, &table())?;
-        parse_arguments(alloc, arguments, cwd, tree, view)
+        parse_arguments_owned(alloc, arguments, cwd, tree, view)
     }
 
-    fn generate_compile_commands(
+    fn generate_compile_commands_owned(
         &self,
         alloc: Global,
         executable: &[u8],
-        parsed: &ParsedArguments,
+        parsed: ParsedArguments,
         cwd: &[u8],
         env_vars: &[(Vec<u8>, Vec<u8>)],
         view: &View,
     ) -> Result<(SingleCompileCommand, Cacheable), CommandError> {
-        generate_compile_commands(alloc, executable, parsed, cwd, env_vars, view)
+        generate_compile_commands_owned(alloc, executable, parsed, cwd, env_vars, view)
     }
 
     fn assembler_digest(&self, _alloc: Global) -> Mem<Option<String>> {

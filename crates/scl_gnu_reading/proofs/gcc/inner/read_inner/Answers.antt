@@ -1,10 +1,12 @@
-use Rattle.std.proofs.Common.{sym, ◌∙◌}
+use Rattle.std.proofs.Common.{◌≡◌, ◌==◌, true, length, sym, subst, ◌∙◌, List, Vec, ℕ}
+use Rattle.std.specs.declared.alloc.Global.{Global}
 use Rattle.scl_gnu_reading.proofs.InnerLemmas.{none_inside}
 use Rattle.scl_gnu_reading.proofs.gcc.inner.read_inner.Goals as goal
 
 pub returns-then-is_empty : goal.returns-then-is_empty
 returns-then-is_empty g c =
-    let none = none_inside g.J.Judge.empty (g.J.Judge.verdict c.args.judge.now) g.J.Judge.dangling c.args.cwd.now c.args.view.now c.args.words.now (sym c.is_empty.ensures ∙ c.if-is_empty.true) in
+    let P : List (Vec ℕ Global) → Type 0 = λ ws. (length ws == 0) ≡ true in
+    let none = none_inside g.J.Judge.empty (g.J.Judge.verdict c.args.judge.now) g.J.Judge.dangling c.args.cwd.now c.args.view.now c.args.words.items (subst P c.as_slice.ensures.value (sym c.is_empty.ensures ∙ c.if-is_empty.true)) in
     rw (c.in_ok-new.ensures, c.new.ensures.items) (sym none)
 
 pub returns : goal.returns

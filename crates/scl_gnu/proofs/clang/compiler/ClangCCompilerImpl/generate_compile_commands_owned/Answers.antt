@@ -8,7 +8,7 @@ use Rattle.scl_gnu_reading.specs.ClangRows.{clang_tables}
 use Rattle.scl_gnu.specs.ReadAgain.{ClangReadsAgain}
 use Rattle.scl_gnu_reading.specs.Readings.{reading}
 use Rattle.scl_gnu.proofs.ClangAgainLaws.{command_kept}
-use Rattle.scl_gnu.proofs.clang.compiler.ClangCCompilerImpl.generate_compile_commands.Goals as goal
+use Rattle.scl_gnu.proofs.clang.compiler.ClangCCompilerImpl.generate_compile_commands_owned.Goals as goal
 
 pub returns-clause-command : goal.returns-clause-command
 returns-clause-command c = search rules

@@ -4,10 +4,10 @@ use Rattle.scl_text.specs.Languages.{clang_text}
 use Rattle.scl_gnu.specs.Building.{command_words}
 use Rattle.scl_gnu.specs.ReadAgain.{ClangReadsAgain}
 use Rattle.scl_gnu.proofs.ClangAgainLaws.{command_kept}
-use Rattle.scl_gnu.proofs.clang.compiler.ClangCCompilerImpl.parse_arguments.Goals as goal
+use Rattle.scl_gnu.proofs.clang.compiler.ClangCCompilerImpl.parse_arguments_owned.Goals as goal
 
 pub returns-clause-outcome : goal.returns-clause-outcome
-returns-clause-outcome c = rw c.in_ok-trees.ensures.tables at c.parse_arguments.ensures
+returns-clause-outcome c = rw c.in_ok-trees.ensures.tables at c.parse_arguments_owned.ensures
 
 pub returns-clause-read_again : goal.returns-clause-read_again
 returns-clause-read_again c =

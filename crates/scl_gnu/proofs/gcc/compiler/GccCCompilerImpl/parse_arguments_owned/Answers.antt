@@ -5,10 +5,10 @@ use Rattle.scl_text.specs.Languages.{gcc_text}
 use Rattle.scl_gnu.specs.Building.{command_words}
 use Rattle.scl_gnu.specs.ReadAgain.{GccReadsAgain}
 use Rattle.scl_gnu.proofs.GccAgainLaws.{command_kept}
-use Rattle.scl_gnu.proofs.gcc.compiler.GccCCompilerImpl.parse_arguments.Goals as goal
+use Rattle.scl_gnu.proofs.gcc.compiler.GccCCompilerImpl.parse_arguments_owned.Goals as goal
 
 pub returns-clause-outcome : goal.returns-clause-outcome
-returns-clause-outcome c = rw (c.in_ok-build.ensures.rows ∙ c.table.ensures.rows) at c.parse_arguments.ensures
+returns-clause-outcome c = rw (c.in_ok-build.ensures.rows ∙ c.table.ensures.rows) at c.parse_arguments_owned.ensures
 
 pub returns-clause-read_again : goal.returns-clause-read_again
 returns-clause-read_again c =

@@ -3,7 +3,7 @@ use Rattle.scl_text.specs.Commands.{pairs_of}
 use Rattle.scl_msvc.specs.Building.{command}
 use Rattle.scl_msvc.specs.Promises.{MsvcReadsAgain}
 use Rattle.scl_msvc.proofs.PromiseLaws.{command_kept}
-use Rattle.scl_msvc.proofs.msvc.compiler.MsvcCCompilerImpl.parse_arguments.Goals as goal
+use Rattle.scl_msvc.proofs.msvc.compiler.MsvcCCompilerImpl.parse_arguments_owned.Goals as goal
 
 pub returns-clause-read_again : goal.returns-clause-read_again
 returns-clause-read_again c =

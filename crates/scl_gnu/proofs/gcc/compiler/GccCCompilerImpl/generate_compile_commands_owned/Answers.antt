@@ -8,7 +8,7 @@ use Rattle.scl_gnu_reading.specs.GccRows.{gcc_rows}
 use Rattle.scl_gnu.specs.ReadAgain.{GccReadsAgain}
 use Rattle.scl_gnu_reading.specs.Readings.{reading}
 use Rattle.scl_gnu.proofs.GccAgainLaws.{command_kept}
-use Rattle.scl_gnu.proofs.gcc.compiler.GccCCompilerImpl.generate_compile_commands.Goals as goal
+use Rattle.scl_gnu.proofs.gcc.compiler.GccCCompilerImpl.generate_compile_commands_owned.Goals as goal
 
 pub returns-clause-command : goal.returns-clause-command
 returns-clause-command c = search rules

@@ -1,5 +1,5 @@
 use Rattle.std.proofs.Common.{rules}
-use Rattle.scl_msvc_reading.proofs.msvc.parse.parse_arguments.Goals as goal
+use Rattle.scl_msvc_reading.proofs.msvc.parse.parse_arguments_owned.Goals as goal
 
 pub returns-in-Ok : goal.returns-in-Ok
 returns-in-Ok c =
