@@ -15,17 +15,11 @@ use Rattle.scl_text.specs.declared.records.Cacheable.{Cacheable}
 use Rattle.scl_text.specs.declared.records.Cacheable.TheVariants as cacheable
 use Rattle.scl_cl.specs.declared.compiler.Compiler.{Compiler}
 use Rattle.scl_cl.specs.declared.keyword.Keyword as keywords
+use Rattle.scl_cl.proofs.FieldLaws.{field-plain}
 use Rattle.scl_cl.proofs.CutLaws.{cut_at-mark, cut_at-append, lines_of-cut}
 
 pub digit-back : (n : ℕ) → n < 16 → digit_value (digit_of n) ≡ Some n
 digit-back n h = grind (arith, nat_tests)
-
--- a plain byte before a field
-pub field-plain : (b : ℕ) (rest : List ℕ) → is_plain b ≡ true → field_of (b ∷ rest) ≡ before (Some b) (field_of rest)
-field-plain b [] h = rw h refl
-field-plain b (x ∷ []) h = rw h refl
-field-plain b (x ∷ y ∷ []) h = rw h refl
-field-plain b (x ∷ y ∷ z ∷ rest) h = rw h refl
 
 -- an escaped byte before a field
 field-digits : (high low : ℕ) (rest : List ℕ) → high < 16 → low < 16 → field_of (0x5c ∷ 0x78 ∷ digit_of high ∷ digit_of low ∷ rest) ≡ before (Some (16 * high + low)) (field_of rest)

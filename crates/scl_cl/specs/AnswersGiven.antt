@@ -1,28 +1,58 @@
--- What an answer that the code gives says.
+-- What an answer that the code gives says, by what it keeps of a record and of its command.
 use Rattle.std.specs.Prelude.{◌≡◌, ℕ, List, Result, Ok}
 use Rattle.scl_values.specs.Words.{words_of}
 use Rattle.scl_text.specs.Commands.{Builds}
 use Rattle.scl_text.specs.Records.{Parsed, Verdict, parsed_of}
+use Rattle.scl_text.specs.declared.records.Cacheable.{Cacheable}
 use Rattle.scl_text.specs.declared.records.CompilerArguments.{CompilerArguments}
 use Rattle.scl_text.specs.declared.records.CompilerArguments.TheVariants as outcomes
-use Rattle.scl_cl.specs.declared.compile.Compilation.{Compilation}
+use Rattle.scl_text.specs.declared.records.SingleCompileCommand.{SingleCompileCommand}
+use Rattle.scl_cl.specs.declared.kept.BuiltCommand.{BuiltCommand}
+use Rattle.scl_cl.specs.declared.kept.Compilation.{Compilation}
 use Rattle.scl_cl.specs.Answers.{Answer, compiled, cannot_cache, not_compilation}
+
+-- the answer, less the text beside a reason, by the command that is kept and by whether its outcome may be
+abbrev pub answer_by : {K : Type 0} → (K → SingleCompileCommand) → (K → Cacheable) → CompilerArguments K → Answer
+answer_by command cacheable (outcomes.Ok kept) = compiled (words_of (command kept).arguments.items) (cacheable kept)
+answer_by command cacheable (outcomes.CannotCache reason text) = cannot_cache reason.now
+answer_by command cacheable outcomes.NotCompilation = not_compilation
+
+-- where there is a command, what is kept is so
+abbrev pub IfKept : {K : Type 0} → (K → Type 0) → CompilerArguments K → Type 0
+IfKept is (outcomes.Ok kept) = is kept
+IfKept is (outcomes.CannotCache reason text) = Unit {0}
+IfKept is outcomes.NotCompilation = Unit {0}
+
+-- where there is a command, it has this program, environment and directory
+abbrev pub HasBuilt : {K : Type 0} → (K → SingleCompileCommand) → List ℕ → List (List ℕ × List ℕ) → List ℕ → CompilerArguments K → Type 0
+HasBuilt command executable env_vars cwd = IfKept (λ kept. Builds (command kept) executable (words_of (command kept).arguments.items) env_vars cwd)
+
+-- where there is a command, what was read is a record of which this is kept, and the two keep the promise
+abbrev pub HasKept : {K : Type 0} → (K → SingleCompileCommand) → (K → Parsed → Type 0) → Result Parsed Verdict → (Parsed → List (List ℕ) → Type 0) → CompilerArguments K → Type 0
+HasKept command is_of reading promise =
+    IfKept (λ kept. (parsed : Parsed) × is_of kept parsed × (reading ≡ Ok parsed) × promise parsed (words_of (command kept).arguments.items))
+
+-- ---- with the record
 
 -- the answer, less the text beside a reason
 abbrev pub answer_of : CompilerArguments Compilation → Answer
-answer_of (outcomes.Ok compilation) = compiled (words_of compilation.command.arguments.items) compilation.cacheable
-answer_of (outcomes.CannotCache reason text) = cannot_cache reason.now
-answer_of outcomes.NotCompilation = not_compilation
+answer_of = answer_by (λ compilation. compilation.command) (λ compilation. compilation.cacheable)
 
 -- where there is a command, what was read is this reading, and the command has this program, environment and directory
 abbrev pub HasParts : Result Parsed Verdict → List ℕ → List (List ℕ × List ℕ) → List ℕ → CompilerArguments Compilation → Type 0
-HasParts reading executable env_vars cwd (outcomes.Ok compilation) =
-    (reading ≡ Ok (parsed_of compilation.parsed)) × Builds compilation.command executable (words_of compilation.command.arguments.items) env_vars cwd
-HasParts reading executable env_vars cwd (outcomes.CannotCache reason text) = Unit {0}
-HasParts reading executable env_vars cwd outcomes.NotCompilation = Unit {0}
+HasParts reading executable env_vars cwd = IfKept (λ compilation.
+    (reading ≡ Ok (parsed_of compilation.parsed)) × Builds compilation.command executable (words_of compilation.command.arguments.items) env_vars cwd)
 
 -- where there is a command, what was read and its words keep the promise
 abbrev pub IfCompiled : (Parsed → List (List ℕ) → Type 0) → CompilerArguments Compilation → Type 0
-IfCompiled promise (outcomes.Ok compilation) = promise (parsed_of compilation.parsed) (words_of compilation.command.arguments.items)
-IfCompiled promise (outcomes.CannotCache reason text) = Unit {0}
-IfCompiled promise outcomes.NotCompilation = Unit {0}
+IfCompiled promise = IfKept (λ compilation. promise (parsed_of compilation.parsed) (words_of compilation.command.arguments.items))
+
+-- ---- without it
+
+-- the answer, less the text beside a reason
+abbrev pub command_answer : CompilerArguments BuiltCommand → Answer
+command_answer = answer_by (λ built. built.command) (λ built. built.cacheable)
+
+-- where there is a command, it has this program, environment and directory
+abbrev pub HasCommand : List ℕ → List (List ℕ × List ℕ) → List ℕ → CompilerArguments BuiltCommand → Type 0
+HasCommand = HasBuilt (λ built. built.command)

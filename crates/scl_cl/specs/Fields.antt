@@ -1,5 +1,5 @@
 -- Fields of a request's lines, and the bytes that they stand for.
-use Rattle.std.specs.Prelude.{ℕ, ◌+◌, ◌-◌, ◌*◌, ◌&&◌, List, [], ◌∷◌, Option, Some, None, ◌==◌, nat_le, if◌then◌else◌}
+use Rattle.std.specs.Prelude.{ℕ, ◌+◌, ◌-◌, ◌*◌, ◌&&◌, Bool, false, List, [], ◌∷◌, Option, Some, None, ◌==◌, nat_le, if◌then◌else◌}
 use Rattle.std.specs.Option.{option_zip}
 use Rattle.scl_files.specs.Characters.{tab, backslash}
 use Rattle.scl_values.specs.Escaped.{is_plain}
@@ -22,6 +22,11 @@ escaped_byte first letter high low = if first == backslash && letter == 0x78 the
 abbrev pub before : Option ℕ → Option (List ℕ) → Option (List ℕ)
 before (Some b) (Some bs) = Some (b ∷ bs)
 before _ _ = None
+
+-- whether the first byte, if there is one, stands for itself
+abbrev pub starts_plain : List ℕ → Bool
+starts_plain [] = false
+starts_plain (b ∷ _) = is_plain b
 
 -- the bytes that a field's text stands for
 abbrev pub field_of : List ℕ → Option (List ℕ)

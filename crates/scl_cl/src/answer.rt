@@ -3,29 +3,30 @@ ghost use Rattle.std.specs.Prelude.{◌≡◌, ◌++◌, OnOk, IfOk};
 ghost use Rattle.std.specs.List.{flat_map};
 ghost use Rattle.scl_values.specs.Words.{words_of};
 ghost use Rattle.scl_cl.specs.Answers.{compiled, cannot_cache, arg_line, text_of};
-ghost use Rattle.scl_cl.specs.AnswersGiven.{answer_of};
+ghost use Rattle.scl_cl.specs.AnswersGiven.{answer_by, answer_of, command_answer};
 
-use crate::compile::Compilation;
+use crate::field::push_field;
+use crate::kept::{BuiltCommand, Compilation, Kept};
 use scl_text::Mem;
 use scl_text::records::{Cacheable, CompilerArguments};
-use scl_values::Escaped;
 use std::alloc::Global;
 
 /// Appends the line of a word.
-fn push_arg(alloc: Global, text: &mut Vec<u8>, word: &[u8]) -> Mem<()>
+fn push_arg(text: &mut Vec<u8>, word: &[u8]) -> Mem<()>
     ensures { OnOk result (text.new.items ≡ text.old.items ++ arg_line word.now) }
 {
-    let line = format!(in alloc; "arg {}\n", Escaped(word))?;
-    text.extend_from_slice(line.as_bytes())?;
+    text.extend_from_slice(b"arg ")?;
+    push_field(text, word)?;
+    text.push(b'\n')?;
     Ok(())
 }
 
 /// Appends the lines of all words.
-fn push_args(alloc: Global, text: &mut Vec<u8>, words: &[Vec<u8>]) -> Mem<()>
+fn push_args(text: &mut Vec<u8>, words: &[Vec<u8>]) -> Mem<()>
     ensures { OnOk result (text.new.items ≡ text.old.items ++ flat_map arg_line (words_of words.now)) }
 {
     for word in words {
-        push_arg(alloc, text, word)?;
+        push_arg(text, word)?;
     }
     Ok(())
 }
@@ -35,7 +36,7 @@ fn compiled_text(alloc: Global, words: &[Vec<u8>], cacheable: Cacheable) -> Mem<
     ensures { IfOk result (λ text. text.items ≡ text_of (compiled (words_of words.now) cacheable)) }
 {
     let mut text = Vec::from_slice(alloc, b"ok\n")?;
-    push_args(alloc, &mut text, words)?;
+    push_args(&mut text, words)?;
     let last = match cacheable {
         Cacheable::Yes => b"cacheable yes\n".as_slice(),
         Cacheable::No => b"cacheable no\n".as_slice(),
@@ -54,18 +55,30 @@ fn reason_text(alloc: Global, reason: &str) -> Mem<Vec<u8>>
     Ok(text)
 }
 
+/// The text of an answer, whatever it keeps.
+fn kept_text<K: Kept>(alloc: Global, answer: &CompilerArguments<K>) -> Mem<Vec<u8>>
+    ensures { IfOk result (λ text. text.items ≡ text_of (answer_by K.command K.cacheable answer.now)) }
+{
+    match answer {
+        CompilerArguments::Ok(kept) => {
+            compiled_text(alloc, &kept.command().arguments, kept.cacheable())
+        }
+        CompilerArguments::CannotCache(reason, _) => reason_text(alloc, reason),
+        CompilerArguments::NotCompilation => Vec::from_slice(alloc, b"not-compilation\n"),
+    }
+}
+
 /// The text of an answer: lines with LF; the text beside a reason is left out (docs/RULES.md, Answers). It fails only for
 /// want of memory.
 pub fn answer_text(alloc: Global, answer: &CompilerArguments<Compilation>) -> Mem<Vec<u8>>
     ensures { IfOk result (λ text. text.items ≡ text_of (answer_of answer.now)) }
 {
-    match answer {
-        CompilerArguments::Ok(compilation) => compiled_text(
-            alloc,
-            &compilation.command.arguments,
-            compilation.cacheable,
-        ),
-        CompilerArguments::CannotCache(reason, _) => reason_text(alloc, reason),
-        CompilerArguments::NotCompilation => Vec::from_slice(alloc, b"not-compilation\n"),
-    }
+    kept_text(alloc, answer)
+}
+
+/// The text of an answer that keeps no record, as `answer_text` gives it. It fails only for want of memory.
+pub fn command_text(alloc: Global, answer: &CompilerArguments<BuiltCommand>) -> Mem<Vec<u8>>
+    ensures { IfOk result (λ text. text.items ≡ text_of (command_answer answer.now)) }
+{
+    kept_text(alloc, answer)
 }

@@ -1,39 +1,27 @@
 //! The answer to a command line, by its compiler.
 ghost use Rattle.std.specs.Prelude.{◌≡◌, ℕ, List, IfOk, Ok};
-ghost use Rattle.scl_text.specs.Records.{parsed_of};
 ghost use Rattle.scl_files.specs.Views.{Viewed};
+ghost use Rattle.scl_text.specs.Records.{parsed_of};
 ghost use Rattle.scl_values.specs.Words.{words_of};
 ghost use Rattle.scl_text.specs.Commands.{pairs_of, command_by};
 ghost use Rattle.scl_cl.specs.Requests.{asked};
-ghost use Rattle.scl_cl.specs.Answers.{answer_to, answer_from, answer_with, environment_by, reading_by, read_again_by};
-ghost use Rattle.scl_cl.specs.AnswersGiven.{answer_of, HasParts, IfCompiled};
+ghost use Rattle.scl_cl.specs.Answers.{Keeps, answer_to, answer_from, answer_with, environment_by, reading_by, read_again_by};
+ghost use Rattle.scl_cl.specs.AnswersGiven.{answer_by, answer_of, command_answer, HasBuilt, HasKept, HasParts, HasCommand, IfCompiled};
 
 use crate::compiler::Compiler;
+use crate::kept::{BuiltCommand, Compilation, Kept};
 use scl_gnu::clang::Clang;
 use scl_gnu::gcc::Gcc;
 use scl_msvc::msvc::Msvc;
 use scl_small::diab::Diab;
 use scl_small::tasking_vx::TaskingVX;
-use scl_text::records::{
-    Cacheable, CommandError, CompilerArguments, ParsedArguments, SingleCompileCommand,
-};
+use scl_text::command::copied_words;
+use scl_text::records::{CommandError, CompilerArguments, ParsedArguments};
 use scl_text::{CCompilerImpl, Mem, View};
 use std::alloc::{AllocError, Global};
 
-/// A command line that was read, the command to run in its place, and whether its outcome may be
-/// kept (docs/RULES.md, Answers).
-#[derive(Debug, PartialEq, Eq, Drop)]
-pub struct Compilation {
-    /// What was read.
-    pub parsed: ParsedArguments,
-    /// The command to run.
-    pub command: SingleCompileCommand,
-    /// Whether its outcome may be kept in the cache.
-    pub cacheable: Cacheable,
-}
-
-/// The answer of a record.
-fn answer_record<C: CCompilerImpl>(
+/// The answer of a record: what is kept of it.
+fn answer_record<C: CCompilerImpl, K: Kept>(
     alloc: Global,
     compiler: &C,
     executable: &[u8],
@@ -41,19 +29,15 @@ fn answer_record<C: CCompilerImpl>(
     cwd: &[u8],
     env_vars: &[(Vec<u8>, Vec<u8>)],
     view: &View,
-) -> Mem<CompilerArguments<Compilation>>
-    ensures answer { IfOk result (λ answer. answer_of answer ≡ answer_with (command_by (C.command compiler.now) (parsed_of parsed)) (C.cacheable compiler.now (parsed_of parsed) cwd.now view.now)) }
-    ensures parts { IfOk result (λ answer. HasParts (Ok (parsed_of parsed)) executable.now (C.environment compiler.now (pairs_of env_vars.now)) cwd.now answer) }
-    ensures read_again { IfOk result (λ answer. (line : List (List ℕ)) (directory : List ℕ) (pairs : List (List ℕ × List ℕ)) (files : Viewed) →
-        C.reading compiler.now line directory pairs files ≡ Ok (parsed_of parsed) → IfCompiled (C.is_read_again compiler.now line directory pairs files) answer) }
+) -> Mem<CompilerArguments<K>>
+    ensures answer { IfOk result (λ answer. answer_by K.command K.cacheable answer ≡ answer_with (command_by (C.command compiler.now) (parsed_of parsed)) (C.cacheable compiler.now (parsed_of parsed) cwd.now view.now)) }
+    ensures parts { IfOk result (λ answer. HasBuilt K.command executable.now (C.environment compiler.now (pairs_of env_vars.now)) cwd.now answer) }
+    ensures kept { IfOk result (λ answer. (line : List (List ℕ)) (directory : List ℕ) (pairs : List (List ℕ × List ℕ)) (files : Viewed) →
+        C.reading compiler.now line directory pairs files ≡ Ok (parsed_of parsed) →
+        HasKept K.command K.is_of (Ok (parsed_of parsed)) (C.is_read_again compiler.now line directory pairs files) answer) }
 {
-    let built = compiler.generate_compile_commands(alloc, executable, &parsed, cwd, env_vars, view);
-    match built {
-        Ok((command, cacheable)) => Ok(CompilerArguments::Ok(Compilation {
-            parsed,
-            command,
-            cacheable,
-        })),
+    match K::keep(alloc, compiler, executable, parsed, cwd, env_vars, view) {
+        Ok(kept) => Ok(CompilerArguments::Ok(kept)),
         Err(CommandError::MissingObj) => Ok(CompilerArguments::CannotCache(
             "Missing object file output",
             None,
@@ -62,23 +46,23 @@ fn answer_record<C: CCompilerImpl>(
     }
 }
 
-/// The answer of a compiler.
-fn answer_by<C: CCompilerImpl>(
+/// The answer of a compiler, to words that are handed over.
+fn answer_words<C: CCompilerImpl, K: Kept>(
     alloc: Global,
     compiler: &C,
     executable: &[u8],
-    words: &[Vec<u8>],
+    words: Vec<Vec<u8>>,
     cwd: &[u8],
     env_vars: &[(Vec<u8>, Vec<u8>)],
     view: &View,
-) -> Mem<CompilerArguments<Compilation>>
-    ensures answer { IfOk result (λ answer. answer_of answer ≡ answer_from (command_by (C.command compiler.now)) (λ parsed. C.cacheable compiler.now parsed cwd.now view.now)
-        (C.reading compiler.now (words_of words.now) cwd.now (pairs_of env_vars.now) view.now)) }
-    ensures parts { IfOk result (λ answer. HasParts (C.reading compiler.now (words_of words.now) cwd.now (pairs_of env_vars.now) view.now)
-        executable.now (C.environment compiler.now (pairs_of env_vars.now)) cwd.now answer) }
-    ensures read_again { IfOk result (λ answer. IfCompiled (C.is_read_again compiler.now (words_of words.now) cwd.now (pairs_of env_vars.now) view.now) answer) }
+) -> Mem<CompilerArguments<K>>
+    ensures answer { IfOk result (λ answer. answer_by K.command K.cacheable answer ≡ answer_from (command_by (C.command compiler.now)) (λ parsed. C.cacheable compiler.now parsed cwd.now view.now)
+        (C.reading compiler.now (words_of words.items) cwd.now (pairs_of env_vars.now) view.now)) }
+    ensures parts { IfOk result (λ answer. HasBuilt K.command executable.now (C.environment compiler.now (pairs_of env_vars.now)) cwd.now answer) }
+    ensures kept { IfOk result (λ answer. HasKept K.command K.is_of (C.reading compiler.now (words_of words.items) cwd.now (pairs_of env_vars.now) view.now)
+        (C.is_read_again compiler.now (words_of words.items) cwd.now (pairs_of env_vars.now) view.now) answer) }
 {
-    match compiler.parse_arguments(alloc, words, cwd, env_vars, view)? {
+    match compiler.parse_arguments_owned(alloc, words, cwd, env_vars, view)? {
         CompilerArguments::Ok(parsed) => {
             answer_record(alloc, compiler, executable, parsed, cwd, env_vars, view)
         }
@@ -90,6 +74,43 @@ fn answer_by<C: CCompilerImpl>(
 }
 
 impl Compiler {
+    /// What a command line, whose words are handed over, is answered.
+    fn compile<K: Kept>(
+        self,
+        alloc: Global,
+        executable: &[u8],
+        words: Vec<Vec<u8>>,
+        cwd: &[u8],
+        env_vars: &[(Vec<u8>, Vec<u8>)],
+        view: &View,
+    ) -> Mem<CompilerArguments<K>>
+        ensures answer { IfOk result (λ answer. answer_by K.command K.cacheable answer ≡ answer_to (asked self (words_of words.items) cwd.now (pairs_of env_vars.now) view.now)) }
+        ensures parts { IfOk result (λ answer. HasBuilt K.command executable.now (environment_by self (pairs_of env_vars.now)) cwd.now answer) }
+        ensures kept { IfOk result (λ answer. HasKept K.command K.is_of (reading_by self (asked self (words_of words.items) cwd.now (pairs_of env_vars.now) view.now))
+            (read_again_by self (asked self (words_of words.items) cwd.now (pairs_of env_vars.now) view.now)) answer) }
+    {
+        match self {
+            Compiler::Gcc | Compiler::Gxx => {
+                let gcc = Gcc::new(matches!(self, Compiler::Gxx));
+                answer_words(alloc, &gcc, executable, words, cwd, env_vars, view)
+            }
+            Compiler::Clang | Compiler::Clangxx => {
+                let clang = Clang::new(matches!(self, Compiler::Clangxx));
+                answer_words(alloc, &clang, executable, words, cwd, env_vars, view)
+            }
+            Compiler::Cl | Compiler::ClangCl => {
+                let cl = Msvc::new(matches!(self, Compiler::ClangCl), String::new(alloc));
+                answer_words(alloc, &cl, executable, words, cwd, env_vars, view)
+            }
+            Compiler::Diab => {
+                answer_words(alloc, &Diab::new(), executable, words, cwd, env_vars, view)
+            }
+            Compiler::Tasking => {
+                answer_words(alloc, &TaskingVX, executable, words, cwd, env_vars, view)
+            }
+        }
+    }
+
     /// What a command line is answered: the words behind the program `executable`, read in the directory `cwd`, with the
     /// environment `env_vars` and the files of `view`. All are bytes. Where the answer is a command, it is read again
     /// (docs/RULES.md, Answers, and Cutting again). It fails only for want of memory.
@@ -107,25 +128,26 @@ impl Compiler {
             executable.now (environment_by self (pairs_of env_vars.now)) cwd.now answer) }
         ensures read_again { IfOk result (λ answer. IfCompiled (read_again_by self (asked self (words_of words.now) cwd.now (pairs_of env_vars.now) view.now)) answer) }
     {
-        match self {
-            Compiler::Gcc | Compiler::Gxx => {
-                let gcc = Gcc::new(matches!(self, Compiler::Gxx));
-                answer_by(alloc, &gcc, executable, words, cwd, env_vars, view)
-            }
-            Compiler::Clang | Compiler::Clangxx => {
-                let clang = Clang::new(matches!(self, Compiler::Clangxx));
-                answer_by(alloc, &clang, executable, words, cwd, env_vars, view)
-            }
-            Compiler::Cl | Compiler::ClangCl => {
-                let cl = Msvc::new(matches!(self, Compiler::ClangCl), String::new(alloc));
-                answer_by(alloc, &cl, executable, words, cwd, env_vars, view)
-            }
-            Compiler::Diab => {
-                answer_by(alloc, &Diab::new(), executable, words, cwd, env_vars, view)
-            }
-            Compiler::Tasking => {
-                answer_by(alloc, &TaskingVX, executable, words, cwd, env_vars, view)
-            }
-        }
+        let words = copied_words(alloc, words)?;
+        self.compile(alloc, executable, words, cwd, env_vars, view)
+    }
+
+    /// What `answer` answers, to words that are handed over; what was read is made into the command, and not kept. It fails
+    /// only for want of memory.
+    pub fn command(
+        self,
+        alloc: Global,
+        executable: &[u8],
+        words: Vec<Vec<u8>>,
+        cwd: &[u8],
+        env_vars: &[(Vec<u8>, Vec<u8>)],
+        view: &View,
+    ) -> Mem<CompilerArguments<BuiltCommand>>
+        ensures answer { IfOk result (λ answer. command_answer answer ≡ answer_to (asked self (words_of words.items) cwd.now (pairs_of env_vars.now) view.now)) }
+        ensures parts { IfOk result (λ answer. HasCommand executable.now (environment_by self (pairs_of env_vars.now)) cwd.now answer) }
+        ensures read_again { IfOk result (λ answer. Keeps (read_again_by self (asked self (words_of words.items) cwd.now (pairs_of env_vars.now) view.now))
+            (reading_by self (asked self (words_of words.items) cwd.now (pairs_of env_vars.now) view.now)) (command_answer answer)) }
+    {
+        self.compile(alloc, executable, words, cwd, env_vars, view)
     }
 }

@@ -5,32 +5,42 @@ ghost use Rattle.scl_devices.specs.Counts.{one_more};
 ghost use Rattle.scl_cl.specs.Transfers.{Gave};
 ghost use Rattle.scl_cl.specs.Drafts.{asked_by};
 ghost use Rattle.scl_cl.specs.Answers.{answer_to, text_of};
+ghost use Rattle.scl_cl.specs.AnswersGiven.{command_answer};
 ghost use Rattle.scl_cl.specs.Outcomes.{IsJudged, IsSilent};
 ghost use Rattle.scl_cl.specs.Runs.{answer, IsTextReadAgain};
 
-use crate::answer::answer_text;
+use crate::answer::command_text;
 use crate::draft::Request;
+use crate::kept::BuiltCommand;
 use crate::outcome::Outcome;
 use crate::request::read_request;
 use crate::transfer::{ReadError, read_all};
 use scl_args::{Counted, write_whole};
 use scl_text::Mem;
+use scl_text::records::CompilerArguments;
 use std::alloc::Global;
 use std::io::{Read, Write};
+
+/// The answer to a request, of which nothing else is kept.
+fn answer_for(alloc: Global, request: Request) -> Mem<CompilerArguments<BuiltCommand>>
+    ensures { IfOk result (λ answer. command_answer answer ≡ answer_to (asked_by request)) }
+{
+    let Request {
+        compiler,
+        directory,
+        words,
+        environment,
+        view,
+    } = request;
+    compiler.command(alloc, b"", words, &directory, &environment, &view)
+}
 
 /// The text of the answer to a request.
 fn text_for(alloc: Global, request: Request) -> Mem<Vec<u8>>
     ensures { IfOk result (λ text. text.items ≡ text_of (answer_to (asked_by request))) }
 {
-    let answer = request.compiler.answer(
-        alloc,
-        b"",
-        &request.words,
-        &request.directory,
-        &request.environment,
-        &request.view,
-    )?;
-    answer_text(alloc, &answer)
+    let answer = answer_for(alloc, request)?;
+    command_text(alloc, &answer)
 }
 
 /// The text of the answer to the request that the bytes make, or the number of their bad line.

@@ -10,7 +10,7 @@ use std::io::Read;
 const READS: u64 = 1 << 40;
 
 /// How many bytes a read asks for.
-const BLOCK: usize = 1 << 16;
+const BLOCK: usize = 1 << 13;
 
 /// Why not all was read.
 #[derive(Drop)]

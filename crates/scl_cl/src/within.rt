@@ -9,8 +9,8 @@ ghost use Rattle.scl_cl.specs.Answers.{answer_to, environment_by, reading_by, re
 ghost use Rattle.scl_cl.specs.AnswersGiven.{answer_of, HasParts, IfCompiled};
 ghost use Rattle.scl_cl.specs.Within.{has_at_most};
 
-use crate::compile::Compilation;
 use crate::compiler::Compiler;
+use crate::kept::Compilation;
 use scl_msvc::msvc;
 use scl_text::records::CompilerArguments;
 use scl_text::{ExpansionKind, Mem, TooManyWords, View, expand_at_most};

@@ -1,5 +1,20 @@
-use Rattle.scl_cl.proofs.FieldLaws.{one_byte_on}
+use Rattle.std.proofs.Common.{sym, ap, ◌∙◌, ◌++◌}
+use Rattle.scl_cl.specs.Fields.{field_of}
+use Rattle.scl_cl.proofs.FieldLaws.{onto, field-run, one_escape_on}
 use Rattle.scl_cl.proofs.field.read_field.Goals as goal
 
+pub loop-left-init : goal.loop-left-init
+loop-left-init c = record {
+  ends = c.plain_run.ensures.ends;
+  taken =
+      ap (λ bytes. onto bytes (field_of c.plain_run.result.1.now)) (c.in_ok-extend_from_slice.ensures.items ∙ ap (λ bytes. bytes ++ c.plain_run.result.0.now) c.in_ok-bytes.ensures.items)
+      ∙ sym (field-run c.plain_run.result.0.now c.plain_run.result.1.now c.plain_run.ensures.plain) ∙ ap field_of (sym c.plain_run.ensures.whole);
+}
+
 pub loop-left-preserved : goal.loop-left-preserved
-loop-left-preserved c = rw c.in_ok-push.ensures.items (one_byte_on _ c.loop-left.left.now c.in-Some.rest.now c.in-Some.byte _ c.loop-left.invariant c.in-Some.ensures.byte)
+loop-left-preserved c = record {
+  ends = c.plain_run-in-loop-left.ensures.ends;
+  taken = rw (c.in_ok-extend_from_slice-2.ensures.items, c.in_ok-push.ensures.items) (one_escape_on c.loop-left.bytes.items c.loop-left.left.now c.in-Some.behind.now
+      c.plain_run-in-loop-left.result.0.now c.plain_run-in-loop-left.result.1.now c.in-Some.byte _
+      c.loop-left.invariant.taken c.in-Some.ensures.byte c.plain_run-in-loop-left.ensures.whole c.plain_run-in-loop-left.ensures.plain);
+}
