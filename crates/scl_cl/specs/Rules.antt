@@ -6,7 +6,7 @@ use Rattle.scl_text.specs.declared.records.Cacheable.{Cacheable}
 use Rattle.scl_cl.specs.declared.compiler.Compiler.{Compiler}
 use Rattle.scl_cl.specs.Requests.{asked}
 use Rattle.scl_cl.specs.Answers.{reading_by, command_by, environment_by, kept_by, read_again_by, runs_by}
-use Rattle.scl_cl.specs.Within.{lines_by}
+use Rattle.scl_cl.specs.Within.{command_lines_by}
 
 -- what each of its answers is; a command line is given by its words, directory, environment and files
 pub record Rules : Type 1 where
@@ -23,7 +23,7 @@ pub record Rules : Type 1 where
   -- the words of the preprocessor's runs for what was read
   pub runs : (may_dist rewrites cache_mode : Bool) → Parsed → List (List (List ℕ))
   -- the command lines in which response files are put in place, given and inner ones
-  pub lines : List (List ℕ) → List ℕ → List (List ℕ × List ℕ) → Viewed → List (List (List ℕ))
+  pub command_lines : List (List ℕ) → List ℕ → List (List ℕ × List ℕ) → Viewed → List (List (List ℕ))
 
 abbrev pub rules_of : Compiler → Rules
 rules_of compiler = record {
@@ -33,5 +33,5 @@ rules_of compiler = record {
   cacheable = λ words directory environment view. kept_by compiler (asked compiler words directory environment view);
   is_read_again = λ words directory environment view. read_again_by compiler (asked compiler words directory environment view);
   runs = runs_by compiler;
-  lines = λ words directory environment view. lines_by compiler (asked compiler words directory environment view);
+  command_lines = λ words directory environment view. command_lines_by compiler (asked compiler words directory environment view);
 }

@@ -17,7 +17,7 @@ pub trait Query: Sized {
     ghost use Rattle.std.specs.Prelude.{IfOk};
     ghost use Rattle.scl_text.specs.Commands.{command_by};
     ghost use Rattle.scl_cl.specs.Rules.{Rules};
-    ghost use Rattle.scl_cl.specs.Within.{lines_in};
+    ghost use Rattle.scl_cl.specs.Within.{command_lines_in};
 
     /// What answers it.
     type Answer;
@@ -30,7 +30,7 @@ pub trait Query: Sized {
         self,
         alloc: Global,
         compiler: &C,
-        lines: CommandLines,
+        command_lines: CommandLines,
     ) -> Mem<Self::Answer>
         ensures { IfOk result (λ answer. gives self (record {
           reading = C.reading compiler.now;
@@ -39,7 +39,7 @@ pub trait Query: Sized {
           cacheable = λ words directory environment view parsed. C.cacheable compiler.now parsed directory view;
           is_read_again = C.is_read_again compiler.now;
           runs = C.passes compiler.now;
-          lines = lines_in lines;
+          command_lines = command_lines_in command_lines;
         }) answer) };
 }
 
@@ -65,8 +65,8 @@ impl Compiler {
                 query.ask(alloc, &cl, CommandLines::Msvc { is_clang })
             }
             Compiler::Diab => {
-                let lines = CommandLines::Expanded(ExpansionKind::Diab);
-                query.ask(alloc, &Diab::new(), lines)
+                let command_lines = CommandLines::Expanded(ExpansionKind::Diab);
+                query.ask(alloc, &Diab::new(), command_lines)
             }
             Compiler::Tasking => query.ask(alloc, &TaskingVX, CommandLines::Given),
         }

@@ -70,7 +70,7 @@ impl<'a, K: Kept> Query for Compile<'a, K> {
         self,
         alloc: Global,
         compiler: &C,
-        _lines: CommandLines,
+        _command_lines: CommandLines,
     ) -> Mem<CompilerArguments<K>> {
         let Compile {
             executable,

@@ -33,7 +33,7 @@ impl<'a> Query for PreprocessRuns<'a> {
         self,
         alloc: Global,
         compiler: &C,
-        _lines: CommandLines,
+        _command_lines: CommandLines,
     ) -> Mem<Vec<Vec<Vec<u8>>>> {
         compiler.preprocess_passes(
             alloc,

@@ -48,10 +48,15 @@ impl<'a> Query for HasAtMost<'a> {
     type Answer = bool;
 
     ghost gives = { λ query rules within.
-        within ≡ are_within query.most (rules.lines (words_of query.words.now) query.cwd.now (pairs_of query.env_vars.now) query.view.now) };
+        within ≡ are_within query.most (rules.command_lines (words_of query.words.now) query.cwd.now (pairs_of query.env_vars.now) query.view.now) };
 
-    fn ask<C: CCompilerImpl>(self, alloc: Global, _compiler: &C, lines: CommandLines) -> Mem<bool> {
-        match lines {
+    fn ask<C: CCompilerImpl>(
+        self,
+        alloc: Global,
+        _compiler: &C,
+        command_lines: CommandLines,
+    ) -> Mem<bool> {
+        match command_lines {
             CommandLines::Given => Ok(self.words.len() <= self.most),
             CommandLines::Expanded(kind) => {
                 let expanded = expand_at_most(
@@ -108,11 +113,11 @@ impl Compiler {
         view: &View,
         most: usize,
     ) -> Mem<Result<CompilerArguments<Compilation>, TooManyWords>>
-        ensures within { IfOk result (λ said. let request = asked self (words_of words.now) cwd.now (pairs_of env_vars.now) view.now in
-            MatchResult said (λ answer. (has_at_most most request ≡ true) × (answer_of answer ≡ answer_to request)) (λ _. has_at_most most request ≡ false)) }
-        ensures parts { IfOk result (λ said. IfOk said (λ answer. HasParts (reading_by self (asked self (words_of words.now) cwd.now (pairs_of env_vars.now) view.now))
+        ensures within { IfOk result (λ answered. let request = asked self (words_of words.now) cwd.now (pairs_of env_vars.now) view.now in
+            MatchResult answered (λ answer. (has_at_most most request ≡ true) × (answer_of answer ≡ answer_to request)) (λ _. has_at_most most request ≡ false)) }
+        ensures parts { IfOk result (λ answered. IfOk answered (λ answer. HasParts (reading_by self (asked self (words_of words.now) cwd.now (pairs_of env_vars.now) view.now))
             executable.now (environment_by self (pairs_of env_vars.now)) cwd.now answer)) }
-        ensures read_again { IfOk result (λ said. IfOk said (λ answer. IfCompiled (read_again_by self (asked self (words_of words.now) cwd.now (pairs_of env_vars.now) view.now)) answer)) }
+        ensures read_again { IfOk result (λ answered. IfOk answered (λ answer. IfCompiled (read_again_by self (asked self (words_of words.now) cwd.now (pairs_of env_vars.now) view.now)) answer)) }
     {
         if !self.has_at_most(alloc, words, cwd, env_vars, view, most)? {
             return Ok(Err(TooManyWords));
