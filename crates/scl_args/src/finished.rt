@@ -7,9 +7,10 @@ ghost use Rattle.scl_args.specs.Sorts.{AreSortsOf, IsAmong};
 ghost use Rattle.scl_values.specs.Words.{words_of};
 ghost use Rattle.scl_args.specs.Options.{all_seen, is_behind_dashes, last_by, last_flag, last_text, texts, list};
 
-use crate::lists::{Sides, list, push_whole};
+use crate::lists::{Sides, list, push_option, push_whole};
 use crate::options::{Test, is_dashes, last_by, last_text, texts};
 use crate::sort::{Sort, is_same, sort_of};
+use scl_cutting::ShrinkingIter;
 use scl_values::{Argument, Mem, ReadArg};
 use std::alloc::Global;
 use std::marker::Model;
@@ -147,12 +148,42 @@ impl<T: ReadArg> Options<T> {
         ensures { IfOk result (λ words. words_of words.items ≡ list (S.side sides.now) (P.passes test.now) self) }
     {
         let mut words = Vec::new(alloc);
-        for option in self.options {
+        for option in ShrinkingIter::new(self.options) {
             if test.passes(&option) {
                 push_whole(alloc, &mut words, option, sides)?;
             }
         }
         Ok(words)
+    }
+
+    /// The words of two lists, as `into_list` gives them: those of the options that pass the first test, and those of the
+    /// options that pass the second. It fails only for want of memory.
+    pub fn into_two_lists<S: Sides, P: Test<T>>(
+        self,
+        alloc: Global,
+        sides: &S,
+        first: &P,
+        second: &P,
+    ) -> Mem<(Vec<Vec<u8>>, Vec<Vec<u8>>)>
+        ensures first { IfOk result (λ lists. words_of lists.0.items ≡ list (S.side sides.now) (P.passes first.now) self) }
+        ensures second { IfOk result (λ lists. words_of lists.1.items ≡ list (S.side sides.now) (P.passes second.now) self) }
+    {
+        let mut firsts = Vec::new(alloc);
+        let mut seconds = Vec::new(alloc);
+        for option in ShrinkingIter::new(self.options) {
+            let passes_second = second.passes(&option);
+            if !first.passes(&option) {
+                if passes_second {
+                    push_whole(alloc, &mut seconds, option, sides)?;
+                }
+                continue;
+            }
+            if passes_second {
+                push_option(alloc, &mut seconds, &option, sides)?;
+            }
+            push_whole(alloc, &mut firsts, option, sides)?;
+        }
+        Ok((firsts, seconds))
     }
 
     /// Whether a raw word `--` stands before any of the options that the test takes for inputs (docs/RULES.md, Readings).

@@ -24,4 +24,4 @@ pub use scl_values::{
     split_os_string_arg, without_value,
 };
 pub use sort::{Sort, sort_of};
-pub use wrapped::{WrappedApart, WrappedJoined, Wrapper, push_wrapped};
+pub use wrapped::{WrappedApart, WrappedJoined, Wrapper};
