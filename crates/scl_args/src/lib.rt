@@ -7,7 +7,6 @@ mod judge;
 pub mod laws;
 mod lists;
 mod options;
-mod sort;
 mod wrapped;
 
 pub use finished::Options;
@@ -23,5 +22,4 @@ pub use scl_values::{
     IntoArg, Iter, IterStrings, Mem, NormalizedDisposition, PathArg, ReadArg, quoted, quoted_list,
     split_os_string_arg, without_value,
 };
-pub use sort::{Sort, sort_of};
 pub use wrapped::{WrappedApart, WrappedJoined, Wrapper};

@@ -2,10 +2,7 @@
 use Rattle.std.specs.Prelude.{ℕ, Bool, false, List, Option, None, Some, Result, codes, if◌then◌else◌}
 use Rattle.std.specs.List.{flat_map}
 use Rattle.std.specs.Str.{bytes_eq}
-use Rattle.scl_args.specs.declared.sort.Sort.{Sort}
-use Rattle.scl_args.specs.declared.sort.Sort.TheVariants as sort
 use Rattle.scl_args.specs.Options.{last, list, side_of_flag}
-use Rattle.scl_args.specs.Sorts.{sort_of}
 use Rattle.scl_values.specs.Seen.{Seen, Raw, Unknown, Known, flag_of}
 use Rattle.scl_args.specs.Wrapped.{wrapped_apart}
 use Rattle.scl_files.specs.declared.expand.ExpansionKind.TheVariants as expansions
@@ -59,16 +56,13 @@ inner_place kind.ClangModuleOutput = places.Refused
 inner_place kind.IntegratedAs = places.Refused
 inner_place kind.NoIntegratedAs = places.Refused
 
-abbrev pub inner_place_of_sort : Sort Kind → Place
-inner_place_of_sort sort.Raw = places.Common
-inner_place_of_sort sort.Unknown = places.Refused
-inner_place_of_sort (sort.Known k) = inner_place k
-
-abbrev pub sort_goes_inside_to : Place → Sort Kind → Bool
-sort_goes_inside_to there s = ghosts.eq (inner_place_of_sort s) there
+abbrev pub inner_place_of : Seen Kind → Place
+inner_place_of (Raw w) = places.Common
+inner_place_of (Unknown w) = places.Refused
+inner_place_of (Known f k v how) = inner_place k
 
 abbrev pub goes_inside_to : Place → Seen Kind → Bool
-goes_inside_to there o = sort_goes_inside_to there (sort_of o)
+goes_inside_to there o = ghosts.eq (inner_place_of o) there
 
 -- the words of the inner options that go there, in order, each on the side of its flag, and each word behind `-Xclang`
 abbrev pub inner_words_at : Place → List (Seen Kind) → List (List ℕ)

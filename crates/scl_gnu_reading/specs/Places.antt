@@ -1,10 +1,7 @@
 -- Where the words of options go.
 use Rattle.std.specs.Prelude.{ℕ, Bool, List}
-use Rattle.scl_values.specs.Seen.{Seen}
-use Rattle.scl_args.specs.declared.sort.Sort.{Sort}
-use Rattle.scl_args.specs.declared.sort.Sort.TheVariants as sort
+use Rattle.scl_values.specs.Seen.{Seen, Raw, Unknown, Known}
 use Rattle.scl_args.specs.Options.{list, side_of_flag}
-use Rattle.scl_args.specs.Sorts.{sort_of}
 use Rattle.scl_gnu_reading.specs.declared.gcc.data.Kind.{Kind}
 use Rattle.scl_gnu_reading.specs.declared.gcc.data.Kind.TheVariants as kind
 use Rattle.scl_gnu_reading.specs.contracts.gcc.place.PlacePartialEq.TheImpl.{ghosts}
@@ -48,16 +45,13 @@ place kind.ClangModuleOutput = places.Common
 place kind.IntegratedAs = places.Common
 place kind.NoIntegratedAs = places.Common
 
-abbrev pub place_of_sort : Sort Kind → Place
-place_of_sort sort.Raw = places.Nowhere
-place_of_sort sort.Unknown = places.Common
-place_of_sort (sort.Known k) = place k
-
-abbrev pub sort_goes_to : Place → Sort Kind → Bool
-sort_goes_to there s = ghosts.eq (place_of_sort s) there
+abbrev pub place_of : Seen Kind → Place
+place_of (Raw w) = places.Nowhere
+place_of (Unknown w) = places.Common
+place_of (Known f k v how) = place k
 
 abbrev pub goes_to : Place → Seen Kind → Bool
-goes_to there o = sort_goes_to there (sort_of o)
+goes_to there o = ghosts.eq (place_of o) there
 
 -- the words of the options that go there, in order, each on the side of its flag
 abbrev pub words_at : Place → List (Seen Kind) → List (List ℕ)

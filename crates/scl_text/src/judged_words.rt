@@ -26,7 +26,7 @@ fn finish<T: ReadArg, S: SearchableArgInfo<T>, J: Judge<T>>(
         ≡ judged (refusing_empty (owner_in (S.tables arg_info.now)) J.empty (J.verdict judge.now)) J.dangling (map (seen T.kind_of T.word_of) cut.options.items) cut.is_dangling) }
 {
     match judge_all(alloc, judge, arg_info, cut)? {
-        Ok(options) => Ok(Ok(Options::new(alloc, options)?)),
+        Ok(options) => Ok(Ok(Options::new(options))),
         Err(refusal) => Ok(Err(refusal)),
     }
 }

@@ -32,7 +32,7 @@ pub fn read_inner<J: Judge<ArgData>>(
         ≡ inner_reading J.empty (J.verdict judge.now) J.dangling cwd.now view.now (words_of words.items)) }
 {
     if words.as_slice().is_empty() {
-        return Ok(Ok(Options::new(alloc, Vec::new(alloc))?));
+        return Ok(Ok(Options::new(Vec::new(alloc))));
     }
     judge_words(
         alloc,

@@ -151,10 +151,6 @@ impl ReadArg for ArgData {
         }
     }
 
-    fn is_same_kind(kind: Kind, other: Kind) -> bool {
-        kind == other
-    }
-
     fn held(&self) -> Held<'_> {
         match self {
             ArgData::TooHardFlag

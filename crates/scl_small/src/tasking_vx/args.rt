@@ -78,10 +78,6 @@ impl ReadArg for ArgData {
         }
     }
 
-    fn is_same_kind(kind: Kind, other: Kind) -> bool {
-        kind == other
-    }
-
     fn held(&self) -> Held<'_> {
         match self {
             ArgData::TooHardFlag | ArgData::NotCompilationFlag | ArgData::DoCompilation =>
