@@ -3,14 +3,13 @@
 
 mod empties;
 mod finished;
-mod judge;
 pub mod laws;
 mod lists;
 mod options;
 mod wrapped;
 
+pub use empties::has_empty_value;
 pub use finished::Options;
-pub use judge::{Judge, judge_all};
 pub use lists::{ShortFlagsJoined, Sides};
 pub use options::{OfKinds, Test, is_dashes, last_option, last_text, names_file, texts};
 pub use scl_cutting::{ArgsIter, CutWords, cut_options, cut_words};

@@ -87,5 +87,5 @@ inner_verdict before (Known f k v how) = flag_verdict (inner_place k) f
 -- ---- readings
 
 -- the options of an inner command line: words cut by Clang's tables, whatever tables cut the outer ones, without `--`, and judged, empty values first
-abbrev pub inner_reading : {V : Type 0} → V → (List (Seen Kind) → Seen Kind → Option V) → V → List ℕ → Viewed → List (List ℕ) → Result (List (Seen Kind)) V
-inner_reading empty verdict dangling directory view words = judged_words expansions.Gnu empty verdict dangling clang_tables false directory view words
+abbrev pub inner_reading : (List (Seen Kind) → Seen Kind → Option Verdict) → List ℕ → Viewed → List (List ℕ) → Result (List (Seen Kind)) Verdict
+inner_reading verdict directory view words = judged_words expansions.Gnu verdict clang_tables false directory view words

@@ -1,5 +1,5 @@
 use Rattle.std.proofs.Common.{rules}
-use Rattle.scl_gnu_reading.proofs.gcc.parse.judged.Goals as goal
+use Rattle.scl_gnu_reading.proofs.gcc.parse.judge_line.Goals as goal
 
 pub returns : goal.returns
 returns g c =
