@@ -4,9 +4,12 @@ use Rattle.scl_files.specs.declared.expand.ExpansionKind.{ExpansionKind}
 use Rattle.scl_files.specs.declared.expand.ExpansionKind.TheVariants as expansions
 use Rattle.scl_files.specs.Expand.{expand}
 use Rattle.scl_files.specs.Within.{are_within}
+use Rattle.scl_files.specs.Views.{Viewed}
 use Rattle.scl_msvc.specs.Within as msvc
 use Rattle.scl_cl.specs.declared.compiler.Compiler.{Compiler}
 use Rattle.scl_cl.specs.declared.compiler.Compiler.TheVariants as compilers
+use Rattle.scl_cl.specs.declared.within.CommandLines.{CommandLines}
+use Rattle.scl_cl.specs.declared.within.CommandLines.TheVariants as command_lines
 use Rattle.scl_cl.specs.Requests.{Request}
 
 -- the words of the request, with response files of the kind put in place
@@ -30,3 +33,9 @@ lines_by compilers.Tasking request = request.words ∷ []
 -- whether each of them has at most so many words
 abbrev pub has_at_most : ℕ → Request → Bool
 has_at_most most request = are_within most (lines_by request.compiler request)
+
+-- the command lines of a kind, of words, directory, environment and files
+abbrev pub lines_in : CommandLines → List (List ℕ) → List ℕ → List (List ℕ × List ℕ) → Viewed → List (List (List ℕ))
+lines_in command_lines.Given words directory environment view = words ∷ []
+lines_in (command_lines.Expanded kind) words directory environment view = expand kind directory view.files words ∷ []
+lines_in (command_lines.Msvc is_clang) words directory environment view = msvc.command_lines is_clang directory environment view words

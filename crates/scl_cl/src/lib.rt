@@ -4,6 +4,7 @@
 #![tactic(auto)]
 
 mod answer;
+mod ask;
 mod compile;
 mod compiler;
 mod cut;
@@ -16,10 +17,12 @@ mod line;
 mod outcome;
 mod program;
 mod request;
+mod runs;
 mod transfer;
 mod within;
 
 pub use answer::{answer_text, command_text};
+pub use ask::Query;
 pub use compiler::Compiler;
 pub use draft::Request;
 pub use kept::{BuiltCommand, Compilation};
@@ -38,3 +41,4 @@ pub use scl_text::records::{
     ParsedArguments, SingleCompileCommand,
 };
 pub use scl_text::{CCompilerImpl, Mem, TooManyWords, View, path};
+pub use within::CommandLines;
