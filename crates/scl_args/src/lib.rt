@@ -19,6 +19,6 @@ pub use scl_values::{
     ArgDisposition, ArgInfo, ArgParseError, ArgParseResult, ArgRow, ArgToStringError,
     ArgToStringResult, Argument, ArgumentValue, Delimiter, Escaped, ExactArg, FromArg, Held,
     IntoArg, Iter, IterStrings, Mem, NormalizedDisposition, PathArg, ReadArg, quoted, quoted_list,
-    split_os_string_arg, without_value,
+    shapes, split_os_string_arg, without_value,
 };
 pub use wrapped::{WrappedApart, WrappedJoined, Wrapper};

@@ -10,51 +10,17 @@ use Rattle.scl_text.specs.Records.{Verdict}
 use Rattle.scl_text.specs.JudgedWords.{judged_words}
 use Rattle.scl_files.specs.Views.{Viewed}
 use Rattle.scl_gnu_reading.specs.declared.gcc.data.Kind.{Kind}
-use Rattle.scl_gnu_reading.specs.declared.gcc.data.Kind.TheVariants as kind
 use Rattle.scl_gnu_reading.specs.contracts.gcc.place.PlacePartialEq.TheImpl.{ghosts}
 use Rattle.scl_gnu_reading.specs.declared.gcc.place.Place.{Place}
 use Rattle.scl_gnu_reading.specs.declared.gcc.place.Place.TheVariants as places
 use Rattle.scl_gnu_reading.specs.ClangRows.{clang_tables}
+use Rattle.scl_gnu_reading.specs.Places.{places_of}
 use Rattle.scl_gnu_reading.specs.Verdicts.{refusal, flag_verdict}
 
 -- ---- places
 
 abbrev pub inner_place : Kind → Place
-inner_place kind.TooHardFlag = places.Refused
-inner_place kind.TooHard = places.Refused
-inner_place kind.DiagnosticsColor = places.Common
-inner_place kind.DiagnosticsColorFlag = places.Common
-inner_place kind.NoDiagnosticsColorFlag = places.Common
-inner_place kind.Arch = places.Common
-inner_place kind.Coverage = places.Refused
-inner_place kind.TestCoverage = places.Refused
-inner_place kind.DepArgumentPath = places.Dependency
-inner_place kind.DepTarget = places.Dependency
-inner_place kind.NeedDepTarget = places.Dependency
-inner_place kind.DoCompilation = places.Refused
-inner_place kind.ExtraHashFile = places.Common
-inner_place kind.ExtraHashFileClangModuleFile = places.Common
-inner_place kind.Language = places.Refused
-inner_place kind.SplitDwarf = places.Refused
-inner_place kind.Output = places.Refused
-inner_place kind.PassThrough = places.Common
-inner_place kind.PassThroughFlag = places.Common
-inner_place kind.PassThroughPath = places.Common
-inner_place kind.PreprocessorArgument = places.Preprocessor
-inner_place kind.PreprocessorArgumentFlag = places.Preprocessor
-inner_place kind.PreprocessorArgumentPath = places.Preprocessor
-inner_place kind.ProfileGenerate = places.Refused
-inner_place kind.ClangProfileUse = places.Refused
-inner_place kind.SerializeDiagnostics = places.Common
-inner_place kind.UnhashedFlag = places.Unhashed
-inner_place kind.Unhashed = places.Unhashed
-inner_place kind.PedanticFlag = places.Refused
-inner_place kind.Standard = places.Refused
-inner_place kind.XClang = places.Refused
-inner_place kind.ModuleOnlyFlag = places.Refused
-inner_place kind.ClangModuleOutput = places.Refused
-inner_place kind.IntegratedAs = places.Refused
-inner_place kind.NoIntegratedAs = places.Refused
+inner_place k = (places_of k).1
 
 abbrev pub inner_place_of : Seen Kind → Place
 inner_place_of (Raw w) = places.Common

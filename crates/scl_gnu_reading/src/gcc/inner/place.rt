@@ -5,50 +5,14 @@ ghost use Rattle.scl_gnu_reading.specs.Data.{kind_of, word_of};
 ghost use Rattle.scl_gnu_reading.specs.Inners.{inner_place, inner_place_of};
 
 use crate::gcc::data::{ArgData, Kind};
-use crate::gcc::place::Place;
+use crate::gcc::place::{Place, places_of_kind};
 use scl_args::{Argument, ReadArg, Test};
 
 /// Where the words of an inner option of the kind go.
 pub(crate) fn inner_place_of_kind(kind: Kind) -> Place
     ensures { result ≡ inner_place kind }
 {
-    match kind {
-        Kind::TooHardFlag => Place::Refused,
-        Kind::TooHard => Place::Refused,
-        Kind::DiagnosticsColor => Place::Common,
-        Kind::DiagnosticsColorFlag => Place::Common,
-        Kind::NoDiagnosticsColorFlag => Place::Common,
-        Kind::Arch => Place::Common,
-        Kind::Coverage => Place::Refused,
-        Kind::TestCoverage => Place::Refused,
-        Kind::DepArgumentPath => Place::Dependency,
-        Kind::DepTarget => Place::Dependency,
-        Kind::NeedDepTarget => Place::Dependency,
-        Kind::DoCompilation => Place::Refused,
-        Kind::ExtraHashFile => Place::Common,
-        Kind::ExtraHashFileClangModuleFile => Place::Common,
-        Kind::Language => Place::Refused,
-        Kind::SplitDwarf => Place::Refused,
-        Kind::Output => Place::Refused,
-        Kind::PassThrough => Place::Common,
-        Kind::PassThroughFlag => Place::Common,
-        Kind::PassThroughPath => Place::Common,
-        Kind::PreprocessorArgument => Place::Preprocessor,
-        Kind::PreprocessorArgumentFlag => Place::Preprocessor,
-        Kind::PreprocessorArgumentPath => Place::Preprocessor,
-        Kind::ProfileGenerate => Place::Refused,
-        Kind::ClangProfileUse => Place::Refused,
-        Kind::SerializeDiagnostics => Place::Common,
-        Kind::UnhashedFlag => Place::Unhashed,
-        Kind::Unhashed => Place::Unhashed,
-        Kind::PedanticFlag => Place::Refused,
-        Kind::Standard => Place::Refused,
-        Kind::XClang => Place::Refused,
-        Kind::ModuleOnlyFlag => Place::Refused,
-        Kind::ClangModuleOutput => Place::Refused,
-        Kind::IntegratedAs => Place::Refused,
-        Kind::NoIntegratedAs => Place::Refused,
-    }
+    places_of_kind(kind).1
 }
 
 /// Where the words of the inner option go: a word that is no option to the common words; an unknown flag is refused.
