@@ -17,3 +17,4 @@ pub mod PathMapLemmas
 pub mod SamePath
 pub mod StepLemmas
 pub mod ViewLemmas
+pub mod WantedLaws
