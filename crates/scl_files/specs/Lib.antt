@@ -17,3 +17,4 @@ pub mod GnuReader
 pub mod MsvcReader
 pub mod PathEntries
 pub mod PathMaps
+pub mod PathTrees
