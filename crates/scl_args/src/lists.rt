@@ -63,7 +63,7 @@ fn push_value<T: ReadArg>(
 
 /// Puts the words of the option, on the side of its flag, behind others. It fails only for want of memory, and the first of
 /// two words may then stand there.
-fn push_option<T: ReadArg, S: Sides>(
+pub(crate) fn push_option<T: ReadArg, S: Sides>(
     alloc: Global,
     words: &mut Vec<Vec<u8>>,
     option: &Argument<T>,

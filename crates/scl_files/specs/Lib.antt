@@ -9,6 +9,7 @@ pub mod MsvcText
 pub mod Paths
 pub mod ResponseFiles
 pub mod Views
+pub mod Wanted
 pub mod Within
 pub mod WordsToCome
 -- What only contracts of private functions cite: how the code keeps and reads what those above speak of.
@@ -17,3 +18,4 @@ pub mod GnuReader
 pub mod MsvcReader
 pub mod PathEntries
 pub mod PathMaps
+pub mod PathTrees

@@ -11,7 +11,7 @@ use std::alloc::Global;
 
 mod engine;
 mod iterators;
-mod response_file;
+pub(crate) mod response_file;
 
 use iterators::Expand;
 pub use iterators::{ExpandAtArgs, GnuExpand, MsvcExpand};

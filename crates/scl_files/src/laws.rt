@@ -5,6 +5,7 @@ ghost use Rattle.scl_files.specs.GnuText.{TextsHavePieces, TextsHaveNoOtherPiece
 ghost use Rattle.scl_files.specs.MsvcText.{OnlyQuotesGiveEmptyArguments, QuotedWordsAreReadBack};
 ghost use Rattle.scl_files.specs.DiabText.{PlainWordsAreReadBack};
 ghost use Rattle.scl_files.specs.Decoding.{Utf8FilesAreReadBack, Utf16FilesAreReadBack};
+ghost use Rattle.scl_files.specs.Wanted.{WantedFilesDecide};
 ghost use Rattle.scl_files.specs.ExpansionLaws.{WordsAreExpandedOneByOne, WordsOfMsvcFilesStand, AbsentFilesLeaveTheirWords, UnreadableFilesLeaveTheirWords, OpenFilesAreAbsentInside, PlainWordsStand, EachFileIsOpenOnce};
 
 /// Laws of paths (docs/RULES.md, Paths):
@@ -76,4 +77,13 @@ pub fn of_expansion()
     ensures open_files_are_absent_inside { OpenFilesAreAbsentInside }
     ensures plain_words_stand { PlainWordsStand }
     ensures each_file_is_open_once { EachFileIsOpenOnce }
+{}
+
+/// Laws of the files that words ask for (docs/RULES.md, Expansion):
+///
+/// - `wanted_files_decide`: where the disk has the files of a view, with the same bytes, and none of those that are wanted
+///   besides, the words on the disk are the words in the view. So a caller that looks for each wanted file on the disk, and
+///   hands in those that are there, until none is found, has the words that the whole disk would give.
+pub fn of_wanted_files()
+    ensures wanted_files_decide { WantedFilesDecide }
 {}

@@ -10,6 +10,7 @@ mod msvc_text;
 pub mod path;
 mod path_map;
 pub mod view;
+mod wanted;
 
 pub use decode::{from_local_codepage, read_text};
 pub use diab_text::split_diab;
@@ -21,3 +22,4 @@ pub use gnu_text::split_gnu_response_file_args;
 pub use msvc_text::{SplitMsvcResponseFileArgs, msvc_words};
 pub use scl_values::Mem;
 pub use view::View;
+pub use wanted::{wanted_by, wanted_files};

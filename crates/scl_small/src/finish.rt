@@ -61,8 +61,12 @@ fn record_of<T: Placed>(
     let depfile = dependency_path(alloc, options.last_text(&Place::DepFile), &input)?;
     let outputs = outputs_of(alloc, object)?;
     let dependency_args = options.list(alloc, &ShortFlagsJoined, &Place::Dependency)?;
-    let preprocessor_args = options.list(alloc, &ShortFlagsJoined, &Place::Preprocessor)?;
-    let common_args = options.into_list(alloc, &ShortFlagsJoined, &Place::Common)?;
+    let (preprocessor_args, common_args) = options.into_two_lists(
+        alloc,
+        &ShortFlagsJoined,
+        &Place::Preprocessor,
+        &Place::Common,
+    )?;
     let flag = Vec::from_slice(alloc, flag.as_bytes())?;
     Ok(ParsedArguments {
         depfile,

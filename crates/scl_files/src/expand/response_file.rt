@@ -32,7 +32,7 @@ pub(super) fn file_name_in(kind: ExpansionKind, word: &[u8]) -> Option<&[u8]>
 
 /// The path of the file that a word names, from the directory.
 #[tactic(auto, unfolding(crate::specs::ResponseFiles::named))]
-pub(super) fn named(
+pub(crate) fn named(
     alloc: Global,
     kind: ExpansionKind,
     directory: &[u8],

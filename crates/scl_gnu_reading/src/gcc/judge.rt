@@ -12,10 +12,10 @@ ghost use Rattle.scl_gnu_reading.specs.Kinds.{of};
 use super::data::{ArgData, Kind};
 use super::place::{Place, place_of_kind};
 use scl_args::{Argument, Escaped, Mem, OfKinds, ReadArg, last_text, names_file};
-use scl_text::Refuses;
+use scl_text::Judge;
 use scl_text::language::Language;
 use scl_text::reasons::UNEXPANDED_FILE;
-use scl_text::refusal::Refusal;
+use scl_text::refusal::{Refusal, cannot_cache};
 use std::alloc::Global;
 
 /// The refusal of an option by its flag, where its place is that of refused ones.
@@ -23,7 +23,7 @@ pub(crate) fn judged_flag(place: Place, flag: &'static str) -> Option<Refusal>
     ensures { option_map verdict_of result ≡ flag_verdict place flag.now }
 {
     match place {
-        Place::Refused => Some(Refusal::CannotCache(flag, None)),
+        Place::Refused => Some(cannot_cache(flag)),
         Place::Common
         | Place::Unhashed
         | Place::Arch
@@ -50,7 +50,7 @@ fn judged_language(text: &[u8]) -> Option<Refusal>
 {
     match Language::from_gcc_arg(text) {
         Some(_) => None,
-        None => Some(Refusal::CannotCache("-x", None)),
+        None => Some(cannot_cache("-x")),
     }
 }
 
@@ -108,19 +108,19 @@ pub(crate) struct ByVerdict {
     pub(crate) multiarch: bool,
 }
 
-impl Refuses<ArgData> for ByVerdict {
+impl Judge<ArgData> for ByVerdict {
     ghost use Rattle.scl_gnu_reading.specs.Verdicts.{verdict};
 
     ghost verdict = { λ judge. verdict judge.multiarch };
 
-    fn refusal(
+    fn judge(
         &self,
         alloc: Global,
         before: &[Argument<ArgData>],
         option: &Argument<ArgData>,
     ) -> Mem<Option<Refusal>> {
         if names_file(option) {
-            return Ok(Some(Refusal::CannotCache(UNEXPANDED_FILE, None)));
+            return Ok(Some(cannot_cache(UNEXPANDED_FILE)));
         }
         match option {
             Argument::Raw(_) | Argument::UnknownFlag(_) => Ok(None),

@@ -16,6 +16,7 @@ use scl_text::records::{
     CCompilerKind, Cacheable, CommandError, CompilerArguments, ParsedArguments,
     SingleCompileCommand,
 };
+use scl_text::stop::into_answer;
 use scl_text::view::View;
 use std::alloc::Global;
 
@@ -57,9 +58,9 @@ fn parse_surrounded(
 ) -> Mem<CompilerArguments<ParsedArguments>>
     ensures { IfOk result (λ answer. outcome_of answer ≡ surrounded_reading is_clang cwd.now (pairs_of env_vars.now) view.now (words_of arguments.items)) }
 {
-    match surrounded(alloc, arguments, env_vars)? {
+    match surrounded(alloc, arguments, env_vars) {
         Ok(words) => parse_arguments_owned(alloc, words, cwd, is_clang, view),
-        Err(refusal) => Ok(refusal.into_answer()),
+        Err(stop) => into_answer(Err(stop)),
     }
 }
 

@@ -10,9 +10,9 @@ ghost use Rattle.scl_msvc_reading.specs.Verdicts.{flag_verdict, known_verdict, v
 use super::data::ArgData;
 use super::place::{Place, place_of_kind};
 use scl_args::{Argument, Mem, ReadArg};
-use scl_text::Refuses;
+use scl_text::Judge;
 use scl_text::reasons::NO_INPUT_FILE;
-use scl_text::refusal::Refusal;
+use scl_text::refusal::{Refusal, cannot_cache};
 use std::alloc::Global;
 
 /// The refusal for this reason, where there is one.
@@ -20,7 +20,7 @@ pub(crate) fn refused_if(is_refused: bool, reason: &'static str) -> Option<Refus
     ensures { option_map verdict_of result ≡ then_some is_refused (CannotCache reason.now) }
 {
     if is_refused {
-        Some(Refusal::CannotCache(reason, None))
+        Some(cannot_cache(reason))
     } else {
         None
     }
@@ -31,7 +31,7 @@ pub(crate) fn judged_flag(place: Place, flag: &'static str) -> Option<Refusal>
     ensures { option_map verdict_of result ≡ flag_verdict place flag.now }
 {
     match place {
-        Place::Refused => Some(Refusal::CannotCache(flag, None)),
+        Place::Refused => Some(cannot_cache(flag)),
         Place::Common
         | Place::Unhashed
         | Place::Preprocessor
@@ -78,12 +78,12 @@ pub(crate) struct ByVerdict {
     pub(crate) is_clang: bool,
 }
 
-impl Refuses<ArgData> for ByVerdict {
+impl Judge<ArgData> for ByVerdict {
     ghost use Rattle.scl_msvc_reading.specs.Verdicts.{verdict};
 
     ghost verdict = { λ judge. verdict judge.is_clang };
 
-    fn refusal(
+    fn judge(
         &self,
         _alloc: Global,
         _before: &[Argument<ArgData>],

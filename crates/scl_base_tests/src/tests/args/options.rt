@@ -18,7 +18,7 @@ fn options(alloc: Global, double_dashes: bool) -> Result<Vec<Argument<Value>>, F
 
 #[test]
 fn filters_give_what_passes(rt: HostRuntime) -> Result<(), Fail> {
-    let options = Options::new(rt.alloc(), options(rt.alloc(), false)?)?;
+    let options = Options::new(options(rt.alloc(), false)?);
     let (valued, none) = (OfKinds(&[Kind::Valued]), OfKinds(&[]));
     assert!(rt; options.last_flag(&valued) == Some("-hoge"));
     assert!(rt; options.last_text(&valued) == Some(b"@c".as_slice()));
@@ -43,7 +43,7 @@ fn filters_give_what_passes(rt: HostRuntime) -> Result<(), Fail> {
 
 #[test]
 fn of_no_options_none_passes(rt: HostRuntime) -> Result<(), Fail> {
-    let options = Options::<Value>::new(rt.alloc(), Vec::new(rt.alloc()))?;
+    let options = Options::<Value>::new(Vec::new(rt.alloc()));
     let all = OfKinds(&[Kind::Alone, Kind::Valued]);
     assert!(rt; options.last_by(&all).is_none());
     assert!(rt; !options.any(&all));

@@ -65,10 +65,6 @@ impl ReadArg for Value {
         self.kind
     }
 
-    fn is_same_kind(kind: Kind, other: Kind) -> bool {
-        kind == other
-    }
-
     fn held(&self) -> Held<'_> {
         Held::Word(&self.word)
     }

@@ -12,7 +12,7 @@ use super::place::inner_place_of_kind;
 use crate::gcc::data::ArgData;
 use crate::gcc::judge::judged_flag;
 use scl_args::{Argument, Mem, ReadArg, last_option};
-use scl_text::Refuses;
+use scl_text::Judge;
 use scl_text::refusal::Refusal;
 use std::alloc::Global;
 
@@ -48,12 +48,12 @@ fn judged_raw(alloc: Global, is_taken: bool, word: &[u8]) -> Mem<Option<Refusal>
 #[derive(Clone, Copy)]
 pub(crate) struct ByInnerVerdict;
 
-impl Refuses<ArgData> for ByInnerVerdict {
+impl Judge<ArgData> for ByInnerVerdict {
     ghost use Rattle.scl_gnu_reading.specs.Inners.{inner_verdict};
 
     ghost verdict = { λ _. inner_verdict };
 
-    fn refusal(
+    fn judge(
         &self,
         alloc: Global,
         before: &[Argument<ArgData>],
