@@ -10,6 +10,6 @@ pub mod AnswersGiven
 pub mod Rules
 pub mod Transfers
 pub mod Written
-pub mod Runs
+pub mod Program
 pub mod Within
 pub mod Outcomes

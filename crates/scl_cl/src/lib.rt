@@ -13,11 +13,11 @@ mod field;
 mod kept;
 mod keyword;
 pub mod laws;
-mod line;
 mod outcome;
 mod program;
 mod request;
 mod runs;
+mod saying;
 mod transfer;
 mod within;
 

@@ -7,7 +7,7 @@ ghost use Rattle.scl_msvc.specs.Environment.{surrounded_reading};
 
 use super::command::generate_compile_commands_owned;
 use super::environment::surrounded;
-use super::preprocess::passes;
+use super::preprocess::runs;
 use scl_args::Mem;
 use scl_msvc_reading::msvc::parse_arguments_owned;
 use scl_text::CCompilerImpl;
@@ -71,7 +71,7 @@ impl CCompilerImpl for Msvc {
     ghost use Rattle.scl_text.specs.declared.records.CCompilerKind.TheVariants as compilers;
     ghost use Rattle.scl_msvc.specs.Building.{command_words, cacheable};
     ghost use Rattle.scl_msvc.specs.Environment.{without_cl_env_vars};
-    ghost use Rattle.scl_msvc.specs.Preprocess.{passes};
+    ghost use Rattle.scl_msvc.specs.Preprocess.{runs};
     ghost use Rattle.scl_msvc.specs.Promises.{MsvcReadsAgain};
     ghost use Rattle.scl_msvc.specs.Environment.{surrounded_reading};
 
@@ -93,7 +93,7 @@ impl CCompilerImpl for Msvc {
 
     ghost is_read_again = { λ msvc words directory env_vars view. MsvcReadsAgain msvc.is_clang directory env_vars view words };
 
-    ghost passes = { λ msvc may_dist rewrites _. passes msvc.is_clang may_dist rewrites };
+    ghost passes = { λ msvc may_dist rewrites _. runs msvc.is_clang may_dist rewrites };
 
     fn kind(&self) -> CCompilerKind {
         CCompilerKind::Msvc
@@ -142,7 +142,7 @@ impl CCompilerImpl for Msvc {
         rewrite_includes_only: bool,
         _cache_mode: bool,
     ) -> Mem<Vec<Vec<Vec<u8>>>> {
-        passes(
+        runs(
             alloc,
             parsed,
             self.is_clang,

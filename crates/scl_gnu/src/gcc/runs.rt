@@ -1,7 +1,7 @@
 //! The runs of the preprocessor for several architectures, made one.
 ghost use Rattle.std.specs.Prelude.{◌≡◌, ◌++◌, not, find, IfOk, OnOk};
 ghost use Rattle.std.specs.Option.{option_map};
-ghost use Rattle.scl_gnu.specs.Passes.{pass_of, passes_of, output_of, succeeded, ended, line_feeds, header, section, sections, errors, join_passes};
+ghost use Rattle.scl_gnu.specs.Runs.{arch_output, arch_outputs, output_of, succeeded, ended, line_feeds, header, section, sections, errors, join_passes};
 
 use scl_args::Mem;
 use scl_text::records::PassOutput;
@@ -52,34 +52,34 @@ fn push_section(alloc: Global, made: &mut Vec<u8>, arch: &[u8], text: &[u8]) -> 
 }
 
 /// The outputs of the runs, one behind another.
-fn sections(alloc: Global, passes: &[(Vec<u8>, PassOutput)]) -> Mem<Vec<u8>>
-    ensures { IfOk result (λ made. made.items ≡ sections (passes_of passes.now)) }
+fn sections(alloc: Global, runs: &[(Vec<u8>, PassOutput)]) -> Mem<Vec<u8>>
+    ensures { IfOk result (λ made. made.items ≡ sections (arch_outputs runs.now)) }
 {
     let mut made = Vec::new(alloc);
-    for (arch, output) in passes {
+    for (arch, output) in runs {
         push_section(alloc, &mut made, arch, &output.stdout)?;
     }
     Ok(made)
 }
 
 /// The error outputs of all runs.
-fn errors(alloc: Global, passes: &[(Vec<u8>, PassOutput)]) -> Mem<Vec<u8>>
-    ensures { IfOk result (λ made. made.items ≡ errors (passes_of passes.now)) }
+fn errors(alloc: Global, runs: &[(Vec<u8>, PassOutput)]) -> Mem<Vec<u8>>
+    ensures { IfOk result (λ made. made.items ≡ errors (arch_outputs runs.now)) }
 {
     let mut made = Vec::new(alloc);
-    for (_, output) in passes {
+    for (_, output) in runs {
         made.extend_from_slice(&output.stderr)?;
     }
     Ok(made)
 }
 
 /// The first run that failed.
-fn first_failed(passes: &[(Vec<u8>, PassOutput)]) -> Option<&(Vec<u8>, PassOutput)>
-    ensures { option_map (λ pass. pass_of pass.now) result ≡ find (λ pass. not (succeeded pass)) (passes_of passes.now) }
+fn first_failed(runs: &[(Vec<u8>, PassOutput)]) -> Option<&(Vec<u8>, PassOutput)>
+    ensures { option_map (λ run. arch_output run.now) result ≡ find (λ run. not (succeeded run)) (arch_outputs runs.now) }
 {
-    for pass in passes {
-        if pass.1.status != 0 {
-            return Some(pass);
+    for run in runs {
+        if run.1.status != 0 {
+            return Some(run);
         }
     }
     None
@@ -88,11 +88,11 @@ fn first_failed(passes: &[(Vec<u8>, PassOutput)]) -> Option<&(Vec<u8>, PassOutpu
 /// The runs of the preprocessor for several architectures, made one: the outputs in order, each under a line that names
 /// its architecture; or, where a run failed, the first that did; with all error outputs (docs/RULES.md, Preprocessing). It
 /// fails only for want of memory.
-pub fn join_passes(alloc: Global, passes: Vec<(Vec<u8>, PassOutput)>) -> Mem<PassOutput>
-    ensures { IfOk result (λ made. output_of made ≡ join_passes (passes_of passes.items)) }
+pub fn join_passes(alloc: Global, runs: Vec<(Vec<u8>, PassOutput)>) -> Mem<PassOutput>
+    ensures { IfOk result (λ made. output_of made ≡ join_passes (arch_outputs runs.items)) }
 {
-    let stderr = errors(alloc, &passes)?;
-    match first_failed(&passes) {
+    let stderr = errors(alloc, &runs)?;
+    match first_failed(&runs) {
         Some((_, failed)) => Ok(PassOutput {
             status: failed.status,
             stdout: Vec::from_slice(alloc, &failed.stdout)?,
@@ -100,7 +100,7 @@ pub fn join_passes(alloc: Global, passes: Vec<(Vec<u8>, PassOutput)>) -> Mem<Pas
         }),
         None => Ok(PassOutput {
             status: 0,
-            stdout: sections(alloc, &passes)?,
+            stdout: sections(alloc, &runs)?,
             stderr,
         }),
     }

@@ -17,19 +17,19 @@ abbrev pub output_of : PassOutput → Output
 output_of output = record { status = output.status; stdout = output.stdout.items; stderr = output.stderr.items }
 
 -- a run, and the architecture that it was for
-pub record Pass : Type 0 where
+pub record ArchOutput : Type 0 where
   pub arch : List ℕ
   pub output : Output
 
-abbrev pub pass_of : (Vec ℕ Global × PassOutput) → Pass
-pass_of pair = record { arch = pair.0.items; output = output_of pair.1 }
+abbrev pub arch_output : (Vec ℕ Global × PassOutput) → ArchOutput
+arch_output pair = record { arch = pair.0.items; output = output_of pair.1 }
 
-abbrev pub passes_of : List (Vec ℕ Global × PassOutput) → List Pass
-passes_of pairs = map pass_of pairs
+abbrev pub arch_outputs : List (Vec ℕ Global × PassOutput) → List ArchOutput
+arch_outputs pairs = map arch_output pairs
 
 -- a run that did not fail
-abbrev pub succeeded : Pass → Bool
-succeeded pass = int_eq pass.output.status (pos 0)
+abbrev pub succeeded : ArchOutput → Bool
+succeeded run = int_eq run.output.status (pos 0)
 
 -- a text with a line feed at its end, if it has none
 abbrev pub ended : List ℕ → List ℕ
@@ -46,16 +46,16 @@ header arch count = codes "#pragma sccache arch " ++ arch ++ space ∷ [] ++ dec
 abbrev pub section : List ℕ → List ℕ → List ℕ
 section arch text = header arch (line_feeds (ended text)) ++ ended text
 
-abbrev pub sections : List Pass → List ℕ
-sections passes = flat_map (λ pass. section pass.arch pass.output.stdout) passes
+abbrev pub sections : List ArchOutput → List ℕ
+sections runs = flat_map (λ run. section run.arch run.output.stdout) runs
 
-abbrev pub errors : List Pass → List ℕ
-errors passes = flat_map (λ pass. pass.output.stderr) passes
+abbrev pub errors : List ArchOutput → List ℕ
+errors runs = flat_map (λ run. run.output.stderr) runs
 
 -- all outputs, where no run failed; else that of the first that failed; with all error outputs
-abbrev pub joined : Option Pass → List Pass → Output
-joined None passes = record { status = pos 0; stdout = sections passes; stderr = errors passes }
-joined (Some failed) passes = record { status = failed.output.status; stdout = failed.output.stdout; stderr = errors passes }
+abbrev pub joined : Option ArchOutput → List ArchOutput → Output
+joined None runs = record { status = pos 0; stdout = sections runs; stderr = errors runs }
+joined (Some failed) runs = record { status = failed.output.status; stdout = failed.output.stdout; stderr = errors runs }
 
-abbrev pub join_passes : List Pass → Output
-join_passes passes = joined (find (λ pass. not (succeeded pass)) passes) passes
+abbrev pub join_passes : List ArchOutput → Output
+join_passes runs = joined (find (λ run. not (succeeded run)) runs) runs

@@ -13,7 +13,7 @@ use std::alloc::Global;
 
 /// What a line says.
 #[derive(Drop)]
-pub(crate) enum Line {
+pub(crate) enum Saying {
     Blank,
     Compiler(Compiler),
     Directory(Vec<u8>),
@@ -26,46 +26,46 @@ pub(crate) enum Line {
 }
 
 /// What a line without a space says.
-fn line_alone(line: &[u8]) -> Option<Line>
+fn saying_alone(line: &[u8]) -> Option<Saying>
     ensures { option_map said_by result ≡ said_alone line.now }
 {
     if line == b"".as_slice() {
-        Some(Line::Blank)
+        Some(Saying::Blank)
     } else if line == b"multiarch".as_slice() {
-        Some(Line::Multiarch)
+        Some(Saying::Multiarch)
     } else {
         None
     }
 }
 
 /// What a line says by its keyword and the text behind the keyword's space.
-fn line_with(alloc: Global, keyword: Keyword, text: &[u8]) -> Mem<Option<Line>>
-    ensures { IfOk result (λ line. option_map said_by line ≡ said_with text.now keyword) }
+fn saying_with(alloc: Global, keyword: Keyword, text: &[u8]) -> Mem<Option<Saying>>
+    ensures { IfOk result (λ saying. option_map said_by saying ≡ said_with text.now keyword) }
 {
     Ok(match keyword {
-        Keyword::Compiler => Compiler::named(text).map(Line::Compiler),
-        Keyword::Cwd => read_field(alloc, text)?.map(Line::Directory),
-        Keyword::Word => read_field(alloc, text)?.map(Line::Word),
+        Keyword::Compiler => Compiler::named(text).map(Saying::Compiler),
+        Keyword::Cwd => read_field(alloc, text)?.map(Saying::Directory),
+        Keyword::Word => read_field(alloc, text)?.map(Saying::Word),
         Keyword::File => {
-            read_two_fields(alloc, text)?.map(|(path, bytes)| Line::File(path, bytes))
+            read_two_fields(alloc, text)?.map(|(path, bytes)| Saying::File(path, bytes))
         }
-        Keyword::Dir => read_field(alloc, text)?.map(Line::ViewedDirectory),
-        Keyword::Exists => read_field(alloc, text)?.map(Line::Existing),
+        Keyword::Dir => read_field(alloc, text)?.map(Saying::ViewedDirectory),
+        Keyword::Exists => read_field(alloc, text)?.map(Saying::Existing),
         Keyword::Env => {
-            read_two_fields(alloc, text)?.map(|(key, value)| Line::Variable(key, value))
+            read_two_fields(alloc, text)?.map(|(key, value)| Saying::Variable(key, value))
         }
     })
 }
 
 /// What a line says, if it says anything.
-pub(crate) fn read_line(alloc: Global, line: &[u8]) -> Mem<Option<Line>>
-    ensures { IfOk result (λ read. option_map said_by read ≡ said line.now) }
+pub(crate) fn read_line(alloc: Global, line: &[u8]) -> Mem<Option<Saying>>
+    ensures { IfOk result (λ saying. option_map said_by saying ≡ said line.now) }
 {
     let Some((keyword, text)) = cut_at(b' ', line) else {
-        return Ok(line_alone(line));
+        return Ok(saying_alone(line));
     };
     match keyword_named(keyword) {
-        Some(keyword) => line_with(alloc, keyword, text),
+        Some(keyword) => saying_with(alloc, keyword, text),
         None => Ok(None),
     }
 }

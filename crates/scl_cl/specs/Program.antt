@@ -9,8 +9,8 @@ text_for (Ok request) = Ok (text_of (answer_to request))
 text_for (Err n) = Err n
 
 -- the text of the answer to the request that the bytes make, or the number of their bad line
-abbrev pub answer : List ℕ → Result (List ℕ) ℕ
-answer bytes = text_for (request_in (lines_of bytes))
+abbrev pub program_answer : List ℕ → Result (List ℕ) ℕ
+program_answer bytes = text_for (request_in (lines_of bytes))
 
 -- the text is that of the answer to the request that the bytes make, and where that is a command, whose words stand in the lines `arg`, it is read again
 pub record IsTextReadAgain (bytes text : List ℕ) : Type 0 where

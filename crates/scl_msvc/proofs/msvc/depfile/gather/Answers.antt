@@ -6,7 +6,7 @@ use Rattle.scl_values.specs.Words.{words_of}
 use Rattle.scl_text.proofs.ArchLemmas.{new_words-nil, new_words-seen, new_words-unseen}
 use Rattle.scl_msvc.specs.Depfile.{HasWords}
 use Rattle.scl_msvc.proofs.DepfileLemmas.{has-none, has-unchanged, has-more, was-seen, was-unseen}
-use Rattle.scl_msvc.proofs.msvc.depfile.gathered.Goals as goal
+use Rattle.scl_msvc.proofs.msvc.depfile.gather.Goals as goal
 
 pub loop-line-init : goal.loop-line-init
 loop-line-init c = record {
