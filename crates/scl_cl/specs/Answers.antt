@@ -19,7 +19,7 @@ use Rattle.scl_msvc.specs.Building as msvc
 use Rattle.scl_msvc.specs.Environment.{surrounded_reading, without_cl_env_vars}
 use Rattle.scl_msvc.specs.Preprocess as msvc_preprocess
 use Rattle.scl_msvc.specs.Promises.{MsvcReadsAgain}
-use Rattle.scl_small.specs.Command.{command, diab_passes, tasking_passes}
+use Rattle.scl_small.specs.Command.{command, diab_runs, tasking_runs}
 use Rattle.scl_small.specs.DiabAgain.{DiabReadsAgain}
 use Rattle.scl_small.specs.DiabReading as diab
 use Rattle.scl_small.specs.DiabTable as diab_table
@@ -95,8 +95,8 @@ runs_by compilers.Clang may_dist rewrites cache_mode parsed = clang_runs false N
 runs_by compilers.Clangxx may_dist rewrites cache_mode parsed = clang_runs false None may_dist rewrites cache_mode parsed
 runs_by compilers.Cl may_dist rewrites cache_mode parsed = msvc_preprocess.runs false may_dist rewrites parsed
 runs_by compilers.ClangCl may_dist rewrites cache_mode parsed = msvc_preprocess.runs true may_dist rewrites parsed
-runs_by compilers.Diab may_dist rewrites cache_mode parsed = diab_passes parsed
-runs_by compilers.Tasking may_dist rewrites cache_mode parsed = tasking_passes parsed
+runs_by compilers.Diab may_dist rewrites cache_mode parsed = diab_runs parsed
+runs_by compilers.Tasking may_dist rewrites cache_mode parsed = tasking_runs parsed
 
 -- the environment that a compiler's command gets
 abbrev pub environment_by : Compiler → List (List ℕ × List ℕ) → List (List ℕ × List ℕ)

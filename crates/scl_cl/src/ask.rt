@@ -38,7 +38,7 @@ pub trait Query: Sized {
           environment = C.environment compiler.now;
           cacheable = λ words directory environment view parsed. C.cacheable compiler.now parsed directory view;
           is_read_again = C.is_read_again compiler.now;
-          runs = C.passes compiler.now;
+          runs = C.runs compiler.now;
           command_lines = command_lines_in command_lines;
         }) answer) };
 }

@@ -13,7 +13,7 @@ use crate::ask::Query;
 use crate::compiler::Compiler;
 use crate::kept::{BuiltCommand, Compilation, Kept};
 use crate::within::CommandLines;
-use scl_text::command::copied_words;
+use scl_text::command::copy_words;
 use scl_text::records::{CommandError, CompilerArguments, ParsedArguments};
 use scl_text::{CCompilerImpl, Mem, View};
 use std::alloc::{AllocError, Global};
@@ -133,7 +133,7 @@ impl Compiler {
             executable.now (environment_by self (pairs_of env_vars.now)) cwd.now answer) }
         ensures read_again { IfOk result (λ answer. IfCompiled (read_again_by self (asked self (words_of words.now) cwd.now (pairs_of env_vars.now) view.now)) answer) }
     {
-        let words = copied_words(alloc, words)?;
+        let words = copy_words(alloc, words)?;
         self.compile(alloc, executable, words, cwd, env_vars, view)
     }
 

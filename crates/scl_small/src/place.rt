@@ -63,7 +63,7 @@ impl<T: Placed> Test<T> for Place {
 }
 
 /// The refusal that an option's place is.
-pub(crate) fn refused_by_place<T: Placed>(option: &Argument<T>) -> Option<Refusal>
+pub(crate) fn refuse_by_place<T: Placed>(option: &Argument<T>) -> Option<Refusal>
     ensures { option_map verdict_of result ≡ refused_at T.place (seen T.kind_of T.word_of option.now) }
 {
     match place_of(option) {

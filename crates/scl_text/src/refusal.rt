@@ -9,7 +9,7 @@ ghost use Rattle.scl_values.specs.Words.{words_of};
 use crate::reasons::{ARGUMENT_PARSE, MULTIPLE_INPUT_FILES, NO_INPUT_FILE};
 use crate::records::{CompilerArguments, ParsedArguments};
 use crate::stop::Stop;
-use scl_args::{Mem, quoted_list};
+use scl_args::{Mem, quote_list};
 use std::alloc::Global;
 use std::fmt::Display;
 
@@ -76,7 +76,7 @@ pub fn one_input(alloc: Global, inputs: Vec<Vec<u8>>) -> Result<Vec<u8>, Stop>
 {
     let mut inputs = inputs;
     if let [_, _, ..] = inputs.as_slice() {
-        let text = quoted_list(alloc, &inputs[1..])?;
+        let text = quote_list(alloc, &inputs[1..])?;
         return Err(Stop::Refused(Refusal::CannotCache(MULTIPLE_INPUT_FILES, Some(text))));
     }
     Ok(inputs.pop().ok_or(cannot_cache(NO_INPUT_FILE))?)

@@ -18,10 +18,10 @@ mod value;
 
 pub use argument::{ArgDisposition, ArgInfo, ArgRow, Argument, Delimiter, NormalizedDisposition};
 pub use error::{ArgParseError, ArgParseResult, ArgToStringError, ArgToStringResult};
-pub use escaped::{Escaped, quoted, quoted_list};
+pub use escaped::{Escaped, quote_word, quote_list};
 pub use held::{Held, ReadArg, without_value};
 pub use memory::Mem;
-pub use spell::{Iter, joined_value, joined_word};
+pub use spell::{Iter, join_value, join_word};
 pub use split::split_os_string_arg;
 pub use strings::IterStrings;
 pub use value::{ArgumentValue, ExactArg, FromArg, IntoArg, PathArg};

@@ -6,7 +6,7 @@ use super::preprocess::gcc_runs;
 use scl_args::{FlagTree, Mem};
 use scl_gnu_reading::gcc::{parse_arguments_owned, table};
 use scl_text::CCompilerImpl;
-use scl_text::command::copied_text;
+use scl_text::command::copy_text;
 use scl_text::records::{
     CCompilerKind, Cacheable, CommandError, CompilerArguments, ParsedArguments,
     SingleCompileCommand,
@@ -71,7 +71,7 @@ impl CCompilerImpl for Gcc {
 
     ghost is_read_again = { λ _ words directory env_vars view. GccReadsAgain directory view words };
 
-    ghost passes = { λ _. gcc_runs };
+    ghost runs = { λ _. gcc_runs };
 
     fn kind(&self) -> CCompilerKind {
         CCompilerKind::Gcc
@@ -82,7 +82,7 @@ impl CCompilerImpl for Gcc {
     }
 
     fn version(&self, alloc: Global) -> Mem<Option<String>> {
-        copied_text(alloc, &self.version)
+        copy_text(alloc, &self.version)
     }
 
     fn parse_arguments_owned(
@@ -126,7 +126,7 @@ impl CCompilerImpl for Gcc {
     }
 
     fn assembler_digest(&self, alloc: Global) -> Mem<Option<String>> {
-        copied_text(alloc, &self.assembler_digest)
+        copy_text(alloc, &self.assembler_digest)
     }
 
     fn preprocess_passes(

@@ -19,7 +19,7 @@ use scl_text::refusal::{Refusal, cannot_cache};
 use std::alloc::Global;
 
 /// The refusal of an option by its flag, where its place is that of refused ones.
-pub(crate) fn judged_flag(place: Place, flag: &'static str) -> Option<Refusal>
+pub(crate) fn judge_flag(place: Place, flag: &'static str) -> Option<Refusal>
     ensures { option_map verdict_of result ≡ flag_verdict place flag.now }
 {
     match place {
@@ -33,7 +33,7 @@ pub(crate) fn judged_flag(place: Place, flag: &'static str) -> Option<Refusal>
     }
 }
 
-fn judged_module_output(alloc: Global, value: &[u8]) -> Mem<Option<Refusal>>
+fn judge_module_output(alloc: Global, value: &[u8]) -> Mem<Option<Refusal>>
     ensures { IfOk result (λ said. option_map verdict_of said ≡ module_output_verdict value.now) }
 {
     match value.first() {
@@ -45,7 +45,7 @@ fn judged_module_output(alloc: Global, value: &[u8]) -> Mem<Option<Refusal>>
     }
 }
 
-fn judged_language(text: &[u8]) -> Option<Refusal>
+fn judge_language(text: &[u8]) -> Option<Refusal>
     ensures { option_map verdict_of result ≡ unread_language (language_of_gcc_text text.now) }
 {
     match Language::from_gcc_arg(text) {
@@ -54,7 +54,7 @@ fn judged_language(text: &[u8]) -> Option<Refusal>
     }
 }
 
-fn judged_arch(multiarch: bool, before: Option<&[u8]>, arch: &[u8]) -> Option<Refusal>
+fn judge_arch(multiarch: bool, before: Option<&[u8]>, arch: &[u8]) -> Option<Refusal>
     ensures { option_map verdict_of result ≡ arch_verdict multiarch (option_copied before.entry) arch.now }
 {
     let before = before?;
@@ -67,7 +67,7 @@ fn judged_arch(multiarch: bool, before: Option<&[u8]>, arch: &[u8]) -> Option<Re
     ))
 }
 
-fn judged_value(
+fn judge_value(
     alloc: Global,
     multiarch: bool,
     before: &[Argument<ArgData>],
@@ -76,17 +76,17 @@ fn judged_value(
     ensures { IfOk result (λ said. option_map verdict_of said ≡ value_verdict multiarch (last_text (of (Kind.Arch ∷ [])) (map (seen kind_of word_of) before.now)) (kind_of value.now) (word_of value.now)) }
 {
     match value {
-        ArgData::ClangModuleOutput(text) => judged_module_output(alloc, text),
-        ArgData::Language(text) => Ok(judged_language(text)),
+        ArgData::ClangModuleOutput(text) => judge_module_output(alloc, text),
+        ArgData::Language(text) => Ok(judge_language(text)),
         ArgData::Arch(name) => {
             let arch = last_text(before, &OfKinds(&[Kind::Arch]));
-            Ok(judged_arch(multiarch, arch, name))
+            Ok(judge_arch(multiarch, arch, name))
         }
         _ => Ok(None),
     }
 }
 
-fn judged_known(
+fn judge_known(
     alloc: Global,
     multiarch: bool,
     before: &[Argument<ArgData>],
@@ -96,9 +96,9 @@ fn judged_known(
     ensures { IfOk result (λ said. option_map verdict_of said
         ≡ known_verdict multiarch (last_text (of (Kind.Arch ∷ [])) (map (seen kind_of word_of) before.now)) flag.now (kind_of value.now) (word_of value.now)) }
 {
-    match judged_flag(place_of_kind(value.kind()), flag) {
+    match judge_flag(place_of_kind(value.kind()), flag) {
         Some(refusal) => Ok(Some(refusal)),
-        None => judged_value(alloc, multiarch, before, value),
+        None => judge_value(alloc, multiarch, before, value),
     }
 }
 
@@ -125,7 +125,7 @@ impl Judge<ArgData> for ByVerdict {
         match option {
             Argument::Raw(_) | Argument::UnknownFlag(_) => Ok(None),
             Argument::Flag(flag, value) | Argument::WithValue(flag, value, _) => {
-                judged_known(alloc, self.multiarch, before, flag, value)
+                judge_known(alloc, self.multiarch, before, flag, value)
             }
         }
     }

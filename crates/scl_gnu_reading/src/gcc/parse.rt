@@ -16,7 +16,7 @@ use super::inner::{ByInnerVerdict, read_inner};
 use super::judge::ByVerdict;
 use super::record::record_of;
 use scl_args::{Mem, OfKinds, Options, SearchableArgInfo};
-use scl_text::command::copied_words;
+use scl_text::command::copy_words;
 use scl_text::records::{CCompilerKind, CompilerArguments, ParsedArguments};
 use scl_text::stop::into_answer;
 use scl_text::view::View;
@@ -53,7 +53,7 @@ fn judge_line<S: SearchableArgInfo<ArgData> + Drop>(
 }
 
 /// The record of options that are not refused, with the inner ones that they hand on.
-fn read(
+fn read_options(
     alloc: Global,
     options: Options<ArgData>,
     cwd: &[u8],
@@ -83,7 +83,7 @@ fn parse<S: SearchableArgInfo<ArgData> + Drop>(
     ensures { Gives parsed_of result (reading kind plusplus (S.tables arg_info) cwd.now view.now (words_of arguments.items)) }
 {
     let options = judge_line(alloc, arguments, cwd, arg_info, kind, view)?;
-    read(alloc, options, cwd, plusplus, kind, view)
+    read_options(alloc, options, cwd, plusplus, kind, view)
 }
 
 /// What a command line, whose words are handed over, says by the tables handed in: the record; or the first refusal in option
@@ -119,6 +119,6 @@ pub fn parse_arguments<S: SearchableArgInfo<ArgData> + Drop>(
     requires { IsTrue (tables_hold_values holds_value (S.tables arg_info)) }
     ensures { IfOk result (λ answer. outcome_of answer ≡ reading kind plusplus (S.tables arg_info) cwd.now view.now (words_of arguments.now)) }
 {
-    let arguments = copied_words(alloc, arguments)?;
+    let arguments = copy_words(alloc, arguments)?;
     parse_arguments_owned(alloc, arguments, cwd, arg_info, plusplus, kind, view)
 }

@@ -18,7 +18,7 @@ use super::place::Place;
 use super::switches::{color_mode, external_assembler, hiding_flag};
 use scl_args::{Mem, OfKinds, Options, ShortFlagsJoined};
 use scl_text::language::Language;
-use scl_text::outputs::copied_path;
+use scl_text::outputs::copy_path;
 use scl_text::records::{CCompilerKind, ColorMode, ParsedArguments};
 use scl_text::view::View;
 use std::alloc::Global;
@@ -130,7 +130,7 @@ pub(crate) fn record_of(
         profile_generate: options.any(&profile),
         color_mode: color_mode(&options).unwrap_or(ColorMode::Auto),
         suppress_rewrite_includes_only: suppresses_rewritten_includes(kind, &options),
-        too_hard_for_preprocessor_cache_mode: copied_path(alloc, hiding_flag(&options))?,
+        too_hard_for_preprocessor_cache_mode: copy_path(alloc, hiding_flag(&options))?,
         ..ParsedArguments::bare(alloc, found.input, found.language, compile_flag)
     };
     let (preprocessor_args, common_args) = long_lists(alloc, options, inner, &found.object)?;

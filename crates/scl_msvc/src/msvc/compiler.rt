@@ -6,12 +6,12 @@ ghost use Rattle.scl_text.specs.Records.{outcome_of};
 ghost use Rattle.scl_msvc.specs.Environment.{surrounded_reading};
 
 use super::command::generate_compile_commands_owned;
-use super::environment::surrounded;
+use super::environment::surround;
 use super::preprocess::runs;
 use scl_args::Mem;
 use scl_msvc_reading::msvc::parse_arguments_owned;
 use scl_text::CCompilerImpl;
-use scl_text::command::copied_text;
+use scl_text::command::copy_text;
 use scl_text::records::{
     CCompilerKind, Cacheable, CommandError, CompilerArguments, ParsedArguments,
     SingleCompileCommand,
@@ -58,7 +58,7 @@ fn parse_surrounded(
 ) -> Mem<CompilerArguments<ParsedArguments>>
     ensures { IfOk result (λ answer. outcome_of answer ≡ surrounded_reading is_clang cwd.now (pairs_of env_vars.now) view.now (words_of arguments.items)) }
 {
-    match surrounded(alloc, arguments, env_vars) {
+    match surround(alloc, arguments, env_vars) {
         Ok(words) => parse_arguments_owned(alloc, words, cwd, is_clang, view),
         Err(stop) => into_answer(Err(stop)),
     }
@@ -93,7 +93,7 @@ impl CCompilerImpl for Msvc {
 
     ghost is_read_again = { λ msvc words directory env_vars view. MsvcReadsAgain msvc.is_clang directory env_vars view words };
 
-    ghost passes = { λ msvc may_dist rewrites _. runs msvc.is_clang may_dist rewrites };
+    ghost runs = { λ msvc may_dist rewrites _. runs msvc.is_clang may_dist rewrites };
 
     fn kind(&self) -> CCompilerKind {
         CCompilerKind::Msvc
@@ -104,7 +104,7 @@ impl CCompilerImpl for Msvc {
     }
 
     fn version(&self, alloc: Global) -> Mem<Option<String>> {
-        copied_text(alloc, &self.version)
+        copy_text(alloc, &self.version)
     }
 
     fn parse_arguments_owned(

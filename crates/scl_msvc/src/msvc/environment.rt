@@ -106,7 +106,7 @@ fn variable_words(
 /// Words that are handed over, between those that the environment gives: of `CL` before and of `_CL_` behind them. Where it
 /// has neither they are the given ones, unmoved; refused where a value is no text.
 #[tactic(auto, using(crate::proofs::EnvironmentLemmas::surrounded_by_none))]
-pub(super) fn surrounded(
+pub(super) fn surround(
     alloc: Global,
     arguments: Vec<Vec<u8>>,
     env_vars: &[(Vec<u8>, Vec<u8>)],

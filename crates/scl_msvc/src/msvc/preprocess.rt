@@ -8,7 +8,7 @@ ghost use Rattle.scl_msvc.specs.ListsOf.{lists_of};
 
 use super::words::{Lists, append_lists, push_input};
 use scl_args::Mem;
-use scl_text::command::{copied_words, push_word};
+use scl_text::command::{copy_words, push_word};
 use scl_text::records::ParsedArguments;
 use std::alloc::Global;
 
@@ -81,10 +81,10 @@ fn lists_of_run(alloc: Global, parsed: &ParsedArguments) -> Mem<Lists>
     ensures { IfOk result (λ lists. lists_of lists ≡ run_lists (parsed_of parsed.now)) }
 {
     Ok(Lists {
-        preprocessor: copied_words(alloc, &parsed.preprocessor_args)?,
-        dependency: copied_words(alloc, &parsed.dependency_args)?,
+        preprocessor: copy_words(alloc, &parsed.preprocessor_args)?,
+        dependency: copy_words(alloc, &parsed.dependency_args)?,
         unhashed: Vec::new(alloc),
-        common: copied_words(alloc, &parsed.common_args)?,
+        common: copy_words(alloc, &parsed.common_args)?,
     })
 }
 

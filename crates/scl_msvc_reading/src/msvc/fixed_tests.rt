@@ -11,7 +11,7 @@ ghost use Rattle.scl_msvc_reading.specs.FoundBy.{found_of};
 
 use super::data::{ArgData, Kind};
 use super::inputs::{Inputs, explicit_language, has_explicit_language};
-use super::judge::refused_if;
+use super::judge::refuse_if;
 use scl_args::{Mem, OfKinds, Options};
 use scl_text::Stop;
 use scl_text::language::Language;
@@ -31,7 +31,7 @@ pub(crate) struct Finding {
 }
 
 /// Why a module is refused: its output is not named, or that of no module is, or a flag says another language.
-fn judged_module(is_compiled: bool, is_named: bool, has_language: bool) -> Option<Refusal>
+fn judge_module(is_compiled: bool, is_named: bool, has_language: bool) -> Option<Refusal>
     ensures { option_map verdict_of result ≡ module_verdict is_compiled is_named has_language }
 {
     if is_compiled != is_named {
@@ -40,7 +40,7 @@ fn judged_module(is_compiled: bool, is_named: bool, has_language: bool) -> Optio
             None,
         ));
     }
-    refused_if(is_compiled && has_language, "-x c++-module with /Tc or /Tp")
+    refuse_if(is_compiled && has_language, "-x c++-module with /Tc or /Tp")
 }
 
 /// The one input, where nothing was said against it; of several no more is asked.
@@ -138,7 +138,7 @@ pub(crate) fn find(
         .ok_or(Refusal::NotCompilation)?;
     let is_module = options.any(&OfKinds(&[Kind::ClangLanguage]));
     let is_named = options.any(&OfKinds(&[Kind::ClangModuleOutput]));
-    let said = judged_module(is_module, is_named, has_explicit_language(options));
+    let said = judge_module(is_module, is_named, has_explicit_language(options));
     let input = input_unless(alloc, said, options.texts(alloc, &Inputs)?)?;
     let language = language_of(is_module, explicit_language(options), &input).ok_or(cannot_cache(
         UNKNOWN_SOURCE_LANGUAGE,

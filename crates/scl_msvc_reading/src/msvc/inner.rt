@@ -20,7 +20,7 @@ use scl_gnu_reading::gcc;
 use scl_text::Stop;
 use scl_text::command::push_word;
 use scl_text::view::View;
-use scl_values::joined_word;
+use scl_values::join_word;
 use std::alloc::Global;
 
 /// The options of the two inner command lines.
@@ -81,7 +81,7 @@ fn push_joined_to_clang(alloc: Global, words: &mut Vec<Vec<u8>>, inner: Vec<Vec<
     ensures { OnOk result (words_of words.new.items ≡ words_of words.old.items ++ flat_map (wrapped_joined (codes "-clang:")) (words_of inner.items)) }
 {
     for word in inner {
-        words.push(joined_word(alloc, "-clang:", None, &word)?)?;
+        words.push(join_word(alloc, "-clang:", None, &word)?)?;
     }
     Ok(())
 }

@@ -16,7 +16,7 @@ use scl_text::refusal::{Refusal, cannot_cache};
 use std::alloc::Global;
 
 /// The refusal for this reason, where there is one.
-pub(crate) fn refused_if(is_refused: bool, reason: &'static str) -> Option<Refusal>
+pub(crate) fn refuse_if(is_refused: bool, reason: &'static str) -> Option<Refusal>
     ensures { option_map verdict_of result ≡ then_some is_refused (CannotCache reason.now) }
 {
     if is_refused {
@@ -27,7 +27,7 @@ pub(crate) fn refused_if(is_refused: bool, reason: &'static str) -> Option<Refus
 }
 
 /// The refusal of an option by its flag, where its place is that of refused ones.
-pub(crate) fn judged_flag(place: Place, flag: &'static str) -> Option<Refusal>
+pub(crate) fn judge_flag(place: Place, flag: &'static str) -> Option<Refusal>
     ensures { option_map verdict_of result ≡ flag_verdict place flag.now }
 {
     match place {
@@ -40,21 +40,21 @@ pub(crate) fn judged_flag(place: Place, flag: &'static str) -> Option<Refusal>
     }
 }
 
-fn judged_value(is_clang: bool, flag: &'static str, value: &ArgData) -> Option<Refusal>
+fn judge_value(is_clang: bool, flag: &'static str, value: &ArgData) -> Option<Refusal>
     ensures { option_map verdict_of result ≡ value_verdict is_clang flag.now (kind_of value.now) (word_of value.now) }
 {
     match value {
         ArgData::SuppressCompilation => Some(Refusal::NotCompilation),
         ArgData::Output(path) => {
-            refused_if(path.0.as_slice() == b"nul".as_slice(), "output to nul")
+            refuse_if(path.0.as_slice() == b"nul".as_slice(), "output to nul")
         }
         ArgData::CInput(path) | ArgData::CxxInput(path) => {
-            refused_if(path.0.is_empty(), NO_INPUT_FILE)
+            refuse_if(path.0.is_empty(), NO_INPUT_FILE)
         }
-        ArgData::ClangModuleFile(text) => refused_if(!is_clang || text.is_empty(), flag),
-        ArgData::ClangModuleOutput(text) => refused_if(text.is_empty(), flag),
+        ArgData::ClangModuleFile(text) => refuse_if(!is_clang || text.is_empty(), flag),
+        ArgData::ClangModuleOutput(text) => refuse_if(text.is_empty(), flag),
         ArgData::ClangLanguage(text) => {
-            refused_if(
+            refuse_if(
                 !is_clang || text.as_slice() != b"c++-module".as_slice(),
                 flag,
             )
@@ -63,12 +63,12 @@ fn judged_value(is_clang: bool, flag: &'static str, value: &ArgData) -> Option<R
     }
 }
 
-fn judged_known(is_clang: bool, flag: &'static str, value: &ArgData) -> Option<Refusal>
+fn judge_known(is_clang: bool, flag: &'static str, value: &ArgData) -> Option<Refusal>
     ensures { option_map verdict_of result ≡ known_verdict is_clang flag.now (kind_of value.now) (word_of value.now) }
 {
-    match judged_flag(place_of_kind(value.kind()), flag) {
+    match judge_flag(place_of_kind(value.kind()), flag) {
         Some(refusal) => Some(refusal),
-        None => judged_value(is_clang, flag, value),
+        None => judge_value(is_clang, flag, value),
     }
 }
 
@@ -92,7 +92,7 @@ impl Judge<ArgData> for ByVerdict {
         match option {
             Argument::Raw(_) | Argument::UnknownFlag(_) => Ok(None),
             Argument::Flag(flag, value) | Argument::WithValue(flag, value, _) => {
-                Ok(judged_known(self.is_clang, flag, value))
+                Ok(judge_known(self.is_clang, flag, value))
             }
         }
     }

@@ -12,7 +12,7 @@ use super::inner::both_inner;
 use super::judge::ByVerdict;
 use super::record::record_of;
 use scl_args::{Mem, Options};
-use scl_text::command::copied_words;
+use scl_text::command::copy_words;
 use scl_text::records::{CompilerArguments, ParsedArguments};
 use scl_text::stop::into_answer;
 use scl_text::view::View;
@@ -20,7 +20,7 @@ use scl_text::{ExpansionKind, Stop, judge_words};
 use std::alloc::Global;
 
 /// The record of options that are not refused, with the inner ones that they hand on.
-fn read(
+fn read_options(
     alloc: Global,
     options: Options<ArgData>,
     cwd: &[u8],
@@ -55,7 +55,7 @@ fn parse(
         &judge,
         view,
     )?;
-    read(alloc, options, cwd, is_clang, view)
+    read_options(alloc, options, cwd, is_clang, view)
 }
 
 /// What a command line of cl, or of clang-cl, whose words are handed over, says: the record; or the first refusal in option
@@ -89,6 +89,6 @@ pub fn parse_arguments(
 ) -> Mem<CompilerArguments<ParsedArguments>>
     ensures { IfOk result (λ answer. outcome_of answer ≡ reading is_clang cwd.now view.now (words_of arguments.now)) }
 {
-    let arguments = copied_words(alloc, arguments)?;
+    let arguments = copy_words(alloc, arguments)?;
     parse_arguments_owned(alloc, arguments, cwd, is_clang, view)
 }

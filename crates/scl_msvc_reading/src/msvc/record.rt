@@ -15,7 +15,7 @@ use super::outputs::outputs_of;
 use super::place::{ExternalIncludesApart, Place};
 use scl_args::{Mem, OfKinds, Options};
 use scl_gnu_reading::gcc;
-use scl_text::outputs::copied_path;
+use scl_text::outputs::copy_path;
 use scl_text::records::ParsedArguments;
 use scl_text::view::View;
 use std::alloc::Global;
@@ -78,7 +78,7 @@ pub(crate) fn record_of(
     let flag = Vec::from_slice(alloc, found.compile_flag.as_bytes())?;
     let parsed = ParsedArguments {
         double_dash_input: options.is_behind_dashes(&Inputs),
-        depfile: copied_path(alloc, depfile)?,
+        depfile: copy_path(alloc, depfile)?,
         outputs,
         dependency_args: all_words_at(alloc, &options, inner, Place::Dependency)?,
         unhashed_args: all_words_at(alloc, &options, inner, Place::Unhashed)?,

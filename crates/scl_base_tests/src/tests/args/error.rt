@@ -1,6 +1,6 @@
 //! What errors say, and what is printed in quotes.
 use crate::tests::{prints, says, words_of};
-use scl_args::{ArgParseError, ArgToStringError, Mem, quoted, quoted_list};
+use scl_args::{ArgParseError, ArgToStringError, Mem, quote_word, quote_list};
 use std::alloc::{AllocError, AllocFailed, Global};
 use std::test::Fail;
 
@@ -47,11 +47,11 @@ fn errors_show_the_escaped_word(rt: HostRuntime) -> Result<(), Fail> {
 #[test]
 fn words_in_quotes_are_escaped(rt: HostRuntime) -> Result<(), Fail> {
     let alloc = rt.alloc();
-    assert!(rt; says(&quoted(alloc, b"a b"), "\"a\\x20b\""));
-    assert!(rt; says(&quoted_list(alloc, &[]), "[]"));
+    assert!(rt; says(&quote_word(alloc, b"a b"), "\"a\\x20b\""));
+    assert!(rt; says(&quote_list(alloc, &[]), "[]"));
     let mut words = words_of(alloc, "a")?;
     words.push(word(alloc)?)?;
     let text = "[\"a\", \"!a~\\x20\\x5c\\x7f\\xff\\x0a\"]";
-    assert!(rt; says(&quoted_list(alloc, &words), text));
+    assert!(rt; says(&quote_list(alloc, &words), text));
     Ok(())
 }

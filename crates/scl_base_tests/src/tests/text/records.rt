@@ -1,7 +1,7 @@
 //! Records of a command line, outputs and commands.
 use crate::tests::{are_words, gives, prints, words_of};
 use scl_text::Mem;
-use scl_text::command::{copied_pairs, push_words, single_command};
+use scl_text::command::{copy_pairs, push_words, single_command};
 use scl_text::language::Language;
 use scl_text::outputs::{output_path, put_output};
 use scl_text::records::{ArtifactDescriptor, CommandError, ParsedArguments, SingleCompileCommand};
@@ -62,7 +62,7 @@ fn command_of(alloc: Global, variables: &[(Vec<u8>, Vec<u8>)]) -> Mem<SingleComp
         alloc,
         b"cc",
         arguments,
-        copied_pairs(alloc, variables)?,
+        copy_pairs(alloc, variables)?,
         b"/w",
     )
 }

@@ -1,6 +1,6 @@
 //! What an inner option says against caching.
 use super::place::inner_place_of_kind;
-use crate::msvc::judge::judged_flag;
+use crate::msvc::judge::judge_flag;
 use scl_args::{Argument, Mem, ReadArg};
 use scl_gnu_reading::gcc::ArgData;
 use scl_text::Judge;
@@ -25,7 +25,7 @@ impl Judge<ArgData> for ByInnerVerdict {
         match option {
             Argument::Raw(_) | Argument::UnknownFlag(_) => Ok(None),
             Argument::Flag(flag, value) | Argument::WithValue(flag, value, _) => {
-                Ok(judged_flag(inner_place_of_kind(value.kind()), flag))
+                Ok(judge_flag(inner_place_of_kind(value.kind()), flag))
             }
         }
     }

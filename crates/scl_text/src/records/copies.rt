@@ -3,14 +3,14 @@ ghost use Rattle.std.specs.Prelude.{◌≡◌, ◌↔◌, IfOk, Err, None};
 ghost use Rattle.scl_text.specs.Commands.{object_of};
 ghost use Rattle.scl_text.specs.Records.{artifacts, parsed_of, path_of};
 
-use crate::command::copied_words;
+use crate::command::copy_words;
 use crate::outputs::output_path;
 use crate::records::{ArtifactDescriptor, CommandError, ParsedArguments};
 use scl_args::Mem;
 use std::alloc::Global;
 use std::collections::BTreeMap;
 
-fn copied_path(alloc: Global, path: &Option<Vec<u8>>) -> Mem<Option<Vec<u8>>>
+fn copy_path(alloc: Global, path: &Option<Vec<u8>>) -> Mem<Option<Vec<u8>>>
     ensures { IfOk result (λ copy. path_of copy ≡ path_of path.now) }
 {
     match path {
@@ -32,7 +32,7 @@ impl Clone for ArtifactDescriptor {
     }
 }
 
-fn copied_outputs(
+fn copy_outputs(
     outputs: &BTreeMap<String, ArtifactDescriptor>,
 ) -> Mem<BTreeMap<String, ArtifactDescriptor>>
     ensures { IfOk result (λ copies. artifacts copies ≡ artifacts outputs.now) }
@@ -43,7 +43,7 @@ fn copied_outputs(
 
 impl ParsedArguments {
     /// A copy of the record. It fails only for want of memory.
-    pub fn copied(&self, alloc: Global) -> Mem<ParsedArguments>
+    pub fn copy(&self, alloc: Global) -> Mem<ParsedArguments>
         ensures { IfOk result (λ copy. parsed_of copy ≡ parsed_of self.now) }
     {
         Ok(ParsedArguments {
@@ -51,22 +51,22 @@ impl ParsedArguments {
             double_dash_input: self.double_dash_input,
             language: self.language,
             compilation_flag: Vec::from_slice(alloc, &self.compilation_flag)?,
-            depfile: copied_path(alloc, &self.depfile)?,
-            outputs: copied_outputs(&self.outputs)?,
-            dependency_args: copied_words(alloc, &self.dependency_args)?,
-            preprocessor_args: copied_words(alloc, &self.preprocessor_args)?,
-            common_args: copied_words(alloc, &self.common_args)?,
-            arch_args: copied_words(alloc, &self.arch_args)?,
-            unhashed_args: copied_words(alloc, &self.unhashed_args)?,
-            extra_dist_files: copied_words(alloc, &self.extra_dist_files)?,
-            extra_hash_files: copied_words(alloc, &self.extra_hash_files)?,
+            depfile: copy_path(alloc, &self.depfile)?,
+            outputs: copy_outputs(&self.outputs)?,
+            dependency_args: copy_words(alloc, &self.dependency_args)?,
+            preprocessor_args: copy_words(alloc, &self.preprocessor_args)?,
+            common_args: copy_words(alloc, &self.common_args)?,
+            arch_args: copy_words(alloc, &self.arch_args)?,
+            unhashed_args: copy_words(alloc, &self.unhashed_args)?,
+            extra_dist_files: copy_words(alloc, &self.extra_dist_files)?,
+            extra_hash_files: copy_words(alloc, &self.extra_hash_files)?,
             uses_external_assembler: self.uses_external_assembler,
             msvc_show_includes: self.msvc_show_includes,
             msvc_explicit_language: self.msvc_explicit_language,
             profile_generate: self.profile_generate,
             color_mode: self.color_mode,
             suppress_rewrite_includes_only: self.suppress_rewrite_includes_only,
-            too_hard_for_preprocessor_cache_mode: copied_path(
+            too_hard_for_preprocessor_cache_mode: copy_path(
                 alloc,
                 &self.too_hard_for_preprocessor_cache_mode,
             )?,
@@ -75,13 +75,13 @@ impl ParsedArguments {
 
     /// A copy of a record that has a command. The errors are `MissingObj`, exactly where the record has no output `obj`, and
     /// the refusal of memory.
-    pub fn copied_for_command(&self, alloc: Global) -> Result<ParsedArguments, CommandError>
+    pub fn copy_for_command(&self, alloc: Global) -> Result<ParsedArguments, CommandError>
         ensures copy { IfOk result (λ copy. parsed_of copy ≡ parsed_of self.now) }
         ensures missing { (result ≡ Err CommandError.MissingObj) ↔ (object_of (parsed_of self.now) ≡ None) }
     {
         if output_path(&self.outputs, "obj").is_none() {
             return Err(CommandError::MissingObj);
         }
-        Ok(self.copied(alloc)?)
+        Ok(self.copy(alloc)?)
     }
 }
