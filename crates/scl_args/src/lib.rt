@@ -18,7 +18,7 @@ pub use scl_tables::{FlagTable, FlagTree, Probes, RowStore, SearchableArgInfo, T
 pub use scl_values::{
     ArgDisposition, ArgInfo, ArgParseError, ArgParseResult, ArgRow, ArgToStringError,
     ArgToStringResult, Argument, ArgumentValue, Delimiter, Escaped, ExactArg, FromArg, Held,
-    IntoArg, Iter, IterStrings, Mem, NormalizedDisposition, PathArg, ReadArg, quote_word, quote_list,
-    shapes, split_os_string_arg, without_value,
+    IntoArg, Iter, IterStrings, Mem, NormalizedDisposition, PathArg, ReadArg, quote_list,
+    quote_word, shapes, split_os_string_arg, without_value,
 };
 pub use wrapped::{WrappedApart, WrappedJoined, Wrapper};

@@ -18,7 +18,7 @@ mod value;
 
 pub use argument::{ArgDisposition, ArgInfo, ArgRow, Argument, Delimiter, NormalizedDisposition};
 pub use error::{ArgParseError, ArgParseResult, ArgToStringError, ArgToStringResult};
-pub use escaped::{Escaped, quote_word, quote_list};
+pub use escaped::{Escaped, quote_list, quote_word};
 pub use held::{Held, ReadArg, without_value};
 pub use memory::Mem;
 pub use spell::{Iter, join_value, join_word};

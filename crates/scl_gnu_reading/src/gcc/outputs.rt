@@ -7,7 +7,7 @@ ghost use Rattle.scl_gnu_reading.specs.Recordings.{outputs};
 use super::data::{ArgData, Kind};
 use super::fixed_tests::Finding;
 use scl_args::{Mem, OfKinds, Options};
-use scl_text::outputs::{copy_path, with_extension_if, put_optional};
+use scl_text::outputs::{copy_path, put_optional, with_extension_if};
 use scl_text::records::ArtifactDescriptor;
 use std::alloc::Global;
 use std::collections::BTreeMap;
