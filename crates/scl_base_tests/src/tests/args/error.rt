@@ -1,6 +1,6 @@
 //! What errors say, and what is printed in quotes.
 use crate::tests::{prints, says, words_of};
-use scl_args::{ArgParseError, ArgToStringError, Mem, quote_word, quote_list};
+use scl_args::{ArgParseError, ArgToStringError, Mem, quote_list, quote_word};
 use std::alloc::Global;
 use std::test::Fail;
 
