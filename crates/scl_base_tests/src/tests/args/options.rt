@@ -53,7 +53,7 @@ fn expect_none(rt: &(impl Abort + Alloc<A = Global>), options: &Options<Value>) 
 
 #[test]
 fn of_no_options_none_passes(rt: HostRuntime) -> Result<(), Fail> {
-    expect_none(&rt, &Options::new(rt.alloc(), Vec::new(rt.alloc()))?);
+    expect_none(&rt, &Options::new(Vec::new(rt.alloc())));
     Ok(())
 }
 
