@@ -8,4 +8,4 @@ abbrev pub invariant-loop-option : goal.invariant-loop-option
 invariant-loop-option g l =
     let see = seen g.T.ArgumentValue.kind_of g.T.IntoArg.word_of in
     let all = list (g.S.Sides.side l.sides) (g.P.Test.passes l.test) in
-    words_of l.words.items ++ all (map see l.option-iterator) ≡ all (map see l.self-inside.options.items)
+    words_of l.words.items ++ all (map see l.option-iterator) ≡ all l.fn.self
