@@ -48,6 +48,7 @@ impl Msvc {
 }
 
 /// What the words say between those that the environment gives.
+#[tactic(auto, using(crate::proofs::EnvironmentLemmas::refusal_given))]
 fn parse_surrounded(
     alloc: Global,
     arguments: Vec<Vec<u8>>,

@@ -140,9 +140,8 @@ pub(crate) fn find(
     let is_named = options.any(&OfKinds(&[Kind::ClangModuleOutput]));
     let said = judge_module(is_module, is_named, has_explicit_language(options));
     let input = input_unless(alloc, said, options.texts(alloc, &Inputs)?)?;
-    let language = language_of(is_module, explicit_language(options), &input).ok_or(cannot_cache(
-        UNKNOWN_SOURCE_LANGUAGE,
-    ))?;
+    let language = language_of(is_module, explicit_language(options), &input);
+    let language = language.ok_or(cannot_cache(UNKNOWN_SOURCE_LANGUAGE))?;
     let output = options.last_text(&OfKinds(&[Kind::Output]));
     let object = object_path(alloc, output, &input)?.ok_or(cannot_cache(INVALID_INPUT_FILE))?;
     let is_apart = !is_clang && options.any(&OfKinds(&[Kind::DebugInfo]));

@@ -63,6 +63,7 @@ fn parse(
 /// options, those behind `-Xclang` before those behind `-clang:`; else that of the fixed tests, the first of which is
 /// `NotCompilation` (docs/RULES.md, Msvc). Paths and words are bytes; the directory and the view answer what is asked of
 /// files. The error is the refusal of memory.
+#[tactic(auto, using(scl_text::proofs::StopLemmas::outcome_given))]
 pub fn parse_arguments_owned(
     alloc: Global,
     arguments: Vec<Vec<u8>>,
