@@ -93,7 +93,10 @@ fn input_of(alloc: Global, inputs: Vec<Vec<u8>>) -> Result<Vec<u8>, Stop>
 }
 
 /// The record of options that are not refused: the fixed tests in their order, and what they find recorded.
-pub(crate) fn read<T: Rules>(alloc: Global, options: Options<T>) -> Result<ParsedArguments, Stop>
+pub(crate) fn read_options<T: Rules>(
+    alloc: Global,
+    options: Options<T>,
+) -> Result<ParsedArguments, Stop>
     ensures { Gives parsed_of result (tested_by T.place T.compile_flag_for options) }
 {
     let flag = options

@@ -6,7 +6,7 @@ ghost use Rattle.scl_text.specs.Records.{outcome_of, parsed_of};
 ghost use Rattle.scl_text.specs.Stops.{Gives};
 ghost use Rattle.scl_small.specs.Readings.{reads, tested_by};
 
-use crate::finish::read;
+use crate::finish::read_options;
 use crate::rules::{ByRules, Rules};
 use scl_args::SearchableArgInfo;
 use scl_text::records::{CompilerArguments, ParsedArguments};
@@ -24,7 +24,7 @@ fn parse<T: Rules, S: SearchableArgInfo<T> + Drop>(
     ensures { Gives parsed_of result (reads T.verdict (tested_by T.place T.compile_flag_for) (owner_in (S.tables arg_info)) (words_of words.items)) }
 {
     let options = judge_cut(alloc, words, arg_info, false, &ByRules)?;
-    read(alloc, options)
+    read_options(alloc, options)
 }
 
 /// What the words say, cut by the tables.

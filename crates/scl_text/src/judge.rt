@@ -36,7 +36,7 @@ pub trait Judge<T: ArgumentValue> {
         before: &[Argument<T>],
         option: &Argument<T>,
     ) -> Mem<Option<Refusal>>
-        ensures { IfOk result (λ said. option_map verdict_of said
+        ensures { IfOk result (λ refusal. option_map verdict_of refusal
             ≡ verdict self.now (map (seen T.kind_of T.word_of) before.now) (seen T.kind_of T.word_of option.now)) };
 }
 
@@ -48,7 +48,7 @@ fn refusal_of<T: ReadArg, S: SearchableArgInfo<T>, J: Judge<T>>(
     before: &[Argument<T>],
     option: &Argument<T>,
 ) -> Mem<Option<Refusal>>
-    ensures { IfOk result (λ said. option_map verdict_of said
+    ensures { IfOk result (λ refusal. option_map verdict_of refusal
         ≡ refusing_empty (owner_in (S.tables arg_info.now)) empty_value (J.verdict judge.now) (map (seen T.kind_of T.word_of) before.now) (seen T.kind_of T.word_of option.now)) }
 {
     if has_empty_value(arg_info, option) {
@@ -65,7 +65,7 @@ fn first_refusal<T: ReadArg, S: SearchableArgInfo<T>, J: Judge<T>>(
     arg_info: &S,
     options: &[Argument<T>],
 ) -> Mem<Option<Refusal>>
-    ensures { IfOk result (λ said. option_map verdict_of said
+    ensures { IfOk result (λ refusal. option_map verdict_of refusal
         ≡ first_verdict (refusing_empty (owner_in (S.tables arg_info.now)) empty_value (J.verdict judge.now)) [] (map (seen T.kind_of T.word_of) options.now)) }
 {
     for (i, option) in options.iter().enumerate() {

@@ -112,7 +112,7 @@ fn module_path(
 }
 
 /// The tests in their order.
-pub(crate) fn find(
+pub(crate) fn apply_fixed_tests(
     alloc: Global,
     options: &Options<ArgData>,
     plusplus: bool,

@@ -34,7 +34,7 @@ pub(crate) fn judge_flag(place: Place, flag: &'static str) -> Option<Refusal>
 }
 
 fn judge_module_output(alloc: Global, value: &[u8]) -> Mem<Option<Refusal>>
-    ensures { IfOk result (λ said. option_map verdict_of said ≡ module_output_verdict value.now) }
+    ensures { IfOk result (λ refusal. option_map verdict_of refusal ≡ module_output_verdict value.now) }
 {
     match value.first() {
         None | Some(b'=') => Ok(None),
@@ -73,7 +73,7 @@ fn judge_value(
     before: &[Argument<ArgData>],
     value: &ArgData,
 ) -> Mem<Option<Refusal>>
-    ensures { IfOk result (λ said. option_map verdict_of said ≡ value_verdict multiarch (last_text (of (Kind.Arch ∷ [])) (map (seen kind_of word_of) before.now)) (kind_of value.now) (word_of value.now)) }
+    ensures { IfOk result (λ refusal. option_map verdict_of refusal ≡ value_verdict multiarch (last_text (of (Kind.Arch ∷ [])) (map (seen kind_of word_of) before.now)) (kind_of value.now) (word_of value.now)) }
 {
     match value {
         ArgData::ClangModuleOutput(text) => judge_module_output(alloc, text),
@@ -93,7 +93,7 @@ fn judge_known(
     flag: &'static str,
     value: &ArgData,
 ) -> Mem<Option<Refusal>>
-    ensures { IfOk result (λ said. option_map verdict_of said
+    ensures { IfOk result (λ refusal. option_map verdict_of refusal
         ≡ known_verdict multiarch (last_text (of (Kind.Arch ∷ [])) (map (seen kind_of word_of) before.now)) flag.now (kind_of value.now) (word_of value.now)) }
 {
     match judge_flag(place_of_kind(value.kind()), flag) {

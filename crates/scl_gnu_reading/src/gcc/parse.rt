@@ -11,7 +11,7 @@ ghost use Rattle.scl_gnu_reading.specs.Recordings.{is_clang};
 ghost use Rattle.scl_gnu_reading.specs.Verdicts.{verdict};
 
 use super::data::{ArgData, Kind};
-use super::fixed_tests::find;
+use super::fixed_tests::apply_fixed_tests;
 use super::inner::{ByInnerVerdict, read_inner};
 use super::judge::ByVerdict;
 use super::record::record_of;
@@ -65,7 +65,7 @@ fn read_options(
 {
     let words = options.texts(alloc, &OfKinds(&[Kind::XClang]))?;
     let inner = read_inner(alloc, words, cwd, &ByInnerVerdict, view)?;
-    let found = find(alloc, &options, plusplus)?;
+    let found = apply_fixed_tests(alloc, &options, plusplus)?;
     Ok(record_of(alloc, options, &inner, found, kind, cwd, view)?)
 }
 

@@ -43,15 +43,19 @@ fn judge_module(is_compiled: bool, is_named: bool, has_language: bool) -> Option
     refuse_if(is_compiled && has_language, "-x c++-module with /Tc or /Tp")
 }
 
-/// The one input, where nothing was said against it; of several no more is asked.
-fn input_unless(alloc: Global, said: Option<Refusal>, inputs: Vec<Vec<u8>>) -> Result<Vec<u8>, Stop>
-    ensures { Gives (λ input. input.items) result (input_unless (option_map verdict_of said) (words_of inputs.items)) }
+/// The one input, where nothing stands against it; of several no more is asked.
+fn input_unless(
+    alloc: Global,
+    refusal: Option<Refusal>,
+    inputs: Vec<Vec<u8>>,
+) -> Result<Vec<u8>, Stop>
+    ensures { Gives (λ input. input.items) result (input_unless (option_map verdict_of refusal) (words_of inputs.items)) }
 {
     if inputs.len() > 1 {
-        drop(said);
+        drop(refusal);
         return one_input(alloc, inputs);
     }
-    match said {
+    match refusal {
         Some(refusal) => Err(Stop::Refused(refusal)),
         None => one_input(alloc, inputs),
     }
@@ -126,7 +130,7 @@ fn program_database(
 }
 
 /// The tests in their order.
-pub(crate) fn find(
+pub(crate) fn apply_fixed_tests(
     alloc: Global,
     options: &Options<ArgData>,
     is_clang: bool,
@@ -138,8 +142,8 @@ pub(crate) fn find(
         .ok_or(Refusal::NotCompilation)?;
     let is_module = options.any(&OfKinds(&[Kind::ClangLanguage]));
     let is_named = options.any(&OfKinds(&[Kind::ClangModuleOutput]));
-    let said = judge_module(is_module, is_named, has_explicit_language(options));
-    let input = input_unless(alloc, said, options.texts(alloc, &Inputs)?)?;
+    let refusal = judge_module(is_module, is_named, has_explicit_language(options));
+    let input = input_unless(alloc, refusal, options.texts(alloc, &Inputs)?)?;
     let language = language_of(is_module, explicit_language(options), &input);
     let language = language.ok_or(cannot_cache(UNKNOWN_SOURCE_LANGUAGE))?;
     let output = options.last_text(&OfKinds(&[Kind::Output]));

@@ -7,7 +7,7 @@ ghost use Rattle.scl_msvc_reading.specs.Readings.{read, reading};
 
 use super::args::trees;
 use super::data::ArgData;
-use super::fixed_tests::find;
+use super::fixed_tests::apply_fixed_tests;
 use super::inner::both_inner;
 use super::judge::ByVerdict;
 use super::record::record_of;
@@ -30,7 +30,7 @@ fn read_options(
     ensures { Gives parsed_of result (read is_clang cwd.now view.now options) }
 {
     let inner = both_inner(alloc, &options, cwd, view)?;
-    let found = find(alloc, &options, is_clang)?;
+    let found = apply_fixed_tests(alloc, &options, is_clang)?;
     Ok(record_of(alloc, options, &inner, found, cwd, view)?)
 }
 

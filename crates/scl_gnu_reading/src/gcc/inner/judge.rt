@@ -35,7 +35,7 @@ fn takes_raw(before: &[Argument<ArgData>]) -> bool
 }
 
 fn judge_raw(alloc: Global, is_taken: bool, word: &[u8]) -> Mem<Option<Refusal>>
-    ensures { IfOk result (λ said. option_map verdict_of said ≡ raw_verdict is_taken) }
+    ensures { IfOk result (λ refusal. option_map verdict_of refusal ≡ raw_verdict is_taken) }
 {
     if is_taken {
         return Ok(None);
