@@ -7,7 +7,7 @@ pub mod Requests
 pub mod Drafts
 pub mod Answers
 pub mod AnswersGiven
-pub mod Rules
+pub mod Definitions
 pub mod Transfers
 pub mod Written
 pub mod Program

@@ -1,6 +1,6 @@
 //! What is asked of a compiler, whichever of the served ones it is.
 ghost use Rattle.std.specs.Prelude.{IfOk};
-ghost use Rattle.scl_cl.specs.Rules.{rules_of};
+ghost use Rattle.scl_cl.specs.Definitions.{definitions_of};
 
 use crate::compiler::Compiler;
 use crate::within::CommandLines;
@@ -16,14 +16,14 @@ use std::alloc::Global;
 pub trait Query: Sized {
     ghost use Rattle.std.specs.Prelude.{IfOk};
     ghost use Rattle.scl_text.specs.Commands.{command_by};
-    ghost use Rattle.scl_cl.specs.Rules.{Rules};
+    ghost use Rattle.scl_cl.specs.Definitions.{Definitions};
     ghost use Rattle.scl_cl.specs.Within.{command_lines_in};
 
     /// What answers it.
     type Answer;
 
-    /// What it gives by the rules of a compiler.
-    ghost gives: { Self → Rules → Self.Answer → Type 0 };
+    /// What it gives by the definitions of a compiler.
+    ghost gives: { Self → Definitions → Self.Answer → Type 0 };
 
     /// The answer of a compiler that puts response files in place in these command lines. It fails only for want of memory.
     fn ask<C: CCompilerImpl>(
@@ -44,10 +44,10 @@ pub trait Query: Sized {
 }
 
 impl Compiler {
-    /// The answer to a query, by the rules of the compiler with this name, of which no version is known (docs/RULES.md,
+    /// The answer to a query, by the definitions of the compiler with this name, of which no version is known (docs/RULES.md,
     /// Compilers). It fails only for want of memory.
     pub fn ask<Q: Query>(self, alloc: Global, query: Q) -> Mem<Q::Answer>
-        ensures { IfOk result (λ answer. Q.gives query (rules_of self) answer) }
+        ensures { IfOk result (λ answer. Q.gives query (definitions_of self) answer) }
     {
         let gnu = CommandLines::Expanded(ExpansionKind::Gnu);
         match self {

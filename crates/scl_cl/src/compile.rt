@@ -7,7 +7,7 @@ ghost use Rattle.scl_text.specs.Commands.{pairs_of, command_by};
 ghost use Rattle.scl_cl.specs.Requests.{asked};
 ghost use Rattle.scl_cl.specs.Answers.{Keeps, answer_to, answer_with, environment_by, reading_by, read_again_by};
 ghost use Rattle.scl_cl.specs.AnswersGiven.{answer_by, answer_of, command_answer, HasBuilt, HasKept, HasParts, HasCommand, IfCompiled, IsAnswerBy};
-ghost use Rattle.scl_cl.specs.Rules.{rules_of};
+ghost use Rattle.scl_cl.specs.Definitions.{definitions_of};
 
 use crate::ask::Query;
 use crate::compiler::Compiler;
@@ -63,7 +63,7 @@ impl<'a, K: Kept> Query for Compile<'a, K> {
 
     type Answer = CompilerArguments<K>;
 
-    ghost gives = { λ query rules. IsAnswerBy K.command K.cacheable K.is_of rules query.executable.now
+    ghost gives = { λ query definitions. IsAnswerBy K.command K.cacheable K.is_of definitions query.executable.now
         (words_of query.words.items) query.cwd.now (pairs_of query.env_vars.now) query.view.now };
 
     fn ask<C: CCompilerImpl>(
@@ -103,7 +103,7 @@ impl Compiler {
         env_vars: &[(Vec<u8>, Vec<u8>)],
         view: &View,
     ) -> Mem<CompilerArguments<K>>
-        ensures { IfOk result (IsAnswerBy K.command K.cacheable K.is_of (rules_of self) executable.now (words_of words.items) cwd.now (pairs_of env_vars.now) view.now) }
+        ensures { IfOk result (IsAnswerBy K.command K.cacheable K.is_of (definitions_of self) executable.now (words_of words.items) cwd.now (pairs_of env_vars.now) view.now) }
     {
         let query = Compile {
             executable,

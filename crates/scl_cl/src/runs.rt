@@ -27,7 +27,7 @@ impl<'a> Query for PreprocessRuns<'a> {
 
     type Answer = Vec<Vec<Vec<u8>>>;
 
-    ghost gives = { λ query rules runs. runs_of runs.items ≡ rules.runs query.may_dist query.rewrite_includes_only query.cache_mode (parsed_of query.parsed.now) };
+    ghost gives = { λ query definitions runs. runs_of runs.items ≡ definitions.runs query.may_dist query.rewrite_includes_only query.cache_mode (parsed_of query.parsed.now) };
 
     fn ask<C: CCompilerImpl>(
         self,

@@ -47,8 +47,8 @@ impl<'a> Query for HasAtMost<'a> {
 
     type Answer = bool;
 
-    ghost gives = { λ query rules within.
-        within ≡ are_within query.most (rules.command_lines (words_of query.words.now) query.cwd.now (pairs_of query.env_vars.now) query.view.now) };
+    ghost gives = { λ query definitions within.
+        within ≡ are_within query.most (definitions.command_lines (words_of query.words.now) query.cwd.now (pairs_of query.env_vars.now) query.view.now) };
 
     fn ask<C: CCompilerImpl>(
         self,

@@ -1,4 +1,4 @@
--- The rules of a compiler that is served.
+-- What is defined of a compiler that is served, by its name.
 use Rattle.std.specs.Prelude.{ℕ, Bool, List, Option, Result}
 use Rattle.scl_files.specs.Views.{Viewed}
 use Rattle.scl_text.specs.Records.{Parsed, Verdict}
@@ -8,8 +8,8 @@ use Rattle.scl_cl.specs.Requests.{asked}
 use Rattle.scl_cl.specs.Answers.{reading_by, command_by, environment_by, kept_by, read_again_by, runs_by}
 use Rattle.scl_cl.specs.Within.{command_lines_by}
 
--- what each of its answers is; a command line is given by its words, directory, environment and files
-pub record Rules : Type 1 where
+-- what its answers are; a command line is given by its words, directory, environment and files
+pub record Definitions : Type 1 where
   -- what a command line says
   pub reading : List (List ℕ) → List ℕ → List (List ℕ × List ℕ) → Viewed → Result Parsed Verdict
   -- the words of the command for what was read, if it has an output `obj`
@@ -25,8 +25,8 @@ pub record Rules : Type 1 where
   -- the command lines in which response files are put in place, given and inner ones
   pub command_lines : List (List ℕ) → List ℕ → List (List ℕ × List ℕ) → Viewed → List (List (List ℕ))
 
-abbrev pub rules_of : Compiler → Rules
-rules_of compiler = record {
+abbrev pub definitions_of : Compiler → Definitions
+definitions_of compiler = record {
   reading = λ words directory environment view. reading_by compiler (asked compiler words directory environment view);
   command = command_by compiler;
   environment = environment_by compiler;
