@@ -1,19 +1,16 @@
-//! The fixed tests, and the record.
+//! The record.
 ghost use Rattle.std.specs.Prelude.{◌≡◌, ◌∷◌, [], IfOk, false, codes};
 ghost use Rattle.std.specs.Option.{option_copied};
-ghost use Rattle.scl_text.specs.Records.{outcome_of, parsed_of, path_of, artifact, artifacts};
-ghost use Rattle.scl_small.specs.Readings.{record_of, recorded, tested_by, object_path, dependency_path};
+ghost use Rattle.scl_text.specs.Records.{parsed_of, path_of, artifact, artifacts};
+ghost use Rattle.scl_small.specs.Readings.{record_of, object_path, dependency_path};
 
 use crate::place::{Place, Placed};
-use crate::rules::Rules;
 use scl_args::{Options, ShortFlagsJoined};
 use scl_text::Mem;
 use scl_text::language::Language;
 use scl_text::outputs::put_output;
 use scl_text::path::with_extension;
-use scl_text::reasons::UNKNOWN_SOURCE_LANGUAGE;
-use scl_text::records::{ArtifactDescriptor, CompilerArguments, ParsedArguments};
-use scl_text::refusal::one_input;
+use scl_text::records::{ArtifactDescriptor, ParsedArguments};
 use std::alloc::Global;
 use std::collections::BTreeMap;
 
@@ -48,7 +45,7 @@ fn outputs_of(alloc: Global, object: Vec<u8>) -> Mem<BTreeMap<String, ArtifactDe
 }
 
 /// The record of a compilation with the flag, of an input in the language.
-fn record_of<T: Placed>(
+pub(crate) fn record_of<T: Placed>(
     alloc: Global,
     options: Options<T>,
     flag: &str,
@@ -72,36 +69,4 @@ fn record_of<T: Placed>(
         common_args,
         ..ParsedArguments::bare(alloc, input, language, flag)
     })
-}
-
-/// The answer for a compilation with the flag: the tests of inputs and language, and the record.
-fn recorded<T: Placed>(
-    alloc: Global,
-    options: Options<T>,
-    flag: &str,
-) -> Mem<CompilerArguments<ParsedArguments>>
-    ensures { IfOk result (λ answer. outcome_of answer ≡ recorded T.place options flag.now) }
-{
-    let input = match one_input(alloc, options.texts(alloc, &Place::Input)?)? {
-        Ok(input) => input,
-        Err(refusal) => return Ok(refusal.without_text().into_answer()),
-    };
-    let Some(language) = Language::from_file_name(&input) else {
-        return Ok(CompilerArguments::CannotCache(UNKNOWN_SOURCE_LANGUAGE, None));
-    };
-    let record = record_of(alloc, options, flag, input, language)?;
-    Ok(CompilerArguments::Ok(record))
-}
-
-/// The answer for options that are not refused: the fixed tests, and the record.
-pub(crate) fn tested<T: Rules>(
-    alloc: Global,
-    options: Options<T>,
-) -> Mem<CompilerArguments<ParsedArguments>>
-    ensures { IfOk result (λ answer. outcome_of answer ≡ tested_by T.place T.compile_flag_for options) }
-{
-    match options.last_flag(&Place::CompileFlag) {
-        Some(flag) => recorded(alloc, options, T::compile_flag(flag)),
-        None => Ok(CompilerArguments::NotCompilation),
-    }
 }

@@ -5,8 +5,8 @@ ghost use Rattle.scl_values.specs.Words.{words_of};
 ghost use Rattle.scl_text.specs.Records.{outcome_of};
 ghost use Rattle.scl_small.specs.Readings.{reads, tested_by};
 
-use crate::finish::tested;
-use crate::rules::{ByRules, Rules};
+use crate::fixed_tests::tested;
+use crate::judge::{ByRules, Rules};
 use scl_args::SearchableArgInfo;
 use scl_text::records::{CompilerArguments, ParsedArguments};
 use scl_text::{Mem, ParserJudge, judge_cut};
