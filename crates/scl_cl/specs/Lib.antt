@@ -12,3 +12,5 @@ pub mod Written
 pub mod Runs
 pub mod Within
 pub mod Outcomes
+pub mod Questions
+pub mod QuestionsGiven
