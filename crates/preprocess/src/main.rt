@@ -4,46 +4,28 @@
 #![tactic(auto)]
 
 use scl_cl::args::Escaped;
-use scl_cl::clang::Clang;
-use scl_cl::diab::Diab;
-use scl_cl::gcc::Gcc;
-use scl_cl::msvc::Msvc;
-use scl_cl::tasking_vx::TaskingVX;
-use scl_cl::{CCompilerImpl, Compiler, CompilerArguments, Mem, Request, read_request};
+use scl_cl::{CompilerArguments, Mem, Request, read_request};
 use std::alloc::Global;
 use std::io::{self, ErrorKind, Read};
 
-/// The preprocessor's runs for a command line; none where its words give no record.
-fn runs_by<C: CCompilerImpl>(
-    alloc: Global,
-    compiler: &C,
-    request: &Request,
-) -> Mem<Option<Vec<Vec<Vec<u8>>>>> {
-    let said = compiler.parse_arguments(
+/// The preprocessor's runs for a request; none where its words give no record.
+fn runs_of(alloc: Global, request: &Request) -> Mem<Option<Vec<Vec<Vec<u8>>>>> {
+    let answer = request.compiler.answer(
         alloc,
+        b"",
         &request.words,
         &request.directory,
         &request.environment,
         &request.view,
     )?;
-    match &said {
-        CompilerArguments::Ok(record) => Ok(Some(compiler.preprocess_passes(
-            alloc, record, false, false, false,
-        )?)),
+    match &answer {
+        CompilerArguments::Ok(compilation) => {
+            let runs = request
+                .compiler
+                .preprocess_runs(alloc, &compilation.parsed, false, false, false)?;
+            Ok(Some(runs))
+        }
         CompilerArguments::CannotCache(_, _) | CompilerArguments::NotCompilation => Ok(None),
-    }
-}
-
-fn runs_of(alloc: Global, request: &Request) -> Mem<Option<Vec<Vec<Vec<u8>>>>> {
-    match request.compiler {
-        Compiler::Gcc => runs_by(alloc, &Gcc::new(false), request),
-        Compiler::Gxx => runs_by(alloc, &Gcc::new(true), request),
-        Compiler::Clang => runs_by(alloc, &Clang::new(false), request),
-        Compiler::Clangxx => runs_by(alloc, &Clang::new(true), request),
-        Compiler::Cl => runs_by(alloc, &Msvc::new(false, String::new(alloc)), request),
-        Compiler::ClangCl => runs_by(alloc, &Msvc::new(true, String::new(alloc)), request),
-        Compiler::Diab => runs_by(alloc, &Diab::new(), request),
-        Compiler::Tasking => runs_by(alloc, &TaskingVX, request),
     }
 }
 

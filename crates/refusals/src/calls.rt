@@ -12,7 +12,7 @@ use scl_cl::text::{ExpandAtArgs, GnuExpand, MsvcExpand, read_text};
 use scl_cl::{Compiler, CompilerArguments, Mem, TooManyWords, View};
 use std::alloc::{AllocError, Global};
 
-fn ended(is_right: Mem<bool>) -> Ended {
+fn end_of(is_right: Mem<bool>) -> Ended {
     match is_right {
         Ok(true) => Ended::Done,
         Ok(false) => Ended::Wrong,
@@ -80,7 +80,7 @@ fn gives_gnu(alloc: Global) -> Mem<bool> {
 
 /// The words of GNU files inside one another.
 pub(crate) fn expand_gnu(alloc: Global) -> Ended {
-    ended(gives_gnu(alloc))
+    end_of(gives_gnu(alloc))
 }
 
 fn gives_msvc(alloc: Global) -> Mem<bool> {
@@ -91,7 +91,7 @@ fn gives_msvc(alloc: Global) -> Mem<bool> {
 
 /// The words of an MSVC file in UTF-16.
 pub(crate) fn expand_msvc(alloc: Global) -> Ended {
-    ended(gives_msvc(alloc))
+    end_of(gives_msvc(alloc))
 }
 
 fn gives_diab(alloc: Global) -> Mem<bool> {
@@ -101,7 +101,7 @@ fn gives_diab(alloc: Global) -> Mem<bool> {
 
 /// The words of Diab files inside one another.
 pub(crate) fn expand_diab(alloc: Global) -> Ended {
-    ended(gives_diab(alloc))
+    end_of(gives_diab(alloc))
 }
 
 fn decodes(alloc: Global) -> Mem<bool> {
@@ -113,7 +113,7 @@ fn decodes(alloc: Global) -> Mem<bool> {
 
 /// The text of a file in UTF-16.
 pub(crate) fn decode(alloc: Global) -> Ended {
-    ended(decodes(alloc))
+    end_of(decodes(alloc))
 }
 
 /// Whether the view has its first files, and has this one where it was added.
@@ -146,7 +146,7 @@ fn adds_all(alloc: Global) -> Mem<bool> {
 
 /// Files of a view, one after the other; a refused one leaves the view as it was.
 pub(crate) fn add_files(alloc: Global) -> Ended {
-    ended(adds_all(alloc))
+    end_of(adds_all(alloc))
 }
 
 /// Whether the texts are `-D` and `x`; after an error there is to be none.
@@ -190,7 +190,7 @@ fn prints_flag(alloc: Global) -> Mem<bool> {
 
 /// The texts of an option.
 pub(crate) fn print_option(alloc: Global) -> Ended {
-    ended(prints_flag(alloc))
+    end_of(prints_flag(alloc))
 }
 
 /// Whether a command line of three words, two of them in a file that a file names, is too long for two and is answered
@@ -204,7 +204,7 @@ fn answers_within(alloc: Global) -> Mem<bool> {
 
 /// A command line with a bound on its words.
 pub(crate) fn answer_within(alloc: Global) -> Ended {
-    ended(answers_within(alloc))
+    end_of(answers_within(alloc))
 }
 
 fn finds_in_tree(alloc: Global) -> Mem<bool> {
@@ -217,5 +217,5 @@ fn finds_in_tree(alloc: Global) -> Mem<bool> {
 
 /// The prefix tree of a table's rows.
 pub(crate) fn build_tree(alloc: Global) -> Ended {
-    ended(finds_in_tree(alloc))
+    end_of(finds_in_tree(alloc))
 }

@@ -1,5 +1,5 @@
 -- The first of some words, put behind others.
-use Rattle.std.proofs.Common.{◌≡◌, ℕ, ◌+◌, ◌-◌, ◌≤◌, List, ◌++◌, Result, Ok, Err, OnErr, ap, sym, ◌∙◌, length, take, drop, arith, take-append-drop}
+use Rattle.std.proofs.Common.{◌≡◌, ℕ, ◌+◌, ◌-◌, ◌≤◌, List, ◌++◌, Result, Ok, Err, OnErr, ap, sym, ◌∙◌, length, take, arith}
 use Rattle.std.proofs.lemmas.Grind.{common_steps}
 use Rattle.std.proofs.Math.Seq.{take-append_seam, take-append-add}
 use Rattle.scl_args.specs.Wrapped.{HasFirstOf}
@@ -22,11 +22,3 @@ first-of before others after left e longer =
     let n = length after - length before in
     let len : length after ≡ length before + n = grind (arith, common_steps, longer) in
     (n, sym (take-append_seam after left) ∙ ap (λ ws. take (length after) ws) e ∙ ap (λ k. take k (before ++ others)) len ∙ take-append-add before others n)
-
--- so where words are put one after the other, and of one only the first could be put
-pub first-of-each : (before others middle rest each more after : List (List ℕ)) → middle ++ rest ≡ before ++ others → length before ≤ length middle
-    → rest ≡ each ++ more → HasFirstOf middle each after → HasFirstOf before others after
-first-of-each before others middle rest each more after sum longer split put =
-    let joined : after ++ (drop put.0 each ++ more) ≡ before ++ others = grind (arith, common_steps, put.1, take-append-drop put.0 each, sum, split) in
-    let more_than : length before ≤ length after = grind (arith, common_steps, put.1, longer) in
-    first-of before others after (drop put.0 each ++ more) joined more_than

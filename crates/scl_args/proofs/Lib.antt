@@ -3,5 +3,4 @@ pub mod FitLaws
 pub mod OptionLaws
 pub mod OwnerLaws
 pub mod PrintLaws
-pub mod SortLaws
 pub mod TiesLaws

@@ -1,6 +1,6 @@
 -- Filters, last ones and first verdicts of two lists of options one after the other.
 use Rattle.std.proofs.Common.{◌≡◌, ℕ, Bool, true, cond, List, [], ◌∷◌, ◌++◌, Option, Some, None, refl, ap, sym, ◌∙◌, filter, map, length, slice_get, ◌-◌, Bor, suc, arith}
-use Rattle.std.specs.List.{flat_map}
+use Rattle.std.specs.List.{flat_map, list_any}
 use Rattle.std.specs.Option.{option_map, option_copied, option_or}
 use Rattle.std.proofs.lemmas.List.Concat.{flat_map-append}
 use Rattle.std.proofs.lemmas.List.Elements.{filter-append}
@@ -56,3 +56,7 @@ last-get f (x ∷ xs) = ap (λ n. option_map f (slice_get (x ∷ xs) n)) (minus-
 pub option_map-copied : {A B : Type 0} (f : A → B) (x : Option (Bor A)) → option_map (λ a. f a.now) x ≡ option_map f (option_copied x)
 option_map-copied f None = refl
 option_map-copied f (Some x) = refl
+
+pub any-map : {A B : Type 0} (p : B → Bool) (f : A → B) (xs : List A) → list_any p (map f xs) ≡ list_any (λ x. p (f x)) xs
+any-map p f [] = refl
+any-map p f (x ∷ xs) = rw (any-map p f xs) refl

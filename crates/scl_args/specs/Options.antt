@@ -1,6 +1,6 @@
 -- What definitions say of a finished list of options: filters, last ones, lists of words, a first verdict.
 use Rattle.std.specs.Prelude.{ℕ, ◌==◌, ◌||◌, Vec, Bool, true, false, List, [], ◌∷◌, ◌++◌, map, filter, length, nat_eq, Option, None, Some, Result, Ok, Err, if◌then◌else◌}
-use Rattle.std.specs.List.{flat_map}
+use Rattle.std.specs.List.{flat_map, list_any}
 use Rattle.std.specs.Option.{option_map, option_or}
 use Rattle.std.specs.Str.{bytes_eq}
 use Rattle.std.specs.declared.alloc.Global.{Global}
@@ -11,7 +11,6 @@ use Rattle.scl_values.specs.declared.argument.NormalizedDisposition.TheVariants 
 use Rattle.scl_values.specs.Cuts.{mark}
 use Rattle.scl_values.specs.Seen.{Seen, Raw, Unknown, Known, seen, flag_of, text_of}
 use Rattle.scl_values.specs.Spell.{normal_how, spelled}
-use Rattle.scl_args.specs.Sorts.{sort_of, is_sort_of, sort_of_kinds}
 
 -- ---- one option
 
@@ -22,11 +21,13 @@ is_raw (Known f k v h) = false
 
 -- whether the option is one of a kind that passes the test
 abbrev pub is_of : {K : Type 0} → (K → Bool) → Seen K → Bool
-is_of p o = is_sort_of p (sort_of o)
+is_of p (Raw w) = false
+is_of p (Unknown w) = false
+is_of p (Known f k v h) = p k
 
 -- whether the option is of one of the kinds
 abbrev pub of_kinds : {K : Type 0} → (K → K → Bool) → List K → Seen K → Bool
-of_kinds same kinds o = sort_of_kinds same kinds (sort_of o)
+of_kinds same kinds o = is_of (λ k. list_any (λ other. same other k) kinds) o
 
 abbrev pub begins_with_at : List ℕ → Bool
 begins_with_at [] = false

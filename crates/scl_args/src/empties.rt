@@ -39,7 +39,7 @@ fn stands_either<T: ArgumentValue, S: SearchableArgInfo<T>>(
 
 /// Whether the option's value is empty and its row, in the tables that it was cut by, takes one either way
 /// (docs/RULES.md, Readings).
-pub(crate) fn has_empty_value<T: ReadArg, S: SearchableArgInfo<T>>(
+pub fn has_empty_value<T: ReadArg, S: SearchableArgInfo<T>>(
     arg_info: &S,
     option: &Argument<T>,
 ) -> bool

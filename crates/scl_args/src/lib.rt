@@ -3,15 +3,13 @@
 
 mod empties;
 mod finished;
-mod judge;
 pub mod laws;
 mod lists;
 mod options;
-mod sort;
 mod wrapped;
 
+pub use empties::has_empty_value;
 pub use finished::Options;
-pub use judge::{Judge, judge_all};
 pub use lists::{ShortFlagsJoined, Sides};
 pub use options::{OfKinds, Test, is_dashes, last_option, last_text, names_file, texts};
 pub use scl_cutting::{ArgsIter, CutWords, cut_options, cut_words};
@@ -20,8 +18,7 @@ pub use scl_tables::{FlagTable, FlagTree, Probes, RowStore, SearchableArgInfo, T
 pub use scl_values::{
     ArgDisposition, ArgInfo, ArgParseError, ArgParseResult, ArgRow, ArgToStringError,
     ArgToStringResult, Argument, ArgumentValue, Delimiter, Escaped, ExactArg, FromArg, Held,
-    IntoArg, Iter, IterStrings, Mem, NormalizedDisposition, PathArg, ReadArg, quoted, quoted_list,
-    split_os_string_arg, without_value,
+    IntoArg, Iter, IterStrings, Mem, NormalizedDisposition, PathArg, ReadArg, quote_list,
+    quote_word, shapes, split_os_string_arg, without_value,
 };
-pub use sort::{Sort, sort_of};
-pub use wrapped::{WrappedApart, WrappedJoined, Wrapper, push_wrapped};
+pub use wrapped::{WrappedApart, WrappedJoined, Wrapper};

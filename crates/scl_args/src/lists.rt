@@ -6,7 +6,7 @@ ghost use Rattle.scl_args.specs.Options.{spelled_on, list};
 ghost use Rattle.scl_values.specs.Words.{words_of};
 
 use crate::options::Test;
-use scl_values::{ArgDisposition, Argument, Mem, NormalizedDisposition, ReadArg, joined_word};
+use scl_values::{ArgDisposition, Argument, Mem, NormalizedDisposition, ReadArg, join_word};
 use std::alloc::Global;
 
 /// On which side of its flag an option of a list prints a value that may stand either way (docs/RULES.md, Printing).
@@ -55,7 +55,7 @@ fn push_value<T: ReadArg>(
             words.push(Vec::from_slice(alloc, value.word())?)?;
         }
         ArgDisposition::CanBeSeparated(delimiter) | ArgDisposition::Concatenated(delimiter) => {
-            words.push(joined_word(alloc, flag, delimiter, value.word())?)?;
+            words.push(join_word(alloc, flag, delimiter, value.word())?)?;
         }
     }
     Ok(())
@@ -63,7 +63,7 @@ fn push_value<T: ReadArg>(
 
 /// Puts the words of the option, on the side of its flag, behind others. It fails only for want of memory, and the first of
 /// two words may then stand there.
-fn push_option<T: ReadArg, S: Sides>(
+pub(crate) fn push_option<T: ReadArg, S: Sides>(
     alloc: Global,
     words: &mut Vec<Vec<u8>>,
     option: &Argument<T>,

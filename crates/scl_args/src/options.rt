@@ -1,68 +1,55 @@
 //! Filters over a finished list of options: the last that passes a test, its flag or text, whether any passes, the texts of
 //! those that do.
 ghost use Rattle.std.specs.Prelude.{◌≡◌, IfOk, map};
+ghost use Rattle.std.specs.List.{list_any};
 ghost use Rattle.std.specs.Option.{option_map};
 ghost use Rattle.scl_values.specs.Seen.{seen};
 ghost use Rattle.scl_values.specs.Words.{words_of};
-ghost use Rattle.scl_args.specs.Sorts.{sort_of_kinds};
 ghost use Rattle.scl_args.specs.Options.{begins_with_at, names_file, is_dashes, last, last_by, last_text, texts};
 
-use crate::sort::{Sort, sort_of};
 use scl_values::{ArgDisposition, Argument, ArgumentValue, Mem, ReadArg};
 use std::alloc::Global;
 
 /// A test that options pass or not (docs/RULES.md, Lists of options).
 pub trait Test<T: ArgumentValue> {
-    ghost use Rattle.std.specs.Prelude.{Bool, false};
+    ghost use Rattle.std.specs.Prelude.{Bool};
     ghost use Rattle.scl_values.specs.Seen.{Seen};
-    ghost use Rattle.scl_args.specs.Sorts.{sort_of};
-    ghost use Rattle.scl_args.specs.declared.sort.Sort.{Sort};
 
     /// Whether an option passes.
     ghost passes: { Self → Seen T.Kind → Bool };
 
-    /// Whether options of a sort may pass.
-    ghost may_pass: { Self → Sort T.Kind → Bool };
-
-    /// No option passes whose sort may not.
-    ghost passes_by_sort: { (test : Self) (option : Seen T.Kind) → may_pass test (sort_of option) ≡ false → passes test option ≡ false };
-
     /// Whether the option passes.
     fn passes(&self, option: &Argument<T>) -> bool
         ensures { result ≡ passes self.now (seen T.kind_of T.word_of option.now) };
-
-    /// Whether options of the sort may pass; where this is false none does.
-    fn may_pass(&self, sort: Sort<T::Kind>) -> bool
-        ensures { result ≡ may_pass self.now sort };
 }
 
 /// The test that options of these kinds pass.
 #[derive(Clone, Copy, Debug)]
 pub struct OfKinds<'a, K>(pub &'a [K]);
 
+impl<'a, K: PartialEq> OfKinds<'a, K> {
+    /// Whether the kind is one of these. By `contains` it would be a call for each option that a filter walks over.
+    fn has(&self, kind: &K) -> bool
+        ensures { result ≡ list_any (λ other. K.eq other kind.now) self.now.0.now }
+    {
+        self.0.iter().any(|other| other == kind)
+    }
+}
+
 impl<'a, T: ReadArg> Test<T> for OfKinds<'a, T::Kind>
 where
     T::Kind: PartialEq,
 {
     ghost use Rattle.scl_args.specs.Options.{of_kinds};
-    ghost use Rattle.scl_args.specs.Sorts.{sort_of_kinds};
 
     ghost passes = { λ test. of_kinds T.Kind.eq test.0.now };
 
-    ghost may_pass = { λ test. sort_of_kinds T.Kind.eq test.0.now };
-
-    ghost passes_by_sort = { λ test option none. none };
-
     fn passes(&self, option: &Argument<T>) -> bool {
-        <Self as Test<T>>::may_pass(self, sort_of(option))
-    }
-
-    fn may_pass(&self, sort: Sort<T::Kind>) -> bool
-        ensures { result ≡ sort_of_kinds T.Kind.eq self.now.0.now sort }
-    {
-        match sort {
-            Sort::Raw | Sort::Unknown => false,
-            Sort::Known(kind) => self.0.contains(&kind),
+        match option {
+            Argument::Raw(_) | Argument::UnknownFlag(_) => false,
+            Argument::Flag(_, value) | Argument::WithValue(_, value, _) => {
+                self.has(&value.kind())
+            }
         }
     }
 }

@@ -1,6 +1,5 @@
 //! Words that are handed on, each behind a wrapper.
 ghost use Rattle.std.specs.Prelude.{◌≡◌, ◌++◌, OnOk, OnErr};
-ghost use Rattle.std.specs.List.{flat_map};
 ghost use Rattle.scl_values.specs.Words.{words_of};
 ghost use Rattle.scl_args.specs.Wrapped.{HasFirstOf};
 
@@ -51,21 +50,4 @@ impl Wrapper for WrappedJoined {
         words.push(joined)?;
         Ok(())
     }
-}
-
-/// Puts the words of an inner command line, each behind the wrapper, behind others (docs/RULES.md, Lists of options); where
-/// memory is refused, the first of them may stand there already.
-pub fn push_wrapped<W: Wrapper>(
-    alloc: Global,
-    words: &mut Vec<Vec<u8>>,
-    inner: &[Vec<u8>],
-    wrapper: &W,
-) -> Mem<()>
-    ensures ok { OnOk result (words_of words.new.items ≡ words_of words.old.items ++ flat_map (W.wrapped wrapper.now) (words_of inner.now)) }
-    ensures err { OnErr result (HasFirstOf (words_of words.old.items) (flat_map (W.wrapped wrapper.now) (words_of inner.now)) (words_of words.new.items)) }
-{
-    for word in inner {
-        wrapper.push_word(alloc, words, word)?;
-    }
-    Ok(())
 }

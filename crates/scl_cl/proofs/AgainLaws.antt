@@ -22,7 +22,7 @@ use Rattle.scl_cl.specs.declared.compiler.Compiler.TheVariants as compilers
 use Rattle.scl_cl.specs.Answers.{answer_with, answer_from, reading_by, command_by, kept_by, read_again_by, Keeps, AnswersAreReadAgain, RecordsHaveCommands}
 use Rattle.scl_cl.specs.Lines.{lines_of}
 use Rattle.scl_cl.specs.Requests.{Request, request_in}
-use Rattle.scl_cl.specs.Runs.{text_for, answer, IsTextReadAgain}
+use Rattle.scl_cl.specs.Program.{text_for, program_answer, IsTextReadAgain}
 
 answer-with : (promise : Parsed → List (List ℕ) → Type 0) (p : Parsed) (words : Option (List (List ℕ))) (kept : Cacheable) → IfSome words (promise p) → Keeps promise (Ok p) (answer_with words kept)
 answer-with promise p None kept h = tt
@@ -70,11 +70,11 @@ text-again : (bytes text : List ℕ) (r : Result Request ℕ) → request_in (li
 text-again bytes text (Ok request) e is = record { request = request; request_is = e; text_is = sym (cc); read_again = answers_again request }
 text-again bytes text (Err n) e is = absurd (cc)
 
-answer-again : (bytes text : List ℕ) → answer bytes ≡ Ok text → IsTextReadAgain bytes text
+answer-again : (bytes text : List ℕ) → program_answer bytes ≡ Ok text → IsTextReadAgain bytes text
 answer-again bytes text is = text-again bytes text (request_in (lines_of bytes)) refl is
 
 -- where there are bytes, and the text of their answer is as it should be, a command in it is read again
 pub text-answers-again : (given : Option (List ℕ)) (IsWritten : List ℕ → Type 0) →
-    IfSome given (λ bytes. (text : List ℕ) × (answer bytes ≡ Ok text) × IsWritten text) → IfSome given (λ bytes. (text : List ℕ) × IsTextReadAgain bytes text × IsWritten text)
+    IfSome given (λ bytes. (text : List ℕ) × (program_answer bytes ≡ Ok text) × IsWritten text) → IfSome given (λ bytes. (text : List ℕ) × IsTextReadAgain bytes text × IsWritten text)
 text-answers-again None IsWritten h = tt
 text-answers-again (Some bytes) IsWritten h = (h.0, answer-again bytes h.0 h.1, h.2)

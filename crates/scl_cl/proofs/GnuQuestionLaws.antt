@@ -198,13 +198,13 @@ module _ (compiler : CCompilerKind) (plusplus : Bool) (tables : List (List (Row 
   read-os : NoneAsked directory disk view extends (hash_files (read compiler plusplus directory view os)) → Each (λ w. begins_with_at w ≡ false) handed
       → read compiler plusplus directory disk os ≡ read compiler plusplus directory view os
   read-os n h =
-      ap (λ ws. judged_cut empty_value inner_verdict argument_parse (owner_in clang_tables) false ws >>= recorded compiler plusplus directory disk os) (stand directory disk.files handed h ∙ sym (stand directory view.files handed h))
-      ∙ bind-same (inner_reading empty_value inner_verdict argument_parse directory view handed) (recorded compiler plusplus directory disk os) (recorded compiler plusplus directory view os)
+      ap (λ ws. judged_cut inner_verdict (owner_in clang_tables) false ws >>= recorded compiler plusplus directory disk os) (stand directory disk.files handed h ∙ sym (stand directory view.files handed h))
+      ∙ bind-same (inner_reading inner_verdict directory view handed) (recorded compiler plusplus directory disk os) (recorded compiler plusplus directory view os)
       (λ inner e. same-recorded directory disk view extends compiler plusplus os inner
       (subst (λ r. NoneAsked directory disk view extends (hash_files (r >>= recorded compiler plusplus directory view os))) e n))
 
   abbrev judged_view : Result (List (Seen Kind)) Verdict
-  judged_view = judged_words expansions.Gnu empty_value (verdict view.is_multiarch) argument_parse tables (is_clang compiler) directory view words
+  judged_view = judged_words expansions.Gnu (verdict view.is_multiarch) tables (is_clang compiler) directory view words
 
   read-same : (xs : List (Seen Kind)) → judged_view ≡ Ok xs → read compiler plusplus directory disk xs ≡ read compiler plusplus directory view xs
   read-same xs e =
@@ -219,7 +219,7 @@ module _ (compiler : CCompilerKind) (plusplus : Bool) (tables : List (List (Row 
 
   pub reading-same : reading compiler plusplus tables directory disk words ≡ reading compiler plusplus tables directory view words
   reading-same =
-      ap (λ ws. judged_cut empty_value (verdict disk.is_multiarch) argument_parse (owner_in tables) (is_clang compiler) ws >>= read compiler plusplus directory disk)
+      ap (λ ws. judged_cut (verdict disk.is_multiarch) (owner_in tables) (is_clang compiler) ws >>= read compiler plusplus directory disk)
       (wanted_decides expansions.Gnu directory view.files disk.files words extends.files no_files)
-      ∙ ap (λ m. judged_words expansions.Gnu empty_value (verdict m) argument_parse tables (is_clang compiler) directory view words >>= read compiler plusplus directory disk) extends.multiarch
+      ∙ ap (λ m. judged_words expansions.Gnu (verdict m) tables (is_clang compiler) directory view words >>= read compiler plusplus directory disk) extends.multiarch
       ∙ bind-same judged_view (read compiler plusplus directory disk) (read compiler plusplus directory view) read-same

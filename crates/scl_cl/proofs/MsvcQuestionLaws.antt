@@ -49,7 +49,7 @@ none-back disk (x ∷ xs) ys n = none-back disk xs ys n.1
 module _ (is_clang : Bool) (directory : List ℕ) (disk view : Viewed) (extends : Extends disk view) where
   inner-same : (k : Kind) (os : List (Seen Kind)) → HasNone disk.files (inner_wanted k directory view os) → inner_options k directory disk os ≡ inner_options k directory view os
   inner-same k os n =
-      ap (λ ws. judged_cut empty_value inner_verdict argument_parse (owner_in clang_tables) false ws) (wanted_decides expansions.Gnu directory view.files disk.files (texts (of (k ∷ [])) os) extends.files n)
+      ap (λ ws. judged_cut inner_verdict (owner_in clang_tables) false ws) (wanted_decides expansions.Gnu directory view.files disk.files (texts (of (k ∷ [])) os) extends.files n)
 
   abbrev put : List (Seen gnu.Kind) → List (Seen gnu.Kind) → Result BothInner Verdict
   put xclang clang = Ok (record { xclang = xclang; clang = clang })
@@ -78,7 +78,7 @@ module _ (is_clang : Bool) (directory : List ℕ) (disk view : Viewed) (extends 
       (λ inner e. recorded-same os inner (subst (λ r. NoneAsked directory disk view extends (hash_files (r >>= recorded is_clang directory view os))) e d))
 
   abbrev judged : List (List ℕ) → Result (List (Seen Kind)) Verdict
-  judged all = judged_words expansions.Msvc empty_value (verdict is_clang) argument_parse msvc_tables is_clang directory view all
+  judged all = judged_words expansions.Msvc (verdict is_clang) msvc_tables is_clang directory view all
 
   -- options that are judged and not refused are those that the words are cut into
   judged-cut : (all : List (List ℕ)) (os : List (Seen Kind)) → judged all ≡ Ok os → options_cut is_clang (expand expansions.Msvc directory view.files all) ≡ os
@@ -91,7 +91,7 @@ module _ (is_clang : Bool) (directory : List ℕ) (disk view : Viewed) (extends 
   reading-same all n d =
       let first = wanted expansions.Msvc directory view.files all in
       let handed = both_wanted directory view (options_cut is_clang (expand expansions.Msvc directory view.files all)) in
-      ap (λ ws. judged_cut empty_value (verdict is_clang) argument_parse (owner_in msvc_tables) is_clang ws >>= read is_clang directory disk)
+      ap (λ ws. judged_cut (verdict is_clang) (owner_in msvc_tables) is_clang ws >>= read is_clang directory disk)
       (wanted_decides expansions.Msvc directory view.files disk.files all extends.files (none-front disk.files first handed n))
       ∙ bind-same (judged all) (read is_clang directory disk) (read is_clang directory view)
       (λ os e. read-same os (subst (λ xs. HasNone disk.files (both_wanted directory view xs)) (judged-cut all os e) (none-back disk.files first handed n))

@@ -1,5 +1,5 @@
 -- The answer to a request, and its text.
-use Rattle.std.specs.Prelude.{◌≡◌, ℕ, true, false, List, [], ◌∷◌, ◌++◌, codes, Option, None, Some, Result, Ok, Err, is_some}
+use Rattle.std.specs.Prelude.{◌≡◌, ℕ, Bool, true, false, List, [], ◌∷◌, ◌++◌, codes, Option, None, Some, Result, Ok, Err, is_some}
 use Rattle.std.specs.List.{flat_map}
 use Rattle.scl_files.specs.Characters.{line_feed}
 use Rattle.scl_values.specs.Escaped.{escaped}
@@ -10,14 +10,16 @@ use Rattle.scl_values.specs.Tables.{owner_in}
 use Rattle.scl_text.specs.Languages.{clang_text, gcc_text}
 use Rattle.scl_text.specs.declared.records.CCompilerKind.TheVariants as kinds
 use Rattle.scl_gnu.specs.Building as gcc
+use Rattle.scl_gnu.specs.Preprocess.{gcc_runs, clang_runs}
 use Rattle.scl_gnu_reading.specs.ClangRows.{clang_tables}
 use Rattle.scl_gnu_reading.specs.GccRows.{gcc_rows}
 use Rattle.scl_gnu.specs.ReadAgain.{GccReadsAgain, ClangReadsAgain}
 use Rattle.scl_gnu_reading.specs.Readings as gcc_reading
 use Rattle.scl_msvc.specs.Building as msvc
 use Rattle.scl_msvc.specs.Environment.{surrounded_reading, without_cl_env_vars}
+use Rattle.scl_msvc.specs.Preprocess as msvc_preprocess
 use Rattle.scl_msvc.specs.Promises.{MsvcReadsAgain}
-use Rattle.scl_small.specs.Command.{command}
+use Rattle.scl_small.specs.Command.{command, diab_runs, tasking_runs}
 use Rattle.scl_small.specs.DiabAgain.{DiabReadsAgain}
 use Rattle.scl_small.specs.DiabReading as diab
 use Rattle.scl_small.specs.DiabTable as diab_table
@@ -84,6 +86,17 @@ command_by compilers.Cl parsed = msvc.command parsed
 command_by compilers.ClangCl parsed = msvc.command parsed
 command_by compilers.Diab parsed = command parsed
 command_by compilers.Tasking parsed = command parsed
+
+-- the words of the runs of the preprocessor for what was read; of no compiler is a version known
+abbrev pub runs_by : Compiler → (may_dist rewrites cache_mode : Bool) → Parsed → List (List (List ℕ))
+runs_by compilers.Gcc may_dist rewrites cache_mode parsed = gcc_runs may_dist rewrites cache_mode parsed
+runs_by compilers.Gxx may_dist rewrites cache_mode parsed = gcc_runs may_dist rewrites cache_mode parsed
+runs_by compilers.Clang may_dist rewrites cache_mode parsed = clang_runs false None may_dist rewrites cache_mode parsed
+runs_by compilers.Clangxx may_dist rewrites cache_mode parsed = clang_runs false None may_dist rewrites cache_mode parsed
+runs_by compilers.Cl may_dist rewrites cache_mode parsed = msvc_preprocess.runs false may_dist rewrites parsed
+runs_by compilers.ClangCl may_dist rewrites cache_mode parsed = msvc_preprocess.runs true may_dist rewrites parsed
+runs_by compilers.Diab may_dist rewrites cache_mode parsed = diab_runs parsed
+runs_by compilers.Tasking may_dist rewrites cache_mode parsed = tasking_runs parsed
 
 -- the environment that a compiler's command gets
 abbrev pub environment_by : Compiler → List (List ℕ × List ℕ) → List (List ℕ × List ℕ)

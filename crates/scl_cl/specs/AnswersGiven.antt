@@ -9,7 +9,9 @@ use Rattle.scl_text.specs.declared.records.CompilerArguments.TheVariants as outc
 use Rattle.scl_text.specs.declared.records.SingleCompileCommand.{SingleCompileCommand}
 use Rattle.scl_cl.specs.declared.kept.BuiltCommand.{BuiltCommand}
 use Rattle.scl_cl.specs.declared.kept.Compilation.{Compilation}
-use Rattle.scl_cl.specs.Answers.{Answer, compiled, cannot_cache, not_compilation}
+use Rattle.scl_files.specs.Views.{Viewed}
+use Rattle.scl_cl.specs.Answers.{Answer, compiled, cannot_cache, not_compilation, answer_from}
+use Rattle.scl_cl.specs.Rules.{Rules}
 
 -- the answer, less the text beside a reason, by the command that is kept and by whether its outcome may be
 abbrev pub answer_by : {K : Type 0} → (K → SingleCompileCommand) → (K → Cacheable) → CompilerArguments K → Answer
@@ -31,6 +33,13 @@ HasBuilt command executable env_vars cwd = IfKept (λ kept. Builds (command kept
 abbrev pub HasKept : {K : Type 0} → (K → SingleCompileCommand) → (K → Parsed → Type 0) → Result Parsed Verdict → (Parsed → List (List ℕ) → Type 0) → CompilerArguments K → Type 0
 HasKept command is_of reading promise =
     IfKept (λ kept. (parsed : Parsed) × is_of kept parsed × (reading ≡ Ok parsed) × promise parsed (words_of (command kept).arguments.items))
+
+-- it is the answer that these rules give to a command line (program, words, directory, environment, files), by what is kept
+pub record IsAnswerBy {K : Type 0} (command : K → SingleCompileCommand) (cacheable : K → Cacheable) (is_of : K → Parsed → Type 0) (rules : Rules)
+    (executable : List ℕ) (words : List (List ℕ)) (cwd : List ℕ) (env_vars : List (List ℕ × List ℕ)) (view : Viewed) (answer : CompilerArguments K) : Type 0 where
+  pub answer_is : answer_by command cacheable answer ≡ answer_from rules.command (rules.cacheable words cwd env_vars view) (rules.reading words cwd env_vars view)
+  pub has_parts : HasBuilt command executable (rules.environment env_vars) cwd answer
+  pub has_kept : HasKept command is_of (rules.reading words cwd env_vars view) (rules.is_read_again words cwd env_vars view) answer
 
 -- ---- with the record
 

@@ -7,9 +7,10 @@ pub mod Requests
 pub mod Drafts
 pub mod Answers
 pub mod AnswersGiven
+pub mod Rules
 pub mod Transfers
 pub mod Written
-pub mod Runs
+pub mod Program
 pub mod Within
 pub mod Outcomes
 pub mod Questions

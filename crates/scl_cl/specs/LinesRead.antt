@@ -1,8 +1,8 @@
 -- What a line that the code keeps says.
 use Rattle.scl_cl.specs.Sayings.{Saying}
 use Rattle.scl_cl.specs.Sayings as sayings
-use Rattle.scl_cl.specs.declared.line.Line.{Line}
-use Rattle.scl_cl.specs.declared.line.Line.TheVariants as lines
+use Rattle.scl_cl.specs.declared.saying.Saying.{Line}
+use Rattle.scl_cl.specs.declared.saying.Saying.TheVariants as kept
 
 abbrev pub said_by : Line → Saying
 said_by lines.Blank = sayings.Blank

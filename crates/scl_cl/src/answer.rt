@@ -56,7 +56,7 @@ fn reason_text(alloc: Global, reason: &str) -> Mem<Vec<u8>>
 }
 
 /// The text of an answer, whatever it keeps.
-fn kept_text<K: Kept>(alloc: Global, answer: &CompilerArguments<K>) -> Mem<Vec<u8>>
+fn text_of<K: Kept>(alloc: Global, answer: &CompilerArguments<K>) -> Mem<Vec<u8>>
     ensures { IfOk result (λ text. text.items ≡ text_of (answer_by K.command K.cacheable answer.now)) }
 {
     match answer {
@@ -73,12 +73,12 @@ fn kept_text<K: Kept>(alloc: Global, answer: &CompilerArguments<K>) -> Mem<Vec<u
 pub fn answer_text(alloc: Global, answer: &CompilerArguments<Compilation>) -> Mem<Vec<u8>>
     ensures { IfOk result (λ text. text.items ≡ text_of (answer_of answer.now)) }
 {
-    kept_text(alloc, answer)
+    text_of(alloc, answer)
 }
 
 /// The text of an answer that keeps no record, as `answer_text` gives it. It fails only for want of memory.
 pub fn command_text(alloc: Global, answer: &CompilerArguments<BuiltCommand>) -> Mem<Vec<u8>>
     ensures { IfOk result (λ text. text.items ≡ text_of (command_answer answer.now)) }
 {
-    kept_text(alloc, answer)
+    text_of(alloc, answer)
 }

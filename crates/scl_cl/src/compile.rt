@@ -5,20 +5,19 @@ ghost use Rattle.scl_text.specs.Records.{parsed_of};
 ghost use Rattle.scl_values.specs.Words.{words_of};
 ghost use Rattle.scl_text.specs.Commands.{pairs_of, command_by};
 ghost use Rattle.scl_cl.specs.Requests.{asked};
-ghost use Rattle.scl_cl.specs.Answers.{Keeps, answer_to, answer_from, answer_with, environment_by, reading_by, read_again_by};
-ghost use Rattle.scl_cl.specs.AnswersGiven.{answer_by, answer_of, command_answer, HasBuilt, HasKept, HasParts, HasCommand, IfCompiled};
+ghost use Rattle.scl_cl.specs.Answers.{Keeps, answer_to, answer_with, environment_by, reading_by, read_again_by};
+ghost use Rattle.scl_cl.specs.AnswersGiven.{answer_by, answer_of, command_answer, HasBuilt, HasKept, HasParts, HasCommand, IfCompiled, IsAnswerBy};
+ghost use Rattle.scl_cl.specs.Rules.{rules_of};
 
+use crate::ask::Query;
 use crate::compiler::Compiler;
 use crate::kept::{BuiltCommand, Compilation, Kept};
-use scl_gnu::clang::Clang;
-use scl_gnu::gcc::Gcc;
-use scl_msvc::msvc::Msvc;
-use scl_small::diab::Diab;
-use scl_small::tasking_vx::TaskingVX;
-use scl_text::command::copied_words;
+use crate::within::CommandLines;
+use scl_text::command::copy_words;
 use scl_text::records::{CommandError, CompilerArguments, ParsedArguments};
 use scl_text::{CCompilerImpl, Mem, View};
 use std::alloc::{AllocError, Global};
+use std::marker::PhantomData;
 
 /// The answer of a record: what is kept of it.
 fn answer_record<C: CCompilerImpl, K: Kept>(
@@ -46,30 +45,50 @@ fn answer_record<C: CCompilerImpl, K: Kept>(
     }
 }
 
-/// The answer of a compiler, to words that are handed over.
-fn answer_words<C: CCompilerImpl, K: Kept>(
-    alloc: Global,
-    compiler: &C,
-    executable: &[u8],
+/// What a command line, whose words are handed over, is answered.
+#[derive(Drop)]
+struct Compile<'a, K> {
+    executable: &'a [u8],
     words: Vec<Vec<u8>>,
-    cwd: &[u8],
-    env_vars: &[(Vec<u8>, Vec<u8>)],
-    view: &View,
-) -> Mem<CompilerArguments<K>>
-    ensures answer { IfOk result (λ answer. answer_by K.command K.cacheable answer ≡ answer_from (command_by (C.command compiler.now)) (λ parsed. C.cacheable compiler.now parsed cwd.now view.now)
-        (C.reading compiler.now (words_of words.items) cwd.now (pairs_of env_vars.now) view.now)) }
-    ensures parts { IfOk result (λ answer. HasBuilt K.command executable.now (C.environment compiler.now (pairs_of env_vars.now)) cwd.now answer) }
-    ensures kept { IfOk result (λ answer. HasKept K.command K.is_of (C.reading compiler.now (words_of words.items) cwd.now (pairs_of env_vars.now) view.now)
-        (C.is_read_again compiler.now (words_of words.items) cwd.now (pairs_of env_vars.now) view.now) answer) }
-{
-    match compiler.parse_arguments_owned(alloc, words, cwd, env_vars, view)? {
-        CompilerArguments::Ok(parsed) => {
-            answer_record(alloc, compiler, executable, parsed, cwd, env_vars, view)
+    cwd: &'a [u8],
+    env_vars: &'a [(Vec<u8>, Vec<u8>)],
+    view: &'a View,
+    kept: PhantomData<K>,
+}
+
+impl<'a, K: Kept> Query for Compile<'a, K> {
+    ghost use Rattle.scl_values.specs.Words.{words_of};
+    ghost use Rattle.scl_text.specs.Commands.{pairs_of};
+    ghost use Rattle.scl_cl.specs.AnswersGiven.{IsAnswerBy};
+
+    type Answer = CompilerArguments<K>;
+
+    ghost gives = { λ query rules. IsAnswerBy K.command K.cacheable K.is_of rules query.executable.now
+        (words_of query.words.items) query.cwd.now (pairs_of query.env_vars.now) query.view.now };
+
+    fn ask<C: CCompilerImpl>(
+        self,
+        alloc: Global,
+        compiler: &C,
+        _command_lines: CommandLines,
+    ) -> Mem<CompilerArguments<K>> {
+        let Compile {
+            executable,
+            words,
+            cwd,
+            env_vars,
+            view,
+            kept: _,
+        } = self;
+        match compiler.parse_arguments_owned(alloc, words, cwd, env_vars, view)? {
+            CompilerArguments::Ok(parsed) => {
+                answer_record(alloc, compiler, executable, parsed, cwd, env_vars, view)
+            }
+            CompilerArguments::CannotCache(reason, text) => {
+                Ok(CompilerArguments::CannotCache(reason, text))
+            }
+            CompilerArguments::NotCompilation => Ok(CompilerArguments::NotCompilation),
         }
-        CompilerArguments::CannotCache(reason, text) => {
-            Ok(CompilerArguments::CannotCache(reason, text))
-        }
-        CompilerArguments::NotCompilation => Ok(CompilerArguments::NotCompilation),
     }
 }
 
@@ -84,31 +103,17 @@ impl Compiler {
         env_vars: &[(Vec<u8>, Vec<u8>)],
         view: &View,
     ) -> Mem<CompilerArguments<K>>
-        ensures answer { IfOk result (λ answer. answer_by K.command K.cacheable answer ≡ answer_to (asked self (words_of words.items) cwd.now (pairs_of env_vars.now) view.now)) }
-        ensures parts { IfOk result (λ answer. HasBuilt K.command executable.now (environment_by self (pairs_of env_vars.now)) cwd.now answer) }
-        ensures kept { IfOk result (λ answer. HasKept K.command K.is_of (reading_by self (asked self (words_of words.items) cwd.now (pairs_of env_vars.now) view.now))
-            (read_again_by self (asked self (words_of words.items) cwd.now (pairs_of env_vars.now) view.now)) answer) }
+        ensures { IfOk result (IsAnswerBy K.command K.cacheable K.is_of (rules_of self) executable.now (words_of words.items) cwd.now (pairs_of env_vars.now) view.now) }
     {
-        match self {
-            Compiler::Gcc | Compiler::Gxx => {
-                let gcc = Gcc::new(matches!(self, Compiler::Gxx));
-                answer_words(alloc, &gcc, executable, words, cwd, env_vars, view)
-            }
-            Compiler::Clang | Compiler::Clangxx => {
-                let clang = Clang::new(matches!(self, Compiler::Clangxx));
-                answer_words(alloc, &clang, executable, words, cwd, env_vars, view)
-            }
-            Compiler::Cl | Compiler::ClangCl => {
-                let cl = Msvc::new(matches!(self, Compiler::ClangCl), String::new(alloc));
-                answer_words(alloc, &cl, executable, words, cwd, env_vars, view)
-            }
-            Compiler::Diab => {
-                answer_words(alloc, &Diab::new(), executable, words, cwd, env_vars, view)
-            }
-            Compiler::Tasking => {
-                answer_words(alloc, &TaskingVX, executable, words, cwd, env_vars, view)
-            }
-        }
+        let query = Compile {
+            executable,
+            words,
+            cwd,
+            env_vars,
+            view,
+            kept: PhantomData,
+        };
+        self.ask(alloc, query)
     }
 
     /// What a command line is answered: the words behind the program `executable`, read in the directory `cwd`, with the
@@ -128,7 +133,7 @@ impl Compiler {
             executable.now (environment_by self (pairs_of env_vars.now)) cwd.now answer) }
         ensures read_again { IfOk result (λ answer. IfCompiled (read_again_by self (asked self (words_of words.now) cwd.now (pairs_of env_vars.now) view.now)) answer) }
     {
-        let words = copied_words(alloc, words)?;
+        let words = copy_words(alloc, words)?;
         self.compile(alloc, executable, words, cwd, env_vars, view)
     }
 

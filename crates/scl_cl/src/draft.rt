@@ -6,7 +6,7 @@ ghost use Rattle.scl_cl.specs.Drafts.{with_line, gathered_by, asked_by};
 ghost use Rattle.scl_cl.specs.LinesRead.{said_by};
 
 use crate::compiler::Compiler;
-use crate::line::Line;
+use crate::saying::Saying;
 use scl_text::{Mem, View};
 use std::alloc::Global;
 
@@ -51,37 +51,37 @@ impl Draft {
     }
 
     /// Whether the line says again what stands once.
-    pub(crate) fn refuses(&self, line: &Line) -> bool
-        ensures { result ≡ breaks (gathered_by self.now) (Some (said_by line.now)) }
+    pub(crate) fn refuses(&self, saying: &Saying) -> bool
+        ensures { result ≡ breaks (gathered_by self.now) (Some (said_by saying.now)) }
     {
-        match line {
-            Line::Compiler(_) => self.compiler.is_some(),
-            Line::Directory(_) => self.directory.is_some(),
-            Line::Blank
-            | Line::Word(_)
-            | Line::File(_, _)
-            | Line::ViewedDirectory(_)
-            | Line::Existing(_)
-            | Line::Variable(_, _)
-            | Line::Multiarch => false,
+        match saying {
+            Saying::Compiler(_) => self.compiler.is_some(),
+            Saying::Directory(_) => self.directory.is_some(),
+            Saying::Blank
+            | Saying::Word(_)
+            | Saying::File(_, _)
+            | Saying::ViewedDirectory(_)
+            | Saying::Existing(_)
+            | Saying::Variable(_, _)
+            | Saying::Multiarch => false,
         }
     }
 
     /// Takes what the line says.
-    pub(crate) fn take(&mut self, line: Line) -> Mem<()>
-        requires { breaks (gathered_by self.old) (Some (said_by line)) ≡ false }
-        ensures { OnOk result (gathered_by self.new ≡ with_line (gathered_by self.old) (said_by line)) }
+    pub(crate) fn take(&mut self, saying: Saying) -> Mem<()>
+        requires { breaks (gathered_by self.old) (Some (said_by saying)) ≡ false }
+        ensures { OnOk result (gathered_by self.new ≡ with_line (gathered_by self.old) (said_by saying)) }
     {
-        match line {
-            Line::Blank => {}
-            Line::Compiler(compiler) => self.compiler = Some(compiler),
-            Line::Directory(path) => self.directory = Some(path),
-            Line::Word(word) => self.words.push(word)?,
-            Line::File(path, bytes) => self.view.add_file(path, bytes)?,
-            Line::ViewedDirectory(path) => self.view.add_dir(path)?,
-            Line::Existing(path) => self.view.add_existing(path)?,
-            Line::Variable(key, value) => self.environment.push((key, value))?,
-            Line::Multiarch => self.view.set_multiarch(true),
+        match saying {
+            Saying::Blank => {}
+            Saying::Compiler(compiler) => self.compiler = Some(compiler),
+            Saying::Directory(path) => self.directory = Some(path),
+            Saying::Word(word) => self.words.push(word)?,
+            Saying::File(path, bytes) => self.view.add_file(path, bytes)?,
+            Saying::ViewedDirectory(path) => self.view.add_dir(path)?,
+            Saying::Existing(path) => self.view.add_existing(path)?,
+            Saying::Variable(key, value) => self.environment.push((key, value))?,
+            Saying::Multiarch => self.view.set_multiarch(true),
         }
         Ok(())
     }

@@ -17,7 +17,7 @@ pub(crate) fn is_plain(byte: u8) -> bool
 }
 
 /// The bytes up to the first that does not stand for itself, and those from it on.
-fn plain_run(bytes: &[u8]) -> (&[u8], &[u8])
+fn plain_prefix(bytes: &[u8]) -> (&[u8], &[u8])
     ensures plain { list_all is_plain result.0.now ≡ true }
     ensures ends { starts_plain result.1.now ≡ false }
     ensures whole { bytes.now ≡ result.0.now ++ result.1.now }
@@ -54,11 +54,11 @@ fn push_escape(text: &mut Vec<u8>, byte: u8) -> Mem<()>
 pub(crate) fn push_field(text: &mut Vec<u8>, bytes: &[u8]) -> Mem<()>
     ensures { OnOk result (text.new.items ≡ text.old.items ++ escaped bytes.now) }
 {
-    let (plain, mut left) = plain_run(bytes);
+    let (plain, mut left) = plain_prefix(bytes);
     text.extend_from_slice(plain)?;
     while let Some((byte, behind)) = left.split_first() {
         push_escape(text, *byte)?;
-        let (plain, rest) = plain_run(behind);
+        let (plain, rest) = plain_prefix(behind);
         text.extend_from_slice(plain)?;
         left = rest;
     }
@@ -108,14 +108,14 @@ pub(crate) fn read_field(alloc: Global, text: &[u8]) -> Mem<Option<Vec<u8>>>
     ensures { IfOk result (λ field. option_map (λ bytes. bytes.items) field ≡ field_of text.now) }
 {
     let mut bytes = Vec::with_capacity(alloc, text.len())?;
-    let (plain, mut left) = plain_run(text);
+    let (plain, mut left) = plain_prefix(text);
     bytes.extend_from_slice(plain)?;
     while !left.is_empty() {
         let Some((byte, behind)) = first_escape(left) else {
             return Ok(None);
         };
         bytes.push(byte)?;
-        let (plain, rest) = plain_run(behind);
+        let (plain, rest) = plain_prefix(behind);
         bytes.extend_from_slice(plain)?;
         left = rest;
     }

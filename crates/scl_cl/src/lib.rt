@@ -4,6 +4,7 @@
 #![tactic(auto)]
 
 mod answer;
+mod ask;
 mod compile;
 mod compiler;
 mod cut;
@@ -12,15 +13,17 @@ mod field;
 mod kept;
 mod keyword;
 pub mod laws;
-mod line;
 mod outcome;
 mod program;
 mod questions;
 mod request;
+mod runs;
+mod saying;
 mod transfer;
 mod within;
 
 pub use answer::{answer_text, command_text};
+pub use ask::Query;
 pub use compiler::Compiler;
 pub use draft::Request;
 pub use kept::{BuiltCommand, Compilation};
@@ -40,3 +43,4 @@ pub use scl_text::records::{
     ParsedArguments, SingleCompileCommand,
 };
 pub use scl_text::{CCompilerImpl, Mem, TooManyWords, View, path};
+pub use within::CommandLines;

@@ -7,7 +7,7 @@ ghost use Rattle.scl_cl.specs.Drafts.{asked_by};
 ghost use Rattle.scl_cl.specs.Answers.{answer_to, text_of};
 ghost use Rattle.scl_cl.specs.AnswersGiven.{command_answer};
 ghost use Rattle.scl_cl.specs.Outcomes.{IsJudged, IsSilent};
-ghost use Rattle.scl_cl.specs.Runs.{answer, IsTextReadAgain};
+ghost use Rattle.scl_cl.specs.Program.{program_answer, IsTextReadAgain};
 
 use crate::answer::command_text;
 use crate::draft::Request;
@@ -44,8 +44,8 @@ fn text_for(alloc: Global, request: Request) -> Mem<Vec<u8>>
 }
 
 /// The text of the answer to the request that the bytes make, or the number of their bad line.
-fn answer(alloc: Global, bytes: Vec<u8>) -> Mem<Result<Vec<u8>, u64>>
-    ensures { IfOk result (λ answered. MatchResult answered (λ text. answer bytes.items ≡ Ok text.items) (λ number. answer bytes.items ≡ Err number)) }
+fn program_answer(alloc: Global, bytes: Vec<u8>) -> Mem<Result<Vec<u8>, u64>>
+    ensures { IfOk result (λ answered. MatchResult answered (λ text. program_answer bytes.items ≡ Ok text.items) (λ number. program_answer bytes.items ≡ Err number)) }
 {
     let read = read_request(alloc, &bytes)?;
     drop(bytes);
@@ -63,11 +63,11 @@ pub fn run<R: Read, W: Write>(
 ) -> Outcome
     // What is answered is the answer to all that the reader had, and it is written whole.
     ensures answered { result ≡ Outcome.Answered → IfSome (R.remaining reader.old.device) (λ bytes.
-        (text : List ℕ) × (answer bytes ≡ Ok text) × Appends (W.contents writer.old.device) (W.contents writer.new.device) text) }
+        (text : List ℕ) × (program_answer bytes ≡ Ok text) × Appends (W.contents writer.old.device) (W.contents writer.new.device) text) }
     // A command in the answer is read again.
     ensures read_again { result ≡ Outcome.Answered → IfSome (R.remaining reader.old.device) (λ bytes.
         (text : List ℕ) × IsTextReadAgain bytes text × Appends (W.contents writer.old.device) (W.contents writer.new.device) text) }
-    ensures bad_line { (n : ℕ) → result ≡ Outcome.BadLine n → IfSome (R.remaining reader.old.device) (λ bytes. answer bytes ≡ Err n) }
+    ensures bad_line { (n : ℕ) → result ≡ Outcome.BadLine n → IfSome (R.remaining reader.old.device) (λ bytes. program_answer bytes ≡ Err n) }
     // No line is judged before all was read.
     ensures judged { IsJudged result → IsAtEnd (R.remaining reader.new.device) }
     // The first read that fails ends the run, and is told.
@@ -76,7 +76,7 @@ pub fn run<R: Read, W: Write>(
     ensures reader_told { result ≢ Outcome.ReadFailed → reader.new.failed ≡ reader.old.failed }
     // A beginning of the answer was written, not all of it, and the writer failed.
     ensures write_failed { result ≡ Outcome.WriteFailed → IfSome (R.remaining reader.old.device) (λ bytes.
-        (text : List ℕ) × (n : ℕ) × (answer bytes ≡ Ok text) × (n < length text) × Appends (W.contents writer.old.device) (W.contents writer.new.device) (take n text)) }
+        (text : List ℕ) × (n : ℕ) × (program_answer bytes ≡ Ok text) × (n < length text) × Appends (W.contents writer.old.device) (W.contents writer.new.device) (take n text)) }
     // The first write that fails ends the run, and is told.
     ensures writer_failed { result ≡ Outcome.WriteFailed → writer.new.failed ≡ one_more writer.old.failed }
     ensures writer_told { result ≢ Outcome.WriteFailed → writer.new.failed ≡ writer.old.failed }
@@ -88,7 +88,7 @@ pub fn run<R: Read, W: Write>(
         Err(ReadError::Memory) => return Outcome::OutOfMemory,
         Err(ReadError::Device) => return Outcome::ReadFailed,
     };
-    match answer(alloc, bytes) {
+    match program_answer(alloc, bytes) {
         Err(_) => Outcome::OutOfMemory,
         Ok(Err(number)) => Outcome::BadLine(number),
         Ok(Ok(text)) => match write_whole(writer, &text) {

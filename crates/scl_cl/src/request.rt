@@ -6,7 +6,7 @@ ghost use Rattle.scl_cl.specs.Drafts.{asked_by};
 
 use crate::cut::next_line;
 use crate::draft::{Draft, Request};
-use crate::line::read_line;
+use crate::saying::read_line;
 use scl_text::Mem;
 use std::alloc::Global;
 
@@ -21,13 +21,13 @@ pub fn read_request(alloc: Global, bytes: &[u8]) -> Mem<Result<Request, u64>>
     let mut number = 1;
     let mut left = bytes;
     while let Some((line, rest)) = next_line(left) {
-        let Some(said) = read_line(alloc, line)? else {
+        let Some(saying) = read_line(alloc, line)? else {
             return Ok(Err(number));
         };
-        if draft.refuses(&said) {
+        if draft.refuses(&saying) {
             return Ok(Err(number));
         }
-        draft.take(said)?;
+        draft.take(saying)?;
         number += 1;
         left = rest;
     }

@@ -2,9 +2,7 @@ use Rattle.std.proofs.Common.{◌≡◌, ℕ, Bool, true, false, List, [], ◌�
 use Rattle.std.proofs.lemmas.List.{append-nil}
 use Rattle.std.specs.Bool.{MatchBool}
 use Rattle.std.specs.Iterator.{Yields}
-use Rattle.std.specs.Vec.Iter.{into_iter_items, into_iter_len, into_iter_steps}
 use Rattle.std.specs.declared.alloc.Global.{Global}
-use Rattle.std.specs.declared.vec.IntoIter.{IntoIter}
 use Rattle.scl_values.specs.declared.argument.Argument.{Argument}
 use Rattle.scl_values.specs.declared.error.ArgParseError.{ArgParseError}
 use Rattle.scl_values.specs.declared.error.ArgParseError.TheVariants as error
@@ -13,39 +11,22 @@ use Rattle.scl_values.specs.declared.argument.Argument.TheVariants as argument
 use Rattle.scl_values.specs.Cuts.{Cut, raw, unknown, flag, with_value, Cutting, before, clean, dangling, is_dangling}
 use Rattle.scl_values.specs.Seen.{Raw, Unknown, seen, shown}
 use Rattle.scl_cutting.specs.Iter.{nothing_left, IsMadeOf, FailsAt, EndsBy, no_memory, no_word, no_value, Cutter, IsFirstOf, midway, at_end, CutsNext, AreItemsOf}
+use Rattle.scl_cutting.specs.Shrinking.{TakesFirst}
 use Rattle.scl_cutting.specs.Runs.{after_options, items_of, left_of, dangles_by}
 use Rattle.scl_values.specs.Each.{Each}
 use Rattle.scl_cutting.proofs.HoldsLemmas.{CutHolds}
 use Rattle.scl_cutting.proofs.IterLemmas.{words_of-append, cut_left-ended, cut_left-none}
 
--- the words that are left, and their count
+-- the words that are left
 abbrev Words : Type 0
-Words = IntoIter (Vec ℕ Global) Global
-
-record HasLen (it : Words) : Type 0 where
-  len : into_iter_len it ≡ length (into_iter_items it)
-
--- the same, before the end
-pub record HasLenIf (ended : Bool) (it : Words) : Type 0 where
-  pub len : ended ≡ false → into_iter_len it ≡ length (into_iter_items it)
-
-no_items : (xs : List (Vec ℕ Global)) → length xs ≡ 0 → xs ≡ []
-no_items [] e = refl
-no_items (x ∷ xs) e = absurd (omega arith)
-
-record Taken (s : Words) (taken : List (Vec ℕ Global)) (t : Words) : Type 0 where
-  items : into_iter_items s ≡ taken ++ into_iter_items t
-  len : HasLen t
-
-taken_all : (s t : Words) (taken : List (Vec ℕ Global)) → HasLen s → Yields into_iter_steps s taken t → Taken s taken t
-taken_all s t [] h y = let P : Words → Type 0 = λ i. Taken s [] i in subst P y (record { items = refl; len = h })
-taken_all s t (x ∷ xs) h y =
-    let count : into_iter_len y.0 ≡ length (into_iter_items y.0) = omega (arith, h.len, ap length y.1.0, y.1.1) in
-    let more = taken_all y.0 t xs (record { len = count }) y.2 in
-    record { items = y.1.0 ∙ ap (λ w. x ∷ w) more.items; len = more.len }
+Words = List (Vec ℕ Global)
 
 abbrev steps : Words → Option (Vec ℕ Global) → Words → Type 0
-steps = into_iter_steps {X = Vec ℕ Global} {Z = Global}
+steps = TakesFirst
+
+taken_all : (s t taken : Words) → Yields steps s taken t → s ≡ taken ++ t
+taken_all s t [] y = y
+taken_all s t (x ∷ xs) y = y.1 ∙ ap (λ w. x ∷ w) (taken_all y.0 t xs y.2)
 
 module _ {K T : Type 0} (make : K → List ℕ → Result T ArgParseError → Type 0) where
   abbrev State : Type 0
@@ -54,25 +35,22 @@ module _ {K T : Type 0} (make : K → List ℕ → Result T ArgParseError → Ty
   -- a call of `next`, by what is left
   abbrev pub LeavesAfter : State → Option (Result (Argument T) ArgParseError) → State → Type 0
   LeavesAfter s None t = left_of s ≡ nothing_left
-  LeavesAfter s (Some item) t = IsFirstOf steps make (left_of s) item (left_of t) × HasLenIf t.ended t.arguments
+  LeavesAfter s (Some item) t = IsFirstOf steps make (left_of s) item (left_of t)
 
-  at_none : (s : State) (t : Words) → HasLenIf s.ended s.arguments → MatchBool s.ended (t ≡ s.arguments) (steps s.arguments None t) → left_of s ≡ nothing_left
-  at_none s t h n =
+  at_none : (s : State) (t : Words) → MatchBool s.ended (t ≡ s.arguments) (steps s.arguments None t) → left_of s ≡ nothing_left
+  at_none s t n =
       elim s.ended as (λ e. s.ended ≡ e → MatchBool e (t ≡ s.arguments) (steps s.arguments None t) → left_of s ≡ nothing_left) [
         | true ↦ λ e _. cut_left-ended s _ e
-        | false ↦ λ e m. let none : into_iter_items s.arguments ≡ [] = no_items _ (omega (arith, h.len e, m.0)) in rw none (cut_left-none s)
+        | false ↦ λ e m. rw m.0 (cut_left-none s)
       ] refl n
 
-  pub leaves_after : (s t : State) (r : Option (Result (Argument T) ArgParseError)) → HasLenIf s.ended s.arguments → CutsNext steps make s r t → LeavesAfter s r t
-  leaves_after s t None h n = at_none s t.arguments h n.1
-  leaves_after s t (Some item) h (going, _, _, midway taken y f, _) =
-      let more = taken_all s.arguments t.arguments taken (record { len = h.len going }) y in
-      (rw (more.items, words_of-append taken (into_iter_items t.arguments)) (f (words_of (into_iter_items t.arguments))), record { len = λ _. more.len.len })
-  leaves_after s t (Some item) h (going, _, _, at_end taken y ended f, _) =
-      let more = taken_all s.arguments y.0 taken (record { len = h.len going }) y.1 in
-      let none : into_iter_items y.0 ≡ [] = no_items _ (omega (arith, more.len.len, y.2.0)) in
-      let all : into_iter_items s.arguments ≡ taken = more.items ∙ rw none (append-nil taken) in
-      (rw (all, cut_left-ended t (words_of (into_iter_items t.arguments)) ended) f, record { len = λ e. absurd (cc) })
+  pub leaves_after : (s t : State) (r : Option (Result (Argument T) ArgParseError)) → CutsNext steps make s r t → LeavesAfter s r t
+  leaves_after s t None n = at_none s t.arguments n.1
+  leaves_after s t (Some item) (going, _, _, midway taken y f, _) =
+      rw (taken_all s.arguments t.arguments taken y, words_of-append taken t.arguments) (f (words_of t.arguments))
+  leaves_after s t (Some item) (going, _, _, at_end taken y ended f, _) =
+      let all : s.arguments ≡ taken = taken_all s.arguments y.0 taken y.1 ∙ rw y.2.0 (append-nil taken) in
+      rw (all, cut_left-ended t (words_of t.arguments) ended) f
 
   -- more options, before what is left
   pub after_options-append : (options : List (Argument T)) (option : Argument T) (items : List (Result (Argument T) ArgParseError)) → after_options (options ++ option ∷ []) items ≡ after_options options (Ok option ∷ items)

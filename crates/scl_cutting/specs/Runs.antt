@@ -1,8 +1,6 @@
 -- A run of cutting as a list of options and the error that ends it.
 use Rattle.std.specs.Prelude.{ℕ, Bool, true, false, List, [], ◌∷◌, Option, None, Some, Result, Ok, Err, Vec}
-use Rattle.std.specs.Vec.Iter.{into_iter_items}
 use Rattle.std.specs.declared.alloc.Global.{Global}
-use Rattle.std.specs.declared.vec.IntoIter.{IntoIter}
 use Rattle.scl_values.specs.declared.argument.Argument.{Argument}
 use Rattle.scl_values.specs.declared.error.ArgParseError.{ArgParseError}
 use Rattle.scl_values.specs.declared.error.ArgParseError.TheVariants as error
@@ -21,8 +19,8 @@ items_of options None = after_options options []
 items_of options (Some e) = after_options options (Err e ∷ [])
 
 -- what a cutter of a list of words still makes
-abbrev pub left_of : {K : Type 0} → Cutter (IntoIter (Vec ℕ Global) Global) K → Cutting K
-left_of s = cut_left s (words_of (into_iter_items s.arguments))
+abbrev pub left_of : {K : Type 0} → Cutter (List (Vec ℕ Global)) K → Cutting K
+left_of s = cut_left s (words_of s.arguments)
 
 -- whether an error ended cutting, where no memory was wanting; where every value can be made, that is a last flag without its value
 abbrev pub dangles_by : Option ArgParseError → Option Bool

@@ -1,6 +1,5 @@
 //! All words of a command line, cut into options at once.
-ghost use Rattle.std.specs.Prelude.{◌≡◌, All, IfOk, IsTrue, map, length, true, false, Some};
-ghost use Rattle.std.specs.Vec.Iter.{into_iter_items, into_iter_len};
+ghost use Rattle.std.specs.Prelude.{◌≡◌, All, IfOk, IsTrue, map, true, false, Some};
 ghost use Rattle.scl_values.specs.Tables.{owner_in, tables_hold_values};
 ghost use Rattle.scl_values.specs.Cuts.{cut, is_dangling};
 ghost use Rattle.scl_values.specs.Seen.{seen, shown};
@@ -10,23 +9,22 @@ ghost use Rattle.scl_values.specs.Texts.{is_delimited_by_ascii};
 ghost use Rattle.scl_values.specs.Words.{words_of};
 
 use crate::iter::ArgsIter;
+use crate::shrinking::ShrinkingIter;
 use scl_tables::SearchableArgInfo;
 use scl_values::{ArgParseError, Argument, ArgumentValue, ExactArg, Mem};
 use std::alloc::{AllocError, Global};
-use std::vec::IntoIter;
 
 fn cutter<T: ArgumentValue, S: SearchableArgInfo<T> + Drop>(
     alloc: Global,
     words: Vec<Vec<u8>>,
     arg_info: S,
     double_dashes: bool,
-) -> ArgsIter<IntoIter<Vec<u8>>, T, S>
-    ensures words { into_iter_items result.arguments ≡ words.items }
-    ensures count { into_iter_len result.arguments ≡ length words.items }
+) -> ArgsIter<ShrinkingIter<Vec<u8>>, T, S>
+    ensures words { result.arguments ≡ words.items }
     ensures arg_info { result.arg_info ≡ arg_info }
     ensures state { (result.double_dashes ≡ double_dashes) × (result.only_raw ≡ false) × (result.ended ≡ false) }
 {
-    let arguments = ArgsIter::new(alloc, words.into_iter(), arg_info);
+    let arguments = ArgsIter::new(alloc, ShrinkingIter::new(words), arg_info);
     if double_dashes {
         arguments.with_double_dashes()
     } else {

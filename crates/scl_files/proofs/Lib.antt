@@ -14,6 +14,7 @@ pub mod OpenLemmas
 pub mod PathLaws
 pub mod PathLemmas
 pub mod PathMapLemmas
+pub mod PathTreeLemmas
 pub mod SamePath
 pub mod StepLemmas
 pub mod ViewLemmas

@@ -1,16 +1,18 @@
 -- The entries of a map of paths.
-use Rattle.std.proofs.Common.{◌≡◌, ℕ, zero, suc, ◌<◌, ◌≤◌, ◌==◌, ◌≢◌, nat_lt, set, length-set, inl, inr, true, false, cond, List, [], ◌∷◌, ◌++◌, length, length-append, Option, None, Some, refl, eq-eqb, sym, ap, ◌∙◌, arith}
+use Rattle.std.proofs.Common.{◌≡◌, ℕ, zero, suc, ◌<◌, ◌≤◌, ◌==◌, ◌≢◌, ◌+◌, ◌-◌, take, nat_lt, set, length-set, inl, inr, true, false, cond, List, [], ◌∷◌, ◌++◌, length, length-append, None, Some, refl, eq-eqb, sym, ap, ◌∙◌, arith}
 use Rattle.std.proofs.lemmas.Bool.{eqb-true, ltb-true, false≢true, cases_lt}
 use Rattle.std.proofs.lemmas.Option.{slice_get_within}
 use Rattle.std.specs.List.{slice_get}
 use Rattle.std.specs.Ordering.{nat_cmp, is_eq}
 use Rattle.std.specs.declared.cmp.Ordering.TheVariants.{Less, Equal, Greater}
-use Rattle.std.specs.BTreeMap.{BTreeMap, get}
+use Rattle.std.specs.BTreeMap.{BTreeMap, get, IsUnchanged}
 use Rattle.scl_files.specs.Paths.{same_path}
-use Rattle.scl_files.specs.PathMaps.{value_at, replaced_at, put_at, path_hash}
+use Rattle.scl_files.specs.PathMaps.{value_at, replaced_at, put_at}
+use Rattle.scl_files.specs.PathTrees.{node_at, IsTree, Keeps}
 use Rattle.scl_files.specs.PathEntries.{onto, shown_up_to, shown, this_at, place_at, this_or, newest_up_to, IsLinked}
 use Rattle.scl_files.specs.declared.path_map.Entry.{Entry}
-use Rattle.scl_files.proofs.SamePath.{path_hash-same}
+use Rattle.scl_files.specs.declared.path_map.tree.PathTree.{PathTree}
+use Rattle.scl_files.proofs.PathTreeLemmas.{node-kept, same-by-node, apart-by-node}
 
 -- ---- one entry more
 
@@ -23,14 +25,23 @@ get-last : {X : Type 0} (xs : List X) (y : X) → slice_get (xs ++ y ∷ []) (le
 get-last [] y = refl
 get-last (x ∷ xs) y = get-last xs y
 
+take-before : {X : Type 0} (xs : List X) (y : X) → take (length xs) (xs ++ y ∷ []) ≡ xs
+take-before [] y = refl
+take-before (x ∷ xs) y = rw (take-before xs y) refl
+
+pub popped : {X : Type 0} (xs others after : List X) (y : X) (n : ℕ) → others ≡ xs ++ y ∷ [] → n ≡ length xs + 1 → after ≡ take (n - 1) others → after ≡ xs
+popped xs others after y n e h f =
+    let one : n - 1 ≡ length xs = omega (arith, h) in
+    f ∙ rw (e, one) (take-before xs y)
+
 module _ {T : Type 0} (entries : List (Entry T)) (entry : Entry T) where
   shown-before : (n : ℕ) → n ≤ length entries → shown_up_to (entries ++ entry ∷ []) n ≡ shown_up_to entries n
   shown-before zero h = refl
   shown-before (suc n) h = rw (get-before entries entry n (omega arith), shown-before n (omega arith)) refl
 
-  newest-before : (hash n : ℕ) → n ≤ length entries → newest_up_to hash (entries ++ entry ∷ []) n ≡ newest_up_to hash entries n
-  newest-before hash zero h = refl
-  newest-before hash (suc n) h = rw (get-before entries entry n (omega arith), newest-before hash n (omega arith)) refl
+  newest-before : (node n : ℕ) → n ≤ length entries → newest_up_to node (entries ++ entry ∷ []) n ≡ newest_up_to node entries n
+  newest-before node zero h = refl
+  newest-before node (suc n) h = rw (get-before entries entry n (omega arith), newest-before node n (omega arith)) refl
 
   length-push : length (entries ++ entry ∷ []) ≡ suc (length entries)
   length-push = omega (arith, length-append entries (entry ∷ []))
@@ -38,8 +49,8 @@ module _ {T : Type 0} (entries : List (Entry T)) (entry : Entry T) where
   pub shown-push : shown (entries ++ entry ∷ []) ≡ record { 0 = entry.path.items; 1 = entry.value } ∷ shown entries
   shown-push = rw (length-push, get-last entries entry, shown-before (length entries) (omega arith)) refl
 
-  pub newest-push : (hash : ℕ) → newest_up_to hash (entries ++ entry ∷ []) (length (entries ++ entry ∷ [])) ≡ cond (path_hash entry.path.items == hash) (Some (length entries)) (newest_up_to hash entries (length entries))
-  newest-push hash = rw (length-push, get-last entries entry, newest-before hash (length entries) (omega arith)) refl
+  pub newest-push : (node : ℕ) → newest_up_to node (entries ++ entry ∷ []) (length (entries ++ entry ∷ [])) ≡ cond (entry.node == node) (Some (length entries)) (newest_up_to node entries (length entries))
+  newest-push node = rw (length-push, get-last entries entry, newest-before node (length entries) (omega arith)) refl
 
 is_eq-nat_cmp : (a b : ℕ) → is_eq (nat_cmp a b) ≡ (a == b)
 is_eq-nat_cmp a b =
@@ -49,120 +60,99 @@ is_eq-nat_cmp a b =
       | false ↦ λ _. elim (a == b) as (λ r. is_eq (cond r Equal Greater) ≡ r) [ true ↦ refl | false ↦ refl ]
     ] refl
 
-module _ {T : Type 0} (entries : List (Entry T)) (entry : Entry T) (newest after : BTreeMap ℕ ℕ) where
-  older-before : (k : ℕ) (other : Entry T) → IsLinked entries newest → k < length entries → slice_get (entries ++ entry ∷ []) k ≡ Some other → other.older ≡ newest_up_to (path_hash other.path.items) (entries ++ entry ∷ []) k
-  older-before k other linked lt h = linked.older k other (sym (get-before entries entry k lt) ∙ h) ∙ sym (newest-before entries entry (path_hash other.path.items) k (omega arith))
+module _ {T : Type 0} (entries : List (Entry T)) (entry : Entry T) (tree : PathTree) (newest after : BTreeMap ℕ ℕ) where
+  older-before : (k : ℕ) (other : Entry T) → IsLinked entries tree newest → k < length entries → slice_get (entries ++ entry ∷ []) k ≡ Some other → other.older ≡ newest_up_to other.node (entries ++ entry ∷ []) k
+  older-before k other linked lt h = linked.older k other (sym (get-before entries entry k lt) ∙ h) ∙ sym (newest-before entries entry other.node k (omega arith))
 
-  older-last : (k : ℕ) (other : Entry T) → entry.older ≡ newest_up_to (path_hash entry.path.items) entries (length entries) → k ≡ length entries → slice_get (entries ++ entry ∷ []) k ≡ Some other → other.older ≡ newest_up_to (path_hash other.path.items) (entries ++ entry ∷ []) k
+  older-last : (k : ℕ) (other : Entry T) → entry.older ≡ newest_up_to entry.node entries (length entries) → k ≡ length entries → slice_get (entries ++ entry ∷ []) k ≡ Some other → other.older ≡ newest_up_to other.node (entries ++ entry ∷ []) k
   older-last k other leads e h =
       let same : entry ≡ other = let l = get-last entries entry in let g = rw e at h in cc in
-      rw (← same, e) (leads ∙ sym (newest-before entries entry (path_hash entry.path.items) (length entries) (omega arith)))
+      rw (← same, e) (leads ∙ sym (newest-before entries entry entry.node (length entries) (omega arith)))
 
-  pub linked-push : IsLinked entries newest → entry.older ≡ newest_up_to (path_hash entry.path.items) entries (length entries)
-      → ((hash : ℕ) → get nat_cmp after hash ≡ cond (is_eq (nat_cmp (path_hash entry.path.items) hash)) (Some (length entries)) (get nat_cmp newest hash)) → IsLinked (entries ++ entry ∷ []) after
-  linked-push linked leads put =
-      let older : (k : ℕ) (other : Entry T) → slice_get (entries ++ entry ∷ []) k ≡ Some other → other.older ≡ newest_up_to (path_hash other.path.items) (entries ++ entry ∷ []) k
+  reached-push : IsLinked entries tree newest → node_at entry.path.items tree ≡ Some entry.node → (k : ℕ) (other : Entry T) → slice_get (entries ++ entry ∷ []) k ≡ Some other → node_at other.path.items tree ≡ Some other.node
+  reached-push linked reached k other h =
+      let lt = slice_get_within (entries ++ entry ∷ []) k other h in
+      elim (cases_lt k (length entries)) as (λ _. node_at other.path.items tree ≡ Some other.node) [
+        | inl below ↦ linked.reached k other (sym (get-before entries entry k below) ∙ h)
+        | inr above ↦
+            let last : k ≡ length entries = omega (arith, lt, length-push entries entry) in
+            let same : entry ≡ other = let l = get-last entries entry in let g = rw last at h in cc in
+            rw (← same) reached
+      ]
+
+  pub linked-push : IsLinked entries tree newest → node_at entry.path.items tree ≡ Some entry.node → entry.older ≡ newest_up_to entry.node entries (length entries)
+      → ((node : ℕ) → get nat_cmp after node ≡ cond (is_eq (nat_cmp entry.node node)) (Some (length entries)) (get nat_cmp newest node)) → IsLinked (entries ++ entry ∷ []) tree after
+  linked-push linked reached leads put =
+      let older : (k : ℕ) (other : Entry T) → slice_get (entries ++ entry ∷ []) k ≡ Some other → other.older ≡ newest_up_to other.node (entries ++ entry ∷ []) k
       = λ k other h.
       let lt = slice_get_within (entries ++ entry ∷ []) k other h in
-      elim (cases_lt k (length entries)) as (λ _. other.older ≡ newest_up_to (path_hash other.path.items) (entries ++ entry ∷ []) k) [
+      elim (cases_lt k (length entries)) as (λ _. other.older ≡ newest_up_to other.node (entries ++ entry ∷ []) k) [
         | inl below ↦ older-before k other linked below h
         | inr above ↦ older-last k other leads (omega (arith, lt, length-push entries entry)) h
       ] in
-      let first : (hash : ℕ) → get nat_cmp after hash ≡ newest_up_to hash (entries ++ entry ∷ []) (length (entries ++ entry ∷ []))
-      = λ hash. put hash ∙ rw (is_eq-nat_cmp (path_hash entry.path.items) hash, linked.first hash) (sym (newest-push entries entry hash)) in
-      record { older = older; first = first }
+      let first : (node : ℕ) → get nat_cmp after node ≡ newest_up_to node (entries ++ entry ∷ []) (length (entries ++ entry ∷ []))
+      = λ node. put node ∙ rw (is_eq-nat_cmp entry.node node, linked.first node) (sym (newest-push entries entry node)) in
+      record { is_tree = linked.is_tree; reached = reached-push linked reached; older = older; first = first }
+
+-- ---- more nodes
+
+pub linked_grown : {T : Type 0} (entries : List (Entry T)) (tree grown : PathTree) (newest after : BTreeMap ℕ ℕ) → IsLinked entries tree newest → IsTree grown → Keeps tree grown → IsUnchanged newest after → IsLinked entries grown after
+linked_grown {T} entries tree grown newest after linked is keeps same =
+    let reached : (k : ℕ) (entry : Entry T) → slice_get entries k ≡ Some entry → node_at entry.path.items grown ≡ Some entry.node
+    = λ k entry e. node-kept tree grown entry.path.items entry.node keeps (linked.reached k entry e) in
+    let first : (node : ℕ) → get nat_cmp after node ≡ newest_up_to node entries (length entries) = λ node. rw same (linked.first node) in
+    record { is_tree = is; reached = reached; older = linked.older; first = first }
 
 -- ---- one entry fewer
 
-module _ {T : Type 0} (entries : List (Entry T)) (entry : Entry T) (newest after : BTreeMap ℕ ℕ) where
-  pub newest-last : IsLinked (entries ++ entry ∷ []) newest → get nat_cmp newest (path_hash entry.path.items) ≡ Some (length entries)
+module _ {T : Type 0} (entries : List (Entry T)) (entry : Entry T) (tree : PathTree) (newest after : BTreeMap ℕ ℕ) where
+  pub newest-last : IsLinked (entries ++ entry ∷ []) tree newest → get nat_cmp newest entry.node ≡ Some (length entries)
   newest-last linked =
-      linked.first (path_hash entry.path.items) ∙ newest-push entries entry (path_hash entry.path.items)
-      ∙ rw (eq-eqb (path_hash entry.path.items) (path_hash entry.path.items) refl) refl
+      linked.first entry.node ∙ newest-push entries entry entry.node
+      ∙ rw (eq-eqb entry.node entry.node refl) refl
 
-  first-pop : (hash : ℕ) → IsLinked (entries ++ entry ∷ []) newest
-      → cond (path_hash entry.path.items == hash) entry.older (get nat_cmp newest hash) ≡ newest_up_to hash entries (length entries)
-  first-pop hash linked =
-      let newer = linked.first hash ∙ newest-push entries entry hash in
-      let last = linked.older (length entries) entry (get-last entries entry) ∙ newest-before entries entry (path_hash entry.path.items) (length entries) (omega arith) in
-      elim (path_hash entry.path.items == hash) as (λ b. (path_hash entry.path.items == hash) ≡ b → get nat_cmp newest hash ≡ cond b (Some (length entries)) (newest_up_to hash entries (length entries))
-      → cond b entry.older (get nat_cmp newest hash) ≡ newest_up_to hash entries (length entries)) [
-        | true ↦ λ e _. last ∙ ap (λ h. newest_up_to h entries (length entries)) (eqb-true (path_hash entry.path.items) hash e)
+  first-pop : (node : ℕ) → IsLinked (entries ++ entry ∷ []) tree newest
+      → cond (entry.node == node) entry.older (get nat_cmp newest node) ≡ newest_up_to node entries (length entries)
+  first-pop node linked =
+      let newer = linked.first node ∙ newest-push entries entry node in
+      let last = linked.older (length entries) entry (get-last entries entry) ∙ newest-before entries entry entry.node (length entries) (omega arith) in
+      elim (entry.node == node) as (λ b. (entry.node == node) ≡ b → get nat_cmp newest node ≡ cond b (Some (length entries)) (newest_up_to node entries (length entries))
+      → cond b entry.older (get nat_cmp newest node) ≡ newest_up_to node entries (length entries)) [
+        | true ↦ λ e _. last ∙ ap (λ m. newest_up_to m entries (length entries)) (eqb-true entry.node node e)
         | false ↦ λ _ g. g
       ] refl newer
 
-  pub linked-pop : IsLinked (entries ++ entry ∷ []) newest
-      → ((hash : ℕ) → get nat_cmp after hash ≡ cond (is_eq (nat_cmp (path_hash entry.path.items) hash)) entry.older (get nat_cmp newest hash)) → IsLinked entries after
+  pub linked-pop : IsLinked (entries ++ entry ∷ []) tree newest
+      → ((node : ℕ) → get nat_cmp after node ≡ cond (is_eq (nat_cmp entry.node node)) entry.older (get nat_cmp newest node)) → IsLinked entries tree after
   linked-pop linked taken =
-      let older : (k : ℕ) (other : Entry T) → slice_get entries k ≡ Some other → other.older ≡ newest_up_to (path_hash other.path.items) entries k
+      let older : (k : ℕ) (other : Entry T) → slice_get entries k ≡ Some other → other.older ≡ newest_up_to other.node entries k
       = λ k other h.
       let lt = slice_get_within entries k other h in
-      linked.older k other (get-before entries entry k lt ∙ h) ∙ newest-before entries entry (path_hash other.path.items) k (omega arith) in
-      let first : (hash : ℕ) → get nat_cmp after hash ≡ newest_up_to hash entries (length entries)
-      = λ hash. taken hash ∙ rw (is_eq-nat_cmp (path_hash entry.path.items) hash) (first-pop hash linked) in
-      record { older = older; first = first }
+      linked.older k other (get-before entries entry k lt ∙ h) ∙ newest-before entries entry other.node k (omega arith) in
+      let first : (node : ℕ) → get nat_cmp after node ≡ newest_up_to node entries (length entries)
+      = λ node. taken node ∙ rw (is_eq-nat_cmp entry.node node) (first-pop node linked) in
+      let reached : (k : ℕ) (other : Entry T) → slice_get entries k ≡ Some other → node_at other.path.items tree ≡ Some other.node
+      = λ k other h. linked.reached k other (get-before entries entry k (slice_get_within entries k other h) ∙ h) in
+      record { is_tree = linked.is_tree; reached = reached; older = older; first = first }
 
 -- ---- a look-up
 
-apart_by_hash : (a b : List ℕ) → (path_hash a == path_hash b) ≡ false → same_path a b ≡ false
-apart_by_hash a b h = elim (same_path a b) as (λ r. same_path a b ≡ r → r ≡ false) [ true ↦ λ e. absurd (false≢true (sym h ∙ eq-eqb (path_hash a) (path_hash b) (path_hash-same a b e))) | false ↦ λ _. refl ] refl
-
--- an entry with the path's hash stands at the place
-pub record IsPlace {T : Type 0} (path : List ℕ) (entries : List (Entry T)) (at : ℕ) : Type 0 where
-  pub inside : at < length entries
-  pub hash : (entry : Entry T) → slice_get entries at ≡ Some entry → path_hash entry.path.items ≡ path_hash path
-
--- a look-up among the first n entries goes on at the place
-abbrev pub GoesOn : {T : Type 0} → List ℕ → List (Entry T) → ℕ → Option ℕ → Type 0
-GoesOn path entries n None = place_at path entries n ≡ None
-GoesOn path entries n (Some at) = IsPlace path entries at × (at < n) × (place_at path entries n ≡ place_at path entries (suc at))
-
-abbrev pub rank : Option ℕ → ℕ
-rank None = 0
-rank (Some at) = suc at
-
-module _ {T : Type 0} (path : List ℕ) (entries : List (Entry T)) where
-  carried : (n m : ℕ) (place : Option ℕ) → n ≤ m → place_at path entries m ≡ place_at path entries n → GoesOn path entries n place → GoesOn path entries m place
-  carried n m None h e g = e ∙ g
-  carried n m (Some at) h e g = (g.0, omega (arith, g.1), e ∙ g.2)
-
-  ranked : (n : ℕ) (place : Option ℕ) → GoesOn path entries n place → rank place < suc n
-  ranked n None g = omega arith
-  ranked n (Some at) g = omega (arith, g.1)
-
-  -- the entry stands at n
-  one_more : (n : ℕ) (entry : Entry T) (rest : Option ℕ) → n < length entries → slice_get entries n ≡ Some entry → GoesOn path entries n rest
-      → GoesOn path entries (suc n) (cond (path_hash entry.path.items == path_hash path) (Some n) rest)
-  one_more n entry rest lt is g =
-      elim (path_hash entry.path.items == path_hash path) as (λ b. (path_hash entry.path.items == path_hash path) ≡ b → GoesOn path entries (suc n) (cond b (Some n) rest)) [
-        | true ↦ λ e.
-            let hash : (other : Entry T) → slice_get entries n ≡ Some other → path_hash other.path.items ≡ path_hash path
-            = λ other h. let same : entry ≡ other = cc in rw (← same) (eqb-true (path_hash entry.path.items) (path_hash path) e) in
-            let here : IsPlace path entries n = record { inside = lt; hash = hash } in
-            (here, omega arith, refl)
-        | false ↦ λ e. carried n (suc n) rest (omega arith) (rw (is, apart_by_hash entry.path.items path e) refl) g
+module _ {T : Type 0} (path : List ℕ) (entries : List (Entry T)) (tree : PathTree) (newest : BTreeMap ℕ ℕ) (linked : IsLinked entries tree newest) where
+  pub place-nowhere : (n : ℕ) → node_at path tree ≡ None → place_at path entries n ≡ None
+  place-nowhere zero none = refl
+  place-nowhere (suc n) none =
+      elim (slice_get entries n) as (λ o. slice_get entries n ≡ o → this_at path n o (place_at path entries n) ≡ None) [
+        | None ↦ λ _. place-nowhere n none
+        | Some entry ↦ λ e. rw (apart-by-node tree entry.path.items path entry.node (linked.reached n entry e) none) (place-nowhere n none)
       ] refl
 
-  pub found : (n : ℕ) → n ≤ length entries → GoesOn path entries n (newest_up_to (path_hash path) entries n)
-  found zero h = refl
-  found (suc n) h =
-      elim (slice_get entries n) as (λ o. slice_get entries n ≡ o → GoesOn path entries (suc n) (this_or (path_hash path) n o (newest_up_to (path_hash path) entries n))) [
-        | None ↦ λ e. carried n (suc n) (newest_up_to (path_hash path) entries n) (omega arith) (rw e refl) (found n (omega arith))
-        | Some entry ↦ λ e. one_more n entry (newest_up_to (path_hash path) entries n) (omega arith) e (found n (omega arith))
+  pub place-by-node : (node n : ℕ) → node_at path tree ≡ Some node → place_at path entries n ≡ newest_up_to node entries n
+  place-by-node node zero leads = refl
+  place-by-node node (suc n) leads =
+      elim (slice_get entries n) as (λ o. slice_get entries n ≡ o → this_at path n o (place_at path entries n) ≡ this_or node n o (newest_up_to node entries n)) [
+        | None ↦ λ _. place-by-node node n leads
+        | Some entry ↦ λ e. rw (same-by-node tree entry.path.items path entry.node node linked.is_tree (linked.reached n entry e) leads, place-by-node node n leads) refl
       ] refl
-
-  -- from an entry at another path to the next older one
-  pub next_older : (newest : BTreeMap ℕ ℕ) (n at : ℕ) (entry : Entry T) → IsLinked entries newest → GoesOn path entries n (Some at) → slice_get entries at ≡ Some entry → same_path entry.path.items path ≡ false
-      → GoesOn path entries n entry.older × (rank entry.older < rank (Some at))
-  next_older newest n at entry linked g is apart =
-      let older : entry.older ≡ newest_up_to (path_hash path) entries at = linked.older at entry is ∙ ap (λ h. newest_up_to h entries at) (g.0.hash entry is) in
-      let stays : place_at path entries n ≡ place_at path entries at = g.2 ∙ rw (is, apart) refl in
-      let on = found at (omega (arith, g.0.inside)) in
-      rw older (carried at n (newest_up_to (path_hash path) entries at) (omega (arith, g.1)) stays on, ranked at (newest_up_to (path_hash path) entries at) on)
-
-  -- the entry that a look-up looks for
-  pub place_here : (n at : ℕ) (entry : Entry T) → GoesOn path entries n (Some at) → slice_get entries at ≡ Some entry → same_path entry.path.items path ≡ true → Some at ≡ place_at path entries n
-  place_here n at entry g is here = sym (g.2 ∙ rw (is, here) refl)
 
 -- ---- what stands at a place
 
@@ -204,7 +194,7 @@ module _ {T : Type 0} (path : List ℕ) (entries : List (Entry T)) where
 -- ---- another value at a place
 
 abbrev with_value : {T : Type 0} → Entry T → T → Entry T
-with_value entry value = record { path = entry.path; value = value; older = entry.older }
+with_value entry value = record { path = entry.path; value = value; node = entry.node; older = entry.older }
 
 get-set_same : {X : Type 0} (xs : List X) (at : ℕ) (y : X) → at < length xs → slice_get (set xs at y) at ≡ Some y
 get-set_same [] at y h = absurd (omega arith)
@@ -238,12 +228,12 @@ module _ {T : Type 0} (entries : List (Entry T)) (at : ℕ) (entry : Entry T) (v
   shown-before_set zero h = refl
   shown-before_set (suc n) h = rw (get-after_other n (λ e. omega (arith, e)), shown-before_set n (omega arith)) refl
 
-  newest-set : (hash n : ℕ) → slice_get entries at ≡ Some entry → newest_up_to hash after n ≡ newest_up_to hash entries n
-  newest-set hash zero is = refl
-  newest-set hash (suc n) is =
-      elim (n == at) as (λ b. (n == at) ≡ b → newest_up_to hash after (suc n) ≡ newest_up_to hash entries (suc n)) [
-        | true ↦ λ e. rw (newest-set hash n is, eqb-true n at e, get-after_same is, is) refl
-        | false ↦ λ e. rw (get-after_other n (apart n e), newest-set hash n is) refl
+  newest-set : (node n : ℕ) → slice_get entries at ≡ Some entry → newest_up_to node after n ≡ newest_up_to node entries n
+  newest-set node zero is = refl
+  newest-set node (suc n) is =
+      elim (n == at) as (λ b. (n == at) ≡ b → newest_up_to node after (suc n) ≡ newest_up_to node entries (suc n)) [
+        | true ↦ λ e. rw (newest-set node n is, eqb-true n at e, get-after_same is, is) refl
+        | false ↦ λ e. rw (get-after_other n (apart n e), newest-set node n is) refl
       ] refl
 
   pub shown-set : (path : List ℕ) (n : ℕ) → n ≤ length entries → slice_get entries at ≡ Some entry → place_at path entries n ≡ Some at → shown_up_to after n ≡ replaced_at path value (shown_up_to entries n)
@@ -265,19 +255,27 @@ module _ {T : Type 0} (entries : List (Entry T)) (at : ℕ) (entry : Entry T) (v
             ]
       ] refl e
 
-  pub linked-set : (newest : BTreeMap ℕ ℕ) → slice_get entries at ≡ Some entry → IsLinked entries newest → IsLinked after newest
-  linked-set newest is linked =
-      let older : (k : ℕ) (other : Entry T) → slice_get after k ≡ Some other → other.older ≡ newest_up_to (path_hash other.path.items) after k
-      = λ k other h. rw (newest-set (path_hash other.path.items) k is) (elim (k == at) as (λ b. (k == at) ≡ b → other.older ≡ newest_up_to (path_hash other.path.items) entries k) [
+  pub linked-set : (tree : PathTree) (newest : BTreeMap ℕ ℕ) → slice_get entries at ≡ Some entry → IsLinked entries tree newest → IsLinked after tree newest
+  linked-set tree newest is linked =
+      let older : (k : ℕ) (other : Entry T) → slice_get after k ≡ Some other → other.older ≡ newest_up_to other.node after k
+      = λ k other h. rw (newest-set other.node k is) (elim (k == at) as (λ b. (k == at) ≡ b → other.older ≡ newest_up_to other.node entries k) [
         | true ↦ λ e.
             let same : k ≡ at = eqb-true k at e in
             let it : with_value entry value ≡ other = let here = get-after_same is in let there = rw same at h in cc in
             rw (← it, same) (linked.older at entry is)
         | false ↦ λ e. linked.older k other (sym (get-after_other k (apart k e)) ∙ h)
       ] refl) in
-      let first : (hash : ℕ) → get nat_cmp newest hash ≡ newest_up_to hash after (length after)
-      = λ hash. rw (newest-set hash (length after) is, length-after) (linked.first hash) in
-      record { older = older; first = first }
+      let first : (node : ℕ) → get nat_cmp newest node ≡ newest_up_to node after (length after)
+      = λ node. rw (newest-set node (length after) is, length-after) (linked.first node) in
+      let reached : (k : ℕ) (other : Entry T) → slice_get after k ≡ Some other → node_at other.path.items tree ≡ Some other.node
+      = λ k other h. elim (k == at) as (λ b. (k == at) ≡ b → node_at other.path.items tree ≡ Some other.node) [
+        | true ↦ λ e.
+            let same : k ≡ at = eqb-true k at e in
+            let it : with_value entry value ≡ other = let here = get-after_same is in let there = rw same at h in cc in
+            rw (← it) (linked.reached at entry is)
+        | false ↦ λ e. linked.reached k other (sym (get-after_other k (apart k e)) ∙ h)
+      ] refl in
+      record { is_tree = linked.is_tree; reached = reached; older = older; first = first }
 
   pub put-placed : (path : List ℕ) → place_at path entries (length entries) ≡ Some at → slice_get entries at ≡ Some entry → shown after ≡ put_at path value (shown entries)
   put-placed path e is = rw (length-after, value-placed path entries (length entries) at entry e is) (shown-set path (length entries) (omega arith) is e)

@@ -1,11 +1,11 @@
 -- Paths with the same components, and the number that they share.
-use Rattle.std.proofs.Common.{◌≡◌, ℕ, ◌&&◌, Bool, true, false, List, fold, refl, ap}
+use Rattle.std.proofs.Common.{◌≡◌, ℕ, ◌&&◌, Bool, true, false, List, ◌∷◌, refl}
 use Rattle.std.proofs.lemmas.Bool.{false≢true}
 use Rattle.std.specs.Str.{bytes_eq}
 use Rattle.std.specs.Cmp.Lexicographic.{pointwise}
 use lib.Pointwise.{pointwise_decides, bytes_decides}
-use Rattle.scl_files.specs.Paths.{Components, components, same_components, same_path}
-use Rattle.scl_files.specs.PathMaps.{name_hash, path_hash}
+use Rattle.scl_files.specs.Paths.{Components, components, same_components, same_path, start}
+use Rattle.scl_files.specs.PathTrees.{parts_of}
 
 both_true : (a b : Bool) → (a && b) ≡ true → (a ≡ true) × (b ≡ true)
 both_true true b h = (refl, h)
@@ -37,8 +37,14 @@ same_components-same a = rw ((bytes_decides a.start a.start).1 refl, (pointwise_
 pub same_path-same : (a : List ℕ) → same_path a a ≡ true
 same_path-same a = same_components-same (components a)
 
--- ---- the number that they share
+-- ---- the parts that they share
 
-pub path_hash-same : (a b : List ℕ) → same_path a b ≡ true → path_hash a ≡ path_hash b
-unfolding path_hash
-path_hash-same a b h = ap (λ these. fold name_hash 0 these) ((components_equal (components a) (components b) h).1)
+pub parts-same : (a b : List ℕ) → same_path a b ≡ true → parts_of a ≡ parts_of b
+parts-same a b h = let e = components_equal (components a) (components b) h in rw (e.0, e.1) refl
+
+cons_equal : {X : Type 0} {x y : X} {xs ys : List X} → x ∷ xs ≡ y ∷ ys → (x ≡ y) × (xs ≡ ys)
+cons_equal e = (cc, cc)
+
+pub same_path-parts : (a b : List ℕ) → parts_of a ≡ parts_of b → same_path a b ≡ true
+same_path-parts a b e = let both = cons_equal e in
+    rw ((bytes_decides (start a) (start b)).1 both.0, (pointwise_decides bytes_decides (components a).names (components b).names).1 both.1) refl

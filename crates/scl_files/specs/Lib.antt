@@ -18,3 +18,4 @@ pub mod GnuReader
 pub mod MsvcReader
 pub mod PathEntries
 pub mod PathMaps
+pub mod PathTrees

@@ -4,8 +4,9 @@ use Rattle.std.specs.List.{slice_get}
 use Rattle.std.specs.Ordering.{nat_cmp}
 use Rattle.std.specs.BTreeMap.{BTreeMap, get}
 use Rattle.scl_files.specs.Paths.{same_path}
-use Rattle.scl_files.specs.PathMaps.{path_hash}
+use Rattle.scl_files.specs.PathTrees.{IsTree, node_at}
 use Rattle.scl_files.specs.declared.path_map.Entry.{Entry}
+use Rattle.scl_files.specs.declared.path_map.tree.PathTree.{PathTree}
 
 abbrev pub onto : {T : Type 0} → Option (Entry T) → List (List ℕ × T) → List (List ℕ × T)
 onto None rest = rest
@@ -29,15 +30,17 @@ place_at path entries zero = None
 place_at path entries (suc n) = this_at path n (slice_get entries n) (place_at path entries n)
 
 abbrev pub this_or : {T : Type 0} → ℕ → ℕ → Option (Entry T) → Option ℕ → Option ℕ
-this_or hash n None older = older
-this_or hash n (Some entry) older = cond (path_hash entry.path.items == hash) (Some n) older
+this_or node n None older = older
+this_or node n (Some entry) older = cond (entry.node == node) (Some n) older
 
--- where the newest of the first n entries with the hash stands
+-- where the newest of the first n entries at the node stands
 abbrev pub newest_up_to : {T : Type 0} → ℕ → List (Entry T) → ℕ → Option ℕ
-newest_up_to hash entries zero = None
-newest_up_to hash entries (suc n) = this_or hash n (slice_get entries n) (newest_up_to hash entries n)
+newest_up_to node entries zero = None
+newest_up_to node entries (suc n) = this_or node n (slice_get entries n) (newest_up_to node entries n)
 
--- each entry leads to the next older one with its hash, and the map to the newest
-pub record IsLinked {T : Type 0} (entries : List (Entry T)) (newest : BTreeMap ℕ ℕ) : Type 0 where
-  pub older : (k : ℕ) (entry : Entry T) → slice_get entries k ≡ Some entry → entry.older ≡ newest_up_to (path_hash entry.path.items) entries k
-  pub first : (hash : ℕ) → get nat_cmp newest hash ≡ newest_up_to hash entries (length entries)
+-- each entry has the node that its path leads to, and leads to the next older one there, and the map leads to the newest
+pub record IsLinked {T : Type 0} (entries : List (Entry T)) (tree : PathTree) (newest : BTreeMap ℕ ℕ) : Type 0 where
+  pub is_tree : IsTree tree
+  pub reached : (k : ℕ) (entry : Entry T) → slice_get entries k ≡ Some entry → node_at entry.path.items tree ≡ Some entry.node
+  pub older : (k : ℕ) (entry : Entry T) → slice_get entries k ≡ Some entry → entry.older ≡ newest_up_to entry.node entries k
+  pub first : (node : ℕ) → get nat_cmp newest node ≡ newest_up_to node entries (length entries)

@@ -1,7 +1,6 @@
--- Values by paths, and where the entries of a map stand.
-use Rattle.std.specs.Prelude.{ℕ, ◌+◌, ◌*◌, ◌%◌, ◌^◌, cond, List, [], ◌∷◌, fold, Option, None, Some, is_some}
-use Rattle.scl_files.specs.Characters.{slash}
-use Rattle.scl_files.specs.Paths.{same_path, components}
+-- Values by paths.
+use Rattle.std.specs.Prelude.{ℕ, cond, List, [], ◌∷◌, Option, None, Some, is_some}
+use Rattle.scl_files.specs.Paths.{same_path}
 
 -- the value of the first entry at the path
 abbrev pub value_at : {T : Type 0} → List ℕ → List (List ℕ × T) → Option T
@@ -16,16 +15,3 @@ replaced_at path value (entry ∷ entries) = cond (same_path entry.0 path) ((ent
 -- the entries with the value at the path
 abbrev pub put_at : {T : Type 0} → List ℕ → T → List (List ℕ × T) → List (List ℕ × T)
 put_at path value entries = cond (is_some (value_at path entries)) (replaced_at path value entries) ((path, value) ∷ entries)
-
-abbrev pub factor : ℕ
-factor = 1099511628211
-
-abbrev pub mixed : ℕ → ℕ → ℕ
-mixed hash byte = (hash * factor % 2 ^ 64 + byte) % 2 ^ 64
-
-abbrev pub name_hash : ℕ → List ℕ → ℕ
-name_hash hash name = fold mixed (mixed hash slash) name
-
--- a number that paths with the same names share
-unfoldable pub path_hash : List ℕ → ℕ
-path_hash path = fold name_hash 0 (components path).names

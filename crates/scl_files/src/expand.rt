@@ -96,8 +96,8 @@ pub fn expand_at_most(
     view: &View,
     most: usize,
 ) -> Mem<Result<Vec<Vec<u8>>, TooManyWords>>
-    ensures { IfOk result (λ said. let all = expand kind cwd.now view.now.files (words_of words.now) in
-        MatchResult said (λ v. (words_of v.items ≡ all) × (length all ≤ most)) (λ _. most < length all)) }
+    ensures { IfOk result (λ expanded. let all = expand kind cwd.now view.now.files (words_of words.now) in
+        MatchResult expanded (λ v. (words_of v.items ≡ all) × (length all ≤ most)) (λ _. most < length all)) }
 {
     let mut all = Vec::new(alloc);
     for word in Expand::new(alloc, kind, cwd, words, view) {

@@ -95,7 +95,7 @@ impl<'a> Iterator for Places<'a> {
 }
 
 /// How a path starts: with the root, with a first part `.`, or with neither.
-fn start(path: &[u8]) -> &[u8]
+pub(crate) fn start(path: &[u8]) -> &[u8]
     ensures { result.now ≡ start path.now }
 {
     if path.starts_with(b"/") {

@@ -8,26 +8,28 @@ use std::alloc::{AllocError, Global};
 use std::collections::BTreeMap;
 use std::marker::Model;
 
-mod hash;
 mod links;
+mod tree;
 
-use hash::path_hash;
 use links::{lead_back, place_of};
+use tree::PathTree;
 
 #[derive(Drop)]
 struct Entry<T> {
     path: Vec<u8>,
     value: T,
+    node: usize,
     older: Option<usize>,
 }
 
-/// Values by paths, the one added last on top. The entries stand in the order of adding; each leads
-/// to the next older one whose path has the same hash, and `newest` to the newest with a hash. A
-/// look-up reads only those: many paths made to have one hash make it slow.
+/// Values by paths, the one added last on top. The entries stand in the order of adding, each with
+/// the node of the tree that its path leads to; each leads to the next older one at its node, and
+/// `newest` from a node to the newest there.
 #[derive(Drop)]
 pub(crate) struct PathMap<T> {
     entries: Vec<Entry<T>>,
-    newest: BTreeMap<u64, usize>,
+    tree: PathTree,
+    newest: BTreeMap<usize, usize>,
 }
 
 impl<T> Model for PathMap<T> {
@@ -39,7 +41,7 @@ impl<T> Model for PathMap<T> {
 
     ghost view = { λ m. shown m.entries.items };
 
-    ghost invariant = { λ m. IsLinked m.entries.items m.newest };
+    ghost invariant = { λ m. IsLinked m.entries.items m.tree m.newest };
 }
 
 impl<T> PathMap<T> {
@@ -48,6 +50,7 @@ impl<T> PathMap<T> {
     {
         PathMap {
             entries: Vec::new(alloc),
+            tree: PathTree::new(alloc),
             newest: BTreeMap::new(alloc),
         }
     }
@@ -62,7 +65,7 @@ impl<T> PathMap<T> {
     pub(crate) fn get(&self, path: &[u8]) -> Option<&T>
         ensures { option_copied result ≡ value_at path.now self.now }
     {
-        let at = place_of(&self.entries, &self.newest, path)?;
+        let at = place_of(&self.entries, &self.tree, &self.newest, path)?;
         Some(&self.entries[at].value)
     }
 
@@ -80,11 +83,16 @@ impl<T> PathMap<T> {
         ensures ok { OnOk result (self.new ≡ record { 0 = path.items; 1 = value } ∷ self.old) }
         ensures err { OnErr result (self.new ≡ self.old) }
     {
-        let hash = path_hash(&path);
+        let node = self.tree.reach(&path)?;
         let at = self.entries.len();
-        let older = self.newest.get(&hash).copied();
-        self.entries.push(Entry { path, value, older })?;
-        match self.newest.insert(hash, at) {
+        let older = self.newest.get(&node).copied();
+        self.entries.push(Entry {
+            path,
+            value,
+            node,
+            older,
+        })?;
+        match self.newest.insert(node, at) {
             Ok(_) => Ok(()),
             Err(_) => {
                 self.entries.pop();
@@ -100,7 +108,7 @@ impl<T> PathMap<T> {
         ensures ok { OnOk result (self.new ≡ put_at path.items value self.old) }
         ensures err { OnErr result (self.new ≡ self.old) }
     {
-        match place_of(&self.entries, &self.newest, &path) {
+        match place_of(&self.entries, &self.tree, &self.newest, &path) {
             Some(at) => {
                 self.entries[at].value = value;
                 Ok(())
@@ -113,8 +121,13 @@ impl<T> PathMap<T> {
     pub(crate) fn pop(&mut self) -> Option<(Vec<u8>, T)>
         ensures { MatchOption result ((self.old ≡ []) × (self.new ≡ [])) (λ e. self.old ≡ record { 0 = e.0.items; 1 = e.1 } ∷ self.new) }
     {
-        let Entry { path, value, older } = self.entries.pop()?;
-        lead_back(&mut self.newest, path_hash(&path), older);
+        let Entry {
+            path,
+            value,
+            node,
+            older,
+        } = self.entries.pop()?;
+        lead_back(&mut self.newest, node, older);
         Some((path, value))
     }
 }

@@ -80,8 +80,8 @@ pub fn wanted_by(
     view: &View,
     most: usize,
 ) -> Mem<Result<Vec<Vec<u8>>, TooManyWords>>
-    ensures { IfOk result (λ said. let asked = words_asked kind directory.now view.now.files (words_of words.now) in
-        MatchResult said (λ paths. (words_of paths.items ≡ wanted kind directory.now view.now.files (words_of words.now)) × (length asked ≤ most))
+    ensures { IfOk result (λ found. let asked = words_asked kind directory.now view.now.files (words_of words.now) in
+        MatchResult found (λ paths. (words_of paths.items ≡ wanted kind directory.now view.now.files (words_of words.now)) × (length asked ≤ most))
         (λ _. most < length asked)) }
 {
     match kind {

@@ -85,10 +85,10 @@ module _ (compiler : CCompilerKind) (plusplus : Bool) (tables : List (List (Row 
       let c = cut (owner_in tables) (is_clang compiler) (expand expansions.Gnu directory view.files words) in
       let handed = texts (of (kind.XClang ∷ [])) os in
       let d = cut (owner_in clang_tables) false (expand expansions.Gnu directory view.files handed) in
-      let a = bind-ok (judged_words expansions.Gnu empty_value (verdict view.is_multiarch) argument_parse tables (is_clang compiler) directory view words) (read compiler plusplus directory view) p e in
+      let a = bind-ok (judged_words expansions.Gnu (verdict view.is_multiarch) tables (is_clang compiler) directory view words) (read compiler plusplus directory view) p e in
       let r : read compiler plusplus directory view os ≡ Ok p =
       ap (read compiler plusplus directory view) (judged-ok (refusing_empty (owner_in tables) empty_value (verdict view.is_multiarch)) argument_parse os (is_dangling c.end) a.0 a.1) ∙ a.2 in
-      let b = bind-ok (inner_reading empty_value inner_verdict argument_parse directory view handed) (recorded compiler plusplus directory view os) p r in
+      let b = bind-ok (inner_reading inner_verdict directory view handed) (recorded compiler plusplus directory view os) p r in
       let i : recorded compiler plusplus directory view os inner ≡ Ok p =
       ap (recorded compiler plusplus directory view os) (judged-ok (refusing_empty (owner_in clang_tables) empty_value inner_verdict) argument_parse inner (is_dangling d.end) b.0 b.1) ∙ b.2 in
       let t = bind-ok (found plusplus os) _ p i in

@@ -1,7 +1,7 @@
 pub mod Building
 pub mod ListsOf
 pub mod OutputFiles
-pub mod Passes
+pub mod Runs
 pub mod Preprocess
 pub mod ReadAgain
 pub mod Versions

@@ -78,8 +78,8 @@ preprocess_passes text kind rewrites ignorable may_dist p =
 
 -- ---- each compiler, with its flags that leave out what may be ignored
 
-abbrev pub line_flags : Bool → List (List ℕ)
-line_flags cache_mode = if cache_mode then [] else codes "-P" ∷ []
+abbrev pub linemarker_flags : Bool → List (List ℕ)
+linemarker_flags cache_mode = if cache_mode then [] else codes "-P" ∷ []
 
 -- Clang from version 14 on leaves out white space too, but not in assembler that is to be preprocessed
 abbrev pub space_flags : Bool → Option (List ℕ) → Language → List (List ℕ)
@@ -87,13 +87,13 @@ space_flags is_apple version language =
     if is_minversion is_apple version 14 && not (ghosts.eq language languages.AssemblerToPreprocess) then codes "-fminimize-whitespace" ∷ [] else []
 
 abbrev pub clang_flags : Bool → Option (List ℕ) → Language → Bool → List (List ℕ)
-clang_flags is_apple version language cache_mode = line_flags cache_mode ++ space_flags is_apple version language
+clang_flags is_apple version language cache_mode = linemarker_flags cache_mode ++ space_flags is_apple version language
 
-abbrev pub gcc_passes : (may_dist rewrites cache_mode : Bool) → Parsed → List (List (List ℕ))
-gcc_passes may_dist rewrites cache_mode p = preprocess_passes (gcc_text p.language) kinds.Gcc rewrites (line_flags cache_mode) may_dist p
+abbrev pub gcc_runs : (may_dist rewrites cache_mode : Bool) → Parsed → List (List (List ℕ))
+gcc_runs may_dist rewrites cache_mode p = preprocess_passes (gcc_text p.language) kinds.Gcc rewrites (linemarker_flags cache_mode) may_dist p
 
-abbrev pub clang_passes : Bool → Option (List ℕ) → (may_dist rewrites cache_mode : Bool) → Parsed → List (List (List ℕ))
-clang_passes is_apple version may_dist rewrites cache_mode p =
+abbrev pub clang_runs : Bool → Option (List ℕ) → (may_dist rewrites cache_mode : Bool) → Parsed → List (List (List ℕ))
+clang_runs is_apple version may_dist rewrites cache_mode p =
     preprocess_passes (clang_text p.language) kinds.Clang rewrites (clang_flags is_apple version p.language cache_mode) may_dist p
 
 -- ---- laws

@@ -3,8 +3,8 @@
 mod command;
 mod compiler;
 mod output_files;
-mod passes;
 mod preprocess;
+mod runs;
 mod words;
 
 pub use command::{
@@ -12,9 +12,9 @@ pub use command::{
 };
 pub use compiler::Gcc;
 pub use output_files::without_output_files;
-pub use passes::join_passes;
-pub(crate) use preprocess::line_flags;
+pub(crate) use preprocess::linemarker_flags;
 pub use preprocess::preprocess_passes;
+pub use runs::join_passes;
 pub use scl_gnu_reading::gcc::{
     ARCH_FLAG, ARGS, ArgData, HashRole, Kind, NamesHashed, module_file_path, parse_arguments,
     parse_arguments_owned, push_hashed, read_inner, resolve_profile_use_path, table,

@@ -1,4 +1,3 @@
 pub mod CheckLaws
-pub mod HashLaws
 pub mod InnerLemmas
 pub mod OutputLaws

@@ -2,10 +2,7 @@
 use Rattle.std.specs.Prelude.{ℕ, Bool, false, List, Option, None, Some, Result, codes, if◌then◌else◌}
 use Rattle.std.specs.List.{flat_map}
 use Rattle.std.specs.Str.{bytes_eq}
-use Rattle.scl_args.specs.declared.sort.Sort.{Sort}
-use Rattle.scl_args.specs.declared.sort.Sort.TheVariants as sort
 use Rattle.scl_args.specs.Options.{last, list, side_of_flag}
-use Rattle.scl_args.specs.Sorts.{sort_of}
 use Rattle.scl_values.specs.Seen.{Seen, Raw, Unknown, Known, flag_of}
 use Rattle.scl_args.specs.Wrapped.{wrapped_apart}
 use Rattle.scl_files.specs.declared.expand.ExpansionKind.TheVariants as expansions
@@ -13,62 +10,25 @@ use Rattle.scl_text.specs.Records.{Verdict}
 use Rattle.scl_text.specs.JudgedWords.{judged_words}
 use Rattle.scl_files.specs.Views.{Viewed}
 use Rattle.scl_gnu_reading.specs.declared.gcc.data.Kind.{Kind}
-use Rattle.scl_gnu_reading.specs.declared.gcc.data.Kind.TheVariants as kind
 use Rattle.scl_gnu_reading.specs.contracts.gcc.place.PlacePartialEq.TheImpl.{ghosts}
 use Rattle.scl_gnu_reading.specs.declared.gcc.place.Place.{Place}
 use Rattle.scl_gnu_reading.specs.declared.gcc.place.Place.TheVariants as places
 use Rattle.scl_gnu_reading.specs.ClangRows.{clang_tables}
+use Rattle.scl_gnu_reading.specs.Places.{places_of}
 use Rattle.scl_gnu_reading.specs.Verdicts.{refusal, flag_verdict}
 
 -- ---- places
 
 abbrev pub inner_place : Kind → Place
-inner_place kind.TooHardFlag = places.Refused
-inner_place kind.TooHard = places.Refused
-inner_place kind.DiagnosticsColor = places.Common
-inner_place kind.DiagnosticsColorFlag = places.Common
-inner_place kind.NoDiagnosticsColorFlag = places.Common
-inner_place kind.Arch = places.Common
-inner_place kind.Coverage = places.Refused
-inner_place kind.TestCoverage = places.Refused
-inner_place kind.DepArgumentPath = places.Dependency
-inner_place kind.DepTarget = places.Dependency
-inner_place kind.NeedDepTarget = places.Dependency
-inner_place kind.DoCompilation = places.Refused
-inner_place kind.ExtraHashFile = places.Common
-inner_place kind.ExtraHashFileClangModuleFile = places.Common
-inner_place kind.Language = places.Refused
-inner_place kind.SplitDwarf = places.Refused
-inner_place kind.Output = places.Refused
-inner_place kind.PassThrough = places.Common
-inner_place kind.PassThroughFlag = places.Common
-inner_place kind.PassThroughPath = places.Common
-inner_place kind.PreprocessorArgument = places.Preprocessor
-inner_place kind.PreprocessorArgumentFlag = places.Preprocessor
-inner_place kind.PreprocessorArgumentPath = places.Preprocessor
-inner_place kind.ProfileGenerate = places.Refused
-inner_place kind.ClangProfileUse = places.Refused
-inner_place kind.SerializeDiagnostics = places.Common
-inner_place kind.UnhashedFlag = places.Unhashed
-inner_place kind.Unhashed = places.Unhashed
-inner_place kind.PedanticFlag = places.Refused
-inner_place kind.Standard = places.Refused
-inner_place kind.XClang = places.Refused
-inner_place kind.ModuleOnlyFlag = places.Refused
-inner_place kind.ClangModuleOutput = places.Refused
-inner_place kind.IntegratedAs = places.Refused
-inner_place kind.NoIntegratedAs = places.Refused
+inner_place k = (places_of k).1
 
-abbrev pub inner_place_of_sort : Sort Kind → Place
-inner_place_of_sort sort.Raw = places.Common
-inner_place_of_sort sort.Unknown = places.Refused
-inner_place_of_sort (sort.Known k) = inner_place k
-
-abbrev pub sort_goes_inside_to : Place → Sort Kind → Bool
-sort_goes_inside_to there s = ghosts.eq (inner_place_of_sort s) there
+abbrev pub inner_place_of : Seen Kind → Place
+inner_place_of (Raw w) = places.Common
+inner_place_of (Unknown w) = places.Refused
+inner_place_of (Known f k v how) = inner_place k
 
 abbrev pub goes_inside_to : Place → Seen Kind → Bool
-goes_inside_to there o = sort_goes_inside_to there (sort_of o)
+goes_inside_to there o = ghosts.eq (inner_place_of o) there
 
 -- the words of the inner options that go there, in order, each on the side of its flag, and each word behind `-Xclang`
 abbrev pub inner_words_at : Place → List (Seen Kind) → List (List ℕ)
@@ -93,5 +53,5 @@ inner_verdict before (Known f k v how) = flag_verdict (inner_place k) f
 -- ---- readings
 
 -- the options of an inner command line: words cut by Clang's tables, whatever tables cut the outer ones, without `--`, and judged, empty values first
-abbrev pub inner_reading : {V : Type 0} → V → (List (Seen Kind) → Seen Kind → Option V) → V → List ℕ → Viewed → List (List ℕ) → Result (List (Seen Kind)) V
-inner_reading empty verdict dangling directory view words = judged_words expansions.Gnu empty verdict dangling clang_tables false directory view words
+abbrev pub inner_reading : (List (Seen Kind) → Seen Kind → Option Verdict) → List ℕ → Viewed → List (List ℕ) → Result (List (Seen Kind)) Verdict
+inner_reading verdict directory view words = judged_words expansions.Gnu verdict clang_tables false directory view words

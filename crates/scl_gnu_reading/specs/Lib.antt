@@ -10,5 +10,4 @@ pub mod Kinds
 pub mod Places
 pub mod Readings
 pub mod Recordings
-pub mod Sorts
 pub mod Verdicts

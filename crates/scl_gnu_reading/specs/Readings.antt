@@ -5,7 +5,6 @@ use Rattle.scl_values.specs.Row.{Row}
 use Rattle.scl_values.specs.Seen.{Seen}
 use Rattle.scl_files.specs.declared.expand.ExpansionKind.TheVariants as expansions
 use Rattle.scl_text.specs.declared.records.CCompilerKind.{CCompilerKind}
-use Rattle.scl_text.specs.Reasons.{argument_parse, empty_value}
 use Rattle.scl_text.specs.Records.{Parsed, Verdict}
 use Rattle.scl_text.specs.JudgedWords.{judged_words}
 use Rattle.scl_files.specs.Views.{Viewed}
@@ -26,11 +25,11 @@ recorded compiler plusplus directory view os inner = do
 -- options that are not refused: the inner ones that they hand on are read, and then both are tested and recorded
 abbrev pub read : CCompilerKind → Bool → List ℕ → Viewed → List (Seen Kind) → Result Parsed Verdict
 read compiler plusplus directory view os = do
-  inner ← inner_reading empty_value inner_verdict argument_parse directory view (texts (of (kind.XClang ∷ [])) os)
+  inner ← inner_reading inner_verdict directory view (texts (of (kind.XClang ∷ [])) os)
   recorded compiler plusplus directory view os inner
 
 -- the words are cut by the tables, for Clang with `--` as the end of options, judged and read
 abbrev pub reading : CCompilerKind → Bool → List (List (Row Kind)) → List ℕ → Viewed → List (List ℕ) → Result Parsed Verdict
 reading compiler plusplus tables directory view words = do
-  os ← judged_words expansions.Gnu empty_value (verdict view.is_multiarch) argument_parse tables (is_clang compiler) directory view words
+  os ← judged_words expansions.Gnu (verdict view.is_multiarch) tables (is_clang compiler) directory view words
   read compiler plusplus directory view os

@@ -1,8 +1,14 @@
--- The first # of a word, put in place; an environment that has neither variable.
-use Rattle.std.proofs.Common.{◌≡◌, ℕ, zero, suc, ◌<◌, Bool, true, false, ◌||◌, List, [], ◌∷◌, ◌++◌, Option, None, Some, Ok, length, take, drop, slice_index, slice_set, arith, refl, ap}
+-- The first # of a word, put in place; an environment that has neither variable; one that is broken.
+use Rattle.std.proofs.Common.{◌≡◌, ℕ, zero, suc, ◌<◌, Bool, true, false, ◌||◌, List, [], ◌∷◌, ◌++◌, Option, None, Some, Result, Ok, Err, IfOk, length, take, drop, slice_index, slice_set, arith, refl, ap, sym}
 use Rattle.std.proofs.lemmas.List.{append-nil}
 use Rattle.std.specs.Prelude.{is_some}
 use Rattle.std.proofs.lemmas.Grind.{common_steps}
+use Rattle.scl_args.specs.Options.{◌>>=◌}
+use Rattle.scl_text.specs.declared.refusal.Refusal.TheVariants as refusals
+use Rattle.scl_text.specs.declared.stop.Stop.{Stop}
+use Rattle.scl_text.specs.declared.stop.Stop.TheVariants as stops
+use Rattle.scl_text.specs.Records.{Parsed, Verdict, outcome_of}
+use Rattle.scl_text.specs.Stops.{Gives, answer_to}
 use Rattle.scl_msvc.specs.Environment.{with_equals, front_variable, back_variable, value_of, gives_words, surrounded}
 
 pub equals_put : (bytes : List ℕ) (i : ℕ) → i < length bytes → slice_index bytes i ≡ 35 → slice_set bytes i 61 ≡ take i bytes ++ with_equals (drop i bytes)
@@ -22,3 +28,10 @@ pub surrounded_by_none : (pairs : List (List ℕ × List ℕ)) (words : List (Li
 surrounded_by_none pairs words e =
     let none = or-none (is_some (value_of front_variable pairs)) (is_some (value_of back_variable pairs)) e in
     rw (none-some _ none.0, none-some _ none.1) (ap (λ w. Ok w) (append-nil words))
+
+-- where a step before the reading stops, the answer is what it stops for
+pub refusal_given : {T A : Type 0} (see : T → A) (stop : Stop) (said : Result A Verdict) (rest : A → Result Parsed Verdict)
+    → Gives see (Err stop) said → IfOk (answer_to (Err stop)) (λ answer. outcome_of answer ≡ (said >>= rest))
+refusal_given see (stops.Refused (refusals.CannotCache reason text)) said rest gives = sym (ap (λ s. s >>= rest) gives)
+refusal_given see (stops.Refused refusals.NotCompilation) said rest gives = sym (ap (λ s. s >>= rest) gives)
+refusal_given see stops.Memory said rest gives = gives

@@ -142,7 +142,7 @@ module _ (is_clang : Bool) (directory : List ℕ) (view : Viewed) (words : List 
   pub is-read : reading is_clang directory view words ≡ Ok p → IsRead
   is-read e =
       let c = cut (owner_in msvc_tables) is_clang (expand expansions.Msvc directory view.files words) in
-      let a = bind-ok (judged_words expansions.Msvc empty_value (verdict is_clang) argument_parse msvc_tables is_clang directory view words) (read is_clang directory view) p e in
+      let a = bind-ok (judged_words expansions.Msvc (verdict is_clang) msvc_tables is_clang directory view words) (read is_clang directory view) p e in
       let r : read is_clang directory view os ≡ Ok p =
       ap (read is_clang directory view) (judged-ok says argument_parse os (is_dangling c.end) a.0 a.1) ∙ a.2 in
       let b = bind-ok (both_inner directory view os) (recorded is_clang directory view os) p r in

@@ -31,5 +31,5 @@ abbrev pub preprocess_words : Bool → (may_dist rewrites : Bool) → Parsed →
 preprocess_words is_clang may_dist rewrites p =
     first_word may_dist p ∷ codes "-nologo" ∷ run_lists p ++ include_words is_clang p ++ rewriting is_clang rewrites ++ input_words p
 
-abbrev pub passes : Bool → (may_dist rewrites : Bool) → Parsed → List (List (List ℕ))
-passes is_clang may_dist rewrites p = preprocess_words is_clang may_dist rewrites p ∷ []
+abbrev pub runs : Bool → (may_dist rewrites : Bool) → Parsed → List (List (List ℕ))
+runs is_clang may_dist rewrites p = preprocess_words is_clang may_dist rewrites p ∷ []

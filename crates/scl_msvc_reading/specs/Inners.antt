@@ -1,10 +1,7 @@
 -- Inner command lines: where the words of inner options go, and what is said of each.
 use Rattle.std.specs.Prelude.{ℕ, Bool, List, ◌++◌, Option, None, codes}
 use Rattle.std.specs.List.{flat_map}
-use Rattle.scl_args.specs.declared.sort.Sort.{Sort}
-use Rattle.scl_args.specs.declared.sort.Sort.TheVariants as sort
 use Rattle.scl_args.specs.Options.{list, side_of_flag}
-use Rattle.scl_args.specs.Sorts.{sort_of}
 use Rattle.scl_values.specs.Seen.{Seen, Raw, Unknown, Known}
 use Rattle.scl_args.specs.Wrapped.{wrapped_apart, wrapped_joined}
 use Rattle.scl_text.specs.Records.{Verdict}
@@ -59,16 +56,13 @@ inner_place kind.ClangModuleOutput = places.Refused
 inner_place kind.IntegratedAs = places.Refused
 inner_place kind.NoIntegratedAs = places.Refused
 
-abbrev pub inner_place_of_sort : Sort Kind → Place
-inner_place_of_sort sort.Raw = places.Common
-inner_place_of_sort sort.Unknown = places.Common
-inner_place_of_sort (sort.Known k) = inner_place k
-
-abbrev pub sort_goes_inside_to : Place → Sort Kind → Bool
-sort_goes_inside_to there s = ghosts.eq (inner_place_of_sort s) there
+abbrev pub inner_place_of : Seen Kind → Place
+inner_place_of (Raw w) = places.Common
+inner_place_of (Unknown w) = places.Common
+inner_place_of (Known f k v how) = inner_place k
 
 abbrev pub goes_inside_to : Place → Seen Kind → Bool
-goes_inside_to there o = sort_goes_inside_to there (sort_of o)
+goes_inside_to there o = ghosts.eq (inner_place_of o) there
 
 -- the words of the inner options that go there, in order, each on the side of its flag
 abbrev pub inner_list : Place → List (Seen Kind) → List (List ℕ)

@@ -9,5 +9,4 @@ pub mod Places
 pub mod Readings
 pub mod Recordings
 pub mod Rows
-pub mod Sorts
 pub mod Verdicts

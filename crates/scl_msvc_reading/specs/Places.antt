@@ -3,11 +3,8 @@ use Rattle.std.specs.Prelude.{ℕ, Bool, ◌||◌, List, codes, if◌then◌else
 use Rattle.std.specs.Str.{bytes_eq}
 use Rattle.scl_values.specs.declared.argument.NormalizedDisposition.{NormalizedDisposition}
 use Rattle.scl_values.specs.declared.argument.NormalizedDisposition.TheVariants as side
-use Rattle.scl_args.specs.declared.sort.Sort.{Sort}
-use Rattle.scl_args.specs.declared.sort.Sort.TheVariants as sort
 use Rattle.scl_args.specs.Options.{list}
-use Rattle.scl_args.specs.Sorts.{sort_of}
-use Rattle.scl_values.specs.Seen.{Seen}
+use Rattle.scl_values.specs.Seen.{Seen, Raw, Unknown, Known}
 use Rattle.scl_msvc_reading.specs.contracts.msvc.place.PlacePartialEq.TheImpl.{ghosts}
 use Rattle.scl_msvc_reading.specs.declared.msvc.data.Kind.{Kind}
 use Rattle.scl_msvc_reading.specs.declared.msvc.data.Kind.TheVariants as kind
@@ -42,16 +39,13 @@ place kind.Clang = places.Nowhere
 place kind.Ignore = places.Nowhere
 place kind.IgnoreWithSuffix = places.Nowhere
 
-abbrev pub place_of_sort : Sort Kind → Place
-place_of_sort sort.Raw = places.Nowhere
-place_of_sort sort.Unknown = places.Common
-place_of_sort (sort.Known k) = place k
-
-abbrev pub sort_goes_to : Place → Sort Kind → Bool
-sort_goes_to there s = ghosts.eq (place_of_sort s) there
+abbrev pub place_of : Seen Kind → Place
+place_of (Raw w) = places.Nowhere
+place_of (Unknown w) = places.Common
+place_of (Known f k v how) = place k
 
 abbrev pub goes_to : Place → Seen Kind → Bool
-goes_to there o = sort_goes_to there (sort_of o)
+goes_to there o = ghosts.eq (place_of o) there
 
 -- the flags of folders of external includes stand apart from their values, all others together with theirs
 abbrev pub side_of_flag : List ℕ → NormalizedDisposition

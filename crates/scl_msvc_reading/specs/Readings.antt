@@ -4,7 +4,6 @@ use Rattle.scl_args.specs.Options.{texts, ◌>>=◌}
 use Rattle.scl_values.specs.Seen.{Seen}
 use Rattle.scl_files.specs.declared.expand.ExpansionKind.TheVariants as expansions
 use Rattle.scl_text.specs.JudgedWords.{judged_words}
-use Rattle.scl_text.specs.Reasons.{empty_value, argument_parse}
 use Rattle.scl_text.specs.Records.{Parsed, Verdict}
 use Rattle.scl_files.specs.Views.{Viewed}
 use Rattle.scl_gnu_reading.specs.declared.gcc.data.Kind as gnu
@@ -20,7 +19,7 @@ use Rattle.scl_msvc_reading.specs.Verdicts.{verdict}
 
 -- the options of an inner command line, whose words are the values of the options of a kind
 abbrev pub inner_options : Kind → List ℕ → Viewed → List (Seen Kind) → Result (List (Seen gnu.Kind)) Verdict
-inner_options k directory view os = inner_reading empty_value inner_verdict argument_parse directory view (texts (of (k ∷ [])) os)
+inner_options k directory view os = inner_reading inner_verdict directory view (texts (of (k ∷ [])) os)
 
 -- those of the two
 abbrev pub both_inner : List ℕ → Viewed → List (Seen Kind) → Result BothInner Verdict
@@ -44,5 +43,5 @@ read is_clang directory view os = do
 -- the words are cut by both tables, for clang-cl with `--` as the end of options, judged and read
 abbrev pub reading : Bool → List ℕ → Viewed → List (List ℕ) → Result Parsed Verdict
 reading is_clang directory view words = do
-  os ← judged_words expansions.Msvc empty_value (verdict is_clang) argument_parse msvc_tables is_clang directory view words
+  os ← judged_words expansions.Msvc (verdict is_clang) msvc_tables is_clang directory view words
   read is_clang directory view os

@@ -1,6 +1,7 @@
 -- Msvc's two tables: the same flags, each once with `-` and once with `/` before it.
-use Rattle.std.specs.Prelude.{ℕ, List, [], ◌∷◌, ◌++◌, None, Some, map, codes}
-use Rattle.scl_values.specs.Row.{Row, row, bare, apart, joined, either}
+use Rattle.std.specs.Prelude.{ℕ, List, [], ◌∷◌, ◌++◌, map, codes}
+use Rattle.scl_values.specs.Row.{Row, row, bare}
+use Rattle.scl_values.specs.Shapes.{APART, JOINED, JOINED_EQUALS, EITHER}
 use Rattle.scl_msvc_reading.specs.declared.msvc.data.Kind.{Kind}
 use Rattle.scl_msvc_reading.specs.declared.msvc.data.Kind.TheVariants as kind
 
@@ -10,26 +11,26 @@ flags =
     row (codes "?") kind.SuppressCompilation bare ∷
     row (codes "Brepro") kind.PassThrough bare ∷
     row (codes "C") kind.PassThrough bare ∷
-    row (codes "D") kind.PreprocessorArgument (either None) ∷
+    row (codes "D") kind.PreprocessorArgument EITHER ∷
     row (codes "E") kind.SuppressCompilation bare ∷
-    row (codes "EH") kind.PassThroughWithSuffix (joined None) ∷
+    row (codes "EH") kind.PassThroughWithSuffix JOINED ∷
     row (codes "EP") kind.SuppressCompilation bare ∷
-    row (codes "F") kind.PassThroughWithSuffix (joined None) ∷
-    row (codes "FA") kind.TooHard (joined None) ∷
+    row (codes "F") kind.PassThroughWithSuffix JOINED ∷
+    row (codes "FA") kind.TooHard JOINED ∷
     row (codes "FC") kind.PassThrough bare ∷
-    row (codes "FI") kind.PreprocessorArgumentPath (either None) ∷
-    row (codes "FR") kind.TooHardPath (joined None) ∷
+    row (codes "FI") kind.PreprocessorArgumentPath EITHER ∷
+    row (codes "FR") kind.TooHardPath JOINED ∷
     row (codes "FS") kind.Ignore bare ∷
-    row (codes "FU") kind.TooHardPath (either None) ∷
-    row (codes "Fa") kind.TooHardPath (joined None) ∷
-    row (codes "Fd") kind.ProgramDatabase (joined None) ∷
-    row (codes "Fe") kind.TooHardPath (joined None) ∷
-    row (codes "Fi") kind.TooHardPath (joined None) ∷
-    row (codes "Fm") kind.PassThroughWithPath (joined None) ∷
-    row (codes "Fo") kind.Output (joined None) ∷
-    row (codes "Fp") kind.TooHardPath (joined None) ∷
-    row (codes "Fr") kind.TooHardPath (joined None) ∷
-    row (codes "Ft") kind.TooHardPath (joined None) ∷
+    row (codes "FU") kind.TooHardPath EITHER ∷
+    row (codes "Fa") kind.TooHardPath JOINED ∷
+    row (codes "Fd") kind.ProgramDatabase JOINED ∷
+    row (codes "Fe") kind.TooHardPath JOINED ∷
+    row (codes "Fi") kind.TooHardPath JOINED ∷
+    row (codes "Fm") kind.PassThroughWithPath JOINED ∷
+    row (codes "Fo") kind.Output JOINED ∷
+    row (codes "Fp") kind.TooHardPath JOINED ∷
+    row (codes "Fr") kind.TooHardPath JOINED ∷
+    row (codes "Ft") kind.TooHardPath JOINED ∷
     row (codes "Fx") kind.TooHardFlag bare ∷
     row (codes "GA") kind.PassThrough bare ∷
     row (codes "GF") kind.PassThrough bare ∷
@@ -50,7 +51,7 @@ flags =
     row (codes "Gm") kind.TooHardFlag bare ∷
     row (codes "Gm-") kind.PassThrough bare ∷
     row (codes "Gr") kind.PassThrough bare ∷
-    row (codes "Gs") kind.PassThroughWithSuffix (joined None) ∷
+    row (codes "Gs") kind.PassThroughWithSuffix JOINED ∷
     row (codes "Gu") kind.PassThrough bare ∷
     row (codes "Gu-") kind.PassThrough bare ∷
     row (codes "Gv") kind.PassThrough bare ∷
@@ -59,9 +60,9 @@ flags =
     row (codes "Gy") kind.PassThrough bare ∷
     row (codes "Gy-") kind.PassThrough bare ∷
     row (codes "Gz") kind.PassThrough bare ∷
-    row (codes "H") kind.PassThroughWithSuffix (joined None) ∷
+    row (codes "H") kind.PassThroughWithSuffix JOINED ∷
     row (codes "HELP") kind.SuppressCompilation bare ∷
-    row (codes "I") kind.PreprocessorArgumentPath (either None) ∷
+    row (codes "I") kind.PreprocessorArgumentPath EITHER ∷
     row (codes "J") kind.PassThrough bare ∷
     row (codes "JMC") kind.PassThrough bare ∷
     row (codes "JMC-") kind.PassThrough bare ∷
@@ -70,7 +71,7 @@ flags =
     row (codes "LN") kind.PassThrough bare ∷
     row (codes "MD") kind.PassThrough bare ∷
     row (codes "MDd") kind.PassThrough bare ∷
-    row (codes "MP") kind.IgnoreWithSuffix (joined None) ∷
+    row (codes "MP") kind.IgnoreWithSuffix JOINED ∷
     row (codes "MT") kind.PassThrough bare ∷
     row (codes "MTd") kind.PassThrough bare ∷
     row (codes "O1") kind.PassThrough bare ∷
@@ -106,13 +107,13 @@ flags =
     row (codes "Qspectre-load-cf") kind.PassThrough bare ∷
     row (codes "Qvec-report:1") kind.PassThrough bare ∷
     row (codes "Qvec-report:2") kind.PassThrough bare ∷
-    row (codes "RTC") kind.PassThroughWithSuffix (joined None) ∷
+    row (codes "RTC") kind.PassThroughWithSuffix JOINED ∷
     row (codes "TC") kind.PassThrough bare ∷
     row (codes "TP") kind.PassThrough bare ∷
-    row (codes "Tc") kind.CInput (either None) ∷
-    row (codes "Tp") kind.CxxInput (either None) ∷
-    row (codes "U") kind.PreprocessorArgument (joined None) ∷
-    row (codes "V") kind.PassThroughWithSuffix (joined None) ∷
+    row (codes "Tc") kind.CInput EITHER ∷
+    row (codes "Tp") kind.CxxInput EITHER ∷
+    row (codes "U") kind.PreprocessorArgument JOINED ∷
+    row (codes "V") kind.PassThroughWithSuffix JOINED ∷
     row (codes "W0") kind.PassThrough bare ∷
     row (codes "W1") kind.PassThrough bare ∷
     row (codes "W2") kind.PassThrough bare ∷
@@ -122,24 +123,24 @@ flags =
     row (codes "WX") kind.PassThrough bare ∷
     row (codes "WX-") kind.PassThrough bare ∷
     row (codes "Wall") kind.PassThrough bare ∷
-    row (codes "Wv:") kind.PassThroughWithSuffix (joined None) ∷
+    row (codes "Wv:") kind.PassThroughWithSuffix JOINED ∷
     row (codes "X") kind.PassThrough bare ∷
-    row (codes "Xclang") kind.XClang apart ∷
+    row (codes "Xclang") kind.XClang APART ∷
     row (codes "Y-") kind.PassThrough bare ∷
-    row (codes "YI") kind.PassThroughWithSuffix (joined None) ∷
+    row (codes "YI") kind.PassThroughWithSuffix JOINED ∷
     row (codes "YI-") kind.PassThrough bare ∷
-    row (codes "Yc") kind.TooHardPath (joined None) ∷
+    row (codes "Yc") kind.TooHardPath JOINED ∷
     row (codes "Yd") kind.PassThrough bare ∷
     row (codes "Z7") kind.PassThrough bare ∷
-    row (codes "ZH:") kind.PassThroughWithSuffix (joined None) ∷
+    row (codes "ZH:") kind.PassThroughWithSuffix JOINED ∷
     row (codes "ZI") kind.DebugInfo bare ∷
     row (codes "ZW") kind.PassThrough bare ∷
     row (codes "Za") kind.PassThrough bare ∷
-    row (codes "Zc:") kind.PassThroughWithSuffix (joined None) ∷
+    row (codes "Zc:") kind.PassThroughWithSuffix JOINED ∷
     row (codes "Ze") kind.PassThrough bare ∷
     row (codes "Zf") kind.PassThrough bare ∷
     row (codes "Zi") kind.DebugInfo bare ∷
-    row (codes "Zm") kind.PassThroughWithSuffix (joined None) ∷
+    row (codes "Zm") kind.PassThroughWithSuffix JOINED ∷
     row (codes "Zo") kind.PassThrough bare ∷
     row (codes "Zo-") kind.PassThrough bare ∷
     row (codes "Zp1") kind.PassThrough bare ∷
@@ -150,35 +151,35 @@ flags =
     row (codes "Zs") kind.SuppressCompilation bare ∷
     row (codes "analyze") kind.PassThrough bare ∷
     row (codes "analyze-") kind.PassThrough bare ∷
-    row (codes "analyze:") kind.PassThroughWithSuffix (joined None) ∷
-    row (codes "arch:") kind.PassThroughWithSuffix (joined None) ∷
+    row (codes "analyze:") kind.PassThroughWithSuffix JOINED ∷
+    row (codes "arch:") kind.PassThroughWithSuffix JOINED ∷
     row (codes "arm64EC") kind.PassThrough bare ∷
     row (codes "await") kind.PassThrough bare ∷
     row (codes "await:strict") kind.PassThrough bare ∷
     row (codes "bigobj") kind.PassThrough bare ∷
     row (codes "c") kind.DoCompilation bare ∷
-    row (codes "cgthreads") kind.PassThroughWithSuffix (joined None) ∷
-    row (codes "clang:") kind.Clang (joined None) ∷
+    row (codes "cgthreads") kind.PassThroughWithSuffix JOINED ∷
+    row (codes "clang:") kind.Clang JOINED ∷
     row (codes "clr") kind.PassThrough bare ∷
-    row (codes "clr:") kind.PassThroughWithSuffix (joined None) ∷
-    row (codes "constexpr:") kind.PassThroughWithSuffix (joined None) ∷
+    row (codes "clr:") kind.PassThroughWithSuffix JOINED ∷
+    row (codes "constexpr:") kind.PassThroughWithSuffix JOINED ∷
     row (codes "d1nodatetime") kind.PassThrough bare ∷
     row (codes "d20bforceinline") kind.PassThrough bare ∷
-    row (codes "deps") kind.DepFile (joined None) ∷
-    row (codes "diagnostics:") kind.PassThroughWithSuffix (joined None) ∷
-    row (codes "doc") kind.TooHardPath (joined None) ∷
+    row (codes "deps") kind.DepFile JOINED ∷
+    row (codes "diagnostics:") kind.PassThroughWithSuffix JOINED ∷
+    row (codes "doc") kind.TooHardPath JOINED ∷
     row (codes "dynamicdeopt") kind.TooHardFlag bare ∷
-    row (codes "dynamicdeopt:suffix") kind.TooHard apart ∷
+    row (codes "dynamicdeopt:suffix") kind.TooHard APART ∷
     row (codes "dynamicdeopt:sync") kind.TooHardFlag bare ∷
-    row (codes "errorReport:") kind.PassThroughWithSuffix (joined None) ∷
-    row (codes "execution-charset:") kind.PassThroughWithSuffix (joined None) ∷
+    row (codes "errorReport:") kind.PassThroughWithSuffix JOINED ∷
+    row (codes "execution-charset:") kind.PassThroughWithSuffix JOINED ∷
     row (codes "experimental:deterministic") kind.PassThrough bare ∷
     row (codes "experimental:external") kind.PassThrough bare ∷
-    row (codes "experimental:log") kind.TooHardPath (joined None) ∷
+    row (codes "experimental:log") kind.TooHardPath JOINED ∷
     row (codes "experimental:module") kind.TooHardFlag bare ∷
     row (codes "experimental:module-") kind.PassThrough bare ∷
-    row (codes "experimental:preprocessor") kind.PassThroughWithSuffix (joined None) ∷
-    row (codes "external:I") kind.ExternalIncludePath (either None) ∷
+    row (codes "experimental:preprocessor") kind.PassThroughWithSuffix JOINED ∷
+    row (codes "external:I") kind.ExternalIncludePath EITHER ∷
     row (codes "external:W0") kind.PassThrough bare ∷
     row (codes "external:W1") kind.PassThrough bare ∷
     row (codes "external:W2") kind.PassThrough bare ∷
@@ -187,54 +188,54 @@ flags =
     row (codes "external:anglebrackets") kind.PassThrough bare ∷
     row (codes "external:templates-") kind.PassThrough bare ∷
     row (codes "fastfail") kind.PassThrough bare ∷
-    row (codes "favor:") kind.PassThroughWithSuffix (joined None) ∷
-    row (codes "feature:") kind.PassThroughWithSuffix (joined None) ∷
-    row (codes "fmodule-file") kind.ClangModuleFile (joined (Some 61)) ∷
-    row (codes "fmodule-output") kind.ClangModuleOutput (joined (Some 61)) ∷
+    row (codes "favor:") kind.PassThroughWithSuffix JOINED ∷
+    row (codes "feature:") kind.PassThroughWithSuffix JOINED ∷
+    row (codes "fmodule-file") kind.ClangModuleFile JOINED_EQUALS ∷
+    row (codes "fmodule-output") kind.ClangModuleOutput JOINED_EQUALS ∷
     row (codes "fno-sanitize-address-asan-compat-lib") kind.PassThrough bare ∷
     row (codes "fno-sanitize-address-vcasan-lib") kind.PassThrough bare ∷
-    row (codes "fno-sanitize-coverage") kind.PassThroughWithSuffix (joined (Some 61)) ∷
+    row (codes "fno-sanitize-coverage") kind.PassThroughWithSuffix JOINED_EQUALS ∷
     row (codes "forceInterlockedFunctions") kind.PassThrough bare ∷
     row (codes "forceInterlockedFunctions-") kind.PassThrough bare ∷
-    row (codes "fp:") kind.PassThroughWithSuffix (joined None) ∷
-    row (codes "fpcvt:") kind.PassThroughWithSuffix (joined None) ∷
+    row (codes "fp:") kind.PassThroughWithSuffix JOINED ∷
+    row (codes "fpcvt:") kind.PassThroughWithSuffix JOINED ∷
     row (codes "fsanitize-address-asan-compat-lib") kind.PassThrough bare ∷
     row (codes "fsanitize-address-use-after-return") kind.PassThrough bare ∷
-    row (codes "fsanitize-blacklist") kind.ExtraHashFile (joined (Some 61)) ∷
-    row (codes "fsanitize-coverage") kind.PassThroughWithSuffix (joined (Some 61)) ∷
-    row (codes "fsanitize=") kind.PassThroughWithSuffix (joined None) ∷
+    row (codes "fsanitize-blacklist") kind.ExtraHashFile JOINED_EQUALS ∷
+    row (codes "fsanitize-coverage") kind.PassThroughWithSuffix JOINED_EQUALS ∷
+    row (codes "fsanitize=") kind.PassThroughWithSuffix JOINED ∷
     row (codes "fsyntax-only") kind.SuppressCompilation bare ∷
-    row (codes "guard:cf") kind.PassThroughWithSuffix (joined None) ∷
-    row (codes "guard:ehcont") kind.PassThroughWithSuffix (joined None) ∷
+    row (codes "guard:cf") kind.PassThroughWithSuffix JOINED ∷
+    row (codes "guard:ehcont") kind.PassThroughWithSuffix JOINED ∷
     row (codes "homeparams") kind.PassThrough bare ∷
     row (codes "hotpatch") kind.PassThrough bare ∷
-    row (codes "ifcMap") kind.TooHardPath apart ∷
+    row (codes "ifcMap") kind.TooHardPath APART ∷
     row (codes "ifcOnly") kind.TooHardFlag bare ∷
-    row (codes "ifcOutput") kind.TooHardPath apart ∷
-    row (codes "ifcSearchDir") kind.TooHardPath apart ∷
-    row (codes "imsvc") kind.PreprocessorArgumentPath (either None) ∷
+    row (codes "ifcOutput") kind.TooHardPath APART ∷
+    row (codes "ifcSearchDir") kind.TooHardPath APART ∷
+    row (codes "imsvc") kind.PreprocessorArgumentPath EITHER ∷
     row (codes "interface") kind.TooHardFlag bare ∷
     row (codes "internalPartition") kind.TooHardFlag bare ∷
     row (codes "jumptablerdata") kind.PassThrough bare ∷
     row (codes "kernel") kind.PassThrough bare ∷
     row (codes "kernel-") kind.PassThrough bare ∷
     row (codes "nologo") kind.PassThrough bare ∷
-    row (codes "o") kind.Output apart ∷
+    row (codes "o") kind.Output APART ∷
     row (codes "openmp") kind.PassThrough bare ∷
     row (codes "openmp-") kind.PassThrough bare ∷
-    row (codes "openmp:") kind.PassThroughWithSuffix (joined None) ∷
+    row (codes "openmp:") kind.PassThroughWithSuffix JOINED ∷
     row (codes "options:strict") kind.PassThrough bare ∷
     row (codes "permissive") kind.PassThrough bare ∷
     row (codes "permissive-") kind.PassThrough bare ∷
     row (codes "presetPadding") kind.PassThrough bare ∷
-    row (codes "reference") kind.TooHard apart ∷
+    row (codes "reference") kind.TooHard APART ∷
     row (codes "sdl") kind.PassThrough bare ∷
     row (codes "sdl-") kind.PassThrough bare ∷
     row (codes "showIncludes") kind.ShowIncludes bare ∷
-    row (codes "source-charset:") kind.PassThroughWithSuffix (joined None) ∷
-    row (codes "sourceDependencies") kind.DepFile (either None) ∷
-    row (codes "std:") kind.PassThroughWithSuffix (joined None) ∷
-    row (codes "stdIfcDir") kind.TooHardPath apart ∷
+    row (codes "source-charset:") kind.PassThroughWithSuffix JOINED ∷
+    row (codes "sourceDependencies") kind.DepFile EITHER ∷
+    row (codes "std:") kind.PassThroughWithSuffix JOINED ∷
+    row (codes "stdIfcDir") kind.TooHardPath APART ∷
     row (codes "u") kind.PassThrough bare ∷
     row (codes "utf-8") kind.PassThrough bare ∷
     row (codes "validate-charset") kind.PassThrough bare ∷
@@ -243,7 +244,7 @@ flags =
     row (codes "vd1") kind.PassThrough bare ∷
     row (codes "vd2") kind.PassThrough bare ∷
     row (codes "vlen") kind.PassThrough bare ∷
-    row (codes "vlen=") kind.PassThroughWithSuffix (joined None) ∷
+    row (codes "vlen=") kind.PassThroughWithSuffix JOINED ∷
     row (codes "vmb") kind.PassThrough bare ∷
     row (codes "vmg") kind.PassThrough bare ∷
     row (codes "vmm") kind.PassThrough bare ∷
@@ -254,22 +255,22 @@ flags =
     row (codes "volatileMetadata") kind.PassThrough bare ∷
     row (codes "volatileMetadata-") kind.PassThrough bare ∷
     row (codes "w") kind.PassThrough bare ∷
-    row (codes "w1") kind.PassThroughWithSuffix (joined None) ∷
-    row (codes "w2") kind.PassThroughWithSuffix (joined None) ∷
-    row (codes "w3") kind.PassThroughWithSuffix (joined None) ∷
-    row (codes "w4") kind.PassThroughWithSuffix (joined None) ∷
-    row (codes "wd") kind.PassThroughWithSuffix (joined None) ∷
-    row (codes "we") kind.PassThroughWithSuffix (joined None) ∷
-    row (codes "winsysroot") kind.PassThroughWithPath (either None) ∷
-    row (codes "wo") kind.PassThroughWithSuffix (joined None) ∷
-    row (codes "x") kind.ClangLanguage (either None) ∷ []
+    row (codes "w1") kind.PassThroughWithSuffix JOINED ∷
+    row (codes "w2") kind.PassThroughWithSuffix JOINED ∷
+    row (codes "w3") kind.PassThroughWithSuffix JOINED ∷
+    row (codes "w4") kind.PassThroughWithSuffix JOINED ∷
+    row (codes "wd") kind.PassThroughWithSuffix JOINED ∷
+    row (codes "we") kind.PassThroughWithSuffix JOINED ∷
+    row (codes "winsysroot") kind.PassThroughWithPath EITHER ∷
+    row (codes "wo") kind.PassThroughWithSuffix JOINED ∷
+    row (codes "x") kind.ClangLanguage EITHER ∷ []
 
 abbrev pub prefixed : List ℕ → Row Kind → Row Kind
 prefixed prefix flag = row (prefix ++ flag.flag) flag.kind flag.shape
 
 -- the rows with the prefix before each flag, and that of a word that names a response file
 unfoldable pub msvc_rows : List ℕ → List (Row Kind)
-msvc_rows prefix = map (prefixed prefix) flags ++ row (codes "@") kind.TooHardPath (joined None) ∷ []
+msvc_rows prefix = map (prefixed prefix) flags ++ row (codes "@") kind.TooHardPath JOINED ∷ []
 
 -- the tables of Msvc
 abbrev pub msvc_tables : List (List (Row Kind))

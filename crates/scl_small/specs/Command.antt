@@ -13,20 +13,20 @@ command_words p object = (p.compilation_flag ∷ p.input ∷ codes "-o" ∷ obje
 abbrev pub diab_words : Parsed → List (List ℕ)
 diab_words p = (codes "-E" ∷ p.input ∷ []) ++ p.dependency_args ++ p.preprocessor_args ++ p.common_args
 
-abbrev pub diab_passes : Parsed → List (List (List ℕ))
-diab_passes p = diab_words p ∷ []
+abbrev pub diab_runs : Parsed → List (List (List ℕ))
+diab_runs p = diab_words p ∷ []
 
 -- what both runs of TaskingVX end with
 abbrev pub input_and_list_words : Parsed → List (List ℕ)
 input_and_list_words p = p.input ∷ [] ++ p.preprocessor_args ++ p.common_args
 
 -- the run that writes the dependency file, if the record has one
-abbrev pub depfile_passes : Option (List ℕ) → Parsed → List (List (List ℕ))
-depfile_passes None p = []
-depfile_passes (Some depfile) p = ((codes "-Em" ∷ codes "-o" ∷ depfile ∷ []) ++ input_and_list_words p) ∷ []
+abbrev pub depfile_runs : Option (List ℕ) → Parsed → List (List (List ℕ))
+depfile_runs None p = []
+depfile_runs (Some depfile) p = ((codes "-Em" ∷ codes "-o" ∷ depfile ∷ []) ++ input_and_list_words p) ∷ []
 
-abbrev pub tasking_passes : Parsed → List (List (List ℕ))
-tasking_passes p = depfile_passes p.depfile p ++ ((codes "-E" ∷ []) ++ input_and_list_words p) ∷ []
+abbrev pub tasking_runs : Parsed → List (List (List ℕ))
+tasking_runs p = depfile_runs p.depfile p ++ ((codes "-E" ∷ []) ++ input_and_list_words p) ∷ []
 
 -- the words of a record, none where it has no object file
 abbrev pub command : Parsed → Option (List (List ℕ))

@@ -1,9 +1,6 @@
 -- Where options go.
 use Rattle.std.specs.Prelude.{ℕ, Bool, List, Option, None, Some}
-use Rattle.scl_values.specs.Seen.{Seen, flag_of}
-use Rattle.scl_args.specs.declared.sort.Sort.{Sort}
-use Rattle.scl_args.specs.declared.sort.Sort.TheVariants as sort
-use Rattle.scl_args.specs.Sorts.{sort_of}
+use Rattle.scl_values.specs.Seen.{Seen, Raw, Unknown, Known, flag_of}
 use Rattle.scl_text.specs.Records.{Verdict, CannotCache, NotCompilation}
 use Rattle.scl_small.specs.contracts.place.PlacePartialEq.TheImpl.{ghosts}
 use Rattle.scl_small.specs.declared.place.Place.{Place}
@@ -16,17 +13,14 @@ verdict_at places.NotCompilation flag = Some NotCompilation
 verdict_at _ flag = None
 
 module _ {K : Type 0} (place : K → Place) where
-  -- where options of a sort go: a word that is none to the inputs, an unknown flag to the common words, any other by its kind
-  abbrev pub place_of_sort : Sort K → Place
-  place_of_sort sort.Raw = places.Input
-  place_of_sort sort.Unknown = places.Common
-  place_of_sort (sort.Known k) = place k
-
-  abbrev pub sort_goes_to : Place → Sort K → Bool
-  sort_goes_to there s = ghosts.eq (place_of_sort s) there
+  -- where an option goes: a word that is none to the inputs, an unknown flag to the common words, any other by its kind
+  abbrev pub place_of : Seen K → Place
+  place_of (Raw w) = places.Input
+  place_of (Unknown w) = places.Common
+  place_of (Known f k v how) = place k
 
   abbrev pub goes_to : Place → Seen K → Bool
-  goes_to there o = sort_goes_to there (sort_of o)
+  goes_to there o = ghosts.eq (place_of o) there
 
   abbrev pub refused_at : Seen K → Option Verdict
-  refused_at o = verdict_at (place_of_sort (sort_of o)) (flag_of o)
+  refused_at o = verdict_at (place_of o) (flag_of o)

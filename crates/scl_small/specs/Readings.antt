@@ -7,7 +7,7 @@ use Rattle.scl_files.specs.Paths.{with_extension}
 use Rattle.scl_text.specs.Languages.{language_of_file_name}
 use Rattle.scl_text.specs.Records.{Parsed, bare_record, artifact, Verdict, NotCompilation}
 use Rattle.scl_text.specs.JudgedWords.{judged_cut}
-use Rattle.scl_text.specs.Reasons.{empty_value, argument_parse, unknown_source_language}
+use Rattle.scl_text.specs.Reasons.{unknown_source_language}
 use Rattle.scl_text.specs.Refusals.{the_input}
 use Rattle.scl_text.specs.declared.language.Language.{Language}
 use Rattle.scl_small.specs.Places.{goes_to}
@@ -22,7 +22,7 @@ module _ {K : Type 0} (place : K → Place) where
 -- the options that words are cut into, where `own` gives a word's owner, are tested and recorded, where none is refused, each by itself
 abbrev pub reads : {K : Type 0} → (Seen K → Option Verdict) → (List (Seen K) → Result Parsed Verdict) → (List ℕ → Option (Row K)) → List (List ℕ) → Result Parsed Verdict
 reads verdict tested own words = do
-  options ← judged_cut empty_value (λ before. verdict) argument_parse own false words
+  options ← judged_cut (λ before. verdict) own false words
   tested options
 
 -- ---- the fixed tests, and the record

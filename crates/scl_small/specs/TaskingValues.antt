@@ -1,11 +1,25 @@
 -- The values of TaskingVX's options.
-use Rattle.std.specs.Prelude.{ℕ, Bool, true, false, List, []}
+use Rattle.std.specs.Prelude.{ℕ, Bool, true, false, List}
+use Rattle.scl_values.specs.Contents.{Content, nothing, word, path}
 use Rattle.scl_small.specs.declared.tasking_vx.args.ArgData.{ArgData}
 use Rattle.scl_small.specs.declared.tasking_vx.args.ArgData.TheVariants as values
 use Rattle.scl_small.specs.declared.tasking_vx.args.Kind.{Kind}
 use Rattle.scl_small.specs.declared.tasking_vx.args.Kind.TheVariants as kinds
 
--- whether the kind holds a value
+-- what each value is made of: its kind, and the word or the path that it holds, if it holds one
+abbrev pub content : ArgData → Content Kind
+content values.TooHardFlag = nothing kinds.TooHardFlag
+content (values.TooHard w) = word kinds.TooHard w.items
+content values.NotCompilationFlag = nothing kinds.NotCompilationFlag
+content (values.NotCompilation w) = word kinds.NotCompilation w.items
+content values.DoCompilation = nothing kinds.DoCompilation
+content (values.Output p) = path kinds.Output p.0.items
+content (values.PassThrough w) = word kinds.PassThrough w.items
+content (values.PreprocessorArgument w) = word kinds.PreprocessorArgument w.items
+content (values.PreprocessorArgumentPath p) = path kinds.PreprocessorArgumentPath p.0.items
+content (values.DepFile p) = path kinds.DepFile p.0.items
+
+-- whether options of the kind have a value
 abbrev pub holds_value : Kind → Bool
 holds_value kinds.TooHardFlag = false
 holds_value kinds.NotCompilationFlag = false
@@ -13,33 +27,12 @@ holds_value kinds.DoCompilation = false
 holds_value _ = true
 
 abbrev pub kind_of : ArgData → Kind
-kind_of values.TooHardFlag = kinds.TooHardFlag
-kind_of (values.TooHard w) = kinds.TooHard
-kind_of values.NotCompilationFlag = kinds.NotCompilationFlag
-kind_of (values.NotCompilation w) = kinds.NotCompilation
-kind_of values.DoCompilation = kinds.DoCompilation
-kind_of (values.Output p) = kinds.Output
-kind_of (values.PassThrough w) = kinds.PassThrough
-kind_of (values.PreprocessorArgument w) = kinds.PreprocessorArgument
-kind_of (values.PreprocessorArgumentPath p) = kinds.PreprocessorArgumentPath
-kind_of (values.DepFile p) = kinds.DepFile
+kind_of value = (content value).kind
 
 -- the word that a value prints
 abbrev pub word_of : ArgData → List ℕ
-word_of values.TooHardFlag = []
-word_of (values.TooHard w) = w.items
-word_of values.NotCompilationFlag = []
-word_of (values.NotCompilation w) = w.items
-word_of values.DoCompilation = []
-word_of (values.Output p) = p.0.items
-word_of (values.PassThrough w) = w.items
-word_of (values.PreprocessorArgument w) = w.items
-word_of (values.PreprocessorArgumentPath p) = p.0.items
-word_of (values.DepFile p) = p.0.items
+word_of value = (content value).word
 
--- whether the word is a path
+-- whether the value is a path
 abbrev pub is_path : ArgData → Bool
-is_path (values.Output p) = true
-is_path (values.PreprocessorArgumentPath p) = true
-is_path (values.DepFile p) = true
-is_path _ = false
+is_path value = (content value).is_path

@@ -76,6 +76,6 @@ pub fn generate_compile_commands(
     ensures command { IfOk result (λ built. IsBuiltCommand built.0 built.1 (command (parsed_of parsed.now)) executable.now (pairs_of env_vars.now) cwd.now Cacheable.Yes) }
     ensures missing { (result ≡ Err CommandError.MissingObj) ↔ (object_of (parsed_of parsed.now) ≡ None) }
 {
-    let parsed = parsed.copied_for_command(alloc)?;
+    let parsed = parsed.copy_for_command(alloc)?;
     generate_compile_commands_owned(alloc, executable, parsed, cwd, env_vars, view)
 }

@@ -16,7 +16,7 @@ pub use args::{ARGS, ArgData, Kind, table};
 pub use compiler::Diab;
 use scl_args::SearchableArgInfo;
 pub use scl_text::ExpandAtArgs;
-use scl_text::command::copied_words;
+use scl_text::command::copy_words;
 use scl_text::records::{CompilerArguments, ParsedArguments};
 use scl_text::{ExpansionKind, Mem, View, expand_words};
 use std::alloc::Global;
@@ -64,6 +64,6 @@ pub fn parse_arguments<S: SearchableArgInfo<ArgData> + Drop>(
     requires { IsTrue (tables_hold_values holds_value (S.tables arg_info)) }
     ensures { IfOk result (λ answer. outcome_of answer ≡ expanded_reading (owner_in (S.tables arg_info)) cwd.now view.now.files (words_of arguments.now)) }
 {
-    let arguments = copied_words(alloc, arguments)?;
+    let arguments = copy_words(alloc, arguments)?;
     parse_arguments_owned(alloc, arguments, cwd, arg_info, view)
 }

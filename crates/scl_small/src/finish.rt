@@ -1,19 +1,22 @@
 //! The fixed tests, and the record.
 ghost use Rattle.std.specs.Prelude.{◌≡◌, ◌∷◌, [], IfOk, false, codes};
 ghost use Rattle.std.specs.Option.{option_copied};
-ghost use Rattle.scl_text.specs.Records.{outcome_of, parsed_of, path_of, artifact, artifacts};
-ghost use Rattle.scl_small.specs.Readings.{record_of, recorded, tested_by, object_path, dependency_path};
+ghost use Rattle.scl_values.specs.Words.{words_of};
+ghost use Rattle.scl_text.specs.Records.{parsed_of, path_of, artifact, artifacts};
+ghost use Rattle.scl_text.specs.Refusals.{the_input};
+ghost use Rattle.scl_text.specs.Stops.{Gives};
+ghost use Rattle.scl_small.specs.Readings.{record_of, tested_by, object_path, dependency_path};
 
 use crate::place::{Place, Placed};
 use crate::rules::Rules;
 use scl_args::{Options, ShortFlagsJoined};
-use scl_text::Mem;
 use scl_text::language::Language;
 use scl_text::outputs::put_output;
 use scl_text::path::with_extension;
 use scl_text::reasons::UNKNOWN_SOURCE_LANGUAGE;
-use scl_text::records::{ArtifactDescriptor, CompilerArguments, ParsedArguments};
-use scl_text::refusal::one_input;
+use scl_text::records::{ArtifactDescriptor, ParsedArguments};
+use scl_text::refusal::{Refusal, cannot_cache, one_input};
+use scl_text::{Mem, Stop};
 use std::alloc::Global;
 use std::collections::BTreeMap;
 
@@ -61,8 +64,12 @@ fn record_of<T: Placed>(
     let depfile = dependency_path(alloc, options.last_text(&Place::DepFile), &input)?;
     let outputs = outputs_of(alloc, object)?;
     let dependency_args = options.list(alloc, &ShortFlagsJoined, &Place::Dependency)?;
-    let preprocessor_args = options.list(alloc, &ShortFlagsJoined, &Place::Preprocessor)?;
-    let common_args = options.into_list(alloc, &ShortFlagsJoined, &Place::Common)?;
+    let (preprocessor_args, common_args) = options.into_two_lists(
+        alloc,
+        &ShortFlagsJoined,
+        &Place::Preprocessor,
+        &Place::Common,
+    )?;
     let flag = Vec::from_slice(alloc, flag.as_bytes())?;
     Ok(ParsedArguments {
         depfile,
@@ -74,34 +81,29 @@ fn record_of<T: Placed>(
     })
 }
 
-/// The answer for a compilation with the flag: the tests of inputs and language, and the record.
-fn recorded<T: Placed>(
-    alloc: Global,
-    options: Options<T>,
-    flag: &str,
-) -> Mem<CompilerArguments<ParsedArguments>>
-    ensures { IfOk result (λ answer. outcome_of answer ≡ recorded T.place options flag.now) }
+/// The one input, refused without a text beside the reason.
+fn input_of(alloc: Global, inputs: Vec<Vec<u8>>) -> Result<Vec<u8>, Stop>
+    ensures { Gives (λ input. input.items) result (the_input (words_of inputs.items)) }
 {
-    let input = match one_input(alloc, options.texts(alloc, &Place::Input)?)? {
-        Ok(input) => input,
-        Err(refusal) => return Ok(refusal.without_text().into_answer()),
-    };
-    let Some(language) = Language::from_file_name(&input) else {
-        return Ok(CompilerArguments::CannotCache(UNKNOWN_SOURCE_LANGUAGE, None));
-    };
-    let record = record_of(alloc, options, flag, input, language)?;
-    Ok(CompilerArguments::Ok(record))
+    match one_input(alloc, inputs) {
+        Ok(input) => Ok(input),
+        Err(Stop::Refused(refusal)) => Err(Stop::Refused(refusal.without_text())),
+        Err(Stop::Memory) => Err(Stop::Memory),
+    }
 }
 
-/// The answer for options that are not refused: the fixed tests, and the record.
-pub(crate) fn tested<T: Rules>(
+/// The record of options that are not refused: the fixed tests in their order, and what they find recorded.
+pub(crate) fn read_options<T: Rules>(
     alloc: Global,
     options: Options<T>,
-) -> Mem<CompilerArguments<ParsedArguments>>
-    ensures { IfOk result (λ answer. outcome_of answer ≡ tested_by T.place T.compile_flag_for options) }
+) -> Result<ParsedArguments, Stop>
+    ensures { Gives parsed_of result (tested_by T.place T.compile_flag_for options) }
 {
-    match options.last_flag(&Place::CompileFlag) {
-        Some(flag) => recorded(alloc, options, T::compile_flag(flag)),
-        None => Ok(CompilerArguments::NotCompilation),
-    }
+    let flag = options
+        .last_flag(&Place::CompileFlag)
+        .ok_or(Refusal::NotCompilation)?;
+    let input = input_of(alloc, options.texts(alloc, &Place::Input)?)?;
+    let language = Language::from_file_name(&input);
+    let language = language.ok_or(cannot_cache(UNKNOWN_SOURCE_LANGUAGE))?;
+    Ok(record_of(alloc, options, T::compile_flag(flag), input, language)?)
 }

@@ -3,10 +3,10 @@ ghost use Rattle.std.specs.Prelude.{◌≡◌};
 ghost use Rattle.std.specs.Option.{option_map};
 ghost use Rattle.scl_values.specs.Seen.{seen};
 ghost use Rattle.scl_text.specs.Refusals.{verdict_of};
-ghost use Rattle.scl_small.specs.Places.{place_of_sort, sort_goes_to, refused_at};
+ghost use Rattle.scl_small.specs.Places.{place_of, refused_at};
 ghost use Rattle.scl_small.specs.declared.place.Place.{Place};
 
-use scl_args::{Argument, ExactArg, ReadArg, Sort, Test, sort_of};
+use scl_args::{Argument, ExactArg, ReadArg, Test};
 use scl_text::refusal::Refusal;
 
 /// Where an option goes, or how it ends the reading (docs/RULES.md, Diab and TaskingVX).
@@ -41,42 +41,32 @@ pub(crate) trait Placed: ExactArg + ReadArg {
         ensures { result ≡ place kind };
 }
 
-/// Where options of the sort go.
-fn place_of_sort<T: Placed>(sort: Sort<T::Kind>) -> Place
-    ensures { result ≡ place_of_sort T.place sort }
+/// Where the option goes.
+fn place_of<T: Placed>(option: &Argument<T>) -> Place
+    ensures { result ≡ place_of T.place (seen T.kind_of T.word_of option.now) }
 {
-    match sort {
-        Sort::Raw => Place::Input,
-        Sort::Unknown => Place::Common,
-        Sort::Known(kind) => T::place(kind),
+    match option {
+        Argument::Raw(_) => Place::Input,
+        Argument::UnknownFlag(_) => Place::Common,
+        Argument::Flag(_, value) | Argument::WithValue(_, value, _) => T::place(value.kind()),
     }
 }
 
 impl<T: Placed> Test<T> for Place {
-    ghost use Rattle.scl_small.specs.Places.{goes_to, sort_goes_to};
+    ghost use Rattle.scl_small.specs.Places.{goes_to};
 
     ghost passes = { goes_to T.place };
 
-    ghost may_pass = { sort_goes_to T.place };
-
-    ghost passes_by_sort = { λ there option none. none };
-
     fn passes(&self, option: &Argument<T>) -> bool {
-        Test::<T>::may_pass(self, sort_of(option))
-    }
-
-    fn may_pass(&self, sort: Sort<T::Kind>) -> bool
-        ensures { result ≡ sort_goes_to T.place self.now sort }
-    {
-        place_of_sort::<T>(sort) == *self
+        place_of(option) == *self
     }
 }
 
 /// The refusal that an option's place is.
-pub(crate) fn refused_by_place<T: Placed>(option: &Argument<T>) -> Option<Refusal>
+pub(crate) fn refuse_by_place<T: Placed>(option: &Argument<T>) -> Option<Refusal>
     ensures { option_map verdict_of result ≡ refused_at T.place (seen T.kind_of T.word_of option.now) }
 {
-    match place_of_sort::<T>(sort_of(option)) {
+    match place_of(option) {
         Place::Refused => Some(Refusal::CannotCache(option.flag(), None)),
         Place::NotCompilation => Some(Refusal::NotCompilation),
         Place::Input

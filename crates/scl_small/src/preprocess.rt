@@ -3,7 +3,7 @@ ghost use Rattle.std.specs.Prelude.{◌≡◌, ◌++◌, IfOk, OnOk};
 ghost use Rattle.scl_values.specs.Words.{words_of};
 ghost use Rattle.scl_text.specs.Records.{parsed_of};
 ghost use Rattle.scl_text.specs.Runs.{runs_of};
-ghost use Rattle.scl_small.specs.Command.{diab_words, diab_passes, input_and_list_words, depfile_passes, tasking_passes};
+ghost use Rattle.scl_small.specs.Command.{diab_words, diab_runs, input_and_list_words, depfile_runs, tasking_runs};
 
 use scl_text::Mem;
 use scl_text::command::{push_word, push_words};
@@ -23,8 +23,8 @@ fn diab_words(alloc: Global, parsed: &ParsedArguments) -> Mem<Vec<Vec<u8>>>
 }
 
 /// The words of Diab's one run.
-pub(crate) fn diab_passes(alloc: Global, parsed: &ParsedArguments) -> Mem<Vec<Vec<Vec<u8>>>>
-    ensures { IfOk result (λ runs. runs_of runs.items ≡ diab_passes (parsed_of parsed.now)) }
+pub(crate) fn diab_runs(alloc: Global, parsed: &ParsedArguments) -> Mem<Vec<Vec<Vec<u8>>>>
+    ensures { IfOk result (λ runs. runs_of runs.items ≡ diab_runs (parsed_of parsed.now)) }
 {
     let mut runs = Vec::new(alloc);
     runs.push(diab_words(alloc, parsed)?)?;
@@ -50,7 +50,7 @@ fn push_depfile_run(
     runs: &mut Vec<Vec<Vec<u8>>>,
     parsed: &ParsedArguments,
 ) -> Mem<()>
-    ensures { OnOk result (runs_of runs.new.items ≡ runs_of runs.old.items ++ depfile_passes (parsed_of parsed.now).depfile (parsed_of parsed.now)) }
+    ensures { OnOk result (runs_of runs.new.items ≡ runs_of runs.old.items ++ depfile_runs (parsed_of parsed.now).depfile (parsed_of parsed.now)) }
 {
     let Some(depfile) = &parsed.depfile else {
         return Ok(());
@@ -65,8 +65,8 @@ fn push_depfile_run(
 }
 
 /// The words of TaskingVX's runs: that which writes the dependency file, if there is one, and the one that preprocesses.
-pub(crate) fn tasking_passes(alloc: Global, parsed: &ParsedArguments) -> Mem<Vec<Vec<Vec<u8>>>>
-    ensures { IfOk result (λ runs. runs_of runs.items ≡ tasking_passes (parsed_of parsed.now)) }
+pub(crate) fn tasking_runs(alloc: Global, parsed: &ParsedArguments) -> Mem<Vec<Vec<Vec<u8>>>>
+    ensures { IfOk result (λ runs. runs_of runs.items ≡ tasking_runs (parsed_of parsed.now)) }
 {
     let mut runs = Vec::new(alloc);
     push_depfile_run(alloc, &mut runs, parsed)?;

@@ -8,7 +8,7 @@ ghost use Rattle.scl_text.specs.Refusals.{verdict_of};
 use crate::place::Placed;
 use scl_args::Argument;
 use scl_text::refusal::Refusal;
-use scl_text::{Mem, Refuses};
+use scl_text::{Judge, Mem};
 use std::alloc::Global;
 
 /// What a compiler says of options of these values.
@@ -29,10 +29,10 @@ pub(crate) trait Rules: Placed {
 /// Judges each option by itself.
 pub(crate) struct ByRules;
 
-impl<T: Rules> Refuses<T> for ByRules {
+impl<T: Rules> Judge<T> for ByRules {
     ghost verdict = { λ _ before. T.verdict };
 
-    fn refusal(
+    fn judge(
         &self,
         _alloc: Global,
         _before: &[Argument<T>],

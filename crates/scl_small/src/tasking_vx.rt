@@ -15,7 +15,7 @@ use crate::reading::read_words;
 pub use args::{ARGS, ArgData, Kind, table};
 pub use compiler::TaskingVX;
 use scl_args::SearchableArgInfo;
-use scl_text::command::copied_words;
+use scl_text::command::copy_words;
 use scl_text::records::{CompilerArguments, ParsedArguments};
 use scl_text::{Mem, View};
 use std::alloc::Global;
@@ -49,6 +49,6 @@ pub fn parse_arguments<S: SearchableArgInfo<ArgData> + Drop>(
     requires { IsTrue (tables_hold_values holds_value (S.tables arg_info)) }
     ensures { IfOk result (λ answer. outcome_of answer ≡ reading (owner_in (S.tables arg_info)) (words_of arguments.now)) }
 {
-    let arguments = copied_words(alloc, arguments)?;
+    let arguments = copy_words(alloc, arguments)?;
     parse_arguments_owned(alloc, arguments, cwd, arg_info, view)
 }

@@ -2,10 +2,10 @@
 mod cl;
 mod depfile;
 mod gnu;
+mod identity;
 mod msvc;
 mod preprocess;
 mod records;
 mod small;
 mod tables;
-mod trees;
 mod words;

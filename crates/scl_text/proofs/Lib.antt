@@ -3,3 +3,4 @@ pub mod CompilerLaws
 pub mod NoFileLaws
 pub mod OutputLaws
 pub mod OutputLemmas
+pub mod StopLemmas

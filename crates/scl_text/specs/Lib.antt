@@ -7,3 +7,4 @@ pub mod Reasons
 pub mod Records
 pub mod Refusals
 pub mod Runs
+pub mod Stops

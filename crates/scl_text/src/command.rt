@@ -35,7 +35,7 @@ pub fn push_words(alloc: Global, list: &mut Vec<Vec<u8>>, words: &[Vec<u8>]) -> 
 }
 
 /// Copies of words. It fails only for want of memory.
-pub fn copied_words(alloc: Global, words: &[Vec<u8>]) -> Mem<Vec<Vec<u8>>>
+pub fn copy_words(alloc: Global, words: &[Vec<u8>]) -> Mem<Vec<Vec<u8>>>
     ensures { IfOk result (λ copies. words_of copies.items ≡ words_of words.now) }
 {
     let mut copies = Vec::with_capacity(alloc, words.len())?;
@@ -64,7 +64,7 @@ pub fn push_dashes(alloc: Global, list: &mut Vec<Vec<u8>>, is_behind_dashes: boo
 }
 
 /// A copy of a text, where there is one. It fails only for want of memory.
-pub fn copied_text(alloc: Global, text: &Option<String>) -> Mem<Option<String>>
+pub fn copy_text(alloc: Global, text: &Option<String>) -> Mem<Option<String>>
     ensures { IfOk result (λ copy. option_map string_bytes copy ≡ option_map string_bytes text.now) }
 {
     match text {
@@ -74,7 +74,7 @@ pub fn copied_text(alloc: Global, text: &Option<String>) -> Mem<Option<String>>
 }
 
 /// Copies of pairs of a key and a value. It fails only for want of memory.
-pub fn copied_pairs(alloc: Global, pairs: &[(Vec<u8>, Vec<u8>)]) -> Mem<Vec<(Vec<u8>, Vec<u8>)>>
+pub fn copy_pairs(alloc: Global, pairs: &[(Vec<u8>, Vec<u8>)]) -> Mem<Vec<(Vec<u8>, Vec<u8>)>>
     ensures { IfOk result (λ copies. pairs_of copies.items ≡ pairs_of pairs.now) }
 {
     let mut copies = Vec::new(alloc);
@@ -138,7 +138,7 @@ pub fn compile_command<W: CommandWords>(
     };
     let object = Vec::from_slice(alloc, object)?;
     let arguments = words.words(alloc, parsed, &object)?;
-    let env_vars = copied_pairs(alloc, env_vars)?;
+    let env_vars = copy_pairs(alloc, env_vars)?;
     let command = single_command(alloc, executable, arguments, env_vars, cwd)?;
     Ok((command, cacheable))
 }

@@ -1,5 +1,5 @@
 //! What every compiler answers.
-use crate::command::copied_words;
+use crate::command::copy_words;
 use crate::records::{
     CCompilerKind, Cacheable, CommandError, CompilerArguments, ParsedArguments,
     SingleCompileCommand,
@@ -51,7 +51,7 @@ pub trait CCompilerImpl {
     ghost is_read_again: { Self → List (List ℕ) → List ℕ → List (List ℕ × List ℕ) → Viewed → Parsed → List (List ℕ) → Type 0 };
 
     /// The runs of the preprocessor.
-    ghost passes: { Self → (may_dist rewrites cache_mode : Bool) → Parsed → List (List (List ℕ)) };
+    ghost runs: { Self → (may_dist rewrites cache_mode : Bool) → Parsed → List (List (List ℕ)) };
 
     /// Which compiler it is (docs/RULES.md, Compilers).
     fn kind(&self) -> CCompilerKind
@@ -91,7 +91,7 @@ pub trait CCompilerImpl {
         ensures outcome { IfOk result (λ answer. outcome_of answer ≡ reading self.now (words_of arguments.now) cwd.now (pairs_of env_vars.now) view.now) }
         ensures read_again { IfOk result (λ answer. IfCommand (command_by (command self.now)) (is_read_again self.now (words_of arguments.now) cwd.now (pairs_of env_vars.now) view.now) (outcome_of answer)) }
     {
-        let arguments = copied_words(alloc, arguments)?;
+        let arguments = copy_words(alloc, arguments)?;
         self.parse_arguments_owned(alloc, arguments, cwd, env_vars, view)
     }
 
@@ -127,7 +127,7 @@ pub trait CCompilerImpl {
             reading self.now line directory pairs files ≡ Ok (parsed_of parsed.now) → is_read_again self.now line directory pairs files (parsed_of parsed.now) (words_of answer.0.arguments.items)) }
         ensures missing { (result ≡ Err CommandError.MissingObj) ↔ (object_of (parsed_of parsed.now) ≡ None) }
     {
-        let parsed = parsed.copied_for_command(alloc)?;
+        let parsed = parsed.copy_for_command(alloc)?;
         self.generate_compile_commands_owned(alloc, executable, parsed, cwd, env_vars, view)
     }
 
@@ -146,5 +146,5 @@ pub trait CCompilerImpl {
         rewrite_includes_only: bool,
         cache_mode: bool,
     ) -> Mem<Vec<Vec<Vec<u8>>>>
-        ensures { IfOk result (λ runs. runs_of runs.items ≡ passes self.now may_dist rewrite_includes_only cache_mode (parsed_of parsed.now)) };
+        ensures { IfOk result (λ made. runs_of made.items ≡ runs self.now may_dist rewrite_includes_only cache_mode (parsed_of parsed.now)) };
 }

@@ -59,7 +59,7 @@ pub fn put_optional(
 }
 
 /// A copy of the path, if there is one. It fails only for want of memory.
-pub fn copied_path(alloc: Global, path: Option<&[u8]>) -> Mem<Option<Vec<u8>>>
+pub fn copy_path(alloc: Global, path: Option<&[u8]>) -> Mem<Option<Vec<u8>>>
     ensures { IfOk result (λ copy. path_of copy ≡ option_copied path.entry) }
 {
     match path {
@@ -69,7 +69,7 @@ pub fn copied_path(alloc: Global, path: Option<&[u8]>) -> Mem<Option<Vec<u8>>>
 }
 
 /// The path with this extension, if it is wanted. It fails only for want of memory.
-pub fn extended_if(
+pub fn with_extension_if(
     alloc: Global,
     is_wanted: bool,
     path: &[u8],

@@ -1,14 +1,15 @@
 //! Why a command line is refused.
-ghost use Rattle.std.specs.Prelude.{◌≡◌, Err, IfErr, IfOk, IsTrue, MatchOption, None, Some, is_some};
-ghost use Rattle.std.specs.Result.{result_map_both};
+ghost use Rattle.std.specs.Prelude.{◌≡◌, Err, IfOk, IsTrue, MatchOption, None, Some, is_some};
 ghost use Rattle.scl_text.specs.Reasons.{argument_parse};
-ghost use Rattle.scl_text.specs.Records.{outcome_of};
+ghost use Rattle.scl_text.specs.Records.{CannotCache, outcome_of};
 ghost use Rattle.scl_text.specs.Refusals.{verdict_of, text_of, answer_of, the_input, later_inputs};
+ghost use Rattle.scl_text.specs.Stops.{Gives, IfRefused};
 ghost use Rattle.scl_values.specs.Words.{words_of};
 
 use crate::reasons::{ARGUMENT_PARSE, MULTIPLE_INPUT_FILES, NO_INPUT_FILE};
 use crate::records::{CompilerArguments, ParsedArguments};
-use scl_args::{Mem, quoted_list};
+use crate::stop::Stop;
+use scl_args::{Mem, quote_list};
 use std::alloc::Global;
 use std::fmt::Display;
 
@@ -49,6 +50,14 @@ impl Refusal {
     }
 }
 
+/// The refusal for this reason, without a text beside it.
+pub fn cannot_cache(reason: &'static str) -> Refusal
+    ensures verdict { verdict_of result ≡ CannotCache reason.now }
+    ensures text { text_of result ≡ None }
+{
+    Refusal::CannotCache(reason, None)
+}
+
 /// The refusal of words that can't be cut, with the error's text beside the reason (docs/RULES.md, Readings). It fails only
 /// for want of memory.
 pub fn argument_parse<E: Display>(alloc: Global, error: &E) -> Mem<Refusal>
@@ -60,19 +69,15 @@ pub fn argument_parse<E: Display>(alloc: Global, error: &E) -> Mem<Refusal>
 }
 
 /// The one input; refused where there is none, and where there are several, with the later ones beside the reason
-/// (docs/RULES.md, Readings). The error is the refusal of memory.
-pub fn one_input(alloc: Global, inputs: Vec<Vec<u8>>) -> Mem<Result<Vec<u8>, Refusal>>
-    ensures input { IfOk result (λ tested. result_map_both (λ input. input.items) verdict_of tested ≡ the_input (words_of inputs.items)) }
-    ensures text { IfOk result (λ tested. IfErr tested (λ refusal. text_of refusal ≡ later_inputs (words_of inputs.items))) }
+/// (docs/RULES.md, Readings). It stops only so, or for want of memory.
+pub fn one_input(alloc: Global, inputs: Vec<Vec<u8>>) -> Result<Vec<u8>, Stop>
+    ensures input { Gives (λ input. input.items) result (the_input (words_of inputs.items)) }
+    ensures text { IfRefused result (λ refusal. text_of refusal ≡ later_inputs (words_of inputs.items)) }
 {
     let mut inputs = inputs;
     if let [_, _, ..] = inputs.as_slice() {
-        let text = quoted_list(alloc, &inputs[1..])?;
-        return Ok(Err(Refusal::CannotCache(MULTIPLE_INPUT_FILES, Some(text))));
+        let text = quote_list(alloc, &inputs[1..])?;
+        return Err(Stop::Refused(Refusal::CannotCache(MULTIPLE_INPUT_FILES, Some(text))));
     }
-    Ok(
-        inputs
-            .pop()
-            .ok_or(Refusal::CannotCache(NO_INPUT_FILE, None)),
-    )
+    Ok(inputs.pop().ok_or(cannot_cache(NO_INPUT_FILE))?)
 }

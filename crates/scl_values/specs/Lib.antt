@@ -1,3 +1,4 @@
+pub mod Contents
 pub mod Cuts
 pub mod Each
 pub mod Escaped
@@ -5,6 +6,7 @@ pub mod Held
 pub mod Left
 pub mod Row
 pub mod Seen
+pub mod Shapes
 pub mod Spell
 pub mod Tables
 pub mod Texts

@@ -42,7 +42,7 @@ impl fmt::Display for Escaped<'_> {
 }
 
 /// The word, escaped, between double quotes (docs/RULES.md, Messages). It fails only for want of memory.
-pub fn quoted(alloc: Global, word: &[u8]) -> Mem<String>
+pub fn quote_word(alloc: Global, word: &[u8]) -> Mem<String>
     ensures { IfOk result (λ text. string_bytes text ≡ quoted word.now) }
 {
     format!(in alloc; "\"{}\"", Escaped(word))
@@ -54,19 +54,19 @@ fn push_behind(alloc: Global, text: &mut String, words: &[Vec<u8>]) -> Mem<()>
 {
     for word in words {
         text.push_str(", ")?;
-        text.push_str(quoted(alloc, word.as_slice())?.as_str())?;
+        text.push_str(quote_word(alloc, word.as_slice())?.as_str())?;
     }
     Ok(())
 }
 
 /// The words, each escaped and between double quotes, with `, ` between them and brackets around them. It fails only for
 /// want of memory.
-pub fn quoted_list(alloc: Global, words: &[Vec<u8>]) -> Mem<String>
+pub fn quote_list(alloc: Global, words: &[Vec<u8>]) -> Mem<String>
     ensures { IfOk result (λ text. string_bytes text ≡ quoted_list (words_of words.now)) }
 {
     let mut text = String::from_str(alloc, "[")?;
     if let Some((first, others)) = words.split_first() {
-        text.push_str(quoted(alloc, first.as_slice())?.as_str())?;
+        text.push_str(quote_word(alloc, first.as_slice())?.as_str())?;
         push_behind(alloc, &mut text, others)?;
     }
     text.push_str("]")?;

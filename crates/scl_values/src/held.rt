@@ -1,5 +1,5 @@
 //! What values hold: nothing, a word or a path.
-ghost use Rattle.std.specs.Prelude.{◌≡◌, ◌≢◌, ◌↔◌, [], false, IsTrue, MatchResult};
+ghost use Rattle.std.specs.Prelude.{◌≡◌, ◌≢◌, ◌↔◌, [], false, MatchResult};
 ghost use Rattle.std.specs.Fn.{CalledAt};
 ghost use Rattle.scl_values.specs.Texts.{Prints};
 ghost use Rattle.scl_values.specs.Held.{word_held, is_path_held};
@@ -58,10 +58,6 @@ pub trait ReadArg: ArgumentValue {
     /// The kind of the value's options.
     fn kind(&self) -> Self::Kind
         ensures { result ≡ Self.kind_of self.now };
-
-    /// Whether the kinds are the same.
-    fn is_same_kind(kind: Self::Kind, other: Self::Kind) -> bool
-        ensures { IsTrue result ↔ (kind ≡ other) };
 
     /// What the value holds; nothing exactly where its kind holds no value, and an empty word may be held.
     fn held(&self) -> Held<'_>

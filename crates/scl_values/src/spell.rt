@@ -112,7 +112,7 @@ impl<'a, T: ArgumentValue> Model for Iter<'a, T> {
 
 /// The word of an option whose value is joined to its flag, behind the delimiter if there is one (docs/RULES.md,
 /// Printing). It fails only for want of memory.
-pub fn joined_value<T: ArgumentValue>(
+pub fn join_value<T: ArgumentValue>(
     alloc: Global,
     flag: &str,
     delimiter: Delimiter,
@@ -121,12 +121,12 @@ pub fn joined_value<T: ArgumentValue>(
     ensures { IfOk result (λ word. word.items ≡ flag.now ++ delimited delimiter (T.word_of value.now)) }
 {
     let value = value.into_arg_os_string(alloc)?;
-    joined_word(alloc, flag, delimiter, value.as_slice())
+    join_word(alloc, flag, delimiter, value.as_slice())
 }
 
 /// The word of a flag that this value is joined to, behind the delimiter if there is one (docs/RULES.md, Printing). It
 /// fails only for want of memory.
-pub fn joined_word(alloc: Global, flag: &str, delimiter: Delimiter, value: &[u8]) -> Mem<Vec<u8>>
+pub fn join_word(alloc: Global, flag: &str, delimiter: Delimiter, value: &[u8]) -> Mem<Vec<u8>>
     ensures { IfOk result (λ word. word.items ≡ flag.now ++ delimited delimiter value.now) }
 {
     let room = flag.len().saturating_add(value.len()).saturating_add(1);
@@ -157,7 +157,7 @@ fn first_word<'a, T: ArgumentValue>(
                 (option.to_os_string(alloc), Left::Value(value))
             }
             ArgDisposition::CanBeSeparated(delimiter) | ArgDisposition::Concatenated(delimiter) => {
-                (joined_value(alloc, flag, delimiter, value), Left::Nothing)
+                (join_value(alloc, flag, delimiter, value), Left::Nothing)
             }
         },
     }

@@ -64,7 +64,7 @@ fn text_of_flag(alloc: Global, flag: &str) -> ArgToStringResult
     Ok(String::from_str(alloc, flag)?)
 }
 
-fn joined(
+fn join_bytes(
     alloc: Global,
     flag: &str,
     delimiter: Delimiter,
@@ -83,7 +83,7 @@ fn joined(
     Ok(item)
 }
 
-fn joined_text<T: ArgumentValue, F: FnMut(&[u8]) -> Option<String>>(
+fn join_text<T: ArgumentValue, F: FnMut(&[u8]) -> Option<String>>(
     alloc: Global,
     flag: &str,
     delimiter: Delimiter,
@@ -96,7 +96,7 @@ fn joined_text<T: ArgumentValue, F: FnMut(&[u8]) -> Option<String>>(
     ensures callable { F.IsAlwaysCallable f.new }
 {
     let text = value.into_arg_string(alloc, f)?;
-    joined(alloc, flag, delimiter, text.as_str())
+    join_bytes(alloc, flag, delimiter, text.as_str())
 }
 
 impl<'a, T: ArgumentValue, F: FnMut(&[u8]) -> Option<String> + Drop> Iterator
@@ -122,7 +122,7 @@ impl<'a, T: ArgumentValue, F: FnMut(&[u8]) -> Option<String> + Drop> Iterator
                     }
                     ArgDisposition::CanBeSeparated(delimiter)
                     | ArgDisposition::Concatenated(delimiter) => (
-                        joined_text(self.alloc, flag, delimiter, value, &mut self.closure),
+                        join_text(self.alloc, flag, delimiter, value, &mut self.closure),
                         Left::Nothing,
                     ),
                 },

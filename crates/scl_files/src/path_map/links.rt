@@ -5,42 +5,35 @@ ghost use Rattle.std.specs.Ordering.{nat_cmp, is_eq};
 ghost use Rattle.scl_files.specs.PathEntries.{IsLinked, place_at};
 
 use super::Entry;
-use super::hash::path_hash;
-use crate::path::same_path;
+use super::tree::PathTree;
 use std::collections::BTreeMap;
 
 /// Where the newest entry at the path stands.
 pub(super) fn place_of<T>(
     entries: &[Entry<T>],
-    newest: &BTreeMap<u64, usize>,
+    tree: &PathTree,
+    newest: &BTreeMap<usize, usize>,
     path: &[u8],
 ) -> Option<usize>
-    requires { IsLinked entries.now newest.now }
+    requires { IsLinked entries.now tree.now newest.now }
     ensures { result ≡ place_at path.now entries.now (length entries.now) }
 {
-    let mut place = newest.get(&path_hash(path)).copied();
-    while let Some(at) = place {
-        let entry = &entries[at];
-        if same_path(&entry.path, path) {
-            return Some(at);
-        }
-        place = entry.older;
-    }
-    None
+    let node = tree.find(path)?;
+    newest.get(&node).copied()
 }
 
-/// Lets a hash that leads to a place lead to an older one, or to none.
-pub(super) fn lead_back(newest: &mut BTreeMap<u64, usize>, hash: u64, older: Option<usize>)
-    requires { IsSome (get nat_cmp newest.old hash) }
-    ensures { (q : ℕ) → get nat_cmp newest.new q ≡ (if is_eq (nat_cmp hash q) then older else get nat_cmp newest.old q) }
+/// Lets a node lead to an older place, or to none.
+pub(super) fn lead_back(newest: &mut BTreeMap<usize, usize>, node: usize, older: Option<usize>)
+    requires { IsSome (get nat_cmp newest.old node) }
+    ensures { (q : ℕ) → get nat_cmp newest.new q ≡ (if is_eq (nat_cmp node q) then older else get nat_cmp newest.old q) }
 {
     match older {
-        Some(at) => match newest.insert(hash, at) {
+        Some(at) => match newest.insert(node, at) {
             Ok(_) => {}
             Err(_) => unreachable!(),
         },
         None => {
-            newest.remove(&hash);
+            newest.remove(&node);
         }
     }
 }

@@ -5,13 +5,13 @@ ghost use Rattle.std.specs.String.{string_bytes};
 ghost use Rattle.scl_text.specs.Languages.{clang_text};
 ghost use Rattle.scl_gnu.specs.Versions.{is_minversion};
 
-use super::preprocess::clang_passes;
+use super::preprocess::clang_runs;
 use super::version::names_at_least;
 use crate::gcc;
 use scl_args::Mem;
 use scl_gnu_reading::clang::trees;
 use scl_text::CCompilerImpl;
-use scl_text::command::copied_text;
+use scl_text::command::copy_text;
 use scl_text::language::Language;
 use scl_text::records::{
     CCompilerKind, Cacheable, CommandError, CompilerArguments, ParsedArguments,
@@ -79,7 +79,7 @@ impl CCompilerImpl for Clang {
     ghost use Rattle.scl_text.specs.Languages.{clang_text};
     ghost use Rattle.scl_gnu.specs.Building.{command_words};
     ghost use Rattle.scl_gnu_reading.specs.ClangRows.{clang_tables};
-    ghost use Rattle.scl_gnu.specs.Preprocess.{clang_passes};
+    ghost use Rattle.scl_gnu.specs.Preprocess.{clang_runs};
     ghost use Rattle.scl_gnu.specs.ReadAgain.{ClangReadsAgain};
     ghost use Rattle.scl_gnu_reading.specs.Readings.{reading};
 
@@ -101,7 +101,7 @@ impl CCompilerImpl for Clang {
 
     ghost is_read_again = { λ _ words directory env_vars view. ClangReadsAgain directory view words };
 
-    ghost passes = { λ clang. clang_passes clang.is_appleclang (option_map string_bytes clang.version) };
+    ghost runs = { λ clang. clang_runs clang.is_appleclang (option_map string_bytes clang.version) };
 
     fn kind(&self) -> CCompilerKind {
         CCompilerKind::Clang
@@ -112,7 +112,7 @@ impl CCompilerImpl for Clang {
     }
 
     fn version(&self, alloc: Global) -> Mem<Option<String>> {
-        copied_text(alloc, &self.version)
+        copy_text(alloc, &self.version)
     }
 
     fn parse_arguments_owned(
@@ -156,7 +156,7 @@ impl CCompilerImpl for Clang {
     }
 
     fn assembler_digest(&self, alloc: Global) -> Mem<Option<String>> {
-        copied_text(alloc, &self.assembler_digest)
+        copy_text(alloc, &self.assembler_digest)
     }
 
     fn preprocess_passes(
@@ -167,7 +167,7 @@ impl CCompilerImpl for Clang {
         rewrite_includes_only: bool,
         cache_mode: bool,
     ) -> Mem<Vec<Vec<Vec<u8>>>> {
-        clang_passes(
+        clang_runs(
             alloc,
             self,
             parsed,

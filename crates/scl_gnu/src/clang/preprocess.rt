@@ -5,7 +5,7 @@ ghost use Rattle.std.specs.String.{string_bytes};
 ghost use Rattle.scl_values.specs.Words.{words_of};
 ghost use Rattle.scl_text.specs.Records.{parsed_of};
 ghost use Rattle.scl_text.specs.Runs.{runs_of};
-ghost use Rattle.scl_gnu.specs.Preprocess.{clang_flags, clang_passes};
+ghost use Rattle.scl_gnu.specs.Preprocess.{clang_flags, clang_runs};
 
 use super::compiler::{Clang, language_to_clang_arg};
 use crate::gcc;
@@ -25,7 +25,7 @@ fn ignorable_flags(
 ) -> Mem<Vec<Vec<u8>>>
     ensures { IfOk result (λ made. words_of made.items ≡ clang_flags clang.now.is_appleclang (option_map string_bytes clang.now.version) language cache_mode) }
 {
-    let mut flags = gcc::line_flags(alloc, cache_mode)?;
+    let mut flags = gcc::linemarker_flags(alloc, cache_mode)?;
     if clang.is_minversion(alloc, 14)? && language != Language::AssemblerToPreprocess {
         push_word(alloc, &mut flags, b"-fminimize-whitespace")?;
     }
@@ -33,7 +33,7 @@ fn ignorable_flags(
 }
 
 /// The words of the runs, in order.
-pub(super) fn clang_passes(
+pub(super) fn clang_runs(
     alloc: Global,
     clang: &Clang,
     parsed: &ParsedArguments,
@@ -41,7 +41,7 @@ pub(super) fn clang_passes(
     rewrite_includes_only: bool,
     cache_mode: bool,
 ) -> Mem<Vec<Vec<Vec<u8>>>>
-    ensures { IfOk result (λ runs. runs_of runs.items ≡ clang_passes clang.now.is_appleclang (option_map string_bytes clang.now.version) may_dist rewrite_includes_only cache_mode (parsed_of parsed.now)) }
+    ensures { IfOk result (λ runs. runs_of runs.items ≡ clang_runs clang.now.is_appleclang (option_map string_bytes clang.now.version) may_dist rewrite_includes_only cache_mode (parsed_of parsed.now)) }
 {
     let ignorable = ignorable_flags(alloc, clang, parsed.language, cache_mode)?;
     gcc::preprocess_passes(

@@ -139,7 +139,7 @@ pub fn generate_compile_commands<T: AsStr + Drop, F: Fn(Language) -> Option<T>>(
         × IsBuiltCommand built.0 built.1 (command (option_map T.text text) (parsed_of parsed.now)) executable.now (pairs_of env_vars.now) cwd.now Cacheable.Yes) }
     ensures missing { (result ≡ Err CommandError.MissingObj) ↔ (object_of (parsed_of parsed.now) ≡ None) }
 {
-    let parsed = parsed.copied_for_command(alloc)?;
+    let parsed = parsed.copy_for_command(alloc)?;
     generate_compile_commands_owned(
         alloc,
         executable,

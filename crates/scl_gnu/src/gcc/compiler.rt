@@ -2,11 +2,11 @@
 ghost use Rattle.std.specs.Prelude.{◌≡◌, None};
 
 use super::command::{generate_compile_commands_owned, language_to_gcc_arg};
-use super::preprocess::gcc_passes;
+use super::preprocess::gcc_runs;
 use scl_args::{FlagTree, Mem};
 use scl_gnu_reading::gcc::{parse_arguments_owned, table};
 use scl_text::CCompilerImpl;
-use scl_text::command::copied_text;
+use scl_text::command::copy_text;
 use scl_text::records::{
     CCompilerKind, Cacheable, CommandError, CompilerArguments, ParsedArguments,
     SingleCompileCommand,
@@ -49,7 +49,7 @@ impl CCompilerImpl for Gcc {
     ghost use Rattle.scl_text.specs.Languages.{gcc_text};
     ghost use Rattle.scl_gnu.specs.Building.{command_words};
     ghost use Rattle.scl_gnu_reading.specs.GccRows.{gcc_rows};
-    ghost use Rattle.scl_gnu.specs.Preprocess.{gcc_passes};
+    ghost use Rattle.scl_gnu.specs.Preprocess.{gcc_runs};
     ghost use Rattle.scl_gnu.specs.ReadAgain.{GccReadsAgain};
     ghost use Rattle.scl_gnu_reading.specs.Readings.{reading};
 
@@ -71,7 +71,7 @@ impl CCompilerImpl for Gcc {
 
     ghost is_read_again = { λ _ words directory env_vars view. GccReadsAgain directory view words };
 
-    ghost passes = { λ _. gcc_passes };
+    ghost runs = { λ _. gcc_runs };
 
     fn kind(&self) -> CCompilerKind {
         CCompilerKind::Gcc
@@ -82,7 +82,7 @@ impl CCompilerImpl for Gcc {
     }
 
     fn version(&self, alloc: Global) -> Mem<Option<String>> {
-        copied_text(alloc, &self.version)
+        copy_text(alloc, &self.version)
     }
 
     fn parse_arguments_owned(
@@ -126,7 +126,7 @@ impl CCompilerImpl for Gcc {
     }
 
     fn assembler_digest(&self, alloc: Global) -> Mem<Option<String>> {
-        copied_text(alloc, &self.assembler_digest)
+        copy_text(alloc, &self.assembler_digest)
     }
 
     fn preprocess_passes(
@@ -137,6 +137,6 @@ impl CCompilerImpl for Gcc {
         rewrite_includes_only: bool,
         cache_mode: bool,
     ) -> Mem<Vec<Vec<Vec<u8>>>> {
-        gcc_passes(alloc, parsed, may_dist, rewrite_includes_only, cache_mode)
+        gcc_runs(alloc, parsed, may_dist, rewrite_includes_only, cache_mode)
     }
 }

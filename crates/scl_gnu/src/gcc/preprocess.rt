@@ -5,7 +5,7 @@ ghost use Rattle.scl_values.specs.Words.{words_of};
 ghost use Rattle.scl_text.specs.Records.{parsed_of};
 ghost use Rattle.scl_text.specs.Runs.{runs_of};
 ghost use Rattle.scl_gnu.specs.ListsOf.{lists_of};
-ghost use Rattle.scl_gnu.specs.Preprocess.{ignoring, rewriting, settings, words_with, run_words, with_archs, without_files, arch_words, arch_run, arch_runs, preprocess_passes, line_flags, gcc_passes};
+ghost use Rattle.scl_gnu.specs.Preprocess.{ignoring, rewriting, settings, words_with, run_words, with_archs, without_files, arch_words, arch_run, arch_runs, preprocess_passes, linemarker_flags, gcc_runs};
 
 use super::command::language_to_gcc_arg;
 use super::output_files::without_output_files;
@@ -180,7 +180,7 @@ fn arch_runs(
 }
 
 /// The runs, with this text for the language.
-fn passes_with(
+fn runs_with(
     alloc: Global,
     text: Option<&str>,
     kind: CCompilerKind,
@@ -222,7 +222,7 @@ pub fn preprocess_passes<T: AsStr + Drop, F: Fn(Language) -> Option<T>>(
         × (runs_of made.items ≡ preprocess_passes (option_map T.text text) kind rewrite_includes_only (words_of ignorable.now) may_dist (parsed_of parsed.now))) }
 {
     let text = language_to_arg(parsed.language);
-    passes_with(
+    runs_with(
         alloc,
         text.as_ref().map(|text| text.as_str()),
         kind,
@@ -234,8 +234,8 @@ pub fn preprocess_passes<T: AsStr + Drop, F: Fn(Language) -> Option<T>>(
 }
 
 /// The flags of every Gcc and Clang that leave out what may be ignored.
-pub(crate) fn line_flags(alloc: Global, cache_mode: bool) -> Mem<Vec<Vec<u8>>>
-    ensures { IfOk result (λ made. words_of made.items ≡ line_flags cache_mode) }
+pub(crate) fn linemarker_flags(alloc: Global, cache_mode: bool) -> Mem<Vec<Vec<u8>>>
+    ensures { IfOk result (λ made. words_of made.items ≡ linemarker_flags cache_mode) }
 {
     let mut words = Vec::new(alloc);
     if !cache_mode {
@@ -245,16 +245,16 @@ pub(crate) fn line_flags(alloc: Global, cache_mode: bool) -> Mem<Vec<Vec<u8>>>
 }
 
 /// The words of the runs of Gcc's preprocessor, in order.
-pub(super) fn gcc_passes(
+pub(super) fn gcc_runs(
     alloc: Global,
     parsed: &ParsedArguments,
     may_dist: bool,
     rewrite_includes_only: bool,
     cache_mode: bool,
 ) -> Mem<Vec<Vec<Vec<u8>>>>
-    ensures { IfOk result (λ runs. runs_of runs.items ≡ gcc_passes may_dist rewrite_includes_only cache_mode (parsed_of parsed.now)) }
+    ensures { IfOk result (λ runs. runs_of runs.items ≡ gcc_runs may_dist rewrite_includes_only cache_mode (parsed_of parsed.now)) }
 {
-    let ignorable = line_flags(alloc, cache_mode)?;
+    let ignorable = linemarker_flags(alloc, cache_mode)?;
     preprocess_passes(
         alloc,
         parsed,

@@ -1,10 +1,9 @@
 //! The tests that follow the verdicts of the options.
 ghost use Rattle.std.specs.Prelude.{◌≡◌, ◌++◌, IfOk, codes, unwrap_or, [], ◌∷◌};
 ghost use Rattle.std.specs.Option.{option_copied};
-ghost use Rattle.std.specs.Result.{result_map_both};
 ghost use Rattle.scl_files.specs.Paths.{extension};
 ghost use Rattle.scl_text.specs.Records.{path_of};
-ghost use Rattle.scl_text.specs.Refusals.{verdict_of};
+ghost use Rattle.scl_text.specs.Stops.{Gives};
 ghost use Rattle.scl_gnu_reading.specs.FixedTests.{driven, language_of, object_path, with_pcm, module_path_of, module_path_unless, found};
 ghost use Rattle.scl_gnu_reading.specs.FoundBy.{found_of};
 ghost use Rattle.scl_args.specs.Options.{last_text};
@@ -13,10 +12,11 @@ ghost use Rattle.scl_gnu_reading.specs.Kinds.{any, of};
 use super::data::{ArgData, Kind};
 use super::inputs::Inputs;
 use scl_args::{Mem, OfKinds, Options};
+use scl_text::Stop;
 use scl_text::language::Language;
 use scl_text::path::{extension, file_name, with_extension, with_file_name};
 use scl_text::reasons::{INVALID_INPUT_FILE, UNKNOWN_SOURCE_LANGUAGE};
-use scl_text::refusal::{Refusal, one_input};
+use scl_text::refusal::{Refusal, cannot_cache, one_input};
 use std::alloc::Global;
 
 /// What the tests find.
@@ -81,19 +81,17 @@ fn module_path_of(
     text: Option<&[u8]>,
     input: &[u8],
     object: &[u8],
-) -> Mem<Result<Option<Vec<u8>>, Refusal>>
-    ensures { IfOk result (λ tested. result_map_both path_of verdict_of tested ≡ module_path_of (option_copied text.entry) input.now object.now) }
+) -> Result<Option<Vec<u8>>, Stop>
+    ensures { Gives path_of result (module_path_of (option_copied text.entry) input.now object.now) }
 {
     match text {
-        None => Ok(Ok(None)),
-        Some([_, path @ ..]) => Ok(Ok(Some(Vec::from_slice(alloc, path)?))),
-        Some([]) => match file_name(input) {
-            None => Ok(Err(Refusal::CannotCache(INVALID_INPUT_FILE, None))),
-            Some(name) => {
-                let beside = with_file_name(alloc, object, name)?;
-                Ok(Ok(Some(with_pcm(alloc, &beside)?)))
-            }
-        },
+        None => Ok(None),
+        Some([_, path @ ..]) => Ok(Some(Vec::from_slice(alloc, path)?)),
+        Some([]) => {
+            let name = file_name(input).ok_or(cannot_cache(INVALID_INPUT_FILE))?;
+            let beside = with_file_name(alloc, object, name)?;
+            Ok(Some(with_pcm(alloc, &beside)?))
+        }
     }
 }
 
@@ -102,49 +100,40 @@ fn module_path(
     options: &Options<ArgData>,
     input: &[u8],
     object: &[u8],
-) -> Mem<Result<Option<Vec<u8>>, Refusal>>
-    ensures { IfOk result (λ tested. result_map_both path_of verdict_of tested
-        ≡ module_path_unless (any (Kind.ModuleOnlyFlag ∷ []) options.now) (last_text (of (Kind.ClangModuleOutput ∷ [])) options.now) input.now object.now) }
+) -> Result<Option<Vec<u8>>, Stop>
+    ensures { Gives path_of result
+        (module_path_unless (any (Kind.ModuleOnlyFlag ∷ []) options.now) (last_text (of (Kind.ClangModuleOutput ∷ [])) options.now) input.now object.now) }
 {
     if options.any(&OfKinds(&[Kind::ModuleOnlyFlag])) {
-        return Ok(Ok(None));
+        return Ok(None);
     }
     let text = options.last_text(&OfKinds(&[Kind::ClangModuleOutput]));
     module_path_of(alloc, text, input, object)
 }
 
 /// The tests in their order.
-pub(crate) fn find(
+pub(crate) fn apply_fixed_tests(
     alloc: Global,
     options: &Options<ArgData>,
     plusplus: bool,
-) -> Mem<Result<Finding, Refusal>>
-    ensures { IfOk result (λ tested. result_map_both found_of verdict_of tested ≡ found plusplus options.now) }
+) -> Result<Finding, Stop>
+    ensures { Gives found_of result (found plusplus options.now) }
 {
-    let Some(compile_flag) = options.last_flag(&OfKinds(&[Kind::DoCompilation])) else {
-        return Ok(Err(Refusal::NotCompilation));
-    };
-    let input = match one_input(alloc, options.texts(alloc, &Inputs)?)? {
-        Ok(input) => input,
-        Err(refusal) => return Ok(Err(refusal)),
-    };
+    let compile_flag = options
+        .last_flag(&OfKinds(&[Kind::DoCompilation]))
+        .ok_or(Refusal::NotCompilation)?;
+    let input = one_input(alloc, options.texts(alloc, &Inputs)?)?;
     let text = options.last_text(&OfKinds(&[Kind::Language]));
-    let Some(language) = language_of(plusplus, text, &input) else {
-        return Ok(Err(Refusal::CannotCache(UNKNOWN_SOURCE_LANGUAGE, None)));
-    };
+    let language = language_of(plusplus, text, &input);
+    let language = language.ok_or(cannot_cache(UNKNOWN_SOURCE_LANGUAGE))?;
     let output = options.last_text(&OfKinds(&[Kind::Output]));
-    let Some(object) = object_path(alloc, output, &input)? else {
-        return Ok(Err(Refusal::CannotCache(INVALID_INPUT_FILE, None)));
-    };
-    let module_path = match module_path(alloc, options, &input, &object)? {
-        Ok(path) => path,
-        Err(refusal) => return Ok(Err(refusal)),
-    };
-    Ok(Ok(Finding {
+    let object = object_path(alloc, output, &input)?.ok_or(cannot_cache(INVALID_INPUT_FILE))?;
+    let module_path = module_path(alloc, options, &input, &object)?;
+    Ok(Finding {
         compile_flag,
         input,
         language,
         object,
         module_path,
-    }))
+    })
 }

@@ -4,13 +4,13 @@ ghost use Rattle.std.specs.Option.{option_map, option_to_list};
 ghost use Rattle.scl_values.specs.Seen.{seen};
 ghost use Rattle.scl_values.specs.Words.{words_of};
 ghost use Rattle.scl_args.specs.Wrapped.{HasFirstOf};
-ghost use Rattle.scl_gnu_reading.specs.Hashes.{hashed_by, hashed_as, may_name_hashed};
+ghost use Rattle.scl_gnu_reading.specs.Hashes.{hashed_by, hashed_as};
 ghost use Rattle.scl_gnu_reading.specs.Kinds.{hashed};
 ghost use Rattle.scl_gnu_reading.specs.Recordings.{hash_path};
 
 use super::data::{ArgData, Kind};
 use super::hash_paths::path_as;
-use scl_args::{Argument, Mem, Options, ReadArg, Sort, Test};
+use scl_args::{Argument, Mem, Options, ReadArg};
 use scl_text::view::View;
 use std::alloc::Global;
 
@@ -75,55 +75,6 @@ fn push_path<T: NamesHashed>(
     }
 }
 
-/// The options that name such files.
-struct Hashed;
-
-impl<T: NamesHashed> Test<T> for Hashed {
-    ghost use Rattle.scl_gnu_reading.specs.Hashes.{names_hashed, may_name_hashed, hashed_by_sort};
-
-    ghost passes = { λ _. names_hashed T.role };
-
-    ghost may_pass = { λ _. may_name_hashed T.role };
-
-    ghost passes_by_sort = { λ _. hashed_by_sort T.role };
-
-    fn passes(&self, option: &Argument<T>) -> bool {
-        match option {
-            Argument::Raw(_) | Argument::UnknownFlag(_) => false,
-            Argument::Flag(_, value) | Argument::WithValue(_, value, _) => {
-                T::hash_role(value.kind()).is_some()
-            }
-        }
-    }
-
-    fn may_pass(&self, sort: Sort<T::Kind>) -> bool
-        ensures { result ≡ may_name_hashed T.role sort }
-    {
-        match sort {
-            Sort::Raw | Sort::Unknown => false,
-            Sort::Known(kind) => T::hash_role(kind).is_some(),
-        }
-    }
-}
-
-fn push_paths<T: NamesHashed>(
-    alloc: Global,
-    paths: &mut Vec<Vec<u8>>,
-    options: &[Argument<T>],
-    cwd: &[u8],
-    view: &View,
-) -> Mem<()>
-    ensures ok { OnOk result (words_of paths.new.items ≡ words_of paths.old.items
-        ++ map (hash_path cwd.now view.now) (hashed_as T.role (map (seen T.kind_of T.word_of) options.now))) }
-    ensures err { OnErr result (HasFirstOf (words_of paths.old.items)
-        (map (hash_path cwd.now view.now) (hashed_as T.role (map (seen T.kind_of T.word_of) options.now))) (words_of paths.new.items)) }
-{
-    for option in options {
-        push_path(alloc, paths, option, cwd, view)?;
-    }
-    Ok(())
-}
-
 /// Puts the paths of the files that the options name, from the directory, behind others (docs/RULES.md, Gcc). It fails only
 /// for want of memory; the first of them may stand there then.
 pub fn push_hashed<T: NamesHashed>(
@@ -138,7 +89,10 @@ pub fn push_hashed<T: NamesHashed>(
     ensures err { OnErr result (HasFirstOf (words_of paths.old.items)
         (map (hash_path cwd.now view.now) (hashed_as T.role options.now)) (words_of paths.new.items)) }
 {
-    push_paths(alloc, paths, options.among(&Hashed), cwd, view)
+    for option in options.as_slice() {
+        push_path(alloc, paths, option, cwd, view)?;
+    }
+    Ok(())
 }
 
 /// The paths of the files that the options name, from the directory: first the outer options, then the inner ones.

@@ -1,7 +1,7 @@
 //! Inner command lines: words that options hand on to the compiler proper, behind `-Xclang`.
-ghost use Rattle.std.specs.Prelude.{◌≡◌, ◌++◌, IfOk, OnOk};
-ghost use Rattle.std.specs.Result.{result_map_both};
+ghost use Rattle.std.specs.Prelude.{◌≡◌, ◌++◌, OnOk};
 ghost use Rattle.scl_values.specs.Words.{words_of};
+ghost use Rattle.scl_text.specs.Stops.{Gives};
 ghost use Rattle.scl_gnu_reading.specs.Inners.{inner_reading, inner_words_at};
 
 mod judge;
@@ -12,27 +12,26 @@ use super::place::Place;
 use crate::clang;
 pub(crate) use judge::ByInnerVerdict;
 use place::Inside;
-use scl_args::{Judge, Mem, Options, ShortFlagsJoined};
+use scl_args::{Mem, Options, ShortFlagsJoined};
 use scl_text::command::push_word;
 use scl_text::view::View;
-use scl_text::{ExpansionKind, judge_words};
+use scl_text::{ExpansionKind, Judge, Stop, judge_words};
 use std::alloc::Global;
 
 /// The options of an inner command line, whose words are cut by Clang's tables, and in which `--` ends no options; or the
 /// first refusal, of an empty value or the judge's, or that of a last flag without its value (docs/RULES.md, Inner command
-/// lines). The directory and the view answer what is asked of response files. It fails only for want of memory.
+/// lines). The directory and the view answer what is asked of response files. It stops only so, or for want of memory.
 pub fn read_inner<J: Judge<ArgData>>(
     alloc: Global,
     words: Vec<Vec<u8>>,
     cwd: &[u8],
     judge: &J,
     view: &View,
-) -> Mem<Result<Options<ArgData>, J::Refusal>>
-    ensures { IfOk result (λ said. result_map_both (λ options. options) J.verdict_of said
-        ≡ inner_reading J.empty (J.verdict judge.now) J.dangling cwd.now view.now (words_of words.items)) }
+) -> Result<Options<ArgData>, Stop>
+    ensures { Gives (λ options. options) result (inner_reading (J.verdict judge.now) cwd.now view.now (words_of words.items)) }
 {
     if words.as_slice().is_empty() {
-        return Ok(Ok(Options::new(alloc, Vec::new(alloc))?));
+        return Ok(Options::new(Vec::new(alloc)));
     }
     judge_words(
         alloc,

@@ -12,18 +12,18 @@ ghost use Rattle.scl_gnu_reading.specs.Kinds.{of};
 use super::data::{ArgData, Kind};
 use super::place::{Place, place_of_kind};
 use scl_args::{Argument, Escaped, Mem, OfKinds, ReadArg, last_text, names_file};
-use scl_text::Refuses;
+use scl_text::Judge;
 use scl_text::language::Language;
 use scl_text::reasons::UNEXPANDED_FILE;
-use scl_text::refusal::Refusal;
+use scl_text::refusal::{Refusal, cannot_cache};
 use std::alloc::Global;
 
 /// The refusal of an option by its flag, where its place is that of refused ones.
-pub(crate) fn judged_flag(place: Place, flag: &'static str) -> Option<Refusal>
+pub(crate) fn judge_flag(place: Place, flag: &'static str) -> Option<Refusal>
     ensures { option_map verdict_of result ≡ flag_verdict place flag.now }
 {
     match place {
-        Place::Refused => Some(Refusal::CannotCache(flag, None)),
+        Place::Refused => Some(cannot_cache(flag)),
         Place::Common
         | Place::Unhashed
         | Place::Arch
@@ -33,8 +33,8 @@ pub(crate) fn judged_flag(place: Place, flag: &'static str) -> Option<Refusal>
     }
 }
 
-fn judged_module_output(alloc: Global, value: &[u8]) -> Mem<Option<Refusal>>
-    ensures { IfOk result (λ said. option_map verdict_of said ≡ module_output_verdict value.now) }
+fn judge_module_output(alloc: Global, value: &[u8]) -> Mem<Option<Refusal>>
+    ensures { IfOk result (λ refusal. option_map verdict_of refusal ≡ module_output_verdict value.now) }
 {
     match value.first() {
         None | Some(b'=') => Ok(None),
@@ -45,16 +45,16 @@ fn judged_module_output(alloc: Global, value: &[u8]) -> Mem<Option<Refusal>>
     }
 }
 
-fn judged_language(text: &[u8]) -> Option<Refusal>
+fn judge_language(text: &[u8]) -> Option<Refusal>
     ensures { option_map verdict_of result ≡ unread_language (language_of_gcc_text text.now) }
 {
     match Language::from_gcc_arg(text) {
         Some(_) => None,
-        None => Some(Refusal::CannotCache("-x", None)),
+        None => Some(cannot_cache("-x")),
     }
 }
 
-fn judged_arch(multiarch: bool, before: Option<&[u8]>, arch: &[u8]) -> Option<Refusal>
+fn judge_arch(multiarch: bool, before: Option<&[u8]>, arch: &[u8]) -> Option<Refusal>
     ensures { option_map verdict_of result ≡ arch_verdict multiarch (option_copied before.entry) arch.now }
 {
     let before = before?;
@@ -67,38 +67,38 @@ fn judged_arch(multiarch: bool, before: Option<&[u8]>, arch: &[u8]) -> Option<Re
     ))
 }
 
-fn judged_value(
+fn judge_value(
     alloc: Global,
     multiarch: bool,
     before: &[Argument<ArgData>],
     value: &ArgData,
 ) -> Mem<Option<Refusal>>
-    ensures { IfOk result (λ said. option_map verdict_of said ≡ value_verdict multiarch (last_text (of (Kind.Arch ∷ [])) (map (seen kind_of word_of) before.now)) (kind_of value.now) (word_of value.now)) }
+    ensures { IfOk result (λ refusal. option_map verdict_of refusal ≡ value_verdict multiarch (last_text (of (Kind.Arch ∷ [])) (map (seen kind_of word_of) before.now)) (kind_of value.now) (word_of value.now)) }
 {
     match value {
-        ArgData::ClangModuleOutput(text) => judged_module_output(alloc, text),
-        ArgData::Language(text) => Ok(judged_language(text)),
+        ArgData::ClangModuleOutput(text) => judge_module_output(alloc, text),
+        ArgData::Language(text) => Ok(judge_language(text)),
         ArgData::Arch(name) => {
             let arch = last_text(before, &OfKinds(&[Kind::Arch]));
-            Ok(judged_arch(multiarch, arch, name))
+            Ok(judge_arch(multiarch, arch, name))
         }
         _ => Ok(None),
     }
 }
 
-fn judged_known(
+fn judge_known(
     alloc: Global,
     multiarch: bool,
     before: &[Argument<ArgData>],
     flag: &'static str,
     value: &ArgData,
 ) -> Mem<Option<Refusal>>
-    ensures { IfOk result (λ said. option_map verdict_of said
+    ensures { IfOk result (λ refusal. option_map verdict_of refusal
         ≡ known_verdict multiarch (last_text (of (Kind.Arch ∷ [])) (map (seen kind_of word_of) before.now)) flag.now (kind_of value.now) (word_of value.now)) }
 {
-    match judged_flag(place_of_kind(value.kind()), flag) {
+    match judge_flag(place_of_kind(value.kind()), flag) {
         Some(refusal) => Ok(Some(refusal)),
-        None => judged_value(alloc, multiarch, before, value),
+        None => judge_value(alloc, multiarch, before, value),
     }
 }
 
@@ -108,24 +108,24 @@ pub(crate) struct ByVerdict {
     pub(crate) multiarch: bool,
 }
 
-impl Refuses<ArgData> for ByVerdict {
+impl Judge<ArgData> for ByVerdict {
     ghost use Rattle.scl_gnu_reading.specs.Verdicts.{verdict};
 
     ghost verdict = { λ judge. verdict judge.multiarch };
 
-    fn refusal(
+    fn judge(
         &self,
         alloc: Global,
         before: &[Argument<ArgData>],
         option: &Argument<ArgData>,
     ) -> Mem<Option<Refusal>> {
         if names_file(option) {
-            return Ok(Some(Refusal::CannotCache(UNEXPANDED_FILE, None)));
+            return Ok(Some(cannot_cache(UNEXPANDED_FILE)));
         }
         match option {
             Argument::Raw(_) | Argument::UnknownFlag(_) => Ok(None),
             Argument::Flag(flag, value) | Argument::WithValue(flag, value, _) => {
-                judged_known(alloc, self.multiarch, before, flag, value)
+                judge_known(alloc, self.multiarch, before, flag, value)
             }
         }
     }

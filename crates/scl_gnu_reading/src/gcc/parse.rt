@@ -1,85 +1,44 @@
 //! The parser of the command lines of Gcc and Clang.
 ghost use Rattle.std.specs.Prelude.{◌≡◌, IfOk, IsTrue};
-ghost use Rattle.std.specs.Result.{result_map_both};
 ghost use Rattle.scl_values.specs.Tables.{tables_hold_values};
 ghost use Rattle.scl_values.specs.Words.{words_of};
 ghost use Rattle.scl_text.specs.JudgedWords.{judged_words};
-ghost use Rattle.scl_text.specs.Reasons.{argument_parse, empty_value};
-ghost use Rattle.scl_text.specs.Records.{outcome_of};
-ghost use Rattle.scl_text.specs.Refusals.{verdict_of};
+ghost use Rattle.scl_text.specs.Records.{outcome_of, parsed_of};
+ghost use Rattle.scl_text.specs.Stops.{Gives};
 ghost use Rattle.scl_gnu_reading.specs.Data.{holds_value};
-ghost use Rattle.scl_gnu_reading.specs.Readings.{recorded, read, reading};
+ghost use Rattle.scl_gnu_reading.specs.Readings.{read, reading};
 ghost use Rattle.scl_gnu_reading.specs.Recordings.{is_clang};
 ghost use Rattle.scl_gnu_reading.specs.Verdicts.{verdict};
 
 use super::data::{ArgData, Kind};
-use super::fixed_tests::find;
+use super::fixed_tests::apply_fixed_tests;
 use super::inner::{ByInnerVerdict, read_inner};
 use super::judge::ByVerdict;
 use super::record::record_of;
 use scl_args::{Mem, OfKinds, Options, SearchableArgInfo};
-use scl_text::command::copied_words;
+use scl_text::command::copy_words;
 use scl_text::records::{CCompilerKind, CompilerArguments, ParsedArguments};
-use scl_text::refusal::Refusal;
+use scl_text::stop::into_answer;
 use scl_text::view::View;
-use scl_text::{ExpansionKind, ParserJudge, judge_words};
+use scl_text::{ExpansionKind, Stop, judge_words};
 use std::alloc::Global;
 
-/// The tests of options that are not refused, and the record of what they find.
-fn recorded(
-    alloc: Global,
-    options: Options<ArgData>,
-    inner: Options<ArgData>,
-    kind: CCompilerKind,
-    plusplus: bool,
-    cwd: &[u8],
-    view: &View,
-) -> Mem<CompilerArguments<ParsedArguments>>
-    ensures { IfOk result (λ answer. outcome_of answer ≡ recorded kind plusplus cwd.now view.now options inner) }
-{
-    match find(alloc, &options, plusplus)? {
-        Ok(found) => {
-            let record = record_of(alloc, options, &inner, found, kind, cwd, view)?;
-            Ok(CompilerArguments::Ok(record))
-        }
-        Err(refusal) => Ok(refusal.into_answer()),
-    }
-}
-
-/// What options that are not refused say, with the inner ones that they hand on.
-fn read(
-    alloc: Global,
-    options: Options<ArgData>,
-    cwd: &[u8],
-    plusplus: bool,
-    kind: CCompilerKind,
-    view: &View,
-) -> Mem<CompilerArguments<ParsedArguments>>
-    ensures { IfOk result (λ answer. outcome_of answer ≡ read kind plusplus cwd.now view.now options) }
-{
-    let words = options.texts(alloc, &OfKinds(&[Kind::XClang]))?;
-    match read_inner(alloc, words, cwd, &ParserJudge(ByInnerVerdict), view)? {
-        Ok(inner) => recorded(alloc, options, inner, kind, plusplus, cwd, view),
-        Err(refusal) => Ok(refusal.into_answer()),
-    }
-}
-
 /// The options of a command line by the tables handed in, where none is refused.
-fn judged<S: SearchableArgInfo<ArgData> + Drop>(
+fn judge_line<S: SearchableArgInfo<ArgData> + Drop>(
     alloc: Global,
     arguments: Vec<Vec<u8>>,
     cwd: &[u8],
     arg_info: S,
     kind: CCompilerKind,
     view: &View,
-) -> Mem<Result<Options<ArgData>, Refusal>>
+) -> Result<Options<ArgData>, Stop>
     requires { IsTrue (tables_hold_values holds_value (S.tables arg_info)) }
-    ensures { IfOk result (λ said. result_map_both (λ options. options) verdict_of said
-        ≡ judged_words ExpansionKind.Gnu empty_value (verdict view.now.is_multiarch) argument_parse (S.tables arg_info) (is_clang kind) cwd.now view.now (words_of arguments.items)) }
+    ensures { Gives (λ options. options) result
+        (judged_words ExpansionKind.Gnu (verdict view.now.is_multiarch) (S.tables arg_info) (is_clang kind) cwd.now view.now (words_of arguments.items)) }
 {
-    let judge = ParserJudge(ByVerdict {
+    let judge = ByVerdict {
         multiarch: view.multiarch(),
-    });
+    };
     let dashes = kind == CCompilerKind::Clang;
     judge_words(
         alloc,
@@ -91,6 +50,40 @@ fn judged<S: SearchableArgInfo<ArgData> + Drop>(
         &judge,
         view,
     )
+}
+
+/// The record of options that are not refused, with the inner ones that they hand on.
+fn read_options(
+    alloc: Global,
+    options: Options<ArgData>,
+    cwd: &[u8],
+    plusplus: bool,
+    kind: CCompilerKind,
+    view: &View,
+) -> Result<ParsedArguments, Stop>
+    ensures { Gives parsed_of result (read kind plusplus cwd.now view.now options) }
+{
+    let words = options.texts(alloc, &OfKinds(&[Kind::XClang]))?;
+    let inner = read_inner(alloc, words, cwd, &ByInnerVerdict, view)?;
+    let found = apply_fixed_tests(alloc, &options, plusplus)?;
+    Ok(record_of(alloc, options, &inner, found, kind, cwd, view)?)
+}
+
+/// The record of a command line.
+fn parse<S: SearchableArgInfo<ArgData> + Drop>(
+    alloc: Global,
+    arguments: Vec<Vec<u8>>,
+    cwd: &[u8],
+    arg_info: S,
+    plusplus: bool,
+    kind: CCompilerKind,
+    view: &View,
+) -> Result<ParsedArguments, Stop>
+    requires { IsTrue (tables_hold_values holds_value (S.tables arg_info)) }
+    ensures { Gives parsed_of result (reading kind plusplus (S.tables arg_info) cwd.now view.now (words_of arguments.items)) }
+{
+    let options = judge_line(alloc, arguments, cwd, arg_info, kind, view)?;
+    read_options(alloc, options, cwd, plusplus, kind, view)
 }
 
 /// What a command line, whose words are handed over, says by the tables handed in: the record; or the first refusal in option
@@ -110,10 +103,7 @@ pub fn parse_arguments_owned<S: SearchableArgInfo<ArgData> + Drop>(
     requires { IsTrue (tables_hold_values holds_value (S.tables arg_info)) }
     ensures { IfOk result (λ answer. outcome_of answer ≡ reading kind plusplus (S.tables arg_info) cwd.now view.now (words_of arguments.items)) }
 {
-    match judged(alloc, arguments, cwd, arg_info, kind, view)? {
-        Ok(options) => read(alloc, options, cwd, plusplus, kind, view),
-        Err(refusal) => Ok(refusal.into_answer()),
-    }
+    into_answer(parse(alloc, arguments, cwd, arg_info, plusplus, kind, view))
 }
 
 /// What `parse_arguments_owned` gives for copies of the words. It fails only for want of memory.
@@ -129,6 +119,6 @@ pub fn parse_arguments<S: SearchableArgInfo<ArgData> + Drop>(
     requires { IsTrue (tables_hold_values holds_value (S.tables arg_info)) }
     ensures { IfOk result (λ answer. outcome_of answer ≡ reading kind plusplus (S.tables arg_info) cwd.now view.now (words_of arguments.now)) }
 {
-    let arguments = copied_words(alloc, arguments)?;
+    let arguments = copy_words(alloc, arguments)?;
     parse_arguments_owned(alloc, arguments, cwd, arg_info, plusplus, kind, view)
 }

@@ -18,7 +18,7 @@ use super::place::Place;
 use super::switches::{color_mode, external_assembler, hiding_flag};
 use scl_args::{Mem, OfKinds, Options, ShortFlagsJoined};
 use scl_text::language::Language;
-use scl_text::outputs::copied_path;
+use scl_text::outputs::copy_path;
 use scl_text::records::{CCompilerKind, ColorMode, ParsedArguments};
 use scl_text::view::View;
 use std::alloc::Global;
@@ -68,21 +68,28 @@ fn dependency_words(
     Ok(words)
 }
 
-/// The common words; they take over the words of the outer options, as the last of the lists.
-fn common_words(
+/// The two long lists, the preprocessor's words and the common ones. They take over the words of the outer options.
+fn long_lists(
     alloc: Global,
     options: Options<ArgData>,
     inner: &Options<ArgData>,
     object: &[u8],
-) -> Mem<Vec<Vec<u8>>>
-    ensures { IfOk result (λ words. words_of words.items
+) -> Mem<(Vec<Vec<u8>>, Vec<Vec<u8>>)>
+    ensures preprocessor { IfOk result (λ lists. words_of lists.0.items ≡ all_words_at Place.Preprocessor options inner.now) }
+    ensures common { IfOk result (λ lists. words_of lists.1.items
         ≡ all_words_at Place.Common options inner.now ++ added_common (any (Kind.SplitDwarf ∷ []) options) object.now) }
 {
     let is_split = options.any(&OfKinds(&[Kind::SplitDwarf]));
-    let mut words = options.into_list(alloc, &ShortFlagsJoined, &Place::Common)?;
-    push_inner(alloc, &mut words, inner, Place::Common)?;
-    add_split_dwarf(alloc, &mut words, is_split, object)?;
-    Ok(words)
+    let (mut preprocessor, mut common) = options.into_two_lists(
+        alloc,
+        &ShortFlagsJoined,
+        &Place::Preprocessor,
+        &Place::Common,
+    )?;
+    push_inner(alloc, &mut preprocessor, inner, Place::Preprocessor)?;
+    push_inner(alloc, &mut common, inner, Place::Common)?;
+    add_split_dwarf(alloc, &mut common, is_split, object)?;
+    Ok((preprocessor, common))
 }
 
 /// Whether includes that were rewritten would change what a pedantic Gcc says.
@@ -110,11 +117,10 @@ pub(crate) fn record_of(
     let dependency_args = dependency_words(alloc, &options, inner, &found)?;
     let profile = OfKinds(&[Kind::Coverage, Kind::TestCoverage, Kind::ProfileGenerate]);
     let compile_flag = Vec::from_slice(alloc, found.compile_flag.as_bytes())?;
-    Ok(ParsedArguments {
+    let parsed = ParsedArguments {
         double_dash_input: options.is_behind_dashes(&Inputs),
         outputs,
         dependency_args,
-        preprocessor_args: all_words_at(alloc, &options, inner, Place::Preprocessor)?,
         arch_args: all_words_at(alloc, &options, inner, Place::Arch)?,
         unhashed_args: all_words_at(alloc, &options, inner, Place::Unhashed)?,
         extra_hash_files: hash_paths(alloc, &options, inner, cwd, view)?,
@@ -124,8 +130,13 @@ pub(crate) fn record_of(
         profile_generate: options.any(&profile),
         color_mode: color_mode(&options).unwrap_or(ColorMode::Auto),
         suppress_rewrite_includes_only: suppresses_rewritten_includes(kind, &options),
-        too_hard_for_preprocessor_cache_mode: copied_path(alloc, hiding_flag(&options))?,
-        common_args: common_words(alloc, options, inner, &found.object)?,
+        too_hard_for_preprocessor_cache_mode: copy_path(alloc, hiding_flag(&options))?,
         ..ParsedArguments::bare(alloc, found.input, found.language, compile_flag)
+    };
+    let (preprocessor_args, common_args) = long_lists(alloc, options, inner, &found.object)?;
+    Ok(ParsedArguments {
+        preprocessor_args,
+        common_args,
+        ..parsed
     })
 }

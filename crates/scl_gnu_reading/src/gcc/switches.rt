@@ -3,11 +3,10 @@ ghost use Rattle.std.specs.Prelude.{◌≡◌};
 ghost use Rattle.std.specs.Option.{option_copied};
 ghost use Rattle.scl_values.specs.Seen.{seen};
 ghost use Rattle.scl_gnu_reading.specs.Data.{kind_of, word_of};
-ghost use Rattle.scl_gnu_reading.specs.Sorts.{may_hide};
 ghost use Rattle.scl_gnu_reading.specs.Kinds.{color_named, color_of, is_hiding_flag, color_mode, external_assembler, hiding_flag};
 
 use super::data::{ArgData, Kind};
-use scl_args::{Argument, OfKinds, Options, Sort, Test};
+use scl_args::{Argument, OfKinds, Options, Test};
 use scl_text::records::ColorMode;
 
 /// The colour that a value asks for.
@@ -68,13 +67,8 @@ struct Hiding;
 
 impl Test<ArgData> for Hiding {
     ghost use Rattle.scl_gnu_reading.specs.Kinds.{is_hiding};
-    ghost use Rattle.scl_gnu_reading.specs.Sorts.{may_hide, hiding_by_sort};
 
     ghost passes = { λ _. is_hiding };
-
-    ghost may_pass = { λ _. may_hide };
-
-    ghost passes_by_sort = { λ _. hiding_by_sort };
 
     fn passes(&self, option: &Argument<ArgData>) -> bool {
         match option {
@@ -83,12 +77,6 @@ impl Test<ArgData> for Hiding {
                 matches!(value, ArgData::PreprocessorArgument(_)) && is_hiding_flag(flag)
             }
         }
-    }
-
-    fn may_pass(&self, sort: Sort<Kind>) -> bool
-        ensures { result ≡ may_hide sort }
-    {
-        sort == Sort::Known(Kind::PreprocessorArgument)
     }
 }
 

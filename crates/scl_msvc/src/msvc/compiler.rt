@@ -6,16 +6,17 @@ ghost use Rattle.scl_text.specs.Records.{outcome_of};
 ghost use Rattle.scl_msvc.specs.Environment.{surrounded_reading};
 
 use super::command::generate_compile_commands_owned;
-use super::environment::surrounded;
-use super::preprocess::passes;
+use super::environment::surround;
+use super::preprocess::runs;
 use scl_args::Mem;
 use scl_msvc_reading::msvc::parse_arguments_owned;
 use scl_text::CCompilerImpl;
-use scl_text::command::copied_text;
+use scl_text::command::copy_text;
 use scl_text::records::{
     CCompilerKind, Cacheable, CommandError, CompilerArguments, ParsedArguments,
     SingleCompileCommand,
 };
+use scl_text::stop::into_answer;
 use scl_text::view::View;
 use std::alloc::Global;
 
@@ -47,6 +48,7 @@ impl Msvc {
 }
 
 /// What the words say between those that the environment gives.
+#[tactic(auto, using(crate::proofs::EnvironmentLemmas::refusal_given))]
 fn parse_surrounded(
     alloc: Global,
     arguments: Vec<Vec<u8>>,
@@ -57,9 +59,9 @@ fn parse_surrounded(
 ) -> Mem<CompilerArguments<ParsedArguments>>
     ensures { IfOk result (λ answer. outcome_of answer ≡ surrounded_reading is_clang cwd.now (pairs_of env_vars.now) view.now (words_of arguments.items)) }
 {
-    match surrounded(alloc, arguments, env_vars)? {
+    match surround(alloc, arguments, env_vars) {
         Ok(words) => parse_arguments_owned(alloc, words, cwd, is_clang, view),
-        Err(refusal) => Ok(refusal.into_answer()),
+        Err(stop) => into_answer(Err(stop)),
     }
 }
 
@@ -70,7 +72,7 @@ impl CCompilerImpl for Msvc {
     ghost use Rattle.scl_text.specs.declared.records.CCompilerKind.TheVariants as compilers;
     ghost use Rattle.scl_msvc.specs.Building.{command_words, cacheable};
     ghost use Rattle.scl_msvc.specs.Environment.{without_cl_env_vars};
-    ghost use Rattle.scl_msvc.specs.Preprocess.{passes};
+    ghost use Rattle.scl_msvc.specs.Preprocess.{runs};
     ghost use Rattle.scl_msvc.specs.Promises.{MsvcReadsAgain};
     ghost use Rattle.scl_msvc.specs.Environment.{surrounded_reading};
 
@@ -92,7 +94,7 @@ impl CCompilerImpl for Msvc {
 
     ghost is_read_again = { λ msvc words directory env_vars view. MsvcReadsAgain msvc.is_clang directory env_vars view words };
 
-    ghost passes = { λ msvc may_dist rewrites _. passes msvc.is_clang may_dist rewrites };
+    ghost runs = { λ msvc may_dist rewrites _. runs msvc.is_clang may_dist rewrites };
 
     fn kind(&self) -> CCompilerKind {
         CCompilerKind::Msvc
@@ -103,7 +105,7 @@ impl CCompilerImpl for Msvc {
     }
 
     fn version(&self, alloc: Global) -> Mem<Option<String>> {
-        copied_text(alloc, &self.version)
+        copy_text(alloc, &self.version)
     }
 
     fn parse_arguments_owned(
@@ -141,7 +143,7 @@ impl CCompilerImpl for Msvc {
         rewrite_includes_only: bool,
         _cache_mode: bool,
     ) -> Mem<Vec<Vec<Vec<u8>>>> {
-        passes(
+        runs(
             alloc,
             parsed,
             self.is_clang,

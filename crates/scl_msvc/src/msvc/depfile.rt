@@ -63,7 +63,7 @@ fn name_in<'a>(line: &'a [u8], prefix: &[u8]) -> Option<&'a [u8]>
 }
 
 /// The files that the lines of an error output name, each where it is new, and all of them as a set.
-fn gathered(alloc: Global, stderr: &[u8], prefix: &[u8]) -> Mem<(Vec<Vec<u8>>, BTreeSet<Vec<u8>>)>
+fn gather(alloc: Global, stderr: &[u8], prefix: &[u8]) -> Mem<(Vec<Vec<u8>>, BTreeSet<Vec<u8>>)>
     ensures names { IfOk result (λ made. words_of made.0.items ≡ names prefix.now stderr.now) }
     ensures set { IfOk result (λ made. HasWords made.1 (words_of made.0.items)) }
 {
@@ -145,7 +145,7 @@ fn depfile_of(
 ) -> Mem<DepfileText>
     ensures { IfOk result (λ made. IsDepfile (parsed_of parsed.now) object.now prefix.now stderr.now made) }
 {
-    let (names, seen) = gathered(alloc, stderr, prefix)?;
+    let (names, seen) = gather(alloc, stderr, prefix)?;
     let sorted = in_order(alloc, seen)?;
     Ok(DepfileText {
         text: rules(alloc, object, &parsed.input, &names, &sorted)?,

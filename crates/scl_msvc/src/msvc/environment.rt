@@ -1,17 +1,16 @@
 //! What a command line has from its environment: words before and behind its own.
 ghost use Rattle.std.specs.Prelude.{◌≡◌, IfOk};
 ghost use Rattle.std.specs.Option.{option_copied, option_map};
-ghost use Rattle.std.specs.Result.{result_map_both};
 ghost use Rattle.scl_values.specs.Words.{words_of};
 ghost use Rattle.scl_text.specs.Commands.{pairs_of};
 ghost use Rattle.scl_text.specs.Records.{CannotCache};
-ghost use Rattle.scl_text.specs.Refusals.{verdict_of};
+ghost use Rattle.scl_text.specs.Stops.{Gives};
 ghost use Rattle.scl_msvc.specs.Environment.{is_variable, without_cl_env_vars, value_of, gives_words, with_equals, words_in, variable_words, surrounded};
 
 use scl_args::Mem;
 use scl_text::command::append_words;
-use scl_text::refusal::Refusal;
-use scl_text::{from_local_codepage, msvc_words};
+use scl_text::refusal::cannot_cache;
+use scl_text::{Stop, from_local_codepage, msvc_words};
 use std::alloc::Global;
 
 /// The variable whose words stand before those of a command line.
@@ -95,42 +94,33 @@ fn variable_words(
     alloc: Global,
     value: Option<&[u8]>,
     broken: &'static str,
-) -> Mem<Result<Vec<Vec<u8>>, Refusal>>
-    ensures { IfOk result (λ made. result_map_both (λ words. words_of words.items) verdict_of made ≡ variable_words (CannotCache broken.now) (option_copied value.entry)) }
+) -> Result<Vec<Vec<u8>>, Stop>
+    ensures { Gives (λ words. words_of words.items) result (variable_words (CannotCache broken.now) (option_copied value.entry)) }
 {
     let Some(value) = value else {
-        return Ok(Ok(Vec::new(alloc)));
+        return Ok(Vec::new(alloc));
     };
-    match words_in(alloc, value)? {
-        Some(words) => Ok(Ok(words)),
-        None => Ok(Err(Refusal::CannotCache(broken, None))),
-    }
+    Ok(words_in(alloc, value)?.ok_or(cannot_cache(broken))?)
 }
 
 /// Words that are handed over, between those that the environment gives: of `CL` before and of `_CL_` behind them. Where it
 /// has neither they are the given ones, unmoved; refused where a value is no text.
 #[tactic(auto, using(crate::proofs::EnvironmentLemmas::surrounded_by_none))]
-pub(super) fn surrounded(
+pub(super) fn surround(
     alloc: Global,
     arguments: Vec<Vec<u8>>,
     env_vars: &[(Vec<u8>, Vec<u8>)],
-) -> Mem<Result<Vec<Vec<u8>>, Refusal>>
-    ensures { IfOk result (λ made. result_map_both (λ words. words_of words.items) verdict_of made ≡ surrounded (pairs_of env_vars.now) (words_of arguments.items)) }
+) -> Result<Vec<Vec<u8>>, Stop>
+    ensures { Gives (λ words. words_of words.items) result (surrounded (pairs_of env_vars.now) (words_of arguments.items)) }
 {
     if !gives_words(env_vars) {
-        return Ok(Ok(arguments));
+        return Ok(arguments);
     }
     let front = value_of(env_vars, FRONT_VARIABLE);
-    let mut words = match variable_words(alloc, front, "CL environment variable value broken")? {
-        Ok(words) => words,
-        Err(refusal) => return Ok(Err(refusal)),
-    };
+    let mut words = variable_words(alloc, front, "CL environment variable value broken")?;
     let back = value_of(env_vars, BACK_VARIABLE);
-    let back = match variable_words(alloc, back, "_CL_ environment variable value broken")? {
-        Ok(words) => words,
-        Err(refusal) => return Ok(Err(refusal)),
-    };
+    let back = variable_words(alloc, back, "_CL_ environment variable value broken")?;
     append_words(&mut words, arguments)?;
     append_words(&mut words, back)?;
-    Ok(Ok(words))
+    Ok(words)
 }

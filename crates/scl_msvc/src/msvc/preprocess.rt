@@ -3,12 +3,12 @@ ghost use Rattle.std.specs.Prelude.{◌≡◌, ◌++◌, IfOk, OnOk};
 ghost use Rattle.scl_values.specs.Words.{words_of};
 ghost use Rattle.scl_text.specs.Records.{parsed_of};
 ghost use Rattle.scl_text.specs.Runs.{runs_of};
-ghost use Rattle.scl_msvc.specs.Preprocess.{first_word, shown_includes, written_includes, run_lists, include_words, rewriting, preprocess_words, passes};
+ghost use Rattle.scl_msvc.specs.Preprocess.{first_word, shown_includes, written_includes, run_lists, include_words, rewriting, preprocess_words, runs};
 ghost use Rattle.scl_msvc.specs.ListsOf.{lists_of};
 
 use super::words::{Lists, append_lists, push_input};
 use scl_args::Mem;
-use scl_text::command::{copied_words, push_word};
+use scl_text::command::{copy_words, push_word};
 use scl_text::records::ParsedArguments;
 use std::alloc::Global;
 
@@ -81,10 +81,10 @@ fn lists_of_run(alloc: Global, parsed: &ParsedArguments) -> Mem<Lists>
     ensures { IfOk result (λ lists. lists_of lists ≡ run_lists (parsed_of parsed.now)) }
 {
     Ok(Lists {
-        preprocessor: copied_words(alloc, &parsed.preprocessor_args)?,
-        dependency: copied_words(alloc, &parsed.dependency_args)?,
+        preprocessor: copy_words(alloc, &parsed.preprocessor_args)?,
+        dependency: copy_words(alloc, &parsed.dependency_args)?,
         unhashed: Vec::new(alloc),
-        common: copied_words(alloc, &parsed.common_args)?,
+        common: copy_words(alloc, &parsed.common_args)?,
     })
 }
 
@@ -108,14 +108,14 @@ fn preprocess_words(
 }
 
 /// The words of the one run.
-pub(super) fn passes(
+pub(super) fn runs(
     alloc: Global,
     parsed: &ParsedArguments,
     is_clang: bool,
     may_dist: bool,
     rewrite_includes_only: bool,
 ) -> Mem<Vec<Vec<Vec<u8>>>>
-    ensures { IfOk result (λ runs. runs_of runs.items ≡ passes is_clang may_dist rewrite_includes_only (parsed_of parsed.now)) }
+    ensures { IfOk result (λ made. runs_of made.items ≡ runs is_clang may_dist rewrite_includes_only (parsed_of parsed.now)) }
 {
     let words = preprocess_words(alloc, parsed, is_clang, may_dist, rewrite_includes_only)?;
     let mut runs = Vec::new(alloc);

@@ -7,14 +7,14 @@ ghost use Rattle.scl_msvc_reading.specs.Data.{kind_of, word_of};
 ghost use Rattle.scl_msvc.specs.Within.{options_cut};
 ghost use Rattle.scl_msvc.specs.Wanted.{inner_wanted, both_wanted, line_wanted, files_wanted};
 
-use super::environment::{gives_words, surrounded};
+use super::environment::{gives_words, surround};
 use scl_args::{Argument, Mem, OfKinds, cut_options, texts};
 use scl_files::wanted_files;
 use scl_msvc_reading::msvc::{ArgData, Kind, trees};
-use scl_text::command::{append_words, copied_words};
+use scl_text::command::{append_words, copy_words};
 use scl_text::view::View;
-use scl_text::{ExpansionKind, expand_all};
-use std::alloc::Global;
+use scl_text::{ExpansionKind, Stop, expand_all};
+use std::alloc::{AllocError, Global};
 
 /// Puts the paths of the files that the inner command line behind the options of a kind asks for behind others.
 fn push_inner_wanted(
@@ -95,8 +95,9 @@ pub fn files_wanted(
     if !gives_words(env_vars) {
         return line_wanted(alloc, arguments, cwd, is_clang, view);
     }
-    match surrounded(alloc, copied_words(alloc, arguments)?, env_vars)? {
+    match surround(alloc, copy_words(alloc, arguments)?, env_vars) {
         Ok(words) => line_wanted(alloc, &words, cwd, is_clang, view),
-        Err(_broken) => Ok(Vec::new(alloc)),
+        Err(Stop::Refused(_broken)) => Ok(Vec::new(alloc)),
+        Err(Stop::Memory) => Err(AllocError),
     }
 }

@@ -8,13 +8,13 @@ ghost use Rattle.scl_files.specs.Within.{is_within, are_within};
 ghost use Rattle.scl_msvc_reading.specs.Data.{kind_of, word_of};
 ghost use Rattle.scl_msvc.specs.Within.{options_cut, inner_line, inner_lines, command_lines_of, command_lines};
 
-use super::environment::{gives_words, surrounded};
+use super::environment::{gives_words, surround};
 use scl_args::{Argument, Mem, OfKinds, cut_options, texts};
 use scl_msvc_reading::msvc::{ArgData, Kind, trees};
-use scl_text::command::copied_words;
+use scl_text::command::copy_words;
 use scl_text::view::View;
-use scl_text::{ExpansionKind, TooManyWords, expand_at_most};
-use std::alloc::Global;
+use scl_text::{ExpansionKind, Stop, TooManyWords, expand_at_most};
+use std::alloc::{AllocError, Global};
 
 /// Whether the inner command line behind the options of a kind has at most so many words.
 fn is_inner_within(
@@ -100,8 +100,9 @@ pub fn has_at_most(
     if !gives_words(env_vars) {
         return are_all_within(alloc, arguments, cwd, is_clang, view, most);
     }
-    match surrounded(alloc, copied_words(alloc, arguments)?, env_vars)? {
+    match surround(alloc, copy_words(alloc, arguments)?, env_vars) {
         Ok(words) => are_all_within(alloc, &words, cwd, is_clang, view, most),
-        Err(_broken) => Ok(true),
+        Err(Stop::Refused(_broken)) => Ok(true),
+        Err(Stop::Memory) => Err(AllocError),
     }
 }

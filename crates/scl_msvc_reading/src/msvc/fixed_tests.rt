@@ -1,22 +1,23 @@
 //! The tests that follow the verdicts of the options.
 ghost use Rattle.std.specs.Prelude.{◌≡◌, IfOk, codes};
 ghost use Rattle.std.specs.Option.{option_copied, option_map};
-ghost use Rattle.std.specs.Result.{result_map_both};
 ghost use Rattle.scl_values.specs.Words.{words_of};
 ghost use Rattle.scl_files.specs.Paths.{file_name, join, with_extension};
 ghost use Rattle.scl_text.specs.Records.{path_of};
 ghost use Rattle.scl_text.specs.Refusals.{verdict_of};
+ghost use Rattle.scl_text.specs.Stops.{Gives};
 ghost use Rattle.scl_msvc_reading.specs.FixedTests.{module_verdict, input_unless, language_of, names_folder, with_default_extension, object_path, program_database, found};
 ghost use Rattle.scl_msvc_reading.specs.FoundBy.{found_of};
 
 use super::data::{ArgData, Kind};
 use super::inputs::{Inputs, explicit_language, has_explicit_language};
-use super::judge::refused_if;
+use super::judge::refuse_if;
 use scl_args::{Mem, OfKinds, Options};
+use scl_text::Stop;
 use scl_text::language::Language;
 use scl_text::path::{extension, file_name, join, with_extension};
 use scl_text::reasons::{INVALID_INPUT_FILE, UNKNOWN_SOURCE_LANGUAGE};
-use scl_text::refusal::{Refusal, one_input};
+use scl_text::refusal::{Refusal, cannot_cache, one_input};
 use std::alloc::Global;
 
 /// What the tests find.
@@ -30,7 +31,7 @@ pub(crate) struct Finding {
 }
 
 /// Why a module is refused: its output is not named, or that of no module is, or a flag says another language.
-fn judged_module(is_compiled: bool, is_named: bool, has_language: bool) -> Option<Refusal>
+fn judge_module(is_compiled: bool, is_named: bool, has_language: bool) -> Option<Refusal>
     ensures { option_map verdict_of result ≡ module_verdict is_compiled is_named has_language }
 {
     if is_compiled != is_named {
@@ -39,23 +40,23 @@ fn judged_module(is_compiled: bool, is_named: bool, has_language: bool) -> Optio
             None,
         ));
     }
-    refused_if(is_compiled && has_language, "-x c++-module with /Tc or /Tp")
+    refuse_if(is_compiled && has_language, "-x c++-module with /Tc or /Tp")
 }
 
-/// The one input, where nothing was said against it; of several no more is asked.
+/// The one input, where nothing stands against it; of several no more is asked.
 fn input_unless(
     alloc: Global,
-    said: Option<Refusal>,
+    refusal: Option<Refusal>,
     inputs: Vec<Vec<u8>>,
-) -> Mem<Result<Vec<u8>, Refusal>>
-    ensures { IfOk result (λ tested. result_map_both (λ input. input.items) verdict_of tested ≡ input_unless (option_map verdict_of said) (words_of inputs.items)) }
+) -> Result<Vec<u8>, Stop>
+    ensures { Gives (λ input. input.items) result (input_unless (option_map verdict_of refusal) (words_of inputs.items)) }
 {
     if inputs.len() > 1 {
-        drop(said);
+        drop(refusal);
         return one_input(alloc, inputs);
     }
-    match said {
-        Some(refusal) => Ok(Err(refusal)),
+    match refusal {
+        Some(refusal) => Err(Stop::Refused(refusal)),
         None => one_input(alloc, inputs),
     }
 }
@@ -114,56 +115,47 @@ fn program_database(
     alloc: Global,
     is_apart: bool,
     path: Option<&[u8]>,
-) -> Mem<Result<Option<Vec<u8>>, Refusal>>
-    ensures { IfOk result (λ tested. result_map_both path_of verdict_of tested ≡ program_database is_apart (option_copied path.entry)) }
+) -> Result<Option<Vec<u8>>, Stop>
+    ensures { Gives path_of result (program_database is_apart (option_copied path.entry)) }
 {
     if !is_apart {
-        return Ok(Ok(None));
+        return Ok(None);
     }
     match path {
         Some(path) if !names_folder(path) => {
-            Ok(Ok(Some(with_default_extension(alloc, path, b"pdb")?)))
+            Ok(Some(with_default_extension(alloc, path, b"pdb")?))
         }
-        Some(_) | None => Ok(Err(Refusal::CannotCache("shared pdb", None))),
+        Some(_) | None => Err(Stop::Refused(cannot_cache("shared pdb"))),
     }
 }
 
 /// The tests in their order.
-pub(crate) fn find(
+pub(crate) fn apply_fixed_tests(
     alloc: Global,
     options: &Options<ArgData>,
     is_clang: bool,
-) -> Mem<Result<Finding, Refusal>>
-    ensures { IfOk result (λ tested. result_map_both found_of verdict_of tested ≡ found is_clang options.now) }
+) -> Result<Finding, Stop>
+    ensures { Gives found_of result (found is_clang options.now) }
 {
-    let Some(compile_flag) = options.last_flag(&OfKinds(&[Kind::DoCompilation])) else {
-        return Ok(Err(Refusal::NotCompilation));
-    };
+    let compile_flag = options
+        .last_flag(&OfKinds(&[Kind::DoCompilation]))
+        .ok_or(Refusal::NotCompilation)?;
     let is_module = options.any(&OfKinds(&[Kind::ClangLanguage]));
     let is_named = options.any(&OfKinds(&[Kind::ClangModuleOutput]));
-    let said = judged_module(is_module, is_named, has_explicit_language(options));
-    let input = match input_unless(alloc, said, options.texts(alloc, &Inputs)?)? {
-        Ok(input) => input,
-        Err(refusal) => return Ok(Err(refusal)),
-    };
-    let Some(language) = language_of(is_module, explicit_language(options), &input) else {
-        return Ok(Err(Refusal::CannotCache(UNKNOWN_SOURCE_LANGUAGE, None)));
-    };
+    let refusal = judge_module(is_module, is_named, has_explicit_language(options));
+    let input = input_unless(alloc, refusal, options.texts(alloc, &Inputs)?)?;
+    let language = language_of(is_module, explicit_language(options), &input);
+    let language = language.ok_or(cannot_cache(UNKNOWN_SOURCE_LANGUAGE))?;
     let output = options.last_text(&OfKinds(&[Kind::Output]));
-    let Some(object) = object_path(alloc, output, &input)? else {
-        return Ok(Err(Refusal::CannotCache(INVALID_INPUT_FILE, None)));
-    };
+    let object = object_path(alloc, output, &input)?.ok_or(cannot_cache(INVALID_INPUT_FILE))?;
     let is_apart = !is_clang && options.any(&OfKinds(&[Kind::DebugInfo]));
     let path = options.last_text(&OfKinds(&[Kind::ProgramDatabase]));
-    let program_database = match program_database(alloc, is_apart, path)? {
-        Ok(path) => path,
-        Err(refusal) => return Ok(Err(refusal)),
-    };
-    Ok(Ok(Finding {
+    let program_database = program_database(alloc, is_apart, path)?;
+    Ok(Finding {
         compile_flag,
         input,
         language,
         object,
         program_database,
-    }))
+    })
 }

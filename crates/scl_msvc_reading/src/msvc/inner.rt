@@ -1,10 +1,9 @@
 //! Inner command lines: words that options hand on to clang, behind `-Xclang` or joined to `-clang:`.
 ghost use Rattle.std.specs.Prelude.{◌≡◌, ◌++◌, IfOk, OnOk, codes};
 ghost use Rattle.std.specs.List.{flat_map};
-ghost use Rattle.std.specs.Result.{result_map_both};
 ghost use Rattle.scl_values.specs.Words.{words_of};
 ghost use Rattle.scl_args.specs.Wrapped.{wrapped_apart, wrapped_joined};
-ghost use Rattle.scl_text.specs.Refusals.{verdict_of};
+ghost use Rattle.scl_text.specs.Stops.{Gives};
 ghost use Rattle.scl_msvc_reading.specs.InnerBy.{inner_of};
 ghost use Rattle.scl_msvc_reading.specs.Inners.{inner_list, inner_words_at};
 ghost use Rattle.scl_msvc_reading.specs.Readings.{inner_options, both_inner};
@@ -18,11 +17,10 @@ use judge::ByInnerVerdict;
 use place::Inside;
 use scl_args::{Mem, OfKinds, Options, ShortFlagsJoined};
 use scl_gnu_reading::gcc;
-use scl_text::ParserJudge;
+use scl_text::Stop;
 use scl_text::command::push_word;
-use scl_text::refusal::Refusal;
 use scl_text::view::View;
-use scl_values::joined_word;
+use scl_values::join_word;
 use std::alloc::Global;
 
 /// The options of the two inner command lines.
@@ -39,11 +37,11 @@ fn inner_options(
     kind: Kind,
     cwd: &[u8],
     view: &View,
-) -> Mem<Result<Options<gcc::ArgData>, Refusal>>
-    ensures { IfOk result (λ said. result_map_both (λ inner. inner) verdict_of said ≡ inner_options kind cwd.now view.now options.now) }
+) -> Result<Options<gcc::ArgData>, Stop>
+    ensures { Gives (λ inner. inner) result (inner_options kind cwd.now view.now options.now) }
 {
     let words = options.texts(alloc, &OfKinds(&[kind]))?;
-    gcc::read_inner(alloc, words, cwd, &ParserJudge(ByInnerVerdict), view)
+    gcc::read_inner(alloc, words, cwd, &ByInnerVerdict, view)
 }
 
 /// The options of the two inner command lines; or the first refusal of one of them, that behind `-Xclang` first.
@@ -52,18 +50,12 @@ pub(crate) fn both_inner(
     options: &Options<ArgData>,
     cwd: &[u8],
     view: &View,
-) -> Mem<Result<InnerOptions, Refusal>>
-    ensures { IfOk result (λ said. result_map_both inner_of verdict_of said ≡ both_inner cwd.now view.now options.now) }
+) -> Result<InnerOptions, Stop>
+    ensures { Gives inner_of result (both_inner cwd.now view.now options.now) }
 {
-    let xclang = match inner_options(alloc, options, Kind::XClang, cwd, view)? {
-        Ok(xclang) => xclang,
-        Err(refusal) => return Ok(Err(refusal)),
-    };
-    let clang = match inner_options(alloc, options, Kind::Clang, cwd, view)? {
-        Ok(clang) => clang,
-        Err(refusal) => return Ok(Err(refusal)),
-    };
-    Ok(Ok(InnerOptions { xclang, clang }))
+    let xclang = inner_options(alloc, options, Kind::XClang, cwd, view)?;
+    let clang = inner_options(alloc, options, Kind::Clang, cwd, view)?;
+    Ok(InnerOptions { xclang, clang })
 }
 
 fn inner_list(alloc: Global, inner: &Options<gcc::ArgData>, there: Place) -> Mem<Vec<Vec<u8>>>
@@ -89,7 +81,7 @@ fn push_joined_to_clang(alloc: Global, words: &mut Vec<Vec<u8>>, inner: Vec<Vec<
     ensures { OnOk result (words_of words.new.items ≡ words_of words.old.items ++ flat_map (wrapped_joined (codes "-clang:")) (words_of inner.items)) }
 {
     for word in inner {
-        words.push(joined_word(alloc, "-clang:", None, &word)?)?;
+        words.push(join_word(alloc, "-clang:", None, &word)?)?;
     }
     Ok(())
 }

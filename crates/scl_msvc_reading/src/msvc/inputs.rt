@@ -3,10 +3,9 @@ ghost use Rattle.std.specs.Prelude.{◌≡◌};
 ghost use Rattle.scl_values.specs.Seen.{seen};
 ghost use Rattle.scl_msvc_reading.specs.Data.{kind_of, word_of};
 ghost use Rattle.scl_msvc_reading.specs.Kinds.{any, explicit_language, language_inputs, language_of_kind, language_said};
-ghost use Rattle.scl_msvc_reading.specs.Sorts.{may_be_input};
 
 use super::data::{ArgData, Kind};
-use scl_args::{Argument, OfKinds, Options, ReadArg, Sort, Test, is_dashes};
+use scl_args::{Argument, OfKinds, Options, ReadArg, Test, is_dashes};
 use scl_text::language::Language;
 
 /// The kinds of options that name an input and say its language.
@@ -17,13 +16,8 @@ pub(crate) struct Inputs;
 
 impl Test<ArgData> for Inputs {
     ghost use Rattle.scl_msvc_reading.specs.Kinds.{is_input};
-    ghost use Rattle.scl_msvc_reading.specs.Sorts.{may_be_input, input_by_sort};
 
     ghost passes = { λ _. is_input };
-
-    ghost may_pass = { λ _. may_be_input };
-
-    ghost passes_by_sort = { λ _. input_by_sort };
 
     fn passes(&self, option: &Argument<ArgData>) -> bool {
         match option {
@@ -32,16 +26,6 @@ impl Test<ArgData> for Inputs {
             Argument::Flag(_, _) | Argument::WithValue(_, _, _) => {
                 OfKinds(&LANGUAGE_INPUTS).passes(option)
             }
-        }
-    }
-
-    fn may_pass(&self, sort: Sort<Kind>) -> bool
-        ensures { result ≡ may_be_input sort }
-    {
-        match sort {
-            Sort::Raw => true,
-            Sort::Unknown => false,
-            Sort::Known(kind) => LANGUAGE_INPUTS.contains(&kind),
         }
     }
 }

@@ -10,28 +10,28 @@ ghost use Rattle.scl_msvc_reading.specs.Verdicts.{flag_verdict, known_verdict, v
 use super::data::ArgData;
 use super::place::{Place, place_of_kind};
 use scl_args::{Argument, Mem, ReadArg};
-use scl_text::Refuses;
+use scl_text::Judge;
 use scl_text::reasons::NO_INPUT_FILE;
-use scl_text::refusal::Refusal;
+use scl_text::refusal::{Refusal, cannot_cache};
 use std::alloc::Global;
 
 /// The refusal for this reason, where there is one.
-pub(crate) fn refused_if(is_refused: bool, reason: &'static str) -> Option<Refusal>
+pub(crate) fn refuse_if(is_refused: bool, reason: &'static str) -> Option<Refusal>
     ensures { option_map verdict_of result ≡ then_some is_refused (CannotCache reason.now) }
 {
     if is_refused {
-        Some(Refusal::CannotCache(reason, None))
+        Some(cannot_cache(reason))
     } else {
         None
     }
 }
 
 /// The refusal of an option by its flag, where its place is that of refused ones.
-pub(crate) fn judged_flag(place: Place, flag: &'static str) -> Option<Refusal>
+pub(crate) fn judge_flag(place: Place, flag: &'static str) -> Option<Refusal>
     ensures { option_map verdict_of result ≡ flag_verdict place flag.now }
 {
     match place {
-        Place::Refused => Some(Refusal::CannotCache(flag, None)),
+        Place::Refused => Some(cannot_cache(flag)),
         Place::Common
         | Place::Unhashed
         | Place::Preprocessor
@@ -40,21 +40,21 @@ pub(crate) fn judged_flag(place: Place, flag: &'static str) -> Option<Refusal>
     }
 }
 
-fn judged_value(is_clang: bool, flag: &'static str, value: &ArgData) -> Option<Refusal>
+fn judge_value(is_clang: bool, flag: &'static str, value: &ArgData) -> Option<Refusal>
     ensures { option_map verdict_of result ≡ value_verdict is_clang flag.now (kind_of value.now) (word_of value.now) }
 {
     match value {
         ArgData::SuppressCompilation => Some(Refusal::NotCompilation),
         ArgData::Output(path) => {
-            refused_if(path.0.as_slice() == b"nul".as_slice(), "output to nul")
+            refuse_if(path.0.as_slice() == b"nul".as_slice(), "output to nul")
         }
         ArgData::CInput(path) | ArgData::CxxInput(path) => {
-            refused_if(path.0.is_empty(), NO_INPUT_FILE)
+            refuse_if(path.0.is_empty(), NO_INPUT_FILE)
         }
-        ArgData::ClangModuleFile(text) => refused_if(!is_clang || text.is_empty(), flag),
-        ArgData::ClangModuleOutput(text) => refused_if(text.is_empty(), flag),
+        ArgData::ClangModuleFile(text) => refuse_if(!is_clang || text.is_empty(), flag),
+        ArgData::ClangModuleOutput(text) => refuse_if(text.is_empty(), flag),
         ArgData::ClangLanguage(text) => {
-            refused_if(
+            refuse_if(
                 !is_clang || text.as_slice() != b"c++-module".as_slice(),
                 flag,
             )
@@ -63,12 +63,12 @@ fn judged_value(is_clang: bool, flag: &'static str, value: &ArgData) -> Option<R
     }
 }
 
-fn judged_known(is_clang: bool, flag: &'static str, value: &ArgData) -> Option<Refusal>
+fn judge_known(is_clang: bool, flag: &'static str, value: &ArgData) -> Option<Refusal>
     ensures { option_map verdict_of result ≡ known_verdict is_clang flag.now (kind_of value.now) (word_of value.now) }
 {
-    match judged_flag(place_of_kind(value.kind()), flag) {
+    match judge_flag(place_of_kind(value.kind()), flag) {
         Some(refusal) => Some(refusal),
-        None => judged_value(is_clang, flag, value),
+        None => judge_value(is_clang, flag, value),
     }
 }
 
@@ -78,12 +78,12 @@ pub(crate) struct ByVerdict {
     pub(crate) is_clang: bool,
 }
 
-impl Refuses<ArgData> for ByVerdict {
+impl Judge<ArgData> for ByVerdict {
     ghost use Rattle.scl_msvc_reading.specs.Verdicts.{verdict};
 
     ghost verdict = { λ judge. verdict judge.is_clang };
 
-    fn refusal(
+    fn judge(
         &self,
         _alloc: Global,
         _before: &[Argument<ArgData>],
@@ -92,7 +92,7 @@ impl Refuses<ArgData> for ByVerdict {
         match option {
             Argument::Raw(_) | Argument::UnknownFlag(_) => Ok(None),
             Argument::Flag(flag, value) | Argument::WithValue(flag, value, _) => {
-                Ok(judged_known(self.is_clang, flag, value))
+                Ok(judge_known(self.is_clang, flag, value))
             }
         }
     }

@@ -8,7 +8,7 @@ use super::data::{ArgData, Kind};
 use super::fixed_tests::Finding;
 use scl_args::{Mem, OfKinds, Options};
 use scl_text::language::Language;
-use scl_text::outputs::{copied_path, extended_if, put_optional};
+use scl_text::outputs::{copy_path, put_optional, with_extension_if};
 use scl_text::records::ArtifactDescriptor;
 use std::alloc::Global;
 use std::collections::BTreeMap;
@@ -23,13 +23,13 @@ pub(crate) fn outputs_of(
     ensures { IfOk result (λ made. artifacts made ≡ outputs options.now (found_of found.now)) }
 {
     let module_path = options.last_text(&OfKinds(&[Kind::ClangModuleOutput]));
-    let module_path = copied_path(alloc, module_path)?;
+    let module_path = copy_path(alloc, module_path)?;
     let object = Vec::from_slice(alloc, &found.object)?;
     let database = found.program_database.as_ref().map(|path| path.as_slice());
-    let database = copied_path(alloc, database)?;
+    let database = copy_path(alloc, database)?;
     let is_cxx = found.language == Language::Cxx;
-    let header = extended_if(alloc, is_cxx, &found.object, b"tlh")?;
-    let source = extended_if(alloc, is_cxx, &found.object, b"tli")?;
+    let header = with_extension_if(alloc, is_cxx, &found.object, b"tlh")?;
+    let source = with_extension_if(alloc, is_cxx, &found.object, b"tli")?;
     let mut made = BTreeMap::new(alloc);
     put_optional(alloc, &mut made, "module", false, module_path)?;
     put_optional(alloc, &mut made, "obj", false, Some(object))?;

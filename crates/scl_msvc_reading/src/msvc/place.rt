@@ -1,9 +1,11 @@
 //! Where the words of options go.
 ghost use Rattle.std.specs.Prelude.{◌≡◌};
-ghost use Rattle.scl_msvc_reading.specs.Places.{place, place_of_sort, sort_goes_to, side_of_flag};
+ghost use Rattle.scl_values.specs.Seen.{seen};
+ghost use Rattle.scl_msvc_reading.specs.Data.{kind_of, word_of};
+ghost use Rattle.scl_msvc_reading.specs.Places.{place, place_of, side_of_flag};
 
 use super::data::{ArgData, Kind};
-use scl_args::{Argument, NormalizedDisposition, Sides, Sort, Test, sort_of};
+use scl_args::{Argument, NormalizedDisposition, ReadArg, Sides, Test};
 
 /// Where the words of an option go: to a list of the command, or nowhere; or the option is refused
 /// (docs/RULES.md, Msvc).
@@ -57,34 +59,24 @@ pub(crate) fn place_of_kind(kind: Kind) -> Place
     }
 }
 
-/// Where the words of options of the sort go: an unknown flag to the common words, a word that is no option nowhere.
-fn place_of_sort(sort: Sort<Kind>) -> Place
-    ensures { result ≡ place_of_sort sort }
+/// Where the words of the option go: an unknown flag to the common words, a word that is no option nowhere.
+fn place_of(option: &Argument<ArgData>) -> Place
+    ensures { result ≡ place_of (seen kind_of word_of option.now) }
 {
-    match sort {
-        Sort::Raw => Place::Nowhere,
-        Sort::Unknown => Place::Common,
-        Sort::Known(kind) => place_of_kind(kind),
+    match option {
+        Argument::Raw(_) => Place::Nowhere,
+        Argument::UnknownFlag(_) => Place::Common,
+        Argument::Flag(_, value) | Argument::WithValue(_, value, _) => place_of_kind(value.kind()),
     }
 }
 
 impl Test<ArgData> for Place {
-    ghost use Rattle.scl_msvc_reading.specs.Places.{goes_to, sort_goes_to};
+    ghost use Rattle.scl_msvc_reading.specs.Places.{goes_to};
 
     ghost passes = { goes_to };
 
-    ghost may_pass = { sort_goes_to };
-
-    ghost passes_by_sort = { λ there option none. none };
-
     fn passes(&self, option: &Argument<ArgData>) -> bool {
-        self.may_pass(sort_of(option))
-    }
-
-    fn may_pass(&self, sort: Sort<Kind>) -> bool
-        ensures { result ≡ sort_goes_to self.now sort }
-    {
-        place_of_sort(sort) == *self
+        place_of(option) == *self
     }
 }
 

@@ -15,7 +15,7 @@ use super::outputs::outputs_of;
 use super::place::{ExternalIncludesApart, Place};
 use scl_args::{Mem, OfKinds, Options};
 use scl_gnu_reading::gcc;
-use scl_text::outputs::copied_path;
+use scl_text::outputs::copy_path;
 use scl_text::records::ParsedArguments;
 use scl_text::view::View;
 use std::alloc::Global;
@@ -34,13 +34,24 @@ fn all_words_at(
     Ok(words)
 }
 
-/// The common words; they take over the words of the outer options, as the last of the lists.
-fn common_words(alloc: Global, options: Options<ArgData>, inner: &InnerOptions) -> Mem<Vec<Vec<u8>>>
-    ensures { IfOk result (λ words. words_of words.items ≡ all_words_at Place.Common options (inner_of inner.now)) }
+/// The two long lists, the preprocessor's words and the common ones. They take over the words of the outer options.
+fn long_lists(
+    alloc: Global,
+    options: Options<ArgData>,
+    inner: &InnerOptions,
+) -> Mem<(Vec<Vec<u8>>, Vec<Vec<u8>>)>
+    ensures preprocessor { IfOk result (λ lists. words_of lists.0.items ≡ all_words_at Place.Preprocessor options (inner_of inner.now)) }
+    ensures common { IfOk result (λ lists. words_of lists.1.items ≡ all_words_at Place.Common options (inner_of inner.now)) }
 {
-    let mut words = options.into_list(alloc, &ExternalIncludesApart, &Place::Common)?;
-    push_inner(alloc, &mut words, inner, Place::Common)?;
-    Ok(words)
+    let (mut preprocessor, mut common) = options.into_two_lists(
+        alloc,
+        &ExternalIncludesApart,
+        &Place::Preprocessor,
+        &Place::Common,
+    )?;
+    push_inner(alloc, &mut preprocessor, inner, Place::Preprocessor)?;
+    push_inner(alloc, &mut common, inner, Place::Common)?;
+    Ok((preprocessor, common))
 }
 
 /// Whether the program will write a profile of its runs; inner options alone ask for it.
@@ -65,18 +76,22 @@ pub(crate) fn record_of(
     let outputs = outputs_of(alloc, &options, &found)?;
     let depfile = options.last_text(&OfKinds(&[Kind::DepFile]));
     let flag = Vec::from_slice(alloc, found.compile_flag.as_bytes())?;
-    Ok(ParsedArguments {
+    let parsed = ParsedArguments {
         double_dash_input: options.is_behind_dashes(&Inputs),
-        depfile: copied_path(alloc, depfile)?,
+        depfile: copy_path(alloc, depfile)?,
         outputs,
         dependency_args: all_words_at(alloc, &options, inner, Place::Dependency)?,
-        preprocessor_args: all_words_at(alloc, &options, inner, Place::Preprocessor)?,
         unhashed_args: all_words_at(alloc, &options, inner, Place::Unhashed)?,
         extra_hash_files: hash_paths(alloc, &options, inner, cwd, view)?,
         msvc_show_includes: options.any(&OfKinds(&[Kind::ShowIncludes])),
         msvc_explicit_language: has_explicit_language(&options),
         profile_generate: writes_profile(inner),
-        common_args: common_words(alloc, options, inner)?,
         ..ParsedArguments::bare(alloc, found.input, found.language, flag)
+    };
+    let (preprocessor_args, common_args) = long_lists(alloc, options, inner)?;
+    Ok(ParsedArguments {
+        preprocessor_args,
+        common_args,
+        ..parsed
     })
 }

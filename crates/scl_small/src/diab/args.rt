@@ -4,12 +4,12 @@ ghost use Rattle.scl_values.specs.Tables.{tables_hold_values};
 ghost use Rattle.scl_small.specs.DiabValues.{holds_value};
 ghost use Rattle.scl_small.specs.DiabTable.{rows};
 
-use scl_args::ArgDisposition::{CanBeSeparated, Concatenated, Separated};
-use scl_args::ArgRow::{Flag, TakeArg};
+use scl_args::shapes::*;
 use scl_args::{
     ArgInfo, ArgParseResult, ArgToStringResult, ArgumentValue, ExactArg, FlagTable, Held, IntoArg,
-    Mem, PathArg, ReadArg, without_value,
+    Mem, PathArg, ReadArg,
 };
+use scl_values::{of_kinds, rows};
 use std::alloc::Global;
 
 /// What Diab's options mean, without their values (docs/RULES.md, Diab and TaskingVX).
@@ -37,63 +37,41 @@ pub enum Kind {
     DepArgumentPath,
 }
 
-/// What Diab's options mean, with their values (docs/RULES.md, Diab and TaskingVX).
+/// A kind with its value, a path, a word or none: each variant is of the kind of its name (docs/RULES.md, Diab and
+/// TaskingVX).
 #[derive(Debug, PartialEq, Eq, Drop)]
 pub enum ArgData {
-    /// A flag by which the command line can't be cached.
     TooHardFlag,
-    /// A flag with a value by which the command line can't be cached.
     TooHard(Vec<u8>),
-    /// The flag that asks for a compilation.
     DoCompilation,
-    /// The path of the object file.
     Output(PathArg),
-    /// A word that changes the outcome.
     PassThrough(Vec<u8>),
-    /// A word for the preprocessor.
     PreprocessorArgument(Vec<u8>),
-    /// A path for the preprocessor.
     PreprocessorArgumentPath(PathArg),
-    /// A flag about dependencies.
     DepArgumentFlag,
-    /// A word about dependencies.
     DepArgument(Vec<u8>),
-    /// A path about dependencies.
     DepArgumentPath(PathArg),
+}
+
+// each kind once, by what its values hold
+macro_rules! kinds {
+    ($($question:tt)*) => {
+        of_kinds!(
+            $($question)*;
+            Nothing: TooHardFlag, DoCompilation, DepArgumentFlag;
+            Word: TooHard, PassThrough, PreprocessorArgument, DepArgument;
+            Path: Output, PreprocessorArgumentPath, DepArgumentPath
+        )
+    };
 }
 
 impl ReadArg for ArgData {
     fn kind(&self) -> Kind {
-        match self {
-            ArgData::TooHardFlag => Kind::TooHardFlag,
-            ArgData::TooHard(_) => Kind::TooHard,
-            ArgData::DoCompilation => Kind::DoCompilation,
-            ArgData::Output(_) => Kind::Output,
-            ArgData::PassThrough(_) => Kind::PassThrough,
-            ArgData::PreprocessorArgument(_) => Kind::PreprocessorArgument,
-            ArgData::PreprocessorArgumentPath(_) => Kind::PreprocessorArgumentPath,
-            ArgData::DepArgumentFlag => Kind::DepArgumentFlag,
-            ArgData::DepArgument(_) => Kind::DepArgument,
-            ArgData::DepArgumentPath(_) => Kind::DepArgumentPath,
-        }
-    }
-
-    fn is_same_kind(kind: Kind, other: Kind) -> bool {
-        kind == other
+        kinds!(kind of self)
     }
 
     fn held(&self) -> Held<'_> {
-        match self {
-            ArgData::TooHardFlag | ArgData::DoCompilation | ArgData::DepArgumentFlag =>
-                Held::Nothing,
-            ArgData::TooHard(word)
-            | ArgData::PassThrough(word)
-            | ArgData::PreprocessorArgument(word)
-            | ArgData::DepArgument(word) => Held::Word(word),
-            ArgData::Output(path)
-            | ArgData::PreprocessorArgumentPath(path)
-            | ArgData::DepArgumentPath(path) => Held::Path(&path.0),
-        }
+        kinds!(held by self)
     }
 }
 
@@ -130,20 +108,7 @@ impl ArgumentValue for ArgData {
     ghost kind_of = { kind_of };
 
     fn make(_alloc: Global, kind: Kind, word: Vec<u8>) -> ArgParseResult<ArgData> {
-        match kind {
-            Kind::TooHardFlag => without_value(ArgData::TooHardFlag, &word),
-            Kind::TooHard => Ok(ArgData::TooHard(word)),
-            Kind::DoCompilation => without_value(ArgData::DoCompilation, &word),
-            Kind::Output => Ok(ArgData::Output(PathArg(word))),
-            Kind::PassThrough => Ok(ArgData::PassThrough(word)),
-            Kind::PreprocessorArgument => Ok(ArgData::PreprocessorArgument(word)),
-            Kind::PreprocessorArgumentPath => {
-                Ok(ArgData::PreprocessorArgumentPath(PathArg(word)))
-            }
-            Kind::DepArgumentFlag => without_value(ArgData::DepArgumentFlag, &word),
-            Kind::DepArgument => Ok(ArgData::DepArgument(word)),
-            Kind::DepArgumentPath => Ok(ArgData::DepArgumentPath(PathArg(word))),
-        }
+        kinds!(made of kind, word)
     }
 }
 
@@ -157,45 +122,30 @@ impl ExactArg for ArgData {
 }
 
 /// Diab's flags, in rising order by bytes (docs/RULES.md, Diab and TaskingVX).
-pub static ARGS: [ArgInfo<ArgData>; 23] = [
-    Flag("-", Kind::TooHardFlag),
-    Flag("-##", Kind::TooHardFlag),
-    Flag("-###", Kind::TooHardFlag),
-    TakeArg("-@", Kind::TooHard, Concatenated(None)),
-    TakeArg("-D", Kind::PreprocessorArgument, CanBeSeparated(None)),
-    Flag("-E", Kind::TooHardFlag),
-    TakeArg("-I", Kind::PreprocessorArgumentPath, CanBeSeparated(None)),
-    TakeArg("-L", Kind::PassThrough, Separated),
-    Flag("-P", Kind::TooHardFlag),
-    Flag("-S", Kind::TooHardFlag),
-    TakeArg("-U", Kind::PreprocessorArgument, CanBeSeparated(None)),
-    Flag("-V", Kind::TooHardFlag),
-    Flag("-VV", Kind::TooHardFlag),
-    TakeArg("-W", Kind::PassThrough, Separated),
-    Flag("-Xmake-dependency", Kind::DepArgumentFlag),
-    Flag(
-        "-Xmake-dependency-canonicalize-path-off",
-        Kind::DepArgumentFlag,
-    ),
-    TakeArg(
-        "-Xmake-dependency-savefile",
-        Kind::DepArgumentPath,
-        Concatenated(Some(b'=')),
-    ),
-    TakeArg(
-        "-Xmake-dependency-target",
-        Kind::DepArgument,
-        Concatenated(Some(b'=')),
-    ),
-    Flag("-c", Kind::DoCompilation),
-    TakeArg(
-        "-include",
-        Kind::PreprocessorArgumentPath,
-        CanBeSeparated(None),
-    ),
-    TakeArg("-l", Kind::PassThrough, Separated),
-    TakeArg("-o", Kind::Output, Separated),
-    TakeArg("-t", Kind::PassThrough, Separated),
+pub static ARGS: [ArgInfo<ArgData>; 23] = rows![
+    "-" TooHardFlag,
+    "-##" TooHardFlag,
+    "-###" TooHardFlag,
+    "-@" TooHard JOINED,
+    "-D" PreprocessorArgument EITHER,
+    "-E" TooHardFlag,
+    "-I" PreprocessorArgumentPath EITHER,
+    "-L" PassThrough APART,
+    "-P" TooHardFlag,
+    "-S" TooHardFlag,
+    "-U" PreprocessorArgument EITHER,
+    "-V" TooHardFlag,
+    "-VV" TooHardFlag,
+    "-W" PassThrough APART,
+    "-Xmake-dependency" DepArgumentFlag,
+    "-Xmake-dependency-canonicalize-path-off" DepArgumentFlag,
+    "-Xmake-dependency-savefile" DepArgumentPath JOINED_EQUALS,
+    "-Xmake-dependency-target" DepArgument JOINED_EQUALS,
+    "-c" DoCompilation,
+    "-include" PreprocessorArgumentPath EITHER,
+    "-l" PassThrough APART,
+    "-o" Output APART,
+    "-t" PassThrough APART,
 ];
 
 /// Diab's table.

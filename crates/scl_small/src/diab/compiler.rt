@@ -3,9 +3,9 @@ ghost use Rattle.std.specs.Prelude.{◌≡◌, None};
 
 use super::args::table;
 use super::{generate_compile_commands_owned, parse_arguments_owned};
-use crate::preprocess::diab_passes;
+use crate::preprocess::diab_runs;
 use scl_args::FlagTree;
-use scl_text::command::copied_text;
+use scl_text::command::copy_text;
 use scl_text::records::{
     CCompilerKind, Cacheable, CommandError, CompilerArguments, ParsedArguments,
     SingleCompileCommand,
@@ -37,7 +37,7 @@ impl CCompilerImpl for Diab {
     ghost use Rattle.scl_small.specs.DiabAgain.{DiabReadsAgain};
     ghost use Rattle.scl_small.specs.DiabTable.{rows};
     ghost use Rattle.scl_small.specs.DiabReading.{expanded_reading};
-    ghost use Rattle.scl_small.specs.Command.{command_words, diab_passes};
+    ghost use Rattle.scl_small.specs.Command.{command_words, diab_runs};
     ghost use Rattle.scl_text.specs.declared.records.CCompilerKind.TheVariants as compilers;
     ghost use Rattle.scl_text.specs.declared.records.Cacheable.TheVariants as cacheables;
 
@@ -59,7 +59,7 @@ impl CCompilerImpl for Diab {
 
     ghost is_read_again = { λ _ words directory env_vars view. DiabReadsAgain directory view.files words };
 
-    ghost passes = { λ _ may_dist rewrites cache_mode. diab_passes };
+    ghost runs = { λ _ may_dist rewrites cache_mode. diab_runs };
 
     fn kind(&self) -> CCompilerKind {
         CCompilerKind::Diab
@@ -70,7 +70,7 @@ impl CCompilerImpl for Diab {
     }
 
     fn version(&self, alloc: Global) -> Mem<Option<String>> {
-        copied_text(alloc, &self.version)
+        copy_text(alloc, &self.version)
     }
 
     fn parse_arguments_owned(
@@ -109,6 +109,6 @@ impl CCompilerImpl for Diab {
         _rewrite_includes_only: bool,
         _cache_mode: bool,
     ) -> Mem<Vec<Vec<Vec<u8>>>> {
-        diab_passes(alloc, parsed)
+        diab_runs(alloc, parsed)
     }
 }

@@ -1,6 +1,6 @@
 //! Where Diab's options go, what it says of one, and the flag of its command.
 use super::args::{ArgData, Kind};
-use crate::place::{Place, Placed, refused_by_place};
+use crate::place::{Place, Placed, refuse_by_place};
 use crate::rules::Rules;
 use scl_args::{Argument, names_file};
 use scl_text::reasons::UNEXPANDED_FILE;
@@ -38,7 +38,7 @@ impl Rules for ArgData {
         if names_file(option) {
             return Some(Refusal::CannotCache(UNEXPANDED_FILE, None));
         }
-        refused_by_place(option)
+        refuse_by_place(option)
     }
 
     fn compile_flag(flag: &'static str) -> &'static str {

@@ -4,12 +4,12 @@ ghost use Rattle.scl_values.specs.Tables.{tables_hold_values};
 ghost use Rattle.scl_small.specs.TaskingValues.{holds_value};
 ghost use Rattle.scl_small.specs.TaskingTable.{rows};
 
-use scl_args::ArgDisposition::{CanBeSeparated, Concatenated, Separated};
-use scl_args::ArgRow::{Flag, TakeArg};
+use scl_args::shapes::*;
 use scl_args::{
     ArgInfo, ArgParseResult, ArgToStringResult, ArgumentValue, ExactArg, FlagTable, Held, IntoArg,
-    Mem, PathArg, ReadArg, without_value,
+    Mem, PathArg, ReadArg,
 };
+use scl_values::{of_kinds, rows};
 use std::alloc::Global;
 
 /// What TaskingVX's options mean, without their values (docs/RULES.md, Diab and TaskingVX).
@@ -37,63 +37,41 @@ pub enum Kind {
     DepFile,
 }
 
-/// What TaskingVX's options mean, with their values (docs/RULES.md, Diab and TaskingVX).
+/// A kind with its value, a path, a word or none: each variant is of the kind of its name (docs/RULES.md, Diab and
+/// TaskingVX).
 #[derive(Debug, PartialEq, Eq, Drop)]
 pub enum ArgData {
-    /// A flag by which the command line can't be cached.
     TooHardFlag,
-    /// A flag with a value by which the command line can't be cached.
     TooHard(Vec<u8>),
-    /// A flag that asks for no compilation.
     NotCompilationFlag,
-    /// A flag with a value that asks for no compilation.
     NotCompilation(Vec<u8>),
-    /// The flag that asks for a compilation.
     DoCompilation,
-    /// The path of the object file.
     Output(PathArg),
-    /// A word that changes the outcome.
     PassThrough(Vec<u8>),
-    /// A word for the preprocessor.
     PreprocessorArgument(Vec<u8>),
-    /// A path for the preprocessor.
     PreprocessorArgumentPath(PathArg),
-    /// The path of the dependency file.
     DepFile(PathArg),
+}
+
+// each kind once, by what its values hold
+macro_rules! kinds {
+    ($($question:tt)*) => {
+        of_kinds!(
+            $($question)*;
+            Nothing: TooHardFlag, NotCompilationFlag, DoCompilation;
+            Word: TooHard, NotCompilation, PassThrough, PreprocessorArgument;
+            Path: Output, PreprocessorArgumentPath, DepFile
+        )
+    };
 }
 
 impl ReadArg for ArgData {
     fn kind(&self) -> Kind {
-        match self {
-            ArgData::TooHardFlag => Kind::TooHardFlag,
-            ArgData::TooHard(_) => Kind::TooHard,
-            ArgData::NotCompilationFlag => Kind::NotCompilationFlag,
-            ArgData::NotCompilation(_) => Kind::NotCompilation,
-            ArgData::DoCompilation => Kind::DoCompilation,
-            ArgData::Output(_) => Kind::Output,
-            ArgData::PassThrough(_) => Kind::PassThrough,
-            ArgData::PreprocessorArgument(_) => Kind::PreprocessorArgument,
-            ArgData::PreprocessorArgumentPath(_) => Kind::PreprocessorArgumentPath,
-            ArgData::DepFile(_) => Kind::DepFile,
-        }
-    }
-
-    fn is_same_kind(kind: Kind, other: Kind) -> bool {
-        kind == other
+        kinds!(kind of self)
     }
 
     fn held(&self) -> Held<'_> {
-        match self {
-            ArgData::TooHardFlag | ArgData::NotCompilationFlag | ArgData::DoCompilation =>
-                Held::Nothing,
-            ArgData::TooHard(word)
-            | ArgData::NotCompilation(word)
-            | ArgData::PassThrough(word)
-            | ArgData::PreprocessorArgument(word) => Held::Word(word),
-            ArgData::Output(path)
-            | ArgData::PreprocessorArgumentPath(path)
-            | ArgData::DepFile(path) => Held::Path(&path.0),
-        }
+        kinds!(held by self)
     }
 }
 
@@ -130,18 +108,7 @@ impl ArgumentValue for ArgData {
     ghost kind_of = { kind_of };
 
     fn make(_alloc: Global, kind: Kind, word: Vec<u8>) -> ArgParseResult<ArgData> {
-        match kind {
-            Kind::TooHardFlag => without_value(ArgData::TooHardFlag, &word),
-            Kind::TooHard => Ok(ArgData::TooHard(word)),
-            Kind::NotCompilationFlag => without_value(ArgData::NotCompilationFlag, &word),
-            Kind::NotCompilation => Ok(ArgData::NotCompilation(word)),
-            Kind::DoCompilation => without_value(ArgData::DoCompilation, &word),
-            Kind::Output => Ok(ArgData::Output(PathArg(word))),
-            Kind::PassThrough => Ok(ArgData::PassThrough(word)),
-            Kind::PreprocessorArgument => Ok(ArgData::PreprocessorArgument(word)),
-            Kind::PreprocessorArgumentPath => Ok(ArgData::PreprocessorArgumentPath(PathArg(word))),
-            Kind::DepFile => Ok(ArgData::DepFile(PathArg(word))),
-        }
+        kinds!(made of kind, word)
     }
 }
 
@@ -155,48 +122,32 @@ impl ExactArg for ArgData {
 }
 
 /// TaskingVX's flags, in rising order by bytes (docs/RULES.md, Diab and TaskingVX).
-pub static ARGS: [ArgInfo<ArgData>; 25] = [
-    TakeArg(
-        "--define",
-        Kind::PreprocessorArgument,
-        Concatenated(Some(b'=')),
-    ),
-    TakeArg("--dep-file", Kind::DepFile, Concatenated(Some(b'='))),
-    Flag("--dry-run", Kind::TooHardFlag),
-    TakeArg("--help", Kind::NotCompilation, Concatenated(Some(b'='))),
-    TakeArg(
-        "--include-directory",
-        Kind::PreprocessorArgumentPath,
-        Concatenated(Some(b'=')),
-    ),
-    TakeArg(
-        "--include-file",
-        Kind::PreprocessorArgumentPath,
-        Concatenated(Some(b'=')),
-    ),
-    TakeArg(
-        "--library-directory",
-        Kind::PassThrough,
-        Concatenated(Some(b'=')),
-    ),
-    TakeArg("--mil-split", Kind::TooHard, Concatenated(Some(b'='))),
-    TakeArg("--option-file", Kind::TooHard, Concatenated(Some(b'='))),
-    TakeArg("--output", Kind::Output, Concatenated(Some(b'='))),
-    TakeArg("--preprocess", Kind::TooHard, Concatenated(Some(b'='))),
-    TakeArg("--undefine", Kind::PreprocessorArgument, Separated),
-    Flag("--version", Kind::NotCompilationFlag),
-    Flag("-?", Kind::NotCompilationFlag),
-    TakeArg("-D", Kind::PreprocessorArgument, CanBeSeparated(None)),
-    Flag("-E", Kind::TooHardFlag),
-    TakeArg("-H", Kind::PreprocessorArgumentPath, CanBeSeparated(None)),
-    TakeArg("-I", Kind::PreprocessorArgumentPath, CanBeSeparated(None)),
-    TakeArg("-L", Kind::PassThrough, CanBeSeparated(None)),
-    TakeArg("-U", Kind::PreprocessorArgument, CanBeSeparated(None)),
-    Flag("-V", Kind::NotCompilationFlag),
-    Flag("-c", Kind::DoCompilation),
-    TakeArg("-f", Kind::TooHard, Separated),
-    Flag("-n", Kind::TooHardFlag),
-    TakeArg("-o", Kind::Output, Separated),
+pub static ARGS: [ArgInfo<ArgData>; 25] = rows![
+    "--define" PreprocessorArgument JOINED_EQUALS,
+    "--dep-file" DepFile JOINED_EQUALS,
+    "--dry-run" TooHardFlag,
+    "--help" NotCompilation JOINED_EQUALS,
+    "--include-directory" PreprocessorArgumentPath JOINED_EQUALS,
+    "--include-file" PreprocessorArgumentPath JOINED_EQUALS,
+    "--library-directory" PassThrough JOINED_EQUALS,
+    "--mil-split" TooHard JOINED_EQUALS,
+    "--option-file" TooHard JOINED_EQUALS,
+    "--output" Output JOINED_EQUALS,
+    "--preprocess" TooHard JOINED_EQUALS,
+    "--undefine" PreprocessorArgument APART,
+    "--version" NotCompilationFlag,
+    "-?" NotCompilationFlag,
+    "-D" PreprocessorArgument EITHER,
+    "-E" TooHardFlag,
+    "-H" PreprocessorArgumentPath EITHER,
+    "-I" PreprocessorArgumentPath EITHER,
+    "-L" PassThrough EITHER,
+    "-U" PreprocessorArgument EITHER,
+    "-V" NotCompilationFlag,
+    "-c" DoCompilation,
+    "-f" TooHard APART,
+    "-n" TooHardFlag,
+    "-o" Output APART,
 ];
 
 /// TaskingVX's table.

@@ -1,7 +1,7 @@
 //! TaskingVX as a compiler.
 use super::args::table;
 use super::{generate_compile_commands_owned, parse_arguments_owned};
-use crate::preprocess::tasking_passes;
+use crate::preprocess::tasking_runs;
 use scl_args::FlagTree;
 use scl_text::records::{
     CCompilerKind, Cacheable, CommandError, CompilerArguments, ParsedArguments,
@@ -20,7 +20,7 @@ impl CCompilerImpl for TaskingVX {
     ghost use Rattle.scl_small.specs.TaskingAgain.{TaskingReadsAgain};
     ghost use Rattle.scl_small.specs.TaskingTable.{rows};
     ghost use Rattle.scl_small.specs.TaskingReading.{reading};
-    ghost use Rattle.scl_small.specs.Command.{command_words, tasking_passes};
+    ghost use Rattle.scl_small.specs.Command.{command_words, tasking_runs};
     ghost use Rattle.scl_text.specs.declared.records.CCompilerKind.TheVariants as compilers;
     ghost use Rattle.scl_text.specs.declared.records.Cacheable.TheVariants as cacheables;
 
@@ -42,7 +42,7 @@ impl CCompilerImpl for TaskingVX {
 
     ghost is_read_again = { λ _ words directory env_vars view. TaskingReadsAgain words };
 
-    ghost passes = { λ _ may_dist rewrites cache_mode. tasking_passes };
+    ghost runs = { λ _ may_dist rewrites cache_mode. tasking_runs };
 
     fn kind(&self) -> CCompilerKind {
         CCompilerKind::TaskingVX
@@ -92,6 +92,6 @@ impl CCompilerImpl for TaskingVX {
         _rewrite_includes_only: bool,
         _cache_mode: bool,
     ) -> Mem<Vec<Vec<Vec<u8>>>> {
-        tasking_passes(alloc, parsed)
+        tasking_runs(alloc, parsed)
     }
 }

@@ -1,6 +1,6 @@
 //! Where TaskingVX's options go, what it says of one, and the flag of its command.
 use super::args::{ArgData, Kind};
-use crate::place::{Place, Placed, refused_by_place};
+use crate::place::{Place, Placed, refuse_by_place};
 use crate::rules::Rules;
 use scl_args::Argument;
 use scl_text::refusal::Refusal;
@@ -35,7 +35,7 @@ impl Rules for ArgData {
     ghost compile_flag_for = { λ _. codes "-c" };
 
     fn judge(option: &Argument<ArgData>) -> Option<Refusal> {
-        refused_by_place(option)
+        refuse_by_place(option)
     }
 
     fn compile_flag(_flag: &'static str) -> &'static str {

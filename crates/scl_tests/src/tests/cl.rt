@@ -6,7 +6,7 @@ mod outcomes;
 mod read_again;
 mod refusals;
 mod requests;
-mod rows;
+pub(crate) mod rows;
 mod within;
 
 use scl_cl::{Counted, Outcome, Request, read_request, run};

@@ -1,6 +1,7 @@
 //! The text of a dependency file, and writing it.
 use crate::tests::records::{self, msvc};
-use scl_args::{Counted, FailingWriter, Mem};
+use crate::tests::words::with_line_ends;
+use scl_args::{Counted, FailingWriter};
 use scl_msvc::msvc::{DepfileError, DepfileText, WriteFault, depfile_text, write_depfile};
 use scl_text::records::ParsedArguments;
 use std::alloc::Global;
@@ -8,73 +9,62 @@ use std::process::Abort;
 use std::test::Fail;
 
 /// What clang-cl reads.
-fn record_of(alloc: Global, words: &[u8]) -> Result<ParsedArguments, Fail> {
-    records::record_of(alloc, &msvc(alloc, true)?, words)
+fn record_of(alloc: Global, words: &str) -> Result<ParsedArguments, Fail> {
+    records::record_of(alloc, &msvc(alloc, true)?, words.as_bytes())
 }
 
-fn made(alloc: Global, text: &[u8], kept: &[u8]) -> Mem<DepfileText> {
-    Ok(DepfileText {
-        text: Vec::from_slice(alloc, text)?,
-        kept: Vec::from_slice(alloc, kept)?,
-    })
+/// Words of clang-cl and its error output, and behind ` => ` the text that it gives and which of its lines are kept, each with
+/// `|` for the end of a line.
+static TEXTS: &str = "
+-c x.c -depsx.d: Note:  a.h|warn|Note: b c.h|Note: a.h| => x.obj: x.c a.h |x.c:|a.h:| => warn|
+-c x.c -depsx.d:  => x.obj: x.c |x.c:| => 
+-c x.c -depsx.d: Note: z.h\r|Note:\tb.h\r||Note: b.h |Note: a.h|Note: z.h => x.obj: x.c z.h b.h a.h |x.c:|a.h:|b.h:|z.h:| => Note:\tb.h||
+-c x.c -depsx.d: Note:  => x.obj: x.c  |x.c:|:| => 
+-c x.c -depsx.d: a\rb\r| note: \r => x.obj: x.c |x.c:| => a\rb| note: \r|
+-c x.c -depsx.d: Note: \u{2003}a.h\u{A0}| => x.obj: x.c a.h |x.c:|a.h:| => 
+-c x.c -depsx.d -showIncludes: Note: a.h\r|warn => x.obj: x.c a.h |x.c:|a.h:| => Note: a.h|warn|
+";
+
+/// What words and error output give.
+fn text_of(alloc: Global, words: &str, stderr: &str) -> Result<Option<DepfileText>, Fail> {
+    let record = record_of(alloc, words)?;
+    let stderr = with_line_ends(alloc, stderr)?;
+    Ok(depfile_text(alloc, &record, true, "Note: ", &stderr)?)
+}
+
+fn wanted(alloc: Global, row: &str) -> Result<Option<DepfileText>, Fail> {
+    let (text, kept) = row.split_once(" => ").ok_or("no kept lines")?;
+    let text = with_line_ends(alloc, text)?;
+    let kept = with_line_ends(alloc, kept)?;
+    Ok(Some(DepfileText { text, kept }))
+}
+
+fn expect_text(rt: &(impl Abort + Alloc<A = Global>), row: &str) -> Result<(), Fail> {
+    let (words, rest) = row.split_once(": ").ok_or("no words")?;
+    let (stderr, want) = rest.split_once(" => ").ok_or("no text")?;
+    let made = text_of(rt.alloc(), words, stderr)?;
+    let want = wanted(rt.alloc(), want)?;
+    assert!(rt; made == want, "of {row:?}");
+    Ok(())
 }
 
 #[test]
 fn lines_with_the_prefix_name_dependencies(rt: HostRuntime) -> Result<(), Fail> {
-    let record = record_of(rt.alloc(), b"-c x.c -depsx.d")?;
-    // error output, the text that it gives, and which of its lines are kept
-    let rows: [(&[u8], &[u8], &[u8]); 6] = [
-        (
-            b"Note:  a.h\nwarn\nNote: b c.h\nNote: a.h\n",
-            b"x.obj: x.c a.h \nx.c:\na.h:\n",
-            b"warn\n",
-        ),
-        (b"", b"x.obj: x.c \nx.c:\n", b""),
-        (
-            b"Note: z.h\r\nNote:\tb.h\r\n\nNote: b.h \nNote: a.h\nNote: z.h",
-            b"x.obj: x.c z.h b.h a.h \nx.c:\na.h:\nb.h:\nz.h:\n",
-            b"Note:\tb.h\n\n",
-        ),
-        (b"Note: ", b"x.obj: x.c  \nx.c:\n:\n", b""),
-        (
-            b"a\rb\r\n note: \r",
-            b"x.obj: x.c \nx.c:\n",
-            b"a\rb\n note: \r\n",
-        ),
-        (
-            b"Note: \xe2\x80\x83a.h\xc2\xa0\n",
-            b"x.obj: x.c a.h \nx.c:\na.h:\n",
-            b"",
-        ),
-    ];
-    for (stderr, text, kept) in rows {
-        let want = made(rt.alloc(), text, kept)?;
-        let got = depfile_text(rt.alloc(), &record, true, "Note: ", stderr);
-        assert!(rt; got == Ok(Some(want)), "of {stderr:?}");
+    for row in TEXTS.lines() {
+        if !row.is_empty() {
+            expect_text(&rt, row)?;
+        }
     }
     Ok(())
 }
 
 #[test]
-fn shown_includes_are_kept(rt: HostRuntime) -> Result<(), Fail> {
-    let record = record_of(rt.alloc(), b"-c x.c -depsx.d -showIncludes")?;
-    let want = made(
-        rt.alloc(),
-        b"x.obj: x.c a.h \nx.c:\na.h:\n",
-        b"Note: a.h\nwarn\n",
-    )?;
-    let got = depfile_text(rt.alloc(), &record, true, "Note: ", b"Note: a.h\r\nwarn");
-    assert!(rt; got == Ok(Some(want)));
-    Ok(())
-}
-
-#[test]
 fn only_clang_with_a_dependency_file_has_its_text(rt: HostRuntime) -> Result<(), Fail> {
-    let record = record_of(rt.alloc(), b"-c x.c -depsx.d")?;
+    let record = record_of(rt.alloc(), "-c x.c -depsx.d")?;
     let not_utf8 = depfile_text(rt.alloc(), &record, true, "Note: ", b"\xff");
     assert!(rt; not_utf8 == Err(DepfileError::NotUtf8));
     assert!(rt; depfile_text(rt.alloc(), &record, false, "Note: ", b"\xff") == Ok(None));
-    let plain = record_of(rt.alloc(), b"-c x.c")?;
+    let plain = record_of(rt.alloc(), "-c x.c")?;
     assert!(rt; depfile_text(rt.alloc(), &plain, true, "Note: ", b"\xff") == Ok(None));
     Ok(())
 }

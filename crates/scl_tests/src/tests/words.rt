@@ -1,5 +1,6 @@
 //! Words as tests write them: between spaces, two of which hold an empty word.
 use scl_cl::Mem;
+use scl_cl::args::Escaped;
 use std::alloc::Global;
 
 /// The words of a text; none where it is empty.
@@ -24,4 +25,37 @@ pub(crate) fn joined(alloc: Global, words: &[Vec<u8>]) -> Mem<Vec<u8>> {
         line.extend_from_slice(word)?;
     }
     Ok(line)
+}
+
+/// The same with the bytes escaped that no message shows.
+pub(crate) fn printed(alloc: Global, words: &[Vec<u8>]) -> Mem<String> {
+    let mut line = String::new(alloc);
+    for (index, word) in words.iter().enumerate() {
+        let parting = if index > 0 { " " } else { "" };
+        line.push_str(format!(in alloc; "{parting}{}", Escaped(word))?.as_str())?;
+    }
+    Ok(line)
+}
+
+/// The bytes of a row that has `|` for the end of a line.
+pub(crate) fn with_line_ends(alloc: Global, row: &str) -> Mem<Vec<u8>> {
+    let mut bytes = Vec::new(alloc);
+    for byte in row.as_bytes() {
+        bytes.push(if *byte == b'|' { b'\n' } else { *byte })?;
+    }
+    Ok(bytes)
+}
+
+/// The pairs of an environment.
+pub(crate) fn pairs(alloc: Global, rows: &[(&str, &str)]) -> Mem<Vec<(Vec<u8>, Vec<u8>)>> {
+    let mut pairs = Vec::new(alloc);
+    for (key, value) in rows {
+        pairs.push(pair(alloc, key, value)?)?;
+    }
+    Ok(pairs)
+}
+
+fn pair(alloc: Global, key: &str, value: &str) -> Mem<(Vec<u8>, Vec<u8>)> {
+    let key = Vec::from_slice(alloc, key.as_bytes())?;
+    Ok((key, Vec::from_slice(alloc, value.as_bytes())?))
 }

@@ -5,15 +5,15 @@ use Rattle.scl_cl.proofs.field.push_field.Goals as goal
 
 pub loop-byte-init : goal.loop-byte-init
 loop-byte-init c = record {
-  ends = c.plain_run.ensures.ends;
+  ends = c.plain_prefix.ensures.ends;
   written =
-      ap (λ text. text ++ escaped c.plain_run.result.1.now) c.in_ok-extend_from_slice.ensures.items
-      ∙ written_on c.args.text.now.items c.plain_run.result.0.now c.plain_run.result.1.now c.args.bytes.now c.plain_run.ensures.whole c.plain_run.ensures.plain;
+      ap (λ text. text ++ escaped c.plain_prefix.result.1.now) c.in_ok-extend_from_slice.ensures.items
+      ∙ written_on c.args.text.now.items c.plain_prefix.result.0.now c.plain_prefix.result.1.now c.args.bytes.now c.plain_prefix.ensures.whole c.plain_prefix.ensures.plain;
 }
 
 pub loop-byte-preserved : goal.loop-byte-preserved
 loop-byte-preserved c = record {
-  ends = c.plain_run-in-Some.ensures.ends;
-  written = rw (c.in_ok-extend_from_slice-2.ensures.items, c.in_ok-push_escape.ensures) (escape_on c.loop-byte.text.items _ c.plain_run-in-Some.result.0.now c.plain_run-in-Some.result.1.now
-      c.loop-byte.left.now c.in-Some.behind.now c.in-Some.byte.now c.loop-byte.invariant.written c.in-Some.ensures.cases.0 c.plain_run-in-Some.ensures.whole c.plain_run-in-Some.ensures.plain);
+  ends = c.plain_prefix-in-Some.ensures.ends;
+  written = rw (c.in_ok-extend_from_slice-2.ensures.items, c.in_ok-push_escape.ensures) (escape_on c.loop-byte.text.items _ c.plain_prefix-in-Some.result.0.now c.plain_prefix-in-Some.result.1.now
+      c.loop-byte.left.now c.in-Some.behind.now c.in-Some.byte.now c.loop-byte.invariant.written c.in-Some.ensures.cases.0 c.plain_prefix-in-Some.ensures.whole c.plain_prefix-in-Some.ensures.plain);
 }

@@ -10,7 +10,6 @@ pub loop-item-init : goal.loop-item-init
 loop-item-init g c =
     let start = c.cutter-arguments.ensures in
     let st = start.state in (
-      record { len = λ _. rw (start.count, start.words) refl },
       λ items h. rw c.in_ok-options.ensures.items (rw (start.arg_info, st.0, st.1, st.2, start.words) at h),
       rw c.in_ok-options.ensures.items (All-nil (λ option. is_delimited_by_ascii option ≡ true)),
     )
@@ -22,12 +21,11 @@ loop-item-preserved g c =
     let after = leaves_after g.T.ArgumentValue.make_gives
     (cutter a.arguments (owner_in (g.S.SearchableArgInfo.tables a.arg_info)) a.double_dashes a.only_raw a.ended)
     (cutter t.arguments (owner_in (g.S.SearchableArgInfo.tables t.arg_info)) t.double_dashes t.only_raw t.ended)
-    (Some c.in-Some.item) c.loop-item.invariant.0 c.in-Some.ensures.steps in
-    let first = rw c.in-Ok.is at after.0 in
+    (Some c.in-Some.item) c.in-Some.ensures.steps in
+    let first = rw c.in-Ok.is at after in
     let printable = rw c.in-Ok.is at c.in-Some.ensures.steps.4 in (
-      after.1,
-      λ items h. rw (c.in_ok-push-in-Ok.ensures.items, after_options-append g.T.ArgumentValue.make_gives) (c.loop-item.invariant.1 (Ok c.in-Ok.option ∷ items) (first.0, _, first.1, first.2, h)),
-      rw c.in_ok-push-in-Ok.ensures.items (All-push (λ option. is_delimited_by_ascii option ≡ true) _ _ c.loop-item.invariant.2 printable),
+      λ items h. rw (c.in_ok-push-in-Ok.ensures.items, after_options-append g.T.ArgumentValue.make_gives) (c.loop-item.invariant.0 (Ok c.in-Ok.option ∷ items) (first.0, _, first.1, first.2, h)),
+      rw c.in_ok-push-in-Ok.ensures.items (All-push (λ option. is_delimited_by_ascii option ≡ true) _ _ c.loop-item.invariant.1 printable),
     )
 
 pub returns-in-Err-clause-items : goal.returns-in-Err-clause-items
@@ -37,6 +35,6 @@ returns-in-Err-clause-items g c =
     let after = leaves_after g.T.ArgumentValue.make_gives
     (cutter a.arguments (owner_in (g.S.SearchableArgInfo.tables a.arg_info)) a.double_dashes a.only_raw a.ended)
     (cutter t.arguments (owner_in (g.S.SearchableArgInfo.tables t.arg_info)) t.double_dashes t.only_raw t.ended)
-    (Some c.in-Some.item) c.loop-item.invariant.0 c.in-Some.ensures.steps in
-    let first = rw c.in-Err.is at after.0 in
-    c.loop-item.invariant.1 (Err c.in-Err.error ∷ []) (first, refl)
+    (Some c.in-Some.item) c.in-Some.ensures.steps in
+    let first = rw c.in-Err.is at after in
+    c.loop-item.invariant.0 (Err c.in-Err.error ∷ []) (first, refl)

@@ -10,14 +10,14 @@ ghost use Rattle.scl_gnu_reading.specs.Inners.{raw_verdict, takes_raw};
 
 use super::place::inner_place_of_kind;
 use crate::gcc::data::ArgData;
-use crate::gcc::judge::judged_flag;
+use crate::gcc::judge::judge_flag;
 use scl_args::{Argument, Mem, ReadArg, last_option};
-use scl_text::Refuses;
+use scl_text::Judge;
 use scl_text::refusal::Refusal;
 use std::alloc::Global;
 
 /// The refusal for this reason, with the word beside it, or the empty text where it is not UTF-8.
-fn refused_word(alloc: Global, reason: &'static str, word: &[u8]) -> Mem<Refusal>
+fn refuse_word(alloc: Global, reason: &'static str, word: &[u8]) -> Mem<Refusal>
     ensures { IfOk result (λ refusal. verdict_of refusal ≡ CannotCache reason.now) }
 {
     let text = String::from_str(alloc, str::from_utf8(word).unwrap_or(""))?;
@@ -34,39 +34,39 @@ fn takes_raw(before: &[Argument<ArgData>]) -> bool
     }
 }
 
-fn judged_raw(alloc: Global, is_taken: bool, word: &[u8]) -> Mem<Option<Refusal>>
-    ensures { IfOk result (λ said. option_map verdict_of said ≡ raw_verdict is_taken) }
+fn judge_raw(alloc: Global, is_taken: bool, word: &[u8]) -> Mem<Option<Refusal>>
+    ensures { IfOk result (λ refusal. option_map verdict_of refusal ≡ raw_verdict is_taken) }
 {
     if is_taken {
         return Ok(None);
     }
     let reason = "Can't handle Raw arguments with -Xclang";
-    Ok(Some(refused_word(alloc, reason, word)?))
+    Ok(Some(refuse_word(alloc, reason, word)?))
 }
 
 /// Judges inner options.
 #[derive(Clone, Copy)]
 pub(crate) struct ByInnerVerdict;
 
-impl Refuses<ArgData> for ByInnerVerdict {
+impl Judge<ArgData> for ByInnerVerdict {
     ghost use Rattle.scl_gnu_reading.specs.Inners.{inner_verdict};
 
     ghost verdict = { λ _. inner_verdict };
 
-    fn refusal(
+    fn judge(
         &self,
         alloc: Global,
         before: &[Argument<ArgData>],
         option: &Argument<ArgData>,
     ) -> Mem<Option<Refusal>> {
         match option {
-            Argument::Raw(word) => judged_raw(alloc, takes_raw(before), word),
+            Argument::Raw(word) => judge_raw(alloc, takes_raw(before), word),
             Argument::UnknownFlag(word) => {
                 let reason = "Can't handle UnknownFlag arguments with -Xclang";
-                Ok(Some(refused_word(alloc, reason, word)?))
+                Ok(Some(refuse_word(alloc, reason, word)?))
             }
             Argument::Flag(flag, value) | Argument::WithValue(flag, value, _) => {
-                Ok(judged_flag(inner_place_of_kind(value.kind()), flag))
+                Ok(judge_flag(inner_place_of_kind(value.kind()), flag))
             }
         }
     }

@@ -1,63 +1,30 @@
 //! Where the words of inner options go.
 ghost use Rattle.std.specs.Prelude.{◌≡◌};
-ghost use Rattle.scl_gnu_reading.specs.Inners.{inner_place, inner_place_of_sort, sort_goes_inside_to};
+ghost use Rattle.scl_values.specs.Seen.{seen};
+ghost use Rattle.scl_gnu_reading.specs.Data.{kind_of, word_of};
+ghost use Rattle.scl_gnu_reading.specs.Inners.{inner_place, inner_place_of};
 
 use crate::gcc::data::{ArgData, Kind};
-use crate::gcc::place::Place;
-use scl_args::{Argument, Sort, Test, sort_of};
+use crate::gcc::place::{Place, places_of_kind};
+use scl_args::{Argument, ReadArg, Test};
 
 /// Where the words of an inner option of the kind go.
 pub(crate) fn inner_place_of_kind(kind: Kind) -> Place
     ensures { result ≡ inner_place kind }
 {
-    match kind {
-        Kind::TooHardFlag => Place::Refused,
-        Kind::TooHard => Place::Refused,
-        Kind::DiagnosticsColor => Place::Common,
-        Kind::DiagnosticsColorFlag => Place::Common,
-        Kind::NoDiagnosticsColorFlag => Place::Common,
-        Kind::Arch => Place::Common,
-        Kind::Coverage => Place::Refused,
-        Kind::TestCoverage => Place::Refused,
-        Kind::DepArgumentPath => Place::Dependency,
-        Kind::DepTarget => Place::Dependency,
-        Kind::NeedDepTarget => Place::Dependency,
-        Kind::DoCompilation => Place::Refused,
-        Kind::ExtraHashFile => Place::Common,
-        Kind::ExtraHashFileClangModuleFile => Place::Common,
-        Kind::Language => Place::Refused,
-        Kind::SplitDwarf => Place::Refused,
-        Kind::Output => Place::Refused,
-        Kind::PassThrough => Place::Common,
-        Kind::PassThroughFlag => Place::Common,
-        Kind::PassThroughPath => Place::Common,
-        Kind::PreprocessorArgument => Place::Preprocessor,
-        Kind::PreprocessorArgumentFlag => Place::Preprocessor,
-        Kind::PreprocessorArgumentPath => Place::Preprocessor,
-        Kind::ProfileGenerate => Place::Refused,
-        Kind::ClangProfileUse => Place::Refused,
-        Kind::SerializeDiagnostics => Place::Common,
-        Kind::UnhashedFlag => Place::Unhashed,
-        Kind::Unhashed => Place::Unhashed,
-        Kind::PedanticFlag => Place::Refused,
-        Kind::Standard => Place::Refused,
-        Kind::XClang => Place::Refused,
-        Kind::ModuleOnlyFlag => Place::Refused,
-        Kind::ClangModuleOutput => Place::Refused,
-        Kind::IntegratedAs => Place::Refused,
-        Kind::NoIntegratedAs => Place::Refused,
-    }
+    places_of_kind(kind).1
 }
 
-/// Where the words of inner options of the sort go: a word that is no option to the common words; an unknown flag is
-/// refused.
-fn inner_place_of_sort(sort: Sort<Kind>) -> Place
-    ensures { result ≡ inner_place_of_sort sort }
+/// Where the words of the inner option go: a word that is no option to the common words; an unknown flag is refused.
+fn inner_place_of(option: &Argument<ArgData>) -> Place
+    ensures { result ≡ inner_place_of (seen kind_of word_of option.now) }
 {
-    match sort {
-        Sort::Raw => Place::Common,
-        Sort::Unknown => Place::Refused,
-        Sort::Known(kind) => inner_place_of_kind(kind),
+    match option {
+        Argument::Raw(_) => Place::Common,
+        Argument::UnknownFlag(_) => Place::Refused,
+        Argument::Flag(_, value) | Argument::WithValue(_, value, _) => {
+            inner_place_of_kind(value.kind())
+        }
     }
 }
 
@@ -66,21 +33,11 @@ fn inner_place_of_sort(sort: Sort<Kind>) -> Place
 pub(crate) struct Inside(pub(crate) Place);
 
 impl Test<ArgData> for Inside {
-    ghost use Rattle.scl_gnu_reading.specs.Inners.{goes_inside_to, sort_goes_inside_to};
+    ghost use Rattle.scl_gnu_reading.specs.Inners.{goes_inside_to};
 
     ghost passes = { λ test. goes_inside_to test.0 };
 
-    ghost may_pass = { λ test. sort_goes_inside_to test.0 };
-
-    ghost passes_by_sort = { λ test option none. none };
-
     fn passes(&self, option: &Argument<ArgData>) -> bool {
-        self.may_pass(sort_of(option))
-    }
-
-    fn may_pass(&self, sort: Sort<Kind>) -> bool
-        ensures { result ≡ sort_goes_inside_to self.now.0 sort }
-    {
-        inner_place_of_sort(sort) == self.0
+        inner_place_of(option) == self.0
     }
 }

@@ -1,9 +1,9 @@
 //! What an inner option says against caching.
 use super::place::inner_place_of_kind;
-use crate::msvc::judge::judged_flag;
+use crate::msvc::judge::judge_flag;
 use scl_args::{Argument, Mem, ReadArg};
 use scl_gnu_reading::gcc::ArgData;
-use scl_text::Refuses;
+use scl_text::Judge;
 use scl_text::refusal::Refusal;
 use std::alloc::Global;
 
@@ -11,12 +11,12 @@ use std::alloc::Global;
 #[derive(Clone, Copy)]
 pub(crate) struct ByInnerVerdict;
 
-impl Refuses<ArgData> for ByInnerVerdict {
+impl Judge<ArgData> for ByInnerVerdict {
     ghost use Rattle.scl_msvc_reading.specs.Inners.{inner_verdict};
 
     ghost verdict = { λ _. inner_verdict };
 
-    fn refusal(
+    fn judge(
         &self,
         _alloc: Global,
         _before: &[Argument<ArgData>],
@@ -25,7 +25,7 @@ impl Refuses<ArgData> for ByInnerVerdict {
         match option {
             Argument::Raw(_) | Argument::UnknownFlag(_) => Ok(None),
             Argument::Flag(flag, value) | Argument::WithValue(flag, value, _) => {
-                Ok(judged_flag(inner_place_of_kind(value.kind()), flag))
+                Ok(judge_flag(inner_place_of_kind(value.kind()), flag))
             }
         }
     }

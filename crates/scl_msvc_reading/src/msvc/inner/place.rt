@@ -1,9 +1,11 @@
 //! Where the words of inner options go.
 ghost use Rattle.std.specs.Prelude.{◌≡◌};
-ghost use Rattle.scl_msvc_reading.specs.Inners.{inner_place, inner_place_of_sort, sort_goes_inside_to};
+ghost use Rattle.scl_values.specs.Seen.{seen};
+ghost use Rattle.scl_gnu_reading.specs.Data.{kind_of, word_of};
+ghost use Rattle.scl_msvc_reading.specs.Inners.{inner_place, inner_place_of};
 
 use crate::msvc::place::Place;
-use scl_args::{Argument, Sort, Test, sort_of};
+use scl_args::{Argument, ReadArg, Test};
 use scl_gnu_reading::gcc::{ArgData, Kind};
 
 /// Where the words of an inner option of the kind go.
@@ -49,13 +51,15 @@ pub(crate) fn inner_place_of_kind(kind: Kind) -> Place
     }
 }
 
-/// Where the words of inner options of the sort go: a word without an owner to the common words.
-fn inner_place_of_sort(sort: Sort<Kind>) -> Place
-    ensures { result ≡ inner_place_of_sort sort }
+/// Where the words of the inner option go: a word without an owner to the common words.
+fn inner_place_of(option: &Argument<ArgData>) -> Place
+    ensures { result ≡ inner_place_of (seen kind_of word_of option.now) }
 {
-    match sort {
-        Sort::Raw | Sort::Unknown => Place::Common,
-        Sort::Known(kind) => inner_place_of_kind(kind),
+    match option {
+        Argument::Raw(_) | Argument::UnknownFlag(_) => Place::Common,
+        Argument::Flag(_, value) | Argument::WithValue(_, value, _) => {
+            inner_place_of_kind(value.kind())
+        }
     }
 }
 
@@ -64,21 +68,11 @@ fn inner_place_of_sort(sort: Sort<Kind>) -> Place
 pub(crate) struct Inside(pub(crate) Place);
 
 impl Test<ArgData> for Inside {
-    ghost use Rattle.scl_msvc_reading.specs.Inners.{goes_inside_to, sort_goes_inside_to};
+    ghost use Rattle.scl_msvc_reading.specs.Inners.{goes_inside_to};
 
     ghost passes = { λ test. goes_inside_to test.0 };
 
-    ghost may_pass = { λ test. sort_goes_inside_to test.0 };
-
-    ghost passes_by_sort = { λ test option none. none };
-
     fn passes(&self, option: &Argument<ArgData>) -> bool {
-        self.may_pass(sort_of(option))
-    }
-
-    fn may_pass(&self, sort: Sort<Kind>) -> bool
-        ensures { result ≡ sort_goes_inside_to self.now.0 sort }
-    {
-        inner_place_of_sort(sort) == self.0
+        inner_place_of(option) == self.0
     }
 }

@@ -1,13 +1,8 @@
-//! The fields of the records that the compilers' parsers give.
-use super::asked_by;
-use super::rows::{name_and_row, request_in};
-use crate::tests::records::{msvc, record_in};
-use crate::tests::words::joined;
-use scl_cl::{CCompilerImpl, ColorMode, Compiler, Mem, ParsedArguments, Request};
-use scl_gnu::clang::Clang;
-use scl_gnu::gcc::Gcc;
-use scl_small::diab::Diab;
-use scl_small::tasking_vx::TaskingVX;
+//! The fields of the records that the compilers read.
+use super::rows::{answer_to, request_and_rest};
+use crate::tests::words::printed;
+use scl_cl::args::Escaped;
+use scl_cl::{CompilerArguments, Mem, ParsedArguments};
 use std::alloc::Global;
 use std::process::Abort;
 use std::test::Fail;
@@ -59,115 +54,105 @@ clang-cl: /c a.c -Xclang -fprofile-generate => profile_generate yes
 clang-cl: cwd /w; /c a.c -fmodule-file=n=m.pcm -fsanitize-blacklist=b -Xclang -load -Xclang p.so -clang:-fprofile-use=q => extra_hash_files /w/m.pcm /w/b /w/p.so /w/q
 "#;
 
-fn parsed_by<C: CCompilerImpl>(
-    alloc: Global,
-    compiler: &C,
-    asked: &Request,
-) -> Result<ParsedArguments, Fail> {
-    let answer = compiler.parse_arguments(
-        alloc,
-        &asked.words,
-        &asked.directory,
-        &asked.environment,
-        &asked.view,
-    )?;
-    record_in(answer)
+/// A line of a field: its name, and what the record has there.
+fn push_field(alloc: Global, lines: &mut String, name: &str, text: &str) -> Mem<()> {
+    lines.push_str(format!(in alloc; "{name} {text}\n")?.as_str())
 }
 
-/// What the request's compiler reads.
-fn parsed(alloc: Global, asked: &Request) -> Result<ParsedArguments, Fail> {
-    match asked.compiler {
-        Compiler::Gcc => parsed_by(alloc, &Gcc::new(false), asked),
-        Compiler::Gxx => parsed_by(alloc, &Gcc::new(true), asked),
-        Compiler::Clang => parsed_by(alloc, &Clang::new(false), asked),
-        Compiler::Clangxx => parsed_by(alloc, &Clang::new(true), asked),
-        Compiler::Cl => parsed_by(alloc, &msvc(alloc, false)?, asked),
-        Compiler::ClangCl => parsed_by(alloc, &msvc(alloc, true)?, asked),
-        Compiler::Diab => parsed_by(alloc, &Diab::new(), asked),
-        Compiler::Tasking => parsed_by(alloc, &TaskingVX, asked),
+fn yes_or_no(is_so: bool) -> &'static str {
+    if is_so { "yes" } else { "no" }
+}
+
+/// What is on or off.
+fn push_switches(alloc: Global, lines: &mut String, record: &ParsedArguments) -> Mem<()> {
+    for (name, is_so) in [
+        ("double_dash_input", record.double_dash_input),
+        ("uses_external_assembler", record.uses_external_assembler),
+        ("msvc_show_includes", record.msvc_show_includes),
+        ("msvc_explicit_language", record.msvc_explicit_language),
+        ("profile_generate", record.profile_generate),
+        (
+            "suppress_rewrite_includes_only",
+            record.suppress_rewrite_includes_only,
+        ),
+    ] {
+        push_field(alloc, lines, name, yes_or_no(is_so))?;
     }
+    Ok(())
+}
+
+/// A word that may be missing.
+fn push_word(alloc: Global, lines: &mut String, name: &str, word: &Option<Vec<u8>>) -> Mem<()> {
+    let text = match word {
+        Some(word) => format!(in alloc; "{}", Escaped(word))?,
+        None => String::from_str(alloc, "none")?,
+    };
+    push_field(alloc, lines, name, text.as_str())
+}
+
+/// Words with a space between two.
+fn push_words(alloc: Global, lines: &mut String, name: &str, words: &[Vec<u8>]) -> Mem<()> {
+    push_field(alloc, lines, name, printed(alloc, words)?.as_str())
 }
 
 /// The outputs in the order of their names.
-fn outputs_of(alloc: Global, record: &ParsedArguments) -> Mem<Vec<u8>> {
-    let mut text = Vec::new(alloc);
+fn outputs_of(alloc: Global, record: &ParsedArguments) -> Mem<String> {
+    let mut text = String::new(alloc);
     for (name, output) in record.outputs.iter() {
-        let parting: &[u8] = if text.is_empty() { b"" } else { b", " };
-        let mark: &[u8] = if output.optional { b"? " } else { b" " };
-        text.extend_from_slice(parting)?;
-        text.extend_from_slice(name.as_bytes())?;
-        text.extend_from_slice(mark)?;
-        text.extend_from_slice(&output.path)?;
+        let parting = if text.is_empty() { "" } else { ", " };
+        let mark = if output.optional { "?" } else { "" };
+        let path = Escaped(&output.path);
+        text.push_str(format!(in alloc; "{parting}{name}{mark} {path}")?.as_str())?;
     }
     Ok(text)
 }
 
-fn yes_or_no(is_so: bool) -> &'static [u8] {
-    if is_so { b"yes" } else { b"no" }
+/// The fields that are words.
+fn push_lists(alloc: Global, lines: &mut String, record: &ParsedArguments) -> Mem<()> {
+    push_words(alloc, lines, "dependency_args", &record.dependency_args)?;
+    push_words(alloc, lines, "common_args", &record.common_args)?;
+    push_words(alloc, lines, "extra_hash_files", &record.extra_hash_files)?;
+    push_word(alloc, lines, "depfile", &record.depfile)?;
+    let hard = &record.too_hard_for_preprocessor_cache_mode;
+    push_word(alloc, lines, "too_hard_for_preprocessor_cache_mode", hard)
 }
 
-fn or_none(bytes: &Option<Vec<u8>>) -> &[u8] {
-    match bytes {
-        Some(bytes) => bytes,
-        None => b"none",
+/// The fields of a record, a line each behind an empty one.
+fn fields_of(alloc: Global, record: &ParsedArguments) -> Mem<String> {
+    let (language, color) = (record.language, record.color_mode);
+    let (input, outputs) = (Escaped(&record.input), outputs_of(alloc, record)?);
+    let mut lines = format!(in alloc;
+        "\nlanguage {language:?}\ncolor_mode {color:?}\ninput {input}\noutputs {outputs}\n"
+    )?;
+    push_switches(alloc, &mut lines, record)?;
+    push_lists(alloc, &mut lines, record)?;
+    Ok(lines)
+}
+
+/// Each of the fields that a row has stands among the lines.
+fn expect_lines(
+    rt: &(impl Abort + Alloc<A = Global>),
+    lines: &str,
+    row: &str,
+    fields: &str,
+) -> Mem<()> {
+    for wanted in fields.split(" | ") {
+        let line = format!(in rt.alloc(); "\n{wanted}\n")?;
+        assert!(rt; lines.contains(line.as_str()), "{wanted} of {row}");
     }
-}
-
-fn color_name(mode: ColorMode) -> &'static [u8] {
-    match mode {
-        ColorMode::Off => b"Off",
-        ColorMode::On => b"On",
-        ColorMode::Auto => b"Auto",
-    }
-}
-
-/// What the record has in a field of several words or outputs, or the name of its language.
-fn list(alloc: Global, record: &ParsedArguments, name: &str) -> Result<Vec<u8>, Fail> {
-    match name {
-        "outputs" => Ok(outputs_of(alloc, record)?),
-        "dependency_args" => Ok(joined(alloc, &record.dependency_args)?),
-        "common_args" => Ok(joined(alloc, &record.common_args)?),
-        "language" => Ok(format!(in alloc; "{:?}", record.language)?.into_bytes()),
-        "extra_hash_files" => Ok(joined(alloc, &record.extra_hash_files)?),
-        _ => Err("no field of this name")?,
-    }
-}
-
-/// What the record has in a field.
-fn field(alloc: Global, record: &ParsedArguments, name: &str) -> Result<Vec<u8>, Fail> {
-    let text = match name {
-        "input" => &record.input,
-        "depfile" => or_none(&record.depfile),
-        "color_mode" => color_name(record.color_mode),
-        "double_dash_input" => yes_or_no(record.double_dash_input),
-        "uses_external_assembler" => yes_or_no(record.uses_external_assembler),
-        "msvc_show_includes" => yes_or_no(record.msvc_show_includes),
-        "msvc_explicit_language" => yes_or_no(record.msvc_explicit_language),
-        "profile_generate" => yes_or_no(record.profile_generate),
-        "suppress_rewrite_includes_only" => yes_or_no(record.suppress_rewrite_includes_only),
-        "too_hard_for_preprocessor_cache_mode" => {
-            or_none(&record.too_hard_for_preprocessor_cache_mode)
-        }
-        _ => return list(alloc, record, name),
-    };
-    Ok(Vec::from_slice(alloc, text)?)
+    Ok(())
 }
 
 fn expect_fields(rt: &(impl Abort + Alloc<A = Global>), row: &str) -> Result<(), Fail> {
-    let (compiler, row) = name_and_row(row)?;
-    let (request, fields) = row.split_once(" => ").ok_or("no fields")?;
-    let request = request_in(rt.alloc(), compiler, request)?;
-    let asked = asked_by(rt.alloc(), request.as_bytes())?;
-    let record = parsed(rt.alloc(), &asked)?;
-    for wanted in fields.split(" | ") {
-        let (name, want) = wanted.split_once(' ').ok_or("no value")?;
-        let found = field(rt.alloc(), &record, name)?;
-        assert!(rt;
-            found.as_slice() == want.as_bytes(),
-            "{name} of {request:?}"
-        );
+    let (request, fields) = request_and_rest(rt.alloc(), row)?;
+    match answer_to(rt.alloc(), request.as_str())? {
+        CompilerArguments::Ok(compiled) => {
+            let lines = fields_of(rt.alloc(), &compiled.parsed)?;
+            Ok(expect_lines(rt, lines.as_str(), row, fields)?)
+        }
+        CompilerArguments::CannotCache(reason, _) => Err(reason)?,
+        CompilerArguments::NotCompilation => Err("no compilation")?,
     }
-    Ok(())
 }
 
 #[test]

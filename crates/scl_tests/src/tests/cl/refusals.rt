@@ -1,6 +1,5 @@
 //! What is refused: the reason that the program answers, and the text that stands beside it.
-use super::asked_by;
-use super::rows::{expect_answer, name_and_row, request_in};
+use super::rows::{answer_to, expect_answer, request_and_rest};
 use scl_cl::{Compilation, CompilerArguments};
 use std::alloc::Global;
 use std::process::Abort;
@@ -101,26 +100,21 @@ fn refusal_in(alloc: Global, answer: &CompilerArguments<Compilation>) -> Result<
     }
 }
 
-/// The reason for which a request is refused.
-fn refusal(alloc: Global, request: &str) -> Result<String, Fail> {
-    let asked = asked_by(alloc, request.as_bytes())?;
-    let answer = asked.compiler.answer(
-        alloc,
-        b"cc",
-        &asked.words,
-        &asked.directory,
-        &asked.environment,
-        &asked.view,
-    )?;
-    refusal_in(alloc, &answer)
+/// The library tells the reason and the text.
+fn expect_reason(
+    rt: &(impl Abort + Alloc<A = Global>),
+    request: &str,
+    want: &str,
+) -> Result<(), Fail> {
+    let answer = answer_to(rt.alloc(), request)?;
+    let refused = refusal_in(rt.alloc(), &answer)?;
+    assert!(rt; refused.as_str() == want, "of {request:?}");
+    Ok(())
 }
 
 fn expect_refusal(rt: &(impl Abort + Alloc<A = Global>), row: &str) -> Result<(), Fail> {
-    let (compiler, row) = name_and_row(row)?;
-    let (request, want) = row.split_once(" => ").ok_or("no reason")?;
-    let request = request_in(rt.alloc(), compiler, request)?;
-    let refused = refusal(rt.alloc(), request.as_str())?;
-    assert!(rt; refused.as_str() == want, "of {request:?}");
+    let (request, want) = request_and_rest(rt.alloc(), row)?;
+    expect_reason(rt, request.as_str(), want)?;
     let (reason, _text) = want.split_once(" (").unwrap_or((want, ""));
     let answer = format!(in rt.alloc(); "cannot-cache {reason}")?;
     expect_answer(rt, request.as_str(), answer.as_str())

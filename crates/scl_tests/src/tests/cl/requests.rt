@@ -1,88 +1,110 @@
 //! The lines of requests.
 use super::{asked_by, run_over};
-use scl_cl::{Compiler, Outcome};
+use crate::tests::words::{cut, pairs, with_line_ends};
+use scl_cl::{Compiler, Mem, Outcome, Request, View};
 use std::alloc::Global;
 use std::process::Abort;
 use std::test::Fail;
 
-/// Requests that are answered: none has a word that asks for a compilation.
-static ANSWERED: [&str; 12] = [
-    "compiler diab",
-    "compiler tasking\n",
-    "compiler gcc\nword \n",
-    "\n\nword a\n\ncompiler g++\n",
-    "compiler clang\ncwd /work\n",
-    "cwd \ncompiler clang++\n",
-    "compiler gcc\nfile a.h\tint\\x20a;\\x0a\n",
-    "compiler gcc\nfile \t\nfile a\t\n",
-    "compiler gcc\ndir include\nexists a.pdb\n",
-    "compiler gcc\nenv CL\t/DA#1\\x20/O2\nenv CL\t\n",
-    "compiler gcc\nmultiarch\nmultiarch\n",
-    "compiler gcc\nword \\xff\\x00~!\\x5c\nword a\nword a\n",
-];
+/// Requests with `|` for the end of a line, and what becomes of them: these are answered, as none has a word that asks for a
+/// compilation.
+static ANSWERED: &str = "
+compiler diab => answered
+compiler tasking| => answered
+compiler gcc|word | => answered
+||word a||compiler g++| => answered
+compiler clang|cwd /work| => answered
+cwd |compiler clang++| => answered
+compiler gcc|file a.h\tint\\x20a;\\x0a| => answered
+compiler gcc|file \t|file a\t| => answered
+compiler gcc|dir include|exists a.pdb| => answered
+compiler gcc|env CL\t/DA#1\\x20/O2|env CL\t| => answered
+compiler gcc|multiarch|multiarch| => answered
+compiler gcc|word \\xff\\x00~!\\x5c|word a|word a| => answered
+";
 
-/// Requests, and the number of the line that breaks a rule.
-static BROKEN: [(&str, u64); 16] = [
-    ("compiler diab\r\n", 1),
-    ("compiler diab\nword a b\n", 2),
-    ("compiler diab\nword a\tb\n", 2),
-    ("compiler diab\nword a\x7f\n", 2),
-    ("compiler diab\nword\n", 2),
-    ("compiler diab\n\n word a\n", 3),
-    ("compiler diab\nwords a\n", 2),
-    ("compiler diab\nword \\xFF\n", 2),
-    ("compiler diab\nword \\x4\n", 2),
-    ("compiler diab\nword \\\n", 2),
-    ("compiler diab\nword \\n41\n", 2),
-    ("compiler diab\nmultiarch \n", 2),
-    ("compiler diab\nmultiarch on\n", 2),
-    ("compiler diab\nword a\n\nword a b\nword\n", 4),
-    ("\ncompiler diab\n\nword a b\n", 4),
-    ("compiler gcc\nword a b\n", 2),
-];
+/// A line that breaks a rule is told by its number.
+static BROKEN: &str = "
+compiler diab\r| => bad line 1
+compiler diab|word a b| => bad line 2
+compiler diab|word a\tb| => bad line 2
+compiler diab|word a\x7f| => bad line 2
+compiler diab|word| => bad line 2
+compiler diab|| word a| => bad line 3
+compiler diab|words a| => bad line 2
+compiler diab|word \\xFF| => bad line 2
+compiler diab|word \\x4| => bad line 2
+compiler diab|word \\| => bad line 2
+compiler diab|word \\n41| => bad line 2
+compiler diab|multiarch | => bad line 2
+compiler diab|multiarch on| => bad line 2
+compiler diab|word a||word a b|word| => bad line 4
+|compiler diab||word a b| => bad line 4
+compiler gcc|word a b| => bad line 2
+";
 
 /// Two fields, not with one tab between them.
-static FIELDS: [(&str, u64); 8] = [
-    ("compiler diab\nfile a\n", 2),
-    ("compiler diab\nfile a b\n", 2),
-    ("compiler diab\nfile a\tb\tc\n", 2),
-    ("compiler diab\nfile\ta\n", 2),
-    ("compiler diab\nenv K\n", 2),
-    ("compiler diab\nenv K\tV\t\n", 2),
-    ("compiler diab\nenv K\tV\\x2F\n", 2),
-    ("compiler diab\ndir a\tb\n", 2),
-];
+static FIELDS: &str = "
+compiler diab|file a| => bad line 2
+compiler diab|file a b| => bad line 2
+compiler diab|file a\tb\tc| => bad line 2
+compiler diab|file\ta| => bad line 2
+compiler diab|env K| => bad line 2
+compiler diab|env K\tV\t| => bad line 2
+compiler diab|env K\tV\\x2F| => bad line 2
+compiler diab|dir a\tb| => bad line 2
+";
 
 /// A compiler that stands twice, not at all, or is not served.
-static COMPILERS: [(&str, u64); 13] = [
-    ("", 1),
-    ("\n\n", 3),
-    ("word a\nword b", 3),
-    ("\nword a\n", 3),
-    ("compiler gcc\ncompiler gcc\n", 2),
-    ("compiler diab\ncompiler diab\n", 2),
-    ("compiler\n", 1),
-    ("compiler \n", 1),
-    ("compiler icc\n", 1),
-    ("compiler nvcc\n", 1),
-    ("compiler clang-cl \n", 1),
-    ("compiler gcc \n", 1),
-    ("compiler \\x67cc\n", 1),
-];
+static COMPILERS: &str = "
+ => bad line 1
+|| => bad line 3
+word a|word b => bad line 3
+|word a| => bad line 3
+compiler gcc|compiler gcc| => bad line 2
+compiler diab|compiler diab| => bad line 2
+compiler| => bad line 1
+compiler | => bad line 1
+compiler icc| => bad line 1
+compiler nvcc| => bad line 1
+compiler clang-cl | => bad line 1
+compiler gcc | => bad line 1
+compiler \\x67cc| => bad line 1
+";
 
 /// A directory that stands twice.
-static DIRECTORIES: [(&str, u64); 3] = [
-    ("compiler gcc\ncwd a\ncwd a\n", 3),
-    ("cwd a\ncwd a\n", 2),
-    ("cwd a\ncompiler diab\ncwd a\n", 3),
-];
+static DIRECTORIES: &str = "
+compiler gcc|cwd a|cwd a| => bad line 3
+cwd a|cwd a| => bad line 2
+cwd a|compiler diab|cwd a| => bad line 3
+";
 
-fn expect_bad_lines(rt: &(impl Abort + Alloc<A = Global>), rows: &[(&str, u64)]) {
-    for (request, number) in rows {
-        let (outcome, written) = run_over(rt.alloc(), request.as_bytes());
-        assert!(rt; outcome == Outcome::BadLine(*number), "of {request:?}");
-        assert!(rt; written.is_empty());
+/// What is written of a request: nothing, unless it is answered.
+fn written_at(outcome: &Outcome) -> &'static [u8] {
+    if *outcome == Outcome::Answered {
+        b"not-compilation\n"
+    } else {
+        b""
     }
+}
+
+fn expect_outcome(rt: &(impl Abort + Alloc<A = Global>), row: &str) -> Result<(), Fail> {
+    let (request, want) = row.split_once(" => ").ok_or("no outcome")?;
+    let request = with_line_ends(rt.alloc(), request)?;
+    let (outcome, written) = run_over(rt.alloc(), &request);
+    let text = outcome.to_string(rt.alloc())?;
+    assert!(rt; text.as_str() == want, "of {row:?}");
+    assert!(rt; written.as_slice() == written_at(&outcome), "of {row:?}");
+    Ok(())
+}
+
+fn expect_outcomes(rt: &(impl Abort + Alloc<A = Global>), rows: &str) -> Result<(), Fail> {
+    for row in rows.lines() {
+        if !row.is_empty() {
+            expect_outcome(rt, row)?;
+        }
+    }
+    Ok(())
 }
 
 /// A request whose words are clang's own and inner ones.
@@ -122,32 +144,44 @@ fn every_beginning_of_a_request_is_answered_or_its_last_line_is_bad(rt: HostRunt
 }
 
 #[test]
-fn lines_of_each_kind_are_answered(rt: HostRuntime) {
-    for request in ANSWERED {
-        let (outcome, written) = run_over(rt.alloc(), request.as_bytes());
-        assert!(rt; outcome == Outcome::Answered, "of {request:?}");
-        assert!(rt; written.as_slice() == b"not-compilation\n".as_slice());
-    }
+fn lines_of_each_kind_are_answered(rt: HostRuntime) -> Result<(), Fail> {
+    expect_outcomes(&rt, ANSWERED)
 }
 
 #[test]
-fn a_line_that_breaks_a_rule_is_told_by_its_number(rt: HostRuntime) {
-    expect_bad_lines(&rt, &BROKEN);
+fn a_line_that_breaks_a_rule_is_told_by_its_number(rt: HostRuntime) -> Result<(), Fail> {
+    expect_outcomes(&rt, BROKEN)
 }
 
 #[test]
-fn two_fields_have_one_tab_between_them(rt: HostRuntime) {
-    expect_bad_lines(&rt, &FIELDS);
+fn two_fields_have_one_tab_between_them(rt: HostRuntime) -> Result<(), Fail> {
+    expect_outcomes(&rt, FIELDS)
 }
 
 #[test]
-fn the_compiler_stands_once_and_is_served(rt: HostRuntime) {
-    expect_bad_lines(&rt, &COMPILERS);
+fn the_compiler_stands_once_and_is_served(rt: HostRuntime) -> Result<(), Fail> {
+    expect_outcomes(&rt, COMPILERS)
 }
 
 #[test]
-fn the_directory_stands_at_most_once(rt: HostRuntime) {
-    expect_bad_lines(&rt, &DIRECTORIES);
+fn the_directory_stands_at_most_once(rt: HostRuntime) -> Result<(), Fail> {
+    expect_outcomes(&rt, DIRECTORIES)
+}
+
+fn expect_lists(rt: &(impl Abort + Alloc<A = Global>), request: &Request) -> Mem<()> {
+    let words = cut(rt.alloc(), b"-c ")?;
+    assert!(rt; request.words.as_slice() == words.as_slice());
+    let variables = pairs(rt.alloc(), &[("A", "x\ty"), ("B", "")])?;
+    assert!(rt; request.environment.as_slice() == variables.as_slice());
+    Ok(())
+}
+
+fn expect_view(rt: &impl Abort, view: &View) {
+    assert!(rt; view.file(b"a//b") == Some(b"two".as_slice()));
+    assert!(rt; view.file(b"b") == None);
+    assert!(rt; view.is_dir(b"d") && !view.is_dir(b"e"));
+    assert!(rt; view.exists(b"e") && view.exists(b"a/b") && !view.exists(b"f"));
+    assert!(rt; view.multiarch());
 }
 
 #[test]
@@ -157,21 +191,8 @@ fn a_request_has_what_its_lines_say(rt: HostRuntime) -> Result<(), Fail> {
     let request = asked_by(rt.alloc(), bytes)?;
     assert!(rt; request.compiler == Compiler::Gxx);
     assert!(rt; request.directory.as_slice() == b"/w d".as_slice());
-    assert!(rt; request.words.len() == 2);
-    assert!(rt; request.words[0].as_slice() == b"-c".as_slice());
-    assert!(rt; request.words[1].is_empty());
-    assert!(rt; request.environment.len() == 2);
-    assert!(rt; request.environment[0].0.as_slice() == b"A".as_slice());
-    assert!(rt; request.environment[0].1.as_slice() == b"x\ty".as_slice());
-    assert!(rt; request.environment[1].0.as_slice() == b"B".as_slice());
-    assert!(rt; request.environment[1].1.is_empty());
-    assert!(rt; request.view.file(b"a//b") == Some(b"two".as_slice()));
-    assert!(rt; request.view.file(b"b") == None);
-    assert!(rt; request.view.is_dir(b"d") && !request.view.is_dir(b"e"));
-    assert!(rt;
-        request.view.exists(b"e") && request.view.exists(b"a/b") && !request.view.exists(b"f")
-    );
-    assert!(rt; request.view.multiarch());
+    expect_lists(&rt, &request)?;
+    expect_view(&rt, &request.view);
     Ok(())
 }
 

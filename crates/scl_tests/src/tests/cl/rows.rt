@@ -2,8 +2,8 @@
 //! one line; before it the words of the request, and before those its other lines, each ended by `; `, with a space between
 //! two fields. Words stand between spaces, so two spaces, or one at the end, hold an empty word. Refusals with a text beside
 //! the reason stand in `refusals`, where the text is compared too.
-use super::run_over;
-use scl_cl::{Compiler, Mem, Outcome};
+use super::{asked_by, run_over};
+use scl_cl::{Compilation, Compiler, CompilerArguments, Mem, Outcome};
 use std::alloc::Global;
 use std::process::Abort;
 use std::test::Fail;
@@ -125,7 +125,7 @@ fn push_lines(lines: &mut String, keyword: &str, words: &str) -> Mem<()> {
 }
 
 /// The request of a row.
-pub(super) fn request_of(
+pub(crate) fn request_of(
     alloc: Global,
     compiler: Compiler,
     lines: &str,
@@ -147,13 +147,6 @@ fn text_of(alloc: Global, answer: &str) -> Result<String, Fail> {
     Ok(text)
 }
 
-/// The compiler that a row of several compilers names, and the rest of the row.
-pub(super) fn name_and_row(row: &str) -> Result<(Compiler, &str), Fail> {
-    let (name, row) = row.split_once(": ").ok_or("no name")?;
-    let compiler = Compiler::named(name.as_bytes()).ok_or("no compiler of this name")?;
-    Ok((compiler, row))
-}
-
 /// A line of a request, which a row writes with a space between two fields.
 fn other_line(alloc: Global, line: &str) -> Result<String, Fail> {
     let (keyword, fields) = line.split_once(' ').unwrap_or((line, ""));
@@ -164,7 +157,7 @@ fn other_line(alloc: Global, line: &str) -> Result<String, Fail> {
 }
 
 /// The request of a row: its other lines and its words.
-pub(super) fn request_in(alloc: Global, compiler: Compiler, row: &str) -> Result<String, Fail> {
+fn request_in(alloc: Global, compiler: Compiler, row: &str) -> Result<String, Fail> {
     let (others, words) = row.rsplit_once("; ").unwrap_or(("", row));
     let mut lines = String::new(alloc);
     if !others.is_empty() {
@@ -173,6 +166,37 @@ pub(super) fn request_in(alloc: Global, compiler: Compiler, row: &str) -> Result
         }
     }
     request_of(alloc, compiler, lines.as_str(), words)
+}
+
+/// The request of a row that begins with its compiler's name.
+pub(super) fn named_request(alloc: Global, row: &str) -> Result<String, Fail> {
+    let (name, row) = row.split_once(": ").ok_or("no name")?;
+    let compiler = Compiler::named(name.as_bytes()).ok_or("no compiler of this name")?;
+    request_in(alloc, compiler, row)
+}
+
+/// The request of such a row, and what stands behind ` => `.
+pub(super) fn request_and_rest<'a>(alloc: Global, row: &'a str) -> Result<(String, &'a str), Fail> {
+    let (row, rest) = row.split_once(" => ").ok_or("nothing behind an arrow")?;
+    Ok((named_request(alloc, row)?, rest))
+}
+
+/// What the library answers to a request.
+pub(super) fn answer_to(
+    alloc: Global,
+    request: &str,
+) -> Result<CompilerArguments<Compilation>, Fail> {
+    let asked = asked_by(alloc, request.as_bytes())?;
+    Ok(
+        asked.compiler.answer(
+            alloc,
+            b"cc",
+            &asked.words,
+            &asked.directory,
+            &asked.environment,
+            &asked.view,
+        )?,
+    )
 }
 
 /// The program's answer to a request is the one that a row has.

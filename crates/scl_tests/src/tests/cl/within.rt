@@ -1,20 +1,16 @@
 //! Answers to command lines of at most so many words.
 use super::asked_by;
-use super::rows::{nested_files, request_of};
-use scl_cl::{Compilation, Compiler, CompilerArguments, Mem, Request, TooManyWords};
+use super::rows::{named_request, nested_files};
+use scl_cl::{Compilation, CompilerArguments, Mem, Request, TooManyWords};
 use std::alloc::Global;
 use std::process::Abort;
 use std::test::Fail;
 
-/// A request of words, with so many files from f0 on, each of which names the next twice, and a last one of one word.
-fn with_doubling_files(
-    alloc: Global,
-    files: u32,
-    compiler: Compiler,
-    words: &str,
-) -> Result<Request, Fail> {
-    let lines = nested_files(alloc, files, 2, "-DA")?;
-    let request = request_of(alloc, compiler, lines.as_str(), words)?;
+/// What the request of a row asks, with so many files from f0 on, each of which names the next twice, and a last one of one
+/// word.
+fn with_doubling_files(alloc: Global, files: u32, row: &str) -> Result<Request, Fail> {
+    let mut request = named_request(alloc, row)?;
+    request.push_str(nested_files(alloc, files, 2, "-DA")?.as_str())?;
     asked_by(alloc, request.as_bytes())
 }
 
@@ -35,7 +31,7 @@ fn answer_within(
     )
 }
 
-/// The request is answered where so many words may come, and not where one less may.
+/// The words are answered where so many may come, and not where one less may.
 fn expect_words(
     rt: &(impl Abort + Alloc<A = Global>),
     asked: &Request,
@@ -44,50 +40,45 @@ fn expect_words(
     let enough = answer_within(rt.alloc(), asked, count)?;
     assert!(rt;
         matches!(&enough, Ok(CompilerArguments::Ok(_))),
-        "of {:?}",
-        &asked.words
+        "of {count}"
     );
     let few = answer_within(rt.alloc(), asked, count.saturating_sub(1))?;
-    assert!(rt; matches!(&few, Err(TooManyWords)), "of {:?}", &asked.words);
+    assert!(rt; matches!(&few, Err(TooManyWords)), "of {count}");
     Ok(())
 }
 
-/// Words beside ten files that double, and how many they are with the files in place: `@f0` stands for 1,024.
-static COUNTED: [(Compiler, &str, usize); 5] = [
-    (Compiler::Gcc, "-c a.c @f0", 1026),
-    (Compiler::Clang, "-c a.c @f0", 1026),
-    (Compiler::Tasking, "-c a.c", 2),
-    (Compiler::Diab, "-c a.c -DA", 3),
-    (Compiler::Cl, "/c a.c /DA /DB", 4),
-];
+/// Rows as those of the program beside ten files that double, and how many words they are with the files in place: `@f0`
+/// stands for 1,024.
+static COUNTED: &str = r#"
+gcc: -c a.c @f0 => 1026
+clang: -c a.c @f0 => 1026
+tasking: -c a.c => 2
+diab: -c a.c -DA => 3
+cl: /c a.c /DA /DB => 4
+clang-cl: /c a.c -clang:@f0 => 1024
+cl: env CL /DA\x20/DB; env _CL_ /DC; /c a.c => 5
+"#;
+
+fn expect_count(rt: &(impl Abort + Alloc<A = Global>), row: &str) -> Result<(), Fail> {
+    let (row, count) = row.split_once(" => ").ok_or("no number")?;
+    let count: usize = count.parse().ok().ok_or("no number of words")?;
+    let asked = with_doubling_files(rt.alloc(), 10, row)?;
+    expect_words(rt, &asked, count)
+}
 
 #[test]
-fn words_are_counted_with_files_in_place(rt: HostRuntime) -> Result<(), Fail> {
-    for (compiler, words, count) in COUNTED {
-        let asked = with_doubling_files(rt.alloc(), 10, compiler, words)?;
-        expect_words(&rt, &asked, count)?;
+fn words_are_counted_with_files_and_variables_in_place(rt: HostRuntime) -> Result<(), Fail> {
+    for row in COUNTED.lines() {
+        if !row.is_empty() {
+            expect_count(&rt, row)?;
+        }
     }
     Ok(())
 }
 
 #[test]
-fn inner_words_are_counted(rt: HostRuntime) -> Result<(), Fail> {
-    let asked = with_doubling_files(rt.alloc(), 10, Compiler::ClangCl, "/c a.c -clang:@f0")?;
-    expect_words(&rt, &asked, 1024)
-}
-
-#[test]
-fn words_of_variables_are_counted(rt: HostRuntime) -> Result<(), Fail> {
-    let request = b"compiler cl\nword /c\nword a.c\nenv CL\t/DA\\x20/DB\nenv _CL_\t/DC\n";
-    expect_words(&rt, &asked_by(rt.alloc(), request)?, 5)
-}
-
-#[test]
 fn a_broken_variable_gives_no_words(rt: HostRuntime) -> Result<(), Fail> {
-    let asked = asked_by(
-        rt.alloc(),
-        b"compiler cl\nword /c\nword a.c\nenv CL\t\\xff\n",
-    )?;
+    let asked = with_doubling_files(rt.alloc(), 0, "cl: env CL \\xff; /c a.c")?;
     let answer = answer_within(rt.alloc(), &asked, 0)?;
     let broken = "CL environment variable value broken";
     assert!(rt;
@@ -98,7 +89,7 @@ fn a_broken_variable_gives_no_words(rt: HostRuntime) -> Result<(), Fail> {
 
 #[test]
 fn an_expansion_past_its_bound_ends_at_once(rt: HostRuntime) -> Result<(), Fail> {
-    let asked = with_doubling_files(rt.alloc(), 200, Compiler::Gcc, "-c a.c @f0")?;
+    let asked = with_doubling_files(rt.alloc(), 200, "gcc: -c a.c @f0")?;
     let few = answer_within(rt.alloc(), &asked, 1000)?;
     assert!(rt; matches!(&few, Err(TooManyWords)));
     Ok(())

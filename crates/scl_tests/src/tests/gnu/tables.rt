@@ -14,6 +14,7 @@ use scl_gnu::gcc::{self, ArgData, Gcc, Kind};
 use scl_text::records::{CCompilerKind, CompilerArguments, ParsedArguments};
 use scl_text::{CCompilerImpl, View};
 use std::alloc::Global;
+use std::process::Abort;
 use std::test::Fail;
 
 static CUDA: [ArgInfo<ArgData>; 2] = [
@@ -43,42 +44,45 @@ fn answer(
     gcc::parse_arguments(alloc, &words, b"", tables, false, CCompilerKind::Gcc, view)
 }
 
-fn command_line(alloc: Global, text: &[u8]) -> Result<Vec<u8>, Fail> {
+fn command_line(alloc: Global, text: &str) -> Result<Vec<u8>, Fail> {
     let view = View::new(alloc);
-    let record = record_in(answer(alloc, text, true, &view)?)?;
+    let record = record_in(answer(alloc, text.as_bytes(), true, &view)?)?;
     let gcc = Gcc::new(false);
     let (command, _) = gcc.generate_compile_commands(alloc, b"gcc", &record, b"", &[], &view)?;
     Ok(joined(alloc, &command.arguments)?)
 }
 
-#[test]
-fn a_third_table_has_the_last_word(rt: HostRuntime) -> Result<(), Fail> {
-    let rows: [(&[u8], &[u8]); 2] = [
-        (
-            b"-c a.c --threads 2 -arch sm_50 -arch sm_60",
-            b"-x c -c -o a.o --threads 2 -arch sm_50 -arch sm_60 -fdiagnostics-color=always a.c",
-        ),
-        (
-            b"-c a.c -arch sm_50 -include-pch x.pch",
-            b"-x c -c -o a.o -include-pch x.pch -arch sm_50 -fdiagnostics-color=always a.c",
-        ),
-    ];
-    for (text, want) in rows {
-        let command = command_line(rt.alloc(), text)?;
-        assert!(rt; command.as_slice() == want);
-    }
+fn expect_command(
+    rt: &(impl Abort + Alloc<A = Global>),
+    text: &str,
+    want: &str,
+) -> Result<(), Fail> {
+    let command = command_line(rt.alloc(), text)?;
+    assert!(rt; command.as_slice() == want.as_bytes(), "of {text}");
     Ok(())
 }
 
 #[test]
+fn a_third_table_has_the_last_word(rt: HostRuntime) -> Result<(), Fail> {
+    expect_command(
+        &rt,
+        "-c a.c --threads 2 -arch sm_50 -arch sm_60",
+        "-x c -c -o a.o --threads 2 -arch sm_50 -arch sm_60 -fdiagnostics-color=always a.c",
+    )?;
+    expect_command(
+        &rt,
+        "-c a.c -arch sm_50 -include-pch x.pch",
+        "-x c -c -o a.o -include-pch x.pch -arch sm_50 -fdiagnostics-color=always a.c",
+    )
+}
+
+#[test]
 fn without_it_two_architectures_are_refused(rt: HostRuntime) -> Result<(), Fail> {
-    let view = View::new(rt.alloc());
     let text = b"-c a.c --threads 2 -arch sm_50 -arch sm_60";
-    let CompilerArguments::CannotCache(reason, beside) = answer(rt.alloc(), text, false, &view)?
-    else {
-        return Err("not refused")?;
-    };
-    assert!(rt; reason == "multiple different -arch, and SCCACHE_CACHE_MULTIARCH not set");
-    assert!(rt; beside.is_none());
+    let answer = answer(rt.alloc(), text, false, &View::new(rt.alloc()))?;
+    let several = "multiple different -arch, and SCCACHE_CACHE_MULTIARCH not set";
+    assert!(rt;
+        matches!(&answer, CompilerArguments::CannotCache(reason, None) if *reason == several)
+    );
     Ok(())
 }

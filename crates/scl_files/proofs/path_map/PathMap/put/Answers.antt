@@ -20,7 +20,7 @@ invariant_of-self g c =
     let below = place-below c.args.path.items items (length items) c.in-Some.at (omega arith) at in
     let entry = c.index_mut.result.now in
     let is : slice_get items c.in-Some.at ≡ Some entry = slice_get_read items (length items) c.in-Some.at entry refl below c.index_mut.ensures.value in
-    linked-set items c.in-Some.at entry c.args.value c.self.inside.newest is c.self.invariant
+    linked-set items c.in-Some.at entry c.args.value c.self.inside.tree c.self.inside.newest is c.self.invariant
 
 pub returns-in-Some-clause-ok : goal.returns-in-Some-clause-ok
 returns-in-Some-clause-ok g c =

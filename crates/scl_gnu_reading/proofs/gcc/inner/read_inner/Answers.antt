@@ -6,7 +6,7 @@ use Rattle.scl_gnu_reading.proofs.gcc.inner.read_inner.Goals as goal
 pub returns-then-is_empty : goal.returns-then-is_empty
 returns-then-is_empty g c =
     let P : List (Vec ℕ Global) → Type 0 = λ ws. (length ws == 0) ≡ true in
-    let none = none_inside g.J.Judge.empty (g.J.Judge.verdict c.args.judge.now) g.J.Judge.dangling c.args.cwd.now c.args.view.now c.args.words.items (subst P c.as_slice.ensures.value (sym c.is_empty.ensures ∙ c.if-is_empty.true)) in
+    let none = none_inside (g.J.Judge.verdict c.args.judge.now) c.args.cwd.now c.args.view.now c.args.words.items (subst P c.as_slice.ensures.value (sym c.is_empty.ensures ∙ c.if-is_empty.true)) in
     rw (c.in_ok-new.ensures, c.new.ensures.items) (sym none)
 
 pub returns : goal.returns

@@ -1,0 +1,20 @@
+-- The answer to a request's bytes.
+use Rattle.std.specs.Prelude.{◌≡◌, ℕ, List, Result, Ok, Err}
+use Rattle.scl_cl.specs.Lines.{lines_of}
+use Rattle.scl_cl.specs.Requests.{Request, request_in}
+use Rattle.scl_cl.specs.Answers.{answer_to, text_of, AnswerIsReadAgain}
+
+abbrev pub text_for : Result Request ℕ → Result (List ℕ) ℕ
+text_for (Ok request) = Ok (text_of (answer_to request))
+text_for (Err n) = Err n
+
+-- the text of the answer to the request that the bytes make, or the number of their bad line
+abbrev pub program_answer : List ℕ → Result (List ℕ) ℕ
+program_answer bytes = text_for (request_in (lines_of bytes))
+
+-- the text is that of the answer to the request that the bytes make, and where that is a command, whose words stand in the lines `arg`, it is read again
+pub record IsTextReadAgain (bytes text : List ℕ) : Type 0 where
+  pub request : Request
+  pub request_is : request_in (lines_of bytes) ≡ Ok request
+  pub text_is : text ≡ text_of (answer_to request)
+  pub read_again : AnswerIsReadAgain request

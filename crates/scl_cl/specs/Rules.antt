@@ -1,0 +1,37 @@
+-- The rules of a compiler that is served.
+use Rattle.std.specs.Prelude.{ℕ, Bool, List, Option, Result}
+use Rattle.scl_files.specs.Views.{Viewed}
+use Rattle.scl_text.specs.Records.{Parsed, Verdict}
+use Rattle.scl_text.specs.declared.records.Cacheable.{Cacheable}
+use Rattle.scl_cl.specs.declared.compiler.Compiler.{Compiler}
+use Rattle.scl_cl.specs.Requests.{asked}
+use Rattle.scl_cl.specs.Answers.{reading_by, command_by, environment_by, kept_by, read_again_by, runs_by}
+use Rattle.scl_cl.specs.Within.{command_lines_by}
+
+-- what each of its answers is; a command line is given by its words, directory, environment and files
+pub record Rules : Type 1 where
+  -- what a command line says
+  pub reading : List (List ℕ) → List ℕ → List (List ℕ × List ℕ) → Viewed → Result Parsed Verdict
+  -- the words of the command for what was read, if it has an output `obj`
+  pub command : Parsed → Option (List (List ℕ))
+  -- the environment that the command gets
+  pub environment : List (List ℕ × List ℕ) → List (List ℕ × List ℕ)
+  -- whether the outcome of what was read may be kept
+  pub cacheable : List (List ℕ) → List ℕ → List (List ℕ × List ℕ) → Viewed → Parsed → Cacheable
+  -- what it is for words to be read again as what was read
+  pub is_read_again : List (List ℕ) → List ℕ → List (List ℕ × List ℕ) → Viewed → Parsed → List (List ℕ) → Type 0
+  -- the words of the preprocessor's runs for what was read
+  pub runs : (may_dist rewrites cache_mode : Bool) → Parsed → List (List (List ℕ))
+  -- the command lines in which response files are put in place, given and inner ones
+  pub command_lines : List (List ℕ) → List ℕ → List (List ℕ × List ℕ) → Viewed → List (List (List ℕ))
+
+abbrev pub rules_of : Compiler → Rules
+rules_of compiler = record {
+  reading = λ words directory environment view. reading_by compiler (asked compiler words directory environment view);
+  command = command_by compiler;
+  environment = environment_by compiler;
+  cacheable = λ words directory environment view. kept_by compiler (asked compiler words directory environment view);
+  is_read_again = λ words directory environment view. read_again_by compiler (asked compiler words directory environment view);
+  runs = runs_by compiler;
+  command_lines = λ words directory environment view. command_lines_by compiler (asked compiler words directory environment view);
+}

@@ -1,0 +1,74 @@
+//! What is asked of a compiler, whichever of the served ones it is.
+ghost use Rattle.std.specs.Prelude.{IfOk};
+ghost use Rattle.scl_cl.specs.Rules.{rules_of};
+
+use crate::compiler::Compiler;
+use crate::within::CommandLines;
+use scl_gnu::clang::Clang;
+use scl_gnu::gcc::Gcc;
+use scl_msvc::msvc::Msvc;
+use scl_small::diab::Diab;
+use scl_small::tasking_vx::TaskingVX;
+use scl_text::{CCompilerImpl, ExpansionKind, Mem};
+use std::alloc::Global;
+
+/// What can be asked of every compiler that is served. A query holds what it is asked about: words, a record, settings.
+pub trait Query: Sized {
+    ghost use Rattle.std.specs.Prelude.{IfOk};
+    ghost use Rattle.scl_text.specs.Commands.{command_by};
+    ghost use Rattle.scl_cl.specs.Rules.{Rules};
+    ghost use Rattle.scl_cl.specs.Within.{command_lines_in};
+
+    /// What answers it.
+    type Answer;
+
+    /// What it gives by the rules of a compiler.
+    ghost gives: { Self → Rules → Self.Answer → Type 0 };
+
+    /// The answer of a compiler that puts response files in place in these command lines. It fails only for want of memory.
+    fn ask<C: CCompilerImpl>(
+        self,
+        alloc: Global,
+        compiler: &C,
+        command_lines: CommandLines,
+    ) -> Mem<Self::Answer>
+        ensures { IfOk result (λ answer. gives self (record {
+          reading = C.reading compiler.now;
+          command = command_by (C.command compiler.now);
+          environment = C.environment compiler.now;
+          cacheable = λ words directory environment view parsed. C.cacheable compiler.now parsed directory view;
+          is_read_again = C.is_read_again compiler.now;
+          runs = C.runs compiler.now;
+          command_lines = command_lines_in command_lines;
+        }) answer) };
+}
+
+impl Compiler {
+    /// The answer to a query, by the rules of the compiler with this name, of which no version is known (docs/RULES.md,
+    /// Compilers). It fails only for want of memory.
+    pub fn ask<Q: Query>(self, alloc: Global, query: Q) -> Mem<Q::Answer>
+        ensures { IfOk result (λ answer. Q.gives query (rules_of self) answer) }
+    {
+        let gnu = CommandLines::Expanded(ExpansionKind::Gnu);
+        match self {
+            Compiler::Gcc | Compiler::Gxx => {
+                let gcc = Gcc::new(matches!(self, Compiler::Gxx));
+                query.ask(alloc, &gcc, gnu)
+            }
+            Compiler::Clang | Compiler::Clangxx => {
+                let clang = Clang::new(matches!(self, Compiler::Clangxx));
+                query.ask(alloc, &clang, gnu)
+            }
+            Compiler::Cl | Compiler::ClangCl => {
+                let is_clang = matches!(self, Compiler::ClangCl);
+                let cl = Msvc::new(is_clang, String::new(alloc));
+                query.ask(alloc, &cl, CommandLines::Msvc { is_clang })
+            }
+            Compiler::Diab => {
+                let command_lines = CommandLines::Expanded(ExpansionKind::Diab);
+                query.ask(alloc, &Diab::new(), command_lines)
+            }
+            Compiler::Tasking => query.ask(alloc, &TaskingVX, CommandLines::Given),
+        }
+    }
+}
