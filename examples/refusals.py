@@ -1,13 +1,14 @@
 #!/usr/bin/env python3
 """Refuses each request for memory of a run in turn, and fails each read and each write in turn, and checks what the
-program says: status 3 and nothing written where memory was refused, status 4 and nothing written where a read failed, status 4
+program says: status 3 and nothing written where memory was refused, the whole answer where a block could not be made smaller
+(it stays as it is), status 4 and nothing written where a read failed, status 4
 and a beginning of the answer, less than the whole, where a write failed.
 
 usage: examples/refusals.py PATH_OF_CCLINE [REQUEST_FILE ..]   (it needs cc; without files: requests of its own)
        examples/refusals.py --calls PATH_OF_REFUSALS
 
 The second form refuses each request for memory of the program `refusals` in turn: the call that made it, and no other,
-says `out of memory`.
+says `out of memory`, or, where a block could not be made smaller, all calls are done.
 
 Status 0: each run said what it should; 1: one did not, and what it said is printed; 64: called wrongly.
 """
@@ -21,34 +22,40 @@ SHIM = r"""
 #define _GNU_SOURCE
 #include <dlfcn.h>
 #include <errno.h>
+#include <malloc.h>
 #include <stdlib.h>
 #include <unistd.h>
 static long wanted(const char *name) { const char *text = getenv(name); return text ? atol(text) : 0; }
 static int hit(const char *name, long *count) { long at = wanted(name); return at && ++*count == at; }
 static long memory, reads, writes;
+/* The size that was asked for stands in a block's last bytes, behind those of the program. */
+static size_t *size_of(void *block) { return (size_t *)((char *)block + malloc_usable_size(block)) - 1; }
+static void *sized(void *block, size_t size) { if (block) *size_of(block) = size; return block; }
 void *malloc(size_t size) {
     static void *(*real)(size_t);
     if (!real) real = dlsym(RTLD_NEXT, "malloc");
     if (hit("REFUSE_MEMORY", &memory)) { write(2, "#", 1); return 0; }
-    return real(size);
+    return sized(real(size + sizeof(size_t)), size);
 }
 void *realloc(void *old, size_t size) {
     static void *(*real)(void *, size_t);
     if (!real) real = dlsym(RTLD_NEXT, "realloc");
-    if (hit("REFUSE_MEMORY", &memory)) { write(2, "#", 1); return 0; }
-    return real(old, size);
+    if (hit("REFUSE_MEMORY", &memory)) { write(2, old && size <= *size_of(old) ? "~" : "#", 1); return 0; }
+    return sized(real(old, size + sizeof(size_t)), size);
 }
 int posix_memalign(void **out, size_t align, size_t size) {
     static int (*real)(void **, size_t, size_t);
     if (!real) real = dlsym(RTLD_NEXT, "posix_memalign");
     if (hit("REFUSE_MEMORY", &memory)) { write(2, "#", 1); return ENOMEM; }
-    return real(out, align, size);
+    int status = real(out, align, size + sizeof(size_t));
+    if (!status) sized(*out, size);
+    return status;
 }
 void *aligned_alloc(size_t align, size_t size) {
     static void *(*real)(size_t, size_t);
     if (!real) real = dlsym(RTLD_NEXT, "aligned_alloc");
     if (hit("REFUSE_MEMORY", &memory)) { write(2, "#", 1); return 0; }
-    return real(align, size);
+    return sized(real(align, size + sizeof(size_t)), size);
 }
 ssize_t read(int file, void *to, size_t size) {
     static ssize_t (*real)(int, void *, size_t);
@@ -88,17 +95,18 @@ def run(program, shim, request, **variables):
 
 
 def tries(program, shim, request, whole, variable, status, text, check):
-    """Fails each call of a kind in turn, until a run meets none; gives how many there were."""
-    number = 0
+    """Fails each call of a kind in turn, until a run meets none; gives how many there were, and how many would have made a block smaller."""
+    failed = smaller = 0
     while True:
-        number += 1
+        number = failed + smaller + 1
         got, out, err = run(program, shim, request, **{variable: str(number)})
-        met = err.startswith(b"#")
+        met, kept = err.startswith(b"#"), err == b"~"
         wanted = (got == status and err == b"#" + text + b"\n" and check(out)) if met else (got, out) == (0, whole)
         if not wanted:
             sys.exit(f"{variable}={number}: status {got}, standard output {out!r}, standard error {err!r}")
-        if not met:
-            return number - 1
+        if not met and not kept:
+            return failed, smaller
+        failed, smaller = failed + met, smaller + kept
 
 
 def calls(program, shim):
@@ -115,6 +123,8 @@ def calls(program, shim):
             break
         told = [name for name, line in zip(names, lines) if line == name + b": out of memory"]
         rest = [line for line in lines if not line.endswith(b": out of memory")]
+        if (got, err) == (0, b"~") and lines == whole:
+            continue
         if got != 0 or err != b"#" or len(told) != 1 or len(lines) != len(whole) or any(line not in whole for line in rest):
             sys.exit(f"REFUSE_MEMORY={number}: status {got}, standard output {out!r}, standard error {err!r}")
         refused[told[0]] += 1
@@ -142,12 +152,12 @@ def answers(program, shim, requests):
         status, whole, told = run(program, shim, request)
         if status != 0:
             sys.exit(f"a request is not answered: status {status}, {told.decode(errors='replace').strip()}")
-        memory = tries(program, shim, request, whole, "REFUSE_MEMORY", 3, b"out of memory", lambda out: out == b"")
-        reads = tries(program, shim, request, whole, "FAIL_READ", 4, b"read failed", lambda out: out == b"")
-        writes = tries(program, shim, request, whole, "FAIL_WRITE", 4, b"write failed", lambda out: out != whole and whole.startswith(out))
+        memory, smaller = tries(program, shim, request, whole, "REFUSE_MEMORY", 3, b"out of memory", lambda out: out == b"")
+        reads, _ = tries(program, shim, request, whole, "FAIL_READ", 4, b"read failed", lambda out: out == b"")
+        writes, _ = tries(program, shim, request, whole, "FAIL_WRITE", 4, b"write failed", lambda out: out != whole and whole.startswith(out))
         if not (memory and reads and writes):
             sys.exit(f"{memory} requests for memory, {reads} reads and {writes} writes were met: none may be 0")
-        print(f"{memory} requests for memory refused, {reads} reads and {writes} writes failed: {request.split()[1].decode()}, {whole.splitlines()[0].decode()}")
+        print(f"{memory} requests for memory refused and {smaller} blocks not made smaller, {reads} reads and {writes} writes failed: {request.split()[1].decode()}, {whole.splitlines()[0].decode()}")
 
 
 def main():

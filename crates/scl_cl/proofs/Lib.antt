@@ -4,3 +4,7 @@ pub mod FieldLaws
 pub mod RequestLaws
 pub mod WrittenLaws
 pub mod BadLineLaws
+pub mod GnuQuestionLaws
+pub mod MsvcQuestionLaws
+pub mod QuestionLaws
+pub mod RecordLaws

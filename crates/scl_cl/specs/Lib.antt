@@ -13,3 +13,5 @@ pub mod Written
 pub mod Program
 pub mod Within
 pub mod Outcomes
+pub mod Questions
+pub mod QuestionsGiven

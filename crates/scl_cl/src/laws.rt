@@ -1,5 +1,6 @@
 //! Laws of the definitions of requests and answers, each a clause of a function that does nothing.
 ghost use Rattle.scl_cl.specs.Answers.{AnswersAreReadAgain, RecordsHaveCommands};
+ghost use Rattle.scl_cl.specs.Questions.{AnswersAreDecided};
 ghost use Rattle.scl_cl.specs.Written.{FieldReadsBack, FieldIsPrintable, LineReadsBack, RequestReadsBack, LinesEndAtFeeds, AnswerHasLines, BadLineIsFirst, NamesReadBack};
 
 /// Laws of requests (docs/RULES.md, Lines, Fields, and Requests):
@@ -31,4 +32,12 @@ pub fn of_answers()
     ensures answer_has_lines { AnswerHasLines }
     ensures answers_are_read_again { AnswersAreReadAgain }
     ensures records_have_commands { RecordsHaveCommands }
+{}
+
+/// Laws of what answers ask of a view (docs/RULES.md, Questions):
+///
+/// - `answers_are_decided`: every disk that has what the view has, and none of what the answer to a request asks, gives the
+///   same answer.
+pub fn of_questions()
+    ensures answers_are_decided { AnswersAreDecided }
 {}

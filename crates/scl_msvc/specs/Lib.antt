@@ -5,4 +5,5 @@ pub mod ListsOf
 pub mod Preprocess
 pub mod Promises
 pub mod ReadAgain
+pub mod Wanted
 pub mod Within

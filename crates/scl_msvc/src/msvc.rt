@@ -5,6 +5,7 @@ mod compiler;
 mod depfile;
 mod environment;
 mod preprocess;
+mod wanted;
 mod within;
 mod words;
 
@@ -18,4 +19,5 @@ pub use scl_msvc_reading::msvc::{
     trees,
 };
 pub use scl_text::MsvcExpand as ExpandIncludeFile;
+pub use wanted::files_wanted;
 pub use within::has_at_most;

@@ -25,8 +25,8 @@ use Rattle.scl_small.specs.DiabTable.{rows}
 use Rattle.scl_small.specs.DiabReading.{place, verdict, tested, reading, expanded_reading}
 use Rattle.scl_small.specs.contracts.place.PlacePartialEq.TheImpl.{ghosts}
 use Rattle.scl_small.specs.declared.place.Place.TheVariants as places
-use Rattle.scl_small.specs.declared.diab.args.Kind.{Kind}
-use Rattle.scl_small.specs.declared.diab.args.Kind.TheVariants as kinds
+use Rattle.scl_small.specs.declared.diab.data.Kind.{Kind}
+use Rattle.scl_small.specs.declared.diab.data.Kind.TheVariants as kinds
 use Rattle.scl_small.proofs.ReadAgainLaws.{is-record, has-object, was-read, no-empty, record-again, command-kept-again}
 
 pub passes : PassChecks (rows ∷ []) every_kind side_of_flag

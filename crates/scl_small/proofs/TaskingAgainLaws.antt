@@ -20,8 +20,8 @@ use Rattle.scl_small.specs.TaskingTable.{rows}
 use Rattle.scl_small.specs.TaskingReading.{place, verdict, tested, reading}
 use Rattle.scl_small.specs.contracts.place.PlacePartialEq.TheImpl.{ghosts}
 use Rattle.scl_small.specs.declared.place.Place.TheVariants as places
-use Rattle.scl_small.specs.declared.tasking_vx.args.Kind.{Kind}
-use Rattle.scl_small.specs.declared.tasking_vx.args.Kind.TheVariants as kinds
+use Rattle.scl_small.specs.declared.tasking_vx.data.Kind.{Kind}
+use Rattle.scl_small.specs.declared.tasking_vx.data.Kind.TheVariants as kinds
 use Rattle.scl_small.proofs.ReadAgainLaws.{is-record, has-object, was-read, no-empty, record-again, command-kept-again}
 
 pub passes : PassChecks (rows ∷ []) every_kind side_of_flag

@@ -7,7 +7,7 @@ use Rattle.scl_files.specs.declared.expand.ExpansionKind.TheVariants as expansio
 use Rattle.scl_small.specs.DiabReading.{place}
 use Rattle.scl_small.specs.DiabTable.{rows}
 use Rattle.scl_small.specs.ReadAgain.{CommandIsReadAgain}
-use Rattle.scl_small.specs.declared.diab.args.Kind.TheVariants as kinds
+use Rattle.scl_small.specs.declared.diab.data.Kind.TheVariants as kinds
 
 -- of a record of these words, whose response files, from the directory, are put in place
 abbrev pub DiabReadsAgain : List ℕ → List File → List (List ℕ) → Parsed → List (List ℕ) → Type 0

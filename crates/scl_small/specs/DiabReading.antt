@@ -12,8 +12,8 @@ use Rattle.scl_small.specs.Places.{refused_at}
 use Rattle.scl_small.specs.Readings.{tested_by, reads}
 use Rattle.scl_small.specs.declared.place.Place.{Place}
 use Rattle.scl_small.specs.declared.place.Place.TheVariants as places
-use Rattle.scl_small.specs.declared.diab.args.Kind.{Kind}
-use Rattle.scl_small.specs.declared.diab.args.Kind.TheVariants as kinds
+use Rattle.scl_small.specs.declared.diab.data.Kind.{Kind}
+use Rattle.scl_small.specs.declared.diab.data.Kind.TheVariants as kinds
 
 -- where the options of a kind go
 abbrev pub place : Kind → Place

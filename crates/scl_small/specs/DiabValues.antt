@@ -1,10 +1,10 @@
 -- The values of Diab's options.
 use Rattle.std.specs.Prelude.{ℕ, Bool, true, false, List}
 use Rattle.scl_values.specs.Contents.{Content, nothing, word, path}
-use Rattle.scl_small.specs.declared.diab.args.ArgData.{ArgData}
-use Rattle.scl_small.specs.declared.diab.args.ArgData.TheVariants as values
-use Rattle.scl_small.specs.declared.diab.args.Kind.{Kind}
-use Rattle.scl_small.specs.declared.diab.args.Kind.TheVariants as kinds
+use Rattle.scl_small.specs.declared.diab.data.ArgData.{ArgData}
+use Rattle.scl_small.specs.declared.diab.data.ArgData.TheVariants as values
+use Rattle.scl_small.specs.declared.diab.data.Kind.{Kind}
+use Rattle.scl_small.specs.declared.diab.data.Kind.TheVariants as kinds
 
 -- what each value is made of: its kind, and the word or the path that it holds, if it holds one
 abbrev pub content : ArgData → Content Kind

@@ -4,7 +4,7 @@ use Rattle.scl_text.specs.Records.{Parsed}
 use Rattle.scl_small.specs.ReadAgain.{CommandIsReadAgain}
 use Rattle.scl_small.specs.TaskingReading.{place}
 use Rattle.scl_small.specs.TaskingTable.{rows}
-use Rattle.scl_small.specs.declared.tasking_vx.args.Kind.TheVariants as kinds
+use Rattle.scl_small.specs.declared.tasking_vx.data.Kind.TheVariants as kinds
 
 -- of a record of these words
 abbrev pub TaskingReadsAgain : List (List ℕ) → Parsed → List (List ℕ) → Type 0

@@ -2,8 +2,8 @@
 use Rattle.std.specs.Prelude.{List, [], ◌∷◌, codes}
 use Rattle.scl_values.specs.Row.{Row, row, bare}
 use Rattle.scl_values.specs.Shapes.{APART, JOINED_EQUALS, EITHER}
-use Rattle.scl_small.specs.declared.tasking_vx.args.Kind.{Kind}
-use Rattle.scl_small.specs.declared.tasking_vx.args.Kind.TheVariants as kinds
+use Rattle.scl_small.specs.declared.tasking_vx.data.Kind.{Kind}
+use Rattle.scl_small.specs.declared.tasking_vx.data.Kind.TheVariants as kinds
 
 unfoldable pub rows : List (Row Kind)
 rows =

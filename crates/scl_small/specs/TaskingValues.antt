@@ -1,10 +1,10 @@
 -- The values of TaskingVX's options.
 use Rattle.std.specs.Prelude.{ℕ, Bool, true, false, List}
 use Rattle.scl_values.specs.Contents.{Content, nothing, word, path}
-use Rattle.scl_small.specs.declared.tasking_vx.args.ArgData.{ArgData}
-use Rattle.scl_small.specs.declared.tasking_vx.args.ArgData.TheVariants as values
-use Rattle.scl_small.specs.declared.tasking_vx.args.Kind.{Kind}
-use Rattle.scl_small.specs.declared.tasking_vx.args.Kind.TheVariants as kinds
+use Rattle.scl_small.specs.declared.tasking_vx.data.ArgData.{ArgData}
+use Rattle.scl_small.specs.declared.tasking_vx.data.ArgData.TheVariants as values
+use Rattle.scl_small.specs.declared.tasking_vx.data.Kind.{Kind}
+use Rattle.scl_small.specs.declared.tasking_vx.data.Kind.TheVariants as kinds
 
 -- what each value is made of: its kind, and the word or the path that it holds, if it holds one
 abbrev pub content : ArgData → Content Kind

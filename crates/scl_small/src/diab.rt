@@ -1,69 +1,15 @@
 //! Diab.
-ghost use Rattle.std.specs.Prelude.{◌≡◌, IfOk, IsTrue};
-ghost use Rattle.scl_values.specs.Tables.{owner_in, tables_hold_values};
-ghost use Rattle.scl_values.specs.Words.{words_of};
-ghost use Rattle.scl_text.specs.Records.{outcome_of};
-ghost use Rattle.scl_small.specs.DiabValues.{holds_value};
-ghost use Rattle.scl_small.specs.DiabReading.{reading, expanded_reading};
 
 mod args;
 mod compiler;
-mod rules;
+mod data;
+mod judge;
+mod parse;
+mod place;
 
 pub use crate::command::{generate_compile_commands, generate_compile_commands_owned};
-use crate::reading::read_words;
-pub use args::{ARGS, ArgData, Kind, table};
+pub use args::{ARGS, table};
 pub use compiler::Diab;
-use scl_args::SearchableArgInfo;
+pub use data::{ArgData, Kind};
+pub use parse::{parse_arguments, parse_arguments_owned, parse_words};
 pub use scl_text::ExpandAtArgs;
-use scl_text::command::copy_words;
-use scl_text::records::{CompilerArguments, ParsedArguments};
-use scl_text::{ExpansionKind, Mem, View, expand_words};
-use std::alloc::Global;
-
-/// What words without response files say to Diab, cut by tables whose value rows have kinds that hold values: the
-/// record, or the first refusal (docs/RULES.md, Diab and TaskingVX). It fails only for want of memory.
-pub fn parse_words<S: SearchableArgInfo<ArgData> + Drop>(
-    alloc: Global,
-    words: Vec<Vec<u8>>,
-    arg_info: S,
-) -> Mem<CompilerArguments<ParsedArguments>>
-    requires { IsTrue (tables_hold_values holds_value (S.tables arg_info)) }
-    ensures { IfOk result (λ answer. outcome_of answer ≡ reading (owner_in (S.tables arg_info)) (words_of words.items)) }
-{
-    read_words::<ArgData, S>(alloc, words, arg_info)
-}
-
-/// What words that are handed over say to Diab, with the response files of the view, looked up from the directory, put in
-/// place, cut by tables whose value rows have kinds that hold values: the record, or the first refusal (docs/RULES.md, Diab
-/// and TaskingVX). It fails only for want of memory.
-pub fn parse_arguments_owned<S: SearchableArgInfo<ArgData> + Drop>(
-    alloc: Global,
-    arguments: Vec<Vec<u8>>,
-    cwd: &[u8],
-    arg_info: S,
-    view: &View,
-) -> Mem<CompilerArguments<ParsedArguments>>
-    requires { IsTrue (tables_hold_values holds_value (S.tables arg_info)) }
-    ensures { IfOk result (λ answer. outcome_of answer ≡ expanded_reading (owner_in (S.tables arg_info)) cwd.now view.now.files (words_of arguments.items)) }
-{
-    let words = expand_words(alloc, ExpansionKind::Diab, cwd, arguments, view)?;
-    parse_words(alloc, words, arg_info)
-}
-
-/// What words say to Diab, with the response files of the view, looked up from the directory, put in place, cut by
-/// tables whose value rows have kinds that hold values: the record, or the first refusal (docs/RULES.md, Diab and TaskingVX).
-/// It fails only for want of memory.
-pub fn parse_arguments<S: SearchableArgInfo<ArgData> + Drop>(
-    alloc: Global,
-    arguments: &[Vec<u8>],
-    cwd: &[u8],
-    arg_info: S,
-    view: &View,
-) -> Mem<CompilerArguments<ParsedArguments>>
-    requires { IsTrue (tables_hold_values holds_value (S.tables arg_info)) }
-    ensures { IfOk result (λ answer. outcome_of answer ≡ expanded_reading (owner_in (S.tables arg_info)) cwd.now view.now.files (words_of arguments.now)) }
-{
-    let arguments = copy_words(alloc, arguments)?;
-    parse_arguments_owned(alloc, arguments, cwd, arg_info, view)
-}

@@ -7,8 +7,8 @@ ghost use Rattle.scl_small.specs.DiabTable as diab_table;
 ghost use Rattle.scl_small.specs.DiabReading as diab;
 ghost use Rattle.scl_small.specs.TaskingTable as tasking_table;
 ghost use Rattle.scl_small.specs.TaskingReading as tasking;
-ghost use Rattle.scl_small.specs.declared.diab.args.Kind.TheVariants as diab_kinds;
-ghost use Rattle.scl_small.specs.declared.tasking_vx.args.Kind.TheVariants as tasking_kinds;
+ghost use Rattle.scl_small.specs.declared.diab.data.Kind.TheVariants as diab_kinds;
+ghost use Rattle.scl_small.specs.declared.tasking_vx.data.Kind.TheVariants as tasking_kinds;
 ghost use Rattle.scl_small.specs.declared.place.Place.{Place};
 ghost use Rattle.scl_small.specs.contracts.place.PlacePartialEq.TheImpl as places;
 

@@ -3,10 +3,11 @@
 
 mod command;
 pub mod diab;
-mod finish;
+mod fixed_tests;
+mod judge;
 pub mod laws;
+mod parse;
 mod place;
 mod preprocess;
-mod reading;
-mod rules;
+mod record;
 pub mod tasking_vx;

@@ -1,54 +1,14 @@
 //! TaskingVX.
-ghost use Rattle.std.specs.Prelude.{◌≡◌, IfOk, IsTrue};
-ghost use Rattle.scl_values.specs.Tables.{owner_in, tables_hold_values};
-ghost use Rattle.scl_values.specs.Words.{words_of};
-ghost use Rattle.scl_text.specs.Records.{outcome_of};
-ghost use Rattle.scl_small.specs.TaskingValues.{holds_value};
-ghost use Rattle.scl_small.specs.TaskingReading.{reading};
 
 mod args;
 mod compiler;
-mod rules;
+mod data;
+mod judge;
+mod parse;
+mod place;
 
 pub use crate::command::{generate_compile_commands, generate_compile_commands_owned};
-use crate::reading::read_words;
-pub use args::{ARGS, ArgData, Kind, table};
+pub use args::{ARGS, table};
 pub use compiler::TaskingVX;
-use scl_args::SearchableArgInfo;
-use scl_text::command::copy_words;
-use scl_text::records::{CompilerArguments, ParsedArguments};
-use scl_text::{Mem, View};
-use std::alloc::Global;
-
-/// What words that are handed over say to TaskingVX, cut by tables whose value rows have kinds that hold values: the record,
-/// or the first refusal (docs/RULES.md, Diab and TaskingVX). It expands no response files, so directory and view are not
-/// asked. It fails only for want of memory.
-pub fn parse_arguments_owned<S: SearchableArgInfo<ArgData> + Drop>(
-    alloc: Global,
-    arguments: Vec<Vec<u8>>,
-    _cwd: &[u8],
-    arg_info: S,
-    _view: &View,
-) -> Mem<CompilerArguments<ParsedArguments>>
-    requires { IsTrue (tables_hold_values holds_value (S.tables arg_info)) }
-    ensures { IfOk result (λ answer. outcome_of answer ≡ reading (owner_in (S.tables arg_info)) (words_of arguments.items)) }
-{
-    read_words::<ArgData, S>(alloc, arguments, arg_info)
-}
-
-/// What words say to TaskingVX, cut by tables whose value rows have kinds that hold values: the record, or the first
-/// refusal (docs/RULES.md, Diab and TaskingVX). It expands no response files, so directory and view are not asked. It fails
-/// only for want of memory.
-pub fn parse_arguments<S: SearchableArgInfo<ArgData> + Drop>(
-    alloc: Global,
-    arguments: &[Vec<u8>],
-    cwd: &[u8],
-    arg_info: S,
-    view: &View,
-) -> Mem<CompilerArguments<ParsedArguments>>
-    requires { IsTrue (tables_hold_values holds_value (S.tables arg_info)) }
-    ensures { IfOk result (λ answer. outcome_of answer ≡ reading (owner_in (S.tables arg_info)) (words_of arguments.now)) }
-{
-    let arguments = copy_words(alloc, arguments)?;
-    parse_arguments_owned(alloc, arguments, cwd, arg_info, view)
-}
+pub use data::{ArgData, Kind};
+pub use parse::{parse_arguments, parse_arguments_owned};

@@ -91,6 +91,7 @@ fn parse<S: SearchableArgInfo<ArgData> + Drop>(
 /// options; else that of the fixed tests, of which the first is `NotCompilation` (docs/RULES.md, Gcc, and Inner command
 /// lines). For `Clang`, `--` ends the options; where `plusplus` is set, files of C are taken for C++. Paths and words are
 /// bytes; the directory and the view answer what is asked of files. It fails only for want of memory.
+#[tactic(auto, using(scl_text::proofs::StopLemmas::outcome_given))]
 pub fn parse_arguments_owned<S: SearchableArgInfo<ArgData> + Drop>(
     alloc: Global,
     arguments: Vec<Vec<u8>>,

@@ -1,125 +1,13 @@
-//! Diab's kinds and values, and its table.
+//! Diab's table.
 ghost use Rattle.std.specs.Prelude.{◌≡◌, ◌∷◌, [], IsTrue};
 ghost use Rattle.scl_values.specs.Tables.{tables_hold_values};
 ghost use Rattle.scl_small.specs.DiabValues.{holds_value};
 ghost use Rattle.scl_small.specs.DiabTable.{rows};
 
+use super::data::{ArgData, Kind};
 use scl_args::shapes::*;
-use scl_args::{
-    ArgInfo, ArgParseResult, ArgToStringResult, ArgumentValue, ExactArg, FlagTable, Held, IntoArg,
-    Mem, PathArg, ReadArg,
-};
-use scl_values::{of_kinds, rows};
-use std::alloc::Global;
-
-/// What Diab's options mean, without their values (docs/RULES.md, Diab and TaskingVX).
-#[derive(Clone, Copy, Debug, PartialEq, Eq)]
-pub enum Kind {
-    /// A flag by which the command line can't be cached.
-    TooHardFlag,
-    /// A flag with a value by which the command line can't be cached.
-    TooHard,
-    /// The flag that asks for a compilation.
-    DoCompilation,
-    /// The path of the object file.
-    Output,
-    /// A word that changes the outcome.
-    PassThrough,
-    /// A word for the preprocessor.
-    PreprocessorArgument,
-    /// A path for the preprocessor.
-    PreprocessorArgumentPath,
-    /// A flag about dependencies.
-    DepArgumentFlag,
-    /// A word about dependencies.
-    DepArgument,
-    /// A path about dependencies.
-    DepArgumentPath,
-}
-
-/// A kind with its value, a path, a word or none: each variant is of the kind of its name (docs/RULES.md, Diab and
-/// TaskingVX).
-#[derive(Debug, PartialEq, Eq, Drop)]
-pub enum ArgData {
-    TooHardFlag,
-    TooHard(Vec<u8>),
-    DoCompilation,
-    Output(PathArg),
-    PassThrough(Vec<u8>),
-    PreprocessorArgument(Vec<u8>),
-    PreprocessorArgumentPath(PathArg),
-    DepArgumentFlag,
-    DepArgument(Vec<u8>),
-    DepArgumentPath(PathArg),
-}
-
-// each kind once, by what its values hold
-macro_rules! kinds {
-    ($($question:tt)*) => {
-        of_kinds!(
-            $($question)*;
-            Nothing: TooHardFlag, DoCompilation, DepArgumentFlag;
-            Word: TooHard, PassThrough, PreprocessorArgument, DepArgument;
-            Path: Output, PreprocessorArgumentPath, DepArgumentPath
-        )
-    };
-}
-
-impl ReadArg for ArgData {
-    fn kind(&self) -> Kind {
-        kinds!(kind of self)
-    }
-
-    fn held(&self) -> Held<'_> {
-        kinds!(held by self)
-    }
-}
-
-impl IntoArg for ArgData {
-    ghost use Rattle.scl_small.specs.DiabValues.{word_of, is_path};
-
-    ghost word_of = { word_of };
-
-    ghost is_path = { is_path };
-
-    fn into_arg_os_string(&self, alloc: Global) -> Mem<Vec<u8>> {
-        Vec::from_slice(alloc, self.held().word())
-    }
-
-    fn into_arg_string<F: FnMut(&[u8]) -> Option<String>>(
-        &self,
-        alloc: Global,
-        f: &mut F,
-    ) -> ArgToStringResult {
-        self.held().text(alloc, f)
-    }
-}
-
-impl ArgumentValue for ArgData {
-    ghost use Rattle.scl_values.specs.Values.{MakesOf};
-    ghost use Rattle.scl_small.specs.DiabValues.{word_of, kind_of, holds_value};
-
-    type Kind = Kind;
-
-    ghost make_gives = { MakesOf kind_of word_of holds_value };
-
-    ghost holds_value = { holds_value };
-
-    ghost kind_of = { kind_of };
-
-    fn make(_alloc: Global, kind: Kind, word: Vec<u8>) -> ArgParseResult<ArgData> {
-        kinds!(made of kind, word)
-    }
-}
-
-impl ExactArg for ArgData {
-    ghost use Rattle.scl_small.specs.DiabValues.{word_of, kind_of, holds_value};
-    ghost use Rattle.scl_values.specs.Values.{exact, keeps};
-
-    ghost exact = { exact kind_of word_of holds_value };
-
-    ghost keeps = { keeps kind_of word_of holds_value };
-}
+use scl_args::{ArgInfo, FlagTable};
+use scl_values::rows;
 
 /// Diab's flags, in rising order by bytes (docs/RULES.md, Diab and TaskingVX).
 pub static ARGS: [ArgInfo<ArgData>; 23] = rows![

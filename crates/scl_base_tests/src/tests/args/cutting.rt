@@ -30,16 +30,16 @@ static WORDS: &str = "-nomatch -foo value -hoge value -hoge=value -hogevalue -zo
 
 static OPTIONS: &str = "\
 unknown -nomatch
--foo value Separated
--hoge  Concatenated(None)
+-foo Separated value
+-hoge Concatenated(None) 
 raw value
--hoge =value Concatenated(None)
--hoge value Concatenated(None)
+-hoge Concatenated(None) =value
+-hoge Concatenated(None) value
 flag -zorglub
--qux value CanBeConcatenated(Some(61))
+-qux CanBeConcatenated(Some(61)) value
 flag -plop
 unknown -quxbar
--qux value CanBeSeparated(Some(61))
+-qux CanBeSeparated(Some(61)) value
 raw --
 raw non_flag
 raw -flag
@@ -109,7 +109,7 @@ fn expect_last<S: SearchableArgInfo<Value> + Drop>(
     let wanted = if is_wanting {
         ""
     } else {
-        "-foo  Concatenated(None)\n"
+        "-foo Concatenated(None) \n"
     };
     assert!(rt; matches!(&end, Some(ArgParseError::UnexpectedEndOfArgs)) == is_wanting);
     assert!(rt; end.is_some() == is_wanting);
@@ -130,5 +130,5 @@ fn a_value_goes_on_behind_the_longest_flag(rt: HostRuntime) -> Result<(), Fail> 
     let words = words_of(rt.alloc(), "-iwithprefixdir")?;
     let (options, end) = cut_words(rt.alloc(), words, gcc::table(), false)?;
     assert!(rt; end.is_none());
-    Ok(expect_lines(&rt, &options, "-iwithprefix dir CanBeSeparated(None)\n")?)
+    Ok(expect_lines(&rt, &options, "-iwithprefix CanBeSeparated(None) dir\n")?)
 }

@@ -67,17 +67,17 @@ fn only_a_value_that_may_stand_either_way_is_moved(rt: HostRuntime) -> Result<()
         NormalizedDisposition::Separated,
         NormalizedDisposition::Concatenated,
     );
-    expect_moved(&rt, CanBeSeparated(None), apart, "-foo bar Separated\n")?;
-    expect_moved(&rt, CanBeConcatenated(None), apart, "-foo bar Separated\n")?;
-    let want = "-foo bar Concatenated(Some(61))\n";
+    expect_moved(&rt, CanBeSeparated(None), apart, "-foo Separated bar\n")?;
+    expect_moved(&rt, CanBeConcatenated(None), apart, "-foo Separated bar\n")?;
+    let want = "-foo Concatenated(Some(61)) bar\n";
     expect_moved(&rt, CanBeSeparated(Some(b'=')), joined, want)?;
     expect_moved(&rt, CanBeConcatenated(Some(b'=')), joined, want)?;
-    expect_moved(&rt, Separated, joined, "-foo bar Separated\n")?;
+    expect_moved(&rt, Separated, joined, "-foo Separated bar\n")?;
     expect_moved(
         &rt,
         Concatenated(None),
         apart,
-        "-foo bar Concatenated(None)\n",
+        "-foo Concatenated(None) bar\n",
     )?;
     Ok(())
 }

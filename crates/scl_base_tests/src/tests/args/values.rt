@@ -71,22 +71,35 @@ impl ReadArg for Value {
     }
 }
 
-/// Appends a line that tells an option: what it is or its flag, then its word, and how a value stands.
+/// Appends a line: a name, and a word with its bytes escaped.
+fn push_line(alloc: Global, lines: &mut String, name: &str, word: &[u8]) -> Mem<()> {
+    lines.push_str(format!(in alloc; "{name} {}\n", Escaped(word))?.as_str())
+}
+
+/// Appends the line of an option with a value: its flag, how the value stands, and its word.
+fn push_value<T: ArgumentValue>(
+    alloc: Global,
+    lines: &mut String,
+    flag: &str,
+    value: &T,
+    how: ArgDisposition,
+) -> Mem<()> {
+    let word = value.into_arg_os_string(alloc)?;
+    lines.push_str(format!(in alloc; "{flag} {how:?} {}\n", Escaped(&word))?.as_str())
+}
+
+/// Appends the line of an option.
 pub(super) fn push_option<T: ArgumentValue>(
     alloc: Global,
     lines: &mut String,
     option: &Argument<T>,
 ) -> Mem<()> {
-    let line = match option {
-        Argument::Raw(word) => format!(in alloc; "raw {}\n", Escaped(word))?,
-        Argument::UnknownFlag(word) => format!(in alloc; "unknown {}\n", Escaped(word))?,
-        Argument::Flag(flag, _) => format!(in alloc; "flag {flag}\n")?,
-        Argument::WithValue(flag, value, how) => {
-            let word = value.into_arg_os_string(alloc)?;
-            format!(in alloc; "{flag} {} {how:?}\n", Escaped(&word))?
-        }
-    };
-    lines.push_str(line.as_str())
+    match option {
+        Argument::Raw(word) => push_line(alloc, lines, "raw", word),
+        Argument::UnknownFlag(word) => push_line(alloc, lines, "unknown", word),
+        Argument::Flag(flag, _) => push_line(alloc, lines, "flag", flag.as_bytes()),
+        Argument::WithValue(flag, value, how) => push_value(alloc, lines, flag, value, *how),
+    }
 }
 
 /// The lines that tell options.

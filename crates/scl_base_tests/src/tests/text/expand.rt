@@ -5,35 +5,29 @@ use std::alloc::Global;
 use std::process::Abort;
 use std::test::Fail;
 
-/// Adds the file of a text: its path, a colon and its words.
-fn add_file(alloc: Global, view: &mut View, line: &[u8]) -> Mem<()> {
-    let at = line.iter().position(|byte| *byte == b':').unwrap_or(0);
-    match line[at..].split_first() {
-        Some((_, words)) => view.add_file(
-            Vec::from_slice(alloc, &line[..at])?,
-            Vec::from_slice(alloc, words)?,
-        ),
-        None => Ok(()),
-    }
+/// Adds a file of the words.
+fn add_file(alloc: Global, view: &mut View, path: &[u8], words: &[u8]) -> Mem<()> {
+    let path = Vec::from_slice(alloc, path)?;
+    view.add_file(path, Vec::from_slice(alloc, words)?)
 }
 
-/// The view of files, with a semicolon between two.
-pub(super) fn view_of(alloc: Global, files: &[u8]) -> Mem<View> {
+/// The view of files, with a semicolon between two: each is its path, a colon and its words.
+pub(super) fn view_of(alloc: Global, files: &str) -> Mem<View> {
     let mut view = View::new(alloc);
-    for line in files.split(|byte| *byte == b';') {
-        add_file(alloc, &mut view, line)?;
+    for file in files.split(';') {
+        let (path, words) = file.split_once(':').unwrap_or((file, ""));
+        add_file(alloc, &mut view, path.as_bytes(), words.as_bytes())?;
     }
     Ok(view)
 }
 
 /// The words that the kind's iterator gives in the directory `/w`.
-fn expanded(alloc: Global, kind: ExpansionKind, files: &[u8], text: &str) -> Mem<Vec<Vec<u8>>> {
+fn expanded(alloc: Global, kind: ExpansionKind, view: &View, text: &str) -> Mem<Vec<Vec<u8>>> {
     let words = words_of(alloc, text)?;
-    let view = view_of(alloc, files)?;
     match kind {
-        ExpansionKind::Gnu => GnuExpand::new(alloc, b"/w", &words, &view).try_collect(alloc),
-        ExpansionKind::Msvc => MsvcExpand::new(alloc, b"/w", &words, &view).try_collect(alloc),
-        ExpansionKind::Diab => ExpandAtArgs::new(alloc, b"/w", &words, &view).try_collect(alloc),
+        ExpansionKind::Gnu => GnuExpand::new(alloc, b"/w", &words, view).try_collect(alloc),
+        ExpansionKind::Msvc => MsvcExpand::new(alloc, b"/w", &words, view).try_collect(alloc),
+        ExpansionKind::Diab => ExpandAtArgs::new(alloc, b"/w", &words, view).try_collect(alloc),
     }
 }
 
@@ -64,7 +58,8 @@ fn expect_expanded(
 ) -> Result<(), Fail> {
     let (files, rest) = row.split_once(" => ").ok_or("no words")?;
     let (text, wanted) = rest.split_once(" => ").ok_or("no other words")?;
-    let words = expanded(rt.alloc(), kind, files.as_bytes(), text)?;
+    let view = view_of(rt.alloc(), files)?;
+    let words = expanded(rt.alloc(), kind, &view, text)?;
     assert!(rt; words == words_of(rt.alloc(), wanted)?, "{row}");
     Ok(())
 }
@@ -90,9 +85,12 @@ fn readable_files_are_put_in_place(rt: HostRuntime) -> Result<(), Fail> {
 }
 
 #[test]
-fn a_file_that_is_no_text_is_not_put_in_place(rt: HostRuntime) {
-    let words = expanded(rt.alloc(), ExpansionKind::Gnu, b"/w/r:\xff", "@r @s @");
+fn a_file_that_is_no_text_is_not_put_in_place(rt: HostRuntime) -> Result<(), Fail> {
+    let mut view = View::new(rt.alloc());
+    add_file(rt.alloc(), &mut view, b"/w/r", b"\xff")?;
+    let words = expanded(rt.alloc(), ExpansionKind::Gnu, &view, "@r @s @");
     assert!(rt; gives(&words, &["@r", "@s", "@"]));
+    Ok(())
 }
 
 /// The path of the file of the number.

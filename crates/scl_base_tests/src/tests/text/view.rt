@@ -7,7 +7,7 @@ use std::test::Fail;
 
 /// A file that was replaced, a directory, and another path.
 fn view_of_each(alloc: Global) -> Mem<View> {
-    let mut view = view_of(alloc, b"/w/a.c:old;/w//./a.c:new")?;
+    let mut view = view_of(alloc, "/w/a.c:old;/w//./a.c:new")?;
     view.add_dir(Vec::from_slice(alloc, b"src/")?)?;
     view.add_existing(Vec::from_slice(alloc, b"x.pdb")?)?;
     Ok(view)

@@ -1,22 +1,16 @@
-//! The fixed tests, and the record.
+//! The record.
 ghost use Rattle.std.specs.Prelude.{◌≡◌, ◌∷◌, [], IfOk, false, codes};
 ghost use Rattle.std.specs.Option.{option_copied};
-ghost use Rattle.scl_values.specs.Words.{words_of};
 ghost use Rattle.scl_text.specs.Records.{parsed_of, path_of, artifact, artifacts};
-ghost use Rattle.scl_text.specs.Refusals.{the_input};
-ghost use Rattle.scl_text.specs.Stops.{Gives};
-ghost use Rattle.scl_small.specs.Readings.{record_of, tested_by, object_path, dependency_path};
+ghost use Rattle.scl_small.specs.Readings.{record_of, object_path, dependency_path};
 
 use crate::place::{Place, Placed};
-use crate::rules::Rules;
 use scl_args::{Options, ShortFlagsJoined};
+use scl_text::Mem;
 use scl_text::language::Language;
 use scl_text::outputs::put_output;
 use scl_text::path::with_extension;
-use scl_text::reasons::UNKNOWN_SOURCE_LANGUAGE;
 use scl_text::records::{ArtifactDescriptor, ParsedArguments};
-use scl_text::refusal::{Refusal, cannot_cache, one_input};
-use scl_text::{Mem, Stop};
 use std::alloc::Global;
 use std::collections::BTreeMap;
 
@@ -51,7 +45,7 @@ fn outputs_of(alloc: Global, object: Vec<u8>) -> Mem<BTreeMap<String, ArtifactDe
 }
 
 /// The record of a compilation with the flag, of an input in the language.
-fn record_of<T: Placed>(
+pub(crate) fn record_of<T: Placed>(
     alloc: Global,
     options: Options<T>,
     flag: &str,
@@ -79,31 +73,4 @@ fn record_of<T: Placed>(
         common_args,
         ..ParsedArguments::bare(alloc, input, language, flag)
     })
-}
-
-/// The one input, refused without a text beside the reason.
-fn input_of(alloc: Global, inputs: Vec<Vec<u8>>) -> Result<Vec<u8>, Stop>
-    ensures { Gives (λ input. input.items) result (the_input (words_of inputs.items)) }
-{
-    match one_input(alloc, inputs) {
-        Ok(input) => Ok(input),
-        Err(Stop::Refused(refusal)) => Err(Stop::Refused(refusal.without_text())),
-        Err(Stop::Memory) => Err(Stop::Memory),
-    }
-}
-
-/// The record of options that are not refused: the fixed tests in their order, and what they find recorded.
-pub(crate) fn read_options<T: Rules>(
-    alloc: Global,
-    options: Options<T>,
-) -> Result<ParsedArguments, Stop>
-    ensures { Gives parsed_of result (tested_by T.place T.compile_flag_for options) }
-{
-    let flag = options
-        .last_flag(&Place::CompileFlag)
-        .ok_or(Refusal::NotCompilation)?;
-    let input = input_of(alloc, options.texts(alloc, &Place::Input)?)?;
-    let language = Language::from_file_name(&input);
-    let language = language.ok_or(cannot_cache(UNKNOWN_SOURCE_LANGUAGE))?;
-    Ok(record_of(alloc, options, T::compile_flag(flag), input, language)?)
 }

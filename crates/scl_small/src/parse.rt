@@ -6,8 +6,8 @@ ghost use Rattle.scl_text.specs.Records.{outcome_of, parsed_of};
 ghost use Rattle.scl_text.specs.Stops.{Gives};
 ghost use Rattle.scl_small.specs.Readings.{reads, tested_by};
 
-use crate::finish::read_options;
-use crate::rules::{ByRules, Rules};
+use crate::fixed_tests::read_options;
+use crate::judge::{ByRules, Rules};
 use scl_args::SearchableArgInfo;
 use scl_text::records::{CompilerArguments, ParsedArguments};
 use scl_text::stop::into_answer;

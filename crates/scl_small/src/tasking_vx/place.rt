@@ -1,9 +1,6 @@
-//! Where TaskingVX's options go, what it says of one, and the flag of its command.
-use super::args::{ArgData, Kind};
-use crate::place::{Place, Placed, refuse_by_place};
-use crate::rules::Rules;
-use scl_args::Argument;
-use scl_text::refusal::Refusal;
+//! Where TaskingVX's options go.
+use super::data::{ArgData, Kind};
+use crate::place::{Place, Placed};
 
 impl Placed for ArgData {
     ghost use Rattle.scl_small.specs.TaskingReading.{place};
@@ -23,22 +20,5 @@ impl Placed for ArgData {
             Kind::PreprocessorArgumentPath => Place::Preprocessor,
             Kind::DepFile => Place::DepFile,
         }
-    }
-}
-
-impl Rules for ArgData {
-    ghost use Rattle.std.specs.Prelude.{codes};
-    ghost use Rattle.scl_small.specs.TaskingReading.{verdict};
-
-    ghost verdict = { verdict };
-
-    ghost compile_flag_for = { λ _. codes "-c" };
-
-    fn judge(option: &Argument<ArgData>) -> Option<Refusal> {
-        refuse_by_place(option)
-    }
-
-    fn compile_flag(_flag: &'static str) -> &'static str {
-        "-c"
     }
 }

@@ -1,0 +1,161 @@
+//! What an answer asks of a view that the view does not have.
+ghost use Rattle.std.specs.Prelude.{◌≡◌, ◌++◌, true, false, IfOk, MatchResult, OnOk};
+ghost use Rattle.std.specs.List.{flat_map};
+ghost use Rattle.std.specs.Option.{option_copied};
+ghost use Rattle.scl_values.specs.Words.{words_of};
+ghost use Rattle.scl_text.specs.Commands.{pairs_of};
+ghost use Rattle.scl_cl.specs.Requests.{asked};
+ghost use Rattle.scl_cl.specs.Within.{has_at_most};
+ghost use Rattle.scl_cl.specs.Questions.{files_by, no_directory, database_asked, questions_of};
+ghost use Rattle.scl_cl.specs.QuestionsGiven.{given, hash_files_given, database_given};
+
+use crate::compiler::Compiler;
+use crate::kept::Compilation;
+use scl_files::wanted_files;
+use scl_msvc::msvc;
+use scl_text::outputs::output_path;
+use scl_text::path::join;
+use scl_text::records::CompilerArguments;
+use scl_text::{ExpansionKind, Mem, TooManyWords, View};
+use std::alloc::Global;
+
+/// What the answer to a command line asks of a view that the view does not have (docs/RULES.md, Questions). A path may stand
+/// more than once.
+#[derive(Debug, PartialEq, Eq, Drop)]
+pub struct Questions {
+    /// The paths at which there may be response files.
+    pub files: Vec<Vec<u8>>,
+    /// The paths at which there may be directories.
+    pub directories: Vec<Vec<u8>>,
+    /// The paths at which there may be anything.
+    pub existing: Vec<Vec<u8>>,
+}
+
+/// Puts a path behind others, where it is no directory of the view.
+fn push_directory(alloc: Global, paths: &mut Vec<Vec<u8>>, path: &[u8], view: &View) -> Mem<()>
+    ensures { OnOk result (words_of paths.new.items ≡ words_of paths.old.items ++ no_directory view.now path.now) }
+{
+    if !view.is_dir(path) {
+        paths.push(Vec::from_slice(alloc, path)?)?;
+    }
+    Ok(())
+}
+
+/// Those of the paths that are no directories of the view.
+fn absent_directories(alloc: Global, hashed: &[Vec<u8>], view: &View) -> Mem<Vec<Vec<u8>>>
+    ensures { IfOk result (λ paths. words_of paths.items ≡ flat_map (no_directory view.now) (words_of hashed.now)) }
+{
+    let mut paths = Vec::new(alloc);
+    for path in hashed {
+        push_directory(alloc, &mut paths, path, view)?;
+    }
+    Ok(paths)
+}
+
+/// The path of a file for debug information, if there is one and the view has nothing there.
+fn absent_database(
+    alloc: Global,
+    database: Option<&[u8]>,
+    cwd: &[u8],
+    view: &View,
+) -> Mem<Vec<Vec<u8>>>
+    ensures { IfOk result (λ paths. words_of paths.items ≡ database_asked cwd.now view.now (option_copied database.entry)) }
+{
+    let mut paths = Vec::new(alloc);
+    if let Some(database) = database {
+        let path = join(alloc, cwd, database)?;
+        if !view.exists(&path) {
+            paths.push(path)?;
+        }
+    }
+    Ok(paths)
+}
+
+/// The files on which the outcome depends.
+fn hash_files_of(answer: &CompilerArguments<Compilation>) -> &[Vec<u8>]
+    ensures { words_of result.now ≡ hash_files_given answer.now }
+{
+    match answer {
+        CompilerArguments::Ok(compilation) => &compilation.parsed.extra_hash_files,
+        CompilerArguments::CannotCache(_, _) | CompilerArguments::NotCompilation => &[],
+    }
+}
+
+/// The path of the file for debug information.
+fn database_of(answer: &CompilerArguments<Compilation>) -> Option<&[u8]>
+    ensures { option_copied result ≡ database_given answer.now }
+{
+    match answer {
+        CompilerArguments::Ok(compilation) => output_path(&compilation.parsed.outputs, "pdb"),
+        CompilerArguments::CannotCache(_, _) | CompilerArguments::NotCompilation => None,
+    }
+}
+
+impl Compiler {
+    /// The response files that the command lines name and the view lacks, given and inner ones.
+    fn files_wanted(
+        self,
+        alloc: Global,
+        words: &[Vec<u8>],
+        cwd: &[u8],
+        env_vars: &[(Vec<u8>, Vec<u8>)],
+        view: &View,
+    ) -> Mem<Vec<Vec<u8>>>
+        ensures { IfOk result (λ paths. words_of paths.items ≡ files_by self (asked self (words_of words.now) cwd.now (pairs_of env_vars.now) view.now)) }
+    {
+        match self {
+            Compiler::Gcc | Compiler::Gxx | Compiler::Clang | Compiler::Clangxx => {
+                wanted_files(alloc, ExpansionKind::Gnu, cwd, words, view)
+            }
+            Compiler::Cl => msvc::files_wanted(alloc, words, cwd, env_vars, false, view),
+            Compiler::ClangCl => msvc::files_wanted(alloc, words, cwd, env_vars, true, view),
+            Compiler::Diab => wanted_files(alloc, ExpansionKind::Diab, cwd, words, view),
+            Compiler::Tasking => Ok(Vec::new(alloc)),
+        }
+    }
+
+    /// What the answer asks, with no bound on words.
+    #[tactic(auto, using(crate::proofs::RecordLaws::hash_files_are_given, crate::proofs::RecordLaws::database_is_given))]
+    fn all_questions(
+        self,
+        alloc: Global,
+        words: &[Vec<u8>],
+        cwd: &[u8],
+        env_vars: &[(Vec<u8>, Vec<u8>)],
+        view: &View,
+    ) -> Mem<Questions>
+        ensures { IfOk result (λ questions. given questions ≡ questions_of (asked self (words_of words.now) cwd.now (pairs_of env_vars.now) view.now)) }
+    {
+        let files = self.files_wanted(alloc, words, cwd, env_vars, view)?;
+        let answer = self.answer(alloc, b"", words, cwd, env_vars, view)?;
+        Ok(Questions {
+            files,
+            directories: absent_directories(alloc, hash_files_of(&answer), view)?,
+            existing: absent_database(alloc, database_of(&answer), cwd, view)?,
+        })
+    }
+
+    /// What the answer to a command line asks of a view that the view does not have: the response files that its words name,
+    /// those that words inside the files of the view name, and those of inner command lines; the directories in which
+    /// profiles may lie; and the file that debug information may be added to (docs/RULES.md, Questions). A disk that has what
+    /// the view has, and none of what is asked, gives the same answer (`laws::of_questions`). `TooManyWords` where
+    /// `has_at_most` says that a command line has more words than `most`. The outer error is the refusal of memory.
+    pub fn open_questions(
+        self,
+        alloc: Global,
+        words: &[Vec<u8>],
+        cwd: &[u8],
+        env_vars: &[(Vec<u8>, Vec<u8>)],
+        view: &View,
+        most: usize,
+    ) -> Mem<Result<Questions, TooManyWords>>
+        ensures { IfOk result (λ said. let request = asked self (words_of words.now) cwd.now (pairs_of env_vars.now) view.now in
+            MatchResult said (λ questions. (has_at_most most request ≡ true) × (given questions ≡ questions_of request)) (λ _. has_at_most most request ≡ false)) }
+    {
+        if !self.has_at_most(alloc, words, cwd, env_vars, view, most)? {
+            return Ok(Err(TooManyWords));
+        }
+        let questions = self.all_questions(alloc, words, cwd, env_vars, view)?;
+        Ok(Ok(questions))
+    }
+}

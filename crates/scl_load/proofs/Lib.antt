@@ -1,0 +1,3 @@
+pub mod ExtendLaws
+pub mod LoadLaws
+pub mod LookLaws
