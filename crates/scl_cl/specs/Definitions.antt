@@ -7,6 +7,7 @@ use Rattle.scl_cl.specs.declared.compiler.Compiler.{Compiler}
 use Rattle.scl_cl.specs.Requests.{asked}
 use Rattle.scl_cl.specs.Answers.{reading_by, command_by, environment_by, kept_by, read_again_by, runs_by}
 use Rattle.scl_cl.specs.Within.{command_lines_by}
+use Rattle.scl_cl.specs.Questions.{files_by}
 
 -- what its answers are; a command line is given by its words, directory, environment and files
 pub record Definitions : Type 1 where
@@ -24,6 +25,8 @@ pub record Definitions : Type 1 where
   pub runs : (may_dist rewrites cache_mode : Bool) → Parsed → List (List (List ℕ))
   -- the command lines in which response files are put in place, given and inner ones
   pub command_lines : List (List ℕ) → List ℕ → List (List ℕ × List ℕ) → Viewed → List (List (List ℕ))
+  -- the response files that they name and the view lacks
+  pub files : List (List ℕ) → List ℕ → List (List ℕ × List ℕ) → Viewed → List (List ℕ)
 
 abbrev pub definitions_of : Compiler → Definitions
 definitions_of compiler = record {
@@ -34,4 +37,5 @@ definitions_of compiler = record {
   is_read_again = λ words directory environment view. read_again_by compiler (asked compiler words directory environment view);
   runs = runs_by compiler;
   command_lines = λ words directory environment view. command_lines_by compiler (asked compiler words directory environment view);
+  files = λ words directory environment view. files_by compiler (asked compiler words directory environment view);
 }

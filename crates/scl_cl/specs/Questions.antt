@@ -11,6 +11,8 @@ use Rattle.scl_text.specs.Records.{Parsed, Verdict}
 use Rattle.scl_msvc.specs.Wanted as msvc
 use Rattle.scl_cl.specs.declared.compiler.Compiler.{Compiler}
 use Rattle.scl_cl.specs.declared.compiler.Compiler.TheVariants as compilers
+use Rattle.scl_cl.specs.declared.within.CommandLines.{CommandLines}
+use Rattle.scl_cl.specs.declared.within.CommandLines.TheVariants as kinds
 use Rattle.scl_cl.specs.Requests.{Request}
 use Rattle.scl_cl.specs.Answers.{reading_by, answer_to}
 
@@ -37,6 +39,12 @@ files_by compilers.Cl r = msvc.files_wanted false r.directory r.environment r.vi
 files_by compilers.ClangCl r = msvc.files_wanted true r.directory r.environment r.view r.words
 files_by compilers.Diab r = wanted expansions.Diab r.directory r.view.files r.words
 files_by compilers.Tasking r = []
+
+-- those of the command lines of a kind, of words, directory, environment and files
+abbrev pub files_in : CommandLines → List (List ℕ) → List ℕ → List (List ℕ × List ℕ) → Viewed → List (List ℕ)
+files_in kinds.Given words directory environment view = []
+files_in (kinds.Expanded kind) words directory environment view = wanted kind directory view.files words
+files_in (kinds.Msvc is_clang) words directory environment view = msvc.files_wanted is_clang directory environment view words
 
 -- ---- directories
 

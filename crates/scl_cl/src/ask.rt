@@ -18,6 +18,7 @@ pub trait Query: Sized {
     ghost use Rattle.scl_text.specs.Commands.{command_by};
     ghost use Rattle.scl_cl.specs.Definitions.{Definitions};
     ghost use Rattle.scl_cl.specs.Within.{command_lines_in};
+    ghost use Rattle.scl_cl.specs.Questions.{files_in};
 
     /// What answers it.
     type Answer;
@@ -40,6 +41,7 @@ pub trait Query: Sized {
           is_read_again = C.is_read_again compiler.now;
           runs = C.runs compiler.now;
           command_lines = command_lines_in command_lines;
+          files = files_in command_lines;
         }) answer) };
 }
 

@@ -6,17 +6,19 @@ ghost use Rattle.scl_values.specs.Words.{words_of};
 ghost use Rattle.scl_text.specs.Commands.{pairs_of};
 ghost use Rattle.scl_cl.specs.Requests.{asked};
 ghost use Rattle.scl_cl.specs.Within.{has_at_most};
-ghost use Rattle.scl_cl.specs.Questions.{files_by, no_directory, database_asked, questions_of};
+ghost use Rattle.scl_cl.specs.Questions.{no_directory, database_asked, questions_of};
 ghost use Rattle.scl_cl.specs.QuestionsGiven.{given, hash_files_given, database_given};
 
+use crate::ask::Query;
 use crate::compiler::Compiler;
 use crate::kept::Compilation;
+use crate::within::CommandLines;
 use scl_files::wanted_files;
 use scl_msvc::msvc;
 use scl_text::outputs::output_path;
 use scl_text::path::join;
 use scl_text::records::CompilerArguments;
-use scl_text::{ExpansionKind, Mem, TooManyWords, View};
+use scl_text::{CCompilerImpl, Mem, TooManyWords, View};
 use std::alloc::Global;
 
 /// What the answer to a command line asks of a view that the view does not have (docs/RULES.md, Questions). A path may stand
@@ -91,29 +93,49 @@ fn database_of(answer: &CompilerArguments<Compilation>) -> Option<&[u8]>
     }
 }
 
-impl Compiler {
-    /// The response files that the command lines name and the view lacks, given and inner ones.
-    fn files_wanted(
+/// The response files that the command lines name and the view lacks, given and inner ones.
+#[derive(Drop)]
+struct FilesWanted<'a> {
+    words: &'a [Vec<u8>],
+    cwd: &'a [u8],
+    env_vars: &'a [(Vec<u8>, Vec<u8>)],
+    view: &'a View,
+}
+
+impl<'a> Query for FilesWanted<'a> {
+    ghost use Rattle.std.specs.Prelude.{◌≡◌};
+    ghost use Rattle.scl_values.specs.Words.{words_of};
+    ghost use Rattle.scl_text.specs.Commands.{pairs_of};
+
+    type Answer = Vec<Vec<u8>>;
+
+    ghost gives = { λ query definitions paths.
+        words_of paths.items ≡ definitions.files (words_of query.words.now) query.cwd.now (pairs_of query.env_vars.now) query.view.now };
+
+    fn ask<C: CCompilerImpl>(
         self,
         alloc: Global,
-        words: &[Vec<u8>],
-        cwd: &[u8],
-        env_vars: &[(Vec<u8>, Vec<u8>)],
-        view: &View,
-    ) -> Mem<Vec<Vec<u8>>>
-        ensures { IfOk result (λ paths. words_of paths.items ≡ files_by self (asked self (words_of words.now) cwd.now (pairs_of env_vars.now) view.now)) }
-    {
-        match self {
-            Compiler::Gcc | Compiler::Gxx | Compiler::Clang | Compiler::Clangxx => {
-                wanted_files(alloc, ExpansionKind::Gnu, cwd, words, view)
+        _compiler: &C,
+        command_lines: CommandLines,
+    ) -> Mem<Vec<Vec<u8>>> {
+        match command_lines {
+            CommandLines::Given => Ok(Vec::new(alloc)),
+            CommandLines::Expanded(kind) => {
+                wanted_files(alloc, kind, self.cwd, self.words, self.view)
             }
-            Compiler::Cl => msvc::files_wanted(alloc, words, cwd, env_vars, false, view),
-            Compiler::ClangCl => msvc::files_wanted(alloc, words, cwd, env_vars, true, view),
-            Compiler::Diab => wanted_files(alloc, ExpansionKind::Diab, cwd, words, view),
-            Compiler::Tasking => Ok(Vec::new(alloc)),
+            CommandLines::Msvc { is_clang } => msvc::files_wanted(
+                alloc,
+                self.words,
+                self.cwd,
+                self.env_vars,
+                is_clang,
+                self.view,
+            ),
         }
     }
+}
 
+impl Compiler {
     /// What the answer asks, with no bound on words.
     #[tactic(auto, using(crate::proofs::RecordLaws::hash_files_are_given, crate::proofs::RecordLaws::database_is_given))]
     fn all_questions(
@@ -126,7 +148,13 @@ impl Compiler {
     ) -> Mem<Questions>
         ensures { IfOk result (λ questions. given questions ≡ questions_of (asked self (words_of words.now) cwd.now (pairs_of env_vars.now) view.now)) }
     {
-        let files = self.files_wanted(alloc, words, cwd, env_vars, view)?;
+        let query = FilesWanted {
+            words,
+            cwd,
+            env_vars,
+            view,
+        };
+        let files = self.ask(alloc, query)?;
         let answer = self.answer(alloc, b"", words, cwd, env_vars, view)?;
         Ok(Questions {
             files,
