@@ -82,18 +82,12 @@ fn push_switches(alloc: Global, lines: &mut String, record: &ParsedArguments) ->
 }
 
 /// A word that may be missing.
-fn push_word(alloc: Global, lines: &mut String, name: &str, word: Option<&Vec<u8>>) -> Mem<()> {
-    match word {
-        Some(word) => {
-            push_field(
-                alloc,
-                lines,
-                name,
-                format!(in alloc; "{}", Escaped(word))?.as_str(),
-            )
-        }
-        None => push_field(alloc, lines, name, "none"),
-    }
+fn push_word(alloc: Global, lines: &mut String, name: &str, word: &Option<Vec<u8>>) -> Mem<()> {
+    let text = match word {
+        Some(word) => format!(in alloc; "{}", Escaped(word))?,
+        None => String::from_str(alloc, "none")?,
+    };
+    push_field(alloc, lines, name, text.as_str())
 }
 
 /// Words with a space between two.
@@ -113,35 +107,25 @@ fn outputs_of(alloc: Global, record: &ParsedArguments) -> Mem<String> {
     Ok(text)
 }
 
+/// The fields that are words.
+fn push_lists(alloc: Global, lines: &mut String, record: &ParsedArguments) -> Mem<()> {
+    push_words(alloc, lines, "dependency_args", &record.dependency_args)?;
+    push_words(alloc, lines, "common_args", &record.common_args)?;
+    push_words(alloc, lines, "extra_hash_files", &record.extra_hash_files)?;
+    push_word(alloc, lines, "depfile", &record.depfile)?;
+    let hard = &record.too_hard_for_preprocessor_cache_mode;
+    push_word(alloc, lines, "too_hard_for_preprocessor_cache_mode", hard)
+}
+
 /// The fields of a record, a line each behind an empty one.
 fn fields_of(alloc: Global, record: &ParsedArguments) -> Mem<String> {
     let (language, color) = (record.language, record.color_mode);
-    let mut lines = format!(in alloc; "\nlanguage {language:?}\ncolor_mode {color:?}\n")?;
-    let outputs = outputs_of(alloc, record)?;
-    push_field(alloc, &mut lines, "outputs", outputs.as_str())?;
+    let (input, outputs) = (Escaped(&record.input), outputs_of(alloc, record)?);
+    let mut lines = format!(in alloc;
+        "\nlanguage {language:?}\ncolor_mode {color:?}\ninput {input}\noutputs {outputs}\n"
+    )?;
     push_switches(alloc, &mut lines, record)?;
-    let hard = record.too_hard_for_preprocessor_cache_mode.as_ref();
-    push_word(
-        alloc,
-        &mut lines,
-        "too_hard_for_preprocessor_cache_mode",
-        hard,
-    )?;
-    push_word(alloc, &mut lines, "depfile", record.depfile.as_ref())?;
-    push_word(alloc, &mut lines, "input", Some(&record.input))?;
-    push_words(
-        alloc,
-        &mut lines,
-        "dependency_args",
-        &record.dependency_args,
-    )?;
-    push_words(alloc, &mut lines, "common_args", &record.common_args)?;
-    push_words(
-        alloc,
-        &mut lines,
-        "extra_hash_files",
-        &record.extra_hash_files,
-    )?;
+    push_lists(alloc, &mut lines, record)?;
     Ok(lines)
 }
 
