@@ -10,8 +10,8 @@ use std::fmt::Display;
 /// The words of a text, with a space between two.
 fn words_of(alloc: Global, text: &str) -> Mem<Vec<Vec<u8>>> {
     let mut words = Vec::new(alloc);
-    for word in text.split(' ') {
-        push_word(alloc, &mut words, word.as_bytes())?;
+    for word in text.as_bytes().split(|byte| *byte == b' ') {
+        push_word(alloc, &mut words, word)?;
     }
     Ok(words)
 }

@@ -1,11 +1,19 @@
 //! What errors say, and what is printed in quotes.
 use crate::tests::{prints, says, words_of};
 use scl_args::{ArgParseError, ArgToStringError, Mem, quote_list, quote_word};
-use std::alloc::Global;
+use std::alloc::{AllocError, AllocFailed, Global};
 use std::test::Fail;
 
 fn word(alloc: Global) -> Mem<Vec<u8>> {
     Vec::from_slice(alloc, b"!a~ \\\x7f\xff\n")
+}
+
+#[test]
+fn refusals_of_memory_become_errors_of_words_and_texts(rt: HostRuntime) {
+    assert!(rt; ArgParseError::from(AllocError) == ArgParseError::Memory);
+    assert!(rt; ArgParseError::from(AllocFailed { value: 0u8 }) == ArgParseError::Memory);
+    assert!(rt; ArgToStringError::from(AllocError) == ArgToStringError::Memory);
+    assert!(rt; ArgToStringError::from(AllocFailed { value: 0u8 }) == ArgToStringError::Memory);
 }
 
 #[test]
@@ -36,19 +44,14 @@ fn errors_show_the_escaped_word(rt: HostRuntime) -> Result<(), Fail> {
     Ok(())
 }
 
-/// Two words, the second with bytes that are escaped.
-fn two_words(alloc: Global) -> Mem<Vec<Vec<u8>>> {
-    let mut words = words_of(alloc, "a")?;
-    words.push(word(alloc)?)?;
-    Ok(words)
-}
-
 #[test]
 fn words_in_quotes_are_escaped(rt: HostRuntime) -> Result<(), Fail> {
     let alloc = rt.alloc();
     assert!(rt; says(&quote_word(alloc, b"a b"), "\"a\\x20b\""));
     assert!(rt; says(&quote_list(alloc, &[]), "[]"));
+    let mut words = words_of(alloc, "a")?;
+    words.push(word(alloc)?)?;
     let text = "[\"a\", \"!a~\\x20\\x5c\\x7f\\xff\\x0a\"]";
-    assert!(rt; says(&quote_list(alloc, &two_words(alloc)?), text));
+    assert!(rt; says(&quote_list(alloc, &words), text));
     Ok(())
 }

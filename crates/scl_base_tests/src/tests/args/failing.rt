@@ -2,32 +2,21 @@
 use super::is_refused;
 use scl_args::{Counted, FailingReader, FailingWriter, WriteFault, write_whole};
 use std::io::{ErrorKind, Read, Write};
-use std::process::Abort;
-
-/// The next read gives so many bytes, which are the first of these four.
-fn expect_piece(rt: &impl Abort, reader: &mut impl Read, given: usize, piece: &[u8; 4]) {
-    let mut buf = *b"....";
-    assert!(rt; matches!(reader.read(&mut buf), Ok(count) if count == given));
-    assert!(rt; buf == *piece);
-}
-
-fn expect_refused(rt: &impl Abort, reader: &mut impl Read) {
-    assert!(rt; is_refused(reader.read(&mut [0]), ErrorKind::BrokenPipe));
-}
 
 #[test]
 fn a_reader_gives_pieces_and_then_fails(rt: HostRuntime) {
     let mut reader = Counted::new(FailingReader::new(b"abcdefg", 3, 4));
-    expect_piece(&rt, &mut reader, 3, b"abc.");
-    expect_piece(&rt, &mut reader, 3, b"def.");
-    expect_piece(&rt, &mut reader, 1, b"g...");
-    expect_piece(&rt, &mut reader, 0, b"....");
+    for (given, piece) in [(3, b"abc."), (3, b"def."), (1, b"g..."), (0, b"....")] {
+        let mut buf = *b"....";
+        assert!(rt; matches!(reader.read(&mut buf), Ok(count) if count == given));
+        assert!(rt; buf == *piece);
+    }
     assert!(rt; reader.failures() == 0);
-    expect_refused(&rt, &mut reader);
+    assert!(rt; is_refused(reader.read(&mut [0]), ErrorKind::BrokenPipe));
     assert!(rt; reader.failures() == 1);
-    expect_refused(&rt, &mut reader);
+    assert!(rt; is_refused(reader.read(&mut [0]), ErrorKind::BrokenPipe));
     assert!(rt; reader.failures() == 2);
-    expect_refused(&rt, &mut FailingReader::new(b"a", 0, 4));
+    assert!(rt; FailingReader::new(b"a", 0, 4).read(&mut [0]).is_err());
 }
 
 #[test]

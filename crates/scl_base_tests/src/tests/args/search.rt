@@ -83,8 +83,10 @@ fn a_search_of_the_written_rows_looks_at_few(rt: HostRuntime) -> Result<(), Fail
 #[test]
 fn of_the_written_tables_the_longer_flag_wins(rt: HostRuntime) -> Result<(), Fail> {
     let tables = (gcc::table(), clang::table());
+    let first = FlagTree::build(rt.alloc(), &tables.0)?;
+    let trees = (first, FlagTree::build(rt.alloc(), &tables.1)?);
     assert!(rt; finds(&tables, "-include-pch", "-include-pch"));
-    assert!(rt; finds(&clang::trees(rt.alloc())?, "-include-pch", "-include-pch"));
+    assert!(rt; finds(&trees, "-include-pch", "-include-pch"));
     Ok(())
 }
 
@@ -112,19 +114,20 @@ static NESTED: [ArgRow<Kind>; 5] = [
     Flag("-b", Kind::Alone),
 ];
 
-fn expect_deepest<S: SearchableArgInfo<Value>>(rt: &impl Abort, tree: &S) {
-    assert!(rt; finds(tree, "@file", ""));
-    assert!(rt; finds(tree, "-a", "-a"));
-    assert!(rt; finds(tree, "-abc", "-ab"));
-    assert!(rt; finds(tree, "-abcde", "-ab"));
-    assert!(rt; finds(tree, "-abcd=e", "-abcd"));
-    assert!(rt; tree.search(b"-ac").is_none());
-    assert!(rt; tree.search(b"-").is_none());
-}
-
 #[test]
 fn the_deepest_row_that_fits_is_found(rt: HostRuntime) -> Result<(), Fail> {
-    expect_deepest(&rt, &tree_of(rt.alloc(), &NESTED)?);
+    let tree = tree_of(rt.alloc(), &NESTED)?;
+    for (key, flag) in [
+        ("@file", ""),
+        ("-a", "-a"),
+        ("-abc", "-ab"),
+        ("-abcde", "-ab"),
+        ("-abcd=e", "-abcd"),
+    ] {
+        assert!(rt; finds(&tree, key, flag), "{key}");
+    }
+    assert!(rt; tree.search(b"-ac").is_none());
+    assert!(rt; tree.search(b"-").is_none());
     Ok(())
 }
 
@@ -138,21 +141,13 @@ fn finds_both<S: SearchableArgInfo<Value>>(tables: &S) -> bool {
     finds(tables, "-include", "-include") && finds(tables, "-include-pch", "-include-pch")
 }
 
-/// Of tables in this order, and of their trees, both flags are found.
-fn expect_both(
-    rt: &(impl Abort + Alloc<A = Global>),
-    first: Rows,
-    second: Rows,
-) -> Result<(), Fail> {
-    assert!(rt; finds_both(&pair_of(first, second)?));
-    assert!(rt; finds_both(&trees_of(rt.alloc(), first, second)?));
-    Ok(())
-}
-
 #[test]
 fn of_two_tables_the_longer_flag_wins(rt: HostRuntime) -> Result<(), Fail> {
-    expect_both(&rt, &INCLUDE, &INCLUDE_PCH)?;
-    expect_both(&rt, &INCLUDE_PCH, &INCLUDE)
+    assert!(rt; finds_both(&pair_of(&INCLUDE, &INCLUDE_PCH)?));
+    assert!(rt; finds_both(&pair_of(&INCLUDE_PCH, &INCLUDE)?));
+    assert!(rt; finds_both(&trees_of(rt.alloc(), &INCLUDE, &INCLUDE_PCH)?));
+    assert!(rt; finds_both(&trees_of(rt.alloc(), &INCLUDE_PCH, &INCLUDE)?));
+    Ok(())
 }
 
 /// Whether the second of two rows of one flag is found, by as many looks through a reference.

@@ -1,21 +1,34 @@
 //! A word that is cut at the first place of a text.
-use crate::tests::says;
-use scl_args::{Mem, split_os_string_arg};
-use std::alloc::Global;
+use scl_args::{ArgParseError, split_os_string_arg};
+use std::process::Abort;
+use std::test::Fail;
 
-/// The texts before and behind the first `=`, or why there are none.
-fn split(alloc: Global, word: &[u8]) -> Mem<String> {
-    match split_os_string_arg(alloc, Vec::from_slice(alloc, word)?, "=") {
-        Ok((before, Some(after))) => format!(in alloc; "{before}, {after}"),
-        Ok((before, None)) => Ok(before),
-        Err(error) => format!(in alloc; "{error}"),
+/// Compares the texts before and behind the first `=`; a word that is wanted to have none is refused.
+fn expect_split(
+    rt: &(impl Abort + AllocGlobal),
+    word: &[u8],
+    wanted: Option<(&str, Option<&str>)>,
+) -> Result<(), Fail> {
+    match split_os_string_arg(rt.alloc(), Vec::from_slice(rt.alloc(), word)?, "=") {
+        Ok((before, after)) => {
+            let after = match &after {
+                Some(text) => Some(text.as_str()),
+                None => None,
+            };
+            assert!(rt; Some((before.as_str(), after)) == wanted);
+        }
+        Err(ArgParseError::InvalidUnicode(bytes)) => {
+            assert!(rt; bytes.as_slice() == word);
+            assert!(rt; wanted.is_none());
+        }
+        Err(_) => panic!(rt; "another answer"),
     }
+    Ok(())
 }
 
 #[test]
-fn a_text_is_split_at_the_first_place_if_there_is_one(rt: HostRuntime) {
-    assert!(rt; says(&split(rt.alloc(), b"a=b=c"), "a, b=c"));
-    assert!(rt; says(&split(rt.alloc(), b"abc"), "abc"));
-    let refused = "String \"\\xff\" contained invalid unicode";
-    assert!(rt; says(&split(rt.alloc(), b"\xff"), refused));
+fn a_text_is_split_at_the_first_place_if_there_is_one(rt: HostRuntime) -> Result<(), Fail> {
+    expect_split(&rt, b"a=b=c", Some(("a", Some("b=c"))))?;
+    expect_split(&rt, b"abc", Some(("abc", None)))?;
+    expect_split(&rt, b"\xff", None)
 }

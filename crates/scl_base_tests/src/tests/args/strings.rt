@@ -86,10 +86,11 @@ impl Renamer {
 }
 
 fn push_line(alloc: Global, lines: &mut String, text: ArgToStringResult) -> Mem<()> {
-    match text {
-        Ok(text) => lines.push_str(text.as_str())?,
-        Err(error) => lines.push_str(format!(in alloc; "{error}")?.as_str())?,
-    }
+    let line = match text {
+        Ok(text) => text,
+        Err(error) => format!(in alloc; "{error}")?,
+    };
+    lines.push_str(line.as_str())?;
     lines.push('\n')
 }
 
@@ -158,58 +159,34 @@ fn a_path_is_asked_for_once(rt: HostRuntime) -> Result<(), Fail> {
     )
 }
 
-/// Compares what an option without a path prints.
-fn expect_no_path(
-    rt: &(impl Abort + AllocGlobal),
-    option: Argument<Value>,
-    wanted: &str,
-) -> Result<(), Fail>
-    requires { is_delimited_by_ascii option ≡ true }
-{
-    expect_texts(rt, &option, Some("q"), wanted, 0)
-}
-
 #[test]
 fn words_and_flags_are_printed_without_a_path(rt: HostRuntime) -> Result<(), Fail> {
-    let alloc = rt.alloc();
+    let word = Argument::Raw(Vec::from_slice(rt.alloc(), b"\xff")?);
     let lines = "String \"\\xff\" contained invalid unicode\n";
-    expect_no_path(&rt, Argument::Raw(Vec::from_slice(alloc, b"\xff")?), lines)?;
-    expect_no_path(
-        &rt,
-        Argument::UnknownFlag(Vec::from_slice(alloc, b"-new")?),
-        "-new\n",
-    )?;
-    expect_no_path(
-        &rt,
-        Argument::Flag("-c", Value::Word(Vec::new(alloc))),
-        "-c\n",
-    )
+    expect_texts(&rt, &word, Some("q"), lines, 0)?;
+    let unknown = Argument::UnknownFlag(Vec::from_slice(rt.alloc(), b"-new")?);
+    expect_texts(&rt, &unknown, Some("q"), "-new\n", 0)?;
+    let flag = Argument::Flag("-c", Value::make(rt.alloc(), false, Vec::new(rt.alloc()))?);
+    expect_texts(&rt, &flag, None, "-c\n", 0)
 }
 
 #[test]
 fn a_value_that_is_no_text_ends_the_texts(rt: HostRuntime) -> Result<(), Fail> {
     let word = Value::Word(Vec::from_slice(rt.alloc(), b"\xff")?);
     let option = Argument::WithValue("-foo", word, ArgDisposition::Separated);
-    expect_no_path(
-        &rt,
-        option,
-        "-foo\nString \"\\xff\" contained invalid unicode\n",
-    )
-}
-
-/// The value prints as the text, as bytes and as a text.
-fn expect_printed<T: IntoArg>(rt: &(impl Abort + AllocGlobal), value: &T, text: &str) {
-    assert!(rt; makes(&value.into_arg_os_string(rt.alloc()), text.as_bytes()));
-    let printed = value.into_arg_string(rt.alloc(), &mut |_path: &[u8]| None);
-    assert!(rt; says(&printed, text));
+    let lines = "-foo\nString \"\\xff\" contained invalid unicode\n";
+    expect_texts(&rt, &option, Some("q"), lines, 0)
 }
 
 #[test]
 fn texts_are_made_and_printed(rt: HostRuntime) -> Result<(), Fail> {
     let text = String::process(rt.alloc(), Vec::from_slice(rt.alloc(), b"a")?)?;
     assert!(rt; text.as_str() == "a");
-    expect_printed(&rt, &text, "a");
-    expect_printed(&rt, &(), "");
+    assert!(rt; makes(&text.into_arg_os_string(rt.alloc()), b"a"));
+    let mut none = |_path: &[u8]| None;
+    assert!(rt; says(&text.into_arg_string(rt.alloc(), &mut none), "a"));
+    assert!(rt; says(&().into_arg_string(rt.alloc(), &mut none), ""));
+    assert!(rt; makes(&().into_arg_os_string(rt.alloc()), b""));
     Ok(())
 }
 

@@ -1,12 +1,11 @@
-//! A value of two kinds, tables of it, and options as lines of text.
+//! A value of two kinds, tables of it, and its options as a test writes them.
 ghost use Rattle.std.specs.Prelude.{◌≡◌, IsOkAnd, true, false};
 
 use scl_args::{
-    ArgDisposition, ArgParseResult, ArgRow, ArgToStringResult, Argument, ArgumentValue, Escaped,
-    ExactArg, FlagTable, FlagTree, Held, IntoArg, Mem, ReadArg,
+    ArgDisposition, ArgParseResult, ArgRow, ArgToStringResult, Argument, ArgumentValue, ExactArg,
+    FlagTable, FlagTree, Held, IntoArg, Mem, ReadArg,
 };
 use std::alloc::Global;
-use std::process::Abort;
 use std::test::Fail;
 
 /// Whether a flag takes a value.
@@ -71,55 +70,31 @@ impl ReadArg for Value {
     }
 }
 
-/// Appends a line: a name, and a word with its bytes escaped.
-fn push_line(alloc: Global, lines: &mut String, name: &str, word: &[u8]) -> Mem<()> {
-    lines.push_str(format!(in alloc; "{name} {}\n", Escaped(word))?.as_str())
+/// An option as a test writes it.
+#[derive(Clone, Copy, PartialEq, Eq)]
+pub(super) enum Told<'a> {
+    Raw(&'a [u8]),
+    Unknown(&'a [u8]),
+    Flag(&'static str),
+    Value(&'static str, &'a [u8], ArgDisposition),
 }
 
-/// Appends the line of an option with a value: its flag, how the value stands, and its word.
-fn push_value<T: ArgumentValue>(
-    alloc: Global,
-    lines: &mut String,
-    flag: &str,
-    value: &T,
-    how: ArgDisposition,
-) -> Mem<()> {
-    let word = value.into_arg_os_string(alloc)?;
-    lines.push_str(format!(in alloc; "{flag} {how:?} {}\n", Escaped(&word))?.as_str())
-}
-
-/// Appends the line of an option.
-pub(super) fn push_option<T: ArgumentValue>(
-    alloc: Global,
-    lines: &mut String,
-    option: &Argument<T>,
-) -> Mem<()> {
+pub(super) fn as_told<'a>(option: &'a Argument<Value>) -> Told<'a> {
     match option {
-        Argument::Raw(word) => push_line(alloc, lines, "raw", word),
-        Argument::UnknownFlag(word) => push_line(alloc, lines, "unknown", word),
-        Argument::Flag(flag, _) => push_line(alloc, lines, "flag", flag.as_bytes()),
-        Argument::WithValue(flag, value, how) => push_value(alloc, lines, flag, value, *how),
+        Argument::Raw(word) => Told::Raw(word.as_slice()),
+        Argument::UnknownFlag(word) => Told::Unknown(word.as_slice()),
+        Argument::Flag(flag, _) => Told::Flag(flag),
+        Argument::WithValue(flag, value, how) => Told::Value(flag, value.word.as_slice(), *how),
     }
 }
 
-/// The lines that tell options.
-pub(super) fn lines_of<T: ArgumentValue>(alloc: Global, options: &[Argument<T>]) -> Mem<String> {
-    let mut lines = String::new(alloc);
-    for option in options {
-        push_option(alloc, &mut lines, option)?;
-    }
-    Ok(lines)
-}
-
-/// The options are those that the lines tell.
-pub(super) fn expect_lines<T: ArgumentValue>(
-    rt: &(impl Abort + Alloc<A = Global>),
-    options: &[Argument<T>],
-    want: &str,
-) -> Mem<()> {
-    let lines = lines_of(rt.alloc(), options)?;
-    assert!(rt; lines.as_str() == want, "{lines}");
-    Ok(())
+/// Whether the options are those that are told.
+pub(super) fn are_told(options: &[Argument<Value>], told: &[Told<'_>]) -> bool {
+    options.len() == told.len()
+        && options
+            .iter()
+            .zip(told.iter())
+            .all(|(option, told)| as_told(option) == *told)
 }
 
 pub(super) fn table_of(rows: &'static [ArgRow<Kind>]) -> Result<FlagTable<'static, Value>, Fail> {
@@ -141,6 +116,12 @@ pub(super) fn valued(
     how: ArgDisposition,
 ) -> Mem<Argument<Value>> {
     let word = Vec::from_slice(alloc, word)?;
-    let kind = Kind::Valued;
-    Ok(Argument::WithValue(flag, Value { kind, word }, how))
+    Ok(Argument::WithValue(
+        flag,
+        Value {
+            kind: Kind::Valued,
+            word,
+        },
+        how,
+    ))
 }

@@ -2,94 +2,97 @@
 use crate::tests::{gives, words_of};
 use scl_text::{ExpandAtArgs, ExpansionKind, GnuExpand, Mem, MsvcExpand, View, expand_all};
 use std::alloc::Global;
-use std::process::Abort;
 use std::test::Fail;
 
-/// Adds a file of the words.
-fn add_file(alloc: Global, view: &mut View, path: &[u8], words: &[u8]) -> Mem<()> {
-    let path = Vec::from_slice(alloc, path)?;
-    view.add_file(path, Vec::from_slice(alloc, words)?)
+/// Adds the file of a line: its path, a colon and its words.
+fn add_file(alloc: Global, view: &mut View, line: &[u8]) -> Mem<()> {
+    let at = line.iter().position(|byte| *byte == b':').unwrap_or(0);
+    match line[at..].split_first() {
+        Some((_, words)) => view.add_file(
+            Vec::from_slice(alloc, &line[..at])?,
+            Vec::from_slice(alloc, words)?,
+        ),
+        None => Ok(()),
+    }
 }
 
-/// The view of files, with a semicolon between two: each is its path, a colon and its words.
-pub(super) fn view_of(alloc: Global, files: &str) -> Mem<View> {
+/// The view of files, each a line of text.
+pub(super) fn view_of(alloc: Global, files: &[u8]) -> Mem<View> {
     let mut view = View::new(alloc);
-    for file in files.split(';') {
-        let (path, words) = file.split_once(':').unwrap_or((file, ""));
-        add_file(alloc, &mut view, path.as_bytes(), words.as_bytes())?;
+    for line in files.split(|byte| *byte == b'\n') {
+        add_file(alloc, &mut view, line)?;
     }
     Ok(view)
 }
 
-/// The words that the kind's iterator gives in the directory `/w`.
-fn expanded(alloc: Global, kind: ExpansionKind, view: &View, text: &str) -> Mem<Vec<Vec<u8>>> {
-    let words = words_of(alloc, text)?;
+/// The words that the kind's iterator gives.
+fn collected(
+    alloc: Global,
+    kind: ExpansionKind,
+    cwd: &[u8],
+    words: &[Vec<u8>],
+    view: &View,
+) -> Mem<Vec<Vec<u8>>> {
     match kind {
-        ExpansionKind::Gnu => GnuExpand::new(alloc, b"/w", &words, view).try_collect(alloc),
-        ExpansionKind::Msvc => MsvcExpand::new(alloc, b"/w", &words, view).try_collect(alloc),
-        ExpansionKind::Diab => ExpandAtArgs::new(alloc, b"/w", &words, view).try_collect(alloc),
+        ExpansionKind::Gnu => GnuExpand::new(alloc, cwd, words, view).try_collect(alloc),
+        ExpansionKind::Msvc => MsvcExpand::new(alloc, cwd, words, view).try_collect(alloc),
+        ExpansionKind::Diab => ExpandAtArgs::new(alloc, cwd, words, view).try_collect(alloc),
     }
 }
 
-/// Files, with a semicolon between two, then words, and what they expand to.
-static GNU: &str = "
-/w/x:-DA @y;/w/y:-DB => @y @x @y => -DB -DA -DB -DB
-/w/p:-a @q;/w/q:-b @p => @p @p => -a -b @p -a -b @p
-/w/r:@./r -x => @r => @./r -x
-/w//r:-c a.c => @r => -c a.c
-/w/r:-old;/w/s:-other;/w/./r/:-new => @r => -new
-r:-c => @r @s @ => @r @s @
-";
+/// Files, words, and what they expand to.
+static EXPANDED: [(ExpansionKind, &[u8], &str, &str); 11] = [
+    (
+        ExpansionKind::Gnu,
+        b"/w/x:-DA @y\n/w/y:-DB",
+        "@y @x @y",
+        "-DB -DA -DB -DB",
+    ),
+    (
+        ExpansionKind::Gnu,
+        b"/w/p:-a @q\n/w/q:-b @p",
+        "@p @p",
+        "-a -b @p -a -b @p",
+    ),
+    (ExpansionKind::Gnu, b"/w/r:@./r -x", "@r", "@./r -x"),
+    (ExpansionKind::Gnu, b"/w//r:-c a.c", "@r", "-c a.c"),
+    (
+        ExpansionKind::Gnu,
+        b"/w/r:-old\n/w/s:-other\n/w/./r/:-new",
+        "@r",
+        "-new",
+    ),
+    (ExpansionKind::Gnu, b"r:-c", "@r @s @", "@r @s @"),
+    (ExpansionKind::Gnu, b"/w/r:\xff", "@r @s @", "@r @s @"),
+    (
+        ExpansionKind::Msvc,
+        b"/w/f:/c x.c @g\n/w/g:-Zi",
+        "@f @g",
+        "/c x.c @g -Zi",
+    ),
+    (ExpansionKind::Diab, b"/w/f:-c -@f", "-@f", "-c -@f"),
+    (ExpansionKind::Diab, b"/w/f:-DA=\"x\"", "-@f", "-@f"),
+    (
+        ExpansionKind::Diab,
+        b"/w/E:-DE\n/w/O:-DO\n/w/@:-DA\n/w/f:-DF",
+        "-@E -@O -@@ @f -@f",
+        "-@E -@O -@@ @f -DF",
+    ),
+];
 
-static MSVC: &str = "
-/w/f:/c x.c @g;/w/g:-Zi => @f @g => /c x.c @g -Zi
-";
-
-static DIAB: &str = "
-/w/f:-c -@f => -@f => -c -@f
-/w/f:-DA=\"x\" => -@f => -@f
-/w/E:-DE;/w/O:-DO;/w/@:-DA;/w/f:-DF => -@E -@O -@@ @f -@f => -@E -@O -@@ @f -DF
-";
-
-fn expect_expanded(
-    rt: &(impl Abort + Alloc<A = Global>),
-    kind: ExpansionKind,
-    row: &str,
-) -> Result<(), Fail> {
-    let (files, rest) = row.split_once(" => ").ok_or("no words")?;
-    let (text, wanted) = rest.split_once(" => ").ok_or("no other words")?;
-    let view = view_of(rt.alloc(), files)?;
-    let words = expanded(rt.alloc(), kind, &view, text)?;
-    assert!(rt; words == words_of(rt.alloc(), wanted)?, "{row}");
-    Ok(())
-}
-
-fn expect_rows(
-    rt: &(impl Abort + Alloc<A = Global>),
-    kind: ExpansionKind,
-    rows: &str,
-) -> Result<(), Fail> {
-    for row in rows.lines() {
-        if !row.is_empty() {
-            expect_expanded(rt, kind, row)?;
-        }
-    }
-    Ok(())
+/// The words that words expand to.
+fn expanded(alloc: Global, kind: ExpansionKind, files: &[u8], text: &str) -> Mem<Vec<Vec<u8>>> {
+    let words = words_of(alloc, text)?;
+    let view = view_of(alloc, files)?;
+    collected(alloc, kind, b"/w", &words, &view)
 }
 
 #[test]
 fn readable_files_are_put_in_place(rt: HostRuntime) -> Result<(), Fail> {
-    expect_rows(&rt, ExpansionKind::Gnu, GNU)?;
-    expect_rows(&rt, ExpansionKind::Msvc, MSVC)?;
-    expect_rows(&rt, ExpansionKind::Diab, DIAB)
-}
-
-#[test]
-fn a_file_that_is_no_text_is_not_put_in_place(rt: HostRuntime) -> Result<(), Fail> {
-    let mut view = View::new(rt.alloc());
-    add_file(rt.alloc(), &mut view, b"/w/r", b"\xff")?;
-    let words = expanded(rt.alloc(), ExpansionKind::Gnu, &view, "@r @s @");
-    assert!(rt; gives(&words, &["@r", "@s", "@"]));
+    for (kind, files, text, wanted) in EXPANDED {
+        let words = expanded(rt.alloc(), kind, files, text)?;
+        assert!(rt; words == words_of(rt.alloc(), wanted)?, "{text}");
+    }
     Ok(())
 }
 
@@ -132,12 +135,18 @@ fn words_behind(alloc: Global, files: u32, is_twice: bool, words: &str) -> Mem<V
 fn ten_files_that_double_give_a_thousand_words(rt: HostRuntime) -> Result<(), Fail> {
     let all = words_behind(rt.alloc(), 10, true, "-DA")?;
     assert!(rt; all.len() == 1024);
-    assert!(rt; all.iter().all(|word| word.as_slice() == b"-DA".as_slice()));
+    for word in &all {
+        assert!(rt; word.as_slice() == b"-DA".as_slice());
+    }
     Ok(())
 }
 
 #[test]
 fn a_chain_of_a_thousand_files_ends(rt: HostRuntime) {
-    let words = words_behind(rt.alloc(), 999, false, "-c a.c");
-    assert!(rt; gives(&words, &["-c", "a.c"]));
+    assert!(rt;
+        gives(
+            &words_behind(rt.alloc(), 999, false, "-c a.c"),
+            &["-c", "a.c"]
+        )
+    );
 }

@@ -5,30 +5,22 @@ use scl_text::command::{copy_pairs, push_words, single_command};
 use scl_text::language::Language;
 use scl_text::outputs::{output_path, put_output};
 use scl_text::records::{ArtifactDescriptor, CommandError, ParsedArguments, SingleCompileCommand};
-use std::alloc::{AllocError, Global};
+use std::alloc::{AllocError, AllocFailed, Global};
 use std::collections::BTreeMap;
-use std::process::Abort;
 use std::test::Fail;
-
-/// Words have these architectures.
-fn expect_archs(rt: &(impl Abort + Alloc<A = Global>), words: &str, archs: &[&str]) -> Mem<()> {
-    let input = Vec::from_slice(rt.alloc(), b"a.c")?;
-    let flag = Vec::from_slice(rt.alloc(), b"-c")?;
-    let mut parsed = ParsedArguments::bare(rt.alloc(), input, Language::C, flag);
-    parsed.arch_args = words_of(rt.alloc(), words)?;
-    assert!(rt; gives(&parsed.archs(rt.alloc()), archs));
-    assert!(rt; parsed.is_multiarch() == (archs.len() > 1), "{words}");
-    Ok(())
-}
 
 #[test]
 fn finds_architectures(rt: HostRuntime) -> Result<(), Fail> {
-    expect_archs(
-        &rt,
-        "-arch i386 -arch i386 -arch x86_64 -arch",
-        &["i386", "x86_64"],
-    )?;
-    expect_archs(&rt, "-arch i386 -arch i386 -arch", &["i386"])?;
+    let alloc = rt.alloc();
+    let words = words_of(alloc, "-arch i386 -arch i386 -arch x86_64 -arch")?;
+    let input = Vec::from_slice(alloc, b"a.c")?;
+    let flag = Vec::from_slice(alloc, b"-c")?;
+    let mut parsed = ParsedArguments::bare(alloc, input, Language::C, flag);
+    parsed.arch_args = words_of(alloc, "-arch i386 -arch i386 -arch")?;
+    assert!(rt; !parsed.is_multiarch());
+    parsed.arch_args = words;
+    assert!(rt; gives(&parsed.archs(alloc), &["i386", "x86_64"]));
+    assert!(rt; parsed.is_multiarch());
     Ok(())
 }
 
@@ -91,5 +83,7 @@ fn makes_a_command(rt: HostRuntime) -> Result<(), Fail> {
 fn errors_have_their_texts(rt: HostRuntime) {
     let missing = "Missing object file output";
     assert!(rt; prints(rt.alloc(), &CommandError::MissingObj, missing));
-    assert!(rt; prints(rt.alloc(), &CommandError::from(AllocError), "out of memory"));
+    let memory = CommandError::from(AllocError);
+    assert!(rt; memory == CommandError::from(AllocFailed { value: 0u8 }));
+    assert!(rt; prints(rt.alloc(), &memory, "out of memory"));
 }

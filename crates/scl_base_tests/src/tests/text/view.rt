@@ -2,31 +2,30 @@
 use super::expand::view_of;
 use scl_text::{Mem, View};
 use std::alloc::Global;
-use std::process::Abort;
 use std::test::Fail;
 
 /// A file that was replaced, a directory, and another path.
 fn view_of_each(alloc: Global) -> Mem<View> {
-    let mut view = view_of(alloc, "/w/a.c:old;/w//./a.c:new")?;
+    let mut view = view_of(alloc, b"/w/a.c:old\n/w//./a.c:new")?;
     view.add_dir(Vec::from_slice(alloc, b"src/")?)?;
     view.add_existing(Vec::from_slice(alloc, b"x.pdb")?)?;
     Ok(view)
 }
 
-fn expect_path(rt: &impl Abort, view: &View, path: &str, is_dir: bool, exists: bool) {
-    assert!(rt; view.is_dir(path.as_bytes()) == is_dir, "{path}");
-    assert!(rt; view.exists(path.as_bytes()) == exists, "{path}");
-}
-
 #[test]
 fn a_view_answers_by_the_components_of_a_path(rt: HostRuntime) -> Result<(), Fail> {
     let view = view_of_each(rt.alloc())?;
-    expect_path(&rt, &view, "/w", false, false);
-    expect_path(&rt, &view, "/w/a.c", false, true);
-    expect_path(&rt, &view, "src", true, true);
-    expect_path(&rt, &view, "src/.", true, true);
-    expect_path(&rt, &view, "x.pdb", false, true);
-    expect_path(&rt, &view, "./x.pdb", false, false);
+    for (path, is_dir, exists) in [
+        ("/w", false, false),
+        ("/w/a.c", false, true),
+        ("src", true, true),
+        ("src/.", true, true),
+        ("x.pdb", false, true),
+        ("./x.pdb", false, false),
+    ] {
+        assert!(rt; view.is_dir(path.as_bytes()) == is_dir, "{path}");
+        assert!(rt; view.exists(path.as_bytes()) == exists, "{path}");
+    }
     assert!(rt; view.file(b"/w/a.c/") == Some(b"new".as_slice()));
     assert!(rt; view.file(b"w/a.c").is_none());
     Ok(())
