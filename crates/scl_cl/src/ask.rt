@@ -52,24 +52,21 @@ impl Compiler {
         ensures { IfOk result (λ answer. Q.gives query (definitions_of self) answer) }
     {
         let gnu = CommandLines::Expanded(ExpansionKind::Gnu);
+        let diab = CommandLines::Expanded(ExpansionKind::Diab);
         match self {
-            Compiler::Gcc | Compiler::Gxx => {
-                let gcc = Gcc::new(matches!(self, Compiler::Gxx));
-                query.ask(alloc, &gcc, gnu)
+            Compiler::Gcc => query.ask(alloc, &Gcc::new(false), gnu),
+            Compiler::Gxx => query.ask(alloc, &Gcc::new(true), gnu),
+            Compiler::Clang => query.ask(alloc, &Clang::new(false), gnu),
+            Compiler::Clangxx => query.ask(alloc, &Clang::new(true), gnu),
+            Compiler::Cl => {
+                let cl = Msvc::new(false, String::new(alloc));
+                query.ask(alloc, &cl, CommandLines::Msvc { is_clang: false })
             }
-            Compiler::Clang | Compiler::Clangxx => {
-                let clang = Clang::new(matches!(self, Compiler::Clangxx));
-                query.ask(alloc, &clang, gnu)
+            Compiler::ClangCl => {
+                let cl = Msvc::new(true, String::new(alloc));
+                query.ask(alloc, &cl, CommandLines::Msvc { is_clang: true })
             }
-            Compiler::Cl | Compiler::ClangCl => {
-                let is_clang = matches!(self, Compiler::ClangCl);
-                let cl = Msvc::new(is_clang, String::new(alloc));
-                query.ask(alloc, &cl, CommandLines::Msvc { is_clang })
-            }
-            Compiler::Diab => {
-                let command_lines = CommandLines::Expanded(ExpansionKind::Diab);
-                query.ask(alloc, &Diab::new(), command_lines)
-            }
+            Compiler::Diab => query.ask(alloc, &Diab::new(), diab),
             Compiler::Tasking => query.ask(alloc, &TaskingVX, CommandLines::Given),
         }
     }
