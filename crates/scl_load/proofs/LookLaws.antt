@@ -2,7 +2,7 @@
 use Rattle.std.proofs.Common.{◌≡◌, ℕ, Bool, true, false, ◌||◌, List, [], ◌∷◌, ◌++◌, Option, None, Some, refl, ◌∙◌}
 use Rattle.std.specs.Prelude.{is_some}
 use Rattle.scl_values.specs.Each.{Each}
-use Rattle.scl_files.specs.Views.{File, Viewed, bytes_at}
+use Rattle.scl_files.specs.Views.{Viewed, bytes_at}
 use Rattle.scl_files.specs.Wanted.{HasNone}
 use Rattle.scl_cl.specs.Questions.{Questions, Extends, HasNoneOf}
 use Rattle.scl_load.specs.declared.look.Sought.{Sought}
