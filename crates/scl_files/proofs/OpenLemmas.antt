@@ -5,7 +5,7 @@ use Rattle.std.specs.Option.{option_and_then, is_some}
 use Rattle.scl_files.specs.Views.{File, bytes_at}
 use Rattle.scl_files.specs.ResponseFiles.{named, arguments, hides, files_inside}
 use Rattle.scl_files.specs.Expand.{OpenFile, open_file_at, opened}
-use Rattle.scl_files.specs.declared.expand.engine.WordsLeft.{WordsLeft}
+use Rattle.scl_files.specs.declared.expansion.WordsLeft.{WordsLeft}
 use Rattle.scl_files.specs.ExpansionState.{words_left, open_files, is_shut, closed}
 use Rattle.scl_files.specs.Paths.{same_path}
 use Rattle.scl_files.specs.PathMaps.{value_at}

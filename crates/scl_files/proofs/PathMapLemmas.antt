@@ -10,7 +10,7 @@ use Rattle.scl_files.specs.Paths.{same_path}
 use Rattle.scl_files.specs.PathMaps.{value_at, replaced_at, put_at}
 use Rattle.scl_files.specs.PathTrees.{node_at, IsTree, Keeps}
 use Rattle.scl_files.specs.PathEntries.{onto, shown_up_to, shown, this_at, place_at, this_or, newest_up_to, IsLinked}
-use Rattle.scl_files.specs.declared.path_map.Entry.{Entry}
+use Rattle.scl_files.specs.declared.path_map.entry.Entry.{Entry}
 use Rattle.scl_files.specs.declared.path_map.tree.PathTree.{PathTree}
 use Rattle.scl_files.proofs.PathTreeLemmas.{node-kept, same-by-node, apart-by-node}
 

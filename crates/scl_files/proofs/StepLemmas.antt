@@ -4,9 +4,9 @@ use Rattle.std.specs.declared.alloc.AllocError.{AllocError}
 use Rattle.scl_files.specs.Views.{File}
 use Rattle.scl_files.specs.ResponseFiles.{files_inside}
 use Rattle.scl_files.specs.Expand.{OpenFile, opened, in_place, expand}
-use Rattle.scl_files.specs.declared.expand.engine.Step.{Step}
-use Rattle.scl_files.specs.declared.expand.engine.Expansion.{Expansion}
-use Rattle.scl_files.specs.declared.expand.engine.WordsLeft.{WordsLeft}
+use Rattle.scl_files.specs.declared.expansion.Step.{Step}
+use Rattle.scl_files.specs.declared.expansion.Expansion.{Expansion}
+use Rattle.scl_files.specs.declared.expansion.WordsLeft.{WordsLeft}
 use Rattle.scl_files.specs.ExpansionState.{StepsFrom, words_left, open_files, closed, left, total, cost, steps_within, steps, steps_left}
 use Rattle.scl_files.specs.declared.expand.ExpansionKind.{ExpansionKind}
 use Rattle.scl_files.proofs.OpenLemmas.{opened-none, opened-less}

@@ -8,10 +8,10 @@ use Rattle.scl_values.specs.Words.{words_of}
 use Rattle.scl_files.specs.ResponseFiles.{hides, files_inside}
 use Rattle.scl_files.specs.Expand.{OpenFile, opened, in_place, expand}
 use Rattle.scl_files.specs.declared.expand.ExpansionKind.{ExpansionKind}
-use Rattle.scl_files.specs.declared.expand.engine.WordsLeft.{WordsLeft}
-use Rattle.scl_files.specs.declared.expand.engine.Expansion.{Expansion}
-use Rattle.scl_files.specs.declared.expand.engine.Step.{Step}
-use Rattle.scl_files.specs.declared.expand.engine.Step.TheVariants as step
+use Rattle.scl_files.specs.declared.expansion.WordsLeft.{WordsLeft}
+use Rattle.scl_files.specs.declared.expansion.Expansion.{Expansion}
+use Rattle.scl_files.specs.declared.expansion.Step.{Step}
+use Rattle.scl_files.specs.declared.expansion.Step.TheVariants as step
 
 abbrev pub words_left : WordsLeft → List (List ℕ)
 words_left w = words_of (into_iter_items w.words)

@@ -5,7 +5,7 @@ use Rattle.std.specs.Ordering.{nat_cmp}
 use Rattle.std.specs.BTreeMap.{BTreeMap, get}
 use Rattle.scl_files.specs.Paths.{same_path}
 use Rattle.scl_files.specs.PathTrees.{IsTree, node_at}
-use Rattle.scl_files.specs.declared.path_map.Entry.{Entry}
+use Rattle.scl_files.specs.declared.path_map.entry.Entry.{Entry}
 use Rattle.scl_files.specs.declared.path_map.tree.PathTree.{PathTree}
 
 abbrev pub onto : {T : Type 0} → Option (Entry T) → List (List ℕ × T) → List (List ℕ × T)

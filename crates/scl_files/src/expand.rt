@@ -5,17 +5,12 @@ ghost use Rattle.scl_files.specs.ResponseFiles.{file_name_in};
 ghost use Rattle.scl_values.specs.Words.{words_of};
 ghost use Rattle.scl_files.specs.Expand.{expand};
 
+use crate::expand_iterators::Expand;
+pub use crate::expand_iterators::{ExpandAtArgs, GnuExpand, MsvcExpand};
+use crate::response_file::file_name_in;
 use crate::view::View;
 use scl_values::Mem;
 use std::alloc::Global;
-
-mod engine;
-mod iterators;
-pub(crate) mod response_file;
-
-use iterators::Expand;
-pub use iterators::{ExpandAtArgs, GnuExpand, MsvcExpand};
-use response_file::file_name_in;
 
 /// Whose response files are put in place (docs/RULES.md, Expansion).
 #[derive(Clone, Copy, Debug, PartialEq, Eq)]

@@ -4,11 +4,14 @@
 mod decode;
 mod diab_text;
 pub mod expand;
+mod expand_iterators;
+mod expansion;
 mod gnu_text;
 pub mod laws;
 mod msvc_text;
 pub mod path;
 mod path_map;
+mod response_file;
 pub mod view;
 mod wanted;
 

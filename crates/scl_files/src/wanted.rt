@@ -4,8 +4,8 @@ ghost use Rattle.std.specs.List.{flat_map};
 ghost use Rattle.scl_values.specs.Words.{words_of};
 ghost use Rattle.scl_files.specs.Wanted.{lacked_by, words_asked, wanted};
 
-use crate::expand::response_file::named;
 use crate::expand::{ExpansionKind, TooManyWords, expand_all, expand_at_most};
+use crate::response_file::named;
 use crate::view::View;
 use scl_values::Mem;
 use std::alloc::Global;

@@ -4,7 +4,7 @@ ghost use Rattle.std.specs.BTreeMap.{get};
 ghost use Rattle.std.specs.Ordering.{nat_cmp, is_eq};
 ghost use Rattle.scl_files.specs.PathEntries.{IsLinked, place_at};
 
-use super::Entry;
+use super::entry::Entry;
 use super::tree::PathTree;
 use std::collections::BTreeMap;
 

@@ -4,8 +4,8 @@ ghost use Rattle.scl_values.specs.Words.{words_of};
 ghost use Rattle.scl_files.specs.Expand.{expand};
 ghost use Rattle.scl_files.specs.WordsToCome.{items_left, GivesWord};
 
-use super::ExpansionKind;
-use super::engine::{Expansion, Step};
+use crate::expand::ExpansionKind;
+use crate::expansion::{Expansion, Step};
 use crate::view::View;
 use scl_values::Mem;
 use std::alloc::Global;
@@ -13,7 +13,7 @@ use std::marker::Model;
 
 /// The words of an expansion of any kind.
 #[derive(Drop)]
-pub(super) struct Expand<'a> {
+pub(crate) struct Expand<'a> {
     expansion: Expansion<'a>,
     ended: bool,
 }
@@ -29,7 +29,7 @@ impl<'a> Model for Expand<'a> {
 }
 
 impl<'a> Expand<'a> {
-    pub(super) fn new(
+    pub(crate) fn new(
         alloc: Global,
         kind: ExpansionKind,
         directory: &'a [u8],

@@ -4,9 +4,9 @@ ghost use Rattle.std.specs.Option.{option_map, option_copied};
 ghost use Rattle.scl_values.specs.Words.{words_of};
 ghost use Rattle.scl_files.specs.ResponseFiles.{file_name_in, named, arguments};
 
-use super::ExpansionKind;
 use crate::decode::{read_text, utf8_text};
 use crate::diab_text::split_diab;
+use crate::expand::ExpansionKind;
 use crate::gnu_text::split_gnu_response_file_args;
 use crate::msvc_text::msvc_words;
 use crate::path::join;
@@ -14,7 +14,7 @@ use scl_values::Mem;
 use std::alloc::Global;
 
 /// The name of the file that a word names.
-pub(super) fn file_name_in(kind: ExpansionKind, word: &[u8]) -> Option<&[u8]>
+pub(crate) fn file_name_in(kind: ExpansionKind, word: &[u8]) -> Option<&[u8]>
     ensures { option_copied result ≡ file_name_in kind word.now }
 {
     match kind {
@@ -77,7 +77,7 @@ fn diab_arguments(alloc: Global, bytes: &[u8]) -> Mem<Option<Vec<Vec<u8>>>>
 }
 
 /// The words that the bytes of a file hold, if they are a text that can be read.
-pub(super) fn arguments(
+pub(crate) fn arguments(
     alloc: Global,
     kind: ExpansionKind,
     bytes: &[u8],

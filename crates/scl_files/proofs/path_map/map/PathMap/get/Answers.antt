@@ -3,7 +3,7 @@ use Rattle.std.proofs.lemmas.Option.{slice_get_read}
 use Rattle.std.specs.List.{slice_get}
 use Rattle.scl_files.specs.PathEntries.{place_at}
 use Rattle.scl_files.proofs.PathMapLemmas.{place-below, value-placed, value-nowhere}
-use Rattle.scl_files.proofs.path_map.PathMap.get.Goals as goal
+use Rattle.scl_files.proofs.path_map.map.PathMap.get.Goals as goal
 
 pub returns-in_err-at : goal.returns-in_err-at
 returns-in_err-at g c =

@@ -3,9 +3,9 @@ ghost use Rattle.std.specs.Prelude.{◌≡◌, [], ◌∷◌, IfOk, MatchOption,
 ghost use Rattle.std.specs.Option.{option_map};
 ghost use Rattle.std.specs.Vec.Iter.{into_iter_items, into_iter_len};
 
-use super::ExpansionKind;
-use super::response_file::{arguments, named};
+use crate::expand::ExpansionKind;
 use crate::path_map::PathMap;
+use crate::response_file::{arguments, named};
 use crate::view::View;
 use scl_values::Mem;
 use std::alloc::Global;
@@ -14,7 +14,7 @@ use std::vec::IntoIter;
 
 /// The words of a file that are left.
 #[derive(Drop)]
-pub(super) struct WordsLeft {
+pub(crate) struct WordsLeft {
     words: IntoIter<Vec<u8>>,
     ghost counted: { into_iter_len words ≡ length (into_iter_items words) },
 }
@@ -32,7 +32,7 @@ impl WordsLeft {
 /// An expansion that has begun: the given words that are left, those of the file opened last, and
 /// the files that are open, the last opened last, each with the words left around it.
 #[derive(Drop)]
-pub(super) struct Expansion<'a> {
+pub(crate) struct Expansion<'a> {
     alloc: Global,
     kind: ExpansionKind,
     directory: &'a [u8],
@@ -43,7 +43,7 @@ pub(super) struct Expansion<'a> {
 }
 
 #[derive(Drop)]
-pub(super) enum Step {
+pub(crate) enum Step {
     Word(Vec<u8>),
     Again,
     End,
@@ -54,7 +54,7 @@ impl<'a> Expansion<'a> {
     ghost use Rattle.scl_files.specs.Expand.{opened, expand};
     ghost use Rattle.scl_values.specs.Words.{words_of};
 
-    pub(super) fn new(
+    pub(crate) fn new(
         alloc: Global,
         kind: ExpansionKind,
         directory: &'a [u8],
@@ -135,7 +135,7 @@ impl<'a> Expansion<'a> {
     }
 
     /// Takes the next word, or closes the file opened last where it has none left.
-    pub(super) fn step(&mut self) -> Mem<Step>
+    pub(crate) fn step(&mut self) -> Mem<Step>
         ensures { IfOk result (λ step. Steps self.old step self.new) }
     {
         if self.open_files.is_empty() {

@@ -4,7 +4,7 @@ use Rattle.std.specs.List.{slice_get}
 use Rattle.scl_files.specs.PathEntries.{place_at}
 use Rattle.scl_files.specs.PathMaps.{put_at}
 use Rattle.scl_files.proofs.PathMapLemmas.{place-below, linked-set, put-placed, put-nowhere}
-use Rattle.scl_files.proofs.path_map.PathMap.put.Goals as goal
+use Rattle.scl_files.proofs.path_map.map.PathMap.put.Goals as goal
 
 pub index_mut-requires : goal.index_mut-requires
 index_mut-requires g c =

@@ -5,7 +5,7 @@ use Rattle.std.specs.Ordering.{nat_cmp, is_eq}
 use Rattle.scl_files.specs.PathEntries.{IsLinked, newest_up_to}
 use Rattle.scl_files.specs.PathTrees.{node_at}
 use Rattle.scl_files.proofs.PathMapLemmas.{shown-push, linked-push, linked_grown, popped}
-use Rattle.scl_files.proofs.path_map.PathMap.add.Goals as goal
+use Rattle.scl_files.proofs.path_map.map.PathMap.add.Goals as goal
 
 pub returns-in-Ok-clause-ok : goal.returns-in-Ok-clause-ok
 returns-in-Ok-clause-ok g c = rw (c.in_ok-push.ensures.items, shown-push, ← c.self.view_is) refl

@@ -3,7 +3,7 @@ use Rattle.std.proofs.lemmas.Bool.{false≢true}
 use Rattle.scl_values.specs.Words.{words_of}
 use Rattle.scl_files.specs.ExpansionState.{words_left, open_files}
 use Rattle.scl_files.proofs.StepLemmas.{left-inner, steps-inner, left-close, steps-close, steps_by}
-use Rattle.scl_files.proofs.expand.engine.Expansion.step.Goals as goal
+use Rattle.scl_files.proofs.expansion.Expansion.step.Goals as goal
 
 pub returns-in-Some : goal.returns-in-Some
 returns-in-Some c =

@@ -1,7 +1,7 @@
 use Rattle.std.proofs.Common.{◌∙◌, sym, rules}
 use Rattle.scl_files.specs.ExpansionState.{words_left}
 use Rattle.scl_files.proofs.OpenLemmas.{is_shut-compared, is_shut-msvc}
-use Rattle.scl_files.proofs.expand.engine.Expansion.is_shut.Goals as goal
+use Rattle.scl_files.proofs.expansion.Expansion.is_shut.Goals as goal
 
 pub returns-in-Gnu : goal.returns-in-Gnu
 returns-in-Gnu c =

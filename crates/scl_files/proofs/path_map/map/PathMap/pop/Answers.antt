@@ -1,6 +1,6 @@
 use Rattle.std.proofs.Common.{rules, refl}
 use Rattle.scl_files.proofs.PathMapLemmas.{shown-push, newest-last, linked-pop}
-use Rattle.scl_files.proofs.path_map.PathMap.pop.Goals as goal
+use Rattle.scl_files.proofs.path_map.map.PathMap.pop.Goals as goal
 
 pub lead_back-requires : goal.lead_back-requires
 lead_back-requires g c =

@@ -3,7 +3,7 @@ use Rattle.std.proofs.lemmas.Grind.{common_steps}
 use Rattle.scl_values.specs.Words.{words_of}
 use Rattle.scl_files.proofs.StepLemmas.{left-first, steps-first, steps_by}
 use Rattle.scl_files.proofs.ExpandLemmas.{expand-nil}
-use Rattle.scl_files.proofs.expand.engine.Expansion.next_given.Goals as goal
+use Rattle.scl_files.proofs.expansion.Expansion.next_given.Goals as goal
 
 pub returns-in_default : goal.returns-in_default
 returns-in_default c =
