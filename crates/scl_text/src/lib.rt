@@ -1,8 +1,10 @@
 //! Languages, records, refusals and commands, with the paths, files and response files that they stand on.
 #![tactic(auto)]
 
+mod archs;
 pub mod command;
 pub mod compiler;
+mod copies;
 mod judge;
 mod judged_words;
 pub mod language;

@@ -2,9 +2,6 @@
 ghost use Rattle.std.specs.Prelude.{◌≡◌};
 ghost use Rattle.scl_text.specs.Records.{bare_record, parsed_of};
 
-mod archs;
-mod copies;
-
 use crate::language::Language;
 use std::alloc::{AllocError, AllocFailed, Global};
 use std::collections::BTreeMap;
