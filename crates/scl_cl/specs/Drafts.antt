@@ -4,7 +4,7 @@ use Rattle.std.specs.Option.{option_to_list}
 use Rattle.scl_values.specs.Words.{words_of}
 use Rattle.scl_text.specs.Commands.{pairs_of}
 use Rattle.scl_cl.specs.declared.draft.Draft.{Draft}
-use Rattle.scl_cl.specs.declared.draft.Request as code
+use Rattle.scl_cl.specs.declared.request.Request as code
 use Rattle.scl_cl.specs.Sayings.{Saying}
 use Rattle.scl_cl.specs.Requests.{compiler_in, directory_in, word_in, variable_in, file_in, viewed_directory_in, path_in, is_multiarch, with_files, Gathered, Request}
 

@@ -6,25 +6,10 @@ ghost use Rattle.scl_cl.specs.Drafts.{with_line, gathered_by, asked_by};
 ghost use Rattle.scl_cl.specs.LinesRead.{said_by};
 
 use crate::compiler::Compiler;
+use crate::request::Request;
 use crate::saying::Saying;
 use scl_text::{Mem, View};
 use std::alloc::Global;
-
-/// What is asked for: a compiler, the directory that it stands in, its words, its environment,
-/// and the files that it may see (docs/RULES.md, Requests).
-#[derive(Drop)]
-pub struct Request {
-    /// The compiler that is asked.
-    pub compiler: Compiler,
-    /// The path of the directory in which the words are read.
-    pub directory: Vec<u8>,
-    /// The words behind the program.
-    pub words: Vec<Vec<u8>>,
-    /// The keys and values of the environment, in order.
-    pub environment: Vec<(Vec<u8>, Vec<u8>)>,
-    /// The files that may be read, and what else is there.
-    pub view: View,
-}
 
 /// What the lines so far make of a request.
 #[derive(Drop)]

@@ -10,10 +10,9 @@ ghost use Rattle.scl_cl.specs.Outcomes.{IsJudged, IsSilent};
 ghost use Rattle.scl_cl.specs.Program.{program_answer, IsTextReadAgain};
 
 use crate::answer::command_text;
-use crate::draft::Request;
 use crate::kept::BuiltCommand;
 use crate::outcome::Outcome;
-use crate::request::read_request;
+use crate::request::{Request, read_request};
 use crate::transfer::{ReadError, read_all};
 use scl_args::{Counted, write_whole};
 use scl_text::Mem;

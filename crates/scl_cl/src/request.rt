@@ -1,14 +1,31 @@
-//! Reading a request from its bytes.
+//! A request, read from its bytes.
 ghost use Rattle.std.specs.Prelude.{◌≡◌, IfOk, MatchResult, Ok, Err};
 ghost use Rattle.scl_cl.specs.Lines.{lines_of};
 ghost use Rattle.scl_cl.specs.Requests.{request_in};
 ghost use Rattle.scl_cl.specs.Drafts.{asked_by};
 
+use crate::compiler::Compiler;
 use crate::cut::next_line;
-use crate::draft::{Draft, Request};
+use crate::draft::Draft;
 use crate::saying::read_line;
-use scl_text::Mem;
+use scl_text::{Mem, View};
 use std::alloc::Global;
+
+/// What is asked for: a compiler, the directory that it stands in, its words, its environment,
+/// and the files that it may see (docs/RULES.md, Requests).
+#[derive(Drop)]
+pub struct Request {
+    /// The compiler that is asked.
+    pub compiler: Compiler,
+    /// The path of the directory in which the words are read.
+    pub directory: Vec<u8>,
+    /// The words behind the program.
+    pub words: Vec<Vec<u8>>,
+    /// The keys and values of the environment, in order.
+    pub environment: Vec<(Vec<u8>, Vec<u8>)>,
+    /// The files that may be read, and what else is there.
+    pub view: View,
+}
 
 /// The request that the bytes make, or the number of their bad line, counted from 1 (docs/RULES.md, Requests). The outer
 /// error is the refusal of memory.

@@ -5,7 +5,6 @@ ghost use Rattle.scl_values.specs.Seen.{seen};
 ghost use Rattle.scl_values.specs.Words.{words_of};
 ghost use Rattle.scl_args.specs.Wrapped.{HasFirstOf};
 ghost use Rattle.scl_gnu_reading.specs.Hashes.{hashed_by, hashed_as};
-ghost use Rattle.scl_gnu_reading.specs.Kinds.{hashed};
 ghost use Rattle.scl_gnu_reading.specs.Recordings.{hash_path};
 
 use super::data::{ArgData, Kind};
@@ -93,21 +92,4 @@ pub fn push_hashed<T: NamesHashed>(
         push_path(alloc, paths, option, cwd, view)?;
     }
     Ok(())
-}
-
-/// The paths of the files that the options name, from the directory: first the outer options, then the inner ones.
-pub(crate) fn hash_paths(
-    alloc: Global,
-    options: &Options<ArgData>,
-    inner: &Options<ArgData>,
-    cwd: &[u8],
-    view: &View,
-) -> Mem<Vec<Vec<u8>>>
-    ensures { IfOk result (λ paths. words_of paths.items
-        ≡ map (hash_path cwd.now view.now) (hashed options.now ++ hashed inner.now)) }
-{
-    let mut paths = Vec::new(alloc);
-    push_hashed(alloc, &mut paths, options, cwd, view)?;
-    push_hashed(alloc, &mut paths, inner, cwd, view)?;
-    Ok(paths)
 }

@@ -1,9 +1,12 @@
 //! The paths of the files on whose contents the outcome of a compilation depends.
-ghost use Rattle.std.specs.Prelude.{◌≡◌, ◌<◌, IfOk, IfSome, length, position};
-ghost use Rattle.scl_gnu_reading.specs.Recordings.{is_equals, module_file_path, profile_in, profile_use_path, hash_path_as};
+ghost use Rattle.std.specs.Prelude.{◌≡◌, ◌<◌, ◌++◌, IfOk, IfSome, length, map, position};
+ghost use Rattle.scl_values.specs.Words.{words_of};
+ghost use Rattle.scl_gnu_reading.specs.Kinds.{hashed};
+ghost use Rattle.scl_gnu_reading.specs.Recordings.{is_equals, module_file_path, profile_in, profile_use_path, hash_path, hash_path_as};
 
-use super::hash_files::HashRole;
-use scl_args::Mem;
+use super::data::ArgData;
+use super::hash_files::{HashRole, push_hashed};
+use scl_args::{Mem, Options};
 use scl_text::path::join;
 use scl_text::view::View;
 use std::alloc::Global;
@@ -71,4 +74,21 @@ pub(crate) fn path_as(
         HashRole::Module => join(alloc, cwd, module_path_in(text)),
         HashRole::Profile => resolve_profile_use_path(alloc, text, cwd, view),
     }
+}
+
+/// The paths of the files that the options name, from the directory: first the outer options, then the inner ones.
+pub(crate) fn hash_paths(
+    alloc: Global,
+    options: &Options<ArgData>,
+    inner: &Options<ArgData>,
+    cwd: &[u8],
+    view: &View,
+) -> Mem<Vec<Vec<u8>>>
+    ensures { IfOk result (λ paths. words_of paths.items
+        ≡ map (hash_path cwd.now view.now) (hashed options.now ++ hashed inner.now)) }
+{
+    let mut paths = Vec::new(alloc);
+    push_hashed(alloc, &mut paths, options, cwd, view)?;
+    push_hashed(alloc, &mut paths, inner, cwd, view)?;
+    Ok(paths)
 }

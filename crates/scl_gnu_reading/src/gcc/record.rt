@@ -10,7 +10,7 @@ ghost use Rattle.scl_gnu_reading.specs.Recordings.{has_extensions, added_common,
 use super::added_words::{add_dependency, add_split_dwarf};
 use super::data::{ArgData, Kind};
 use super::fixed_tests::Finding;
-use super::hash_files::hash_paths;
+use super::hash_paths::hash_paths;
 use super::inner::push_inner;
 use super::inputs::Inputs;
 use super::outputs::outputs_of;
