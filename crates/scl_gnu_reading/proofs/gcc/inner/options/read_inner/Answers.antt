@@ -1,7 +1,7 @@
 use Rattle.std.proofs.Common.{◌≡◌, ◌==◌, true, length, sym, subst, ◌∙◌, List, Vec, ℕ}
 use Rattle.std.specs.declared.alloc.Global.{Global}
 use Rattle.scl_gnu_reading.proofs.InnerLemmas.{none_inside}
-use Rattle.scl_gnu_reading.proofs.gcc.inner.read_inner.Goals as goal
+use Rattle.scl_gnu_reading.proofs.gcc.inner.options.read_inner.Goals as goal
 
 pub returns-then-is_empty : goal.returns-then-is_empty
 returns-then-is_empty g c =
