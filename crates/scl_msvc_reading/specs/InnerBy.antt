@@ -1,5 +1,5 @@
 -- The options of inner command lines, as the code keeps them.
-use Rattle.scl_msvc_reading.specs.declared.msvc.inner.InnerOptions.{InnerOptions}
+use Rattle.scl_msvc_reading.specs.declared.msvc.inner.options.InnerOptions.{InnerOptions}
 use Rattle.scl_msvc_reading.specs.Inners.{BothInner}
 
 abbrev pub inner_of : InnerOptions → BothInner

@@ -1,0 +1,47 @@
+//! The options of the inner command lines.
+ghost use Rattle.scl_text.specs.Stops.{Gives};
+ghost use Rattle.scl_msvc_reading.specs.InnerBy.{inner_of};
+ghost use Rattle.scl_msvc_reading.specs.Readings.{inner_options, both_inner};
+
+use super::judge::ByInnerVerdict;
+use crate::msvc::data::{ArgData, Kind};
+use scl_args::{OfKinds, Options};
+use scl_gnu_reading::gcc;
+use scl_text::Stop;
+use scl_text::view::View;
+use std::alloc::Global;
+
+/// The options of the two inner command lines.
+#[derive(Drop)]
+pub(crate) struct InnerOptions {
+    pub(crate) xclang: Options<gcc::ArgData>,
+    pub(crate) clang: Options<gcc::ArgData>,
+}
+
+/// The options of an inner command line, whose words are the values of the options of a kind.
+fn inner_options(
+    alloc: Global,
+    options: &Options<ArgData>,
+    kind: Kind,
+    cwd: &[u8],
+    view: &View,
+) -> Result<Options<gcc::ArgData>, Stop>
+    ensures { Gives (λ inner. inner) result (inner_options kind cwd.now view.now options.now) }
+{
+    let words = options.texts(alloc, &OfKinds(&[kind]))?;
+    gcc::read_inner(alloc, words, cwd, &ByInnerVerdict, view)
+}
+
+/// The options of the two inner command lines; or the first refusal of one of them, that behind `-Xclang` first.
+pub(crate) fn both_inner(
+    alloc: Global,
+    options: &Options<ArgData>,
+    cwd: &[u8],
+    view: &View,
+) -> Result<InnerOptions, Stop>
+    ensures { Gives inner_of result (both_inner cwd.now view.now options.now) }
+{
+    let xclang = inner_options(alloc, options, Kind::XClang, cwd, view)?;
+    let clang = inner_options(alloc, options, Kind::Clang, cwd, view)?;
+    Ok(InnerOptions { xclang, clang })
+}
