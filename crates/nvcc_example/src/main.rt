@@ -2,10 +2,17 @@
 //! the command to run in its place, or why there is none: `nvcc_example -c a.c --threads 2 -arch compute_50 -code=sm_50`.
 #![tactic(auto)]
 
-ghost use Rattle.std.specs.Prelude.{[], ◌∷◌, IsTrue, IfOk};
+ghost use Rattle.std.specs.Prelude.{◌≡◌, [], ◌∷◌, ℕ, false, codes, List, IsTrue, IfOk, Ok};
 ghost use Rattle.std.specs.List.{flat_map};
 ghost use Rattle.scl_values.specs.Tables.{tables_hold_values};
+ghost use Rattle.scl_values.specs.Words.{words_of};
+ghost use Rattle.scl_files.specs.Views.{Viewed};
+ghost use Rattle.scl_text.specs.Languages.{gcc_text};
+ghost use Rattle.scl_text.specs.Records.{outcome_of, parsed_of};
 ghost use Rattle.scl_gnu_reading.specs.Data.{holds_value};
+ghost use Rattle.scl_gnu_reading.specs.Readings.{reading};
+ghost use Rattle.scl_gnu.specs.OwnTables.{OwnCommandIsReadAgain};
+ghost use Rattle.nvcc_example.specs.Nvcc.{nvcc_rows, nvcc_tables};
 
 use bstr::ByteSlice;
 use scl_args::ArgDisposition::{CanBeSeparated, Separated};
@@ -13,7 +20,10 @@ use scl_args::ArgRow::TakeArg;
 use scl_args::{ArgInfo, FlagTable, Mem, Tables};
 use scl_gnu::clang;
 use scl_gnu::gcc::{self, ArgData, Gcc, Kind};
-use scl_text::records::{CCompilerKind, CompilerArguments, ParsedArguments};
+use scl_text::records::{
+    CCompilerKind, Cacheable, CommandError, CompilerArguments, ParsedArguments,
+    SingleCompileCommand,
+};
 use scl_text::{CCompilerImpl, View};
 use std::alloc::Global;
 use std::{env, io};
@@ -30,17 +40,28 @@ static NVCC: [ArgInfo<ArgData>; 4] = [
     TakeArg("-gencode", Kind::PassThrough, CanBeSeparated(Some(b'='))),
 ];
 
-/// The tables of Gcc and Clang, and the one above. The parser takes tables whose rows with a value have kinds that hold
-/// one, which the clause says of these.
-fn tables(alloc: Global) -> Mem<Tables<FlagTable<'static, ArgData>>>
-    ensures { IfOk result (λ tables. IsTrue (tables_hold_values holds_value (flat_map (λ table. table ∷ []) tables))) }
+/// The table above.
+#[tactic(auto, unfolding(crate::specs::Nvcc::nvcc_rows))]
+fn nvcc_table() -> FlagTable<'static, ArgData>
+    ensures rows { result ≡ nvcc_rows }
+    ensures values { IsTrue (tables_hold_values holds_value (result ∷ [])) }
 {
-    let nvcc = FlagTable::new(&NVCC).unwrap();
-    Ok(Tables::new(vec![in alloc; gcc::table(), clang::table(), nvcc]?))
+    FlagTable::new(&NVCC).unwrap()
 }
 
-/// What the words say, in a directory with no response files.
-fn read(alloc: Global, words: &[Vec<u8>], view: &View) -> Mem<CompilerArguments<ParsedArguments>> {
+/// The tables of Gcc and Clang, and the one above. The parser takes tables whose rows with a value have kinds that hold
+/// one, which the second clause says of these.
+fn tables(alloc: Global) -> Mem<Tables<FlagTable<'static, ArgData>>>
+    ensures rows { IfOk result (λ tables. flat_map (λ table. table ∷ []) tables ≡ nvcc_tables) }
+    ensures values { IfOk result (λ tables. IsTrue (tables_hold_values holds_value (flat_map (λ table. table ∷ []) tables))) }
+{
+    Ok(Tables::new(vec![in alloc; gcc::table(), clang::table(), nvcc_table()]?))
+}
+
+/// What the words say by the tables above, in a directory with no response files.
+fn read(alloc: Global, words: &[Vec<u8>], view: &View) -> Mem<CompilerArguments<ParsedArguments>>
+    ensures { IfOk result (λ answer. outcome_of answer ≡ reading CCompilerKind.Gcc false nvcc_tables (codes "/work") view.now (words_of words.now)) }
+{
     let tables = tables(alloc)?;
     gcc::parse_arguments(
         alloc,
@@ -53,6 +74,21 @@ fn read(alloc: Global, words: &[Vec<u8>], view: &View) -> Mem<CompilerArguments<
     )
 }
 
+/// The command of a record, and whether its outcome may be kept. Where the record is what words say by the tables above, the command is read again by them
+/// (`laws::of_own_tables` of `scl_gnu`, whose condition these tables meet by evaluation).
+fn build(
+    alloc: Global,
+    record: &ParsedArguments,
+    view: &View,
+) -> Result<(SingleCompileCommand, Cacheable), CommandError>
+    ensures { IfOk result (λ built. (directory : List ℕ) (files : Viewed) (words : List (List ℕ)) →
+        reading CCompilerKind.Gcc false nvcc_tables directory files words ≡ Ok (parsed_of record.now) →
+        OwnCommandIsReadAgain CCompilerKind.Gcc nvcc_tables gcc_text directory files words (parsed_of record.now) (words_of built.0.arguments.items)) }
+{
+    let gcc = Gcc::new(false);
+    gcc.generate_compile_commands(alloc, b"nvcc", record, b"/work", &[], view)
+}
+
 /// The words behind the name of the program.
 fn given_words(rt: &HostRuntime) -> io::Result<Vec<Vec<u8>>> {
     let mut words = Vec::new(rt.alloc());
@@ -63,9 +99,7 @@ fn given_words(rt: &HostRuntime) -> io::Result<Vec<Vec<u8>>> {
 }
 
 fn print_command(rt: &HostRuntime, record: &ParsedArguments, view: &View) -> io::Result<()> {
-    let gcc = Gcc::new(false);
-    let made = gcc.generate_compile_commands(rt.alloc(), b"nvcc", record, b"/work", &[], view);
-    match made {
+    match build(rt.alloc(), record, view) {
         Ok((command, _)) => {
             for word in &command.arguments {
                 println!(rt; "{}", word.as_slice().as_bstr())?;

@@ -34,70 +34,20 @@ use Rattle.scl_gnu_reading.specs.Readings.{reading}
 use Rattle.scl_gnu_reading.proofs.CheckLaws.{clang_passes, no_xclang}
 use Rattle.scl_gnu.proofs.NoFileLaws.{clang_none}
 use Rattle.scl_gnu.proofs.OwnWordsLaws.{OwnWords, AreInners}
+use Rattle.scl_gnu.proofs.OwnTableLaws.{Keeps, own-tables-keep, own-words, handed-on}
 use Rattle.scl_gnu.proofs.ReadAgainLaws.{commands-again}
 
-abbrev own : List ℕ → Option (Row Kind)
-own = owner_in clang_tables
-
-language_row : Row Kind
-language_row = row (codes "-x") kind.Language (either None)
-
-output_row : Row Kind
-output_row = row (codes "-o") kind.Output (either None)
-
-color_row : Row Kind
-color_row = row (codes "-fdiagnostics-color") kind.DiagnosticsColor (joined (Some 61))
-
-define_row : Row Kind
-define_row = row (codes "-D") kind.PassThrough (either None)
-
-depfile_row : Row Kind
-depfile_row = row (codes "-MF") kind.DepArgumentPath (either None)
-
-target_row : Row Kind
-target_row = row (codes "-MT") kind.DepTarget (either None)
-
-xclang_row : Row Kind
-xclang_row = row (codes "-Xclang") kind.XClang apart
+keeps : Keeps clang_tables true
+unfolding gcc_rows clang_rows
+keeps = own-tables-keep clang_tables true refl
 
 own_words : OwnWords clang_tables true
-unfolding gcc_rows clang_rows language_row output_row color_row define_row depfile_row target_row
-own_words = record {
-  pass = clang_passes;
-  language = λ text. reads-either_apart own true language_row None text refl (record { is = refl; no_mark = refl });
-  output = λ object. reads-either_apart own true output_row None object refl (record { is = refl; no_mark = refl });
-  color = reads-joined own true color_row (Some 61) (codes "always") refl (record { is = refl; no_mark = refl });
-  define = λ path. fresh-either own true (all_rows clang_tables) (owner_in-is clang_tables) (is_changing carried) (is_joining side_of_flag) clang_passes.keeps clang_passes.safe define_row
-      (has_row own true (all_rows clang_tables) (owner_in-is clang_tables) define_row (codes "-D") (record { is = refl; no_mark = refl })) refl refl refl 95 (codes "gsplit_dwarf_path=" ++ path);
-  depfile = λ path. reads-either_apart own true depfile_row None path refl (record { is = refl; no_mark = refl });
-  target = λ path. reads-either_apart own true target_row None path refl (record { is = refl; no_mark = refl });
-  compile_flags = refl;
-  target_flags = refl;
-  other_flags = refl;
-}
-
-reads-wrapped : (w : List ℕ) → Reads own true (codes "-Xclang" ∷ w ∷ []) (plain.value (codes "-Xclang") kind.XClang w ∷ [])
-unfolding gcc_rows clang_rows xclang_row
-reads-wrapped w = reads-apart own true xclang_row w refl (record { is = refl; no_mark = refl })
+own_words = own-words clang_tables true keeps
 
 handed : (directory : List ℕ) (view : Viewed) (words : List (List ℕ)) →
     let inner = inner_options_of directory view (map shown (options_of expansions.Gnu clang_tables true directory view words)) in
-    Each IsClear inner → AreInners clang_tables true (map shown inner) (inner_of (behind_xclang inner) ∷ [])
-handed directory view words clear =
-    let os = map shown (options_of expansions.Gnu clang_tables true directory view words) in
-    record {
-      are = (
-        record {
-          clear = record { words = expand expansions.Gnu directory view.files (texts (of (kind.XClang ∷ [])) os); are = refl; clear = clear };
-          wraps = reads-wrapped;
-          alone = no_xclang;
-        },
-        tt,
-      );
-      own_flags = (tt, tt);
-      flags = (refl, tt);
-      words_are = λ there. append-nil _;
-    }
+    Each IsClear inner → AreInners clang_tables true (map shown inner) (map inner_of (behind_xclang inner ∷ []))
+handed = handed-on clang_tables true keeps
 
 -- ---- the promise of a command
 

@@ -1,5 +1,6 @@
 //! What follows for the commands of Gcc and Clang: each law is a clause of a function that does nothing.
 ghost use Rattle.scl_gnu.specs.OutputFiles.{OutputFilesAreLeftOut};
+ghost use Rattle.scl_gnu.specs.OwnTables.{OwnCommandsAreReadAgain};
 ghost use Rattle.scl_gnu.specs.Preprocess.{OneArchitectureHasOneRun, EachArchitectureHasItsRun};
 ghost use Rattle.scl_gnu.specs.ReadAgain.{GccCommandsAreFaithful, ClangCommandsAreFaithful, GccRecordsHaveObjects, ClangRecordsHaveObjects, GccLinesHaveNoEmpty, ClangLinesHaveNoEmpty};
 
@@ -40,4 +41,12 @@ pub fn of_runs()
     ensures output_files_are_left_out { OutputFilesAreLeftOut }
     ensures one_architecture_has_one_run { OneArchitectureHasOneRun }
     ensures each_architecture_has_its_run { EachArchitectureHasItsRun }
+{}
+
+/// The law of commands by tables of one's own (docs/RULES.md, Cutting again): where the tables keep what the builder's own
+/// words ask of them (`keep_own_words`, which computes), and words have a record by them, its command is read again by them.
+/// Cut again, it gives its own words, the carried options and those that are added, with unchanged values, and the input;
+/// and the words behind `-Xclang`, cut by Clang's tables, give the inner options, list by list.
+pub fn of_own_tables()
+    ensures own_commands_are_read_again { OwnCommandsAreReadAgain }
 {}
