@@ -10,7 +10,7 @@ mod wrapped;
 
 pub use empties::has_empty_value;
 pub use finished::Options;
-pub use lists::{ShortFlagsJoined, Sides};
+pub use lists::{ShortFlagsJoined, Sides, push_option};
 pub use options::{OfKinds, Test, is_dashes, last_option, last_text, names_file, texts};
 pub use scl_cutting::{ArgsIter, CutWords, cut_options, cut_words};
 pub use scl_devices::{Counted, FailingReader, FailingWriter, WriteFault, write_whole};

@@ -61,9 +61,9 @@ fn push_value<T: ReadArg>(
     Ok(())
 }
 
-/// Puts the words of the option, on the side of its flag, behind others. It fails only for want of memory, and the first of
-/// two words may then stand there.
-pub(crate) fn push_option<T: ReadArg, S: Sides>(
+/// Puts the words of the option, on the side of its flag, behind others (docs/RULES.md, Printing). It fails only for want of
+/// memory, and the first of two words may then stand there.
+pub fn push_option<T: ReadArg, S: Sides>(
     alloc: Global,
     words: &mut Vec<Vec<u8>>,
     option: &Argument<T>,

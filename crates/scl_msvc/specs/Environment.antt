@@ -46,6 +46,13 @@ abbrev pub variable_words : Verdict → Option (List ℕ) → Result (List (List
 variable_words broken None = Ok []
 variable_words broken (Some value) = ok_or (words_in value) broken
 
+-- the words of the two variables: those before the words of a command line, and those behind them
+abbrev pub surroundings : List (List ℕ × List ℕ) → Result (List (List ℕ) × List (List ℕ)) Verdict
+surroundings pairs = do
+  front ← variable_words (CannotCache (codes "CL environment variable value broken")) (value_of front_variable pairs)
+  back ← variable_words (CannotCache (codes "_CL_ environment variable value broken")) (value_of back_variable pairs)
+  Ok (front, back)
+
 -- the words of a command line between those of the two variables
 abbrev pub surrounded : List (List ℕ × List ℕ) → List (List ℕ) → Result (List (List ℕ)) Verdict
 surrounded pairs words = do

@@ -12,9 +12,11 @@ use scl_text::{Judge, Mem};
 use std::alloc::Global;
 
 /// What a compiler says of options of these values.
-pub(crate) trait Rules: Placed {
+pub trait Rules: Placed {
+    /// What one option says against caching.
     ghost verdict: { Seen Self.Kind → Option Verdict };
 
+    /// The flag of the command, by the last that asks for a compilation.
     ghost compile_flag_for: { List ℕ → List ℕ };
 
     /// What is said against one option.
@@ -27,7 +29,8 @@ pub(crate) trait Rules: Placed {
 }
 
 /// Judges each option by itself.
-pub(crate) struct ByRules;
+#[derive(Clone, Copy, Debug)]
+pub struct ByRules;
 
 impl<T: Rules> Judge<T> for ByRules {
     ghost verdict = { λ _ before. T.verdict };

@@ -11,3 +11,6 @@ mod place;
 mod preprocess;
 mod record;
 pub mod tasking_vx;
+
+pub use judge::{ByRules, Rules};
+pub use place::{Place, Placed, place_of};

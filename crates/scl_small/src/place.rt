@@ -10,8 +10,8 @@ use scl_args::{Argument, ExactArg, ReadArg, Test};
 use scl_text::refusal::Refusal;
 
 /// Where an option goes, or how it ends the reading (docs/RULES.md, Diab and TaskingVX).
-#[derive(Clone, Copy, PartialEq, Eq)]
-pub(crate) enum Place {
+#[derive(Clone, Copy, Debug, PartialEq, Eq)]
+pub enum Place {
     /// The inputs.
     Input,
     /// What asks for a compilation.
@@ -33,7 +33,8 @@ pub(crate) enum Place {
 }
 
 /// The values of a compiler's options, and where each option goes.
-pub(crate) trait Placed: ExactArg + ReadArg {
+pub trait Placed: ExactArg + ReadArg {
+    /// Where the options of a kind go.
     ghost place: { Self.Kind → Place };
 
     /// Where the options of the kind go.
@@ -41,8 +42,8 @@ pub(crate) trait Placed: ExactArg + ReadArg {
         ensures { result ≡ place kind };
 }
 
-/// Where the option goes.
-fn place_of<T: Placed>(option: &Argument<T>) -> Place
+/// Where the option goes: a word that is none to the inputs, an unknown flag to the common words, any other by its kind.
+pub fn place_of<T: Placed>(option: &Argument<T>) -> Place
     ensures { result ≡ place_of T.place (seen T.kind_of T.word_of option.now) }
 {
     match option {

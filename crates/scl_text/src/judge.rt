@@ -40,8 +40,9 @@ pub trait Judge<T: ArgumentValue> {
             ≡ verdict self.now (map (seen T.kind_of T.word_of) before.now) (seen T.kind_of T.word_of option.now)) };
 }
 
-/// The refusal of an option, after those before it: that of an empty value, else the judge's.
-fn refusal_of<T: ReadArg, S: SearchableArgInfo<T>, J: Judge<T>>(
+/// The refusal of an option, after those before it: that of an empty value, where its row in the tables takes one either way,
+/// else the judge's (docs/RULES.md, Readings). It fails only for want of memory.
+pub fn refusal_of<T: ReadArg, S: SearchableArgInfo<T>, J: Judge<T>>(
     alloc: Global,
     judge: &J,
     arg_info: &S,

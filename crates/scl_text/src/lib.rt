@@ -16,7 +16,7 @@ pub mod refusal;
 pub mod stop;
 
 pub use compiler::CCompilerImpl;
-pub use judge::{Judge, judge_all};
+pub use judge::{Judge, judge_all, refusal_of};
 pub use judged_words::{cut_line, judge_cut, judge_words};
 pub use language::Language;
 pub use records::{CommandError, CompilerArguments, ParsedArguments};

@@ -21,12 +21,17 @@ use std::alloc::Global;
 
 /// What the tests find.
 #[derive(Drop)]
-pub(crate) struct Finding {
-    pub(crate) compile_flag: &'static str,
-    pub(crate) input: Vec<u8>,
-    pub(crate) language: Language,
-    pub(crate) object: Vec<u8>,
-    pub(crate) module_path: Option<Vec<u8>>,
+pub struct Finding {
+    /// The flag that asks for a compilation.
+    pub compile_flag: &'static str,
+    /// The one input.
+    pub input: Vec<u8>,
+    /// Its language.
+    pub language: Language,
+    /// The path of the object.
+    pub object: Vec<u8>,
+    /// The path of the module, if there is one.
+    pub module_path: Option<Vec<u8>>,
 }
 
 /// The language for the driver: a C++ driver takes files of C for C++.
@@ -111,8 +116,9 @@ fn module_path(
     module_path_of(alloc, text, input, object)
 }
 
-/// The tests in their order.
-pub(crate) fn apply_fixed_tests(
+/// What the tests find, in their order, of options that are not refused; `plusplus` is set for a C++ driver (docs/RULES.md,
+/// Gcc). It stops at the first that refuses, or for want of memory.
+pub fn apply_fixed_tests(
     alloc: Global,
     options: &Options<ArgData>,
     plusplus: bool,

@@ -5,6 +5,7 @@ mod options;
 mod place;
 mod words;
 
-pub(crate) use judge::ByInnerVerdict;
+pub use judge::ByInnerVerdict;
 pub use options::read_inner;
+pub use place::inner_place_of;
 pub(crate) use words::push_inner;

@@ -104,8 +104,9 @@ fn judge_known(
 
 /// Judges options, where several architectures may be named or not.
 #[derive(Clone, Copy)]
-pub(crate) struct ByVerdict {
-    pub(crate) multiarch: bool,
+pub struct ByVerdict {
+    /// Whether they may.
+    pub multiarch: bool,
 }
 
 impl Judge<ArgData> for ByVerdict {

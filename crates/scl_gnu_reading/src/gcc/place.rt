@@ -78,7 +78,7 @@ pub(crate) fn place_of_kind(kind: Kind) -> Place
 }
 
 /// Where the words of the option go: an unknown flag to the common words, a word that is no option nowhere.
-fn place_of(option: &Argument<ArgData>) -> Place
+pub fn place_of(option: &Argument<ArgData>) -> Place
     ensures { result ≡ place_of (seen kind_of word_of option.now) }
 {
     match option {

@@ -33,8 +33,8 @@ fn has_extensions(standard: Option<&[u8]>) -> bool
     }
 }
 
-/// Whether the words about dependencies need a target.
-fn needs_target(language: Language, options: &Options<ArgData>) -> bool
+/// Whether the words about dependencies need a target (docs/RULES.md, Gcc).
+pub fn needs_target(language: Language, options: &Options<ArgData>) -> bool
     ensures { result ≡ needs_target language options.now }
 {
     language.needs_c_preprocessing() && options.any(&OfKinds(&[Kind::NeedDepTarget]))

@@ -5,7 +5,7 @@ ghost use Rattle.scl_values.specs.Words.{words_of};
 ghost use Rattle.scl_text.specs.Commands.{pairs_of};
 ghost use Rattle.scl_text.specs.Records.{CannotCache};
 ghost use Rattle.scl_text.specs.Stops.{Gives};
-ghost use Rattle.scl_msvc.specs.Environment.{is_variable, without_cl_env_vars, value_of, gives_words, with_equals, words_in, variable_words, surrounded};
+ghost use Rattle.scl_msvc.specs.Environment.{is_variable, without_cl_env_vars, value_of, gives_words, with_equals, words_in, variable_words, surrounded, surroundings};
 
 use scl_args::Mem;
 use scl_text::command::append_words;
@@ -103,9 +103,24 @@ fn variable_words(
     Ok(words_in(alloc, value)?.ok_or(cannot_cache(broken))?)
 }
 
+/// The words that an environment gives a command line: those of `CL`, which stand before its own, and those of `_CL_`, which
+/// stand behind them (docs/RULES.md, Msvc). It is refused where a value is no text, and stops else only for want of memory.
+pub fn surroundings(
+    alloc: Global,
+    env_vars: &[(Vec<u8>, Vec<u8>)],
+) -> Result<(Vec<Vec<u8>>, Vec<Vec<u8>>), Stop>
+    ensures { Gives (λ both. (words_of both.0.items, words_of both.1.items)) result (surroundings (pairs_of env_vars.now)) }
+{
+    let front = value_of(env_vars, FRONT_VARIABLE);
+    let front = variable_words(alloc, front, "CL environment variable value broken")?;
+    let back = value_of(env_vars, BACK_VARIABLE);
+    let back = variable_words(alloc, back, "_CL_ environment variable value broken")?;
+    Ok((front, back))
+}
+
 /// Words that are handed over, between those that the environment gives: of `CL` before and of `_CL_` behind them. Where it
 /// has neither they are the given ones, unmoved; refused where a value is no text.
-#[tactic(auto, using(crate::proofs::EnvironmentLemmas::surrounded_by_none))]
+#[tactic(auto, using(crate::proofs::EnvironmentLemmas::surrounded_by_none, crate::proofs::EnvironmentLemmas::surrounded_by_both, crate::proofs::EnvironmentLemmas::surrounded_stops))]
 pub(super) fn surround(
     alloc: Global,
     arguments: Vec<Vec<u8>>,
@@ -116,10 +131,7 @@ pub(super) fn surround(
     if !gives_words(env_vars) {
         return Ok(arguments);
     }
-    let front = value_of(env_vars, FRONT_VARIABLE);
-    let mut words = variable_words(alloc, front, "CL environment variable value broken")?;
-    let back = value_of(env_vars, BACK_VARIABLE);
-    let back = variable_words(alloc, back, "_CL_ environment variable value broken")?;
+    let (mut words, back) = surroundings(alloc, env_vars)?;
     append_words(&mut words, arguments)?;
     append_words(&mut words, back)?;
     Ok(words)

@@ -5,5 +5,7 @@ mod options;
 mod place;
 mod words;
 
+pub use judge::ByInnerVerdict;
 pub(crate) use options::{InnerOptions, both_inner};
+pub use place::inner_place_of;
 pub(crate) use words::push_inner;

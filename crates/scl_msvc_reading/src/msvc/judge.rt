@@ -74,8 +74,9 @@ fn judge_known(is_clang: bool, flag: &'static str, value: &ArgData) -> Option<Re
 
 /// Judges the options of cl, or of clang-cl.
 #[derive(Clone, Copy)]
-pub(crate) struct ByVerdict {
-    pub(crate) is_clang: bool,
+pub struct ByVerdict {
+    /// Whether it is clang-cl.
+    pub is_clang: bool,
 }
 
 impl Judge<ArgData> for ByVerdict {

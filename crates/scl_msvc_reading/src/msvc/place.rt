@@ -60,7 +60,7 @@ pub(crate) fn place_of_kind(kind: Kind) -> Place
 }
 
 /// Where the words of the option go: an unknown flag to the common words, a word that is no option nowhere.
-fn place_of(option: &Argument<ArgData>) -> Place
+pub fn place_of(option: &Argument<ArgData>) -> Place
     ensures { result ≡ place_of (seen kind_of word_of option.now) }
 {
     match option {
@@ -82,7 +82,7 @@ impl Test<ArgData> for Place {
 
 /// Flags stand together with their values, but those of folders of external includes.
 #[derive(Clone, Copy)]
-pub(crate) struct ExternalIncludesApart;
+pub struct ExternalIncludesApart;
 
 impl Sides for ExternalIncludesApart {
     ghost use Rattle.scl_msvc_reading.specs.Places.{side_of_flag};

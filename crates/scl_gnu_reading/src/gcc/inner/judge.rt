@@ -46,7 +46,7 @@ fn judge_raw(alloc: Global, is_taken: bool, word: &[u8]) -> Mem<Option<Refusal>>
 
 /// Judges inner options.
 #[derive(Clone, Copy)]
-pub(crate) struct ByInnerVerdict;
+pub struct ByInnerVerdict;
 
 impl Judge<ArgData> for ByInnerVerdict {
     ghost use Rattle.scl_gnu_reading.specs.Inners.{inner_verdict};

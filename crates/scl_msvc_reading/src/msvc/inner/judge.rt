@@ -9,7 +9,7 @@ use std::alloc::Global;
 
 /// Judges inner options.
 #[derive(Clone, Copy)]
-pub(crate) struct ByInnerVerdict;
+pub struct ByInnerVerdict;
 
 impl Judge<ArgData> for ByInnerVerdict {
     ghost use Rattle.scl_msvc_reading.specs.Inners.{inner_verdict};

@@ -52,7 +52,7 @@ pub(crate) fn inner_place_of_kind(kind: Kind) -> Place
 }
 
 /// Where the words of the inner option go: a word without an owner to the common words.
-fn inner_place_of(option: &Argument<ArgData>) -> Place
+pub fn inner_place_of(option: &Argument<ArgData>) -> Place
     ensures { result ≡ inner_place_of (seen kind_of word_of option.now) }
 {
     match option {
