@@ -11,6 +11,7 @@ use Rattle.scl_values.specs.Seen.{Seen, Raw, Unknown, Known, shown, flag_of, tex
 use Rattle.scl_values.specs.Seen as plain
 use Rattle.scl_args.proofs.OwnerLaws.{owner_in-is}
 use Rattle.scl_tables.proofs.PrefixLemmas.{both}
+use Rattle.scl_again.specs.OwnWords.{is_bare}
 use Rattle.scl_again.specs.Origins.{ValueCame}
 use Rattle.scl_again.specs.Reads.{Reads}
 use Rattle.scl_again.proofs.AgainChecks.{implied}
@@ -72,12 +73,6 @@ module _ {K : Type 0} (tables : List (List (Row K))) (p : Seen K → Bool) (raws
       (raw-cut f.option f.came (raws (shown f.option) (ap p f.is ∙ f.passes)))
 
 -- ---- a flag that takes no value, printed again
-
-abbrev pub is_bare : Shape → Bool
-is_bare bare = true
-is_bare apart = false
-is_bare (joined d) = false
-is_bare (either d) = false
 
 module _ {K : Type 0} (tables : List (List (Row K))) (dashes : Bool) (t : K → Bool) (bare_rows : list_all (λ row. not (t row.kind) || is_bare row.shape) (all_rows tables) ≡ true)
     (k : K) (only : (x : K) → t x ≡ true → x ≡ k) (p : Seen K → Bool) (by_kind : (o : Seen K) → p o ≡ is_of t o) where

@@ -14,6 +14,7 @@ pub mod NoneLaws
 pub mod OriginLaws
 pub mod OtherValueLaws
 pub mod OutcomeLaws
+pub mod OwnWordLaws
 pub mod RawLaws
 pub mod ReadsLaws
 pub mod ValuesLaws

@@ -11,6 +11,7 @@ use Rattle.scl_values.specs.Seen.{Seen, shown, flag_of}
 use Rattle.scl_values.specs.Seen as plain
 use Rattle.scl_args.proofs.OwnerLaws.{owner_in-is}
 use Rattle.scl_tables.proofs.PrefixLemmas.{both}
+use Rattle.scl_again.specs.OwnWords.{may_stand_apart}
 use Rattle.scl_again.specs.Checks.{PassChecks, is_changing, is_changing_shape, is_joining}
 use Rattle.scl_again.specs.Origins.{is_mark, Owns}
 use Rattle.scl_again.specs.Reads.{Reads}
@@ -25,12 +26,6 @@ pub has-all : {A : Type 0} (q : A → Bool) (xs : List A) (x : A) → list_all q
 has-all q [] x h has = absurd has
 has-all q (y ∷ xs) x h (inl e) = ap q (sym e) ∙ (both (q y) (list_all q xs) h).0
 has-all q (y ∷ xs) x h (inr has) = has-all q xs x (both (q y) (list_all q xs) h).1 has
-
-abbrev pub may_stand_apart : Shape → Bool
-may_stand_apart bare = false
-may_stand_apart apart = true
-may_stand_apart (joined d) = false
-may_stand_apart (either d) = true
 
 -- the flag of an option of this kind, with another value
 module _ {K : Type 0} (tables : List (List (Row K))) (dashes : Bool) (kept : K → Bool) (to : List ℕ → NormalizedDisposition) (pass : PassChecks tables kept to)

@@ -4,5 +4,6 @@ pub mod Commands
 pub mod Laws
 pub mod NoFiles
 pub mod Origins
+pub mod OwnWords
 pub mod Promises
 pub mod Reads

@@ -42,7 +42,7 @@ use Rattle.scl_gnu_reading.specs.Kinds.{of, hashed}
 use Rattle.scl_gnu_reading.specs.Readings.{reading, read, recorded}
 use Rattle.scl_gnu_reading.specs.Recordings.{is_clang, record_of, hash_path, hash_path_as, profile_in}
 use Rattle.scl_gnu_reading.specs.Verdicts.{verdict}
-use Rattle.scl_gnu.proofs.KeptLaws.{is_kind}
+use Rattle.scl_gnu.specs.OwnTables.{is_kind}
 use Rattle.scl_files.specs.Wanted.{wanted, HasNone}
 use Rattle.scl_files.proofs.WantedLaws.{wanted_decides}
 use Rattle.scl_cl.specs.Questions.{if_none, no_directory, hash_files, Extends}

@@ -37,9 +37,9 @@ use Rattle.scl_gnu.proofs.OwnWordsLaws.{OwnWords, AreInners}
 use Rattle.scl_gnu.proofs.OwnTableLaws.{Keeps, own-tables-keep, own-words, handed-on}
 use Rattle.scl_gnu.proofs.ReadAgainLaws.{commands-again}
 
-keeps : Keeps clang_tables true
+keeps : Keeps clang_tables
 unfolding gcc_rows clang_rows
-keeps = own-tables-keep clang_tables true refl
+keeps = own-tables-keep clang_tables refl
 
 own_words : OwnWords clang_tables true
 own_words = own-words clang_tables true keeps

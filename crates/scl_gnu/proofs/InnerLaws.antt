@@ -18,7 +18,7 @@ use Rattle.scl_gnu_reading.specs.ClangRows.{clang_tables}
 use Rattle.scl_gnu_reading.specs.GccRows.{gcc_rows}
 use Rattle.scl_gnu_reading.specs.Kinds.{of}
 use Rattle.scl_gnu.specs.ReadAgain.{inner_options_of}
-use Rattle.scl_gnu.proofs.KeptLaws.{is_kind}
+use Rattle.scl_gnu.specs.OwnTables.{is_kind}
 
 -- no row of Gcc's hands words on
 

@@ -1,6 +1,5 @@
 -- Lists carry options of the kinds that the checks of tables are for, and unknown ones.
 use Rattle.std.proofs.Common.{◌≡◌, Bool, true, false, List, [], ◌∷◌, refl, arith}
-use Rattle.std.specs.List.{list_any}
 use Rattle.scl_values.specs.Cuts.{Cut, raw, unknown, flag, with_value}
 use Rattle.scl_values.specs.Each.{Each}
 use Rattle.scl_args.specs.Options.{side_of_flag}
@@ -14,7 +13,6 @@ use Rattle.scl_again.proofs.RawLaws.{HasNoRaws}
 use Rattle.std.specs.Prelude.{codes}
 use Rattle.scl_gnu_reading.specs.declared.gcc.data.Kind.{Kind}
 use Rattle.scl_gnu_reading.specs.declared.gcc.data.Kind.TheVariants as kind
-use Rattle.scl_gnu_reading.specs.contracts.gcc.data.KindPartialEq.TheImpl as kinds
 use Rattle.scl_gnu_reading.specs.contracts.gcc.place.PlacePartialEq.TheImpl.{ghosts}
 use Rattle.scl_gnu_reading.specs.declared.gcc.place.Place.{Place}
 use Rattle.scl_gnu_reading.specs.declared.gcc.place.Place.TheVariants as places
@@ -22,6 +20,7 @@ use Rattle.scl_gnu_reading.specs.Again.{is_list, carried, carried_inner}
 use Rattle.scl_gnu_reading.specs.ClangRows.{clang_tables}
 use Rattle.scl_gnu_reading.specs.Inners.{inner_place, goes_inside_to}
 use Rattle.scl_gnu_reading.specs.Places.{place, goes_to}
+use Rattle.scl_gnu.specs.OwnTables.{is_kind}
 use Rattle.scl_gnu.specs.ReadAgain.{list_of}
 
 -- ---- places
@@ -56,9 +55,6 @@ module _ (there : Place) (lists : is_list there ≡ true) where
   is-list tables dashes inners added none = record { keeps = keeps dashes; keeps_inner = keeps_inner; adds_none = none }
 
 -- ---- kinds
-
-abbrev pub is_kind : Kind → Kind → Bool
-is_kind k other = list_any (λ x. kinds.ghosts.eq x other) (k ∷ [])
 
 pub compiles-alone : (x : Kind) → is_kind kind.DoCompilation x ≡ true → x ≡ kind.DoCompilation
 compiles-alone kind.DoCompilation e = refl

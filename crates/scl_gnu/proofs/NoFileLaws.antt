@@ -41,7 +41,8 @@ use Rattle.scl_gnu_reading.specs.Readings.{reading}
 use Rattle.scl_gnu_reading.specs.Recordings.{is_clang, needs_target, added_common, added_depfile, added_dependency, all_words_at, dependency_words, record_of}
 use Rattle.scl_gnu_reading.proofs.CheckLaws.{carried_plain, carried_inner_plain}
 use Rattle.scl_gnu.proofs.InnerLaws.{no_inner}
-use Rattle.scl_gnu.proofs.KeptLaws.{is_kind, same-list}
+use Rattle.scl_gnu.specs.OwnTables.{is_kind}
+use Rattle.scl_gnu.proofs.KeptLaws.{same-list}
 use Rattle.scl_gnu.proofs.ReadingLaws.{HasFound, is-read, object-found}
 
 abbrev NameNone : List (List ℕ) → Type 0

@@ -12,12 +12,11 @@ use Rattle.scl_values.specs.Seen as plain
 use Rattle.scl_values.specs.Tables.{owner_in, all_rows}
 use Rattle.scl_args.specs.Wrapped.{wrapped_apart}
 use Rattle.scl_again.specs.Checks.{PassChecks}
+use Rattle.scl_again.specs.OwnWords.{is_bare, may_stand_apart}
 use Rattle.scl_again.specs.Commands.{Inner, values_at, raw_words}
 use Rattle.scl_again.specs.Origins.{input_words}
 use Rattle.scl_again.specs.Reads.{Reads}
 use Rattle.scl_again.proofs.CommandLaws.{IsInner}
-use Rattle.scl_again.proofs.FoundLaws.{is_bare}
-use Rattle.scl_again.proofs.OtherValueLaws.{may_stand_apart}
 use Rattle.scl_again.proofs.ValuesLaws.{HaveOwnFlags}
 use Rattle.scl_text.specs.declared.records.ColorMode.{ColorMode}
 use Rattle.scl_text.specs.declared.records.ColorMode.TheVariants as colors
@@ -28,7 +27,7 @@ use Rattle.scl_gnu_reading.specs.Again as again
 use Rattle.scl_gnu_reading.specs.ClangRows.{clang_tables}
 use Rattle.scl_gnu_reading.specs.Inners.{goes_inside_to, inner_words_at}
 use Rattle.scl_gnu.specs.ReadAgain.{language_option, color_option, split_dwarf_option, depfile_option, target_options}
-use Rattle.scl_gnu.proofs.KeptLaws.{is_kind}
+use Rattle.scl_gnu.specs.OwnTables.{is_kind}
 
 abbrev pub xclang : List ℕ
 xclang = codes "-Xclang"

@@ -48,7 +48,8 @@ use Rattle.scl_gnu.specs.ReadAgain.{language_option, color_option, split_dwarf_o
 use Rattle.scl_gnu_reading.specs.Readings.{reading}
 use Rattle.scl_gnu_reading.specs.Recordings.{is_clang, needs_target, added_common, added_depfile, added_dependency, all_words_at, dependency_words, record_of}
 use Rattle.scl_gnu_reading.proofs.CheckLaws.{inner_passes}
-use Rattle.scl_gnu.proofs.KeptLaws.{no-raws, is_kind, compiles-alone, target-alone, is-list}
+use Rattle.scl_gnu.specs.OwnTables.{is_kind}
+use Rattle.scl_gnu.proofs.KeptLaws.{no-raws, compiles-alone, target-alone, is-list}
 use Rattle.scl_gnu.proofs.ReadingLaws.{HasFound, is-read, object-found}
 use Rattle.scl_gnu.proofs.OwnWordsLaws.{xclang, wrapped, OwnWords, AreInners, not-so, none-front, none-back, none-define, none-depfile, no_raw-define, no_raw-target, five}
 

@@ -17,7 +17,8 @@ use Rattle.scl_again.specs.Origins.{IsClear, AreClear}
 use Rattle.scl_again.specs.Promises.{Line, said_by}
 use Rattle.scl_again.specs.Reads.{Reads}
 use Rattle.scl_again.proofs.CommandLaws.{IsInner, list-again, command-again}
-use Rattle.scl_again.proofs.FoundLaws.{is_bare, last-flag, flag-again}
+use Rattle.scl_again.specs.OwnWords.{is_bare}
+use Rattle.scl_again.proofs.FoundLaws.{last-flag, flag-again}
 use Rattle.scl_again.proofs.ReadsLaws.{reads-append, reads-apart, reads-nil}
 use Rattle.scl_again.proofs.ValuesLaws.{HaveOwnFlags}
 use Rattle.scl_files.specs.declared.expand.ExpansionKind.TheVariants as expansions

@@ -1,3 +1,4 @@
 pub mod DiabAgainLaws
+pub mod OwnTableLaws
 pub mod ReadAgainLaws
 pub mod TaskingAgainLaws

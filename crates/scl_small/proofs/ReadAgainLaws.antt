@@ -75,29 +75,29 @@ module _ {K : Type 0} (place : K → Place) where
 -- ---- what was read
 
 -- words that have a record have no empty either value, and their options passed the tests
-module _ {K : Type 0} (rows : List (Row K)) (verdict : Seen K → Option Verdict) (tested : List (Seen K) → Result Parsed Verdict) (words : List (List ℕ)) (p : Parsed) where
+module _ {K : Type 0} (tables : List (List (Row K))) (verdict : Seen K → Option Verdict) (tested : List (Seen K) → Result Parsed Verdict) (words : List (List ℕ)) (p : Parsed) where
   abbrev options_of : List (Cut K)
-  options_of = (cut (owner_in (rows ∷ [])) false words).options
+  options_of = (cut (owner_in tables) false words).options
 
-  pub was-read : reads verdict tested (owner_in (rows ∷ [])) words ≡ Ok p → Each IsClear options_of × (tested (map shown options_of) ≡ Ok p)
+  pub was-read : reads verdict tested (owner_in tables) words ≡ Ok p → Each IsClear options_of × (tested (map shown options_of) ≡ Ok p)
   was-read e =
-      let dangles = is_dangling (cut (owner_in (rows ∷ [])) false words).end in
-      let says = refusing_empty (owner_in (rows ∷ [])) empty_value (λ before. verdict) in
+      let dangles = is_dangling (cut (owner_in tables) false words).end in
+      let says = refusing_empty (owner_in tables) empty_value (λ before. verdict) in
       let a = bind-ok (judged says argument_parse (map shown options_of) dangles) tested p e in (
-        judged-clear (rows ∷ []) false words empty_value (λ before. verdict) argument_parse a.0 a.1,
+        judged-clear tables false words empty_value (λ before. verdict) argument_parse a.0 a.1,
         ap tested (judged-ok says argument_parse (map shown options_of) dangles a.0 a.1) ∙ a.2,
       )
 
-  pub no-empty : reads verdict tested (owner_in (rows ∷ [])) words ≡ Ok p → HasNoEmpty (line_of rows words)
+  pub no-empty : reads verdict tested (owner_in tables) words ≡ Ok p → HasNoEmpty (line_of tables words)
   no-empty e = record { outer = (was-read e).0; inner = tt }
 
 -- ---- the command of a record
 
-module _ {K : Type 0} (place : K → Place) (compile output : K) (rows : List (Row K)) (pass : PassChecks (rows ∷ []) every_kind side_of_flag)
+module _ {K : Type 0} (place : K → Place) (compile output : K) (tables : List (List (Row K))) (pass : PassChecks tables every_kind side_of_flag)
     (no_inputs : (k : K) → ghosts.eq (place k) places.Input ≡ false)
-    (reads_output : (object : List ℕ) → Reads (owner_in (rows ∷ [])) false (codes "-o" ∷ object ∷ []) (plain.value (codes "-o") output object ∷ [])) where
+    (reads_output : (object : List ℕ) → Reads (owner_in tables) false (codes "-o" ∷ object ∷ []) (plain.value (codes "-o") output object ∷ [])) where
   abbrev own : List ℕ → Option (Row K)
-  own = owner_in (rows ∷ [])
+  own = owner_in tables
 
   raws : (o : Seen K) → goes_to place places.Input o ≡ true → is_raw o ≡ true
   raws (Raw w) e = refl
@@ -110,7 +110,7 @@ module _ {K : Type 0} (place : K → Place) (compile output : K) (rows : List (R
   keeps_every (flag row) = tt
   keeps_every (with_value row v h) = refl
 
-  is-list : (there : Place) → IsList (rows ∷ []) false [] every_kind every_kind side_of_flag (λ i w. []) [] (list_of place compile output there)
+  is-list : (there : Place) → IsList tables false [] every_kind every_kind side_of_flag (λ i w. []) [] (list_of place compile output there)
   is-list there = record { keeps = λ c e. keeps_every c; keeps_inner = λ c e. keeps_every c; adds_none = tt }
 
   module _ (words : List (List ℕ)) (p : Parsed) (object f : List ℕ) (clear : Each IsClear (cut own false words).options) (is : IsRecord place (map shown (cut own false words).options) f p)
@@ -130,15 +130,15 @@ module _ {K : Type 0} (place : K → Place) (compile output : K) (rows : List (R
 
     reads-list : (there : Place) → Reads own false (list_at place there options) (carried said (list_of place compile output there))
     reads-list there = subst (λ os. Reads own false (list_at place there options) os) (carried-bare there)
-        (listed-again (rows ∷ []) false every_kind options are_clear (goes_to place there) (λ c e. keeps_every c) side_of_flag pass)
+        (listed-again tables false every_kind options are_clear (goes_to place there) (λ c e. keeps_every c) side_of_flag pass)
 
     abbrev front : List (List ℕ)
     front = p.compilation_flag ∷ p.input ∷ codes "-o" ∷ object ∷ []
 
     reads-input : Reads own false (p.input ∷ []) (plain.raw p.input ∷ [])
     reads-input =
-        let o = one-text (rows ∷ []) false (goes_to place places.Input) words p.input is.input_is in
-        subst (λ x. Reads own false (x ∷ []) (plain.raw x ∷ [])) o.2 (raw-again (rows ∷ []) (goes_to place places.Input) raws o.0 o.1)
+        let o = one-text tables false (goes_to place places.Input) words p.input is.input_is in
+        subst (λ x. Reads own false (x ∷ []) (plain.raw x ∷ [])) o.2 (raw-again tables (goes_to place places.Input) raws o.0 o.1)
 
     reads-front : Reads own false front (parts place compile output p object).front
     reads-front = reads-append own false _ _ _ _ (reads-append own false _ _ _ _
@@ -157,17 +157,17 @@ module _ {K : Type 0} (place : K → Place) (compile output : K) (rows : List (R
         append-nil (front ++ lists) ∙ (sym (append_assoc front p.preprocessor_args p.common_args)
         ∙ ap (λ ws. ws ++ p.common_args) (sym (ap (λ ws. front ++ p.preprocessor_args ++ ws) is.unhashed_is ∙ append-nil (front ++ p.preprocessor_args))))
 
-    pub record-again : IsReadAgain (rows ∷ []) false [] said (parts place compile output p object) (command_words p object)
-    record-again = subst (λ ws. IsReadAgain (rows ∷ []) false [] said (parts place compile output p object) ws) words-are
-        (command-again (rows ∷ []) false [] every_kind every_kind side_of_flag (λ i w. []) pass (record { keeps = refl; safe = refl }) said are_clear tt tt
+    pub record-again : IsReadAgain tables false [] said (parts place compile output p object) (command_words p object)
+    record-again = subst (λ ws. IsReadAgain tables false [] said (parts place compile output p object) ws) words-are
+        (command-again tables false [] every_kind every_kind side_of_flag (λ i w. []) pass (record { keeps = refl; safe = refl }) said are_clear tt tt
         (parts place compile output p object) front lists []
         (record { lists = (is-list places.Preprocessor, (is-list places.Common, tt)); no_raws = (record { carries_none = λ w. refl; adds_none = refl }, (record { carries_none = λ w. refl; adds_none = refl }, tt)); front_read = reads-front; back_read = refl; none_in_front = tt; none_behind = tt }) reads-lists)
 
 -- ---- the promise of a command
 
-pub command-kept-again : {K : Type 0} (place : K → Place) (compile output : K) (rows : List (Row K)) (reading : (List ℕ → Option (Row K)) → List (List ℕ) → Result Parsed Verdict) →
-    CommandsAreReadAgain place compile output rows reading → (words : List (List ℕ)) →
-    IfCommand command (CommandIsReadAgain place compile output rows words) (reading (owner_in (rows ∷ [])) words)
-command-kept-again place compile output rows reading all words =
-    command-kept command_words (λ p object again. IsReadAgain (rows ∷ []) false [] (said_by (line_of rows words)) (parts place compile output p object) again)
-    (reading (owner_in (rows ∷ [])) words) (λ p object e o. all words p object e)
+pub command-kept-again : {K : Type 0} (place : K → Place) (compile output : K) (tables : List (List (Row K))) (reading : (List ℕ → Option (Row K)) → List (List ℕ) → Result Parsed Verdict) →
+    CommandsAreReadAgain place compile output tables reading → (words : List (List ℕ)) →
+    IfCommand command (CommandIsReadAgain place compile output tables words) (reading (owner_in tables) words)
+command-kept-again place compile output tables reading all words =
+    command-kept command_words (λ p object again. IsReadAgain tables false [] (said_by (line_of tables words)) (parts place compile output p object) again)
+    (reading (owner_in tables) words) (λ p object e o. all words p object e)

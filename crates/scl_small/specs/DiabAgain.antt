@@ -1,5 +1,5 @@
 -- What it is for a command of Diab to be read again.
-use Rattle.std.specs.Prelude.{ℕ, List}
+use Rattle.std.specs.Prelude.{ℕ, List, [], ◌∷◌}
 use Rattle.scl_files.specs.Expand.{expand}
 use Rattle.scl_text.specs.Records.{Parsed}
 use Rattle.scl_files.specs.Views.{File}
@@ -11,4 +11,4 @@ use Rattle.scl_small.specs.declared.diab.data.Kind.TheVariants as kinds
 
 -- of a record of these words, whose response files, from the directory, are put in place
 abbrev pub DiabReadsAgain : List ℕ → List File → List (List ℕ) → Parsed → List (List ℕ) → Type 0
-DiabReadsAgain directory files words = CommandIsReadAgain place kinds.DoCompilation kinds.Output rows (expand expansions.Diab directory files words)
+DiabReadsAgain directory files words = CommandIsReadAgain place kinds.DoCompilation kinds.Output (rows ∷ []) (expand expansions.Diab directory files words)

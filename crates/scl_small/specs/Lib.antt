@@ -4,6 +4,7 @@ pub mod DiabReading
 pub mod DiabTable
 pub mod DiabValues
 pub mod Places
+pub mod OwnTables
 pub mod ReadAgain
 pub mod Readings
 pub mod TaskingAgain

@@ -17,9 +17,9 @@ use Rattle.scl_small.specs.declared.place.Place.TheVariants as places
 abbrev pub every_kind : {K : Type 0} → K → Bool
 every_kind k = true
 
--- what words are cut into by these rows; none of them are handed on
-abbrev pub line_of : {K : Type 0} → List (Row K) → List (List ℕ) → Line K K
-line_of rows words = record { options = (cut (owner_in (rows ∷ [])) false words).options; handed_on = [] }
+-- what words are cut into by these tables; none of them are handed on
+abbrev pub line_of : {K : Type 0} → List (List (Row K)) → List (List ℕ) → Line K K
+line_of tables words = record { options = (cut (owner_in tables) false words).options; handed_on = [] }
 
 module _ {K : Type 0} (place : K → Place) (compile output : K) where
   -- the list of the options that go to the place
@@ -34,21 +34,21 @@ module _ {K : Type 0} (place : K → Place) (compile output : K) where
     back = [];
   }
 
-  -- where words have a record, by these rows and this reading, its command is read again
-  abbrev pub CommandsAreReadAgain : List (Row K) → ((List ℕ → Option (Row K)) → List (List ℕ) → Result Parsed Verdict) → Type 0
-  CommandsAreReadAgain rows reading = (words : List (List ℕ)) (p : Parsed) (object : List ℕ) → reading (owner_in (rows ∷ [])) words ≡ Ok p →
-      IsReadAgain (rows ∷ []) false [] (said_by (line_of rows words)) (parts p object) (command_words p object)
+  -- where words have a record, by these tables and this reading, its command is read again
+  abbrev pub CommandsAreReadAgain : List (List (Row K)) → ((List ℕ → Option (Row K)) → List (List ℕ) → Result Parsed Verdict) → Type 0
+  CommandsAreReadAgain tables reading = (words : List (List ℕ)) (p : Parsed) (object : List ℕ) → reading (owner_in tables) words ≡ Ok p →
+      IsReadAgain tables false [] (said_by (line_of tables words)) (parts p object) (command_words p object)
 
-  -- what it is for the words of the command of a record, which these words have by these rows, to be read again
-  abbrev pub CommandIsReadAgain : List (Row K) → List (List ℕ) → Parsed → List (List ℕ) → Type 0
-  CommandIsReadAgain rows words p command = IfSome (object_of p) (λ object. IsReadAgain (rows ∷ []) false [] (said_by (line_of rows words)) (parts p object) command)
+  -- what it is for the words of the command of a record, which these words have by these tables, to be read again
+  abbrev pub CommandIsReadAgain : List (List (Row K)) → List (List ℕ) → Parsed → List (List ℕ) → Type 0
+  CommandIsReadAgain tables words p command = IfSome (object_of p) (λ object. IsReadAgain tables false [] (said_by (line_of tables words)) (parts p object) command)
 
 -- ---- records
 
--- where words have a record, by these rows and this reading, it has an object
-abbrev pub RecordsHaveObjects : {K : Type 0} → List (Row K) → ((List ℕ → Option (Row K)) → List (List ℕ) → Result Parsed Verdict) → Type 0
-RecordsHaveObjects rows reading = (words : List (List ℕ)) (p : Parsed) → reading (owner_in (rows ∷ [])) words ≡ Ok p → is_some (object_of p) ≡ true
+-- where words have a record, by these tables and this reading, it has an object
+abbrev pub RecordsHaveObjects : {K : Type 0} → List (List (Row K)) → ((List ℕ → Option (Row K)) → List (List ℕ) → Result Parsed Verdict) → Type 0
+RecordsHaveObjects tables reading = (words : List (List ℕ)) (p : Parsed) → reading (owner_in tables) words ≡ Ok p → is_some (object_of p) ≡ true
 
 -- where words have a record, no option of an either row has an empty value in their line
-abbrev pub LinesHaveNoEmpty : {K : Type 0} → List (Row K) → ((List ℕ → Option (Row K)) → List (List ℕ) → Result Parsed Verdict) → Type 0
-LinesHaveNoEmpty rows reading = (words : List (List ℕ)) (p : Parsed) → reading (owner_in (rows ∷ [])) words ≡ Ok p → HasNoEmpty (line_of rows words)
+abbrev pub LinesHaveNoEmpty : {K : Type 0} → List (List (Row K)) → ((List ℕ → Option (Row K)) → List (List ℕ) → Result Parsed Verdict) → Type 0
+LinesHaveNoEmpty tables reading = (words : List (List ℕ)) (p : Parsed) → reading (owner_in tables) words ≡ Ok p → HasNoEmpty (line_of tables words)

@@ -1,5 +1,5 @@
 -- What it is for a command of TaskingVX to be read again.
-use Rattle.std.specs.Prelude.{ℕ, List}
+use Rattle.std.specs.Prelude.{ℕ, List, [], ◌∷◌}
 use Rattle.scl_text.specs.Records.{Parsed}
 use Rattle.scl_small.specs.ReadAgain.{CommandIsReadAgain}
 use Rattle.scl_small.specs.TaskingReading.{place}
@@ -8,4 +8,4 @@ use Rattle.scl_small.specs.declared.tasking_vx.data.Kind.TheVariants as kinds
 
 -- of a record of these words
 abbrev pub TaskingReadsAgain : List (List ℕ) → Parsed → List (List ℕ) → Type 0
-TaskingReadsAgain = CommandIsReadAgain place kinds.DoCompilation kinds.Output rows
+TaskingReadsAgain = CommandIsReadAgain place kinds.DoCompilation kinds.Output (rows ∷ [])

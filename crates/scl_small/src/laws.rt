@@ -2,6 +2,7 @@
 ghost use Rattle.std.specs.Prelude.{◌≡◌, ◌∷◌, [], true};
 ghost use Rattle.scl_args.specs.Options.{side_of_flag};
 ghost use Rattle.scl_again.specs.Checks.{PassChecks};
+ghost use Rattle.scl_small.specs.OwnTables.{OwnDiabCommandsAreReadAgain, OwnTaskingCommandsAreReadAgain};
 ghost use Rattle.scl_small.specs.ReadAgain.{every_kind, CommandsAreReadAgain, RecordsHaveObjects, LinesHaveNoEmpty};
 ghost use Rattle.scl_small.specs.DiabTable as diab_table;
 ghost use Rattle.scl_small.specs.DiabReading as diab;
@@ -30,15 +31,23 @@ pub fn of_tables()
 /// - `diab_has_no_empty`, `tasking_has_no_empty`: where a record was read, no option has an empty value that its row takes
 ///   either way.
 pub fn of_records()
-    ensures diab_has_objects { RecordsHaveObjects diab_table.rows diab.reading }
-    ensures tasking_has_objects { RecordsHaveObjects tasking_table.rows tasking.reading }
-    ensures diab_has_no_empty { LinesHaveNoEmpty diab_table.rows diab.reading }
-    ensures tasking_has_no_empty { LinesHaveNoEmpty tasking_table.rows tasking.reading }
+    ensures diab_has_objects { RecordsHaveObjects (diab_table.rows ∷ []) diab.reading }
+    ensures tasking_has_objects { RecordsHaveObjects (tasking_table.rows ∷ []) tasking.reading }
+    ensures diab_has_no_empty { LinesHaveNoEmpty (diab_table.rows ∷ []) diab.reading }
+    ensures tasking_has_no_empty { LinesHaveNoEmpty (tasking_table.rows ∷ []) tasking.reading }
 {}
 
 /// Laws of the commands of records: each, cut again by its compiler's table, gives its own words, the carried options with
 /// unchanged values, and the input (docs/RULES.md, Cutting again).
 pub fn of_commands()
-    ensures diab_commands_are_read_again { CommandsAreReadAgain diab.place diab_kinds.DoCompilation diab_kinds.Output diab_table.rows diab.reading }
-    ensures tasking_commands_are_read_again { CommandsAreReadAgain tasking.place tasking_kinds.DoCompilation tasking_kinds.Output tasking_table.rows tasking.reading }
+    ensures diab_commands_are_read_again { CommandsAreReadAgain diab.place diab_kinds.DoCompilation diab_kinds.Output (diab_table.rows ∷ []) diab.reading }
+    ensures tasking_commands_are_read_again { CommandsAreReadAgain tasking.place tasking_kinds.DoCompilation tasking_kinds.Output (tasking_table.rows ∷ []) tasking.reading }
+{}
+
+/// Laws of commands by tables of one's own (docs/RULES.md, Cutting again): where the tables keep what the builder's own words
+/// ask of them (`keep_diab_words`, `keep_tasking_words`, which compute), the command of each record by them, cut again by
+/// them, gives its own words, the carried options with unchanged values, and the input.
+pub fn of_own_tables()
+    ensures own_diab_commands_are_read_again { OwnDiabCommandsAreReadAgain }
+    ensures own_tasking_commands_are_read_again { OwnTaskingCommandsAreReadAgain }
 {}
