@@ -111,12 +111,12 @@ fn run_words<'a>(
 }
 
 /// The words of such a run that makes no file.
-fn quiet_words(
+fn quiet_words<'a>(
     alloc: Global,
     text: Option<&str>,
     settings: &[Vec<u8>],
-    parsed: &ParsedArguments,
-    arch: &[Vec<u8>],
+    parsed: &'a ParsedArguments,
+    arch: &'a [Vec<u8>],
 ) -> Mem<Vec<Vec<u8>>>
     ensures { IfOk result (λ made. words_of made.items ≡ run_words (option_copied text.entry) (words_of settings.now) (with_archs (words_of arch.now) (without_files (parsed_of parsed.now)))) }
 {
