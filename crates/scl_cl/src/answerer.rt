@@ -1,6 +1,5 @@
 //! A compiler that is served, with its trees built: for many command lines.
-ghost use Rattle.std.specs.Prelude.{◌≡◌, ◌<◌, true, false, length, slice_index_or, IfOk, IfSome, MatchResult};
-ghost use Rattle.scl_cl.specs.declared.compiler.Compiler.{Compiler};
+ghost use Rattle.std.specs.Prelude.{◌≡◌, true, false, IfOk, MatchResult};
 ghost use Rattle.scl_values.specs.Words.{words_of};
 ghost use Rattle.scl_text.specs.Commands.{pairs_of};
 ghost use Rattle.scl_cl.specs.Requests.{asked};
@@ -221,46 +220,4 @@ impl Asked for Answerer {
     fn ask<Q: Query>(&self, alloc: Global, query: Q) -> Mem<Q::Answer> {
         self.ask(alloc, query)
     }
-}
-
-/// The compilers whose answerers were asked for: each is built at its first use.
-#[derive(Drop)]
-pub struct Answerers {
-    alloc: Global,
-    built: Vec<Answerer>,
-}
-
-impl Answerers {
-    /// None. It takes no memory.
-    pub fn new(alloc: Global) -> Answerers {
-        Answerers {
-            alloc,
-            built: Vec::new(alloc),
-        }
-    }
-
-    /// That of the compiler with this name. It fails only for want of memory.
-    pub fn of(&mut self, compiler: Compiler) -> Mem<&Answerer>
-        ensures { IfOk result (λ answerer. answerer.now ≡ compiler) }
-    {
-        if let Some(at) = position_of(&self.built, compiler) {
-            return Ok(&self.built[at]);
-        }
-        let at = self.built.len();
-        self.built.push(Answerer::new(self.alloc, compiler)?)?;
-        Ok(&self.built[at])
-    }
-}
-
-/// Where that of the compiler stands, if there is one.
-fn position_of(built: &[Answerer], compiler: Compiler) -> Option<usize>
-    ensures within { IfSome result (λ at. at < length built.now) }
-    ensures compiler { IfSome result (λ at. (other : Compiler) → slice_index_or built.now at other ≡ compiler) }
-{
-    for (at, answerer) in built.iter().enumerate() {
-        if answerer.compiler() == compiler {
-            return Some(at);
-        }
-    }
-    None
 }

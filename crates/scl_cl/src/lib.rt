@@ -5,6 +5,7 @@
 
 mod answer;
 mod answerer;
+mod answerers;
 mod ask;
 mod compile;
 mod compiler;
@@ -26,7 +27,8 @@ mod trees;
 mod within;
 
 pub use answer::{answer_text, command_text};
-pub use answerer::{Answerer, Answerers};
+pub use answerer::Answerer;
+pub use answerers::Answerers;
 pub use ask::Query;
 pub use compiler::Compiler;
 pub use kept::{BuiltCommand, Compilation};

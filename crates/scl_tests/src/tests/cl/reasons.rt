@@ -44,12 +44,12 @@ struct Met {
 }
 
 impl Met {
-    fn new(alloc: Global) -> Met {
-        Met {
+    fn new(alloc: Global) -> Mem<Met> {
+        Ok(Met {
             alloc,
-            answerers: Answerers::new(alloc),
+            answerers: Answerers::new(alloc)?,
             reasons: Vec::new(alloc),
-        }
+        })
     }
 
     /// Keeps the reason of an answer, which has a sentence.
@@ -67,7 +67,7 @@ impl Met {
         for word in words {
             line.push(Vec::from_slice(self.alloc, word.as_bytes())?)?;
         }
-        let answerer = self.answerers.of(compiler)?;
+        let answerer = self.answerers.of(compiler);
         let view = View::new(self.alloc);
         let answer = answerer.answer(self.alloc, b"", &line, b"", &[], &view)?;
         self.keep(rt, &answer)
@@ -114,7 +114,7 @@ impl Met {
     fn ask_row(&mut self, rt: &impl Abort, row: &str) -> Result<(), Fail> {
         let (request, reason) = request_and_rest(self.alloc, row)?;
         let asked = asked_by(self.alloc, request.as_bytes())?;
-        let answerer = self.answerers.of(asked.compiler)?;
+        let answerer = self.answerers.of(asked.compiler);
         let answer = answerer.answer(
             self.alloc,
             b"",
@@ -147,7 +147,7 @@ fn expect_each_once(rt: &(impl Abort + Alloc<A = Global>), met: &Met) -> Result<
 
 #[test]
 fn every_reason_has_its_sentence(rt: HostRuntime) -> Result<(), Fail> {
-    let mut met = Met::new(rt.alloc());
+    let mut met = Met::new(rt.alloc())?;
     met.ask_gnu(&rt)?;
     met.ask_msvc(&rt, Compiler::Cl)?;
     met.ask_msvc(&rt, Compiler::ClangCl)?;
