@@ -1,9 +1,10 @@
 //! Measures parts by themselves: `layer_bench table KIND ROUNDS` searches words in a table or in its prefix tree, or
-//! builds the tree, `layer_bench text KIND KIB` splits or decodes a text; three words more measure once more. It prints
-//! what came out, and on standard error the processor time. Words that say no measurement are told there, and are an
-//! error.
+//! builds the tree, `layer_bench text KIND KIB` splits or decodes a text, `layer_bench answer KIND ROUNDS` answers one
+//! command line; three words more measure once more. It prints what came out, and on standard error the processor time.
+//! Words that say no measurement are told there, and are an error.
 #![tactic(auto)]
 
+mod answers;
 mod tables;
 mod texts;
 
@@ -21,9 +22,10 @@ fn measure(rt: &HostRuntime, part: &str, kind: &str, size: &str) -> io::Result<(
         return refused(rt, "no number", size);
     };
     match part {
+        "answer" => answers::measure(rt, kind, size),
         "table" => tables::measure(rt, kind, size),
         "text" => texts::measure(rt, kind, size),
-        _ => refused(rt, "neither table nor text", part),
+        _ => refused(rt, "none of answer, table and text", part),
     }
 }
 

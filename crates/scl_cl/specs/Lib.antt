@@ -1,3 +1,4 @@
+pub mod Answerers
 pub mod Lines
 pub mod Fields
 pub mod Compilers

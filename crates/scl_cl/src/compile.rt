@@ -9,7 +9,7 @@ ghost use Rattle.scl_cl.specs.Answers.{Keeps, answer_to, answer_with, environmen
 ghost use Rattle.scl_cl.specs.AnswersGiven.{answer_by, answer_of, command_answer, HasBuilt, HasKept, HasParts, HasCommand, IfCompiled, IsAnswerBy};
 ghost use Rattle.scl_cl.specs.Definitions.{definitions_of};
 
-use crate::ask::Query;
+use crate::ask::{Asked, Query};
 use crate::compiler::Compiler;
 use crate::kept::{BuiltCommand, Compilation, Kept};
 use crate::within::CommandLines;
@@ -92,30 +92,49 @@ impl<'a, K: Kept> Query for Compile<'a, K> {
     }
 }
 
-impl Compiler {
-    /// What a command line, whose words are handed over, is answered.
-    fn compile<K: Kept>(
-        self,
-        alloc: Global,
-        executable: &[u8],
-        words: Vec<Vec<u8>>,
-        cwd: &[u8],
-        env_vars: &[(Vec<u8>, Vec<u8>)],
-        view: &View,
-    ) -> Mem<CompilerArguments<K>>
-        ensures { IfOk result (IsAnswerBy K.command K.cacheable K.is_of (definitions_of self) executable.now (words_of words.items) cwd.now (pairs_of env_vars.now) view.now) }
-    {
-        let query = Compile {
-            executable,
-            words,
-            cwd,
-            env_vars,
-            view,
-            kept: PhantomData,
-        };
-        self.ask(alloc, query)
-    }
+/// What a command line, whose words are handed over, is answered.
+pub(crate) fn compile_words<A: Asked, K: Kept>(
+    alloc: Global,
+    asks: &A,
+    executable: &[u8],
+    words: Vec<Vec<u8>>,
+    cwd: &[u8],
+    env_vars: &[(Vec<u8>, Vec<u8>)],
+    view: &View,
+) -> Mem<CompilerArguments<K>>
+    ensures { IfOk result (IsAnswerBy K.command K.cacheable K.is_of (definitions_of (A.compiler asks.now)) executable.now (words_of words.items) cwd.now (pairs_of env_vars.now) view.now) }
+{
+    let query = Compile {
+        executable,
+        words,
+        cwd,
+        env_vars,
+        view,
+        kept: PhantomData,
+    };
+    asks.ask(alloc, query)
+}
 
+/// What `Compiler::answer` answers, of whoever is asked.
+pub(crate) fn answer_line<A: Asked>(
+    alloc: Global,
+    asks: &A,
+    executable: &[u8],
+    words: &[Vec<u8>],
+    cwd: &[u8],
+    env_vars: &[(Vec<u8>, Vec<u8>)],
+    view: &View,
+) -> Mem<CompilerArguments<Compilation>>
+    ensures answer { IfOk result (λ answer. answer_of answer ≡ answer_to (asked (A.compiler asks.now) (words_of words.now) cwd.now (pairs_of env_vars.now) view.now)) }
+    ensures parts { IfOk result (λ answer. HasParts (reading_by (A.compiler asks.now) (asked (A.compiler asks.now) (words_of words.now) cwd.now (pairs_of env_vars.now) view.now))
+        executable.now (environment_by (A.compiler asks.now) (pairs_of env_vars.now)) cwd.now answer) }
+    ensures read_again { IfOk result (λ answer. IfCompiled (read_again_by (A.compiler asks.now) (asked (A.compiler asks.now) (words_of words.now) cwd.now (pairs_of env_vars.now) view.now)) answer) }
+{
+    let words = copy_words(alloc, words)?;
+    compile_words(alloc, asks, executable, words, cwd, env_vars, view)
+}
+
+impl Compiler {
     /// What a command line is answered: the words behind the program `executable`, read in the directory `cwd`, with the
     /// environment `env_vars` and the files of `view`. All are bytes. Where the answer is a command, it is read again
     /// (docs/RULES.md, Answers, and Cutting again). It fails only for want of memory.
@@ -133,8 +152,7 @@ impl Compiler {
             executable.now (environment_by self (pairs_of env_vars.now)) cwd.now answer) }
         ensures read_again { IfOk result (λ answer. IfCompiled (read_again_by self (asked self (words_of words.now) cwd.now (pairs_of env_vars.now) view.now)) answer) }
     {
-        let words = copy_words(alloc, words)?;
-        self.compile(alloc, executable, words, cwd, env_vars, view)
+        answer_line(alloc, &self, executable, words, cwd, env_vars, view)
     }
 
     /// What `answer` answers, to words that are handed over; what was read is made into the command, and not kept. It fails
@@ -153,6 +171,6 @@ impl Compiler {
         ensures read_again { IfOk result (λ answer. Keeps (read_again_by self (asked self (words_of words.items) cwd.now (pairs_of env_vars.now) view.now))
             (reading_by self (asked self (words_of words.items) cwd.now (pairs_of env_vars.now) view.now)) (command_answer answer)) }
     {
-        self.compile(alloc, executable, words, cwd, env_vars, view)
+        compile_words(alloc, &self, executable, words, cwd, env_vars, view)
     }
 }

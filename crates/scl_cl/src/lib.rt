@@ -4,6 +4,8 @@
 #![tactic(auto)]
 
 mod answer;
+mod answerer;
+mod answerers;
 mod ask;
 mod compile;
 mod compiler;
@@ -13,6 +15,7 @@ mod field;
 mod kept;
 mod keyword;
 pub mod laws;
+mod lent;
 mod outcome;
 mod program;
 mod questions;
@@ -20,9 +23,12 @@ mod request;
 mod runs;
 mod saying;
 mod transfer;
+mod trees;
 mod within;
 
 pub use answer::{answer_text, command_text};
+pub use answerer::Answerer;
+pub use answerers::Answerers;
 pub use ask::Query;
 pub use compiler::Compiler;
 pub use kept::{BuiltCommand, Compilation};

@@ -9,7 +9,8 @@ ghost use Rattle.scl_cl.specs.Within.{has_at_most};
 ghost use Rattle.scl_cl.specs.Questions.{no_directory, database_asked, questions_of};
 ghost use Rattle.scl_cl.specs.QuestionsGiven.{given, hash_files_given, database_given};
 
-use crate::ask::Query;
+use crate::ask::{Asked, Query};
+use crate::compile::answer_line;
 use crate::compiler::Compiler;
 use crate::kept::Compilation;
 use crate::within::CommandLines;
@@ -135,34 +136,34 @@ impl<'a> Query for FilesWanted<'a> {
     }
 }
 
-impl Compiler {
-    /// What the answer asks, with no bound on words.
-    #[tactic(auto, using(crate::proofs::RecordLaws::hash_files_are_given, crate::proofs::RecordLaws::database_is_given))]
-    fn all_questions(
-        self,
-        alloc: Global,
-        words: &[Vec<u8>],
-        cwd: &[u8],
-        env_vars: &[(Vec<u8>, Vec<u8>)],
-        view: &View,
-    ) -> Mem<Questions>
-        ensures { IfOk result (λ questions. given questions ≡ questions_of (asked self (words_of words.now) cwd.now (pairs_of env_vars.now) view.now)) }
-    {
-        let query = FilesWanted {
-            words,
-            cwd,
-            env_vars,
-            view,
-        };
-        let files = self.ask(alloc, query)?;
-        let answer = self.answer(alloc, b"", words, cwd, env_vars, view)?;
-        Ok(Questions {
-            files,
-            directories: absent_directories(alloc, hash_files_of(&answer), view)?,
-            existing: absent_database(alloc, database_of(&answer), cwd, view)?,
-        })
-    }
+/// What the answer asks, with no bound on words.
+#[tactic(auto, using(crate::proofs::RecordLaws::hash_files_are_given, crate::proofs::RecordLaws::database_is_given))]
+pub(crate) fn all_questions<A: Asked>(
+    alloc: Global,
+    asks: &A,
+    words: &[Vec<u8>],
+    cwd: &[u8],
+    env_vars: &[(Vec<u8>, Vec<u8>)],
+    view: &View,
+) -> Mem<Questions>
+    ensures { IfOk result (λ questions. given questions ≡ questions_of (asked (A.compiler asks.now) (words_of words.now) cwd.now (pairs_of env_vars.now) view.now)) }
+{
+    let query = FilesWanted {
+        words,
+        cwd,
+        env_vars,
+        view,
+    };
+    let files = asks.ask(alloc, query)?;
+    let answer = answer_line(alloc, asks, b"", words, cwd, env_vars, view)?;
+    Ok(Questions {
+        files,
+        directories: absent_directories(alloc, hash_files_of(&answer), view)?,
+        existing: absent_database(alloc, database_of(&answer), cwd, view)?,
+    })
+}
 
+impl Compiler {
     /// What the answer to a command line asks of a view that the view does not have: the response files that its words name,
     /// those that words inside the files of the view name, and those of inner command lines; the directories in which
     /// profiles may lie; and the file that debug information may be added to (docs/RULES.md, Questions). A disk that has what
@@ -183,7 +184,7 @@ impl Compiler {
         if !self.has_at_most(alloc, words, cwd, env_vars, view, most)? {
             return Ok(Err(TooManyWords));
         }
-        let questions = self.all_questions(alloc, words, cwd, env_vars, view)?;
+        let questions = all_questions(alloc, &self, words, cwd, env_vars, view)?;
         Ok(Ok(questions))
     }
 }

@@ -10,13 +10,13 @@ mod within;
 mod words;
 
 pub use command::{generate_compile_commands, generate_compile_commands_owned};
-pub use compiler::Msvc;
+pub use compiler::{Msvc, parse_surrounded};
 pub use depfile::{DepfileError, DepfileText, depfile_text, write_depfile};
 pub use environment::{surroundings, without_cl_env_vars};
 pub use scl_args::WriteFault;
 pub use scl_msvc_reading::msvc::{
-    ARGS, ArgData, Kind, SLASH_ARGS, parse_arguments, parse_arguments_owned, slash_table, table,
-    trees,
+    ARGS, ArgData, Kind, SLASH_ARGS, parse_arguments, parse_arguments_by, parse_arguments_owned,
+    slash_table, table, trees,
 };
 pub use scl_text::MsvcExpand as ExpandIncludeFile;
 pub use wanted::files_wanted;

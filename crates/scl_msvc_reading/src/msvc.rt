@@ -16,5 +16,5 @@ pub use args::{ARGS, SLASH_ARGS, slash_table, table, trees};
 pub use data::{ArgData, Kind};
 pub use inner::{ByInnerVerdict, inner_place_of};
 pub use judge::ByVerdict;
-pub use parse::{parse_arguments, parse_arguments_owned};
+pub use parse::{parse_arguments, parse_arguments_by, parse_arguments_owned};
 pub use place::{ExternalIncludesApart, Place, place_of};

@@ -4,12 +4,13 @@ ghost use Rattle.scl_values.specs.Words.{words_of};
 ghost use Rattle.scl_text.specs.Commands.{pairs_of};
 ghost use Rattle.scl_text.specs.Records.{outcome_of};
 ghost use Rattle.scl_msvc.specs.Environment.{surrounded_reading};
+ghost use Rattle.scl_msvc_reading.specs.Rows.{msvc_tables};
 
 use super::command::generate_compile_commands_owned;
 use super::environment::surround;
 use super::preprocess::runs;
-use scl_args::Mem;
-use scl_msvc_reading::msvc::parse_arguments_owned;
+use scl_args::{Mem, SearchableArgInfo};
+use scl_msvc_reading::msvc::{ArgData, parse_arguments_by, trees};
 use scl_text::CCompilerImpl;
 use scl_text::command::copy_text;
 use scl_text::records::{
@@ -47,20 +48,23 @@ impl Msvc {
     }
 }
 
-/// What the words say between those that the environment gives.
+/// What words that are handed over say between those that the environment gives, by Msvc's tables or trees, which are handed
+/// in, as `trees` builds them (docs/RULES.md, Msvc). It fails only for want of memory.
 #[tactic(auto, using(crate::proofs::EnvironmentLemmas::refusal_given))]
-fn parse_surrounded(
+pub fn parse_surrounded<S: SearchableArgInfo<ArgData> + Drop>(
     alloc: Global,
     arguments: Vec<Vec<u8>>,
     cwd: &[u8],
     env_vars: &[(Vec<u8>, Vec<u8>)],
+    arg_info: S,
     is_clang: bool,
     view: &View,
 ) -> Mem<CompilerArguments<ParsedArguments>>
+    requires { S.tables arg_info ≡ msvc_tables }
     ensures { IfOk result (λ answer. outcome_of answer ≡ surrounded_reading is_clang cwd.now (pairs_of env_vars.now) view.now (words_of arguments.items)) }
 {
     match surround(alloc, arguments, env_vars) {
-        Ok(words) => parse_arguments_owned(alloc, words, cwd, is_clang, view),
+        Ok(words) => parse_arguments_by(alloc, words, cwd, arg_info, is_clang, view),
         Err(stop) => into_answer(Err(stop)),
     }
 }
@@ -116,7 +120,15 @@ impl CCompilerImpl for Msvc {
         env_vars: &[(Vec<u8>, Vec<u8>)],
         view: &View,
     ) -> Mem<CompilerArguments<ParsedArguments>> {
-        parse_surrounded(alloc, arguments, cwd, env_vars, self.is_clang, view)
+        parse_surrounded(
+            alloc,
+            arguments,
+            cwd,
+            env_vars,
+            trees(alloc)?,
+            self.is_clang,
+            view,
+        )
     }
 
     fn generate_compile_commands_owned(

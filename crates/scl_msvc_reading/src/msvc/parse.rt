@@ -4,6 +4,7 @@ ghost use Rattle.scl_values.specs.Words.{words_of};
 ghost use Rattle.scl_text.specs.Records.{outcome_of, parsed_of};
 ghost use Rattle.scl_text.specs.Stops.{Gives};
 ghost use Rattle.scl_msvc_reading.specs.Readings.{read, reading};
+ghost use Rattle.scl_msvc_reading.specs.Rows.{msvc_tables};
 
 use super::args::trees;
 use super::data::ArgData;
@@ -11,7 +12,7 @@ use super::fixed_tests::apply_fixed_tests;
 use super::inner::both_inner;
 use super::judge::ByVerdict;
 use super::record::record_of;
-use scl_args::{Mem, Options};
+use scl_args::{Mem, Options, SearchableArgInfo};
 use scl_text::command::copy_words;
 use scl_text::records::{CompilerArguments, ParsedArguments};
 use scl_text::stop::into_answer;
@@ -35,13 +36,16 @@ fn read_options(
 }
 
 /// The record of a command line.
-fn parse(
+#[tactic(auto, using(crate::proofs::TableLaws::msvc_tables_hold_values))]
+fn parse<S: SearchableArgInfo<ArgData> + Drop>(
     alloc: Global,
     arguments: Vec<Vec<u8>>,
     cwd: &[u8],
+    arg_info: S,
     is_clang: bool,
     view: &View,
 ) -> Result<ParsedArguments, Stop>
+    requires { S.tables arg_info ≡ msvc_tables }
     ensures { Gives parsed_of result (reading is_clang cwd.now view.now (words_of arguments.items)) }
 {
     let judge = ByVerdict { is_clang };
@@ -50,7 +54,7 @@ fn parse(
         ExpansionKind::Msvc,
         arguments,
         cwd,
-        trees(alloc)?,
+        arg_info,
         is_clang,
         &judge,
         view,
@@ -63,7 +67,6 @@ fn parse(
 /// options, those behind `-Xclang` before those behind `-clang:`; else that of the fixed tests, the first of which is
 /// `NotCompilation` (docs/RULES.md, Msvc). Paths and words are bytes; the directory and the view answer what is asked of
 /// files. The error is the refusal of memory.
-#[tactic(auto, using(scl_text::proofs::StopLemmas::outcome_given))]
 pub fn parse_arguments_owned(
     alloc: Global,
     arguments: Vec<Vec<u8>>,
@@ -73,7 +76,24 @@ pub fn parse_arguments_owned(
 ) -> Mem<CompilerArguments<ParsedArguments>>
     ensures { IfOk result (λ answer. outcome_of answer ≡ reading is_clang cwd.now view.now (words_of arguments.items)) }
 {
-    into_answer(parse(alloc, arguments, cwd, is_clang, view))
+    parse_arguments_by(alloc, arguments, cwd, trees(alloc)?, is_clang, view)
+}
+
+/// What `parse_arguments_owned` gives, by Msvc's tables or trees, which are handed in, as `trees` builds them: so one that
+/// reads many command lines builds them once. It fails only for want of memory.
+#[tactic(auto, using(scl_text::proofs::StopLemmas::outcome_given))]
+pub fn parse_arguments_by<S: SearchableArgInfo<ArgData> + Drop>(
+    alloc: Global,
+    arguments: Vec<Vec<u8>>,
+    cwd: &[u8],
+    arg_info: S,
+    is_clang: bool,
+    view: &View,
+) -> Mem<CompilerArguments<ParsedArguments>>
+    requires { S.tables arg_info ≡ msvc_tables }
+    ensures { IfOk result (λ answer. outcome_of answer ≡ reading is_clang cwd.now view.now (words_of arguments.items)) }
+{
+    into_answer(parse(alloc, arguments, cwd, arg_info, is_clang, view))
 }
 
 /// What a command line of cl, or of clang-cl, says: the record; or the first refusal in option order, on each option first

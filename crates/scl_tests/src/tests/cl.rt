@@ -4,6 +4,7 @@ mod fields;
 mod msvc_rows;
 mod outcomes;
 mod read_again;
+mod reasons;
 mod refusals;
 mod requests;
 pub(crate) mod rows;

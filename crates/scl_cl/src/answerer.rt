@@ -1,0 +1,223 @@
+//! A compiler that is served, with its trees built: for many command lines.
+ghost use Rattle.std.specs.Prelude.{◌≡◌, true, false, IfOk, MatchResult};
+ghost use Rattle.scl_values.specs.Words.{words_of};
+ghost use Rattle.scl_text.specs.Commands.{pairs_of};
+ghost use Rattle.scl_cl.specs.Requests.{asked};
+ghost use Rattle.scl_cl.specs.Answers.{Keeps, answer_to, environment_by, reading_by, read_again_by};
+ghost use Rattle.scl_cl.specs.AnswersGiven.{answer_of, command_answer, HasParts, HasCommand, IfCompiled};
+ghost use Rattle.scl_cl.specs.Definitions.{definitions_of};
+ghost use Rattle.scl_cl.specs.Within.{has_at_most};
+ghost use Rattle.scl_cl.specs.Questions.{questions_of};
+ghost use Rattle.scl_cl.specs.QuestionsGiven.{given};
+
+use crate::ask::{Asked, Query};
+use crate::compile::{answer_line, compile_words};
+use crate::compiler::Compiler;
+use crate::kept::{BuiltCommand, Compilation};
+use crate::lent::lend;
+use crate::questions::{Questions, all_questions};
+use crate::trees::{ClangTrees, DiabTree, GccTree, MsvcTrees, TaskingTree};
+use crate::within::CommandLines;
+use scl_gnu::clang::Clang;
+use scl_gnu::gcc::Gcc;
+use scl_msvc::msvc::Msvc;
+use scl_small::diab::Diab;
+use scl_small::tasking_vx::TaskingVX;
+use scl_text::records::CompilerArguments;
+use scl_text::{ExpansionKind, Mem, TooManyWords, View};
+use std::alloc::Global;
+use std::marker::Model;
+
+/// The trees of each compiler.
+#[derive(Drop)]
+pub(crate) enum Built {
+    Gcc(GccTree),
+    Gxx(GccTree),
+    Clang(ClangTrees),
+    Clangxx(ClangTrees),
+    Cl(MsvcTrees),
+    ClangCl(MsvcTrees),
+    Diab(DiabTree),
+    Tasking(TaskingTree),
+}
+
+/// A compiler that is served, with the prefix trees of its tables. A process that answers many requests makes one and asks
+/// it; `Compiler`'s own calls build the trees at each command line, and answer the same (docs/RULES.md, Answers).
+#[derive(Drop)]
+pub struct Answerer {
+    built: Built,
+}
+
+impl Model for Answerer {
+    ghost use Rattle.scl_cl.specs.declared.compiler.Compiler.{Compiler};
+    ghost use Rattle.scl_cl.specs.Answerers.{compiler_of};
+
+    ghost Value = { Compiler };
+
+    ghost view = { λ answerer. compiler_of answerer.built };
+}
+
+impl Answerer {
+    /// The compiler with this name, with its trees. It fails only for want of memory.
+    pub fn new(alloc: Global, compiler: Compiler) -> Mem<Answerer>
+        ensures { IfOk result (λ answerer. answerer ≡ compiler) }
+    {
+        let built = match compiler {
+            Compiler::Gcc => Built::Gcc(GccTree::build(alloc)?),
+            Compiler::Gxx => Built::Gxx(GccTree::build(alloc)?),
+            Compiler::Clang => Built::Clang(ClangTrees::build(alloc)?),
+            Compiler::Clangxx => Built::Clangxx(ClangTrees::build(alloc)?),
+            Compiler::Cl => Built::Cl(MsvcTrees::build(alloc)?),
+            Compiler::ClangCl => Built::ClangCl(MsvcTrees::build(alloc)?),
+            Compiler::Diab => Built::Diab(DiabTree::build(alloc)?),
+            Compiler::Tasking => Built::Tasking(TaskingTree::build(alloc)?),
+        };
+        Ok(Answerer { built })
+    }
+
+    /// Which compiler it is.
+    pub fn compiler(&self) -> Compiler
+        ensures { result ≡ self.now }
+    {
+        match &self.built {
+            Built::Gcc(_) => Compiler::Gcc,
+            Built::Gxx(_) => Compiler::Gxx,
+            Built::Clang(_) => Compiler::Clang,
+            Built::Clangxx(_) => Compiler::Clangxx,
+            Built::Cl(_) => Compiler::Cl,
+            Built::ClangCl(_) => Compiler::ClangCl,
+            Built::Diab(_) => Compiler::Diab,
+            Built::Tasking(_) => Compiler::Tasking,
+        }
+    }
+
+    /// The answer to a query, by the definitions of the compiler. It fails only for want of memory.
+    pub fn ask<Q: Query>(&self, alloc: Global, query: Q) -> Mem<Q::Answer>
+        ensures { IfOk result (λ answer. Q.gives query (definitions_of self.now) answer) }
+    {
+        let gnu = CommandLines::Expanded(ExpansionKind::Gnu);
+        let diab = CommandLines::Expanded(ExpansionKind::Diab);
+        match &self.built {
+            Built::Gcc(trees) => query.ask(alloc, &lend(&Gcc::new(false), trees), gnu),
+            Built::Gxx(trees) => query.ask(alloc, &lend(&Gcc::new(true), trees), gnu),
+            Built::Clang(trees) => query.ask(alloc, &lend(&Clang::new(false), trees), gnu),
+            Built::Clangxx(trees) => query.ask(alloc, &lend(&Clang::new(true), trees), gnu),
+            Built::Cl(trees) => {
+                let cl = Msvc::new(false, String::new(alloc));
+                query.ask(
+                    alloc,
+                    &lend(&cl, trees),
+                    CommandLines::Msvc { is_clang: false },
+                )
+            }
+            Built::ClangCl(trees) => {
+                let cl = Msvc::new(true, String::new(alloc));
+                query.ask(
+                    alloc,
+                    &lend(&cl, trees),
+                    CommandLines::Msvc { is_clang: true },
+                )
+            }
+            Built::Diab(trees) => query.ask(alloc, &lend(&Diab::new(), trees), diab),
+            Built::Tasking(trees) => query.ask(
+                alloc,
+                &lend(&TaskingVX, trees),
+                CommandLines::Given,
+            ),
+        }
+    }
+
+    /// What `Compiler::answer` answers. It fails only for want of memory.
+    pub fn answer(
+        &self,
+        alloc: Global,
+        executable: &[u8],
+        words: &[Vec<u8>],
+        cwd: &[u8],
+        env_vars: &[(Vec<u8>, Vec<u8>)],
+        view: &View,
+    ) -> Mem<CompilerArguments<Compilation>>
+        ensures answer { IfOk result (λ answer. answer_of answer ≡ answer_to (asked self.now (words_of words.now) cwd.now (pairs_of env_vars.now) view.now)) }
+        ensures parts { IfOk result (λ answer. HasParts (reading_by self.now (asked self.now (words_of words.now) cwd.now (pairs_of env_vars.now) view.now))
+            executable.now (environment_by self.now (pairs_of env_vars.now)) cwd.now answer) }
+        ensures read_again { IfOk result (λ answer. IfCompiled (read_again_by self.now (asked self.now (words_of words.now) cwd.now (pairs_of env_vars.now) view.now)) answer) }
+    {
+        answer_line(alloc, self, executable, words, cwd, env_vars, view)
+    }
+
+    /// What `Compiler::command` answers. It fails only for want of memory.
+    pub fn command(
+        &self,
+        alloc: Global,
+        executable: &[u8],
+        words: Vec<Vec<u8>>,
+        cwd: &[u8],
+        env_vars: &[(Vec<u8>, Vec<u8>)],
+        view: &View,
+    ) -> Mem<CompilerArguments<BuiltCommand>>
+        ensures answer { IfOk result (λ answer. command_answer answer ≡ answer_to (asked self.now (words_of words.items) cwd.now (pairs_of env_vars.now) view.now)) }
+        ensures parts { IfOk result (λ answer. HasCommand executable.now (environment_by self.now (pairs_of env_vars.now)) cwd.now answer) }
+        ensures read_again { IfOk result (λ answer. Keeps (read_again_by self.now (asked self.now (words_of words.items) cwd.now (pairs_of env_vars.now) view.now))
+            (reading_by self.now (asked self.now (words_of words.items) cwd.now (pairs_of env_vars.now) view.now)) (command_answer answer)) }
+    {
+        compile_words(alloc, self, executable, words, cwd, env_vars, view)
+    }
+
+    /// What `Compiler::answer_within` answers. It fails only for want of memory.
+    pub fn answer_within(
+        &self,
+        alloc: Global,
+        executable: &[u8],
+        words: &[Vec<u8>],
+        cwd: &[u8],
+        env_vars: &[(Vec<u8>, Vec<u8>)],
+        view: &View,
+        most: usize,
+    ) -> Mem<Result<CompilerArguments<Compilation>, TooManyWords>>
+        ensures within { IfOk result (λ answered. let request = asked self.now (words_of words.now) cwd.now (pairs_of env_vars.now) view.now in
+            MatchResult answered (λ answer. (has_at_most most request ≡ true) × (answer_of answer ≡ answer_to request)) (λ _. has_at_most most request ≡ false)) }
+        ensures parts { IfOk result (λ answered. IfOk answered (λ answer. HasParts (reading_by self.now (asked self.now (words_of words.now) cwd.now (pairs_of env_vars.now) view.now))
+            executable.now (environment_by self.now (pairs_of env_vars.now)) cwd.now answer)) }
+        ensures read_again { IfOk result (λ answered. IfOk answered (λ answer. IfCompiled (read_again_by self.now (asked self.now (words_of words.now) cwd.now (pairs_of env_vars.now) view.now)) answer)) }
+    {
+        if !self
+            .compiler()
+            .has_at_most(alloc, words, cwd, env_vars, view, most)?
+        {
+            return Ok(Err(TooManyWords));
+        }
+        let answer = self.answer(alloc, executable, words, cwd, env_vars, view)?;
+        Ok(Ok(answer))
+    }
+
+    /// What `Compiler::open_questions` says. It fails only for want of memory.
+    pub fn open_questions(
+        &self,
+        alloc: Global,
+        words: &[Vec<u8>],
+        cwd: &[u8],
+        env_vars: &[(Vec<u8>, Vec<u8>)],
+        view: &View,
+        most: usize,
+    ) -> Mem<Result<Questions, TooManyWords>>
+        ensures { IfOk result (λ said. let request = asked self.now (words_of words.now) cwd.now (pairs_of env_vars.now) view.now in
+            MatchResult said (λ questions. (has_at_most most request ≡ true) × (given questions ≡ questions_of request)) (λ _. has_at_most most request ≡ false)) }
+    {
+        if !self
+            .compiler()
+            .has_at_most(alloc, words, cwd, env_vars, view, most)?
+        {
+            return Ok(Err(TooManyWords));
+        }
+        let questions = all_questions(alloc, self, words, cwd, env_vars, view)?;
+        Ok(Ok(questions))
+    }
+}
+
+impl Asked for Answerer {
+    ghost compiler = { λ answerer. answerer };
+
+    fn ask<Q: Query>(&self, alloc: Global, query: Q) -> Mem<Q::Answer> {
+        self.ask(alloc, query)
+    }
+}
