@@ -158,37 +158,36 @@ module _ (is_clang : Bool) (directory : List ℕ) (view : Viewed) (words : List 
       ap (λ r. r >>= read is_clang directory view) (judged-told outer_ways (verdict is_clang) (owner_in msvc_tables) is_clang (expand expansions.Msvc directory view.files words) ats)
       ∙ unless-bind (first_refusal outer_rows) (Ok os) (read is_clang directory view)
       ∙ ap (unless (first_refusal outer_rows)) read-told
-      ∙ sym (unless-or (first_refusal outer_rows) (first_refusal xclang_rows) (unless (first_refusal clang_rows) test_and_record))
-      ∙ sym (unless-or (option_or (first_refusal outer_rows) (first_refusal xclang_rows)) (first_refusal clang_rows) test_and_record)
-      ∙ ap (λ v. unless (option_or v (first_refusal clang_rows)) test_and_record) (sym (first_refusal-append outer_rows xclang_rows))
-      ∙ ap (λ v. unless v test_and_record) (sym (first_refusal-append (outer_rows ++ xclang_rows) clang_rows))
+      ∙ ap (unless (first_refusal outer_rows)) (sym (unless-or (first_refusal xclang_rows) (first_refusal clang_rows) test_and_record))
+      ∙ sym (unless-or (first_refusal outer_rows) (option_or (first_refusal xclang_rows) (first_refusal clang_rows)) test_and_record)
+      ∙ ap (λ v. unless (option_or (first_refusal outer_rows) v) test_and_record) (sym (first_refusal-append xclang_rows clang_rows))
+      ∙ ap (λ v. unless v test_and_record) (sym (first_refusal-append outer_rows (xclang_rows ++ clang_rows)))
 
   -- of a line of which no row is refused
   module _ (none : first_refusal rows ≡ None) where
-    none-last : (first_refusal (outer_rows ++ xclang_rows) ≡ None) × (first_refusal clang_rows ≡ None)
-    none-last = option_or-none (first_refusal (outer_rows ++ xclang_rows)) (first_refusal clang_rows) (sym (first_refusal-append (outer_rows ++ xclang_rows) clang_rows) ∙ none)
+    none-outer : (first_refusal outer_rows ≡ None) × (first_refusal (xclang_rows ++ clang_rows) ≡ None)
+    none-outer = option_or-none (first_refusal outer_rows) (first_refusal (xclang_rows ++ clang_rows)) (sym (first_refusal-append outer_rows (xclang_rows ++ clang_rows)) ∙ none)
 
-    none-first : (first_refusal outer_rows ≡ None) × (first_refusal xclang_rows ≡ None)
-    none-first = option_or-none (first_refusal outer_rows) (first_refusal xclang_rows) (sym (first_refusal-append outer_rows xclang_rows) ∙ none-last.0)
+    none-inner : (first_refusal xclang_rows ≡ None) × (first_refusal clang_rows ≡ None)
+    none-inner = option_or-none (first_refusal xclang_rows) (first_refusal clang_rows) (sym (first_refusal-append xclang_rows clang_rows) ∙ none-outer.1)
 
     parts-told : (there : Destination) → is_list there ≡ true →
-        words_to there rows ≡ listed outer_ways there os ++ listed (inner_ways origins.Xclang) there (inner_of kind.XClang) ++ listed (inner_ways origins.ClangColon) there (inner_of kind.Clang)
+        words_to there rows ≡ listed outer_ways there os ++ (listed (inner_ways origins.Xclang) there (inner_of kind.XClang) ++ listed (inner_ways origins.ClangColon) there (inner_of kind.Clang))
     parts-told there l =
-        words_to-append there (outer_rows ++ xclang_rows) clang_rows
-        ∙ ap (λ ws. ws ++ words_to there clang_rows) (
-        words_to-append there outer_rows xclang_rows
-        ∙ ap (λ ws. ws ++ words_to there xclang_rows) (words-told outer_ways (verdict is_clang) (owner_in msvc_tables) is_clang (expand expansions.Msvc directory view.files words) ats there l none-first.0)
-        ∙ ap (λ ws. listed outer_ways there os ++ ws) (words-told (inner_ways origins.Xclang) inner_verdict (owner_in clang_tables) false (inner_words kind.XClang) (inner_ats kind.XClang) there l none-first.1))
-        ∙ ap (λ ws. listed outer_ways there os ++ listed (inner_ways origins.Xclang) there (inner_of kind.XClang) ++ ws)
-        (words-told (inner_ways origins.ClangColon) inner_verdict (owner_in clang_tables) false (inner_words kind.Clang) (inner_ats kind.Clang) there l none-last.1)
+        words_to-append there outer_rows (xclang_rows ++ clang_rows)
+        ∙ ap (λ ws. ws ++ words_to there (xclang_rows ++ clang_rows)) (words-told outer_ways (verdict is_clang) (owner_in msvc_tables) is_clang (expand expansions.Msvc directory view.files words) ats there l none-outer.0)
+        ∙ ap (λ ws. listed outer_ways there os ++ ws) (
+        words_to-append there xclang_rows clang_rows
+        ∙ ap (λ ws. ws ++ words_to there clang_rows) (words-told (inner_ways origins.Xclang) inner_verdict (owner_in clang_tables) false (inner_words kind.XClang) (inner_ats kind.XClang) there l none-inner.0)
+        ∙ ap (λ ws. listed (inner_ways origins.Xclang) there (inner_of kind.XClang) ++ ws)
+        (words-told (inner_ways origins.ClangColon) inner_verdict (owner_in clang_tables) false (inner_words kind.Clang) (inner_ats kind.Clang) there l none-inner.1))
 
     all-told : (place : Place) → is_list (there_is place) ≡ true → words_to (there_is place) rows ≡ all_words_at place os inner
     all-told place l =
         parts-told (there_is place) l
-        ∙ ap (λ ws. ws ++ listed (inner_ways origins.Xclang) (there_is place) (inner_of kind.XClang) ++ listed (inner_ways origins.ClangColon) (there_is place) (inner_of kind.Clang)) (outer-listed place l os)
-        ∙ ap (λ ws. words_at place os ++ ws ++ listed (inner_ways origins.ClangColon) (there_is place) (inner_of kind.Clang)) (inner-listed origins.Xclang place l (inner_of kind.XClang))
-        ∙ ap (λ ws. words_at place os ++ flat_map (handed origins.Xclang) (inner_list place (inner_of kind.XClang)) ++ ws) (inner-listed origins.ClangColon place l (inner_of kind.Clang))
-        ∙ append_assoc (words_at place os) (flat_map (handed origins.Xclang) (inner_list place (inner_of kind.XClang))) (flat_map (handed origins.ClangColon) (inner_list place (inner_of kind.Clang)))
+        ∙ ap (λ ws. ws ++ (listed (inner_ways origins.Xclang) (there_is place) (inner_of kind.XClang) ++ listed (inner_ways origins.ClangColon) (there_is place) (inner_of kind.Clang))) (outer-listed place l os)
+        ∙ ap (λ ws. words_at place os ++ (ws ++ listed (inner_ways origins.ClangColon) (there_is place) (inner_of kind.Clang))) (inner-listed origins.Xclang place l (inner_of kind.XClang))
+        ∙ ap (λ ws. words_at place os ++ (flat_map (handed origins.Xclang) (inner_list place (inner_of kind.XClang)) ++ ws)) (inner-listed origins.ClangColon place l (inner_of kind.Clang))
 
     no-architecture : words_to destinations.Architecture rows ≡ []
     no-architecture =

@@ -1,8 +1,9 @@
 -- Words that are expanded one by one; the next index; the last of words.
-use Rattle.std.proofs.Common.{◌≡◌, ℕ, ◌+◌, ◌-◌, ◌<◌, ◌≤◌, suc, List, [], ◌∷◌, ◌++◌, length, drop, get_or, map, replicate, Option, Some, Vec, refl, sym, ap, ◌∙◌, add-one, append_assoc, drop-cons, arith}
+use Rattle.std.proofs.Common.{◌≡◌, ℕ, Bool, true, ◌==◌, ◌+◌, ◌-◌, ◌<◌, ◌≤◌, suc, List, [], ◌∷◌, ◌++◌, length, drop, get_or, map, replicate, Option, Some, Vec, refl, sym, ap, ◌∙◌, add-one, append_assoc, drop-cons, arith}
 use Rattle.std.proofs.lemmas.Grind.{common_steps}
+use Rattle.std.proofs.lemmas.Bool.{eqb-true}
 use Rattle.std.proofs.lemmas.Iterator.Adapters.{option_map_id}
-use Rattle.std.proofs.lemmas.List.{append-nil, length-map, map-id}
+use Rattle.std.proofs.lemmas.List.{append-nil, length-map, map-id, nil_from_length}
 use Rattle.std.specs.List.{slice_get}
 use Rattle.std.specs.Prelude.{unwrap_or}
 use Rattle.std.specs.Option.{option_map}
@@ -11,9 +12,13 @@ use Rattle.scl_args.proofs.OptionLaws.{last-get}
 use Rattle.scl_args.specs.Options.{last}
 use Rattle.scl_files.proofs.ExpandLemmas.{expand-cons, expand-nil}
 use Rattle.scl_files.specs.Expand.{expand}
-use Rattle.scl_files.specs.Views.{File}
+use Rattle.scl_files.specs.Views.{File, Viewed}
 use Rattle.scl_files.specs.declared.expand.ExpansionKind.{ExpansionKind}
+use Rattle.scl_text.specs.Records.{Verdict}
+use Rattle.scl_values.specs.Row.{Row}
+use Rattle.scl_values.specs.Seen.{Seen}
 use Rattle.scl_values.specs.Words.{words_of}
+use Rattle.scl_rows.specs.Lines.{Ways, rows_expanded}
 use Rattle.scl_rows.specs.Sources.{ats_expanded, first_at, indices}
 
 -- a word gives what it gives alone, and then come the others
@@ -69,3 +74,11 @@ last-word words word is = ap (λ o. unwrap_or (option_map (λ w. w.items) o) [])
 
 pub drop-all : {A : Type 0} (xs : List A) (i : ℕ) → length xs ≤ i → drop i xs ≡ []
 drop-all xs i past = grind (arith, common_steps)
+
+-- an inner command line of no words has no rows
+pub none_inside : {K : Type 0} (kind : ExpansionKind) (ways : Ways K) (verdict : List (Seen K) → Seen K → Option Verdict) (tables : List (List (Row K))) (dashes : Bool) (directory : List ℕ) (view : Viewed)
+    (words : List (List ℕ)) (ats : List (Option ℕ)) → words ≡ [] → rows_expanded kind ways verdict tables dashes directory view words ats ≡ []
+none_inside kind ways verdict tables dashes directory view words ats e = rw (e, expand-nil kind directory view.files) refl
+
+pub no_words : (words : List (Vec ℕ Global)) → (length words == 0) ≡ true → words_of words ≡ []
+no_words words e = ap words_of (nil_from_length words (eqb-true (length words) 0 e))

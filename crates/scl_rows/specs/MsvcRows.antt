@@ -77,8 +77,7 @@ line_rows is_clang directory view words given =
     let os = map shown (options_of expansions.Msvc msvc_tables is_clang directory view words) in
     let ats = ats_cut os (ats_expanded expansions.Msvc directory view.files words given) in
     rows_expanded expansions.Msvc outer_ways (verdict is_clang) msvc_tables is_clang directory view words given
-    ++ inner_rows origins.Xclang kind.XClang directory view os ats
-    ++ inner_rows origins.ClangColon kind.Clang directory view os ats
+    ++ (inner_rows origins.Xclang kind.XClang directory view os ats ++ inner_rows origins.ClangColon kind.Clang directory view os ats)
 
 -- the indices of so many given words, between others that none of them brought
 abbrev pub ats_between : (front given back : ℕ) → List (Option ℕ)

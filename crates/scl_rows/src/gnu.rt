@@ -1,5 +1,6 @@
 //! The rows of the command lines of Gcc and Clang.
 ghost use Rattle.std.specs.Prelude.{◌≡◌, false, IfOk, IsTrue, map};
+ghost use Rattle.scl_args.specs.Options.{texts};
 ghost use Rattle.scl_files.specs.declared.expand.ExpansionKind.{ExpansionKind};
 ghost use Rattle.scl_gnu_reading.specs.ClangRows.{clang_tables};
 ghost use Rattle.scl_gnu_reading.specs.Data.{holds_value, kind_of, word_of};
@@ -11,17 +12,18 @@ ghost use Rattle.scl_values.specs.Words.{words_of};
 ghost use Rattle.scl_rows.specs.GnuRows.{destination_at, gnu_rows, option_rows, raw_goes, unlisted, unlisted_kind};
 ghost use Rattle.scl_rows.specs.Lines.{rows_expanded};
 ghost use Rattle.scl_rows.specs.Rows.{told};
+ghost use Rattle.scl_rows.specs.Sources.{ats_passing};
 
 use crate::added::rows_unless;
 use crate::destination::Destination;
-use crate::line::{LineRows, line_rows};
+use crate::line::{LineRows, expanded_rows, handed_on};
 use crate::origin::Origin;
 use crate::row::{Row, append_rows};
-use crate::source::{Sourced, expand_sourced, given, handed_on};
+use crate::source::given;
 use crate::ways::Ways;
 use scl_args::{
     Argument, Mem, NormalizedDisposition, OfKinds, ReadArg, SearchableArgInfo, ShortFlagsJoined,
-    Sides,
+    Sides, Test,
 };
 use scl_gnu_reading::clang::trees;
 use scl_gnu_reading::gcc::{
@@ -146,24 +148,27 @@ impl Ways<ArgData> for Inner {
     }
 }
 
-/// The rows of an inner command line.
-pub(crate) fn inner_rows<J: Judge<ArgData>, W: Ways<ArgData>>(
+/// The rows of the inner command line whose words are the texts of the options that pass.
+pub(crate) fn inner_rows<T: ReadArg, P: Test<T>, J: Judge<ArgData>, W: Ways<ArgData>>(
     alloc: Global,
-    words: &Sourced,
+    line: &LineRows<T>,
+    test: &P,
     cwd: &[u8],
     judge: &J,
     ways: &W,
     view: &View,
 ) -> Mem<Vec<Row>>
     ensures { IfOk result (λ rows. map told rows.items ≡ rows_expanded ExpansionKind.Gnu (record { goes = W.goes ways.now; side = W.side ways.now; origin = W.comes ways.now })
-        (J.verdict judge.now) clang_tables false cwd.now view.now (words_of words.now.words.items) words.now.ats.items) }
+        (J.verdict judge.now) clang_tables false cwd.now view.now (texts (P.passes test.now) line.now.options) (ats_passing (P.passes test.now) line.now.options line.now.ats.items)) }
 {
-    if words.words.is_empty() {
+    let words = handed_on(alloc, line, test)?;
+    if words.words.as_slice().is_empty() {
         return Ok(Vec::new(alloc));
     }
-    let line = expand_sourced(alloc, ExpansionKind::Gnu, cwd, words, view)?;
-    let told = line_rows(alloc, line, trees(alloc)?, false, judge, ways)?;
-    Ok(told.rows)
+    let gnu = ExpansionKind::Gnu;
+    let tables = trees(alloc)?;
+    let inner = expanded_rows(alloc, gnu, &words, cwd, tables, false, judge, ways, view)?;
+    Ok(inner.rows)
 }
 
 /// The rows of the given command line, then those of the inner one.
@@ -180,14 +185,23 @@ fn option_rows<S: SearchableArgInfo<ArgData> + Drop>(
     ensures rows { IfOk result (λ line. map told line.rows.items ≡ option_rows double_dashes (S.tables arg_info) cwd.now view.now (words_of words.now)) }
 {
     let given = given(alloc, words)?;
-    let line = expand_sourced(alloc, ExpansionKind::Gnu, cwd, &given, view)?;
+    let gnu = ExpansionKind::Gnu;
     let judge = ByVerdict {
         multiarch: view.multiarch(),
     };
-    let mut outer = line_rows(alloc, line, arg_info, double_dashes, &judge, &Outer)?;
-    let handed = OfKinds(&[Kind::XClang]);
-    let inner = handed_on(alloc, outer.options.as_slice(), &outer.ats, &handed)?;
-    let inner = inner_rows(alloc, &inner, cwd, &ByInnerVerdict, &Inner, view)?;
+    let mut outer = expanded_rows(
+        alloc,
+        gnu,
+        &given,
+        cwd,
+        arg_info,
+        double_dashes,
+        &judge,
+        &Outer,
+        view,
+    )?;
+    let test = OfKinds(&[Kind::XClang]);
+    let inner = inner_rows(alloc, &outer, &test, cwd, &ByInnerVerdict, &Inner, view)?;
     append_rows(&mut outer.rows, inner)?;
     Ok(outer)
 }

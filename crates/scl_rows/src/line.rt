@@ -2,27 +2,28 @@
 ghost use Rattle.std.specs.Prelude.{◌≡◌, [], ◌++◌, IfOk, IsTrue, map, unwrap_or};
 ghost use Rattle.std.specs.Option.{option_and_then, option_map};
 ghost use Rattle.scl_args.specs.Empties.{refusing_empty};
-ghost use Rattle.scl_args.specs.Options.{last};
+ghost use Rattle.scl_args.specs.Options.{last, texts};
+ghost use Rattle.scl_text.specs.JudgedWords.{options_of};
 ghost use Rattle.scl_text.specs.Reasons.{empty_value};
 ghost use Rattle.scl_values.specs.Cuts.{cut};
 ghost use Rattle.scl_values.specs.Seen.{seen, shown};
 ghost use Rattle.scl_values.specs.Tables.{owner_in, tables_hold_values};
 ghost use Rattle.scl_values.specs.Words.{words_of};
-ghost use Rattle.scl_rows.specs.Lines.{row_dangling, rows_after, rows_cut};
+ghost use Rattle.scl_rows.specs.Lines.{row_dangling, rows_after, rows_cut, rows_expanded};
 ghost use Rattle.scl_rows.specs.Rows.{told};
-ghost use Rattle.scl_rows.specs.Sources.{ats_cut};
+ghost use Rattle.scl_rows.specs.Sources.{ats_cut, ats_expanded, ats_passing};
 
 use crate::destination::Destination;
 use crate::origin::Origin;
 use crate::row::{Row, kind_name, row_of};
-use crate::source::{Sourced, ats_of, behind, first_at};
+use crate::source::{Sourced, ats_of, ats_passing, behind, expand_sourced, first_at};
 use crate::ways::Ways;
 use scl_args::{
     ArgParseError, Argument, ArgumentValue, ExactArg, Mem, Options, ReadArg, SearchableArgInfo,
-    cut_options,
+    Test, cut_options, texts,
 };
 use scl_text::refusal::argument_parse;
-use scl_text::{Judge, refusal_of};
+use scl_text::{ExpansionKind, Judge, View, refusal_of};
 use std::alloc::Global;
 use std::fmt::Debug;
 
@@ -143,4 +144,49 @@ where
         ats,
         rows,
     })
+}
+
+/// The rows of words that these given ones brought, with response files put in place, cut by the tables and judged.
+pub(crate) fn expanded_rows<
+    T: ExactArg + ReadArg,
+    S: SearchableArgInfo<T> + Drop,
+    J: Judge<T>,
+    W: Ways<T>,
+>(
+    alloc: Global,
+    kind: ExpansionKind,
+    given: &Sourced,
+    cwd: &[u8],
+    arg_info: S,
+    double_dashes: bool,
+    judge: &J,
+    ways: &W,
+    view: &View,
+) -> Mem<LineRows<T>>
+where
+    T::Kind: Debug,
+    requires { IsTrue (tables_hold_values T.holds_value (S.tables arg_info)) }
+    ensures options { IfOk result (λ line. line.options ≡ map shown (options_of kind (S.tables arg_info) double_dashes cwd.now view.now (words_of given.now.words.items))) }
+    ensures ats { IfOk result (λ line. line.ats.items ≡ ats_cut line.options (ats_expanded kind cwd.now view.now.files (words_of given.now.words.items) given.now.ats.items)) }
+    ensures rows { IfOk result (λ line. map told line.rows.items ≡ rows_expanded kind (record { goes = W.goes ways.now; side = W.side ways.now; origin = W.comes ways.now })
+        (J.verdict judge.now) (S.tables arg_info) double_dashes cwd.now view.now (words_of given.now.words.items) given.now.ats.items) }
+{
+    let all = expand_sourced(alloc, kind, cwd, given, view)?;
+    let line = line_rows(alloc, all, arg_info, double_dashes, judge, ways)?;
+    Ok(line)
+}
+
+/// The words of an inner command line, which are the texts of the options that pass, with the options' indices.
+pub(crate) fn handed_on<T: ReadArg, P: Test<T>>(
+    alloc: Global,
+    line: &LineRows<T>,
+    test: &P,
+) -> Mem<Sourced>
+    ensures words { IfOk result (λ inner. words_of inner.words.items ≡ texts (P.passes test.now) line.now.options) }
+    ensures ats { IfOk result (λ inner. inner.ats.items ≡ ats_passing (P.passes test.now) line.now.options line.now.ats.items) }
+{
+    let options = line.options.as_slice();
+    let words = texts(alloc, options, test)?;
+    let ats = ats_passing(alloc, options, &line.ats, test)?;
+    Ok(Sourced { words, ats })
 }

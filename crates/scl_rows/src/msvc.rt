@@ -9,10 +9,10 @@ ghost use Rattle.scl_rows.specs.Rows.{told};
 
 use crate::destination::Destination;
 use crate::gnu::{inner_rows, raw_goes};
-use crate::line::{LineRows, line_rows};
+use crate::line::{LineRows, expanded_rows};
 use crate::origin::Origin;
 use crate::row::{Row, append_rows};
-use crate::source::{Sourced, expand_sourced, handed_on, push_brought, push_given};
+use crate::source::{Sourced, push_brought, push_given};
 use crate::ways::Ways;
 use scl_args::{Argument, Mem, NormalizedDisposition, OfKinds, ReadArg, ShortFlagsJoined, Sides};
 use scl_gnu_reading::gcc;
@@ -126,11 +126,11 @@ impl Ways<gcc::ArgData> for Inner {
     }
 }
 
-/// Puts the rows of the inner command line, whose words are the values of the options of a kind, behind those of the line.
+/// Puts the rows of the inner command line, whose words are the values of the options of a kind, behind others.
 fn push_inner(
     alloc: Global,
-    line: &LineRows<ArgData>,
     rows: &mut Vec<Row>,
+    line: &LineRows<ArgData>,
     origin: Origin,
     kind: Kind,
     cwd: &[u8],
@@ -138,9 +138,44 @@ fn push_inner(
 ) -> Mem<()>
     ensures { OnOk result (map told rows.new.items ≡ map told rows.old.items ++ inner_rows origin kind cwd.now view.now line.now.options line.now.ats.items) }
 {
-    let inner = handed_on(alloc, line.options.as_slice(), &line.ats, &OfKinds(&[kind]))?;
-    let told = inner_rows(alloc, &inner, cwd, &ByInnerVerdict, &Inner(origin), view)?;
-    append_rows(rows, told)
+    let test = OfKinds(&[kind]);
+    let inner = inner_rows(
+        alloc,
+        line,
+        &test,
+        cwd,
+        &ByInnerVerdict,
+        &Inner(origin),
+        view,
+    )?;
+    append_rows(rows, inner)
+}
+
+/// The rows of the options of two inner command lines, behind `-Xclang` and behind `-clang:`.
+fn both_inner(alloc: Global, line: &LineRows<ArgData>, cwd: &[u8], view: &View) -> Mem<Vec<Row>>
+    ensures { IfOk result (λ rows. map told rows.items ≡ inner_rows Origin.Xclang Kind.XClang cwd.now view.now line.now.options line.now.ats.items
+        ++ inner_rows Origin.ClangColon Kind.Clang cwd.now view.now line.now.options line.now.ats.items) }
+{
+    let mut rows = Vec::new(alloc);
+    push_inner(
+        alloc,
+        &mut rows,
+        line,
+        Origin::Xclang,
+        Kind::XClang,
+        cwd,
+        view,
+    )?;
+    push_inner(
+        alloc,
+        &mut rows,
+        line,
+        Origin::ClangColon,
+        Kind::Clang,
+        cwd,
+        view,
+    )?;
+    Ok(rows)
 }
 
 /// The rows of words that given ones brought: of the outer options, then of the inner ones.
@@ -153,28 +188,13 @@ fn all_rows(
 ) -> Mem<Vec<Row>>
     ensures { IfOk result (λ rows. map told rows.items ≡ line_rows is_clang cwd.now view.now (words_of given.now.words.items) given.now.ats.items) }
 {
-    let line = expand_sourced(alloc, ExpansionKind::Msvc, cwd, given, view)?;
+    let msvc = ExpansionKind::Msvc;
     let judge = ByVerdict { is_clang };
-    let line = line_rows(alloc, line, trees(alloc)?, is_clang, &judge, &Outer)?;
-    let mut inner = Vec::new(alloc);
-    push_inner(
-        alloc,
-        &line,
-        &mut inner,
-        Origin::Xclang,
-        Kind::XClang,
-        cwd,
-        view,
+    let tables = trees(alloc)?;
+    let line = expanded_rows(
+        alloc, msvc, given, cwd, tables, is_clang, &judge, &Outer, view,
     )?;
-    push_inner(
-        alloc,
-        &line,
-        &mut inner,
-        Origin::ClangColon,
-        Kind::Clang,
-        cwd,
-        view,
-    )?;
+    let inner = both_inner(alloc, &line, cwd, view)?;
     let mut rows = line.rows;
     append_rows(&mut rows, inner)?;
     Ok(rows)

@@ -1,13 +1,12 @@
 //! Which given word brought a word or an option.
 ghost use Rattle.std.specs.Prelude.{◌≡◌, [], ◌∷◌, ◌++◌, IfOk, OnOk, length, drop, replicate, map};
-ghost use Rattle.scl_args.specs.Options.{texts};
 ghost use Rattle.scl_files.specs.Expand.{expand};
 ghost use Rattle.scl_values.specs.Seen.{seen};
 ghost use Rattle.scl_values.specs.Spell.{spelled};
 ghost use Rattle.scl_values.specs.Words.{words_of};
 ghost use Rattle.scl_rows.specs.Sources.{ats_cut, ats_expanded, ats_passing, first_at, indices};
 
-use scl_args::{ArgDisposition, Argument, ArgumentValue, Mem, ReadArg, Test, texts};
+use scl_args::{ArgDisposition, Argument, ArgumentValue, Mem, Test};
 use scl_text::{ExpansionKind, View, expand_words};
 use std::alloc::Global;
 
@@ -159,7 +158,7 @@ pub(crate) fn ats_of<T: ArgumentValue>(
 }
 
 /// The indices of the options that pass.
-fn ats_passing<T: ArgumentValue, P: Test<T>>(
+pub(crate) fn ats_passing<T: ArgumentValue, P: Test<T>>(
     alloc: Global,
     options: &[Argument<T>],
     ats: &[Option<usize>],
@@ -176,20 +175,4 @@ fn ats_passing<T: ArgumentValue, P: Test<T>>(
         left = behind(left, 1);
     }
     Ok(own)
-}
-
-/// The words of an inner command line, which are the texts of the options that pass, with the options' indices.
-pub(crate) fn handed_on<T: ReadArg, P: Test<T>>(
-    alloc: Global,
-    options: &[Argument<T>],
-    ats: &[Option<usize>],
-    test: &P,
-) -> Mem<Sourced>
-    ensures words { IfOk result (λ inner. words_of inner.words.items ≡ texts (P.passes test.now) (map (seen T.kind_of T.word_of) options.now)) }
-    ensures ats { IfOk result (λ inner. inner.ats.items ≡ ats_passing (P.passes test.now) (map (seen T.kind_of T.word_of) options.now) ats.now) }
-{
-    Ok(Sourced {
-        words: texts(alloc, options, test)?,
-        ats: ats_passing(alloc, options, ats, test)?,
-    })
 }
