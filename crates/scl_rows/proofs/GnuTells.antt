@@ -1,0 +1,287 @@
+-- What the rows of a command line of Gcc or Clang tell of its outcome.
+use Rattle.std.proofs.Common.{◌≡◌, ℕ, Bool, true, false, cond, List, [], ◌∷◌, ◌++◌, length, map, Option, None, Some, Result, Ok, Err, refl, sym, ap, subst, ◌∙◌, append_assoc}
+use Rattle.std.proofs.lemmas.List.{append-nil}
+use Rattle.std.specs.List.{flat_map}
+use Rattle.std.specs.Option.{option_or}
+use Rattle.std.specs.Prelude.{IfOk, codes, is_some}
+use Rattle.std.specs.Str.{bytes_eq}
+use Rattle.scl_again.proofs.OutcomeLaws.{option_or-none}
+use Rattle.scl_args.specs.Options.{judged, last_flag, last_text, list, side_of_flag, texts, unless, ◌>>=◌}
+use Rattle.scl_files.specs.Expand.{expand}
+use Rattle.scl_files.specs.Views.{Viewed}
+use Rattle.scl_files.specs.declared.expand.ExpansionKind.TheVariants as expansions
+use Rattle.scl_gnu_reading.specs.ClangRows.{clang_tables}
+use Rattle.scl_gnu_reading.specs.FixedTests.{Found, found}
+use Rattle.scl_gnu_reading.specs.Inners.{goes_inside_to, inner_place_of, inner_reading, inner_verdict, inner_words_at}
+use Rattle.scl_gnu_reading.specs.Kinds.{any, of}
+use Rattle.scl_gnu_reading.specs.Places.{goes_to, place_of, words_at}
+use Rattle.scl_gnu_reading.specs.Readings.{read, reading, recorded}
+use Rattle.scl_gnu_reading.specs.Recordings.{added_common, added_dependency, all_words_at, is_clang, needs_target, record_of}
+use Rattle.scl_gnu_reading.specs.Verdicts.{verdict}
+use Rattle.scl_gnu_reading.specs.contracts.gcc.place.PlacePartialEq.TheImpl as place_equality
+use Rattle.scl_gnu_reading.specs.declared.gcc.data.Kind.{Kind}
+use Rattle.scl_gnu_reading.specs.declared.gcc.data.Kind.TheVariants as kind
+use Rattle.scl_gnu_reading.specs.declared.gcc.place.Place.{Place}
+use Rattle.scl_gnu_reading.specs.declared.gcc.place.Place.TheVariants as places
+use Rattle.scl_text.specs.JudgedWords.{judged_words, options_of}
+use Rattle.scl_text.specs.Records.{Parsed, Verdict}
+use Rattle.scl_text.specs.declared.records.CCompilerKind.{CCompilerKind}
+use Rattle.scl_values.specs.Cuts.{cut, mark}
+use Rattle.scl_values.specs.Row.{Row}
+use Rattle.scl_values.specs.Seen.{Seen, Raw, Unknown, Known, shown}
+use Rattle.scl_values.specs.Tables.{owner_in}
+use Rattle.scl_rows.specs.GnuRows.{destination_at, gnu_rows, inner_goes, inner_ways, option_rows, outer_goes, outer_ways, raw_goes, rows_added, rows_depfile, rows_split, rows_target, rows_tested, rows_unless, unlisted, unlisted_kind}
+use Rattle.scl_rows.specs.Lines.{rows_expanded}
+use Rattle.scl_rows.specs.Rows.{Told, Tells, HasLists, first_refusal, handed, is_list, words_to}
+use Rattle.scl_rows.specs.Sources.{ats_cut, ats_expanded, ats_passing, indices}
+use Rattle.scl_rows.specs.contracts.destination.DestinationPartialEq.TheImpl.{ghosts}
+use Rattle.scl_rows.specs.declared.destination.Destination.{Destination}
+use Rattle.scl_rows.specs.declared.destination.Destination.TheVariants as destinations
+use Rattle.scl_rows.specs.declared.origin.Origin.TheVariants as origins
+use Rattle.scl_rows.proofs.LineLaws.{given-words, judged-told, list-same, other-list, words-told}
+use Rattle.scl_rows.proofs.TellLaws.{first_refusal-append, or-none, tells, unless-bind, unless-or, words_to-append}
+
+-- ---- destinations and places
+
+pub raw-unlisted : (word : List ℕ) → is_list (raw_goes word) ≡ false
+raw-unlisted word = elim (bytes_eq word mark) as (λ b. is_list (cond b destinations.Mark destinations.Input) ≡ false) [ true ↦ refl | false ↦ refl ]
+
+kind-unlisted : (k : Kind) → is_list (unlisted_kind k) ≡ false
+kind-unlisted kind.DiagnosticsColor = refl
+kind-unlisted kind.DiagnosticsColorFlag = refl
+kind-unlisted kind.DepTarget = refl
+kind-unlisted kind.DoCompilation = refl
+kind-unlisted kind.Language = refl
+kind-unlisted kind.Output = refl
+kind-unlisted kind.SerializeDiagnostics = refl
+kind-unlisted kind.XClang = refl
+kind-unlisted _ = refl
+
+no-list : (o : Seen Kind) → is_list (unlisted o) ≡ false
+no-list (Raw w) = raw-unlisted w
+no-list (Unknown w) = refl
+no-list (Known f k v how) = kind-unlisted k
+
+-- the list that a place is
+abbrev there_is : Place → Destination
+there_is place = destination_at place destinations.Ignored
+
+same-place : (place a : Place) (other : Destination) → is_list (there_is place) ≡ true → is_list other ≡ false → ghosts.eq (destination_at a other) (there_is place) ≡ place_equality.ghosts.eq a place
+same-place places.Common places.Nowhere other l n = other-list other destinations.Common refl n
+same-place places.Common _ other l n = refl
+same-place places.Unhashed places.Nowhere other l n = other-list other destinations.Unhashed refl n
+same-place places.Unhashed _ other l n = refl
+same-place places.Arch places.Nowhere other l n = other-list other destinations.Architecture refl n
+same-place places.Arch _ other l n = refl
+same-place places.Preprocessor places.Nowhere other l n = other-list other destinations.Preprocessor refl n
+same-place places.Preprocessor _ other l n = refl
+same-place places.Dependency places.Nowhere other l n = other-list other destinations.Dependency refl n
+same-place places.Dependency _ other l n = refl
+same-place places.Nowhere a other l n = absurd (cc)
+same-place places.Refused a other l n = absurd (cc)
+
+outer-listed : (place : Place) → is_list (there_is place) ≡ true → (os : List (Seen Kind)) → flat_map (handed origins.Given) (list side_of_flag (λ o. ghosts.eq (outer_goes o) (there_is place)) os) ≡ words_at place os
+outer-listed place l os =
+    given-words (list side_of_flag (λ o. ghosts.eq (outer_goes o) (there_is place)) os)
+    ∙ list-same (λ o. ghosts.eq (outer_goes o) (there_is place)) (goes_to place) (λ o. same-place place (place_of o) (unlisted o) l (no-list o)) side_of_flag os
+
+inner-listed : (place : Place) → is_list (there_is place) ≡ true → (os : List (Seen Kind)) → flat_map (handed origins.Xclang) (list side_of_flag (λ o. ghosts.eq (inner_goes o) (there_is place)) os) ≡ inner_words_at place os
+inner-listed place l os =
+    ap (flat_map (handed origins.Xclang))
+    (list-same (λ o. ghosts.eq (inner_goes o) (there_is place)) (goes_inside_to place) (λ o. same-place place (inner_place_of o) destinations.Ignored l refl) side_of_flag os)
+
+-- ---- the rows that the rules add
+
+none-target : (is_needed has_path : Bool) (flag target : Option (List ℕ)) (object : List ℕ) → first_refusal (rows_target is_needed has_path flag target object) ≡ None
+none-target true true flag target object = refl
+none-target true false flag target object = refl
+none-target false has_path flag target object = refl
+
+none-split : (is_split : Bool) (object : List ℕ) → first_refusal (rows_split is_split object) ≡ None
+none-split true object = refl
+none-split false object = refl
+
+none-both : (is_needed has_path : Bool) (flag target : Option (List ℕ)) (object : List ℕ) (is_split : Bool) → first_refusal (rows_target is_needed has_path flag target object ++ rows_split is_split object) ≡ None
+none-both is_needed has_path flag target object is_split =
+    first_refusal-append (rows_target is_needed has_path flag target object) (rows_split is_split object)
+    ∙ ap (λ v. option_or v (first_refusal (rows_split is_split object))) (none-target is_needed has_path flag target object)
+    ∙ none-split is_split object
+
+none-added : (os : List (Seen Kind)) (f : Found) → first_refusal (rows_added os f) ≡ None
+none-added os f =
+    none-both (needs_target f.language os) (is_some (last_text (of (kind.DepArgumentPath ∷ [])) os)) (last_flag (of (kind.DepTarget ∷ [])) os) (last_text (of (kind.DepTarget ∷ [])) os) f.object
+    (any (kind.SplitDwarf ∷ []) os)
+
+none-tested : (tested : Result Found Verdict) (os : List (Seen Kind)) → first_refusal (rows_tested tested os) ≡ None
+none-tested (Ok f) os = none-added os f
+none-tested (Err v) os = refl
+
+none-unless : (v : Option Verdict) (tested : Result Found Verdict) (os : List (Seen Kind)) → first_refusal (rows_unless v (rows_tested tested os)) ≡ None
+none-unless None tested os = none-tested tested os
+none-unless (Some x) tested os = refl
+
+to-dependency : (is_needed has_path : Bool) (flag target : Option (List ℕ)) (object : List ℕ) → words_to destinations.Dependency (rows_target is_needed has_path flag target object) ≡ added_dependency is_needed has_path flag target object
+to-dependency true true flag target object = refl
+to-dependency true false flag target object = refl
+to-dependency false has_path flag target object = refl
+
+to-others : (place : Place) → place_equality.ghosts.eq place places.Dependency ≡ false → (is_needed has_path : Bool) (flag target : Option (List ℕ)) (object : List ℕ) → words_to (there_is place) (rows_target is_needed has_path flag target object) ≡ []
+to-others places.Dependency d n h flag target object = absurd (cc)
+to-others _ d true true flag target object = refl
+to-others _ d true false flag target object = refl
+to-others _ d false h flag target object = refl
+
+split-to : (is_split : Bool) (object : List ℕ) → words_to destinations.Common (rows_split is_split object) ≡ added_common is_split object
+split-to true object = refl
+split-to false object = refl
+
+split-others : (place : Place) → place_equality.ghosts.eq place places.Common ≡ false → (is_split : Bool) (object : List ℕ) → words_to (there_is place) (rows_split is_split object) ≡ []
+split-others places.Common c is_split object = absurd (cc)
+split-others _ c true object = refl
+split-others _ c false object = refl
+
+-- the words that the rules add to the list that the place is
+module _ (is_needed has_path : Bool) (flag target : Option (List ℕ)) (object : List ℕ) (is_split : Bool) where
+  abbrev added_by : Place → List (List ℕ)
+  added_by places.Dependency = added_dependency is_needed has_path flag target object
+  added_by places.Common = added_common is_split object
+  added_by _ = []
+
+  abbrev for_target : List Told
+  for_target = rows_target is_needed has_path flag target object
+
+  abbrev for_split : List Told
+  for_split = rows_split is_split object
+
+  to-neither : (place : Place) → place_equality.ghosts.eq place places.Dependency ≡ false → place_equality.ghosts.eq place places.Common ≡ false → words_to (there_is place) (for_target ++ for_split) ≡ []
+  to-neither place d c =
+      words_to-append (there_is place) for_target for_split
+      ∙ ap (λ ws. ws ++ words_to (there_is place) for_split) (to-others place d is_needed has_path flag target object)
+      ∙ split-others place c is_split object
+
+  told-by : (place : Place) → is_list (there_is place) ≡ true → words_to (there_is place) (for_target ++ for_split) ≡ added_by place
+  told-by places.Dependency l =
+      words_to-append destinations.Dependency for_target for_split
+      ∙ ap (λ ws. ws ++ words_to destinations.Dependency for_split) (to-dependency is_needed has_path flag target object)
+      ∙ ap (λ ws. added_dependency is_needed has_path flag target object ++ ws) (split-others places.Dependency refl is_split object)
+      ∙ append-nil (added_dependency is_needed has_path flag target object)
+  told-by places.Common l =
+      words_to-append destinations.Common for_target for_split
+      ∙ ap (λ ws. ws ++ words_to destinations.Common for_split) (to-others places.Common refl is_needed has_path flag target object)
+      ∙ split-to is_split object
+  told-by places.Unhashed l = to-neither places.Unhashed refl refl
+  told-by places.Arch l = to-neither places.Arch refl refl
+  told-by places.Preprocessor l = to-neither places.Preprocessor refl refl
+  told-by places.Nowhere l = absurd (cc)
+  told-by places.Refused l = absurd (cc)
+
+abbrev added_at : Place → List (Seen Kind) → Found → List (List ℕ)
+added_at place os f =
+    added_by (needs_target f.language os) (is_some (last_text (of (kind.DepArgumentPath ∷ [])) os)) (last_flag (of (kind.DepTarget ∷ [])) os) (last_text (of (kind.DepTarget ∷ [])) os) f.object
+    (any (kind.SplitDwarf ∷ []) os) place
+
+added-told : (place : Place) → is_list (there_is place) ≡ true → (os : List (Seen Kind)) (f : Found) → words_to (there_is place) (rows_added os f) ≡ added_at place os f
+added-told place l os f =
+    told-by (needs_target f.language os) (is_some (last_text (of (kind.DepArgumentPath ∷ [])) os)) (last_flag (of (kind.DepTarget ∷ [])) os) (last_text (of (kind.DepTarget ∷ [])) os) f.object
+    (any (kind.SplitDwarf ∷ []) os) place l
+
+-- ---- a command line
+
+module _ (compiler : CCompilerKind) (plusplus : Bool) (tables : List (List (Row Kind))) (directory : List ℕ) (view : Viewed) (words : List (List ℕ)) where
+  abbrev os : List (Seen Kind)
+  os = map shown (options_of expansions.Gnu tables (is_clang compiler) directory view words)
+
+  abbrev inner_words : List (List ℕ)
+  inner_words = expand expansions.Gnu directory view.files (texts (of (kind.XClang ∷ [])) os)
+
+  abbrev inner : List (Seen Kind)
+  inner = map shown (cut (owner_in clang_tables) false inner_words).options
+
+  abbrev given : List (Option ℕ)
+  given = indices (length words)
+
+  abbrev ats : List (Option ℕ)
+  ats = ats_expanded expansions.Gnu directory view.files words given
+
+  abbrev inner_ats : List (Option ℕ)
+  inner_ats = ats_expanded expansions.Gnu directory view.files (texts (of (kind.XClang ∷ [])) os) (ats_passing (of (kind.XClang ∷ [])) os (ats_cut os ats))
+
+  abbrev outer_rows : List Told
+  outer_rows = rows_expanded expansions.Gnu outer_ways (verdict view.is_multiarch) tables (is_clang compiler) directory view words given
+
+  abbrev inner_rows : List Told
+  inner_rows =
+      rows_expanded expansions.Gnu inner_ways inner_verdict clang_tables false directory view (texts (of (kind.XClang ∷ [])) os) (ats_passing (of (kind.XClang ∷ [])) os (ats_cut os ats))
+
+  abbrev rows : List Told
+  rows = option_rows (is_clang compiler) tables directory view words
+
+  abbrev test_and_record : Result Parsed Verdict
+  test_and_record = recorded compiler plusplus directory view os inner
+
+  read-told : read compiler plusplus directory view os ≡ unless (first_refusal inner_rows) test_and_record
+  read-told =
+      ap (λ r. r >>= recorded compiler plusplus directory view os) (judged-told inner_ways inner_verdict (owner_in clang_tables) false inner_words inner_ats)
+      ∙ unless-bind (first_refusal inner_rows) (Ok inner) (recorded compiler plusplus directory view os)
+
+  reading-told : reading compiler plusplus tables directory view words ≡ unless (first_refusal rows) test_and_record
+  reading-told =
+      ap (λ r. r >>= read compiler plusplus directory view) (judged-told outer_ways (verdict view.is_multiarch) (owner_in tables) (is_clang compiler) (expand expansions.Gnu directory view.files words) ats)
+      ∙ unless-bind (first_refusal outer_rows) (Ok os) (read compiler plusplus directory view)
+      ∙ ap (unless (first_refusal outer_rows)) read-told
+      ∙ sym (unless-or (first_refusal outer_rows) (first_refusal inner_rows) test_and_record)
+      ∙ ap (λ v. unless v test_and_record) (sym (first_refusal-append outer_rows inner_rows))
+
+  -- of a line of which no row is refused
+  module _ (none : first_refusal rows ≡ None) where
+    options-told : (place : Place) → is_list (there_is place) ≡ true → words_to (there_is place) rows ≡ all_words_at place os inner
+    options-told place l =
+        let both = option_or-none (first_refusal outer_rows) (first_refusal inner_rows) (sym (first_refusal-append outer_rows inner_rows) ∙ none) in
+        words_to-append (there_is place) outer_rows inner_rows
+        ∙ ap (λ ws. ws ++ words_to (there_is place) inner_rows)
+        (words-told outer_ways (verdict view.is_multiarch) (owner_in tables) (is_clang compiler) (expand expansions.Gnu directory view.files words) ats (there_is place) l both.0 ∙ outer-listed place l os)
+        ∙ ap (λ ws. words_at place os ++ ws) (words-told inner_ways inner_verdict (owner_in clang_tables) false inner_words inner_ats (there_is place) l both.1 ∙ inner-listed place l inner)
+
+    all-told : (place : Place) → is_list (there_is place) ≡ true → (f : Found) → words_to (there_is place) (rows ++ rows_added os f) ≡ all_words_at place os inner ++ added_at place os f
+    all-told place l f =
+        words_to-append (there_is place) rows (rows_added os f)
+        ∙ ap (λ ws. ws ++ words_to (there_is place) (rows_added os f)) (options-told place l)
+        ∙ ap (λ ws. all_words_at place os inner ++ ws) (added-told place l os f)
+
+    lists-of : (f : Found) → HasLists (rows ++ rows_added os f) (record_of compiler directory view os inner f)
+    lists-of f destinations.Dependency = all-told places.Dependency refl f
+    lists-of f destinations.Preprocessor = all-told places.Preprocessor refl f ∙ append-nil (all_words_at places.Preprocessor os inner)
+    lists-of f destinations.Common = all-told places.Common refl f
+    lists-of f destinations.Architecture = all-told places.Arch refl f ∙ append-nil (all_words_at places.Arch os inner)
+    lists-of f destinations.Unhashed = all-told places.Unhashed refl f ∙ append-nil (all_words_at places.Unhashed os inner)
+    lists-of f _ = tt
+
+    lists-tested : (tested : Result Found Verdict) → IfOk (tested >>= (λ f. Ok (record_of compiler directory view os inner f))) (HasLists (rows ++ rows_tested tested os))
+    lists-tested (Ok f) = lists-of f
+    lists-tested (Err v) = tt
+
+    lists-told : IfOk test_and_record (HasLists (gnu_rows compiler plusplus tables directory view words))
+    lists-told =
+        subst (λ v. IfOk test_and_record (HasLists (rows ++ rows_unless v (rows_tested (found plusplus os) os)))) (sym none) (lists-tested (found plusplus os))
+
+  same-refusal : first_refusal (gnu_rows compiler plusplus tables directory view words) ≡ first_refusal rows
+  same-refusal =
+      first_refusal-append rows (rows_unless (first_refusal rows) (rows_tested (found plusplus os) os))
+      ∙ ap (option_or (first_refusal rows)) (none-unless (first_refusal rows) (found plusplus os) os)
+      ∙ or-none (first_refusal rows)
+
+  pub gnu-tells : Tells (gnu_rows compiler plusplus tables directory view words) (reading compiler plusplus tables directory view words)
+  gnu-tells =
+      tells (gnu_rows compiler plusplus tables directory view words) (reading compiler plusplus tables directory view words) test_and_record
+      (reading-told ∙ ap (λ v. unless v test_and_record) (sym same-refusal))
+      (λ none. lists-told (sym same-refusal ∙ none))
+
+-- ---- rows that are added or not
+
+pub unless_refused : (v : Option Verdict) (rows : List Told) → is_some v ≡ true → rows_unless v rows ≡ []
+unless_refused None rows e = absurd (cc)
+unless_refused (Some x) rows e = refl
+
+pub unless_none : (v : Option Verdict) (rows : List Told) → is_some v ≡ false → rows_unless v rows ≡ rows
+unless_none None rows e = refl
+unless_none (Some x) rows e = absurd (cc)

@@ -1,0 +1,143 @@
+-- The rows of the command lines of Gcc and Clang.
+use Rattle.std.specs.Prelude.{ℕ, Bool, true, false, List, [], ◌∷◌, ◌++◌, length, map, Option, None, Some, Result, Ok, Err, codes, is_some, unwrap_or, if◌then◌else◌}
+use Rattle.std.specs.Str.{bytes_eq}
+use Rattle.scl_args.specs.Options.{last_flag, last_text, side_of_flag, texts}
+use Rattle.scl_files.specs.Paths.{with_extension}
+use Rattle.scl_files.specs.Views.{Viewed}
+use Rattle.scl_files.specs.declared.expand.ExpansionKind.TheVariants as expansions
+use Rattle.scl_gnu_reading.specs.ClangRows.{clang_tables}
+use Rattle.scl_gnu_reading.specs.FixedTests.{Found, found}
+use Rattle.scl_gnu_reading.specs.Inners.{inner_place_of, inner_verdict}
+use Rattle.scl_gnu_reading.specs.Kinds.{any, of}
+use Rattle.scl_gnu_reading.specs.Places.{place_of}
+use Rattle.scl_gnu_reading.specs.Recordings.{is_clang, needs_target}
+use Rattle.scl_gnu_reading.specs.Verdicts.{verdict}
+use Rattle.scl_gnu_reading.specs.declared.gcc.data.Kind.{Kind}
+use Rattle.scl_gnu_reading.specs.declared.gcc.data.Kind.TheVariants as kind
+use Rattle.scl_gnu_reading.specs.declared.gcc.place.Place.{Place}
+use Rattle.scl_gnu_reading.specs.declared.gcc.place.Place.TheVariants as places
+use Rattle.scl_text.specs.JudgedWords.{options_of}
+use Rattle.scl_text.specs.Records.{Verdict}
+use Rattle.scl_text.specs.declared.records.CCompilerKind.{CCompilerKind}
+use Rattle.scl_values.specs.Cuts.{mark}
+use Rattle.scl_values.specs.Row.{Row}
+use Rattle.scl_values.specs.Seen.{Seen, Raw, Unknown, Known, shown}
+use Rattle.scl_rows.specs.Lines.{Ways, rows_expanded}
+use Rattle.scl_rows.specs.Rows.{Told, first_refusal}
+use Rattle.scl_rows.specs.Sources.{ats_cut, ats_expanded, ats_passing, indices}
+use Rattle.scl_rows.specs.declared.destination.Destination.{Destination}
+use Rattle.scl_rows.specs.declared.destination.Destination.TheVariants as destinations
+use Rattle.scl_rows.specs.declared.origin.Origin.TheVariants as origins
+
+-- ---- where options go
+
+-- what becomes of an option whose words go to no list, by its kind
+abbrev pub unlisted_kind : Kind → Destination
+unlisted_kind kind.DiagnosticsColor = destinations.Color
+unlisted_kind kind.DiagnosticsColorFlag = destinations.Color
+unlisted_kind kind.DepTarget = destinations.DependencyTarget
+unlisted_kind kind.DoCompilation = destinations.CompileFlag
+unlisted_kind kind.Language = destinations.Language
+unlisted_kind kind.Output = destinations.Output
+unlisted_kind kind.SerializeDiagnostics = destinations.Output
+unlisted_kind kind.XClang = destinations.HandedOn
+unlisted_kind _ = destinations.Ignored
+
+-- what becomes of a word that is no option
+abbrev pub raw_goes : List ℕ → Destination
+raw_goes word = if bytes_eq word mark then destinations.Mark else destinations.Input
+
+abbrev pub unlisted : Seen Kind → Destination
+unlisted (Raw w) = raw_goes w
+unlisted (Unknown w) = destinations.Ignored
+unlisted (Known f k v how) = unlisted_kind k
+
+-- the destination that a place is, and another where it is no list
+abbrev pub destination_at : Place → Destination → Destination
+destination_at places.Common other = destinations.Common
+destination_at places.Unhashed other = destinations.Unhashed
+destination_at places.Arch other = destinations.Architecture
+destination_at places.Preprocessor other = destinations.Preprocessor
+destination_at places.Dependency other = destinations.Dependency
+destination_at places.Nowhere other = other
+destination_at places.Refused other = destinations.Refused
+
+abbrev pub outer_goes : Seen Kind → Destination
+outer_goes o = destination_at (place_of o) (unlisted o)
+
+abbrev pub inner_goes : Seen Kind → Destination
+inner_goes o = destination_at (inner_place_of o) destinations.Ignored
+
+abbrev pub outer_ways : Ways Kind
+outer_ways = record { goes = outer_goes; side = side_of_flag; origin = origins.Given }
+
+abbrev pub inner_ways : Ways Kind
+inner_ways = record { goes = inner_goes; side = side_of_flag; origin = origins.Xclang }
+
+-- ---- the rows that the rules add
+
+-- an added row of a flag with its value, as these words
+abbrev pub row_added : Destination → List ℕ → List ℕ → List (List ℕ) → Told
+row_added there flag value words = record {
+  given = [];
+  flag = Some flag;
+  value = Some value;
+  destination = there;
+  origin = origins.Added;
+  printed = words;
+  refusal = None;
+  at = None;
+}
+
+abbrev pub row_apart : List ℕ → List ℕ → Told
+row_apart flag value = row_added destinations.Dependency flag value (flag ∷ value ∷ [])
+
+abbrev pub row_joined : List ℕ → List ℕ → Told
+row_joined flag value = row_added destinations.Common flag value ((flag ++ value) ∷ [])
+
+abbrev pub rows_depfile : Bool → List ℕ → List Told
+rows_depfile true object = []
+rows_depfile false object = row_apart (codes "-MF") (with_extension object (codes "d")) ∷ []
+
+abbrev pub rows_target : (is_needed has_path : Bool) (flag target : Option (List ℕ)) → List ℕ → List Told
+rows_target true has_path flag target object = row_apart (unwrap_or flag (codes "-MT")) (unwrap_or target object) ∷ rows_depfile has_path object
+rows_target false has_path flag target object = []
+
+abbrev pub rows_split : Bool → List ℕ → List Told
+rows_split true object = row_joined (codes "-D_gsplit_dwarf_path=") (with_extension object (codes "dwo")) ∷ []
+rows_split false object = []
+
+-- those of a compilation that the tests found
+abbrev pub rows_added : List (Seen Kind) → Found → List Told
+rows_added os f =
+    rows_target (needs_target f.language os) (is_some (last_text (of (kind.DepArgumentPath ∷ [])) os))
+    (last_flag (of (kind.DepTarget ∷ [])) os) (last_text (of (kind.DepTarget ∷ [])) os) f.object
+    ++ rows_split (any (kind.SplitDwarf ∷ []) os) f.object
+
+-- those of options, where the tests find a compilation
+abbrev pub rows_tested : Result Found Verdict → List (Seen Kind) → List Told
+rows_tested (Ok f) os = rows_added os f
+rows_tested (Err said) os = []
+
+-- and where nothing is said against them
+abbrev pub rows_unless : Option Verdict → List Told → List Told
+rows_unless None rows = rows
+rows_unless (Some said) rows = []
+
+-- ---- all rows
+
+-- the rows of the given line, then those of the inner one
+abbrev pub option_rows : Bool → List (List (Row Kind)) → List ℕ → Viewed → List (List ℕ) → List Told
+option_rows dashes tables directory view words =
+    let os = map shown (options_of expansions.Gnu tables dashes directory view words) in
+    let given = indices (length words) in
+    let ats = ats_cut os (ats_expanded expansions.Gnu directory view.files words given) in
+    rows_expanded expansions.Gnu outer_ways (verdict view.is_multiarch) tables dashes directory view words given
+    ++ rows_expanded expansions.Gnu inner_ways inner_verdict clang_tables false directory view (texts (of (kind.XClang ∷ [])) os) (ats_passing (of (kind.XClang ∷ [])) os ats)
+
+-- those, and then the added ones
+abbrev pub gnu_rows : CCompilerKind → Bool → List (List (Row Kind)) → List ℕ → Viewed → List (List ℕ) → List Told
+gnu_rows compiler plusplus tables directory view words =
+    let os = map shown (options_of expansions.Gnu tables (is_clang compiler) directory view words) in
+    let rows = option_rows (is_clang compiler) tables directory view words in
+    rows ++ rows_unless (first_refusal rows) (rows_tested (found plusplus os) os)

@@ -1,0 +1,81 @@
+//! The rows of the command lines of Diab and TaskingVX.
+ghost use Rattle.std.specs.Prelude.{◌≡◌, IfOk, IsTrue, map};
+ghost use Rattle.scl_values.specs.Tables.{owner_in, tables_hold_values};
+ghost use Rattle.scl_values.specs.Words.{words_of};
+ghost use Rattle.scl_rows.specs.Rows.{told};
+ghost use Rattle.scl_rows.specs.SmallRows.{destination_at, small_rows};
+
+use crate::destination::Destination;
+use crate::line::line_rows;
+use crate::origin::Origin;
+use crate::row::Row;
+use crate::source::Sourced;
+use crate::ways::Ways;
+use scl_args::{Argument, Mem, NormalizedDisposition, SearchableArgInfo, ShortFlagsJoined, Sides};
+use scl_small::{ByRules, Place, Placed, Rules, place_of};
+use std::alloc::Global;
+use std::fmt::Debug;
+
+/// The destination that a place is.
+fn destination_at(place: Place) -> Destination
+    ensures { result ≡ destination_at place }
+{
+    match place {
+        Place::Input => Destination::Input,
+        Place::CompileFlag => Destination::CompileFlag,
+        Place::Output => Destination::Output,
+        Place::DepFile => Destination::DependencyFile,
+        Place::Common => Destination::Common,
+        Place::Preprocessor => Destination::Preprocessor,
+        Place::Dependency => Destination::Dependency,
+        Place::Refused => Destination::Refused,
+        Place::NotCompilation => Destination::Refused,
+    }
+}
+
+/// The ways of options that go to places.
+#[derive(Drop)]
+struct ByPlace;
+
+impl Sides for ByPlace {
+    ghost use Rattle.scl_args.specs.Options.{side_of_flag};
+
+    ghost side = { λ _. side_of_flag };
+
+    fn side(&self, flag: &str) -> NormalizedDisposition {
+        ShortFlagsJoined.side(flag)
+    }
+}
+
+impl<T: Placed> Ways<T> for ByPlace {
+    ghost use Rattle.scl_small.specs.Places.{place_of};
+    ghost use Rattle.scl_rows.specs.SmallRows.{destination_at};
+    ghost use Rattle.scl_rows.specs.declared.origin.Origin.TheVariants as origins;
+
+    ghost goes = { λ _ o. destination_at (place_of T.place o) };
+
+    ghost comes = { λ _. origins.Given };
+
+    fn destination(&self, option: &Argument<T>) -> Destination {
+        destination_at(place_of(option))
+    }
+
+    fn origin(&self) -> Origin {
+        Origin::Given
+    }
+}
+
+/// The rows of words without response files, which given ones brought.
+pub(crate) fn small_rows<T: Rules, S: SearchableArgInfo<T> + Drop>(
+    alloc: Global,
+    line: Sourced,
+    arg_info: S,
+) -> Mem<Vec<Row>>
+where
+    T::Kind: Debug,
+    requires { IsTrue (tables_hold_values T.holds_value (S.tables arg_info)) }
+    ensures { IfOk result (λ rows. map told rows.items ≡ small_rows T.place T.verdict (owner_in (S.tables arg_info)) (words_of line.words.items) line.ats.items) }
+{
+    let told = line_rows(alloc, line, arg_info, false, &ByRules, &ByPlace)?;
+    Ok(told.rows)
+}
