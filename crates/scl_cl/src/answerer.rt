@@ -15,7 +15,7 @@ use crate::compile::{answer_line, compile_words};
 use crate::compiler::Compiler;
 use crate::kept::{BuiltCommand, Compilation};
 use crate::lent::lend;
-use crate::questions::{Questions, all_questions};
+use crate::questions::{Questions, all_questions, questions_beside};
 use crate::trees::{ClangTrees, DiabTree, GccTree, MsvcTrees, TaskingTree};
 use crate::within::CommandLines;
 use scl_gnu::clang::Clang;
@@ -211,6 +211,37 @@ impl Answerer {
         }
         let questions = all_questions(alloc, self, words, cwd, env_vars, view)?;
         Ok(Ok(questions))
+    }
+
+    /// What `answer_within` answers, and what `open_questions` says of it: the command line is read once for both. It fails
+    /// only for want of memory.
+    pub fn answer_with_questions(
+        &self,
+        alloc: Global,
+        executable: &[u8],
+        words: &[Vec<u8>],
+        cwd: &[u8],
+        env_vars: &[(Vec<u8>, Vec<u8>)],
+        view: &View,
+        most: usize,
+    ) -> Mem<Result<(CompilerArguments<Compilation>, Questions), TooManyWords>>
+        ensures within { IfOk result (λ said. let request = asked self.now (words_of words.now) cwd.now (pairs_of env_vars.now) view.now in
+            MatchResult said (λ both. (has_at_most most request ≡ true) × (answer_of both.0 ≡ answer_to request) × (given both.1 ≡ questions_of request)) (λ _. has_at_most most request ≡ false)) }
+        ensures parts { IfOk result (λ said. IfOk said (λ both. HasParts (reading_by self.now (asked self.now (words_of words.now) cwd.now (pairs_of env_vars.now) view.now))
+            executable.now (environment_by self.now (pairs_of env_vars.now)) cwd.now both.0)) }
+        ensures read_again { IfOk result (λ said. IfOk said (λ both. IfCompiled (read_again_by self.now (asked self.now (words_of words.now) cwd.now (pairs_of env_vars.now) view.now)) both.0)) }
+    {
+        if !self
+            .compiler()
+            .has_at_most(alloc, words, cwd, env_vars, view, most)?
+        {
+            return Ok(Err(TooManyWords));
+        }
+        let answer = self.answer(alloc, executable, words, cwd, env_vars, view)?;
+        let questions = questions_beside(
+            alloc, self, &answer, executable, words, cwd, env_vars, view,
+        )?;
+        Ok(Ok((answer, questions)))
     }
 }
 

@@ -29,7 +29,7 @@ pub struct Answerers {
 }
 
 impl Answerers {
-    /// All of them, built. It fails only for want of memory.
+    /// All of them, built; which each is, `of` says. It fails only for want of memory.
     pub fn new(alloc: Global) -> Mem<Answerers> {
         Ok(Answerers {
             gcc: Answerer::new(alloc, Compiler::Gcc)?,

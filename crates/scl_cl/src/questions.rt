@@ -5,6 +5,8 @@ ghost use Rattle.std.specs.Option.{option_copied};
 ghost use Rattle.scl_values.specs.Words.{words_of};
 ghost use Rattle.scl_text.specs.Commands.{pairs_of};
 ghost use Rattle.scl_cl.specs.Requests.{asked};
+ghost use Rattle.scl_cl.specs.Answers.{answer_to, environment_by, reading_by};
+ghost use Rattle.scl_cl.specs.AnswersGiven.{answer_of, HasParts};
 ghost use Rattle.scl_cl.specs.Within.{has_at_most};
 ghost use Rattle.scl_cl.specs.Questions.{no_directory, database_asked, questions_of};
 ghost use Rattle.scl_cl.specs.QuestionsGiven.{given, hash_files_given, database_given};
@@ -136,8 +138,38 @@ impl<'a> Query for FilesWanted<'a> {
     }
 }
 
-/// What the answer asks, with no bound on words.
+/// What an answer asks, where that answer is at hand.
 #[tactic(auto, using(crate::proofs::RecordLaws::hash_files_are_given, crate::proofs::RecordLaws::database_is_given))]
+pub(crate) fn questions_beside<A: Asked>(
+    alloc: Global,
+    asks: &A,
+    answer: &CompilerArguments<Compilation>,
+    executable: &[u8],
+    words: &[Vec<u8>],
+    cwd: &[u8],
+    env_vars: &[(Vec<u8>, Vec<u8>)],
+    view: &View,
+) -> Mem<Questions>
+    requires answer { answer_of answer.now ≡ answer_to (asked (A.compiler asks.now) (words_of words.now) cwd.now (pairs_of env_vars.now) view.now) }
+    requires parts { HasParts (reading_by (A.compiler asks.now) (asked (A.compiler asks.now) (words_of words.now) cwd.now (pairs_of env_vars.now) view.now))
+        executable.now (environment_by (A.compiler asks.now) (pairs_of env_vars.now)) cwd.now answer.now }
+    ensures { IfOk result (λ questions. given questions ≡ questions_of (asked (A.compiler asks.now) (words_of words.now) cwd.now (pairs_of env_vars.now) view.now)) }
+{
+    let query = FilesWanted {
+        words,
+        cwd,
+        env_vars,
+        view,
+    };
+    let files = asks.ask(alloc, query)?;
+    Ok(Questions {
+        files,
+        directories: absent_directories(alloc, hash_files_of(answer), view)?,
+        existing: absent_database(alloc, database_of(answer), cwd, view)?,
+    })
+}
+
+/// What the answer asks, with no bound on words.
 pub(crate) fn all_questions<A: Asked>(
     alloc: Global,
     asks: &A,
@@ -148,19 +180,8 @@ pub(crate) fn all_questions<A: Asked>(
 ) -> Mem<Questions>
     ensures { IfOk result (λ questions. given questions ≡ questions_of (asked (A.compiler asks.now) (words_of words.now) cwd.now (pairs_of env_vars.now) view.now)) }
 {
-    let query = FilesWanted {
-        words,
-        cwd,
-        env_vars,
-        view,
-    };
-    let files = asks.ask(alloc, query)?;
     let answer = answer_line(alloc, asks, b"", words, cwd, env_vars, view)?;
-    Ok(Questions {
-        files,
-        directories: absent_directories(alloc, hash_files_of(&answer), view)?,
-        existing: absent_database(alloc, database_of(&answer), cwd, view)?,
-    })
+    questions_beside(alloc, asks, &answer, b"", words, cwd, env_vars, view)
 }
 
 impl Compiler {

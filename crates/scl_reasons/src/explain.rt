@@ -1,7 +1,8 @@
 //! The sentence of a reason.
-ghost use Rattle.std.specs.Prelude.{◌≡◌};
+ghost use Rattle.std.specs.Prelude.{◌≡◌, map, unwrap_or};
 ghost use Rattle.std.specs.Option.{option_copied};
-ghost use Rattle.scl_reasons.specs.Explanations.{explains, text_for};
+ghost use Rattle.scl_reasons.specs.Explanations.{explained, is_explained_by, text_for, text_given};
+ghost use Rattle.scl_reasons.specs.Table.{other, table};
 
 use crate::table::EXPLANATIONS;
 
@@ -17,21 +18,24 @@ pub struct Explanation {
 /// The sentence for a reason that no compiler of this repository gives, as a flag of a table of one's own.
 const OTHER: &str = "The compiler's table refuses this; run the command as given.";
 
-/// All sentences; each reason that a compiler of this repository gives stands in one, once.
-pub fn explanations() -> &'static [Explanation] {
+/// All explanations; each reason that a compiler of this repository gives stands in one, once (docs/RULES.md, Sentences).
+#[tactic(auto, unfolding(crate::specs::Table::table))]
+pub fn explanations() -> &'static [Explanation]
+    ensures { map explained result.now ≡ table }
+{
     &EXPLANATIONS
 }
 
 /// Whether it explains the reason.
 fn explains(explanation: &Explanation, reason: &str) -> bool
-    ensures { result ≡ explains explanation.now reason.now }
+    ensures { result ≡ is_explained_by explanation.now reason.now }
 {
     explanation.reasons.iter().any(|name| *name == reason)
 }
 
-/// The text of the first that explains the reason, or `None` where none does.
-pub fn text_for(explanations: &[Explanation], reason: &str) -> Option<&'static str>
-    ensures { option_copied result ≡ text_for reason.now explanations.now }
+/// The text of the first that explains the reason.
+fn text_in(explanations: &[Explanation], reason: &str) -> Option<&'static str>
+    ensures { option_copied result ≡ text_given reason.now explanations.now }
 {
     let found = explanations
         .iter()
@@ -40,12 +44,16 @@ pub fn text_for(explanations: &[Explanation], reason: &str) -> Option<&'static s
 }
 
 /// The sentence of a reason that a compiler of this repository gives, or `None` where none gives it.
-pub fn known_sentence(reason: &str) -> Option<&'static str> {
-    text_for(explanations(), reason)
+pub fn known_sentence(reason: &str) -> Option<&'static str>
+    ensures { option_copied result ≡ text_for reason.now table }
+{
+    text_in(explanations(), reason)
 }
 
 /// A sentence for people: what the reason means, and what one can do. A reason that no compiler of this repository gives, as
 /// a flag of a table of one's own, has one that says so.
-pub fn sentence(reason: &str) -> &'static str {
+pub fn sentence(reason: &str) -> &'static str
+    ensures { result.now ≡ unwrap_or (text_for reason.now table) other }
+{
     known_sentence(reason).unwrap_or(OTHER)
 }

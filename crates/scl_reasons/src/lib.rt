@@ -4,4 +4,4 @@
 mod explain;
 mod table;
 
-pub use explain::{Explanation, explanations, known_sentence, sentence, text_for};
+pub use explain::{Explanation, explanations, known_sentence, sentence};
