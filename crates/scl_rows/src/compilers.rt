@@ -27,7 +27,7 @@ pub trait HasRows: CCompilerImpl {
 
     /// A row for each option of a command line, whether that is refused or not: those of its words in order, then those of
     /// inner command lines, then those that the rules add to a compilation. Where a row is refused, so is the command line,
-    /// as the first such row says; where it is read, the rows make the lists of its record (docs/RULES.md, Rows). It fails
+    /// as the first such row says; where it is read, the rows make the lists of its record (docs/RULES.md, Rows of options). It fails
     /// only for want of memory.
     fn rows(
         &self,

@@ -19,7 +19,7 @@ use scl_text::refusal::Refusal;
 use std::alloc::Global;
 use std::fmt::Debug;
 
-/// What became of one option of a command line (docs/RULES.md, Rows).
+/// What became of one option of a command line (docs/RULES.md, Rows of options).
 #[derive(Debug, Drop)]
 pub struct Row {
     /// The words that it was cut from, one or two; none of one that the rules add.
