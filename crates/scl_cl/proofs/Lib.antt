@@ -8,3 +8,4 @@ pub mod GnuQuestionLaws
 pub mod MsvcQuestionLaws
 pub mod QuestionLaws
 pub mod RecordLaws
+pub mod ExplainedLaws

@@ -1,4 +1,5 @@
 pub mod Answerers
+pub mod Explained
 pub mod Lines
 pub mod Fields
 pub mod Compilers

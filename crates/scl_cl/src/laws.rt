@@ -1,5 +1,14 @@
 //! Laws of the definitions of requests and answers, each a clause of a function that does nothing.
+ghost use Rattle.scl_values.specs.Tables.{all_rows};
+ghost use Rattle.scl_gnu_reading.specs.ClangRows.{clang_tables};
+ghost use Rattle.scl_msvc_reading.specs.Places as msvc;
+ghost use Rattle.scl_msvc_reading.specs.Rows.{msvc_tables};
+ghost use Rattle.scl_small.specs.DiabReading as diab;
+ghost use Rattle.scl_small.specs.DiabTable as diab_table;
+ghost use Rattle.scl_small.specs.TaskingReading as tasking;
+ghost use Rattle.scl_small.specs.TaskingTable as tasking_table;
 ghost use Rattle.scl_cl.specs.Answers.{AnswersAreReadAgain, RecordsHaveCommands};
+ghost use Rattle.scl_cl.specs.Explained.{AreExplained, is_refused_somewhere, is_refused_by_msvc, is_refused_by_small};
 ghost use Rattle.scl_cl.specs.Questions.{AnswersAreDecided};
 ghost use Rattle.scl_cl.specs.Written.{FieldReadsBack, FieldIsPrintable, LineReadsBack, RequestReadsBack, LinesEndAtFeeds, AnswerHasLines, BadLineIsFirst, NamesReadBack};
 
@@ -40,4 +49,13 @@ pub fn of_answers()
 ///   same answer.
 pub fn of_questions()
     ensures answers_are_decided { AnswersAreDecided }
+{}
+
+/// Laws of reasons (docs/RULES.md, Sentences): each flag of a kind that a compiler's table refuses, as the driver's option or
+/// handed on, has a sentence for people (`scl_reasons`).
+pub fn of_reasons()
+    ensures gcc_and_clang { AreExplained is_refused_somewhere (all_rows clang_tables) }
+    ensures cl { AreExplained (λ kind. is_refused_by_msvc (msvc.place kind)) (all_rows msvc_tables) }
+    ensures diab { AreExplained (λ kind. is_refused_by_small (diab.place kind)) diab_table.rows }
+    ensures tasking { AreExplained (λ kind. is_refused_by_small (tasking.place kind)) tasking_table.rows }
 {}
