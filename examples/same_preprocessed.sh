@@ -1,12 +1,12 @@
 #!/usr/bin/env bash
-# Preprocesses a C and a C++ file with the words that the program `preprocess` gives for a compile command, and with the
+# Preprocesses a C and a C++ file with the words of the row `run` that the program `describe` gives for a compile command, and with the
 # given words themselves, with -E and -P in the place of -c and its output, and compares the two texts byte for byte.
 #
 # Status 0: they are the same; 1: they differ, or there are no words; 64: called wrongly.
 set -euo pipefail
 
 usage() {
-    echo "usage: examples/same_preprocessed.sh PATH_OF_PREPROCESS" >&2
+    echo "usage: examples/same_preprocessed.sh PATH_OF_DESCRIBE" >&2
     exit 64
 }
 [ $# -eq 1 ] || usage
@@ -41,9 +41,9 @@ same() {
         printf 'word %s\n' -c "$input" "${given[@]}" -o build/main.o
     } > request
     "$program" < request > answer
-    [ "$(head -n 1 answer)" = run ] || { echo "$compiler: $(cat answer)" >&2; exit 1; }
-    [ "$(grep -c '^run$' answer)" = 1 ] || { echo "$compiler: more runs than one" >&2; exit 1; }
-    mapfile -t words < <(sed -n 's/^arg //p' answer) # none of these words has a byte that is escaped
+    [ "$(head -n 1 answer)" = ok ] || { echo "$compiler: $(cat answer)" >&2; exit 1; }
+    [ "$(grep -c '^run ' answer)" = 1 ] || { echo "$compiler: more runs than one" >&2; exit 1; }
+    read -r -a words < <(sed -n 's/^run //p' answer) # none of these words has a byte that is escaped
     "$compiler" "${words[@]}" > by_runs.i
     "$compiler" -E -P "$input" "${given[@]}" > by_given.i
     cmp by_runs.i by_given.i || { echo "$compiler: the texts differ for $input" >&2; exit 1; }

@@ -20,7 +20,7 @@ use Rattle.scl_small.proofs.TaskingAgainLaws as tasking
 use Rattle.scl_cl.specs.declared.compiler.Compiler.{Compiler}
 use Rattle.scl_cl.specs.declared.compiler.Compiler.TheVariants as compilers
 use Rattle.scl_cl.specs.Answers.{answer_with, answer_from, reading_by, command_by, kept_by, read_again_by, Keeps, AnswersAreReadAgain, RecordsHaveCommands}
-use Rattle.scl_cl.specs.Lines.{lines_of}
+use Rattle.scl_description.specs.Lines.{lines_of}
 use Rattle.scl_cl.specs.Requests.{Request, request_in}
 use Rattle.scl_cl.specs.Program.{text_for, program_answer, IsTextReadAgain}
 

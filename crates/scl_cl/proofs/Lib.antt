@@ -1,6 +1,6 @@
 pub mod AgainLaws
-pub mod CutLaws
-pub mod FieldLaws
+pub mod SettingLaws
+pub mod BatchLaws
 pub mod RequestLaws
 pub mod WrittenLaws
 pub mod BadLineLaws
@@ -9,3 +9,4 @@ pub mod MsvcQuestionLaws
 pub mod QuestionLaws
 pub mod RecordLaws
 pub mod ExplainedLaws
+pub mod DescriptionLaws

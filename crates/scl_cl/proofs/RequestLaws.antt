@@ -4,7 +4,7 @@ use Rattle.std.specs.List.{flat_map, filter_map, list_any, cons_option}
 use Rattle.std.specs.Option.{option_to_list, ok_or}
 use Rattle.std.proofs.lemmas.Grind.{flat_map-append, fold-append}
 use Rattle.std.proofs.lemmas.List.{reverse-append}
-use Rattle.scl_cl.specs.Lines.{lines_of}
+use Rattle.scl_description.specs.Lines.{lines_of}
 use Rattle.scl_cl.specs.Sayings.{Saying, said}
 use Rattle.scl_cl.specs.Sayings as sayings
 use Rattle.scl_cl.specs.Requests.{Gathered, gathered, breaks, first_broken, request_in, request_of, request_unless, viewed_directory_in, path_in}

@@ -1,8 +1,8 @@
 -- The answer to a request, and its text.
 use Rattle.std.specs.Prelude.{◌≡◌, ℕ, Bool, true, false, List, [], ◌∷◌, ◌++◌, codes, Option, None, Some, Result, Ok, Err, is_some}
 use Rattle.std.specs.List.{flat_map}
-use Rattle.scl_files.specs.Characters.{line_feed}
 use Rattle.scl_values.specs.Escaped.{escaped}
+use Rattle.scl_description.specs.Lines.{line}
 use Rattle.scl_text.specs.Records.{Parsed, Verdict, CannotCache, NotCompilation}
 use Rattle.scl_text.specs.declared.records.Cacheable.{Cacheable}
 use Rattle.scl_text.specs.declared.records.Cacheable.TheVariants as cacheable
@@ -34,10 +34,6 @@ pub data Answer : Type 0 where
   compiled : (words : List (List ℕ)) (kept : Cacheable) → Answer
   cannot_cache : (reason : List ℕ) → Answer
   not_compilation : Answer
-
--- a text and its LF
-abbrev pub line : List ℕ → List ℕ
-line text = text ++ line_feed ∷ []
 
 -- the line of a word
 abbrev pub arg_line : List ℕ → List ℕ

@@ -1,7 +1,5 @@
 pub mod Answerers
 pub mod Explained
-pub mod Lines
-pub mod Fields
 pub mod Compilers
 pub mod Sayings
 pub mod LinesRead
@@ -13,7 +11,13 @@ pub mod Definitions
 pub mod Transfers
 pub mod Written
 pub mod Program
+pub mod Settings
+pub mod SettingsRead
 pub mod Within
 pub mod Outcomes
 pub mod Questions
 pub mod QuestionsGiven
+pub mod Descriptions
+pub mod DescriptionsGiven
+pub mod Batches
+pub mod BatchesGiven

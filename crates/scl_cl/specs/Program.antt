@@ -1,6 +1,6 @@
 -- The answer to a request's bytes.
 use Rattle.std.specs.Prelude.{◌≡◌, ℕ, List, Result, Ok, Err}
-use Rattle.scl_cl.specs.Lines.{lines_of}
+use Rattle.scl_description.specs.Lines.{lines_of}
 use Rattle.scl_cl.specs.Requests.{Request, request_in}
 use Rattle.scl_cl.specs.Answers.{answer_to, text_of, AnswerIsReadAgain}
 

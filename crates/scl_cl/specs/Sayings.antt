@@ -6,8 +6,8 @@ use Rattle.scl_files.specs.Characters.{space}
 use Rattle.scl_cl.specs.declared.compiler.Compiler as compilers
 use Rattle.scl_cl.specs.declared.keyword.Keyword.{Keyword}
 use Rattle.scl_cl.specs.declared.keyword.Keyword.TheVariants as keyword
-use Rattle.scl_cl.specs.Lines.{cut_at}
-use Rattle.scl_cl.specs.Fields.{field_of, two_fields}
+use Rattle.scl_description.specs.Lines.{cut_at}
+use Rattle.scl_description.specs.Fields.{field_of, two_fields}
 use Rattle.scl_cl.specs.Compilers.{compiler_named}
 
 -- what a line says

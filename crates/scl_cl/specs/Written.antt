@@ -4,26 +4,16 @@ use Rattle.std.specs.List.{flat_map, filter_map}
 use Rattle.scl_text.specs.declared.records.Cacheable.{Cacheable}
 use Rattle.scl_files.specs.Characters.{tab, line_feed}
 use Rattle.scl_cl.specs.declared.compiler.Compiler.{Compiler}
-use Rattle.scl_cl.specs.Lines.{cut_at, lines_of}
+use Rattle.scl_description.specs.Lines.{cut_at, line, lines_of}
 use Rattle.scl_values.specs.Each.{Each}
 use Rattle.scl_values.specs.Escaped.{escaped}
-use Rattle.scl_cl.specs.Fields.{field_of}
+use Rattle.scl_description.specs.Fields.{AreBytes, AreAllBytes, ArePrintable, field_of}
 use Rattle.scl_cl.specs.Compilers.{name_of, compiler_named}
 use Rattle.scl_cl.specs.declared.keyword.Keyword.{Keyword}
 use Rattle.scl_cl.specs.Sayings.{Saying, said, keyword_named}
 use Rattle.scl_cl.specs.Sayings as sayings
 use Rattle.scl_cl.specs.Requests.{gathered, breaks, first_broken}
-use Rattle.scl_cl.specs.Answers.{compiled, text_of, cacheable_text, line}
-
-abbrev pub AreBytes : List ℕ → Type 0
-AreBytes = Each (λ b. b < 256)
-
-abbrev pub AreAllBytes : List (List ℕ) → Type 0
-AreAllBytes = Each AreBytes
-
--- each byte is from 21 to 7E, hexadecimal: none is a space, a tab or an LF
-abbrev pub ArePrintable : List ℕ → Type 0
-ArePrintable = Each (λ b. (0x21 ≤ b) × (b ≤ 0x7e))
+use Rattle.scl_cl.specs.Answers.{compiled, text_of, cacheable_text}
 
 -- what is said can be written: its byte strings are bytes
 abbrev pub CanBeWritten : Saying → Type 0

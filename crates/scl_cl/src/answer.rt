@@ -5,8 +5,8 @@ ghost use Rattle.scl_values.specs.Words.{words_of};
 ghost use Rattle.scl_cl.specs.Answers.{compiled, cannot_cache, arg_line, text_of};
 ghost use Rattle.scl_cl.specs.AnswersGiven.{answer_by, answer_of, command_answer};
 
-use crate::field::push_field;
 use crate::kept::{BuiltCommand, Compilation, Kept};
+use scl_description::push_field;
 use scl_text::Mem;
 use scl_text::records::{Cacheable, CompilerArguments};
 use std::alloc::Global;

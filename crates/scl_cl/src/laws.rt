@@ -9,6 +9,7 @@ ghost use Rattle.scl_small.specs.TaskingReading as tasking;
 ghost use Rattle.scl_small.specs.TaskingTable as tasking_table;
 ghost use Rattle.scl_cl.specs.Answers.{AnswersAreReadAgain, RecordsHaveCommands};
 ghost use Rattle.scl_cl.specs.Explained.{AreExplained, is_refused_somewhere, is_refused_by_msvc, is_refused_by_small};
+ghost use Rattle.scl_cl.specs.Descriptions.{DescriptionsReadBack};
 ghost use Rattle.scl_cl.specs.Questions.{AnswersAreDecided};
 ghost use Rattle.scl_cl.specs.Written.{FieldReadsBack, FieldIsPrintable, LineReadsBack, RequestReadsBack, LinesEndAtFeeds, AnswerHasLines, BadLineIsFirst, NamesReadBack};
 
@@ -58,4 +59,11 @@ pub fn of_reasons()
     ensures cl { AreExplained (λ kind. is_refused_by_msvc (msvc.place kind)) (all_rows msvc_tables) }
     ensures diab { AreExplained (λ kind. is_refused_by_small (diab.place kind)) diab_table.rows }
     ensures tasking { AreExplained (λ kind. is_refused_by_small (tasking.place kind)) tasking_table.rows }
+{}
+
+/// Laws of descriptions (docs/RULES.md, Descriptions):
+///
+/// - `descriptions_read_back`: the description of a command, its answer's lines among them, gives the record that was read.
+pub fn of_descriptions()
+    ensures descriptions_read_back { DescriptionsReadBack }
 {}

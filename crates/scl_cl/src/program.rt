@@ -1,5 +1,5 @@
 //! The program, over a reader and a writer.
-ghost use Rattle.std.specs.Prelude.{◌≡◌, ◌≢◌, ◌^◌, ◌<◌, ◌⊎◌, ℕ, List, length, take, IfOk, IfSome, MatchResult, Ok, Err};
+ghost use Rattle.std.specs.Prelude.{◌≡◌, ◌≢◌, ◌^◌, ◌<◌, ◌⊎◌, ℕ, List, length, take, IfOk, IfSome, Ok, Err};
 ghost use Rattle.std.specs.Io.KnownBytes.{Appends, IsAtEnd};
 ghost use Rattle.scl_devices.specs.Counts.{one_more};
 ghost use Rattle.scl_cl.specs.Transfers.{Gave};
@@ -13,8 +13,8 @@ use crate::answer::command_text;
 use crate::kept::BuiltCommand;
 use crate::outcome::Outcome;
 use crate::request::{Request, read_request};
-use crate::transfer::{ReadError, read_all};
-use scl_args::{Counted, write_whole};
+use crate::service::{Service, serve};
+use scl_args::Counted;
 use scl_text::Mem;
 use scl_text::records::CompilerArguments;
 use std::alloc::Global;
@@ -42,15 +42,23 @@ fn text_for(alloc: Global, request: Request) -> Mem<Vec<u8>>
     command_text(alloc, &answer)
 }
 
-/// The text of the answer to the request that the bytes make, or the number of their bad line.
-fn program_answer(alloc: Global, bytes: Vec<u8>) -> Mem<Result<Vec<u8>, u64>>
-    ensures { IfOk result (λ answered. MatchResult answered (λ text. program_answer bytes.items ≡ Ok text.items) (λ number. program_answer bytes.items ≡ Err number)) }
-{
-    let read = read_request(alloc, &bytes)?;
-    drop(bytes);
-    match read {
-        Ok(request) => Ok(Ok(text_for(alloc, request)?)),
-        Err(number) => Ok(Err(number)),
+/// Answers a request by the text of its answer (docs/RULES.md, Answers).
+#[derive(Debug, Clone, Copy)]
+pub struct Commands;
+
+impl Service for Commands {
+    ghost use Rattle.std.specs.Prelude.{◌≡◌};
+    ghost use Rattle.scl_cl.specs.Program.{program_answer};
+
+    ghost answers = { λ _ bytes said. program_answer bytes ≡ said };
+
+    fn answer(&self, alloc: Global, bytes: Vec<u8>) -> Mem<Result<Vec<u8>, u64>> {
+        let read = read_request(alloc, &bytes)?;
+        drop(bytes);
+        match read {
+            Ok(request) => Ok(Ok(text_for(alloc, request)?)),
+            Err(number) => Ok(Err(number)),
+        }
     }
 }
 
@@ -82,17 +90,5 @@ pub fn run<R: Read, W: Write>(
     // Nothing was written.
     ensures untouched { IsSilent result → writer.new ≡ writer.old }
 {
-    let bytes = match read_all(alloc, reader) {
-        Ok(bytes) => bytes,
-        Err(ReadError::Memory) => return Outcome::OutOfMemory,
-        Err(ReadError::Device) => return Outcome::ReadFailed,
-    };
-    match program_answer(alloc, bytes) {
-        Err(_) => Outcome::OutOfMemory,
-        Ok(Err(number)) => Outcome::BadLine(number),
-        Ok(Ok(text)) => match write_whole(writer, &text) {
-            Ok(()) => Outcome::Answered,
-            Err(_) => Outcome::WriteFailed,
-        },
-    }
+    serve(alloc, &Commands, reader, writer)
 }

@@ -1,13 +1,13 @@
 //! A request, read from its bytes.
 ghost use Rattle.std.specs.Prelude.{◌≡◌, IfOk, MatchResult, Ok, Err};
-ghost use Rattle.scl_cl.specs.Lines.{lines_of};
+ghost use Rattle.scl_description.specs.Lines.{lines_of};
 ghost use Rattle.scl_cl.specs.Requests.{request_in};
 ghost use Rattle.scl_cl.specs.Drafts.{asked_by};
 
 use crate::compiler::Compiler;
-use crate::cut::next_line;
 use crate::draft::Draft;
 use crate::saying::read_line;
+use scl_description::next_line;
 use scl_text::{Mem, View};
 use std::alloc::Global;
 

@@ -1,13 +1,14 @@
 //! Reading all there is.
 ghost use Rattle.std.specs.Prelude.{◌<◌, length};
 ghost use Rattle.scl_cl.specs.Transfers.{ReadEnds};
+ghost use Rattle.scl_cl.specs.Batches.{ReadsMore};
 
 use scl_args::Counted;
 use std::alloc::{AllocError, Global};
 use std::io::Read;
 
 /// How many reads are made at most.
-const READS: u64 = 1 << 40;
+pub(crate) const READS: u64 = 1 << 40;
 
 /// How many bytes a read asks for.
 const BLOCK: usize = 1 << 13;
@@ -64,4 +65,36 @@ pub(crate) fn read_all<R: Read>(
 {
     let mut block = vec![in alloc; 0u8; BLOCK]?;
     read_blocks(alloc, reader, &mut block)
+}
+
+/// Reads once, and puts what was read behind other bytes; says whether there was anything.
+fn read_more<R: Read>(
+    reader: &mut Counted<R>,
+    block: &mut [u8],
+    bytes: &mut Vec<u8>,
+) -> Result<bool, ReadError>
+    requires { 0 < length block.old }
+    ensures { ReadsMore (R.remaining reader.old.device) (R.remaining reader.new.device) bytes.old.items bytes.new.items reader.old.failed reader.new.failed result }
+{
+    let taken = match reader.read(block) {
+        Ok(taken) => taken,
+        Err(_) => return Err(ReadError::Device),
+    };
+    if taken == 0 {
+        return Ok(false);
+    }
+    bytes.extend_from_slice(&block[..taken])?;
+    Ok(true)
+}
+
+/// Reads a block, and puts it behind other bytes; says whether there was anything.
+pub(crate) fn read_block<R: Read>(
+    alloc: Global,
+    reader: &mut Counted<R>,
+    bytes: &mut Vec<u8>,
+) -> Result<bool, ReadError>
+    ensures { ReadsMore (R.remaining reader.old.device) (R.remaining reader.new.device) bytes.old.items bytes.new.items reader.old.failed reader.new.failed result }
+{
+    let mut block = vec![in alloc; 0u8; BLOCK]?;
+    read_more(reader, &mut block, bytes)
 }

@@ -1,4 +1,5 @@
 //! The program over memory, and the calls below it: rows worked by hand, and what becomes of requests and devices.
+mod descriptions;
 mod devices;
 mod fields;
 mod msvc_rows;

@@ -1,4 +1,5 @@
-use Rattle.scl_cl.proofs.WrittenLaws.{field-escaped, escaped-printable, said-written, request-written, lines-feed, name-back, keyword-back}
+use Rattle.scl_description.proofs.WrittenFieldLaws.{field-escaped, escaped-printable, lines-feed}
+use Rattle.scl_cl.proofs.WrittenLaws.{said-written, request-written, name-back, keyword-back}
 use Rattle.scl_cl.proofs.BadLineLaws.{bad_line-first}
 use Rattle.scl_cl.proofs.laws.of_requests.Goals as goal
 

@@ -1,0 +1,82 @@
+//! Describes the answer to the request on standard input (docs/RULES.md, The program describe).
+#![tactic(auto)]
+
+use scl_cl::{Counted, ManyDescriptions, Outcome, describe, serve_each};
+use std::process::ExitCode;
+use std::{env, io};
+
+/// What `--help` prints.
+const HELP: &str = "\
+Describes what a compiler's command line means: the command to run in its place, what it reads and writes, and why.
+
+usage: describe            one request on standard input, its description on standard output
+       describe --batch    many requests, each ended by a line `end`; so is each description
+       describe --help | --version
+
+example: printf 'compiler gcc\\nword -c\\nword a.c\\n' | describe
+
+statuses: 0 answered, 2 a bad line (its number is on standard error), 3 out of memory, 4 reading or writing failed,
+          64 called with other words
+";
+
+/// What the program is asked to do.
+#[derive(Clone, Copy, PartialEq, Eq)]
+enum Asked {
+    One,
+    Batch,
+    Help,
+    Version,
+}
+
+/// What the words behind the program's name ask; none where they ask nothing that it does.
+fn asked(rt: &HostRuntime) -> io::Result<Option<Asked>> {
+    let mut words = env::args(rt)?.skip(1);
+    let asked = match words.next() {
+        None => Some(Asked::One),
+        Some(word) => match word.as_str() {
+            "--batch" => Some(Asked::Batch),
+            "--help" => Some(Asked::Help),
+            "--version" => Some(Asked::Version),
+            _ => None,
+        },
+    };
+    Ok(if words.next().is_none() { asked } else { None })
+}
+
+/// Describes what standard input asks, and gives the status.
+fn describe_input(rt: &HostRuntime, is_batch: bool) -> u8 {
+    let mut reader = Counted::new(rt.stdin());
+    let mut writer = Counted::new(rt.stdout());
+    let outcome = if is_batch {
+        match ManyDescriptions::new(rt.alloc()) {
+            Ok(service) => serve_each(rt.alloc(), &service, &mut reader, &mut writer),
+            Err(_) => Outcome::OutOfMemory,
+        }
+    } else {
+        describe(rt.alloc(), &mut reader, &mut writer)
+    };
+    if outcome != Outcome::Answered {
+        // Where standard error takes nothing, the status alone tells.
+        let _ = eprintln!(rt; "describe: {outcome}");
+    }
+    outcome.status()
+}
+
+fn main(rt: HostRuntime) -> io::Result<ExitCode> {
+    Ok(ExitCode::from(match asked(&rt)? {
+        Some(Asked::One) => describe_input(&rt, false),
+        Some(Asked::Batch) => describe_input(&rt, true),
+        Some(Asked::Help) => {
+            print!(&rt; "{HELP}")?;
+            0
+        }
+        Some(Asked::Version) => {
+            println!(&rt; "describe 1")?;
+            0
+        }
+        None => {
+            eprintln!(&rt; "describe: no such words; describe --help says which there are")?;
+            64
+        }
+    }))
+}

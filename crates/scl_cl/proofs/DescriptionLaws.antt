@@ -1,0 +1,116 @@
+-- Descriptions: what the code gives is what is defined, and a record is read back from its description.
+use Rattle.std.proofs.Common.{◌≡◌, ℕ, true, cond, List, [], ◌∷◌, ◌++◌, map, codes, Option, Some, None, Result, Ok, Err, string_bytes, refl, ap, sym, subst, ◌∙◌, append-nil, append_assoc}
+use Rattle.std.specs.List.{flat_map}
+use Rattle.std.specs.Option.{option_map}
+use Rattle.std.proofs.lemmas.Grind.{flat_map-append}
+use Rattle.scl_values.specs.Each.{Each}
+use Rattle.scl_values.specs.Escaped.{escaped}
+use Rattle.scl_text.specs.Records.{Parsed, parsed_of}
+use Rattle.scl_text.specs.declared.records.Cacheable.{Cacheable}
+use Rattle.scl_text.specs.declared.records.Cacheable.TheVariants as cacheable
+use Rattle.scl_text.specs.declared.records.CompilerArguments.{CompilerArguments}
+use Rattle.scl_text.specs.declared.records.CompilerArguments.TheVariants as outcomes
+use Rattle.scl_description.specs.Laws.{IsBeside}
+use Rattle.scl_description.specs.Lines.{line}
+use Rattle.scl_description.specs.Rows.{Entry, IsRow, lone, row_text, rows_text, rows_of, row_entry, entry_text, entries_text}
+use Rattle.scl_description.specs.Records.{record_entries, record_in}
+use Rattle.scl_description.proofs.RecordLaws.{description-back-among}
+use Rattle.scl_cl.specs.declared.kept.Compilation.{Compilation}
+use Rattle.scl_cl.specs.Requests.{Request}
+use Rattle.scl_cl.specs.Answers.{compiled, cannot_cache, not_compilation, arg_line, text_of, answer_to, reading_by, environment_by}
+use Rattle.scl_cl.specs.AnswersGiven.{answer_of, HasParts}
+use Rattle.scl_cl.specs.Questions.{Questions, questions_of}
+use Rattle.scl_cl.specs.Settings.{Settings}
+use Rattle.scl_cl.specs.Within.{has_at_most}
+use Rattle.scl_cl.specs.Descriptions.{version_entry, runs_entry, pair_fields, environment_entry, compiled_entries, runs_for, outcome_entries, question_entries, answer_entries, description, IsDescription, too_many_entries, command_entries, DescriptionsReadBack}
+use Rattle.scl_cl.specs.DescriptionsGiven.{outcome_given}
+
+pub behind_text : (start whole all rows : List ℕ) → whole ≡ start ++ rows → start ≡ all → whole ≡ all ++ rows
+behind_text start whole all rows h k = h ∙ ap (λ t. t ++ rows) k
+
+-- ---- what the code gives
+
+abbrev because_of : CompilerArguments Compilation → Option (List ℕ)
+because_of (outcomes.Ok compilation) = None
+because_of (outcomes.CannotCache reason text) = option_map string_bytes text
+because_of outcomes.NotCompilation = None
+
+outcome-is : (s : Settings) (r : Request) (executable cwd : List ℕ) (answer : CompilerArguments Compilation) → answer_of answer ≡ answer_to r
+    → HasParts (reading_by r.compiler r) executable (environment_by r.compiler r.environment) cwd answer
+    → outcome_given (runs_for s r) answer ≡ outcome_entries s r (because_of answer) (answer_to r) (reading_by r.compiler r)
+outcome-is s r executable cwd (outcomes.Ok compilation) e parts =
+    ap (λ env. compiled_entries (runs_for s r (parsed_of compilation.parsed)) env (parsed_of compilation.parsed)) parts.1.env_vars_are
+    ∙ ap (λ said. outcome_entries s r None (answer_of (outcomes.Ok compilation)) said) (sym parts.0)
+    ∙ ap (λ a. outcome_entries s r None a (reading_by r.compiler r)) e
+outcome-is s r executable cwd (outcomes.CannotCache reason text) e parts = ap (λ a. outcome_entries s r (option_map string_bytes text) a (reading_by r.compiler r)) e
+outcome-is s r executable cwd outcomes.NotCompilation e parts = ap (λ a. outcome_entries s r None a (reading_by r.compiler r)) e
+
+-- the text of an answer and the rows behind it are a description
+pub is-description : (s : Settings) (r : Request) (executable cwd text : List ℕ) (answer : CompilerArguments Compilation) (q : Questions) → has_at_most s.bound r ≡ true → q ≡ questions_of r
+    → answer_of answer ≡ answer_to r → HasParts (reading_by r.compiler r) executable (environment_by r.compiler r.environment) cwd answer
+    → text ≡ text_of (answer_of answer) ++ entries_text (version_entry ∷ [] ++ outcome_given (runs_for s r) answer ++ question_entries q) → IsDescription s r text
+is-description s r executable cwd text answer q within asks e parts is = (
+  because_of answer,
+  is
+      ∙ ap (λ a. text_of a ++ entries_text (version_entry ∷ [] ++ outcome_given (runs_for s r) answer ++ question_entries q)) e
+      ∙ ap (λ es. text_of (answer_to r) ++ entries_text (version_entry ∷ [] ++ es ++ question_entries q)) (outcome-is s r executable cwd answer e parts)
+      ∙ ap (λ asked. text_of (answer_to r) ++ entries_text (version_entry ∷ [] ++ outcome_entries s r (because_of answer) (answer_to r) (reading_by r.compiler r) ++ question_entries asked)) asks
+      ∙ ap (λ b. cond b (text_of (answer_to r) ++ entries_text (answer_entries s r (because_of answer))) (entries_text too_many_entries)) (sym within),
+)
+
+-- ---- a record is read back
+
+arg-row : (word : List ℕ) → line (row_text (codes "arg" ∷ lone word)) ≡ arg_line word
+arg-row word = ap (λ w. codes "arg " ++ (w ++ 10 ∷ [])) (append-nil (escaped word))
+
+args-rows : (words : List (List ℕ)) → rows_text (map (λ rest. codes "arg" ∷ rest) (map lone words)) ≡ flat_map arg_line words
+args-rows [] = refl
+args-rows (word ∷ words) =
+    ap (λ t. t ++ rows_text (map (λ rest. codes "arg" ∷ rest) (map lone words))) (arg-row word) ∙ ap (λ t. arg_line word ++ t) (args-rows words)
+
+command-rows : (words : List (List ℕ)) (kept : Cacheable) → text_of (compiled words kept) ≡ entries_text (command_entries words kept)
+unfolding entry_text
+command-rows words cacheable.Yes =
+    append_assoc (line (codes "ok")) (flat_map arg_line words) (line (codes "cacheable yes")) ∙ ap (λ t. line (codes "ok") ++ (t ++ line (codes "cacheable yes"))) (sym (args-rows words))
+command-rows words cacheable.No =
+    append_assoc (line (codes "ok")) (flat_map arg_line words) (line (codes "cacheable no")) ∙ ap (λ t. line (codes "ok") ++ (t ++ line (codes "cacheable no"))) (sym (args-rows words))
+
+command-beside : (words : List (List ℕ)) (kept : Cacheable) → Each IsBeside (command_entries words kept ++ version_entry ∷ [])
+command-beside words cacheable.Yes = (refl, (refl, (refl, (refl, tt))))
+command-beside words cacheable.No = (refl, (refl, (refl, (refl, tt))))
+
+-- the rows before a record's, the record's, and those behind
+abbrev in_order : (before after : List Entry) → Parsed → List Entry
+in_order before after p = before ++ record_entries p ++ after
+
+pub descriptions-back : DescriptionsReadBack
+descriptions-back s r because words kept p within compiles reads are =
+    let after : List Entry = runs_entry (runs_for s r p) ∷ environment_entry (environment_by r.compiler r.environment) ∷ [] in
+    let asks : List Entry = question_entries (questions_of r) in
+    let before : List Entry = command_entries words kept ++ version_entry ∷ [] in
+    let outcome : outcome_entries s r because (answer_to r) (reading_by r.compiler r) ≡ record_entries p ++ after =
+    ap (λ a. outcome_entries s r because a (reading_by r.compiler r)) compiles ∙ ap (outcome_entries s r because (compiled words kept)) reads in
+    let entries : command_entries words kept ++ answer_entries s r because ≡ in_order before (after ++ asks) p =
+    ap (λ es. command_entries words kept ++ (version_entry ∷ [] ++ es ++ asks)) outcome
+    ∙ ap (λ es. command_entries words kept ++ (version_entry ∷ es)) (append_assoc (record_entries p) after asks)
+    ∙ sym (append_assoc (command_entries words kept) (version_entry ∷ []) (record_entries p ++ (after ++ asks)))
+    ∙ sym (append_assoc before (record_entries p) (after ++ asks)) in
+    let text : description s r because ≡ entries_text (in_order before (after ++ asks) p) =
+    ap (λ b. cond b (text_of (answer_to r) ++ entries_text (answer_entries s r because)) (entries_text too_many_entries)) within
+    ∙ ap (λ a. text_of a ++ entries_text (answer_entries s r because)) compiles
+    ∙ ap (λ t. t ++ entries_text (answer_entries s r because)) (command-rows words kept)
+    ∙ sym (flat_map-append entry_text (command_entries words kept) (answer_entries s r because))
+    ∙ ap entries_text entries in
+    ap record_in text
+    ∙ description-back-among before (after ++ asks) p (command-beside words kept) (refl, (refl, (refl, (refl, (refl, tt))))) (subst (λ es. Each IsRow (rows_of es)) entries are)
+
+-- ---- one more row
+
+pub environment-more : (pairs : List (List ℕ × List ℕ)) (pair : List ℕ × List ℕ)
+    → entry_text (environment_entry (pairs ++ pair ∷ [])) ≡ entry_text (environment_entry pairs) ++ entry_text (row_entry (codes "environment") (pair_fields pair))
+unfolding entry_text
+environment-more [] pair = refl
+environment-more (p ∷ pairs) pair =
+    let first : List ℕ = line (row_text (codes "environment" ∷ pair_fields p)) in
+    ap (λ t. first ++ t) (environment-more pairs pair)
+    ∙ sym (append_assoc first (rows_text (map (λ rest. codes "environment" ∷ rest) (map pair_fields pairs))) (rows_text ((codes "environment" ∷ pair_fields pair) ∷ [])))

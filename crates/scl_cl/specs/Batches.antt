@@ -1,0 +1,60 @@
+-- Batches of requests: each is ended by a line `end`, and so is each answer.
+use Rattle.std.specs.Prelude.{◌≡◌, ℕ, Bool, true, false, List, [], ◌∷◌, ◌++◌, codes, Option, Some, None, Result, Ok, Err, Vec, if◌then◌else◌}
+use Rattle.std.specs.Fmt.{decimal}
+use Rattle.std.specs.List.{flat_map, onto_first}
+use Rattle.std.specs.Str.{bytes_eq}
+use Rattle.std.specs.Io.KnownBytes.{IsAtEnd}
+use Rattle.std.specs.declared.alloc.Global.{Global}
+use Rattle.scl_devices.specs.Counts.{one_more}
+use Rattle.scl_description.specs.Lines.{line, lines_of}
+use Rattle.scl_cl.specs.declared.transfer.ReadError.{ReadError}
+use Rattle.scl_cl.specs.declared.transfer.ReadError.TheVariants.{Memory, Device}
+
+-- the lines of each request: those up to a line `end`, which the last may lack
+abbrev pub requests_of : List (List ℕ) → List (List (List ℕ))
+requests_of [] = []
+requests_of (text ∷ lines) = if bytes_eq text (codes "end") then [] ∷ requests_of lines else onto_first text (requests_of lines)
+
+-- what is told of a request: a text, or the number of its bad line
+abbrev pub told : Result (List ℕ) ℕ → List ℕ
+told (Ok text) = text ++ codes "end\n"
+told (Err number) = codes "bad-line " ++ decimal number ++ codes "\nend\n"
+
+-- this may be told of the requests, one after the other
+abbrev pub AreTold : (List ℕ → Result (List ℕ) ℕ → Type 0) → List (List (List ℕ)) → List ℕ → Type 0
+AreTold answers [] written = written ≡ []
+AreTold answers (lines ∷ requests) written =
+    (said : Result (List ℕ) ℕ) × (rest : List ℕ) × answers (flat_map line lines) said × (written ≡ told said ++ rest) × AreTold answers requests rest
+
+-- ---- reading line by line
+
+-- what is left: the bytes that were read and belong to no line yet, and those of the reader, if they are known
+abbrev pub Stays : (old new : Option (List ℕ)) → (pending pending' : List ℕ) → Type 0
+Stays None new pending pending' = Unit {0}
+Stays (Some r) None pending pending' = ⊥
+Stays (Some r) (Some r') pending pending' = pending ++ r ≡ pending' ++ r'
+
+-- it lost a line
+abbrev pub LosesLine : (old new : Option (List ℕ)) → (pending pending' text : List ℕ) → Type 0
+LosesLine None new pending pending' text = Unit {0}
+LosesLine (Some r) None pending pending' text = ⊥
+LosesLine (Some r) (Some r') pending pending' text = lines_of (pending ++ r) ≡ text ∷ lines_of (pending' ++ r')
+
+-- it was nothing
+abbrev pub HadNone : Option (List ℕ) → List ℕ → Type 0
+HadNone None pending = Unit {0}
+HadNone (Some r) pending = pending ++ r ≡ []
+
+-- A line was taken; or there was none; or memory was refused; or a read failed, or the reads were too many.
+abbrev pub TakesLine : (old new : Option (List ℕ)) → (pending pending' : List ℕ) → (before after : ℕ) → Result (Option (Vec ℕ Global)) ReadError → Type 0
+TakesLine old new pending pending' before after (Ok (Some text)) = LosesLine old new pending pending' text.items × (after ≡ before)
+TakesLine old new pending pending' before after (Ok None) = HadNone old pending × IsAtEnd new × (after ≡ before)
+TakesLine old new pending pending' before after (Err Memory) = after ≡ before
+TakesLine old new pending pending' before after (Err Device) = Unit {0}
+
+-- More bytes were read, at least one; or there were none; or memory was refused; or the read failed.
+abbrev pub ReadsMore : (old new : Option (List ℕ)) → (pending pending' : List ℕ) → (before after : ℕ) → Result Bool ReadError → Type 0
+ReadsMore old new pending pending' before after (Ok true) = Stays old new pending pending' × (after ≡ before)
+ReadsMore old new pending pending' before after (Ok false) = Stays old new pending pending' × (pending' ≡ pending) × IsAtEnd new × (after ≡ before)
+ReadsMore old new pending pending' before after (Err Memory) = after ≡ before
+ReadsMore old new pending pending' before after (Err Device) = after ≡ one_more before

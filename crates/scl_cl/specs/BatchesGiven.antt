@@ -1,0 +1,86 @@
+-- What of a batch the code gives.
+use Rattle.std.specs.Prelude.{◌≡◌, ◌<◌, ℕ, length, List, [], ◌∷◌, ◌++◌, Option, Some, None, IfSome, Result, Ok, Err, Vec}
+use Rattle.std.specs.Io.KnownBytes.{Appends, IsAtEnd}
+use Rattle.std.specs.List.{flat_map, onto_first}
+use Rattle.std.specs.declared.alloc.Global.{Global}
+use Rattle.scl_devices.specs.Counts.{one_more}
+use Rattle.scl_description.specs.Lines.{line, lines_of}
+use Rattle.scl_cl.specs.Batches.{requests_of, told, AreTold}
+use Rattle.scl_cl.specs.declared.transfer.ReadError.{ReadError}
+use Rattle.scl_cl.specs.declared.transfer.ReadError.TheVariants as errors
+use Rattle.scl_cl.specs.declared.batch.Stop.{Stop}
+use Rattle.scl_cl.specs.declared.batch.Stop.TheVariants.{Memory, Read, Write}
+
+abbrev pub said_by : Result (Vec ℕ Global) ℕ → Result (List ℕ) ℕ
+said_by (Ok text) = Ok text.items
+said_by (Err number) = Err number
+
+-- the bytes that belong to no line are taken as the last line, if there are some
+abbrev pub LastOf : (pending pending' : List ℕ) → Option (Vec ℕ Global) → Type 0
+LastOf pending pending' None = pending ≡ []
+LastOf pending pending' (Some text) = (text.items ≡ pending) × (pending' ≡ []) × (0 < length pending)
+
+-- a read that fails stops a batch
+abbrev pub StopsBy : ReadError → Stop → Type 0
+StopsBy errors.Memory stop = stop ≡ Memory
+StopsBy errors.Device stop = stop ≡ Read
+
+-- What is told of a request was written; or memory was refused, and no write failed; or the writer failed.
+abbrev pub IsTold : (Result (List ℕ) ℕ → Type 0) → Option (List ℕ) → Option (List ℕ) → ℕ → ℕ → Result (Unit {0}) Stop → Type 0
+IsTold answers old new before after (Ok done) = (said : Result (List ℕ) ℕ) × answers said × Appends old new (told said) × (after ≡ before)
+IsTold answers old new before after (Err Memory) = after ≡ before
+IsTold answers old new before after (Err Read) = ⊥
+IsTold answers old new before after (Err Write) = after ≡ one_more before
+
+-- ---- one line after the other
+
+-- a request's lines so far, before the requests of the lines behind them
+abbrev pub before_requests : List (List ℕ) → List (List (List ℕ)) → List (List (List ℕ))
+before_requests [] requests = requests
+before_requests (text ∷ lines) requests = onto_first text (before_requests lines requests)
+
+-- With this line the lines of a request so far become these, and this was written.
+abbrev pub Steps : (List ℕ → Result (List ℕ) ℕ → Type 0) → (text request request' written : List ℕ) → Type 0
+Steps answers text request request' written =
+    (so_far : List (List ℕ)) → request ≡ flat_map line so_far → (now : List (List ℕ)) × (request' ≡ flat_map line now)
+    × ((lines : List (List ℕ)) (rest : List ℕ) → AreTold answers (before_requests now (requests_of lines)) rest → AreTold answers (before_requests so_far (requests_of (text ∷ lines))) (written ++ rest))
+
+-- A line was taken; or memory was refused, and no write failed; or the writer failed.
+abbrev pub TakesIn : (List ℕ → Result (List ℕ) ℕ → Type 0) → (text request request' : List ℕ) → Option (List ℕ) → Option (List ℕ) → ℕ → ℕ → Result (Unit {0}) Stop → Type 0
+TakesIn answers text request request' old new before after (Ok done) = (written : List ℕ) × Steps answers text request request' written × Appends old new written × (after ≡ before)
+TakesIn answers text request request' old new before after (Err Memory) = after ≡ before
+TakesIn answers text request request' old new before after (Err Read) = ⊥
+TakesIn answers text request request' old new before after (Err Write) = after ≡ one_more before
+
+-- the end was met behind these lines of a request
+abbrev pub Ends : (List ℕ → Result (List ℕ) ℕ → Type 0) → (request written : List ℕ) → Type 0
+Ends answers request written = (so_far : List (List ℕ)) → request ≡ flat_map line so_far → AreTold answers (before_requests so_far []) written
+
+abbrev pub TakesEnd : (List ℕ → Result (List ℕ) ℕ → Type 0) → (request : List ℕ) → Option (List ℕ) → Option (List ℕ) → ℕ → ℕ → Result (Unit {0}) Stop → Type 0
+TakesEnd answers request old new before after (Ok done) = (written : List ℕ) × Ends answers request written × Appends old new written × (after ≡ before)
+TakesEnd answers request old new before after (Err Memory) = after ≡ before
+TakesEnd answers request old new before after (Err Read) = ⊥
+TakesEnd answers request old new before after (Err Write) = after ≡ one_more before
+
+-- ---- the whole batch
+
+-- Of all bytes these are left, behind those that belong to no line yet and the lines of a request so far, and this was written.
+abbrev pub Owes : (List ℕ → Result (List ℕ) ℕ → Type 0) → (all now : Option (List ℕ)) → (pending request written : List ℕ) → Type 0
+Owes answers None now pending request written = Unit {0}
+Owes answers (Some r0) None pending request written = ⊥
+Owes answers (Some r0) (Some r) pending request written = (so_far : List (List ℕ)) × (request ≡ flat_map line so_far)
+    × ((rest : List ℕ) → AreTold answers (before_requests so_far (requests_of (lines_of (pending ++ r)))) rest → AreTold answers (requests_of (lines_of r0)) (written ++ rest))
+
+-- all that a batch does, less what was read and answered
+pub record Served (answers : List ℕ → Result (List ℕ) ℕ → Type 0) (all now old new : Option (List ℕ)) (pending request : List ℕ) : Type 0 where
+  pub written : List ℕ
+  pub appended : Appends old new written
+  pub owes : Owes answers all now pending request written
+
+-- All requests were answered; or memory was refused; or the reader failed; or the writer failed.
+abbrev pub BatchEnds : (List ℕ → Result (List ℕ) ℕ → Type 0) → (all now old new : Option (List ℕ)) → (read_before read_after write_before write_after : ℕ) → Result (Unit {0}) Stop → Type 0
+BatchEnds answers all now old new rb ra wb wa (Ok done) =
+    (written : List ℕ) × Appends old new written × IfSome all (λ bytes. AreTold answers (requests_of (lines_of bytes)) written) × IsAtEnd now × (ra ≡ rb) × (wa ≡ wb)
+BatchEnds answers all now old new rb ra wb wa (Err Memory) = (ra ≡ rb) × (wa ≡ wb)
+BatchEnds answers all now old new rb ra wb wa (Err Read) = wa ≡ wb
+BatchEnds answers all now old new rb ra wb wa (Err Write) = (ra ≡ rb) × (wa ≡ one_more wb)

@@ -1,0 +1,206 @@
+//! Batches: requests that are answered one after the other, each ended by a line `end`, as each answer is.
+ghost use Rattle.std.specs.Prelude.{◌≡◌, ◌≢◌, ◌++◌, ℕ, List, IfOk, IfSome, OnOk};
+ghost use Rattle.std.specs.Io.KnownBytes.{Appends, IsAtEnd};
+ghost use Rattle.scl_devices.specs.Counts.{one_more};
+ghost use Rattle.scl_description.specs.Lines.{line, lines_of};
+ghost use Rattle.scl_cl.specs.Batches.{requests_of, told, AreTold, TakesLine};
+ghost use Rattle.scl_cl.specs.BatchesGiven.{said_by, LastOf, IsTold, TakesIn, TakesEnd, BatchEnds};
+
+use crate::outcome::Outcome;
+use crate::service::Service;
+use crate::transfer::{READS, ReadError, read_block};
+use scl_args::{Counted, write_whole};
+use scl_description::cut_at;
+use scl_text::Mem;
+use std::alloc::{AllocError, Global};
+use std::io::{Read, Write};
+use std::mem;
+
+/// Why a batch stops before its end.
+#[derive(Drop)]
+enum Stop {
+    /// Memory was refused.
+    Memory,
+    /// The reader failed.
+    Read,
+    /// The writer failed.
+    Write,
+}
+
+impl From<AllocError> for Stop {
+    ghost use Rattle.std.specs.Prelude.{◌≡◌};
+    ghost use Rattle.scl_cl.specs.declared.batch.Stop.TheVariants.{Memory};
+
+    ghost from_gives = { λ _ e. e ≡ Memory };
+
+    fn from(_: AllocError) -> Stop {
+        Stop::Memory
+    }
+}
+
+impl From<ReadError> for Stop {
+    ghost use Rattle.scl_cl.specs.BatchesGiven.{StopsBy};
+
+    ghost from_gives = { StopsBy };
+
+    fn from(error: ReadError) -> Stop {
+        match error {
+            ReadError::Memory => Stop::Memory,
+            ReadError::Device => Stop::Read,
+        }
+    }
+}
+
+/// Takes what is left as the last line, if there is anything.
+fn last_line(alloc: Global, pending: &mut Vec<u8>) -> Option<Vec<u8>>
+    ensures { LastOf pending.old.items pending.new.items result }
+{
+    if pending.is_empty() {
+        return None;
+    }
+    Some(mem::replace(pending, Vec::new(alloc)))
+}
+
+/// Takes the next line, less its LF, which the last may lack; none where no byte is left.
+fn take_line<R: Read>(
+    alloc: Global,
+    reader: &mut Counted<R>,
+    pending: &mut Vec<u8>,
+) -> Result<Option<Vec<u8>>, ReadError>
+    ensures { TakesLine (R.remaining reader.old.device) (R.remaining reader.new.device) pending.old.items pending.new.items reader.old.failed reader.new.failed result }
+{
+    for _turn in 0..READS {
+        if let Some((line, rest)) = cut_at(b'\n', pending) {
+            let line = Vec::from_slice(alloc, line)?;
+            *pending = Vec::from_slice(alloc, rest)?;
+            return Ok(Some(line));
+        }
+        if !read_block(alloc, reader, pending)? {
+            return Ok(last_line(alloc, pending));
+        }
+    }
+    Err(ReadError::Device)
+}
+
+/// What is told of a request.
+fn told_text(alloc: Global, said: Result<Vec<u8>, u64>) -> Mem<Vec<u8>>
+    ensures { IfOk result (λ text. text.items ≡ told (said_by said)) }
+{
+    match said {
+        Ok(mut text) => {
+            text.extend_from_slice(b"end\n")?;
+            Ok(text)
+        }
+        Err(number) => Ok(format!(in alloc; "bad-line {number}\nend\n")?.into_bytes()),
+    }
+}
+
+/// Answers one request of a batch.
+fn answer_one<S: Service, W: Write>(
+    alloc: Global,
+    service: &S,
+    request: Vec<u8>,
+    writer: &mut Counted<W>,
+) -> Result<(), Stop>
+    ensures { IsTold (S.answers service.now request.items) (W.contents writer.old.device) (W.contents writer.new.device) writer.old.failed writer.new.failed result }
+{
+    let said = service.answer(alloc, request)?;
+    let text = told_text(alloc, said)?;
+    match write_whole(writer, &text) {
+        Ok(()) => Ok(()),
+        Err(_) => Err(Stop::Write),
+    }
+}
+
+/// Appends a line.
+fn push_line(bytes: &mut Vec<u8>, text: &[u8]) -> Mem<()>
+    ensures { OnOk result (bytes.new.items ≡ bytes.old.items ++ line text.now) }
+{
+    bytes.extend_from_slice(text)?;
+    bytes.push(b'\n')?;
+    Ok(())
+}
+
+/// Takes a line of a batch: a request's, or the one that ends it, and then the request is answered.
+fn take_in<S: Service, W: Write>(
+    alloc: Global,
+    service: &S,
+    text: &[u8],
+    request: &mut Vec<u8>,
+    writer: &mut Counted<W>,
+) -> Result<(), Stop>
+    ensures { TakesIn (S.answers service.now) text.now request.old.items request.new.items (W.contents writer.old.device) (W.contents writer.new.device) writer.old.failed writer.new.failed result }
+{
+    if text == b"end".as_slice() {
+        return answer_one(
+            alloc,
+            service,
+            mem::replace(request, Vec::new(alloc)),
+            writer,
+        );
+    }
+    push_line(request, text)?;
+    Ok(())
+}
+
+/// Answers the last request of a batch, if no line `end` stood behind it.
+fn take_end<S: Service, W: Write>(
+    alloc: Global,
+    service: &S,
+    request: Vec<u8>,
+    writer: &mut Counted<W>,
+) -> Result<(), Stop>
+    ensures { TakesEnd (S.answers service.now) request.items (W.contents writer.old.device) (W.contents writer.new.device) writer.old.failed writer.new.failed result }
+{
+    if request.is_empty() {
+        return Ok(());
+    }
+    answer_one(alloc, service, request, writer)
+}
+
+/// Answers the requests of a batch.
+fn serve_requests<S: Service, R: Read, W: Write>(
+    alloc: Global,
+    service: &S,
+    reader: &mut Counted<R>,
+    writer: &mut Counted<W>,
+) -> Result<(), Stop>
+    ensures { BatchEnds (S.answers service.now) (R.remaining reader.old.device) (R.remaining reader.new.device) (W.contents writer.old.device) (W.contents writer.new.device)
+        reader.old.failed reader.new.failed writer.old.failed writer.new.failed result }
+{
+    let mut pending = Vec::new(alloc);
+    let mut request = Vec::new(alloc);
+    for _line in 0..u64::MAX {
+        match take_line(alloc, reader, &mut pending)? {
+            Some(text) => take_in(alloc, service, &text, &mut request, writer)?,
+            None => return take_end(alloc, service, request, writer),
+        }
+    }
+    Err(Stop::Read)
+}
+
+/// Reads requests, each ended by a line `end`, which the last may lack, and answers each as soon as its end was read: by the
+/// service's text, or by a line `bad-line N`, and by a line `end` behind either (docs/RULES.md, Batches). It never ends with
+/// `BadLine`. Where it does not end with `Answered`, the requests that were read before are answered.
+pub fn serve_each<S: Service, R: Read, W: Write>(
+    alloc: Global,
+    service: &S,
+    reader: &mut Counted<R>,
+    writer: &mut Counted<W>,
+) -> Outcome
+    // What is written are the answers to the requests, in order.
+    ensures answered { result ≡ Outcome.Answered → IfSome (R.remaining reader.old.device) (λ bytes.
+        (written : List ℕ) × AreTold (S.answers service.now) (requests_of (lines_of bytes)) written × Appends (W.contents writer.old.device) (W.contents writer.new.device) written) }
+    ensures at_end { result ≡ Outcome.Answered → IsAtEnd (R.remaining reader.new.device) }
+    ensures goes_on { (n : ℕ) → result ≢ Outcome.BadLine n }
+    ensures reader_told { result ≢ Outcome.ReadFailed → reader.new.failed ≡ reader.old.failed }
+    ensures writer_failed { result ≡ Outcome.WriteFailed → writer.new.failed ≡ one_more writer.old.failed }
+    ensures writer_told { result ≢ Outcome.WriteFailed → writer.new.failed ≡ writer.old.failed }
+{
+    match serve_requests(alloc, service, reader, writer) {
+        Ok(()) => Outcome::Answered,
+        Err(Stop::Memory) => Outcome::OutOfMemory,
+        Err(Stop::Read) => Outcome::ReadFailed,
+        Err(Stop::Write) => Outcome::WriteFailed,
+    }
+}

@@ -1,0 +1,6 @@
+pub mod CutLaws
+pub mod FieldLaws
+pub mod WrittenFieldLaws
+pub mod TextLaws
+pub mod RowLaws
+pub mod RecordLaws

@@ -1,0 +1,14 @@
+//! Descriptions: rows of escaped fields, and the record of a command line as such rows. It has the lines and fields of
+//! requests and answers too.
+#![tactic(auto)]
+
+mod cut;
+mod field;
+pub mod laws;
+mod record;
+mod row;
+
+pub use cut::{cut_at, next_line};
+pub use field::{push_field, read_field, read_two_fields};
+pub use record::push_record;
+pub use row::{push_maybe, push_row, push_row_of, push_word, push_words, push_yes};
