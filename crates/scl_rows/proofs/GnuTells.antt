@@ -1,18 +1,18 @@
 -- What the rows of a command line of Gcc or Clang tell of its outcome.
-use Rattle.std.proofs.Common.{◌≡◌, ℕ, Bool, true, false, cond, List, [], ◌∷◌, ◌++◌, length, map, Option, None, Some, Result, Ok, Err, refl, sym, ap, subst, ◌∙◌, append_assoc}
+use Rattle.std.proofs.Common.{◌≡◌, ℕ, Bool, true, false, cond, List, [], ◌∷◌, ◌++◌, length, map, Option, None, Some, Result, Ok, Err, refl, sym, ap, subst, ◌∙◌}
 use Rattle.std.proofs.lemmas.List.{append-nil}
 use Rattle.std.specs.List.{flat_map}
 use Rattle.std.specs.Option.{option_or}
-use Rattle.std.specs.Prelude.{IfOk, codes, is_some}
+use Rattle.std.specs.Prelude.{IfOk, is_some}
 use Rattle.std.specs.Str.{bytes_eq}
 use Rattle.scl_again.proofs.OutcomeLaws.{option_or-none}
-use Rattle.scl_args.specs.Options.{judged, last_flag, last_text, list, side_of_flag, texts, unless, ◌>>=◌}
+use Rattle.scl_args.specs.Options.{last_flag, last_text, list, side_of_flag, texts, unless, ◌>>=◌}
 use Rattle.scl_files.specs.Expand.{expand}
 use Rattle.scl_files.specs.Views.{Viewed}
 use Rattle.scl_files.specs.declared.expand.ExpansionKind.TheVariants as expansions
 use Rattle.scl_gnu_reading.specs.ClangRows.{clang_tables}
 use Rattle.scl_gnu_reading.specs.FixedTests.{Found, found}
-use Rattle.scl_gnu_reading.specs.Inners.{goes_inside_to, inner_place_of, inner_reading, inner_verdict, inner_words_at}
+use Rattle.scl_gnu_reading.specs.Inners.{goes_inside_to, inner_place_of, inner_verdict, inner_words_at}
 use Rattle.scl_gnu_reading.specs.Kinds.{any, of}
 use Rattle.scl_gnu_reading.specs.Places.{goes_to, place_of, words_at}
 use Rattle.scl_gnu_reading.specs.Readings.{read, reading, recorded}
@@ -23,14 +23,14 @@ use Rattle.scl_gnu_reading.specs.declared.gcc.data.Kind.{Kind}
 use Rattle.scl_gnu_reading.specs.declared.gcc.data.Kind.TheVariants as kind
 use Rattle.scl_gnu_reading.specs.declared.gcc.place.Place.{Place}
 use Rattle.scl_gnu_reading.specs.declared.gcc.place.Place.TheVariants as places
-use Rattle.scl_text.specs.JudgedWords.{judged_words, options_of}
+use Rattle.scl_text.specs.JudgedWords.{options_of}
 use Rattle.scl_text.specs.Records.{Parsed, Verdict}
 use Rattle.scl_text.specs.declared.records.CCompilerKind.{CCompilerKind}
 use Rattle.scl_values.specs.Cuts.{cut, mark}
 use Rattle.scl_values.specs.Row.{Row}
 use Rattle.scl_values.specs.Seen.{Seen, Raw, Unknown, Known, shown}
 use Rattle.scl_values.specs.Tables.{owner_in}
-use Rattle.scl_rows.specs.GnuRows.{destination_at, gnu_rows, inner_goes, inner_ways, option_rows, outer_goes, outer_ways, raw_goes, rows_added, rows_depfile, rows_split, rows_target, rows_tested, rows_unless, unlisted, unlisted_kind}
+use Rattle.scl_rows.specs.GnuRows.{destination_at, gnu_rows, inner_goes, inner_ways, option_rows, outer_goes, outer_ways, raw_goes, rows_added, rows_split, rows_target, rows_tested, rows_unless, unlisted, unlisted_kind}
 use Rattle.scl_rows.specs.Lines.{rows_expanded}
 use Rattle.scl_rows.specs.Rows.{Told, Tells, HasLists, first_refusal, handed, is_list, words_to}
 use Rattle.scl_rows.specs.Sources.{ats_cut, ats_expanded, ats_passing, indices}

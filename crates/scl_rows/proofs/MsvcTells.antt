@@ -1,8 +1,8 @@
 -- What the rows of a command line of cl or clang-cl tell of its outcome.
-use Rattle.std.proofs.Common.{◌≡◌, ℕ, Bool, true, false, cond, List, [], ◌∷◌, ◌++◌, length, map, Option, None, Some, Result, Ok, Err, refl, sym, ap, subst, ◌∙◌, append_assoc}
+use Rattle.std.proofs.Common.{◌≡◌, ℕ, Bool, true, false, List, [], ◌∷◌, ◌++◌, length, map, Option, None, Result, Ok, Err, refl, sym, ap, subst, ◌∙◌}
 use Rattle.std.specs.List.{flat_map}
 use Rattle.std.specs.Option.{option_or}
-use Rattle.std.specs.Prelude.{IfOk, codes}
+use Rattle.std.specs.Prelude.{IfOk}
 use Rattle.scl_again.proofs.OutcomeLaws.{option_or-none}
 use Rattle.scl_args.specs.Options.{list, side_of_flag, texts, unless, ◌>>=◌}
 use Rattle.scl_files.specs.Expand.{expand}
@@ -10,10 +10,10 @@ use Rattle.scl_files.specs.Views.{Viewed}
 use Rattle.scl_files.specs.declared.expand.ExpansionKind.TheVariants as expansions
 use Rattle.scl_gnu_reading.specs.ClangRows.{clang_tables}
 use Rattle.scl_gnu_reading.specs.declared.gcc.data.Kind as gnu
-use Rattle.scl_msvc.specs.Environment.{surrounded, surrounded_reading, surroundings}
+use Rattle.scl_msvc.specs.Environment.{surrounded_reading, surroundings}
 use Rattle.scl_msvc.proofs.EnvironmentLemmas.{surrounded_by_both, surrounded_stops}
 use Rattle.scl_msvc_reading.specs.FixedTests.{Found, found}
-use Rattle.scl_msvc_reading.specs.Inners.{BothInner, goes_inside_to, inner_list, inner_place_of, inner_verdict, inner_words_at}
+use Rattle.scl_msvc_reading.specs.Inners.{BothInner, goes_inside_to, inner_list, inner_place_of, inner_verdict}
 use Rattle.scl_msvc_reading.specs.Kinds.{of}
 use Rattle.scl_msvc_reading.specs.Places as outer
 use Rattle.scl_msvc_reading.specs.Places.{goes_to, place_of, words_at}

@@ -1,5 +1,5 @@
 -- What the rows of a command line of Diab or TaskingVX tell of its outcome.
-use Rattle.std.proofs.Common.{◌≡◌, ℕ, Bool, true, false, List, [], map, Option, None, Result, Ok, Err, refl, ap, ◌∙◌}
+use Rattle.std.proofs.Common.{◌≡◌, ℕ, true, false, List, [], map, Option, None, Result, Ok, Err, refl, ap, ◌∙◌}
 use Rattle.std.specs.Prelude.{IfOk, ok_or}
 use Rattle.scl_args.specs.Options.{last_flag, side_of_flag, list, texts, unless, ◌>>=◌}
 use Rattle.scl_small.specs.Places.{goes_to, place_of}
@@ -20,7 +20,7 @@ use Rattle.scl_rows.specs.SmallRows.{destination_at, small_rows, ways}
 use Rattle.scl_rows.specs.contracts.destination.DestinationPartialEq.TheImpl.{ghosts}
 use Rattle.scl_rows.specs.declared.destination.Destination.{Destination}
 use Rattle.scl_rows.specs.declared.destination.Destination.TheVariants as destinations
-use Rattle.scl_rows.proofs.LineLaws.{given-words, judged-told, list-same, listed, none-listed, words-told}
+use Rattle.scl_rows.proofs.LineLaws.{given-words, judged-told, list-same, none-listed, words-told}
 use Rattle.scl_rows.proofs.TellLaws.{tells, unless-bind}
 
 same-place : (place a : Place) → is_list (destination_at place) ≡ true → ghosts.eq (destination_at a) (destination_at place) ≡ place_equality.ghosts.eq a place
