@@ -1,0 +1,2 @@
+pub mod DriverRows
+pub mod OwnFlags

@@ -1,0 +1,126 @@
+-- Texts that are put in place, and files that are open.
+use Rattle.std.proofs.Common.{◌≡◌, ℕ, zero, suc, ◌<◌, ◌≤◌, ◌||◌, ◌&&◌, Bool, true, false, cond, List, [], ◌∷◌, ◌++◌, length, nat_eq, Option, None, Some, Vec, refl, sym, ap, ◌∙◌, append_assoc, arith, ◌+◌, get_or, drop, add-one}
+use Rattle.std.proofs.lemmas.List.{append-nil, map-append}
+use Rattle.std.proofs.lemmas.Grind.{common_steps}
+use Rattle.std.proofs.Math.Seq.{drop-cons}
+use Rattle.std.specs.declared.alloc.Global.{Global}
+use lib.Pointwise.{pointwise}
+use Rattle.std.specs.List.{flat_map}
+use Rattle.std.specs.Option.{option_to_list}
+use Rattle.scl_values.specs.Words.{words_of}
+use Rattle.scl_files.specs.Views.{File, bytes_at}
+use Rattle.scl_files.specs.ResponseFiles.{hides, files_inside}
+use Rattle.scl_files.specs.Expand.{OpenFile, opened}
+use Rattle.scl_files.specs.declared.expand.ExpansionKind.{ExpansionKind}
+use Rattle.scl_files.proofs.FilesLemmas.{bytes_at-inside}
+use Rattle.scl_files.proofs.OpenLemmas.{opened-none, opened-less}
+use Rattle.scl_files.proofs.ExpandLemmas.{no_files}
+use Rattle.scl_driver_texts.specs.InPlace.{with_text, texts_within, texts_in_place, texts_of}
+use Rattle.scl_driver_texts.specs.Openings.{is_shut, closed_by, opens}
+use Rattle.scl_driver_texts.specs.declared.in_place.Opening.{Opening}
+
+hide_both : {X : Type 0} (a b : Bool) (x : Option X) → cond a None (cond b None x) ≡ cond (b || a) None x
+hide_both true true x = refl
+hide_both true false x = refl
+hide_both false true x = refl
+hide_both false false x = refl
+
+pub bytes_at-closed_by : (kind : ExpansionKind) (path : List ℕ) (files : List File) (paths : List (List ℕ)) → bytes_at path (closed_by kind files paths) ≡ cond (is_shut kind path paths) None (bytes_at path files)
+bytes_at-closed_by kind path files [] = refl
+bytes_at-closed_by kind path files (other ∷ paths) =
+    bytes_at-closed_by kind path (files_inside kind other files) paths ∙ rw (bytes_at-inside kind path other files)
+    (hide_both (is_shut kind path paths) (hides kind other path) (bytes_at path files))
+
+pub ruleset closed_rules = (bytes_at-closed_by)
+
+pub closed_by-push : (kind : ExpansionKind) (files : List File) (paths : List (List ℕ)) (path : List ℕ) → closed_by kind files (paths ++ path ∷ []) ≡ files_inside kind path (closed_by kind files paths)
+closed_by-push kind files [] path = refl
+closed_by-push kind files (other ∷ paths) path = closed_by-push kind (files_inside kind other files) paths path
+
+-- ---- the texts of words, one by one
+
+gathered-same : (f g : List ℕ → List (List ℕ)) (words : List (List ℕ)) → ((word : List ℕ) → f word ≡ g word) → flat_map f words ≡ flat_map g words
+gathered-same f g [] h = refl
+gathered-same f g (w ∷ ws) h = rw (h w, gathered-same f g ws h) refl
+
+gathered-none : (f : List ℕ → List (List ℕ)) (words : List (List ℕ)) → ((word : List ℕ) → f word ≡ []) → flat_map f words ≡ []
+gathered-none f [] h = refl
+gathered-none f (w ∷ ws) h = rw (h w, gathered-none f ws h) refl
+
+with_text-same : (files : List File) (f g : OpenFile → List (List ℕ)) (o : Option OpenFile) → ((file : OpenFile) → o ≡ Some file → f file ≡ g file) → with_text files f o ≡ with_text files g o
+with_text-same files f g None h = refl
+with_text-same files f g (Some file) h = ap (λ (ts : List (List ℕ)). option_to_list (bytes_at file.path files) ++ ts) (h file refl)
+
+texts-no_files : (n : ℕ) (kind : ExpansionKind) (directory : List ℕ) (words : List (List ℕ)) → texts_within n kind directory [] words ≡ []
+texts-no_files zero kind directory words = refl
+texts-no_files (suc n) kind directory words = gathered-none _ words (λ word. rw (opened-none kind directory word) refl)
+
+texts-stable : (n m : ℕ) (kind : ExpansionKind) (directory : List ℕ) (files : List File) (words : List (List ℕ)) → length files ≤ n → length files ≤ m → texts_within n kind directory files words ≡ texts_within m kind directory files words
+texts-stable zero m kind directory files words h k = rw (no_files files h) (sym (texts-no_files m kind directory words))
+texts-stable (suc n) zero kind directory files words h k = rw (no_files files k) (texts-no_files (suc n) kind directory words)
+texts-stable (suc n) (suc m) kind directory files words h k =
+    gathered-same _ _ words (λ word. with_text-same files _ _ (opened kind directory files word)
+    (λ file e. let less = opened-less kind directory files word file e in texts-stable n m kind directory (files_inside kind file.path files) file.words (omega (arith, less)) (omega (arith, less))))
+
+pub texts-nil : (kind : ExpansionKind) (directory : List ℕ) (files : List File) → texts_in_place kind directory files [] ≡ []
+unfolding texts_in_place
+texts-nil kind directory [] = refl
+texts-nil kind directory (f ∷ fs) = refl
+
+pub texts-cons : (kind : ExpansionKind) (directory : List ℕ) (files : List File) (word : List ℕ) (words : List (List ℕ))
+    → texts_in_place kind directory files (word ∷ words) ≡ texts_of kind directory files word ++ texts_in_place kind directory files words
+unfolding texts_in_place
+texts-cons kind directory files word words =
+    elim files as (λ fs. texts_within (length fs) kind directory fs (word ∷ words) ≡ with_text fs (λ file. texts_within (length (files_inside kind file.path fs)) kind directory (files_inside kind file.path fs) file.words) (opened kind directory fs word) ++ texts_within (length fs) kind directory fs words) [
+      | [] ↦ rw (opened-none kind directory word) refl
+      | f ∷ fs ↦ ap (λ (ts : List (List ℕ)). ts ++ texts_within (length (f ∷ fs)) kind directory (f ∷ fs) words)
+          (with_text-same (f ∷ fs) _ _ (opened kind directory (f ∷ fs) word)
+          (λ file e. let less = opened-less kind directory (f ∷ fs) word file e in texts-stable (length fs) _ kind directory (files_inside kind file.path (f ∷ fs)) file.words (omega (arith, less)) (omega arith)))
+    ]
+
+-- ---- words that are compared
+
+pub pointwise-words : (xs ys : List (Vec ℕ Global)) → pointwise (λ x y. pointwise nat_eq x.items y.items) xs ys ≡ pointwise (pointwise nat_eq) (words_of xs) (words_of ys)
+pointwise-words [] [] = refl
+pointwise-words [] (y ∷ ys) = refl
+pointwise-words (x ∷ xs) [] = refl
+pointwise-words (x ∷ xs) (y ∷ ys) = ap (λ b. pointwise nat_eq x.items y.items && b) (pointwise-words xs ys)
+
+pub ruleset word_rules = (pointwise-words)
+
+-- ---- a file that a word opens
+
+module _ (kind : ExpansionKind) (directory : List ℕ) (files : List File) (paths paths' found found' : List (Vec ℕ Global)) (word : List ℕ) (file : Opening) where
+  -- it was opened, and stands behind the open ones
+  pub record IsOpened : Type 0 where
+    pub opening : opened kind directory (closed_by kind files (words_of paths)) word ≡ Some (opens file)
+    pub bytes : bytes_at file.path.items (closed_by kind files (words_of paths)) ≡ Some file.bytes.items
+    pub pushed : paths' ≡ paths ++ file.path ∷ []
+    pub added : found' ≡ found ++ file.bytes ∷ []
+
+  closed_more : IsOpened → closed_by kind files (words_of paths') ≡ files_inside kind file.path.items (closed_by kind files (words_of paths))
+  closed_more o = rw (o.pushed, map-append) (closed_by-push kind files (words_of paths) file.path.items)
+
+  pub fewer : IsOpened → length (closed_by kind files (words_of paths')) < length (closed_by kind files (words_of paths))
+  fewer o = rw (closed_more o) (opened-less kind directory (closed_by kind files (words_of paths)) word (opens file) o.opening)
+
+  pub texts_inside : (all : List (List ℕ)) → IsOpened → all ≡ words_of found' ++ texts_in_place kind directory (closed_by kind files (words_of paths')) (words_of file.words.items)
+      → all ≡ words_of found ++ texts_of kind directory (closed_by kind files (words_of paths)) word
+  texts_inside all o e = e ∙ rw (closed_more o, o.added, map-append, o.opening, o.bytes, append_assoc) refl
+
+-- ---- a loop over words
+
+pub texts_more : (kind : ExpansionKind) (directory : List ℕ) (files : List File) (words : List (Vec ℕ Global)) (i : ℕ) (word : Vec ℕ Global) (before after total : List (List ℕ)) → i < length words → word ≡ get_or words i word
+    → before ++ texts_in_place kind directory files (words_of (drop i words)) ≡ total → after ≡ before ++ texts_of kind directory files word.items
+    → after ++ texts_in_place kind directory files (words_of (drop (i + 1) words)) ≡ total
+texts_more kind directory files words i word before after total h here e f =
+    let split : drop i words ≡ word ∷ drop (suc i) words = drop-cons words i word h ∙ ap (λ (w : Vec ℕ Global). w ∷ drop (suc i) words) (sym here) in
+    let cons : texts_in_place kind directory files (words_of (drop i words)) ≡ texts_of kind directory files word.items ++ texts_in_place kind directory files (words_of (drop (suc i) words)) =
+    rw split (texts-cons kind directory files word.items (words_of (drop (suc i) words))) in
+    rw (f, add-one, append_assoc, ← cons) e
+
+pub texts_over : (kind : ExpansionKind) (directory : List ℕ) (files : List File) (words : List (Vec ℕ Global)) (i : ℕ) (all total : List (List ℕ)) → length words ≤ i
+    → all ++ texts_in_place kind directory files (words_of (drop i words)) ≡ total → all ≡ total
+texts_over kind directory files words i all total h e =
+    let none : drop i words ≡ [] = grind (arith, common_steps) in
+    rw (none, texts-nil, append-nil) at e

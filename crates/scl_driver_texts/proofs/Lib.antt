@@ -1,0 +1,2 @@
+pub mod InPlaceLemmas
+pub mod WordLemmas

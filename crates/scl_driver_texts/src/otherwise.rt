@@ -1,0 +1,65 @@
+//! Texts that a driver splits otherwise than the rules.
+ghost use Rattle.std.specs.Prelude.{◌≡◌, IfOk};
+ghost use Rattle.scl_values.specs.Words.{words_of};
+ghost use Rattle.scl_driver_texts.specs.Splitters.{are_same, is_otherwise};
+ghost use Rattle.scl_driver_texts.specs.Otherwise.{is_split_otherwise, splits_otherwise};
+
+use crate::in_place::texts_in_place;
+use crate::rule_words::rule_words;
+use crate::splitter::{Splitter, split};
+use scl_files::{ExpansionKind, Mem, View};
+use std::alloc::Global;
+
+fn are_same(words: &[Vec<u8>], others: &[Vec<u8>]) -> bool
+    ensures { result ≡ are_same (words_of words.now) (words_of others.now) }
+{
+    words == others
+}
+
+/// Whether the driver does not split the file's bytes into these words.
+fn is_otherwise(alloc: Global, splitter: Splitter, bytes: &[u8], words: &[Vec<u8>]) -> Mem<bool>
+    ensures { IfOk result (λ it_is. it_is ≡ is_otherwise splitter bytes.now (words_of words.now)) }
+{
+    match split(alloc, splitter, bytes)? {
+        Some(others) => Ok(!are_same(&others, words)),
+        None => Ok(true),
+    }
+}
+
+/// Whether the driver splits the bytes of a response file otherwise than the rules, by which they are a text that can be read.
+/// The error is a refusal of memory.
+#[tactic(auto, unfolding(crate::specs::Otherwise::is_split_otherwise))]
+pub fn is_split_otherwise(
+    alloc: Global,
+    splitter: Splitter,
+    kind: ExpansionKind,
+    bytes: &[u8],
+) -> Mem<bool>
+    ensures { IfOk result (λ it_is. it_is ≡ is_split_otherwise splitter kind bytes.now) }
+{
+    match rule_words(alloc, kind, bytes)? {
+        Some(words) => is_otherwise(alloc, splitter, bytes, &words),
+        None => Ok(false),
+    }
+}
+
+/// Whether the driver splits one of the texts otherwise that the words put in place. The error is a refusal of memory.
+#[tactic(auto, unfolding(crate::specs::Otherwise::splits_otherwise))]
+pub fn splits_otherwise(
+    alloc: Global,
+    splitter: Splitter,
+    kind: ExpansionKind,
+    words: &[Vec<u8>],
+    cwd: &[u8],
+    view: &View,
+) -> Mem<bool>
+    ensures { IfOk result (λ it_does. it_does ≡ splits_otherwise splitter kind cwd.now view.now.files (words_of words.now)) }
+{
+    let texts = texts_in_place(alloc, kind, words, cwd, view)?;
+    for text in &texts {
+        if is_split_otherwise(alloc, splitter, kind, text)? {
+            return Ok(true);
+        }
+    }
+    Ok(false)
+}

@@ -1,0 +1,66 @@
+//! Words that are made piece by piece.
+ghost use Rattle.std.specs.Prelude.{◌≡◌, List, [], ◌∷◌, None, OnOk, IfOk};
+ghost use Rattle.scl_values.specs.Words.{words_of};
+ghost use Rattle.scl_driver_texts.specs.Pieces.{Piece, gap, stands, lost, joined};
+ghost use Rattle.scl_driver_texts.specs.Readers.{made};
+
+use scl_values::Mem;
+use std::alloc::Global;
+
+/// The words that are whole, and the one that has begun.
+#[derive(Drop)]
+pub(crate) struct Words {
+    alloc: Global,
+    whole: Vec<Vec<u8>>,
+    begun: Option<Vec<u8>>,
+}
+
+impl Words {
+    pub(crate) fn new(alloc: Global) -> Words
+        ensures { (ps : List Piece) → made result ps ≡ joined None ps }
+    {
+        Words {
+            alloc,
+            whole: Vec::new(alloc),
+            begun: None,
+        }
+    }
+
+    /// More bytes of a word.
+    pub(crate) fn stand(&mut self, bytes: &[u8]) -> Mem<()>
+        ensures { OnOk result ((ps : List Piece) → made self.new ps ≡ made self.old (stands bytes.now ∷ ps)) }
+    {
+        match &mut self.begun {
+            Some(word) => word.extend_from_slice(bytes)?,
+            None => self.begun = Some(Vec::from_slice(self.alloc, bytes)?),
+        }
+        Ok(())
+    }
+
+    /// A gap.
+    pub(crate) fn end(&mut self) -> Mem<()>
+        ensures made { OnOk result ((ps : List Piece) → made self.new ps ≡ made self.old (gap ∷ ps)) }
+        ensures none { OnOk result (self.new.begun ≡ None) }
+    {
+        if let Some(word) = self.begun.take() {
+            self.whole.push(word)?;
+        }
+        Ok(())
+    }
+
+    /// The word that has begun is lost.
+    pub(crate) fn lose(&mut self)
+        ensures { made self.new [] ≡ made self.old (lost ∷ []) }
+    {
+        self.begun = None;
+    }
+
+    /// All words.
+    pub(crate) fn finish(self) -> Mem<Vec<Vec<u8>>>
+        ensures { IfOk result (λ words. words_of words.items ≡ made self []) }
+    {
+        let mut words = self;
+        words.end()?;
+        Ok(words.whole)
+    }
+}
