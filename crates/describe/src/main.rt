@@ -21,7 +21,7 @@ statuses: 0 answered, 2 a bad line (its number is on standard error), 3 out of m
 
 /// What the program is asked to do.
 #[derive(Clone, Copy, PartialEq, Eq)]
-enum Asked {
+enum Call {
     One,
     Batch,
     Help,
@@ -29,18 +29,18 @@ enum Asked {
 }
 
 /// What the words behind the program's name ask; none where they ask nothing that it does.
-fn asked(rt: &HostRuntime) -> io::Result<Option<Asked>> {
+fn call_of(rt: &HostRuntime) -> io::Result<Option<Call>> {
     let mut words = env::args(rt)?.skip(1);
-    let asked = match words.next() {
-        None => Some(Asked::One),
+    let call = match words.next() {
+        None => Some(Call::One),
         Some(word) => match word.as_str() {
-            "--batch" => Some(Asked::Batch),
-            "--help" => Some(Asked::Help),
-            "--version" => Some(Asked::Version),
+            "--batch" => Some(Call::Batch),
+            "--help" => Some(Call::Help),
+            "--version" => Some(Call::Version),
             _ => None,
         },
     };
-    Ok(if words.next().is_none() { asked } else { None })
+    Ok(if words.next().is_none() { call } else { None })
 }
 
 /// Describes what standard input asks, and gives the status.
@@ -63,14 +63,14 @@ fn describe_input(rt: &HostRuntime, is_batch: bool) -> u8 {
 }
 
 fn main(rt: HostRuntime) -> io::Result<ExitCode> {
-    Ok(ExitCode::from(match asked(&rt)? {
-        Some(Asked::One) => describe_input(&rt, false),
-        Some(Asked::Batch) => describe_input(&rt, true),
-        Some(Asked::Help) => {
+    Ok(ExitCode::from(match call_of(&rt)? {
+        Some(Call::One) => describe_input(&rt, false),
+        Some(Call::Batch) => describe_input(&rt, true),
+        Some(Call::Help) => {
             print!(&rt; "{HELP}")?;
             0
         }
-        Some(Asked::Version) => {
+        Some(Call::Version) => {
             println!(&rt; "describe 1")?;
             0
         }

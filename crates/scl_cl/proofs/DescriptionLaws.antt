@@ -1,5 +1,5 @@
 -- Descriptions: what the code gives is what is defined, and a record is read back from its description.
-use Rattle.std.proofs.Common.{◌≡◌, ℕ, true, cond, List, [], ◌∷◌, ◌++◌, map, codes, Option, Some, None, Result, Ok, Err, string_bytes, refl, ap, sym, subst, ◌∙◌, append-nil, append_assoc}
+use Rattle.std.proofs.Common.{◌≡◌, ℕ, true, cond, List, [], ◌∷◌, ◌++◌, map, codes, Option, None, string_bytes, refl, ap, sym, subst, ◌∙◌, append-nil, append_assoc}
 use Rattle.std.specs.List.{flat_map}
 use Rattle.std.specs.Option.{option_map}
 use Rattle.std.proofs.lemmas.Grind.{flat_map-append}
@@ -17,7 +17,7 @@ use Rattle.scl_description.specs.Records.{record_entries, record_in}
 use Rattle.scl_description.proofs.RecordLaws.{description-back-among}
 use Rattle.scl_cl.specs.declared.kept.Compilation.{Compilation}
 use Rattle.scl_cl.specs.Requests.{Request}
-use Rattle.scl_cl.specs.Answers.{compiled, cannot_cache, not_compilation, arg_line, text_of, answer_to, reading_by, environment_by}
+use Rattle.scl_cl.specs.Answers.{compiled, arg_line, text_of, answer_to, reading_by, environment_by}
 use Rattle.scl_cl.specs.AnswersGiven.{answer_of, HasParts}
 use Rattle.scl_cl.specs.Questions.{Questions, questions_of}
 use Rattle.scl_cl.specs.Settings.{Settings}

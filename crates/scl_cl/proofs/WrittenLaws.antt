@@ -1,5 +1,5 @@
 -- What is written is read back.
-use Rattle.std.proofs.Common.{◌≡◌, ℕ, ◌+◌, ◌*◌, ◌/◌, ◌%◌, ◌<◌, ◌≤◌, Bool, true, false, cond, List, [], ◌∷◌, ◌++◌, Some, None, refl, ap, sym, ◌∙◌, arith, nat_eq, append_assoc, map, lit≤, lit<, codes}
+use Rattle.std.proofs.Common.{◌≡◌, ℕ, List, [], ◌∷◌, ◌++◌, Some, None, refl, ap, sym, ◌∙◌, arith, append_assoc, map, codes}
 use Rattle.std.specs.List.{flat_map, filter_map, cons_option}
 use Rattle.scl_values.specs.Escaped.{escaped}
 use Rattle.scl_description.specs.Fields.{AreBytes, AreAllBytes}

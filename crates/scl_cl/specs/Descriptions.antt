@@ -1,5 +1,5 @@
 -- The description of the answer to a request: the answer's lines, and behind them rows of what was read.
-use Rattle.std.specs.Prelude.{◌≡◌, ℕ, Bool, true, false, List, [], ◌∷◌, ◌++◌, map, codes, Option, Some, None, Result, Ok, Err, if◌then◌else◌}
+use Rattle.std.specs.Prelude.{◌≡◌, ℕ, true, List, [], ◌∷◌, ◌++◌, map, codes, Option, Result, Ok, Err, if◌then◌else◌}
 use Rattle.scl_values.specs.Each.{Each}
 use Rattle.scl_text.specs.declared.records.Cacheable.{Cacheable}
 use Rattle.scl_text.specs.declared.records.Cacheable.TheVariants as cacheable
@@ -7,7 +7,6 @@ use Rattle.scl_text.specs.Records.{Parsed, Verdict}
 use Rattle.scl_description.specs.Lines.{lines_of}
 use Rattle.scl_description.specs.Rows.{Entry, entry, row_entry, words_entry, maybe_entry, lone_entry, lone, IsRow, rows_of, entries_text}
 use Rattle.scl_description.specs.Records.{record_entries, record_in}
-use Rattle.scl_cl.specs.declared.compiler.Compiler.{Compiler}
 use Rattle.scl_cl.specs.Requests.{Request, request_in}
 use Rattle.scl_cl.specs.Answers.{Answer, compiled, cannot_cache, not_compilation, answer_to, text_of, reading_by, runs_by, environment_by}
 use Rattle.scl_cl.specs.Questions.{Questions, questions_of}

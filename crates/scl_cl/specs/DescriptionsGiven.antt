@@ -1,7 +1,6 @@
 -- What of an answer that the code gives is described.
-use Rattle.std.specs.Prelude.{ℕ, List, [], map, string_bytes}
+use Rattle.std.specs.Prelude.{ℕ, List, [], string_bytes}
 use Rattle.std.specs.Option.{option_map}
-use Rattle.scl_values.specs.Words.{words_of}
 use Rattle.scl_text.specs.Commands.{pairs_of}
 use Rattle.scl_text.specs.Records.{parsed_of, Parsed}
 use Rattle.scl_text.specs.declared.records.CompilerArguments.{CompilerArguments}

@@ -1,24 +1,15 @@
 -- Each flag that a compiler's table refuses has a sentence for people.
-use Rattle.std.specs.Prelude.{◌≡◌, ℕ, Bool, true, false, not, ◌||◌, List, is_some}
+use Rattle.std.specs.Prelude.{◌≡◌, Bool, true, false, not, ◌||◌, List, is_some}
 use Rattle.std.specs.List.{list_all}
 use Rattle.scl_values.specs.Row.{Row}
-use Rattle.scl_values.specs.Tables.{all_rows}
 use Rattle.scl_reasons.specs.Explanations.{text_for}
 use Rattle.scl_reasons.specs.Table.{table}
-use Rattle.scl_gnu_reading.specs.ClangRows.{clang_tables}
 use Rattle.scl_gnu_reading.specs.Places as gnu
 use Rattle.scl_gnu_reading.specs.declared.gcc.data.Kind.{Kind as GnuKind}
 use Rattle.scl_gnu_reading.specs.declared.gcc.place.Place.{Place as GnuPlace}
 use Rattle.scl_gnu_reading.specs.declared.gcc.place.Place.TheVariants as gnu_places
-use Rattle.scl_msvc_reading.specs.Places as msvc
-use Rattle.scl_msvc_reading.specs.Rows.{msvc_tables}
-use Rattle.scl_msvc_reading.specs.declared.msvc.data.Kind.{Kind as MsvcKind}
 use Rattle.scl_msvc_reading.specs.declared.msvc.place.Place.{Place as MsvcPlace}
 use Rattle.scl_msvc_reading.specs.declared.msvc.place.Place.TheVariants as msvc_places
-use Rattle.scl_small.specs.DiabReading as diab
-use Rattle.scl_small.specs.DiabTable as diab_table
-use Rattle.scl_small.specs.TaskingReading as tasking
-use Rattle.scl_small.specs.TaskingTable as tasking_table
 use Rattle.scl_small.specs.declared.place.Place.{Place as SmallPlace}
 use Rattle.scl_small.specs.declared.place.Place.TheVariants as small_places
 

@@ -1,5 +1,5 @@
 -- Requests and answers as they are written.
-use Rattle.std.specs.Prelude.{ℕ, ◌<◌, ◌≤◌, ◌≡◌, Bool, true, false, List, [], ◌∷◌, ◌++◌, map, codes, Some, None, MatchOption, length, take, slice_index_or, ◌+◌}
+use Rattle.std.specs.Prelude.{ℕ, ◌<◌, ◌≡◌, Bool, true, false, List, [], ◌∷◌, ◌++◌, map, codes, Some, None, MatchOption, length, take, slice_index_or, ◌+◌}
 use Rattle.std.specs.List.{flat_map, filter_map}
 use Rattle.scl_text.specs.declared.records.Cacheable.{Cacheable}
 use Rattle.scl_files.specs.Characters.{tab, line_feed}

@@ -1,4 +1,4 @@
-use Rattle.std.proofs.Common.{rules, ◌≡◌, ◌∙◌}
+use Rattle.std.proofs.Common.{◌∙◌}
 use Rattle.scl_cl.proofs.BatchLaws.{batch-ends, served-more}
 use Rattle.scl_cl.proofs.batch.serve_requests.Goals as goal
 

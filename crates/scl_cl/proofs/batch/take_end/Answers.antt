@@ -1,4 +1,4 @@
-use Rattle.std.proofs.Common.{rules, arith, ◌≡◌, [], refl}
+use Rattle.std.proofs.Common.{arith, ◌≡◌, [], refl}
 use Rattle.std.proofs.lemmas.Grind.{common_steps}
 use Rattle.scl_cl.proofs.BatchLaws.{told-ends, ends-none, appends-none}
 use Rattle.scl_cl.proofs.batch.take_end.Goals as goal

@@ -1,4 +1,4 @@
-use Rattle.std.proofs.Common.{rules, ◌≡◌, ℕ, List, [], sym, subst, refl}
+use Rattle.std.proofs.Common.{rules, [], sym, subst, refl}
 use Rattle.scl_cl.specs.BatchesGiven.{Steps}
 use Rattle.scl_cl.proofs.BatchLaws.{told-takes, steps-on, appends-none}
 use Rattle.scl_cl.proofs.batch.take_in.Goals as goal

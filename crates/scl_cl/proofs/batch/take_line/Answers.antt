@@ -1,6 +1,5 @@
 use Rattle.std.proofs.Common.{rules, ◌≡◌, Some, None, false}
 use Rattle.scl_description.specs.Lines.{cut_at}
-use Rattle.scl_cl.specs.Batches.{ReadsMore}
 use Rattle.scl_cl.proofs.BatchLaws.{takes-line, read-none}
 use Rattle.scl_cl.proofs.batch.take_line.Goals as goal
 

@@ -1,8 +1,7 @@
-use Rattle.std.proofs.Common.{rules, ◌≡◌, ◌++◌, ◌∷◌, [], List, ℕ}
+use Rattle.std.proofs.Common.{◌++◌, ◌∷◌, [], List}
 use Rattle.scl_description.specs.Rows.{Entry}
 use Rattle.scl_description.proofs.TextLaws.{one_entry, and_entries}
-use Rattle.scl_cl.specs.Answers.{text_of, runs_by}
-use Rattle.scl_cl.specs.AnswersGiven.{answer_of}
+use Rattle.scl_cl.specs.Answers.{runs_by}
 use Rattle.scl_cl.specs.QuestionsGiven.{given}
 use Rattle.scl_cl.specs.Descriptions.{version_entry, question_entries}
 use Rattle.scl_cl.specs.DescriptionsGiven.{outcome_given}

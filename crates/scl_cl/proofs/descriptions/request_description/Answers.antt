@@ -1,4 +1,4 @@
-use Rattle.std.proofs.Common.{rules, [], refl}
+use Rattle.std.proofs.Common.{rules, []}
 use Rattle.scl_cl.specs.Drafts.{asked_by}
 use Rattle.scl_cl.specs.QuestionsGiven.{given}
 use Rattle.scl_cl.specs.SettingsRead.{settings_by}

@@ -1,4 +1,4 @@
-use Rattle.std.proofs.Common.{rules, ◌≡◌, ◌++◌, ◌∷◌, [], List, ℕ, codes}
+use Rattle.std.proofs.Common.{rules, ◌≡◌, ◌++◌, ◌∷◌, [], codes}
 use Rattle.scl_description.specs.Rows.{Entry, entry_text, lone_entry}
 use Rattle.scl_description.proofs.TextLaws.{one_entry, and_entry}
 use Rattle.scl_cl.specs.Descriptions.{version_entry}
