@@ -1,0 +1,15 @@
+"""python3 hello.py COMPILER WORD..: the command to run in the place of the words, and what it makes. It wants scl.py on
+PYTHONPATH, and libscl.so where the loader finds it (or SCL_LIBRARY)."""
+import os
+import sys
+
+import scl
+
+answer = scl.ask(os.fsencode(sys.argv[1]), [os.fsencode(it) for it in sys.argv[2:]], directory=os.fsencode(os.getcwd()))
+if answer.outcome == scl.COMPILED:
+    for word in answer.command:
+        print("arg", os.fsdecode(word))
+    for name, path, _ in answer.record.outputs:
+        print("makes", os.fsdecode(path), "as", name.decode())
+else:
+    print("cannot-cache " + answer.reason.decode() if answer.outcome == scl.CANNOT_CACHE else "not-compilation")

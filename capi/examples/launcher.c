@@ -1,0 +1,97 @@
+/* launcher PROGRAM WORD..: runs the built command in the place of `PROGRAM WORD..`, where there is one, and else the given
+ * one. What the answer asks of the disk (response files, directories of profiles, a file of debug information) is looked up,
+ * round by round, until nothing that it asks is there. A cache would look up a key of the command and its input before it runs it.
+ * cc launcher.c $(pkg-config --cflags --libs scl); CC="./a.out gcc" make */
+#define _POSIX_C_SOURCE 200809L
+#include <stdio.h>
+#include <sys/stat.h>
+#include <unistd.h>
+#include "scl.h"
+
+extern char **environ;
+
+enum { FOUND = 256 };
+static scl_pair files[FOUND];
+static scl_bytes directories[FOUND], existing[FOUND];
+
+/* A copy, since an answer's texts go with its memory. */
+static scl_bytes kept(scl_bytes text) {
+    char *at = malloc(text.len + 1);
+    if (!at) exit(3);
+    memcpy(at, text.at, text.len);
+    at[text.len] = 0;
+    return scl_bytes_of(at, text.len);
+}
+
+static int read_file(scl_bytes path, scl_pair *file) {
+    FILE *in = fopen((const char *)path.at, "rb");
+    if (!in) return 0;
+    size_t len = 0, room = 1 << 16, got;
+    char *bytes = malloc(room);
+    while (bytes && (got = fread(bytes + len, 1, room - len, in)) > 0)
+        if ((len += got) == room) bytes = realloc(bytes, room *= 2);
+    if (!bytes) exit(3);
+    int is_read = !ferror(in);
+    fclose(in);
+    file->key = kept(path);
+    file->value = scl_bytes_of(bytes, len);
+    return is_read;
+}
+
+/* Adds what is there of what is asked; returns how much that is. */
+static size_t look(const scl_questions *asked, scl_request *request) {
+    size_t before = request->files.len + request->directories.len + request->existing.len;
+    struct stat it;
+    for (size_t i = 0; i < asked->files.len && request->files.len < FOUND; i++)
+        request->files.len += (size_t)read_file(asked->files.at[i], &files[request->files.len]);
+    for (size_t i = 0; i < asked->directories.len && request->directories.len < FOUND; i++)
+        if (!stat((const char *)asked->directories.at[i].at, &it) && S_ISDIR(it.st_mode)) directories[request->directories.len++] = kept(asked->directories.at[i]);
+    for (size_t i = 0; i < asked->existing.len && request->existing.len < FOUND; i++)
+        if (!stat((const char *)asked->existing.at[i].at, &it)) existing[request->existing.len++] = kept(asked->existing.at[i]);
+    return request->files.len + request->directories.len + request->existing.len - before;
+}
+
+static scl_pair *variables(size_t *len) {
+    for (*len = 0; environ[*len]; ++*len) {}
+    scl_pair *pairs = calloc(*len + 1, sizeof *pairs);
+    for (size_t i = 0; pairs && i < *len; i++) {
+        size_t key = strcspn(environ[i], "=");
+        pairs[i].key = scl_bytes_of(environ[i], key);
+        pairs[i].value = scl_text(environ[i] + key + (environ[i][key] == '='));
+    }
+    return pairs;
+}
+
+int main(int argc, char **argv) {
+    char directory[4096];
+    size_t count, len = argc > 1 ? (size_t)argc - 2 : 0;
+    scl_bytes *words = calloc(len + 1, sizeof *words);
+    scl_pair *pairs = variables(&count);
+    if (argc < 2 || !words || !pairs || !getcwd(directory, sizeof directory)) return fprintf(stderr, "usage: launcher PROGRAM WORD.., as: launcher gcc -c a.c\n"), 2;
+    for (size_t i = 0; i < len; i++) words[i] = scl_text(argv[i + 2]);
+    const char *slash = strrchr(argv[1], '/');
+    scl_request request = scl_request_of(slash ? slash + 1 : argv[1], words, len);
+    request.directory = scl_text(directory);
+    request.environment = scl_pairs_of(pairs, count);
+    request.files.at = files;
+    request.directories.at = directories;
+    request.existing.at = existing;
+    request.most_words = 1000000;
+    request.wants_questions = true;
+    scl_given given;
+    int32_t status;
+    while ((status = scl_ask_new(&request, &given)) == SCL_OK && look(&given.answer.questions, &request)) scl_free(&given);
+    if (status == SCL_OK && given.answer.outcome == SCL_COMPILED) {
+        /* (the command's environment is the one that was handed in, but for cl's CL and _CL_) */
+        scl_words command = given.answer.command;
+        char **run = calloc(command.len + 2, sizeof *run);
+        if (!run) return 3;
+        run[0] = argv[1];
+        for (size_t i = 0; i < command.len; i++) run[i + 1] = (char *)(uintptr_t)command.at[i].at;
+        execvp(run[0], run);
+    } else {
+        execvp(argv[1], argv + 1);
+    }
+    perror(argv[1]);
+    return 127;
+}

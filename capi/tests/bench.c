@@ -1,0 +1,70 @@
+/* bench ROUNDS: microseconds of processor time a call takes: the least of five times so many, for a command of gcc of
+ * twenty words, by text and by struct, with and without the runs and the questions. */
+#define _POSIX_C_SOURCE 200809L
+#include <stdio.h>
+#include <time.h>
+#include "scl.h"
+
+static const char *const line[] = {"-c", "-O2", "-g", "-Wall", "-Wextra", "-fPIC", "-std=gnu11", "-DNDEBUG", "-DVERSION=\"1.2.3\"", "-Iinclude",
+                                   "-I", "../common/include", "-isystem", "/usr/include/libxml2", "-MD", "-MF", "build/src/foo.d", "-o", "build/src/foo.o", "src/foo.c"};
+enum { WORDS = sizeof line / sizeof *line };
+
+static double now(void) {
+    struct timespec it;
+    clock_gettime(CLOCK_PROCESS_CPUTIME_ID, &it);
+    return (double)it.tv_sec * 1e6 + (double)it.tv_nsec / 1e3;
+}
+
+static char text[4096];
+static size_t text_len;
+static scl_request request;
+
+static int32_t by_text(void) {
+    uint8_t room[4096];
+    size_t wanted;
+    return scl_run((const uint8_t *)text, text_len, room, sizeof room, &wanted);
+}
+
+static int32_t by_rows(void) {
+    uint8_t room[8192];
+    size_t wanted;
+    return scl_describe((const uint8_t *)text, text_len, room, sizeof room, &wanted);
+}
+
+static int32_t by_struct(void) {
+    scl_given given;
+    int32_t status = scl_ask_new(&request, &given);
+    if (status == SCL_OK) scl_free(&given);
+    return status;
+}
+
+static void measure(const char *name, int32_t call(void), int rounds) {
+    double least = 1e18;
+    for (int time = 0; time < 5; time++) {
+        double start = now();
+        for (int i = 0; i < rounds; i++)
+            if (call() != SCL_OK) exit(1);
+        double took = (now() - start) / rounds;
+        least = took < least ? took : least;
+    }
+    printf("%-32s %6.2f microseconds\n", name, least);
+}
+
+int main(int argc, char **argv) {
+    int rounds = argc > 1 ? atoi(argv[1]) : 20000;
+    scl_bytes words[WORDS];
+    text_len = (size_t)sprintf(text, "compiler gcc\n");
+    for (int i = 0; i < WORDS; i++) {
+        words[i] = scl_text(line[i]);
+        text_len += (size_t)sprintf(text + text_len, "word %s\n", line[i]);
+    }
+    request = scl_request_of("gcc", words, WORDS);
+    measure("scl_run", by_text, rounds);
+    measure("scl_describe", by_rows, rounds);
+    measure("scl_ask_new", by_struct, rounds);
+    request.wants_runs = true;
+    measure("scl_ask_new, with runs", by_struct, rounds);
+    request.wants_questions = true;
+    measure("scl_ask_new, and with questions", by_struct, rounds);
+    return 0;
+}

@@ -1,0 +1,197 @@
+/* faults: refuses each request for memory of calls in turn, tries each room from 0 to what is wanted, and calls from
+ * eight threads at once. Linked with --wrap=malloc, realloc and free. Prints a line for each; the status is 0 if all is well. */
+#include <pthread.h>
+#include <stdio.h>
+#include <string.h>
+#include "scl.h"
+
+void *__real_malloc(size_t);
+void *__real_realloc(void *, size_t);
+void __real_free(void *);
+
+static _Thread_local long calls, failing = -1, live;
+
+void *__wrap_malloc(size_t n) {
+    if (calls++ == failing) return 0;
+    void *p = __real_malloc(n);
+    live += p != 0;
+    return p;
+}
+
+void *__wrap_realloc(void *p, size_t n) {
+    if (calls++ == failing) return 0;
+    void *q = __real_realloc(p, n);
+    live += !p && q;
+    return q;
+}
+
+void __wrap_free(void *p) {
+    live -= p != 0;
+    __real_free(p);
+}
+
+#define FAIL(...) return (printf("faults: " __VA_ARGS__), printf("\n"), 1)
+
+/* A wide request: a response file, inner words, a variable, two architectures. */
+static const char text[] = "compiler clang\ncwd /w\nword -c\nword a.c\nword -MD\nword -Xclang\nword -fno-pch-timestamp\nword @r\n"
+                           "word -arch\nword arm64\nmultiarch\nenv A\tB\nfile /w/r\t-DQ\\x20-O1\nexists /w/z.pdb\n";
+
+typedef int32_t respond(const uint8_t *, size_t, uint8_t *, size_t, size_t *);
+
+static int32_t call(respond *by, uint8_t *room, size_t len, size_t *wanted) { return by((const uint8_t *)text, sizeof text - 1, room, len, wanted); }
+
+static int is_filled(const void *at, size_t len) {
+    const uint8_t *bytes = at;
+    for (size_t i = 0; i < len; i++)
+        if (bytes[i] != 0xAA) return 0;
+    return 1;
+}
+
+static int texts(const char *name, respond *by) {
+    static uint8_t whole[8192], room[8192];
+    size_t wanted, length;
+    int refused = 0;
+    if (call(by, whole, sizeof whole, &length) != SCL_OK || live) FAIL("%s does not answer, or leaks %ld blocks", name, live);
+    for (failing = 0;; failing++, refused++) {
+        calls = 0;
+        wanted = 77;
+        memset(room, 0xAA, sizeof room);
+        int32_t status = call(by, room, sizeof room, &wanted);
+        if (live) FAIL("%s leaks where request %ld is refused", name, failing);
+        if (status == SCL_OK && calls <= failing) break;
+        if (status == SCL_OK && (wanted != length || memcmp(room, whole, length))) FAIL("%s answers otherwise where request %ld is refused", name, failing);
+        if (status == SCL_OK) continue;
+        if (status != SCL_NO_MEMORY || wanted || !is_filled(room, sizeof room)) FAIL("%s: status %d where request %ld is refused", name, (int)status, failing);
+    }
+    failing = -1;
+    for (size_t len = 0; len <= length; len++) {
+        memset(room, 0xAA, sizeof room);
+        int32_t status = call(by, room, len, &wanted);
+        size_t put = len < length ? 0 : length;
+        if (status != (len < length ? SCL_SHORT : SCL_OK) || wanted != length || memcmp(room, whole, put) || !is_filled(room + put, sizeof room - put))
+            FAIL("%s: status %d in a room of %zu bytes", name, (int)status, len);
+    }
+    printf("%s: %d refusals and %zu rooms\n", name, refused, length + 1);
+    return 0;
+}
+
+/* What stands in an answer, as one text: enough to tell two of them apart. */
+static size_t flat(const scl_answer *answer, char *to) {
+    size_t len = 0;
+    const scl_words lists[] = {answer->command, answer->record.lists.dependency, answer->record.lists.preprocessor,
+                               answer->record.lists.common, answer->record.lists.arch, answer->questions.directories};
+    for (size_t i = 0; i < sizeof lists / sizeof *lists; i++)
+        for (size_t k = 0; k < lists[i].len; k++) len += (size_t)sprintf(to + len, "%zu %s\n", i, (const char *)lists[i].at[k].at);
+    for (size_t i = 0; i < answer->runs.len; i++)
+        for (size_t k = 0; k < answer->runs.at[i].len; k++) len += (size_t)sprintf(to + len, "run %s\n", (const char *)answer->runs.at[i].at[k].at);
+    for (size_t i = 0; i < answer->environment.len; i++)
+        len += (size_t)sprintf(to + len, "%s %s\n", (const char *)answer->environment.at[i].key.at, (const char *)answer->environment.at[i].value.at);
+    for (size_t i = 0; i < answer->record.outputs.len; i++) len += (size_t)sprintf(to + len, "%s\n", (const char *)answer->record.outputs.at[i].path.at);
+    return len;
+}
+
+static scl_request asked(scl_bytes *words, scl_pair *pairs) {
+    const char *const given[] = {"-c", "a.c", "-MD", "-Xclang", "-fno-pch-timestamp", "@r", "-arch", "arm64", "-fprofile-use=p"};
+    for (size_t i = 0; i < 9; i++) words[i] = scl_text(given[i]);
+    scl_request request = scl_request_of("clang", words, 9);
+    request.directory = scl_text("/w");
+    pairs[0].key = scl_text("/w/r");
+    pairs[0].value = scl_text("-DQ -O1");
+    pairs[1].key = scl_text("A");
+    pairs[1].value = scl_text("B");
+    request.files = scl_pairs_of(pairs, 1);
+    request.environment = scl_pairs_of(pairs + 1, 1);
+    request.is_multiarch = request.wants_runs = request.wants_questions = true;
+    return request;
+}
+
+static int structs(void) {
+    static char whole[1 << 16], other[1 << 16];
+    scl_bytes words[9];
+    scl_pair pairs[2];
+    scl_request request = asked(words, pairs);
+    scl_given given;
+    int refused = 0;
+    if (scl_ask_new(&request, &given) != SCL_OK || given.answer.outcome != SCL_COMPILED) FAIL("scl_ask_new does not answer");
+    size_t length = flat(&given.answer, whole);
+    scl_free(&given);
+    if (!length || live) FAIL("scl_ask_new leaks %ld blocks", live);
+    for (failing = 0;; failing++, refused++) {
+        calls = 0;
+        int32_t status = scl_ask_new(&request, &given);
+        int is_same = status == SCL_OK && flat(&given.answer, other) == length && !memcmp(whole, other, length);
+        if (status == SCL_OK) scl_free(&given);
+        if (live) FAIL("scl_ask_new leaks where request %ld is refused", failing);
+        if (status == SCL_OK && !is_same) FAIL("scl_ask_new answers otherwise where request %ld is refused", failing);
+        if (status == SCL_OK && calls <= failing) break;
+        if (status != SCL_OK && status != SCL_NO_MEMORY) FAIL("scl_ask_new: status %d where request %ld is refused", (int)status, failing);
+    }
+    failing = -1;
+
+    scl_sizes wanted = {0, 0, 0, 0, 0}, all;
+    scl_answer answer = scl_no_answer(), before;
+    if (scl_ask(&request, scl_room_in(whole, &wanted), &wanted, &answer) != SCL_SHORT) FAIL("scl_ask answers without a room");
+    all = wanted;
+    size_t *const parts[] = {&all.bytes, &all.slots, &all.pairs, &all.outputs, &all.runs};
+    size_t rooms = 0;
+    for (size_t part = 0; part < 5; part++) {
+        size_t most = *parts[part];
+        if (!most) FAIL("part %zu of the room is not wanted", part);
+        for (size_t len = 0; len <= most; len++, rooms++) {
+            *parts[part] = len;
+            size_t size = scl_room_size(&all);
+            void *block = malloc(size);
+            if (!block) FAIL("no memory");
+            memset(block, 0xAA, size);
+            scl_room room = scl_room_in(block, &all);
+            answer = scl_no_answer();
+            memcpy(&before, &answer, sizeof answer);
+            int32_t status = scl_ask(&request, room, &wanted, &answer);
+            *parts[part] = most;
+            if (status != (len < most ? SCL_SHORT : SCL_OK) || memcmp(&wanted, &all, sizeof all)) FAIL("scl_ask: status %d where part %zu has %zu", (int)status, part, len);
+            if (len < most && (memcmp(&before, &answer, sizeof answer) || !is_filled(room.bytes, room.bytes_len))) FAIL("scl_ask writes where part %zu has %zu", part, len);
+            if (len == most && (flat(&answer, other) != length || memcmp(whole, other, length))) FAIL("scl_ask tells otherwise in memory of just the length");
+            if (len == most && room.bytes[room.bytes_len] != 0xAA) FAIL("scl_ask writes behind the room");
+            free(block);
+        }
+    }
+    printf("scl_ask: %d refusals and %zu rooms\n", refused, rooms);
+    return 0;
+}
+
+static void *many(void *whole) {
+    uint8_t room[2048];
+    char other[1 << 14], first[1 << 14];
+    size_t wanted, length = 0;
+    scl_bytes words[9];
+    scl_pair pairs[2];
+    scl_request request = asked(words, pairs);
+    for (int i = 0; i < 1000; i++) {
+        scl_given given;
+        if (call(scl_run, room, sizeof room, &wanted) || memcmp(room, whole, wanted)) return whole;
+        if (scl_ask_new(&request, &given)) return whole;
+        size_t now = flat(&given.answer, i ? other : first);
+        scl_free(&given);
+        if (i && (now != length || memcmp(first, other, now))) return whole;
+        length = now;
+    }
+    return live ? whole : 0;
+}
+
+static int threads(void *whole) {
+    pthread_t all[8];
+    void *out;
+    for (int i = 0; i < 8; i++)
+        if (pthread_create(&all[i], 0, many, whole)) FAIL("no thread");
+    for (int i = 0; i < 8; i++)
+        if (pthread_join(all[i], &out) || out) FAIL("a thread was answered otherwise");
+    printf("8 threads, 1,000 calls of each\n");
+    return 0;
+}
+
+int main(void) {
+    static uint8_t whole[2048];
+    size_t wanted = 0;
+    if (call(scl_run, whole, sizeof whole, &wanted) != SCL_OK) FAIL("scl_run does not answer");
+    return texts("scl_run", scl_run) || texts("scl_describe", scl_describe) || structs() || threads(whole);
+}

@@ -1,0 +1,4 @@
+pub mod ReplyLemmas
+pub mod SizeLemmas
+pub mod TextLemmas
+pub mod ToldLemmas

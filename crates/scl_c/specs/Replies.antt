@@ -1,0 +1,85 @@
+-- What is told in reply to what C asks.
+use Rattle.std.specs.Prelude.{◌≡◌, ℕ, List, [], Bool, true, false, Option, None, Some, if◌then◌else◌, Result, Ok, Err, string_bytes}
+use Rattle.std.specs.Option.{option_map}
+use Rattle.scl_values.specs.Words.{words_of}
+use Rattle.scl_text.specs.Commands.{pairs_of}
+use Rattle.scl_text.specs.Runs.{runs_of}
+use Rattle.scl_text.specs.Records.{Parsed, Verdict, parsed_of}
+use Rattle.scl_text.specs.declared.records.Cacheable.{Cacheable}
+use Rattle.scl_text.specs.declared.records.CompilerArguments.{CompilerArguments}
+use Rattle.scl_text.specs.declared.records.CompilerArguments.TheVariants as outcomes
+use Rattle.scl_cl.specs.Answers.{Answer, answer_to, reading_by, environment_by, runs_by}
+use Rattle.scl_cl.specs.Answers as answers
+use Rattle.scl_cl.specs.Questions.{Questions, questions_of}
+use Rattle.scl_cl.specs.QuestionsGiven.{given}
+use Rattle.scl_cl.specs.Within.{has_at_most}
+use Rattle.scl_cl.specs.declared.compiler.Compiler.{Compiler}
+use Rattle.scl_cl.specs.declared.kept.Compilation.{Compilation}
+use Rattle.scl_c.specs.declared.ask.Replied.{Replied}
+use Rattle.scl_c.specs.declared.shapes.Asked.{Asked}
+use Rattle.scl_c.specs.Requests.{asked_of}
+use Rattle.scl_c.specs.Shapes.{pairs_in}
+
+-- a command with its environment and the record that it was made from; or a reason, with a text beside it or none; or neither
+pub data Reply : Type 0 where
+  compiled : (words : List (List ℕ)) (kept : Cacheable) (environment : List (List ℕ × List ℕ)) (p : Parsed) → Reply
+  cannot_cache : (reason : List ℕ) (text : Option (List ℕ)) → Reply
+  not_compilation : Reply
+
+-- the reply of an answer, what was read, the command's environment and the text beside a reason; where the answer is a command, what was read is a record
+abbrev pub reply_with : Answer → Result Parsed Verdict → List (List ℕ × List ℕ) → Option (List ℕ) → Reply
+reply_with (answers.compiled words kept) (Ok p) environment text = compiled words kept environment p
+reply_with (answers.compiled words kept) (Err v) environment text = not_compilation
+reply_with (answers.cannot_cache reason) reading environment text = cannot_cache reason text
+reply_with answers.not_compilation reading environment text = not_compilation
+
+-- the reply to what is asked of a compiler, with this text beside a reason
+abbrev pub reply_to : Compiler → Asked → Option (List ℕ) → Reply
+reply_to compiler a text =
+    reply_with (answer_to (asked_of compiler a)) (reading_by compiler (asked_of compiler a)) (environment_by compiler (pairs_in a.environment.now)) text
+
+-- the runs of the preprocessor, where they are wanted
+abbrev pub runs_in : Compiler → Asked → Reply → List (List (List ℕ))
+runs_in compiler a (compiled words kept environment p) =
+    if a.wants_runs then runs_by compiler a.may_dist a.rewrite_includes_only a.cache_mode p else []
+runs_in compiler a (cannot_cache reason text) = []
+runs_in compiler a not_compilation = []
+
+abbrev pub no_questions : Questions
+no_questions = record { files = []; directories = []; existing = [] }
+
+-- what the answer asks of files that were not handed in, where it is wanted
+abbrev pub questions_in : Compiler → Asked → Questions
+questions_in compiler a = if a.wants_questions then questions_of (asked_of compiler a) else no_questions
+
+-- all that is told
+pub record Whole : Type 0 where
+  pub reply : Reply
+  pub runs : List (List (List ℕ))
+  pub questions : Questions
+
+abbrev pub whole : Reply → List (List (List ℕ)) → Questions → Whole
+whole reply runs questions = record { reply = reply; runs = runs; questions = questions }
+
+abbrev pub whole_to : Compiler → Asked → Option (List ℕ) → Whole
+whole_to compiler a text = whole (reply_to compiler a text) (runs_in compiler a (reply_to compiler a text)) (questions_in compiler a)
+
+-- ---- of an answer that the code gives
+
+abbrev pub text_beside : CompilerArguments Compilation → Option (List ℕ)
+text_beside (outcomes.Ok compilation) = None
+text_beside (outcomes.CannotCache reason text) = option_map string_bytes text
+text_beside outcomes.NotCompilation = None
+
+abbrev pub reply_of : CompilerArguments Compilation → Reply
+reply_of (outcomes.Ok compilation) =
+    compiled (words_of compilation.command.arguments.items) compilation.cacheable (pairs_of compilation.command.env_vars.items) (parsed_of compilation.parsed)
+reply_of (outcomes.CannotCache reason text) = cannot_cache reason.now (option_map string_bytes text)
+reply_of outcomes.NotCompilation = not_compilation
+
+-- it is what a compiler replies to what is asked, where no command line is longer than is allowed
+pub record IsReplied (compiler : Compiler) (a : Asked) (r : Replied) : Type 0 where
+  pub is_within : has_at_most a.most_words (asked_of compiler a) ≡ true
+  pub reply : reply_of r.answer ≡ reply_to compiler a (text_beside r.answer)
+  pub runs : runs_of r.runs.items ≡ runs_in compiler a (reply_of r.answer)
+  pub questions : given r.questions ≡ questions_in compiler a
