@@ -5,5 +5,5 @@ pub mod laws;
 mod quote;
 mod split;
 
-pub use quote::{push_quoted, quoted_words};
+pub use quote::{push_quoted, quoted_command, quoted_words};
 pub use split::{ShellError, shell_words};

@@ -1,5 +1,5 @@
 //! Words quoted for a shell.
-ghost use Rattle.std.specs.Prelude.{◌≡◌, ◌++◌, OnOk, IfOk};
+ghost use Rattle.std.specs.Prelude.{◌≡◌, ◌++◌, ◌∷◌, OnOk, IfOk};
 ghost use Rattle.std.specs.List.{list_all};
 ghost use Rattle.scl_values.specs.Words.{words_of};
 ghost use Rattle.scl_shell.specs.Quoted.{is_plain, is_bare, in_quotes, in_single_quotes, quoted, quoted_next, quoted_text};
@@ -71,17 +71,25 @@ fn push_next(text: &mut Vec<u8>, word: &[u8]) -> Mem<()>
     push_quoted(text, word)
 }
 
-/// Words quoted for a shell, with a space between each two. What `shell_words` makes of the text are these words
-/// (`laws::of_quoted_words`).
+/// A program and its words, quoted for a shell, with a space between each two. It fails only for want of memory.
+pub fn quoted_command(alloc: Global, program: &[u8], words: &[Vec<u8>]) -> Mem<Vec<u8>>
+    ensures { IfOk result (λ text. text.items ≡ quoted_text (program.now ∷ words_of words.now)) }
+{
+    let mut text = Vec::new(alloc);
+    push_quoted(&mut text, program)?;
+    for word in words {
+        push_next(&mut text, word)?;
+    }
+    Ok(text)
+}
+
+/// Words quoted for a shell, with a space between each two: what `shell_words` makes of the text are these words
+/// (`laws::of_quoted_words`). It fails only for want of memory.
 pub fn quoted_words(alloc: Global, words: &[Vec<u8>]) -> Mem<Vec<u8>>
     ensures { IfOk result (λ text. text.items ≡ quoted_text (words_of words.now)) }
 {
-    let mut text = Vec::new(alloc);
-    if let Some((first, others)) = words.split_first() {
-        push_quoted(&mut text, first)?;
-        for word in others {
-            push_next(&mut text, word)?;
-        }
+    match words.split_first() {
+        Some((program, others)) => quoted_command(alloc, program, others),
+        None => Ok(Vec::new(alloc)),
     }
-    Ok(text)
 }
