@@ -38,9 +38,7 @@ fn answer_all<W: Write>(
     let mut progress = Progress::new(rt);
     for (at, value) in entries.iter().enumerate() {
         let text = batch.entry_text(alloc, &disk, &mut counts, value)?;
-        writer
-            .write_all(text.as_bytes())
-            .map_err(Fault::of_output)?;
+        writer.write_all(text.as_bytes()).map_err(Fault::of_output)?;
         progress.step(at, entries.len());
     }
     progress.end();
@@ -52,9 +50,7 @@ fn answer_database(rt: &HostRuntime, batch: &Batch, database: &Database) -> Resu
     let mut writer = BufWriter::new(alloc, io::writer(rt)).map_err(Fault::of_output)?;
     let counts = answer_all(rt, batch, database, &mut writer)?;
     let text = batch.closing_text(alloc, &counts)?;
-    writer
-        .write_all(text.as_bytes())
-        .map_err(Fault::of_output)?;
+    writer.write_all(text.as_bytes()).map_err(Fault::of_output)?;
     writer.flush().map_err(Fault::of_output)?;
     Ok(ending_of_counts(&counts))
 }

@@ -4,7 +4,9 @@ use crate::disk::SystemDisk;
 use crate::fault::Fault;
 use crate::options::Asked;
 use scl_cl::path;
-use scl_explain::{Case, Ending, Form, Paint, Reply, command as command_reply, explain as explain_reply};
+use scl_explain::{
+    Case, Ending, Form, Paint, Reply, command as command_reply, explain as explain_reply,
+};
 use std::alloc::Global;
 use std::io::{IsTerminal, Write};
 

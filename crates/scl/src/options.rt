@@ -1,7 +1,8 @@
 //! The program's own command line.
 use crate::fault::Fault;
 use crate::texts;
-use clap::{Arg, ArgAction, ArgMatches, Command, Error, ErrorKind};
+use clap::error::ErrorKind;
+use clap::{Arg, ArgAction, ArgMatches, Command, Error};
 use scl_cl::Compiler;
 use scl_explain::{Ending, Kind};
 use std::alloc::{AllocError, Global};
@@ -81,10 +82,9 @@ fn with_json<'a>(alloc: Global, command: Command<'a>) -> Result<Command<'a>, All
 }
 
 fn with_words<'a>(alloc: Global, command: Command<'a>) -> Result<Command<'a>, AllocError> {
-    let directory = Arg::new(alloc, "cwd")
-        .long("cwd")
-        .value_name("DIR")
-        .help("The directory that the command is run in, if not this one");
+    let directory = Arg::new(alloc, "cwd").long("cwd").value_name("DIR").help(
+        "The directory that the command is run in, if not this one",
+    );
     let words = Arg::new(alloc, "words")
         .value_name("COMPILER WORD")
         .num_args(1..)
