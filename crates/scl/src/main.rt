@@ -24,6 +24,7 @@ fn run(rt: &HostRuntime) -> Result<Ending, Fault> {
         Wanted::Explain(asked) => one::explain(rt, &asked),
         Wanted::Command(asked) => one::command(rt, &asked),
         Wanted::Database(asked) => batch::database(rt, &asked),
+        Wanted::Reasons => one::reasons(rt),
     }
 }
 

@@ -86,3 +86,12 @@ pub fn command(rt: &HostRuntime, asked: &Asked) -> Result<Ending, Fault> {
     let reply = command_reply(rt.alloc(), &disk, &case, asked.multiarch, asked.has_nuls)?;
     say(rt, &reply)
 }
+
+/// Writes each reason.
+pub fn reasons(rt: &HostRuntime) -> Result<Ending, Fault> {
+    let text = reasons_text(rt.alloc())?;
+    rt.stdout()
+        .write_all(text.as_bytes())
+        .map_err(Fault::of_output)?;
+    Ok(Ending::Answered)
+}

@@ -50,6 +50,8 @@ pub enum Wanted {
     Command(Asked),
     /// The entries of a database.
     Database(DatabaseAsked),
+    /// All reasons.
+    Reasons,
 }
 
 /// The names of compilers, in the order of docs/RULES.md.
@@ -132,6 +134,10 @@ fn database_command<'a>(alloc: Global) -> Result<Command<'a>, AllocError> {
     with_common(alloc, with_json(alloc, command)?)
 }
 
+fn reasons_command<'a>(alloc: Global) -> Command<'a> {
+    Command::new(alloc, "reasons").about(texts::ABOUT_REASONS)
+}
+
 fn whole_command<'a>(alloc: Global) -> Result<Command<'a>, AllocError> {
     Command::new(alloc, "scl")
         .about(texts::ABOUT)
@@ -140,7 +146,8 @@ fn whole_command<'a>(alloc: Global) -> Result<Command<'a>, AllocError> {
         .disable_help_subcommand(true)
         .subcommand(explain_command(alloc)?)?
         .subcommand(command_command(alloc)?)?
-        .subcommand(database_command(alloc)?)
+        .subcommand(database_command(alloc)?)?
+        .subcommand(reasons_command(alloc))
 }
 
 /// The words as text, with what is no text replaced, behind the program's name.
@@ -223,6 +230,7 @@ fn what_is_wanted(
         Some(("explain", inner)) => Ok(Wanted::Explain(asked(alloc, arguments, inner)?)),
         Some(("command", inner)) => Ok(Wanted::Command(asked(alloc, arguments, inner)?)),
         Some(("database", inner)) => Ok(Wanted::Database(database_asked(alloc, inner)?)),
+        Some(("reasons", _)) => Ok(Wanted::Reasons),
         Some(_) | None => Ok(Wanted::Done(Ending::Usage)),
     }
 }

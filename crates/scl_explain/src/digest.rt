@@ -3,6 +3,7 @@ use crate::answered::Answered;
 use crate::count::{Counts, Met};
 use crate::words::{push_shown, refusal_text};
 use scl_cl::{CompilerArguments, Mem};
+use scl_reasons::sentence;
 use std::alloc::Global;
 use std::collections::BTreeMap;
 
@@ -34,13 +35,12 @@ fn push_met(text: &mut String, name: &str, met: &Met) -> Mem<()> {
     text.push_str(")\n")
 }
 
-fn push_all_met(text: &mut String, title: &str, map: &BTreeMap<String, Met>) -> Mem<()> {
-    if map.is_empty() {
-        return Ok(());
-    }
-    write!(text, "{title}:\n")?;
-    for (name, met) in map.iter() {
-        push_met(text, name.as_str(), met)?;
+/// The reasons for which entries are refused, with a sentence for people.
+fn push_reasons(text: &mut String, reasons: &BTreeMap<String, Met>) -> Mem<()> {
+    for (reason, met) in reasons.iter() {
+        push_met(text, reason.as_str(), met)?;
+        let sentence = sentence(reason.as_str());
+        write!(text, "          {sentence}\n")?;
     }
     Ok(())
 }
@@ -128,8 +128,7 @@ pub fn summary(alloc: Global, counts: &Counts) -> Mem<String> {
     write!(text, "can be cached: {ok}\n")?;
     write!(text, "compile nothing: {none}\n")?;
     write!(text, "cannot be cached: {refused}\n")?;
-    push_all_met(&mut text, "reasons", &counts.refused)?;
-    push_all_met(&mut text, "hazards", &counts.hazards)?;
+    push_reasons(&mut text, &counts.refused)?;
     push_told(&mut text, "no command lines", &counts.broken)?;
     push_told(&mut text, "files that cannot be read", &counts.unread)?;
     push_shared_outputs(alloc, &mut text, counts)?;

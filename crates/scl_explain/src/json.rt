@@ -2,6 +2,7 @@
 use crate::answered::Answered;
 use crate::case::Case;
 use scl_cl::{Cacheable, Compilation, CompilerArguments, Mem};
+use scl_reasons::sentence;
 use serde_json::{Map, Value, put};
 use std::alloc::Global;
 use std::str;
@@ -133,6 +134,7 @@ fn put_answer(members: &mut Members, answered: &Answered) -> Mem<()> {
         CompilerArguments::CannotCache(reason, more) => {
             members.put_text("outcome", "cannot-cache")?;
             members.put_text("reason", reason)?;
+            members.put_text("sentence", sentence(reason))?;
             match more {
                 Some(more) => members.put_text("detail", more.as_str()),
                 None => Ok(()),

@@ -3,6 +3,7 @@ use crate::answered::Answered;
 use crate::case::Case;
 use crate::paint::Paint;
 use crate::words::{push_shown, refusal_text, shown};
+use scl_reasons::sentence;
 use scl_cl::{Cacheable, Compilation, CompilerArguments, Mem};
 use scl_shell::quoted_command;
 use std::alloc::Global;
@@ -70,7 +71,8 @@ fn push_outcome(page: &mut Page, answer: &CompilerArguments<Compilation>) -> Mem
         CompilerArguments::CannotCache(reason, more) => {
             let more = more.as_ref().map(|more| more.as_str());
             let text = refusal_text(page.alloc, reason, more)?;
-            page.outcome(bad, text.as_str())
+            page.outcome(bad, text.as_str())?;
+            page.line("because", sentence(reason))
         }
         CompilerArguments::NotCompilation => page.outcome(bad, "compiles nothing"),
     }

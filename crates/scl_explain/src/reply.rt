@@ -5,7 +5,7 @@ use crate::json::explanation_line;
 use crate::page::explanation;
 use crate::paint::Paint;
 use crate::status::Ending;
-use crate::words::{command_text, refusal_text};
+use crate::words::{command_text, refusal_line};
 use scl_cl::{Compilation, CompilerArguments, Mem};
 use scl_load::{Disk, LoadError};
 use std::alloc::Global;
@@ -98,7 +98,7 @@ fn no_command(alloc: Global, answer: &CompilerArguments<Compilation>) -> Mem<Opt
         CompilerArguments::Ok(_) => Ok(None),
         CompilerArguments::CannotCache(reason, more) => {
             let more = more.as_ref().map(|more| more.as_str());
-            Ok(Some(refusal_text(alloc, reason, more)?))
+            Ok(Some(refusal_line(alloc, reason, more)?))
         }
         CompilerArguments::NotCompilation => Ok(Some(String::from_str(alloc, "compiles nothing")?)),
     }
