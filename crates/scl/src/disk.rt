@@ -8,6 +8,7 @@ use std::{fs, str};
 use thiserror::Error;
 
 /// The system's files.
+#[derive(Clone, Copy)]
 pub struct SystemDisk<'a> {
     /// The system.
     pub rt: &'a HostRuntime,
@@ -25,7 +26,7 @@ fn is_absent(error: &io::Error) -> bool {
     matches!(error.kind(), ErrorKind::NotFound | ErrorKind::NotADirectory)
 }
 
-fn unreadable(alloc: Global, path: &[u8], reason: String) -> Mem<Unreadable> {
+fn not_read(alloc: Global, path: &[u8], reason: String) -> Mem<Unreadable> {
     Ok(Unreadable {
         path: String::from_utf8_lossy(alloc, path)?,
         reason,
@@ -33,7 +34,7 @@ fn unreadable(alloc: Global, path: &[u8], reason: String) -> Mem<Unreadable> {
 }
 
 fn failed(alloc: Global, path: &[u8], error: &io::Error) -> Mem<Unreadable> {
-    unreadable(alloc, path, format!(in alloc; "{error}")?)
+    not_read(alloc, path, format!(in alloc; "{error}")?)
 }
 
 /// What stands at a path.
@@ -61,7 +62,7 @@ fn text_of<'a>(alloc: Global, path: &'a [u8]) -> Mem<Result<&'a str, Unreadable>
         Ok(text) => Ok(Ok(text)),
         Err(_) => {
             let reason = String::from_str(alloc, "its name is no UTF-8")?;
-            Ok(Err(unreadable(alloc, path, reason)?))
+            Ok(Err(not_read(alloc, path, reason)?))
         }
     }
 }
@@ -107,7 +108,7 @@ impl<'a> Disk for SystemDisk<'a> {
             Ok(Standing::Nothing | Standing::Directory) => Ok(Ok(None)),
             Ok(Standing::Other) => {
                 let reason = String::from_str(alloc, "it is no regular file")?;
-                Ok(Err(unreadable(alloc, path, reason)?))
+                Ok(Err(not_read(alloc, path, reason)?))
             }
             Err(error) => Ok(Err(error)),
         }

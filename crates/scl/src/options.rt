@@ -190,7 +190,7 @@ fn kind_named(matches: &ArgMatches<'_>) -> Option<Kind> {
     }
 }
 
-fn asked(
+fn asked_words(
     alloc: Global,
     arguments: &[Vec<u8>],
     matches: &ArgMatches<'_>,
@@ -210,7 +210,7 @@ fn asked(
     })
 }
 
-fn database_asked(alloc: Global, matches: &ArgMatches<'_>) -> Result<DatabaseAsked, AllocError> {
+fn asked_entries(alloc: Global, matches: &ArgMatches<'_>) -> Result<DatabaseAsked, AllocError> {
     let path = matches.get_str("path").unwrap_or("-");
     Ok(DatabaseAsked {
         path: String::from_str(alloc, path)?,
@@ -227,9 +227,9 @@ fn what_is_wanted(
     matches: &ArgMatches<'_>,
 ) -> Result<Wanted, AllocError> {
     match matches.subcommand() {
-        Some(("explain", inner)) => Ok(Wanted::Explain(asked(alloc, arguments, inner)?)),
-        Some(("command", inner)) => Ok(Wanted::Command(asked(alloc, arguments, inner)?)),
-        Some(("database", inner)) => Ok(Wanted::Database(database_asked(alloc, inner)?)),
+        Some(("explain", inner)) => Ok(Wanted::Explain(asked_words(alloc, arguments, inner)?)),
+        Some(("command", inner)) => Ok(Wanted::Command(asked_words(alloc, arguments, inner)?)),
+        Some(("database", inner)) => Ok(Wanted::Database(asked_entries(alloc, inner)?)),
         Some(("reasons", _)) => Ok(Wanted::Reasons),
         Some(_) | None => Ok(Wanted::Done(Ending::Usage)),
     }

@@ -3,6 +3,7 @@ use std::io::{self, IsTerminal, Write};
 use std::time::{Duration, Instant};
 
 /// How far a long work is: told on standard error, on a terminal alone, once it took more than a second.
+#[derive(Drop)]
 pub struct Progress<'a> {
     rt: &'a HostRuntime,
     last: Option<Instant>,
