@@ -3,6 +3,8 @@ use crate::answered::Answered;
 use crate::case::Case;
 use scl_cl::{Cacheable, Compilation, CompilerArguments, Mem};
 use scl_reasons::sentence;
+use scl_rows::Row;
+use scl_text::refusal::Refusal;
 use serde_json::{Map, Value, put};
 use std::alloc::Global;
 use std::str;
@@ -95,6 +97,40 @@ fn runs_value(alloc: Global, runs: &[Vec<Vec<u8>>]) -> Mem<Value> {
     Ok(Value::Array(items))
 }
 
+fn put_refusal(members: &mut Members, refusal: &Refusal) -> Mem<()> {
+    match refusal {
+        Refusal::CannotCache(reason, _) => members.put_text("reason", reason),
+        Refusal::NotCompilation => members.put_text("reason", "not-compilation"),
+    }
+}
+
+fn row_value(alloc: Global, row: &Row) -> Mem<Value> {
+    let mut members = Members::new(alloc);
+    members.put_words("words", &row.given)?;
+    members.put_text("kind", row.kind.as_str())?;
+    members.put_text("goes_to", row.destination.name())?;
+    members.put_text("origin", row.origin.name())?;
+    members.put_words("printed", &row.printed)?;
+    if let Some(flag) = row.flag {
+        members.put_text("flag", flag)?;
+    }
+    if let Some(value) = &row.value {
+        members.put_bytes("value", value)?;
+    }
+    if let Some(refusal) = &row.refusal {
+        put_refusal(&mut members, refusal)?;
+    }
+    Ok(members.into_value())
+}
+
+fn rows_value(alloc: Global, rows: &[Row]) -> Mem<Value> {
+    let mut items = Vec::new(alloc);
+    for row in rows {
+        items.push(row_value(alloc, row)?)?;
+    }
+    Ok(Value::Array(items))
+}
+
 fn output_value(alloc: Global, path: &[u8], optional: bool) -> Mem<Value> {
     let mut members = Members::new(alloc);
     members.put_flag("optional", optional)?;
@@ -162,9 +198,16 @@ pub fn answer_line(alloc: Global, entry: u64, case: &Case, answered: &Answered) 
     members.into_line()
 }
 
-/// The answer to a command line. It fails only for want of memory.
-pub fn explanation_line(alloc: Global, case: &Case, answered: &Answered) -> Mem<String> {
-    members_of(alloc, case, answered)?.into_line()
+/// The answer to a command line, with what became of each option. It fails only for want of memory.
+pub fn explanation_line(
+    alloc: Global,
+    case: &Case,
+    answered: &Answered,
+    rows: &[Row],
+) -> Mem<String> {
+    let mut members = members_of(alloc, case, answered)?;
+    members.put("options", rows_value(alloc, rows)?)?;
+    members.into_line()
 }
 
 /// Why an entry of a database has no answer. It fails only for want of memory.

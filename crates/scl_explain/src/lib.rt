@@ -10,12 +10,15 @@ mod digest;
 mod entry;
 mod json;
 mod logged;
+mod options;
 mod page;
 mod paint;
 mod place;
 mod reasons;
 mod reply;
+mod rows;
 mod status;
+mod table;
 mod words;
 
 pub use answered::{Answered, answer_case};

@@ -1,10 +1,12 @@
 //! What a command line is, for a person.
 use crate::answered::Answered;
 use crate::case::Case;
+use crate::options::push_options;
 use crate::paint::Paint;
 use crate::words::{push_shown, refusal_text, shown};
-use scl_reasons::sentence;
 use scl_cl::{Cacheable, Compilation, CompilerArguments, Mem};
+use scl_reasons::sentence;
+use scl_rows::Row;
 use scl_shell::quoted_command;
 use std::alloc::Global;
 
@@ -129,8 +131,21 @@ fn push_commands(page: &mut Page, case: &Case, answered: &Answered) -> Mem<()> {
     Ok(())
 }
 
+/// The table of options, under its title.
+fn push_rows(page: &mut Page, rows: &[Row]) -> Mem<()> {
+    let (begin, end) = (page.paint.title(), page.paint.end());
+    write!(page.text, "{begin}options:{end}\n")?;
+    push_options(page.alloc, &mut page.text, rows)
+}
+
 /// What a command line is, for a person. It fails only for want of memory.
-pub fn explanation(alloc: Global, case: &Case, answered: &Answered, paint: Paint) -> Mem<String> {
+pub fn explanation(
+    alloc: Global,
+    case: &Case,
+    answered: &Answered,
+    rows: &[Row],
+    paint: Paint,
+) -> Mem<String> {
     let mut page = Page {
         alloc,
         paint,
@@ -139,6 +154,7 @@ pub fn explanation(alloc: Global, case: &Case, answered: &Answered, paint: Paint
     push_outcome(&mut page, &answered.answer)?;
     push_case(&mut page, case)?;
     push_files(&mut page, answered)?;
+    push_rows(&mut page, rows)?;
     push_commands(&mut page, case, answered)?;
     let Page { text, .. } = page;
     Ok(text)

@@ -4,6 +4,7 @@ use crate::case::Case;
 use crate::json::explanation_line;
 use crate::page::explanation;
 use crate::paint::Paint;
+use crate::rows::rows_of;
 use crate::status::Ending;
 use crate::words::{command_text, refusal_line};
 use scl_cl::{Compilation, CompilerArguments, Mem};
@@ -63,9 +64,10 @@ fn unread<E: Display>(alloc: Global, error: &LoadError<E>) -> Mem<Reply> {
 }
 
 fn explanation_bytes(alloc: Global, case: &Case, answered: &Answered, form: Form) -> Mem<Vec<u8>> {
+    let rows = rows_of(alloc, case, &answered.view)?;
     let text = match form {
-        Form::Text(paint) => explanation(alloc, case, answered, paint)?,
-        Form::Json => explanation_line(alloc, case, answered)?,
+        Form::Text(paint) => explanation(alloc, case, answered, &rows, paint)?,
+        Form::Json => explanation_line(alloc, case, answered, &rows)?,
     };
     Ok(text.into_bytes())
 }

@@ -45,7 +45,10 @@ fn entries_of_one_kind_are_written(rt: HostRuntime) -> Result<(), Fail> {
 static BROKEN: [(&str, &str); 3] = [
     ("{}", "the text is no array of entries"),
     ("", "line 1 column 0, in entry 0: the text is no JSON"),
-    ("[{\"a\": [1, 2]},\n {\"b\": }]", "line 2 column 7, in entry 2: the text is no JSON"),
+    (
+        "[{\"a\": [1, 2]},\n {\"b\": }]",
+        "line 2 column 7, in entry 2: the text is no JSON",
+    ),
 ];
 
 #[test]

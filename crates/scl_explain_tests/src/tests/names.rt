@@ -23,7 +23,18 @@ static NAMED: [(&str, Compiler); 16] = [
 ];
 
 static UNNAMED: [&str; 12] = [
-    "", "/usr/bin/", "nvcc", "GCC", "gcc-", "gcc13", "xgcc", "x-cl", "CL", "clang-tidy", "gcc-ar", "dcc-5x",
+    "",
+    "/usr/bin/",
+    "nvcc",
+    "GCC",
+    "gcc-",
+    "gcc13",
+    "xgcc",
+    "x-cl",
+    "CL",
+    "clang-tidy",
+    "gcc-ar",
+    "dcc-5x",
 ];
 
 #[test]
@@ -43,7 +54,17 @@ fn programs_are_these_compilers(rt: HostRuntime) -> Result<(), Fail> {
 fn programs_stand_behind_launchers(rt: HostRuntime) -> Result<(), Fail> {
     let alloc = rt.alloc();
     let mut words = Vec::new(alloc);
-    for (at, text) in ["env", "A=b", "/usr/bin/ccache", "SCCACHE.exe", "gcc", "distcc"].iter().enumerate() {
+    for (at, text) in [
+        "env",
+        "A=b",
+        "/usr/bin/ccache",
+        "SCCACHE.exe",
+        "gcc",
+        "distcc",
+    ]
+    .iter()
+    .enumerate()
+    {
         let found = program_at(alloc, &words)?;
         assert!(rt; found == if at > 4 { Some(4) } else { None }, "{at}");
         words.push(Vec::from_slice(alloc, text.as_bytes())?)?;
