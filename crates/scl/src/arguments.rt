@@ -3,21 +3,17 @@ use crate::fault::Fault;
 use std::alloc::Global;
 use std::env::{self, Env, FillError};
 
-/// The most bytes that an argument may have: those that a Linux kernel takes.
-const MOST: usize = 1 << 22;
-
-/// Argument `at`, if there is one.
+/// Argument `at`, if there is one: read into buffers of 2^8 to 2^22 bytes, which is more than a Linux kernel takes.
 fn argument(rt: &HostRuntime, alloc: Global, at: usize) -> Result<Option<Vec<u8>>, Fault> {
-    let mut size = 256usize;
-    while size <= MOST {
-        let mut buffer = vec![in alloc; 0u8; size]?;
+    for power in 8u32..23 {
+        let mut buffer = vec![in alloc; 0u8; 1usize << power]?;
         match rt.arg(at, &mut buffer) {
             Ok(length) => {
                 buffer.truncate(length);
                 return Ok(Some(buffer));
             }
             Err(FillError::NotPresent) => return Ok(None),
-            Err(FillError::TooLong) => size *= 2,
+            Err(FillError::TooLong) => {}
         }
     }
     Err(Fault::Input(format!(in alloc; "argument {at} is too long")?))
