@@ -5,7 +5,8 @@ use crate::fault::Fault;
 use crate::options::Asked;
 use scl_cl::path;
 use scl_explain::{
-    Case, Ending, Form, Paint, Reply, command as command_reply, explain as explain_reply, reasons_text,
+    Case, Ending, Form, Paint, Reply, command as command_reply, explain as explain_reply,
+    reasons_text,
 };
 use std::alloc::Global;
 use std::io::{IsTerminal, Write};

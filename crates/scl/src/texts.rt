@@ -10,7 +10,8 @@ pub const ABOUT_COMMAND: &str = "Writes the command to run in the place of a com
 
 pub const ABOUT_DATABASE: &str = "Answers each entry of a compile database";
 
-pub const ABOUT_REASONS: &str = "Lists each reason why a command cannot be cached, with a sentence for people";
+pub const ABOUT_REASONS: &str =
+    "Lists each reason why a command cannot be cached, with a sentence for people";
 
 pub const STATUSES: &str =
     "Statuses: 0 answered; 2 wrong words; 3 out of memory; 4 a file cannot be read or the answer not be written; 5 the database is broken or has entries that are none (all others are answered); 10 cannot be cached; 11 compiles nothing; 12 a hazard.

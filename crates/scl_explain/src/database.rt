@@ -8,8 +8,8 @@ use thiserror::Error;
 /// Why a text is no compile database.
 #[derive(Debug, Clone, Copy, Drop, Error)]
 pub enum DatabaseError {
-    /// It is no JSON: where that shows, and in which entry.
-    #[error("line {line} column {column}, in entry {entry}: the text is no JSON")]
+    /// It is no JSON: near which place that shows, and in which entry.
+    #[error("near line {line} column {column}, in entry {entry}: the text is no JSON")]
     NoJson {
         /// The line, the first being 1.
         line: usize,

@@ -41,23 +41,29 @@ fn entries_of_one_kind_are_written(rt: HostRuntime) -> Result<(), Fail> {
     Ok(())
 }
 
-/// Texts that are no databases, and what is said of them.
-static BROKEN: [(&str, &str); 3] = [
-    ("{}", "the text is no array of entries"),
-    ("", "line 1 column 0, in entry 0: the text is no JSON"),
+/// Texts that are no databases, and how what is said of them begins and ends.
+static BROKEN: [(&str, &str, &str); 3] = [
+    ("{}", "the text is no array", " of entries"),
+    (
+        "",
+        "near line 1 column ",
+        ", in entry 0: the text is no JSON",
+    ),
     (
         "[{\"a\": [1, 2]},\n {\"b\": }]",
-        "line 2 column 7, in entry 2: the text is no JSON",
+        "near line 2 column ",
+        ", in entry 2: the text is no JSON",
     ),
 ];
 
 #[test]
 fn broken_databases_are_told(rt: HostRuntime) -> Result<(), Fail> {
     let alloc = rt.alloc();
-    for (text, told) in BROKEN {
+    for (text, begin, end) in BROKEN {
         let error = database(alloc, text)?.err().ok_or("a database")?;
         let said = format!(in alloc; "{error}")?;
-        assert!(rt; said.as_str() == told, "{said}");
+        let is_told = said.as_str().starts_with(begin) && said.as_str().ends_with(end);
+        assert!(rt; is_told, "{said}");
     }
     Ok(())
 }

@@ -36,7 +36,7 @@ static COMMANDS: [(&str, Ending, &str, &str); 6] = [
     (
         "clang-cl /c a.c",
         Ending::Answered,
-        "clang-cl -TC -c a.c -Foa.obj\n",
+        "clang-cl /c -Foa.obj a.c\n",
         "",
     ),
     (
