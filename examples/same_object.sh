@@ -1,17 +1,17 @@
 #!/usr/bin/env bash
-# Compiles a C file as it is asked for, and again by the command that ccline builds for the same words,
+# Compiles a C file as it is asked for, and again by the command that `scl command` gives for the same words,
 # and compares the two objects and dependency files byte for byte.
 #
 # Status 0: they are the same; 1: they differ, or there is no built command; 64: called wrongly.
 set -euo pipefail
 
 usage() {
-    echo "usage: examples/same_object.sh PATH_OF_CCLINE [gcc|g++|clang|clang++|clang-cl]" >&2
+    echo "usage: examples/same_object.sh PATH_OF_SCL [gcc|g++|clang|clang++|clang-cl]" >&2
     exit 64
 }
 [ $# -eq 1 ] || [ $# -eq 2 ] || usage
 [ -x "$1" ] || { echo "examples/same_object.sh: $1: no program" >&2; usage; }
-ccline=$(realpath "$1")
+scl=$(realpath "$1")
 compiler=${2:-gcc}
 case $compiler in gcc | g++ | clang | clang++ | clang-cl) ;; *) usage ;; esac
 executable=$compiler
@@ -45,45 +45,18 @@ if [ "$compiler" = clang-cl ]; then
     words=(/O2 /Z7 /W3 /I include '/DGREETING="hello, \"world\""' -clang:-MD -clang:-MFbuild/main.d /Brepro /Fobuild/ /c src/main.c)
 fi
 
-# each byte of a word as \xHH
-escaped() {
-    printf %s "$1" | od -An -v -tx1 | tr -d ' \n' | sed 's/../\\x&/g'
-}
-
-request() {
-    printf 'compiler %s\ncwd %s\n' "$compiler" "$(escaped "$folder")"
-    local word
-    for word in "${words[@]}"; do
-        printf 'word %s\n' "$(escaped "$word")"
-    done
-}
-
-status=0
-request | "$ccline" > answer || status=$?
-if [ $status -ne 0 ]; then
-    echo "ccline ended with status $status" >&2
+mapfile -d '' -t built < <("$scl" command -0 -- "$executable" "${words[@]}")
+if [ ${#built[@]} -eq 0 ]; then
+    echo "examples/same_object.sh: there is no built command" >&2
     exit 1
 fi
-if [ "$(head -n 1 answer)" != ok ]; then
-    echo "ccline built no command: $(cat answer)" >&2
-    exit 1
-fi
-built=()
-while IFS= read -r line; do
-    case $line in
-        'arg '*)
-            printf -v word %b "${line#arg }"
-            built+=("$word")
-            ;;
-    esac
-done < answer
 
 "$executable" "${words[@]}"
 mv build asked
 mkdir build
-"$executable" "${built[@]}"
-printf 'asked: %s' "$compiler"; printf ' %q' "${words[@]}"; echo
-printf 'built: %s' "$compiler"; printf ' %q' "${built[@]}"; echo
+"${built[@]}"
+printf 'asked: %s' "$executable"; printf ' %q' "${words[@]}"; echo
+printf 'built:'; printf ' %q' "${built[@]}"; echo
 cmp "asked/$object" "build/$object"
 cmp asked/main.d build/main.d
 echo "the objects are the same $(wc -c < "build/$object") bytes"

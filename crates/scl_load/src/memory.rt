@@ -4,6 +4,7 @@ ghost use Rattle.std.specs.Prelude.{◌≡◌, IsTrue, IsSome};
 use crate::disk::Disk;
 use scl_text::{Mem, View};
 use std::alloc::Global;
+use std::fmt;
 
 /// A disk in memory, which holds what its view has.
 #[derive(Drop)]
@@ -17,6 +18,12 @@ pub struct MemoryDisk {
 /// That a read was asked for at the broken path.
 #[derive(Debug, Clone, Copy, PartialEq, Eq)]
 pub struct Broken;
+
+impl fmt::Display for Broken {
+    fn fmt<W: fmt::Write>(&self, f: &mut fmt::Formatter<W>) -> fmt::Result {
+        f.write_str("a read failed")
+    }
+}
 
 impl MemoryDisk {
     fn is_broken(&self, path: &[u8]) -> bool

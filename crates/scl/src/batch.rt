@@ -1,0 +1,79 @@
+//! The answers to the entries of a compile database.
+use crate::arguments::{variables, working_directory};
+use crate::disk::SystemDisk;
+use crate::fault::Fault;
+use crate::options::DatabaseAsked;
+use crate::progress::Progress;
+use scl_explain::{Batch, Counts, Database, Ending, ending_of_counts};
+use std::fs;
+use std::io::{self, BufWriter, ErrorKind, Read, Write};
+
+fn bytes_of(rt: &HostRuntime, path: &str) -> io::Result<Vec<u8>> {
+    if path == "-" {
+        let mut bytes = Vec::new(rt.alloc());
+        rt.stdin().read_to_end(&mut bytes)?;
+        return Ok(bytes);
+    }
+    fs::read(rt, path)
+}
+
+fn read_file(rt: &HostRuntime, path: &str) -> Result<Vec<u8>, Fault> {
+    match bytes_of(rt, path) {
+        Ok(bytes) => Ok(bytes),
+        Err(error) if error.kind() == ErrorKind::OutOfMemory => Err(Fault::Memory),
+        Err(error) => Err(Fault::Input(format!(in rt.alloc(); "{path}: {error}")?)),
+    }
+}
+
+fn answer_all<W: Write>(
+    rt: &HostRuntime,
+    batch: &Batch,
+    database: &Database,
+    writer: &mut W,
+) -> Result<Counts, Fault> {
+    let alloc = rt.alloc();
+    let disk = SystemDisk { rt };
+    let mut counts = Counts::new(alloc);
+    let entries = database.entries();
+    let mut progress = Progress::new(rt);
+    for (at, value) in entries.iter().enumerate() {
+        let text = batch.entry_text(alloc, &disk, &mut counts, value)?;
+        writer.write_all(text.as_bytes()).map_err(Fault::of_output)?;
+        progress.step(at, entries.len());
+    }
+    progress.end();
+    Ok(counts)
+}
+
+fn answer_database(rt: &HostRuntime, batch: &Batch, database: &Database) -> Result<Ending, Fault> {
+    let alloc = rt.alloc();
+    let mut writer = BufWriter::new(alloc, io::writer(rt)).map_err(Fault::of_output)?;
+    let counts = answer_all(rt, batch, database, &mut writer)?;
+    let text = batch.closing_text(alloc, &counts)?;
+    writer.write_all(text.as_bytes()).map_err(Fault::of_output)?;
+    writer.flush().map_err(Fault::of_output)?;
+    Ok(ending_of_counts(&counts))
+}
+
+/// Answers each entry of a database.
+pub fn database(rt: &HostRuntime, asked: &DatabaseAsked) -> Result<Ending, Fault> {
+    let alloc = rt.alloc();
+    let path = asked.path.as_str();
+    let bytes = read_file(rt, path)?;
+    let database = match Database::of_text(alloc, &bytes)? {
+        Ok(database) => database,
+        Err(error) => {
+            eprintln!(rt; "scl: {path}: {error}").map_err(Fault::of_output)?;
+            return Ok(Ending::BadDatabase);
+        }
+    };
+    let batch = Batch {
+        named: asked.compiler,
+        base: working_directory(rt)?,
+        env_vars: variables(rt)?,
+        multiarch: asked.multiarch,
+        json: asked.json,
+        only: asked.only,
+    };
+    answer_database(rt, &batch, &database)
+}

@@ -1,0 +1,50 @@
+//! Why the program does not answer.
+use scl_explain::Ending;
+use std::alloc::{AllocError, AllocFailed};
+use std::io::{self, ErrorKind};
+use thiserror::Error;
+
+/// Why the program does not answer.
+#[derive(Debug, Drop, Error)]
+pub enum Fault {
+    /// Memory was refused.
+    #[error("out of memory")]
+    Memory,
+    /// The answer can't be written.
+    #[error("the answer cannot be written: {0}")]
+    Output(io::Error),
+    /// A file, or what else is asked of the system, can't be read.
+    #[error("{0}")]
+    Input(String),
+}
+
+impl Fault {
+    /// How the program ends.
+    pub fn ending(&self) -> Ending {
+        match self {
+            Fault::Memory => Ending::OutOfMemory,
+            Fault::Output(_) | Fault::Input(_) => Ending::FileFailed,
+        }
+    }
+
+    /// That the answer can't be written, or that there was no memory for it.
+    pub fn of_output(error: io::Error) -> Fault {
+        if error.kind() == ErrorKind::OutOfMemory {
+            Fault::Memory
+        } else {
+            Fault::Output(error)
+        }
+    }
+}
+
+impl From<AllocError> for Fault {
+    fn from(_: AllocError) -> Fault {
+        Fault::Memory
+    }
+}
+
+impl<T: Drop> From<AllocFailed<T>> for Fault {
+    fn from(_: AllocFailed<T>) -> Fault {
+        Fault::Memory
+    }
+}

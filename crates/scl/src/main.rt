@@ -1,0 +1,40 @@
+//! The program for people and build tools: it explains compile commands, gives them, and reads whole compile databases (see
+//! `scl --help`).
+#![tactic(auto)]
+
+mod arguments;
+mod batch;
+mod disk;
+mod fault;
+mod one;
+mod options;
+mod progress;
+mod texts;
+
+use crate::arguments::raw_arguments;
+use crate::fault::Fault;
+use crate::options::{Wanted, read_options};
+use scl_explain::Ending;
+use std::process::ExitCode;
+
+fn run(rt: &HostRuntime) -> Result<Ending, Fault> {
+    let arguments = raw_arguments(rt)?;
+    match read_options(rt, &arguments)? {
+        Wanted::Done(ending) => Ok(ending),
+        Wanted::Explain(asked) => one::explain(rt, &asked),
+        Wanted::Command(asked) => one::command(rt, &asked),
+        Wanted::Database(asked) => batch::database(rt, &asked),
+        Wanted::Reasons => one::reasons(rt),
+    }
+}
+
+fn main(rt: HostRuntime) -> ExitCode {
+    match run(&rt) {
+        Ok(ending) => ExitCode::from(ending.status()),
+        Err(fault) => {
+            // Where standard error takes nothing, the status alone tells.
+            let _ = eprintln!(rt; "scl: {fault}");
+            ExitCode::from(fault.ending().status())
+        }
+    }
+}

@@ -1,0 +1,98 @@
+//! The answers to one command line.
+use crate::arguments::{variables, working_directory};
+use crate::disk::SystemDisk;
+use crate::fault::Fault;
+use crate::options::Asked;
+use scl_cl::path;
+use scl_explain::{
+    Case, Ending, Form, Paint, Reply, command as command_reply, explain as explain_reply,
+    reasons_text,
+};
+use std::alloc::Global;
+use std::io::{IsTerminal, Write};
+
+/// The directory that a command line is run in.
+fn directory_of(rt: &HostRuntime, asked: &Asked) -> Result<Vec<u8>, Fault> {
+    let alloc = rt.alloc();
+    match &asked.directory {
+        Some(directory) if directory.first() == Some(&b'/') => {
+            Ok(Vec::from_slice(alloc, directory)?)
+        }
+        Some(directory) => Ok(path::join(alloc, &working_directory(rt)?, directory)?),
+        None => working_directory(rt),
+    }
+}
+
+fn copied(alloc: Global, words: &[Vec<u8>]) -> Result<Vec<Vec<u8>>, Fault> {
+    let mut copies = Vec::new(alloc);
+    for word in words {
+        copies.push(Vec::from_slice(alloc, word)?)?;
+    }
+    Ok(copies)
+}
+
+/// The command line that is asked about; none where its words are no command line, which is told.
+fn case_of(rt: &HostRuntime, asked: &Asked) -> Result<Option<Case>, Fault> {
+    let alloc = rt.alloc();
+    let words = copied(alloc, &asked.words)?;
+    let directory = directory_of(rt, asked)?;
+    let env_vars = variables(rt)?;
+    match Case::of_words(alloc, words, asked.compiler, directory, env_vars)? {
+        Ok(case) => Ok(Some(case)),
+        Err(error) => {
+            eprintln!(rt; "scl: {error}").map_err(Fault::of_output)?;
+            Ok(None)
+        }
+    }
+}
+
+/// Writes what is said.
+fn say(rt: &HostRuntime, reply: &Reply) -> Result<Ending, Fault> {
+    rt.stdout()
+        .write_all(&reply.output)
+        .map_err(Fault::of_output)?;
+    if let Some(error) = &reply.error {
+        eprintln!(rt; "scl: {error}").map_err(Fault::of_output)?;
+    }
+    Ok(reply.ending)
+}
+
+fn form_of(rt: &HostRuntime, asked: &Asked) -> Form {
+    if asked.json {
+        Form::Json
+    } else if rt.stdout().is_terminal() {
+        Form::Text(Paint::Colours)
+    } else {
+        Form::Text(Paint::Plain)
+    }
+}
+
+/// Says what a command line is.
+pub fn explain(rt: &HostRuntime, asked: &Asked) -> Result<Ending, Fault> {
+    let Some(case) = case_of(rt, asked)? else {
+        return Ok(Ending::Usage);
+    };
+    let disk = SystemDisk { rt };
+    let form = form_of(rt, asked);
+    let reply = explain_reply(rt.alloc(), &disk, &case, asked.multiarch, form)?;
+    say(rt, &reply)
+}
+
+/// Writes the command to run in the place of a command line.
+pub fn command(rt: &HostRuntime, asked: &Asked) -> Result<Ending, Fault> {
+    let Some(case) = case_of(rt, asked)? else {
+        return Ok(Ending::Usage);
+    };
+    let disk = SystemDisk { rt };
+    let reply = command_reply(rt.alloc(), &disk, &case, asked.multiarch, asked.has_nuls)?;
+    say(rt, &reply)
+}
+
+/// Writes each reason.
+pub fn reasons(rt: &HostRuntime) -> Result<Ending, Fault> {
+    let text = reasons_text(rt.alloc())?;
+    rt.stdout()
+        .write_all(text.as_bytes())
+        .map_err(Fault::of_output)?;
+    Ok(Ending::Answered)
+}

@@ -1,0 +1,271 @@
+//! The program's own command line.
+use crate::fault::Fault;
+use crate::texts;
+use clap::error::ErrorKind;
+use clap::{Arg, ArgAction, ArgMatches, Command, Error};
+use scl_cl::Compiler;
+use scl_explain::{Ending, Kind};
+use std::alloc::{AllocError, Global};
+
+/// What is asked about one command line.
+#[derive(Drop)]
+pub struct Asked {
+    /// The compiler, where one is named.
+    pub compiler: Option<Compiler>,
+    /// The words, the program's included.
+    pub words: Vec<Vec<u8>>,
+    /// The directory, where one is named.
+    pub directory: Option<Vec<u8>>,
+    /// Whether several architectures are allowed.
+    pub multiarch: bool,
+    /// Whether machines read the answer.
+    pub json: bool,
+    /// Whether words are ended by a NUL.
+    pub has_nuls: bool,
+}
+
+/// What is asked about a compile database.
+#[derive(Drop)]
+pub struct DatabaseAsked {
+    /// Its path; `-` is standard input.
+    pub path: String,
+    /// The compiler of each entry, where one is named.
+    pub compiler: Option<Compiler>,
+    /// Whether several architectures are allowed.
+    pub multiarch: bool,
+    /// Whether machines read the answers.
+    pub json: bool,
+    /// The one kind of entries that is wanted, if not each.
+    pub only: Option<Kind>,
+}
+
+/// What the command line asks for.
+#[derive(Drop)]
+pub enum Wanted {
+    /// Nothing more: help was written, or a mistake told.
+    Done(Ending),
+    /// What a command line is.
+    Explain(Asked),
+    /// The command alone.
+    Command(Asked),
+    /// The entries of a database.
+    Database(DatabaseAsked),
+    /// All reasons.
+    Reasons,
+}
+
+/// The names of compilers, in the order of docs/RULES.md.
+static COMPILERS: [&str; 8] = [
+    "gcc", "g++", "clang", "clang++", "cl", "clang-cl", "diab", "tasking",
+];
+
+/// The kinds of entries.
+static KINDS: [&str; 3] = ["ok", "hazard", "refused"];
+
+fn with_common<'a>(alloc: Global, command: Command<'a>) -> Result<Command<'a>, AllocError> {
+    let compiler = Arg::new(alloc, "compiler")
+        .long("compiler")
+        .value_name("NAME")
+        .value_parser(COMPILERS.as_slice())
+        .help("Read it as this compiler's, whatever the program is called");
+    let multiarch = Arg::new(alloc, "multiarch")
+        .long("multiarch")
+        .action(ArgAction::SetTrue)
+        .help("Allow several -arch");
+    command.arg(compiler)?.arg(multiarch)
+}
+
+fn with_json<'a>(alloc: Global, command: Command<'a>) -> Result<Command<'a>, AllocError> {
+    let json = Arg::new(alloc, "json")
+        .long("json")
+        .action(ArgAction::SetTrue)
+        .help("Write JSON, an object a line");
+    command.arg(json)
+}
+
+fn with_words<'a>(alloc: Global, command: Command<'a>) -> Result<Command<'a>, AllocError> {
+    let directory = Arg::new(alloc, "cwd").long("cwd").value_name("DIR").help(
+        "The directory that the command is run in, if not this one",
+    );
+    let words = Arg::new(alloc, "words")
+        .value_name("COMPILER WORD")
+        .num_args(1..)
+        .required(true)
+        .trailing_var_arg(true)
+        .allow_hyphen_values(true)
+        .help("The compiler and its words");
+    with_common(alloc, command.arg(directory)?)?.arg(words)
+}
+
+fn explain_command<'a>(alloc: Global) -> Result<Command<'a>, AllocError> {
+    let command = Command::new(alloc, "explain")
+        .about(texts::ABOUT_EXPLAIN)
+        .after_help(texts::EXAMPLE_EXPLAIN);
+    with_words(alloc, with_json(alloc, command)?)
+}
+
+fn command_command<'a>(alloc: Global) -> Result<Command<'a>, AllocError> {
+    let nul = Arg::new(alloc, "nul")
+        .short('0')
+        .action(ArgAction::SetTrue)
+        .help("End each word with a NUL, in place of quotes for a shell");
+    let command = Command::new(alloc, "command")
+        .about(texts::ABOUT_COMMAND)
+        .after_help(texts::EXAMPLE_COMMAND)
+        .arg(nul)?;
+    with_words(alloc, command)
+}
+
+fn database_command<'a>(alloc: Global) -> Result<Command<'a>, AllocError> {
+    let path = Arg::new(alloc, "path")
+        .value_name("FILE")
+        .default_value("compile_commands.json")
+        .help("The database; - is standard input");
+    let only = Arg::new(alloc, "only")
+        .long("only")
+        .value_name("WHAT")
+        .value_parser(KINDS.as_slice())
+        .help("Write the entries of this kind alone");
+    let command = Command::new(alloc, "database")
+        .about(texts::ABOUT_DATABASE)
+        .after_help(texts::EXAMPLE_DATABASE)
+        .arg(path)?
+        .arg(only)?;
+    with_common(alloc, with_json(alloc, command)?)
+}
+
+fn reasons_command<'a>(alloc: Global) -> Command<'a> {
+    Command::new(alloc, "reasons").about(texts::ABOUT_REASONS)
+}
+
+fn whole_command<'a>(alloc: Global) -> Result<Command<'a>, AllocError> {
+    Command::new(alloc, "scl")
+        .about(texts::ABOUT)
+        .after_help(texts::STATUSES)
+        .subcommand_required(true)
+        .disable_help_subcommand(true)
+        .subcommand(explain_command(alloc)?)?
+        .subcommand(command_command(alloc)?)?
+        .subcommand(database_command(alloc)?)?
+        .subcommand(reasons_command(alloc))
+}
+
+/// The words as text, with what is no text replaced, behind the program's name.
+fn shown_words(alloc: Global, arguments: &[Vec<u8>]) -> Result<Vec<String>, AllocError> {
+    let mut words = Vec::new(alloc);
+    words.push(String::from_str(alloc, "scl")?)?;
+    for argument in arguments {
+        words.push(String::from_utf8_lossy(alloc, argument)?)?;
+    }
+    Ok(words)
+}
+
+/// The last arguments, so many, as they are.
+fn last_words(
+    alloc: Global,
+    arguments: &[Vec<u8>],
+    count: usize,
+) -> Result<Vec<Vec<u8>>, AllocError> {
+    let start = arguments.len().saturating_sub(count);
+    let mut words = Vec::new(alloc);
+    for word in arguments.iter().skip(start) {
+        words.push(Vec::from_slice(alloc, word)?)?;
+    }
+    Ok(words)
+}
+
+fn compiler_named(matches: &ArgMatches<'_>) -> Option<Compiler> {
+    match matches.get_str("compiler") {
+        Some(name) => Compiler::named(name.as_bytes()),
+        None => None,
+    }
+}
+
+fn kind_named(matches: &ArgMatches<'_>) -> Option<Kind> {
+    match matches.get_str("only") {
+        Some("ok") => Some(Kind::Ok),
+        Some("hazard") => Some(Kind::Hazard),
+        Some("refused") => Some(Kind::Refused),
+        Some(_) | None => None,
+    }
+}
+
+fn asked_words(
+    alloc: Global,
+    arguments: &[Vec<u8>],
+    matches: &ArgMatches<'_>,
+) -> Result<Asked, AllocError> {
+    let count = matches.get_strs("words").map_or(0, |words| words.len());
+    let directory = match matches.get_str("cwd") {
+        Some(path) => Some(Vec::from_slice(alloc, path.as_bytes())?),
+        None => None,
+    };
+    Ok(Asked {
+        compiler: compiler_named(matches),
+        words: last_words(alloc, arguments, count)?,
+        directory,
+        multiarch: matches.get_flag("multiarch"),
+        json: matches.get_flag("json"),
+        has_nuls: matches.get_flag("nul"),
+    })
+}
+
+fn asked_entries(alloc: Global, matches: &ArgMatches<'_>) -> Result<DatabaseAsked, AllocError> {
+    let path = matches.get_str("path").unwrap_or("-");
+    Ok(DatabaseAsked {
+        path: String::from_str(alloc, path)?,
+        compiler: compiler_named(matches),
+        multiarch: matches.get_flag("multiarch"),
+        json: matches.get_flag("json"),
+        only: kind_named(matches),
+    })
+}
+
+fn what_is_wanted(
+    alloc: Global,
+    arguments: &[Vec<u8>],
+    matches: &ArgMatches<'_>,
+) -> Result<Wanted, AllocError> {
+    match matches.subcommand() {
+        Some(("explain", inner)) => Ok(Wanted::Explain(asked_words(alloc, arguments, inner)?)),
+        Some(("command", inner)) => Ok(Wanted::Command(asked_words(alloc, arguments, inner)?)),
+        Some(("database", inner)) => Ok(Wanted::Database(asked_entries(alloc, inner)?)),
+        Some(("reasons", _)) => Ok(Wanted::Reasons),
+        Some(_) | None => Ok(Wanted::Done(Ending::Usage)),
+    }
+}
+
+/// The first line of a mistake's text, behind `error: `.
+fn first_line(text: &str) -> &str {
+    let line = text.lines().next().unwrap_or("wrong words");
+    line.strip_prefix("error: ").unwrap_or(line)
+}
+
+/// Tells a mistake in one line, and writes help where that was asked for.
+fn tell(rt: &HostRuntime, error: &Error) -> Result<Wanted, Fault> {
+    if error.kind() == ErrorKind::OutOfMemory {
+        return Err(Fault::Memory);
+    }
+    if error.use_stderr() {
+        let text = format!(in rt.alloc(); "{error}")?;
+        let line = first_line(text.as_str());
+        eprintln!(rt; "scl: {line} (scl --help says what there is)").map_err(Fault::of_output)?;
+        return Ok(Wanted::Done(Ending::Usage));
+    }
+    error.print(rt).map_err(Fault::of_output)?;
+    Ok(Wanted::Done(Ending::Answered))
+}
+
+fn matches_of<'a>(alloc: Global, words: &'a [String]) -> Result<ArgMatches<'a>, Error> {
+    whole_command(alloc)?.try_get_matches_from(words)
+}
+
+/// What the arguments ask for; help and mistakes are told.
+pub fn read_options(rt: &HostRuntime, arguments: &[Vec<u8>]) -> Result<Wanted, Fault> {
+    let alloc = rt.alloc();
+    let words = shown_words(alloc, arguments)?;
+    match matches_of(alloc, &words) {
+        Ok(matches) => Ok(what_is_wanted(alloc, arguments, &matches)?),
+        Err(error) => tell(rt, &error),
+    }
+}

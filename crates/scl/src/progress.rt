@@ -1,0 +1,53 @@
+//! How far a long work is, on a terminal.
+use std::io::{self, IsTerminal, Write};
+use std::time::{Duration, Instant};
+
+/// How far a long work is: told on standard error, on a terminal alone, once it took more than a second.
+#[derive(Drop)]
+pub struct Progress<'a> {
+    rt: &'a HostRuntime,
+    last: Option<Instant>,
+    told: bool,
+}
+
+impl<'a> Progress<'a> {
+    /// Of work that begins.
+    pub fn new(rt: &'a HostRuntime) -> Progress<'a> {
+        let last = if rt.stderr().is_terminal() {
+            Instant::now(rt).ok()
+        } else {
+            None
+        };
+        Progress {
+            rt,
+            last,
+            told: false,
+        }
+    }
+
+    fn tell(&mut self, done: usize, all: usize) -> io::Result<()> {
+        self.told = true;
+        eprint!(self.rt; "\r{done} of {all} entries")
+    }
+
+    /// So many are done. Where that can't be told, it is left untold.
+    pub fn step(&mut self, done: usize, all: usize) {
+        if let Some(last) = self.last {
+            let is_due = match last.elapsed(self.rt) {
+                Ok(elapsed) => elapsed >= Duration::from_secs(1),
+                Err(_) => false,
+            };
+            if is_due {
+                self.last = Instant::now(self.rt).ok();
+                let _ = self.tell(done, all);
+            }
+        }
+    }
+
+    /// The work is done: the line is taken away.
+    pub fn end(&self) {
+        if self.told {
+            let _ = eprint!(self.rt; "\r\x1b[K");
+        }
+    }
+}

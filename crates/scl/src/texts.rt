@@ -1,0 +1,40 @@
+//! The texts of the program's help.
+
+pub const ABOUT: &str =
+    "Understands the command lines of gcc, clang, cl, clang-cl, Diab and TaskingVX";
+
+pub const ABOUT_EXPLAIN: &str =
+    "Says what a compile command is: what becomes of it, what it reads and writes, and the command to run in its place";
+
+pub const ABOUT_COMMAND: &str = "Writes the command to run in the place of a compile command";
+
+pub const ABOUT_DATABASE: &str = "Answers each entry of a compile database";
+
+pub const ABOUT_REASONS: &str =
+    "Lists each reason why a command cannot be cached, with a sentence for people";
+
+pub const STATUSES: &str =
+    "Statuses: 0 answered; 2 wrong words; 3 out of memory; 4 a file cannot be read or the answer not be written; 5 the database is broken or has entries that are none (all others are answered); 10 cannot be cached; 11 compiles nothing; 12 a hazard.
+
+Which compiler: by the file name of the first word that is neither a launcher (ccache, sccache, distcc, icecc, env) nor an assignment; without .exe and a version it ends in clang-cl, clang++, clang, g++, gcc, c++ or cc (alone or behind a -), or is cl, dcc or cctc. cc and c++ are gcc and g++ unless --compiler says otherwise.
+
+Example:
+    scl explain gcc -c src/foo.c -O2 -Iinclude -MMD -o foo.o";
+
+pub const EXAMPLE_EXPLAIN: &str = "Example:
+    scl explain gcc -c src/foo.c -O2 -Iinclude -MMD -o foo.o
+    scl explain --json --compiler clang -- /opt/wrapper -c foo.c";
+
+pub const EXAMPLE_COMMAND: &str =
+    "Ends with status 10 where the outcome cannot be cached, and 11 where nothing is compiled; then no command is written.
+
+Example:
+    scl command gcc -c src/foo.c -o foo.o
+    scl command -0 gcc -c src/foo.c | xargs -0 env";
+
+pub const EXAMPLE_DATABASE: &str =
+    "Each entry has a \"directory\", and \"arguments\" or a \"command\" of shell words. With --json each answer is an object in a line; otherwise a summary is written, with --only behind a line for each entry of that kind.
+
+Example:
+    scl database build/compile_commands.json
+    scl database --json --only refused - < compile_commands.json";

@@ -1,0 +1,102 @@
+//! What a command line is answered, with what its answer asks of a disk.
+ghost use Rattle.std.specs.Prelude.{◌≡◌, IfOk, IfErr};
+ghost use Rattle.scl_values.specs.Words.{words_of};
+ghost use Rattle.scl_files.specs.Views.{Viewed};
+ghost use Rattle.scl_text.specs.Commands.{pairs_of};
+ghost use Rattle.scl_cl.specs.Answers.{answer_to};
+ghost use Rattle.scl_cl.specs.AnswersGiven.{answer_of};
+ghost use Rattle.scl_cl.specs.Requests.{asked};
+ghost use Rattle.scl_load.specs.Loads.{IsDiskError};
+
+use crate::case::Case;
+use crate::logged::Logged;
+use scl_cl::{Compilation, CompilerArguments, Mem, View};
+use scl_load::{Disk, LoadError, load};
+use std::alloc::Global;
+
+/// The most words that a command line may have, with its response files put in place.
+const MOST_WORDS: usize = 1 << 20;
+
+/// The most response files that may each name the next.
+const MOST_ROUNDS: u32 = 1 << 12;
+
+/// What a command line is answered.
+#[derive(Drop)]
+pub struct Answered {
+    /// The answer.
+    pub answer: CompilerArguments<Compilation>,
+    /// The words of the preprocessor's runs; none where there is no command.
+    pub runs: Vec<Vec<Vec<u8>>>,
+    /// The paths of the response files that were read.
+    pub response_files: Vec<Vec<u8>>,
+    /// The paths at which words name a response file, and there is none.
+    pub missing_files: Vec<Vec<u8>>,
+    /// What the disk has of what is asked.
+    pub view: View,
+}
+
+/// The words of the preprocessor's runs for an answer.
+fn runs_of(
+    alloc: Global,
+    case: &Case,
+    answer: &CompilerArguments<Compilation>,
+) -> Mem<Vec<Vec<Vec<u8>>>> {
+    match answer {
+        CompilerArguments::Ok(compilation) => {
+            let parsed = &compilation.parsed;
+            case.compiler
+                .preprocess_runs(alloc, parsed, false, false, false)
+        }
+        CompilerArguments::CannotCache(_, _) | CompilerArguments::NotCompilation => {
+            Ok(Vec::new(alloc))
+        }
+    }
+}
+
+/// The answer to a command line on a disk, which is asked for response files, directories and other paths; `multiarch` says
+/// whether several architectures are allowed. A read that fails is `Disk` with its error; `TooManyWords` and `TooManyRounds`
+/// where response files give more than 2^20 words, or more than 2^12 name each the next. The outer error is the refusal of
+/// memory.
+pub fn answer_case<D: Disk>(
+    alloc: Global,
+    disk: &D,
+    case: &Case,
+    multiarch: bool,
+) -> Mem<Result<Answered, LoadError<D::Error>>>
+    ensures answer { IfOk result (λ said. IfOk said (λ answered. (held : Viewed) → D.holds disk.now held → held.is_multiarch ≡ multiarch
+        → answer_to (asked case.now.compiler (words_of case.now.words.items) case.now.cwd.items (pairs_of case.now.env_vars.items) held) ≡ answer_of answered.answer)) }
+    ensures error { IfOk result (λ said. IfErr said (λ error. IsDiskError (D.fails disk.now) error)) }
+{
+    let logged = Logged::new(alloc, disk);
+    let Case {
+        compiler,
+        program,
+        words,
+        cwd,
+        env_vars,
+    } = case;
+    let view = match load(
+        alloc,
+        &logged,
+        *compiler,
+        words,
+        cwd,
+        env_vars,
+        multiarch,
+        MOST_WORDS,
+        MOST_ROUNDS,
+    )? {
+        Ok(view) => view,
+        Err(error) => return Ok(Err(error)),
+    };
+    let log = logged.into_log();
+    let answer = compiler.answer(alloc, program, words, cwd, env_vars, &view)?;
+    let runs = runs_of(alloc, case, &answer)?;
+    Ok(Ok(Answered {
+        answer,
+        runs,
+        response_files: log.found,
+        missing_files: log.missing,
+        view,
+    }))
+}

@@ -1,0 +1,158 @@
+//! What is counted over a database.
+use crate::answered::Answered;
+use scl_cl::{Compilation, CompilerArguments, Mem, path};
+use std::alloc::Global;
+use std::collections::BTreeMap;
+
+/// What an entry is.
+#[derive(Debug, Clone, Copy, PartialEq, Eq)]
+pub enum Kind {
+    /// It can be cached, and no hazard is named.
+    Ok,
+    /// A hazard is named.
+    Hazard,
+    /// It can't be cached, or compiles nothing.
+    Refused,
+}
+
+/// How often something was met, and the first entry where it was.
+#[derive(Drop)]
+pub(crate) struct Met {
+    pub(crate) times: u64,
+    pub(crate) entry: u64,
+    pub(crate) file: String,
+}
+
+/// What is counted over the entries of a database.
+#[derive(Drop)]
+pub struct Counts {
+    pub(crate) entries: u64,
+    pub(crate) ok: u64,
+    pub(crate) not_compilation: u64,
+    pub(crate) refused: BTreeMap<String, Met>,
+    pub(crate) hazards: BTreeMap<String, Met>,
+    pub(crate) broken: Vec<(u64, String)>,
+    pub(crate) unread: Vec<(u64, String)>,
+    pub(crate) outputs: BTreeMap<Vec<u8>, Vec<u64>>,
+    pub(crate) missing: BTreeMap<Vec<u8>, Met>,
+}
+
+fn meet<K: Ord + Drop>(
+    alloc: Global,
+    map: &mut BTreeMap<K, Met>,
+    key: K,
+    entry: u64,
+    file: &str,
+) -> Mem<()> {
+    let first = Met {
+        times: 0,
+        entry,
+        file: String::from_str(alloc, file)?,
+    };
+    let met = map.entry(key)?.or_insert(first);
+    met.times = met.times.saturating_add(1);
+    Ok(())
+}
+
+impl Counts {
+    /// Of no entries.
+    pub fn new(alloc: Global) -> Counts {
+        Counts {
+            entries: 0,
+            ok: 0,
+            not_compilation: 0,
+            refused: BTreeMap::new(alloc),
+            hazards: BTreeMap::new(alloc),
+            broken: Vec::new(alloc),
+            unread: Vec::new(alloc),
+            outputs: BTreeMap::new(alloc),
+            missing: BTreeMap::new(alloc),
+        }
+    }
+
+    /// The number of the next entry, the first being 1.
+    pub fn next(&mut self) -> u64 {
+        self.entries = self.entries.saturating_add(1);
+        self.entries
+    }
+
+    fn count_output(&mut self, alloc: Global, entry: u64, compilation: &Compilation) -> Mem<()> {
+        let Some(object) = compilation.parsed.outputs.get("obj") else {
+            return Ok(());
+        };
+        let path = path::join(alloc, &compilation.command.cwd, &object.path)?;
+        if let Some(entries) = self.outputs.get_mut(&path) {
+            entries.push(entry)?;
+            return Ok(());
+        }
+        self.outputs.insert(path, vec![in alloc; entry]?)?;
+        Ok(())
+    }
+
+    fn count_refused(&mut self, alloc: Global, entry: u64, file: &str, reason: &str) -> Mem<()> {
+        let key = String::from_str(alloc, reason)?;
+        meet(alloc, &mut self.refused, key, entry, file)
+    }
+
+    fn count_missing(
+        &mut self,
+        alloc: Global,
+        entry: u64,
+        file: &str,
+        paths: &[Vec<u8>],
+    ) -> Mem<()> {
+        for path in paths {
+            let key = Vec::from_slice(alloc, path)?;
+            meet(alloc, &mut self.missing, key, entry, file)?;
+        }
+        Ok(())
+    }
+
+    /// Counts an entry that is answered, of a source `file`; what it is.
+    pub fn count(
+        &mut self,
+        alloc: Global,
+        entry: u64,
+        file: &str,
+        answered: &Answered,
+    ) -> Mem<Kind> {
+        self.count_missing(alloc, entry, file, &answered.missing_files)?;
+        match &answered.answer {
+            CompilerArguments::Ok(compilation) => {
+                self.ok = self.ok.saturating_add(1);
+                self.count_output(alloc, entry, compilation)?;
+                Ok(Kind::Ok)
+            }
+            CompilerArguments::CannotCache(reason, _) => {
+                self.count_refused(alloc, entry, file, reason)?;
+                Ok(Kind::Refused)
+            }
+            CompilerArguments::NotCompilation => {
+                self.not_compilation = self.not_compilation.saturating_add(1);
+                Ok(Kind::Refused)
+            }
+        }
+    }
+
+    /// Counts an entry that is none.
+    pub fn count_broken(&mut self, entry: u64, why: String) -> Mem<()> {
+        self.broken.push((entry, why))?;
+        Ok(())
+    }
+
+    /// Counts an entry with a file that can't be read.
+    pub fn count_unread(&mut self, entry: u64, why: String) -> Mem<()> {
+        self.unread.push((entry, why))?;
+        Ok(())
+    }
+
+    /// Whether an entry was none.
+    pub fn has_broken(&self) -> bool {
+        !self.broken.is_empty()
+    }
+
+    /// Whether an entry has a file that can't be read.
+    pub fn has_unread(&self) -> bool {
+        !self.unread.is_empty()
+    }
+}

@@ -1,0 +1,155 @@
+//! What a database has, for a person.
+use crate::answered::Answered;
+use crate::count::{Counts, Met};
+use crate::words::{push_shown, refusal_text};
+use scl_cl::{CompilerArguments, Mem};
+use scl_reasons::sentence;
+use std::alloc::Global;
+use std::collections::BTreeMap;
+
+/// How many lines of one sort are written, and how many entries in one line.
+const MOST: usize = 20;
+
+const MOST_ENTRIES: usize = 4;
+
+fn push_place(text: &mut String, entry: u64, file: &str) -> Mem<()> {
+    if file.is_empty() {
+        write!(text, "entry {entry}")
+    } else {
+        write!(text, "entry {entry}, {file}")
+    }
+}
+
+fn push_more(text: &mut String, count: usize) -> Mem<()> {
+    if count > MOST {
+        let more = count - MOST;
+        write!(text, "      and {more} more\n")?;
+    }
+    Ok(())
+}
+
+fn push_met(text: &mut String, name: &str, met: &Met) -> Mem<()> {
+    let times = met.times;
+    write!(text, "  {times:>6}  {name} (")?;
+    push_place(text, met.entry, met.file.as_str())?;
+    text.push_str(")\n")
+}
+
+/// The reasons for which entries are refused, with a sentence for people.
+fn push_reasons(text: &mut String, reasons: &BTreeMap<String, Met>) -> Mem<()> {
+    for (reason, met) in reasons.iter() {
+        push_met(text, reason.as_str(), met)?;
+        let sentence = sentence(reason.as_str());
+        write!(text, "          {sentence}\n")?;
+    }
+    Ok(())
+}
+
+fn push_told(text: &mut String, title: &str, told: &[(u64, String)]) -> Mem<()> {
+    if told.is_empty() {
+        return Ok(());
+    }
+    let count = told.len();
+    write!(text, "{title}: {count}\n")?;
+    for (entry, why) in told.iter().take(MOST) {
+        write!(text, "      entry {entry}: {why}\n")?;
+    }
+    push_more(text, count)
+}
+
+fn push_entries(text: &mut String, entries: &[u64]) -> Mem<()> {
+    for (at, entry) in entries.iter().take(MOST_ENTRIES).enumerate() {
+        let before = if at == 0 { " " } else { ", " };
+        write!(text, "{before}{entry}")?;
+    }
+    if entries.len() > MOST_ENTRIES {
+        let more = entries.len() - MOST_ENTRIES;
+        write!(text, " and {more} more")?;
+    }
+    Ok(())
+}
+
+fn push_output(alloc: Global, text: &mut String, path: &[u8], entries: &[u64]) -> Mem<()> {
+    text.push_str("      ")?;
+    push_shown(alloc, text, path)?;
+    text.push_str(": entries")?;
+    push_entries(text, entries)?;
+    text.push('\n')
+}
+
+/// The outputs that several entries write.
+fn push_shared_outputs(alloc: Global, text: &mut String, counts: &Counts) -> Mem<()> {
+    let mut shared = 0usize;
+    for (path, entries) in counts.outputs.iter() {
+        if entries.len() < 2 {
+            continue;
+        }
+        if shared == 0 {
+            text.push_str("written by several entries:\n")?;
+        }
+        shared = shared.saturating_add(1);
+        if shared <= MOST {
+            push_output(alloc, text, path, entries)?;
+        }
+    }
+    push_more(text, shared)
+}
+
+fn push_missing(alloc: Global, text: &mut String, counts: &Counts) -> Mem<()> {
+    if counts.missing.is_empty() {
+        return Ok(());
+    }
+    text.push_str("response files that are not there:\n")?;
+    for (path, met) in counts.missing.iter().take(MOST) {
+        let times = met.times;
+        write!(text, "  {times:>6}  ")?;
+        push_shown(alloc, text, path)?;
+        text.push_str(" (")?;
+        push_place(text, met.entry, met.file.as_str())?;
+        text.push_str(")\n")?;
+    }
+    push_more(text, counts.missing.len())
+}
+
+fn refused_entries(counts: &Counts) -> u64 {
+    let mut all = 0u64;
+    for met in counts.refused.values() {
+        all = all.saturating_add(met.times);
+    }
+    all
+}
+
+/// What was counted over a database, for a person. It fails only for want of memory.
+pub fn summary(alloc: Global, counts: &Counts) -> Mem<String> {
+    let mut text = String::new(alloc);
+    let (entries, ok, none) = (counts.entries, counts.ok, counts.not_compilation);
+    let refused = refused_entries(counts);
+    write!(text, "entries: {entries}\n")?;
+    write!(text, "can be cached: {ok}\n")?;
+    write!(text, "compile nothing: {none}\n")?;
+    write!(text, "cannot be cached: {refused}\n")?;
+    push_reasons(&mut text, &counts.refused)?;
+    push_told(&mut text, "no command lines", &counts.broken)?;
+    push_told(&mut text, "files that cannot be read", &counts.unread)?;
+    push_shared_outputs(alloc, &mut text, counts)?;
+    push_missing(alloc, &mut text, counts)?;
+    Ok(text)
+}
+
+/// An entry and its outcome, in one line. It fails only for want of memory.
+pub fn entry_line(alloc: Global, entry: u64, file: &str, answered: &Answered) -> Mem<String> {
+    let mut text = String::new(alloc);
+    push_place(&mut text, entry, file)?;
+    text.push_str(": ")?;
+    match &answered.answer {
+        CompilerArguments::Ok(_) => text.push_str("can be cached")?,
+        CompilerArguments::CannotCache(reason, more) => {
+            let more = more.as_ref().map(|more| more.as_str());
+            let refusal = refusal_text(alloc, reason, more)?;
+            text.push_str(refusal.as_str())?;
+        }
+        CompilerArguments::NotCompilation => text.push_str("compiles nothing")?,
+    }
+    text.push('\n')?;
+    Ok(text)
+}

@@ -1,0 +1,219 @@
+//! Answers as JSON: an object in one line, whose members are in the order of their names.
+use crate::answered::Answered;
+use crate::case::Case;
+use scl_cl::{Cacheable, Compilation, CompilerArguments, Mem};
+use scl_reasons::sentence;
+use scl_rows::Row;
+use scl_text::refusal::Refusal;
+use serde_json::{Map, Value, put};
+use std::alloc::Global;
+use std::str;
+
+/// The members of an object that is made.
+#[derive(Drop)]
+struct Members {
+    alloc: Global,
+    map: Map<String, Value>,
+}
+
+impl Members {
+    fn new(alloc: Global) -> Members {
+        Members {
+            alloc,
+            map: Map::new(alloc),
+        }
+    }
+
+    fn put(&mut self, name: &str, value: Value) -> Mem<()> {
+        put(&mut self.map, self.alloc, name, value)
+    }
+
+    fn put_text(&mut self, name: &str, text: &str) -> Mem<()> {
+        let text = String::from_str(self.alloc, text)?;
+        self.put(name, Value::String(text))
+    }
+
+    fn put_flag(&mut self, name: &str, is: bool) -> Mem<()> {
+        self.put(name, Value::Bool(is))
+    }
+
+    fn put_bytes(&mut self, name: &str, bytes: &[u8]) -> Mem<()> {
+        let value = bytes_value(self.alloc, bytes)?;
+        self.put(name, value)
+    }
+
+    fn put_words(&mut self, name: &str, words: &[Vec<u8>]) -> Mem<()> {
+        let value = words_value(self.alloc, words)?;
+        self.put(name, value)
+    }
+
+    fn into_value(self) -> Value {
+        let Members { alloc: _, map } = self;
+        Value::Object(map)
+    }
+
+    fn into_line(self) -> Mem<String> {
+        let alloc = self.alloc;
+        let mut line = self.into_value().to_string(alloc)?;
+        line.push('\n')?;
+        Ok(line)
+    }
+}
+
+fn hexadecimal(alloc: Global, bytes: &[u8]) -> Mem<String> {
+    let mut digits = String::new(alloc);
+    for byte in bytes {
+        write!(digits, "{byte:02x}")?;
+    }
+    Ok(digits)
+}
+
+/// Bytes: a text where they are UTF-8, else an object with their hexadecimal digits.
+fn bytes_value(alloc: Global, bytes: &[u8]) -> Mem<Value> {
+    match str::from_utf8(bytes) {
+        Ok(text) => Ok(Value::String(String::from_str(alloc, text)?)),
+        Err(_) => {
+            let mut members = Members::new(alloc);
+            let digits = hexadecimal(alloc, bytes)?;
+            members.put("hex", Value::String(digits))?;
+            Ok(members.into_value())
+        }
+    }
+}
+
+fn words_value(alloc: Global, words: &[Vec<u8>]) -> Mem<Value> {
+    let mut items = Vec::new(alloc);
+    for word in words {
+        items.push(bytes_value(alloc, word)?)?;
+    }
+    Ok(Value::Array(items))
+}
+
+fn runs_value(alloc: Global, runs: &[Vec<Vec<u8>>]) -> Mem<Value> {
+    let mut items = Vec::new(alloc);
+    for run in runs {
+        items.push(words_value(alloc, run)?)?;
+    }
+    Ok(Value::Array(items))
+}
+
+fn put_refusal(members: &mut Members, refusal: &Refusal) -> Mem<()> {
+    match refusal {
+        Refusal::CannotCache(reason, _) => members.put_text("reason", reason),
+        Refusal::NotCompilation => members.put_text("reason", "not-compilation"),
+    }
+}
+
+fn row_value(alloc: Global, row: &Row) -> Mem<Value> {
+    let mut members = Members::new(alloc);
+    members.put_words("words", &row.given)?;
+    members.put_text("kind", row.kind.as_str())?;
+    members.put_text("goes_to", row.destination.name())?;
+    members.put_text("origin", row.origin.name())?;
+    members.put_words("printed", &row.printed)?;
+    if let Some(flag) = row.flag {
+        members.put_text("flag", flag)?;
+    }
+    if let Some(value) = &row.value {
+        members.put_bytes("value", value)?;
+    }
+    if let Some(refusal) = &row.refusal {
+        put_refusal(&mut members, refusal)?;
+    }
+    Ok(members.into_value())
+}
+
+fn rows_value(alloc: Global, rows: &[Row]) -> Mem<Value> {
+    let mut items = Vec::new(alloc);
+    for row in rows {
+        items.push(row_value(alloc, row)?)?;
+    }
+    Ok(Value::Array(items))
+}
+
+fn output_value(alloc: Global, path: &[u8], optional: bool) -> Mem<Value> {
+    let mut members = Members::new(alloc);
+    members.put_flag("optional", optional)?;
+    members.put_bytes("path", path)?;
+    Ok(members.into_value())
+}
+
+fn outputs_value(alloc: Global, compilation: &Compilation) -> Mem<Value> {
+    let mut members = Members::new(alloc);
+    for (name, output) in compilation.parsed.outputs.iter() {
+        let value = output_value(alloc, &output.path, output.optional)?;
+        members.put(name.as_str(), value)?;
+    }
+    Ok(members.into_value())
+}
+
+fn put_compilation(members: &mut Members, compilation: &Compilation) -> Mem<()> {
+    let alloc = members.alloc;
+    let parsed = &compilation.parsed;
+    let language = format!(in alloc; "{:?}", parsed.language)?;
+    members.put_text("outcome", "ok")?;
+    members.put_flag("cacheable", compilation.cacheable == Cacheable::Yes)?;
+    members.put_words("command", &compilation.command.arguments)?;
+    members.put_words("hash_files", &parsed.extra_hash_files)?;
+    members.put_bytes("input", &parsed.input)?;
+    members.put("language", Value::String(language))?;
+    members.put("outputs", outputs_value(alloc, compilation)?)
+}
+
+fn put_answer(members: &mut Members, answered: &Answered) -> Mem<()> {
+    match &answered.answer {
+        CompilerArguments::Ok(compilation) => {
+            put_compilation(members, compilation)?;
+            let runs = runs_value(members.alloc, &answered.runs)?;
+            members.put("preprocessor", runs)
+        }
+        CompilerArguments::CannotCache(reason, more) => {
+            members.put_text("outcome", "cannot-cache")?;
+            members.put_text("reason", reason)?;
+            members.put_text("sentence", sentence(reason))?;
+            match more {
+                Some(more) => members.put_text("detail", more.as_str()),
+                None => Ok(()),
+            }
+        }
+        CompilerArguments::NotCompilation => members.put_text("outcome", "not-compilation"),
+    }
+}
+
+fn members_of(alloc: Global, case: &Case, answered: &Answered) -> Mem<Members> {
+    let mut members = Members::new(alloc);
+    members.put_text("compiler", case.compiler.name())?;
+    members.put_bytes("directory", &case.cwd)?;
+    members.put_bytes("program", &case.program)?;
+    members.put_words("missing_files", &answered.missing_files)?;
+    members.put_words("response_files", &answered.response_files)?;
+    put_answer(&mut members, answered)?;
+    Ok(members)
+}
+
+/// The answer to an entry of a database. It fails only for want of memory.
+pub fn answer_line(alloc: Global, entry: u64, case: &Case, answered: &Answered) -> Mem<String> {
+    let mut members = members_of(alloc, case, answered)?;
+    members.put("entry", Value::from(entry))?;
+    members.into_line()
+}
+
+/// The answer to a command line, with what became of each option. It fails only for want of memory.
+pub fn explanation_line(
+    alloc: Global,
+    case: &Case,
+    answered: &Answered,
+    rows: &[Row],
+) -> Mem<String> {
+    let mut members = members_of(alloc, case, answered)?;
+    members.put("options", rows_value(alloc, rows)?)?;
+    members.into_line()
+}
+
+/// Why an entry of a database has no answer. It fails only for want of memory.
+pub fn refused_entry_line(alloc: Global, entry: u64, why: &str) -> Mem<String> {
+    let mut members = Members::new(alloc);
+    members.put("entry", Value::from(entry))?;
+    members.put_text("error", why)?;
+    members.into_line()
+}

@@ -1,0 +1,34 @@
+//! What is said of a command line, and of the entries of a compile database: texts for people, JSON for machines, statuses.
+#![tactic(auto)]
+
+mod answered;
+mod batch;
+mod case;
+mod count;
+mod database;
+mod digest;
+mod entry;
+mod json;
+mod logged;
+mod options;
+mod page;
+mod paint;
+mod place;
+mod reasons;
+mod reply;
+mod rows;
+mod status;
+mod table;
+mod words;
+
+pub use answered::{Answered, answer_case};
+pub use batch::{Batch, ending_of_counts};
+pub use case::{Case, CaseError};
+pub use count::{Counts, Kind};
+pub use database::{Database, DatabaseError};
+pub use entry::{EntryError, case_of_entry};
+pub use paint::Paint;
+pub use reasons::reasons_text;
+pub use reply::{Form, Reply, command, explain};
+pub use status::Ending;
+pub use words::command_text;

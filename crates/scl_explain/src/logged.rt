@@ -1,0 +1,98 @@
+//! A disk that notes which files were looked for.
+ghost use Rattle.std.specs.Prelude.{◌≡◌};
+
+use scl_cl::Mem;
+use scl_load::Disk;
+use std::alloc::Global;
+use std::cell::Cell;
+
+/// A disk that notes which files were looked for.
+pub(crate) struct Logged<'a, D> {
+    disk: &'a D,
+    found: Cell<Vec<Vec<u8>>>,
+    missing: Cell<Vec<Vec<u8>>>,
+}
+
+/// The files that were looked for, each once.
+#[derive(Drop)]
+pub(crate) struct Log {
+    pub(crate) found: Vec<Vec<u8>>,
+    pub(crate) missing: Vec<Vec<u8>>,
+}
+
+fn pushed(alloc: Global, mut paths: Vec<Vec<u8>>, path: &[u8]) -> Mem<Vec<Vec<u8>>> {
+    if !paths.iter().any(|known| known.as_slice() == path) {
+        paths.push(Vec::from_slice(alloc, path)?)?;
+    }
+    Ok(paths)
+}
+
+fn note(alloc: Global, list: &Cell<Vec<Vec<u8>>>, path: &[u8]) -> Mem<()> {
+    let paths = list.replace(Vec::new(alloc));
+    list.set(pushed(alloc, paths, path)?);
+    Ok(())
+}
+
+impl<'a, D> Drop for Logged<'a, D> {
+    fn drop(self) {
+        let Logged {
+            disk: _,
+            found: _,
+            missing: _,
+        } = self;
+    }
+}
+
+impl<'a, D> Logged<'a, D> {
+    pub(crate) fn new(alloc: Global, disk: &'a D) -> Logged<'a, D>
+        ensures { result.disk.now ≡ disk.now }
+    {
+        Logged {
+            disk,
+            found: Cell::new(Vec::new(alloc)),
+            missing: Cell::new(Vec::new(alloc)),
+        }
+    }
+
+    pub(crate) fn into_log(self) -> Log {
+        let Logged {
+            disk: _,
+            found,
+            missing,
+        } = self;
+        Log {
+            found: found.into_inner(),
+            missing: missing.into_inner(),
+        }
+    }
+}
+
+impl<'a, D: Disk> Disk for Logged<'a, D> {
+    type Error = D::Error;
+
+    ghost holds = { λ logged held. D.holds logged.disk.now held };
+
+    ghost fails = { λ logged error. D.fails logged.disk.now error };
+
+    fn file(&self, alloc: Global, path: &[u8]) -> Mem<Result<Option<Vec<u8>>, D::Error>> {
+        match self.disk.file(alloc, path)? {
+            Ok(Some(bytes)) => {
+                note(alloc, &self.found, path)?;
+                Ok(Ok(Some(bytes)))
+            }
+            Ok(None) => {
+                note(alloc, &self.missing, path)?;
+                Ok(Ok(None))
+            }
+            Err(error) => Ok(Err(error)),
+        }
+    }
+
+    fn is_dir(&self, alloc: Global, path: &[u8]) -> Mem<Result<bool, D::Error>> {
+        self.disk.is_dir(alloc, path)
+    }
+
+    fn exists(&self, alloc: Global, path: &[u8]) -> Mem<Result<bool, D::Error>> {
+        self.disk.exists(alloc, path)
+    }
+}

@@ -1,0 +1,161 @@
+//! What a command line is, for a person.
+use crate::answered::Answered;
+use crate::case::Case;
+use crate::options::push_options;
+use crate::paint::Paint;
+use crate::words::{push_shown, refusal_text, shown};
+use scl_cl::{Cacheable, Compilation, CompilerArguments, Mem};
+use scl_reasons::sentence;
+use scl_rows::Row;
+use scl_shell::quoted_command;
+use std::alloc::Global;
+
+/// A text that is written.
+#[derive(Drop)]
+struct Page {
+    alloc: Global,
+    paint: Paint,
+    text: String,
+}
+
+/// The columns that a title takes.
+const TITLE: usize = 15;
+
+impl Page {
+    fn push_title(&mut self, title: &str) -> Mem<()> {
+        let (begin, end) = (self.paint.title(), self.paint.end());
+        write!(self.text, "{begin}{title}:{end}")?;
+        for _ in title.len()..TITLE {
+            self.text.push(' ')?;
+        }
+        Ok(())
+    }
+
+    fn line(&mut self, title: &str, text: &str) -> Mem<()> {
+        self.push_title(title)?;
+        self.text.push_str(text)?;
+        self.text.push('\n')
+    }
+
+    fn path(&mut self, title: &str, path: &[u8], note: &str) -> Mem<()> {
+        self.push_title(title)?;
+        push_shown(self.alloc, &mut self.text, path)?;
+        self.text.push_str(note)?;
+        self.text.push('\n')
+    }
+
+    fn paths(&mut self, title: &str, paths: &[Vec<u8>], note: &str) -> Mem<()> {
+        for path in paths {
+            self.path(title, path, note)?;
+        }
+        Ok(())
+    }
+
+    fn command(&mut self, title: &str, program: &[u8], words: &[Vec<u8>]) -> Mem<()> {
+        let quoted = quoted_command(self.alloc, program, words)?;
+        let text = String::from_utf8_lossy(self.alloc, &quoted)?;
+        self.line(title, text.as_str())
+    }
+
+    fn outcome(&mut self, colour: &str, text: &str) -> Mem<()> {
+        let end = self.paint.end();
+        write!(self.text, "{colour}{text}{end}\n")
+    }
+}
+
+fn push_outcome(page: &mut Page, answer: &CompilerArguments<Compilation>) -> Mem<()> {
+    let (good, bad) = (page.paint.good(), page.paint.bad());
+    match answer {
+        CompilerArguments::Ok(compilation) => match compilation.cacheable {
+            Cacheable::Yes => page.outcome(good, "can be cached"),
+            Cacheable::No => page.outcome(bad, "compiles, and may not be kept in the cache"),
+        },
+        CompilerArguments::CannotCache(reason, more) => {
+            let more = more.as_ref().map(|more| more.as_str());
+            let text = refusal_text(page.alloc, reason, more)?;
+            page.outcome(bad, text.as_str())?;
+            page.line("because", sentence(reason))
+        }
+        CompilerArguments::NotCompilation => page.outcome(bad, "compiles nothing"),
+    }
+}
+
+fn push_case(page: &mut Page, case: &Case) -> Mem<()> {
+    page.line("compiler", case.compiler.name())?;
+    page.path("directory", &case.cwd, "")
+}
+
+fn push_files(page: &mut Page, answered: &Answered) -> Mem<()> {
+    page.paths("response file", &answered.response_files, "")?;
+    page.paths(
+        "response file",
+        &answered.missing_files,
+        " (it is not there)",
+    )
+}
+
+fn push_outputs(page: &mut Page, compilation: &Compilation) -> Mem<()> {
+    for (name, output) in compilation.parsed.outputs.iter() {
+        let optional = if output.optional {
+            ", may be missing"
+        } else {
+            ""
+        };
+        let note = format!(in page.alloc; " ({name}{optional})")?;
+        page.path("output", &output.path, note.as_str())?;
+    }
+    Ok(())
+}
+
+fn push_record(page: &mut Page, compilation: &Compilation) -> Mem<()> {
+    let parsed = &compilation.parsed;
+    let note = format!(in page.alloc; " ({:?})", parsed.language)?;
+    page.path("input", &parsed.input, note.as_str())?;
+    push_outputs(page, compilation)?;
+    page.paths("hashed too", &parsed.extra_hash_files, "")?;
+    if let Some(flag) = &parsed.too_hard_for_preprocessor_cache_mode {
+        let flag = shown(page.alloc, flag)?;
+        page.line("no direct mode", flag.as_str())?;
+    }
+    Ok(())
+}
+
+fn push_commands(page: &mut Page, case: &Case, answered: &Answered) -> Mem<()> {
+    if let CompilerArguments::Ok(compilation) = &answered.answer {
+        push_record(page, compilation)?;
+        page.command("command", &case.program, &compilation.command.arguments)?;
+        for run in &answered.runs {
+            page.command("preprocessor", &case.program, run)?;
+        }
+    }
+    Ok(())
+}
+
+/// The table of options, under its title.
+fn push_rows(page: &mut Page, rows: &[Row]) -> Mem<()> {
+    let (begin, end) = (page.paint.title(), page.paint.end());
+    write!(page.text, "{begin}options:{end}\n")?;
+    push_options(page.alloc, &mut page.text, rows)
+}
+
+/// What a command line is, for a person. It fails only for want of memory.
+pub fn explanation(
+    alloc: Global,
+    case: &Case,
+    answered: &Answered,
+    rows: &[Row],
+    paint: Paint,
+) -> Mem<String> {
+    let mut page = Page {
+        alloc,
+        paint,
+        text: String::new(alloc),
+    };
+    push_outcome(&mut page, &answered.answer)?;
+    push_case(&mut page, case)?;
+    push_files(&mut page, answered)?;
+    push_rows(&mut page, rows)?;
+    push_commands(&mut page, case, answered)?;
+    let Page { text, .. } = page;
+    Ok(text)
+}

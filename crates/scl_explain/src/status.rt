@@ -1,0 +1,42 @@
+//! How the program ends.
+ghost use Rattle.std.specs.Prelude.{◌≡◌};
+ghost use Rattle.scl_explain.specs.Endings.{status_of};
+
+/// How the program ends.
+#[derive(Debug, Clone, Copy, PartialEq, Eq)]
+pub enum Ending {
+    /// What was asked is answered.
+    Answered,
+    /// The program's own words are wrong.
+    Usage,
+    /// Memory was refused.
+    OutOfMemory,
+    /// A file can't be read, or the answer not be written.
+    FileFailed,
+    /// The database is broken, or has entries that are none; all others are answered.
+    BadDatabase,
+    /// The outcome can't be cached.
+    CannotCache,
+    /// Nothing is compiled.
+    CompilesNothing,
+    /// A hazard is named.
+    Hazard,
+}
+
+impl Ending {
+    /// The status that the program ends with.
+    pub fn status(self) -> u8
+        ensures { result ≡ status_of self }
+    {
+        match self {
+            Ending::Answered => 0,
+            Ending::Usage => 2,
+            Ending::OutOfMemory => 3,
+            Ending::FileFailed => 4,
+            Ending::BadDatabase => 5,
+            Ending::CannotCache => 10,
+            Ending::CompilesNothing => 11,
+            Ending::Hazard => 12,
+        }
+    }
+}

@@ -1,0 +1,3 @@
+pub mod FileNames
+pub mod Names
+pub mod Launchers

@@ -1,0 +1,63 @@
+//! The programs that run the compiler which a later word names.
+ghost use Rattle.std.specs.Prelude.{◌≡◌, IfOk, map};
+ghost use Rattle.scl_values.specs.Words.{words_of};
+ghost use Rattle.scl_names.specs.Launchers.{launchers, is_one_of, is_assignment, is_before_program, program_at};
+
+use crate::file_name::stem_of;
+use scl_cl::Mem;
+use std::alloc::Global;
+
+/// The programs that run the compiler which a later word names.
+static LAUNCHERS: [&str; 5] = ["ccache", "sccache", "distcc", "icecc", "env"];
+
+fn launchers() -> &'static [&'static str]
+    ensures { map (λ text. text.now) result.now ≡ launchers }
+{
+    &LAUNCHERS
+}
+
+fn is_one_of(texts: &[&'static str], stem: &[u8]) -> bool
+    ensures { result ≡ is_one_of (map (λ text. text.now) texts.now) stem.now }
+{
+    for text in texts {
+        if text.as_bytes() == stem {
+            return true;
+        }
+    }
+    false
+}
+
+fn is_called(stem: &[u8]) -> bool
+    ensures { result ≡ is_one_of launchers stem.now }
+{
+    is_one_of(launchers(), stem)
+}
+
+fn is_assignment(word: &[u8]) -> bool
+    ensures { result ≡ is_assignment word.now }
+{
+    word.iter().any(|byte| *byte == b'=')
+}
+
+fn is_before_program(alloc: Global, word: &[u8]) -> Mem<bool>
+    ensures { IfOk result (λ is. is ≡ is_before_program word.now) }
+{
+    if is_assignment(word) {
+        return Ok(true);
+    }
+    let stem = stem_of(alloc, word)?;
+    Ok(is_called(&stem))
+}
+
+/// The index of the word that is the program of a command line: the first that is no launcher (`ccache`, `sccache`, `distcc`,
+/// `icecc`, `env`, called as a compiler may be) and no assignment of a variable (with a `=`). It fails only for want of memory.
+pub fn program_at(alloc: Global, words: &[Vec<u8>]) -> Mem<Option<usize>>
+    ensures { IfOk result (λ at. at ≡ program_at (words_of words.now)) }
+{
+    for (at, word) in words.iter().enumerate() {
+        if !is_before_program(alloc, word)? {
+            return Ok(Some(at));
+        }
+    }
+    Ok(None)
+}

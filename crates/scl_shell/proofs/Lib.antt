@@ -1,0 +1,2 @@
+pub mod ShellLemmas
+pub mod ShellLaws

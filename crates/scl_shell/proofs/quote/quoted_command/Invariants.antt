@@ -1,0 +1,8 @@
+use Rattle.std.proofs.Common.{◌≡◌, ◌++◌, take}
+use Rattle.std.specs.List.{flat_map}
+use Rattle.scl_values.specs.Words.{words_of}
+use Rattle.scl_shell.specs.Quoted.{quoted, quoted_next}
+use Rattle.scl_shell.proofs.quote.quoted_command.Given as goal
+
+abbrev pub invariant-loop-word : goal.invariant-loop-word
+invariant-loop-word l = l.text.items ≡ l.initial.text.items ++ flat_map quoted_next (words_of (take l.word-index l.words))

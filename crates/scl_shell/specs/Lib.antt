@@ -1,0 +1,6 @@
+-- What contracts of public functions cite.
+pub mod Laws
+pub mod Quoted
+pub mod ShellText
+-- What only contracts of private functions cite: how the code reads a text byte by byte.
+pub mod ShellReader

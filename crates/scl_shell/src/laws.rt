@@ -1,0 +1,18 @@
+//! What follows from the definitions of a shell's texts: each law is a clause of a function that does nothing.
+ghost use Rattle.scl_shell.specs.Laws.{EachTextHasOneReading, BrokenTextsHaveNoWords, QuotedWordsAreReadBack};
+
+/// Laws of a shell's texts:
+///
+/// - `each_text_has_one_reading`: no text has two lists of words;
+/// - `broken_texts_have_no_words`: a text that is broken has no words, and is broken in one way.
+#[tactic(auto, using(crate::proofs::ShellLaws::shell_laws))]
+pub fn of_texts()
+    ensures each_text_has_one_reading { EachTextHasOneReading }
+    ensures broken_texts_have_no_words { BrokenTextsHaveNoWords }
+{}
+
+/// The law of quoted words: the words of their text are these words, whatever their bytes are.
+#[tactic(auto, using(crate::proofs::ShellLaws::shell_laws))]
+pub fn of_quoted_words()
+    ensures { QuotedWordsAreReadBack }
+{}

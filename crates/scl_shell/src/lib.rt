@@ -1,0 +1,9 @@
+//! The words of a POSIX shell's text in which nothing is expanded, and words quoted for a shell.
+#![tactic(auto)]
+
+pub mod laws;
+mod quote;
+mod split;
+
+pub use quote::{push_quoted, quoted_command, quoted_words};
+pub use split::{ShellError, shell_words};
