@@ -81,6 +81,7 @@ typedef struct scl_request {
     bool rewrite_includes_only; /*   with macros left in place */
     bool cache_mode;            /*   for a cache of preprocessor runs */
     bool wants_questions;       /* it is told what the answer asks of files that were not handed in */
+    bool wants_hazards;         /* the hazards of the command line are told */
 } scl_request;
 
 enum scl_outcome { SCL_COMPILED = 0, SCL_CANNOT_CACHE = 1, SCL_NOT_COMPILATION = 2 };
@@ -149,6 +150,8 @@ typedef struct scl_answer {
     scl_record record;
     scl_runs runs;
     scl_questions questions;
+    scl_words hazards; /* SCL_COMPILED: names of what the compiler is known to do otherwise with the command than with the
+                          given words (docs/LIMITS.md); where there is one, run the given words */
 } scl_answer;
 
 /* The memory for an answer: its texts, its words, its pairs, its outputs and its runs. */
@@ -177,7 +180,16 @@ int32_t scl_ask(const scl_request *request, scl_room room, scl_sizes *wanted, sc
 
 /* ---- conveniences, in C: nothing is proved of what follows */
 
-#define SCL_NOTHING ((const uint8_t *)"")
+/* (C++ has warnings for casts and for a null pointer written as in C) */
+#ifdef __cplusplus
+#define SCL_CAST(type, value) reinterpret_cast<type>(value)
+#define SCL_NULL nullptr
+#else
+#define SCL_CAST(type, value) ((type)(value))
+#define SCL_NULL NULL
+#endif
+
+#define SCL_NOTHING SCL_CAST(const uint8_t *, "")
 #define SCL_EMPTY {SCL_NOTHING, 0}
 
 /* What empty lists point to. */
@@ -188,7 +200,7 @@ static const scl_words scl_no_runs[1] = {{scl_no_bytes, 0}};
 
 static inline scl_bytes scl_bytes_of(const void *at, size_t len) {
     scl_bytes it;
-    it.at = len ? (const uint8_t *)at : SCL_NOTHING;
+    it.at = len ? SCL_CAST(const uint8_t *, at) : SCL_NOTHING;
     it.len = len;
     return it;
 }
@@ -216,8 +228,8 @@ static inline scl_request scl_request_of(const char *compiler, const scl_bytes *
     it.compiler = scl_text(compiler);
     it.directory = scl_no_bytes[0];
     it.words = scl_words_of(words, len);
-    it.environment = it.files = scl_pairs_of(0, 0);
-    it.directories = it.existing = scl_words_of(0, 0);
+    it.environment = it.files = scl_pairs_of(scl_no_pairs, 0);
+    it.directories = it.existing = scl_words_of(scl_no_bytes, 0);
     it.most_words = SIZE_MAX;
     return it;
 }
@@ -227,14 +239,14 @@ static inline scl_answer scl_no_answer(void) {
     scl_answer it;
     memset(&it, 0, sizeof it);
     it.reason = it.text = scl_no_bytes[0];
-    it.command = scl_words_of(0, 0);
-    it.environment = scl_pairs_of(0, 0);
+    it.command = scl_words_of(scl_no_bytes, 0);
+    it.environment = scl_pairs_of(scl_no_pairs, 0);
     it.record.input = it.record.compilation_flag = it.record.depfile = it.record.too_hard = scl_no_bytes[0];
     it.record.outputs.at = scl_no_outputs;
     it.record.lists.dependency = it.record.lists.preprocessor = it.record.lists.common = it.record.lists.arch = it.command;
     it.record.lists.unhashed = it.record.lists.dist_files = it.record.lists.hash_files = it.command;
     it.runs.at = scl_no_runs;
-    it.questions.files = it.questions.directories = it.questions.existing = it.command;
+    it.questions.files = it.questions.directories = it.questions.existing = it.hazards = it.command;
     return it;
 }
 
@@ -247,15 +259,15 @@ static inline size_t scl_room_size(const scl_sizes *sizes) {
            sizes->runs * sizeof(scl_words) + sizes->bytes + 1;
 }
 
-/* A room of these sizes in such a block, whose values are valid. */
+/* A room of these sizes in such a block, which is aligned as malloc aligns; its values are valid. */
 static inline scl_room scl_room_in(void *block, const scl_sizes *sizes) {
     scl_room it;
     size_t i;
-    it.slots = (scl_bytes *)block;
-    it.pairs = (scl_pair *)(void *)(it.slots + sizes->slots);
-    it.outputs = (scl_output *)(void *)(it.pairs + sizes->pairs);
-    it.runs = (scl_words *)(void *)(it.outputs + sizes->outputs);
-    it.bytes = (uint8_t *)(it.runs + sizes->runs);
+    it.slots = SCL_CAST(scl_bytes *, block);
+    it.pairs = SCL_CAST(scl_pair *, SCL_CAST(void *, it.slots + sizes->slots));
+    it.outputs = SCL_CAST(scl_output *, SCL_CAST(void *, it.pairs + sizes->pairs));
+    it.runs = SCL_CAST(scl_words *, SCL_CAST(void *, it.outputs + sizes->outputs));
+    it.bytes = SCL_CAST(uint8_t *, it.runs + sizes->runs);
     it.bytes_len = sizes->bytes;
     it.slots_len = sizes->slots;
     it.pairs_len = sizes->pairs;
@@ -268,6 +280,31 @@ static inline scl_room scl_room_in(void *block, const scl_sizes *sizes) {
     return it;
 }
 
+/* scl_run or scl_describe. */
+typedef int32_t scl_respond(const uint8_t *request, size_t request_len, uint8_t *room, size_t room_len, size_t *wanted);
+
+/* Answers a request's text with memory of its own, as: scl_text_new(scl_describe, request, strlen(request), &text, &wanted).
+ * Only where the status is SCL_OK is there a text, with a NUL behind it, which free gives back. SCL_SHORT is never answered. */
+static inline int32_t scl_text_new(scl_respond *respond, const void *request, size_t request_len, char **text, size_t *wanted) {
+    size_t size = 4096;
+    scl_bytes given = scl_bytes_of(request, request_len);
+    for (;;) {
+        char *block = SCL_CAST(char *, malloc(size + 1));
+        int32_t status;
+        *wanted = 0;
+        if (!block) return SCL_NO_MEMORY;
+        status = respond(given.at, given.len, SCL_CAST(uint8_t *, block), size, wanted);
+        if (status == SCL_OK) {
+            block[*wanted] = 0;
+            *text = block;
+            return status;
+        }
+        free(block);
+        if (status != SCL_SHORT) return status;
+        size = *wanted;
+    }
+}
+
 /* An answer with its memory in one block, which scl_free gives back. */
 typedef struct scl_given {
     scl_answer answer;
@@ -276,7 +313,7 @@ typedef struct scl_given {
 
 static inline void scl_free(scl_given *given) {
     free(given->block);
-    given->block = 0;
+    given->block = SCL_NULL;
 }
 
 /* What most answers to the request take. */
@@ -299,9 +336,9 @@ static inline int32_t scl_ask_new(const scl_request *request, scl_given *given) 
     scl_sizes sizes = scl_usual_sizes(request), wanted = {0, 0, 0, 0, 0};
     for (;;) {
         size_t size = scl_room_size(&sizes);
-        void *block = size ? malloc(size) : 0;
+        void *block = size ? malloc(size) : SCL_NULL;
         int32_t status;
-        given->block = 0;
+        given->block = SCL_NULL;
         given->answer = scl_no_answer();
         if (!block) return SCL_NO_MEMORY;
         status = scl_ask(request, scl_room_in(block, &sizes), &wanted, &given->answer);

@@ -1,5 +1,6 @@
 """What a compiler's command line asks for, and the command to run in its place: run(text) and describe(text) answer a
-request's text, and ask(..) words, pairs and files as bytes. All call libscl.so (or the file that SCL_LIBRARY names).
+request's text, rows(text) takes a description apart, and ask(..) answers words, pairs and files as bytes. All but rows
+call libscl.so (or the file that SCL_LIBRARY names).
 
     >>> scl.ask(b"gcc", [b"-c", b"a.c"]).command
     [b'-x', b'c', b'-c', b'-o', b'a.o', b'-fdiagnostics-color=always', b'a.c']
@@ -7,6 +8,7 @@ request's text, and ask(..) words, pairs and files as bytes. All call libscl.so 
 They answer as the proved library does; this file, which copies in and out, is proved by nothing."""
 import ctypes as c
 import os
+import re
 from types import SimpleNamespace
 
 OK, SHORT, BAD, NO_MEMORY, TOO_MANY_WORDS = range(5)
@@ -18,7 +20,7 @@ LISTS = ["dependency", "preprocessor", "common", "arch", "unhashed", "dist_files
 FLAGS = ["double_dash_input", "uses_external_assembler", "show_includes", "explicit_language", "profile_generate",
          "suppress_rewrite_includes_only", "has_depfile", "has_too_hard"]
 QUESTIONS = ["files", "directories", "existing"]
-WISHES = ["is_multiarch", "wants_runs", "may_dist", "rewrite_includes_only", "cache_mode", "wants_questions"]
+WISHES = ["is_multiarch", "wants_runs", "may_dist", "rewrite_includes_only", "cache_mode", "wants_questions", "wants_hazards"]
 
 
 class TooManyWords(Exception):
@@ -56,7 +58,7 @@ Record = _struct("Record", ("language", c.c_uint32), ("color", c.c_uint32), *[(i
                  ("lists", _struct("Lists", *[(it, Words) for it in LISTS])))
 Answer = _struct("Answer", ("outcome", c.c_uint32), ("is_cacheable", c.c_bool), ("has_text", c.c_bool), ("reason", Bytes), ("text", Bytes),
                  ("command", Words), ("environment", Pairs), ("record", Record), ("runs", _list(Words)),
-                 ("questions", _struct("Questions", *[(it, Words) for it in QUESTIONS])))
+                 ("questions", _struct("Questions", *[(it, Words) for it in QUESTIONS])), ("hazards", Words))
 PARTS = [("bytes", c.c_uint8), ("slots", Bytes), ("pairs", Pair), ("outputs", Output), ("runs", Words)]
 Room = _struct("Room", *[field for name, of in PARTS for field in ((name, c.POINTER(of)), (f"{name}_len", c.c_size_t))])
 Sizes = _struct("Sizes", *[(name, c.c_size_t) for name, _ in PARTS])
@@ -91,6 +93,11 @@ def run(request):
 def describe(request):
     """The text of the description of the answer to a request's text, both as bytes."""
     return _respond(_lib.scl_describe, request)
+
+
+def rows(description):
+    """The rows of a description's text, in order: the fields of each, as bytes, of which the first is its name."""
+    return [[re.sub(rb"\\x(..)", lambda it: bytes.fromhex(it[1].decode()), field) for field in line.split(b" ")] for line in description.split(b"\n")[:-1]]
 
 
 def _bytes(it, kept):
@@ -155,7 +162,8 @@ def _record(it):
 
 def ask(compiler, words, directory=b"", environment=(), files=(), directories=(), existing=(), most_words=None, **wishes):
     """The answer to the words behind a program. Words, paths and names are bytes, environment and files pairs of bytes, and
-    the wishes are those of scl_request: is_multiarch, wants_runs, may_dist, rewrite_includes_only, cache_mode and wants_questions."""
+    the wishes are those of scl_request: is_multiarch, wants_runs, may_dist, rewrite_includes_only, cache_mode, wants_questions
+    and wants_hazards."""
     kept = []
     request = Request(_bytes(compiler, kept), _bytes(directory, kept), _words(words, kept), _pairs(environment, kept), _pairs(files, kept),
                       _words(directories, kept), _words(existing, kept), c.c_size_t(-1).value if most_words is None else most_words)
@@ -175,4 +183,4 @@ def ask(compiler, words, directory=b"", environment=(), files=(), directories=()
     return SimpleNamespace(
         outcome=COMPILED, command=_each(answer.command), is_cacheable=answer.is_cacheable,
         environment=_each(answer.environment, lambda pair: (_get(pair.key), _get(pair.value))), record=_record(answer.record),
-        runs=_each(answer.runs, _each), questions=asked)
+        runs=_each(answer.runs, _each), questions=asked, hazards=[it.decode() for it in _each(answer.hazards)])

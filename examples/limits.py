@@ -1,279 +1,421 @@
 #!/usr/bin/env python3
-"""Tries the rows of docs/LIMITS.md: runs the compile command of each row as it is given and as ccline builds it, in
-folders of their own, prints what differs, and compares it with what the row says.
+"""Tries hazards with the compilers of this machine: runs command lines as they are given and as `describe` builds them, in
+fresh folders of one name, and compares every file that they write, and standard output.
 
-usage: examples/limits.py PATH_OF_CCLINE [ROW ..]   (it needs gcc 12, clang 14 and clang-cl 14; without rows: all)
+usage: examples/limits.py DESCRIBE [ROW ..]            tries rows of docs/LIMITS.md, all without rows
+       examples/limits.py DESCRIBE --random N [SEED]   tries N random command lines
 
-Objects of clang-cl are compared without the time that stands in them.
+DESCRIBE is the path of the program `describe`. It needs gcc 12 and clang 14; for clang-cl, where there is none of this name,
+it calls clang --driver-mode=cl. What is no difference: the time in an object of clang-cl.
 
-Status 0: all that was seen is as the rows say; 1: a row differs; 64: called wrongly.
+Of a row it says whether each command differs as the row says, and whether `describe` names the row's hazard. Of random lines it
+counts those that differ, and those of them without a hazard; those that come out the same, and those of them with one. It
+prints both kinds. Lines that neither command compiles are passed over. A hazard of messages alone counts as none there, since
+messages are not compared.
+
+Status 0: all is as the page says, and no random line differs without a hazard; 1: not so; 64: called wrongly.
 """
 import os
+import random
 import re
 import shlex
 import shutil
 import subprocess
 import sys
 import tempfile
+from dataclasses import dataclass, field
 
 DOCS = os.path.join(os.path.dirname(os.path.realpath(__file__)), "..", "docs", "LIMITS.md")
 
 SOURCE = "int main(void) { return 0; }\n"
-FILES = {"a.c": SOURCE, "t.c": 'char x[] = "??=";\n', "a.h": "#define A 1\n", "b.h": "#define B 1\n", "a.cu": SOURCE, "a.hp": SOURCE,
-         "p.h": "static int p(void) { return 1; }\n", "u.c": "int main(void) { return p(); }\n",
-         "in/q.h": "#define Q 1\n", "on/q.h": "#define Q 2\n", "x.c": "#ifdef X\nint x;\n#endif\n", "sub/a.c": SOURCE}
 
-# What else a row's files hold.
-FILES_OF = {
-    5: {"r": "-c a.c '-DX=\"C:\\\\\\\\dir\"'", "a.c": "const char *s = X;\n"},
-    11: {"a.c": "#include <q.h>\nint q = Q;\n"},
-    12: {"a.h": "#ifndef B\n#define A_FIRST 1\n#endif\n", "a.c": "#ifdef A_FIRST\nint a_first;\n#else\nint b_first;\n#endif\n"},
-    14: {"a.s": ".globl x\nx: .long 1\n"},
-    16: {"r": "\ufeffa.c -c"},
-    20: {"r": '-c a.c ""'},
-    33: {"a.c": "int size = sizeof('a');\n"},
-    43: {"b.c": "int b;\n"},
-    44: {"r": "-DX"},
-    45: {"r": "/DX"},
-    46: {"r": 'a.c "/DX=""q"""', "a.c": "const char *s = X;\n"},
-    47: {"r": "\u00e9.c", "\u00e9.c": SOURCE},
-    48: {"r": "x.c /I @s", "s": "in /DX"},
-    49: {"r": "a.c -DX='\"a b\"'", "a.c": "const char *s = X;\n"},
-    51: {"a.c": "#include <q.h>\nint q = Q;\n"},
-    55: {"a.S": ".globl x\nx: .long 1\n"},
-    59: {"o.c": "@class A;\n"},
-    61: {"r": "-c x.c -DY\f-DX"},
-    62: {"r": "-c x.c -DY\v-DX"},
-    63: {"r": 'x.c "/DX'},
-    66: {"sub/@a.c": SOURCE, "a.o": "b.o"},
+# A source in which most differences show: of definitions, headers, languages, standards and libraries.
+RICH = """\
+#define TEXT(x) #x
+#define TEXT_OF(x) TEXT(x)
+extern const char text[], x[];
+const char text[] = "??=", x[] = TEXT_OF(X);
+int size = sizeof('a');
+#ifdef A_FIRST
+int a_first;
+#endif
+#if __has_include(<q.h>)
+#include <q.h>
+int q = Q;
+#endif
+#if defined __cplusplus && __has_include(<cstddef>)
+#include <cstddef>
+#ifdef _LIBCPP_VERSION
+int libcxx;
+#endif
+#endif
+int main(void) { return sizeof(text); }
+"""
+
+# What stands in the folder of each run, beside the files of the row.
+FILES = {
+    **dict.fromkeys([".c", "a.c", "a.cc", "a.cu", "a.hip", "b.c", "sub/a.c", "@y.c", "sub/@w.c", "\u00e9.c"], SOURCE),
+    **dict.fromkeys(["a.h", "a.hh", "a.hp", "a.HPP", "a.h++", "a.tcc"], "#ifndef B\n#define A_FIRST 1\n#endif\n"),
+    **dict.fromkeys(["a.S", "a.sx", "c.s"], "#define ONE 1\n.globl x\nx: .long ONE\n"),
+    **dict.fromkeys(["x.c"], "#ifdef X\nint x;\n#endif\n"),
+    **dict.fromkeys(["r.c", "r.cc", "r.m", "sub/r.c"], RICH),
+    "a.cppm": "export module a;\n",
+    "b.h": "#define B 1\n",
+    "p.h": "static int p(void) { return 1; }\n",
+    "in/q.h": "#define Q 1\n",
+    "on/q.h": "#define Q 2\n",
+    "a.s": ".globl x\nx: .long 1\n",
+    "d.c": "const char *s = X;\n",
+    "n.c": "#ifdef A_FIRST\nint a_first;\n#else\nint b_first;\n#endif\n",
+    "o.c": "@class A;\n",
+    "q.c": "#include <q.h>\nint q = Q;\n",
+    "s.c": "int size = sizeof('a');\n",
+    "t.c": 'char x[] = "??=";\n',
+    "u.c": "int main(void) { return p(); }\n",
+    "v.cc": "#include <vector>\nint main() { return std::vector<int>{1}.size() - 1; }\n",
+    **dict.fromkeys(["w.o", "y.o"], "b.o -pipe"),
 }
 
-# What stands in the environment of a row's command.
-ENVIRONMENT_OF = {45: {"CL": "@r"}}
+# The words that a compiler is called by.
+PROGRAMS = {"clang-cl": [["clang-cl"], ["clang-cl-14"], ["clang", "--driver-mode=cl"]]}
 
-# Names under which a compiler may be found.
-NAMES = {"clang-cl": ["clang-cl", "clang-cl-14"]}
+# How the names of objects end.
+OBJECTS = (".o", ".obj", ".s", ".gch", ".pcm", ".ast")
 
 # What an object of clang-cl begins with; its time follows, in four bytes.
 OBJECT_MARK = b"\x64\x86"
 
-# A command before the row's own.
-BEFORE = {1: "-g -gsplit-dwarf -x c-header -c p.h -o p.h.gch", 2: "-g -gsplit-dwarf -x c-header -c p.h -o p.pch"}
 
-# What the row says that one sees, and its words that say so.
-SAYS = {
-    1: (["status 0 -> 1", "p.h.gch differs", "u.dwo given only", "u.o given only"], "the compilation stops"),
-    2: (["status 0 -> 1", "p.pch differs", "u.dwo given only", "u.o given only"], "clang stops"),
-    3: (["a.dwo differs"], "the `.dwo` differs"),
-    4: (["a.dwo differs"], "the `.dwo` differs"),
-    5: (["a.o differs"], "twice the backslashes"),
-    6: (["t.o differs"], "4 bytes in place of 2"),
-    7: (["standard output given only", "a.o built only"], "into `a.o` and not to standard output"),
-    8: (["a.o built only", "a.s given only"], "`a.o` holds what belongs into `a.s`"),
-    9: (["a.bc given only", "a.o built only"], "`a.o` holds what belongs into `a.bc`"),
-    10: (["a.h.gch given only", "a.o built only"], "writes `a.o` and not `a.h.gch`"),
-    11: (["a.o differs"], "`on` is searched before `in`"),
-    12: (["a.o differs"], "`b.h` is read before `a.h`"),
-    13: (["status 0 -> 1", "a.o given only"], "clang stops"),
-    14: (["status 0 -> 1", "a.o given only"], "clang stops"),
-    15: (["status 0 -> 1", "a.o given only"], "clang stops"),
-    16: (["status 0 -> 1", "a.o given only"], "no such file"),
-    17: (["a.o given only", "bject built only"], "writes `bject`"),
-    18: (["status 0 -> 1"], "language not recognized"),
-    19: (["a.o built only"], "compiles what clang alone leaves"),
-    20: (["status 1 -> 0"], "compiles, where gcc alone stops"),
-    21: (["a.d: one two -> two"], "| `one two: ..` | `two: ..` |"),
-    22: (["a$b.d: a$$b.o -> a$b.o"], "| `a$$b.o: ..` | `a$b.o: ..`"),
-    23: (["x.d: one -> a.o"], "| `one: ..` | `a.o: ..`"),
-    24: (["a.d built only", "x.d given only"], "| writes `x.d` | writes `a.d`"),
-    25: (["a.d: one -> a.o one"], "| `one: ..` | `a.o one: ..`"),
-    26: (["x.d built only", "y.d given only"], "| `y.d` | `x.d`"),
-    27: ([".d given only", ".hidden.d built only"], "| writes `.d` | writes `.hidden.d` |"),
-    28: (["status 1 -> 0", "a.o built only"], "| stops: -M or -MM must be given | compiles |"),
-    29: (["a.o differs"], "the recorded command line"),
-    30: (["a.o differs"], "in the new order"),
-    31: (["a.h.gch differs"], "the stored colour option"),
-    32: ([], "nothing in files"),
-    33: (["a.o differs"], "the built command compiles C++"),
-    34: ([], "nothing in files"),
-    35: (["status 0 -> 1", "a.o given only"], "clang stops"),
-    38: (["status 0 -> 1", "a.o given only"], "clang stops"),
-    39: (["status 0 -> 1", "a.obj given only"], "stops: no input files"),
-    42: (["status 0 -> 1", "a.obj given only"], "stops: unknown argument"),
-    43: (["status 0 -> 1", "a.obj given only", "b.obj given only"], "stops: one object for several files"),
-    44: (["x.obj differs"], "`X` is defined"),
-    45: (["x.obj differs"], "`X` is defined"),
-    46: (["status 0 -> 1", "a.obj given only"], 'is `q` and not `"q"`'),
-    47: (["status 0 -> 1", "\u00e9.obj given only"], "no such file"),
-    48: (["status 0 -> 1", "x.obj given only"], "stops: `/DX` is no file"),
-    49: (["a.obj differs"], "single quotes stay"),
-    50: (["t.obj differs"], "4 bytes in place of 2"),
-    51: (["a.obj differs"], "`on` is searched before `in`"),
-    52: (["a.obj given only", "sub/a.obj built only"], "writes `sub/a.obj` and not `a.obj`"),
-    53: ([".hidden given only", ".hidden.obj built only"], "writes `.hidden.obj` and not `.hidden`"),
-    54: (["status 0 -> 1", "sub\\.obj given only"], "where clang-cl alone writes `sub\\.obj`"),
-    55: (["a.asm built only"], "writes `a.asm` too"),
-    56: (["status 1 -> 0", "a.obj built only"], "compiles, where clang-cl alone stops"),
-    57: (["status 1 -> 0", "a.obj built only"], "compiles, where clang-cl alone stops"),
-    58: (["a.obj differs"], "nothing but the recorded command line"),
-    59: (["status 0 -> 1", "o.o given only"], "clang stops"),
-    60: (["status 1 -> 0", "a.o built only"], "compiles, where the compilers alone stop"),
-    61: (["x.o differs"], "`X` is defined"),
-    62: (["x.o differs"], "`X` is not defined"),
-    63: (["x.obj differs"], "`X` is defined"),
-    64: ([], "nothing in files"),
-    65: (["status 0 -> 1", "a.obj given only"], "stops: `in` is no file"),
-    66: (["status 1 -> 0", "b.o built only"], "writes `b.o`, where gcc alone stops"),
-}
+@dataclass
+class Line:
+    """A command line: what is run before it, and what `describe` is told beside it."""
+
+    compiler: str
+    words: list
+    files: dict = field(default_factory=dict)
+    environment: dict = field(default_factory=dict)
+    before: list = None
 
 
-def escaped(data):
-    return "".join("\\x%02x" % byte for byte in data)
+@dataclass
+class Row:
+    """A row of docs/LIMITS.md."""
+
+    number: int
+    hazard: str
+    lines: list
+    said: str
+
+
+@dataclass
+class Answer:
+    """What `describe` says of a line: the built words, if there are any, and its hazards."""
+
+    words: list
+    hazards: list
+
+
+@dataclass
+class Run:
+    """What a command did: its status, and the files that are new, with standard output among them."""
+
+    status: int
+    made: dict
+
+
+# ---- the page
+
+
+def bytes_of(text):
+    """The bytes of a text in which `<0C>` stands for the byte 0C."""
+    parts = re.split(r"<([0-9A-F]{2}(?: [0-9A-F]{2})*)>", text)
+    return b"".join(bytes.fromhex(part) if at % 2 else part.encode() for at, part in enumerate(parts))
+
+
+def line_of(compiler, words, beside):
+    """The command line of a compiler, with what stands beside it, as ", `r`: `a.c`, behind `-c b.c`"."""
+    line = Line(compiler, shlex.split(words))
+    for name, text in re.findall(r", `([^`]*)`: `([^`]*)`", beside):
+        (line.environment if name.isupper() else line.files)[name] = bytes_of(text)
+    before = re.search(r", behind `([^`]*)`", beside)
+    line.before = shlex.split(before[1]) if before else None
+    return line
+
+
+def lines_of(cell):
+    """The command lines of a cell: a compiler's name holds for those behind it, and those before are of gcc and clang."""
+    lines, compilers = [], ["gcc", "clang"]
+    for names, words, beside in re.findall(r"(?:^|; )([a-z+, -]*?) ?`([^`]*)`((?:, (?:behind )?`[^`]*`(?:: `[^`]*`)?)*)", cell):
+        compilers = names.split(", ") if names else compilers
+        lines += [line_of(compiler, words, beside) for compiler in compilers]
+    return lines
 
 
 def rows_of(text):
-    """The rows of the tables by their numbers: the compilers, the words of the first command, and the row's text."""
-    rows = {}
-    for line in text.splitlines():
-        row = re.match(r"\| (\d+) \| ([a-z+, -]*) \| `([^`]*)`", line)
-        if row:
-            rows[int(row[1])] = (row[2].split(", "), shlex.split(row[3]), line)
+    """The rows of the page. A row without a name has that of the row above."""
+    rows, hazard = [], ""
+    for number, name, given, said in re.findall(r"^\| (\d+) \| (?:([\w-]+) )?\| (.*?) \| (.*?) \| .*\|$", text, re.M):
+        hazard = name or hazard
+        rows.append(Row(int(number), hazard, lines_of(given), said))
     return rows
 
 
-def built(program, compiler, words, folder, files, environment):
-    """The words of the built command, or None and the first line of the answer."""
-    lines = ["compiler " + compiler, "cwd " + escaped(folder.encode())]
-    for name in {"r", "s"} & files.keys():
-        lines.append("file " + escaped(os.path.join(folder, name).encode()) + "\t" + escaped(files[name].encode()))
-    lines += ["env " + key + "\t" + escaped(value.encode()) for key, value in environment.items()]
-    lines += ["word " + escaped(word.encode()) for word in words]
-    done = subprocess.run([program], input=("\n".join(lines) + "\n").encode(), stdout=subprocess.PIPE)
-    answer = done.stdout.decode().splitlines()
-    if done.returncode != 0 or answer[0] != "ok":
-        return None, answer[0] if answer else f"status {done.returncode}"
-    fields = [line[4:] for line in answer if line.startswith("arg ")]
-    return [field.encode().decode("unicode_escape").encode("latin-1").decode() for field in fields], "ok"
+# ---- the program
 
 
-def all_files(folder):
-    return {os.path.relpath(os.path.join(at, name), folder) for at, _, names in os.walk(folder) for name in names}
+def escaped(data):
+    """The field of a request that says these bytes."""
+    return "".join(chr(byte) if 0x21 <= byte <= 0x7E and byte != 0x5C else f"\\x{byte:02x}" for byte in data)
+
+
+def unescaped(text):
+    return text.encode().decode("unicode_escape").encode("latin-1")
+
+
+def request_of(line, words, folder):
+    lines = [f"compiler {line.compiler}", f"cwd {escaped(folder.encode())}"]
+    for name, data in line.files.items():
+        lines.append(f"file {escaped(os.path.join(folder, name).encode())}\t{escaped(data)}")
+    lines += [f"env {name}\t{escaped(value)}" for name, value in line.environment.items()]
+    lines += [f"word {escaped(os.fsencode(word))}" for word in words]
+    return "\n".join([*lines, "end", ""])
+
+
+def answer_of(text):
+    rows = [line.partition(" ") for line in text.splitlines()]
+    words = [unescaped(rest) for keyword, _, rest in rows if keyword == "arg"]
+    return Answer(words if rows and rows[0][0] == "ok" else None, [rest for keyword, _, rest in rows if keyword == "hazard"])
+
+
+def answers_to(program, asked, folder):
+    """The answers of `describe --batch` to pairs of a line and its words."""
+    requests = "".join(request_of(line, words, folder) for line, words in asked)
+    done = subprocess.run([program, "--batch"], input=requests.encode(), stdout=subprocess.PIPE, check=True)
+    return [answer_of(text) for text in done.stdout.decode().split("\nend\n")[:-1]]
+
+
+# ---- a command run
+
+
+def program_of(compiler):
+    called = PROGRAMS.get(compiler, [[compiler]])
+    return next((words for words in called if shutil.which(words[0])), called[0])
+
+
+def fill(folder, files):
+    for name, data in files.items():
+        path = os.path.join(folder, name)
+        os.makedirs(os.path.dirname(path), exist_ok=True)
+        with open(path, "wb") as file:
+            file.write(data if isinstance(data, bytes) else data.encode())
+
+
+def contents(folder):
+    found = {}
+    for at, _, names in os.walk(folder):
+        for name in names:
+            path = os.path.join(at, name)
+            with open(path, "rb") as file:
+                found[os.path.relpath(path, folder)] = file.read()
+    return found
 
 
 def without_time(data):
     return data[:4] + data[8:] if data.startswith(OBJECT_MARK) else data
 
 
-def run(compiler, commands, folder, environment):
-    """The last status, standard output, and the new files with their bytes."""
-    before = all_files(folder)
-    status, printed = 0, b""
-    executable = next(filter(shutil.which, NAMES.get(compiler, [compiler])), compiler)
-    for words in commands:
-        done = subprocess.run([executable] + words, cwd=folder, capture_output=True, env=dict(os.environ, **environment))
-        status, printed = done.returncode, printed + done.stdout
-    made = {}
-    for name in all_files(folder) - before:
-        with open(os.path.join(folder, name), "rb") as file:
-            made[name] = without_time(file.read())
-    return status, printed, made
-
-
-def tried(compiler, commands, files, environment, base, program=None):
-    """What a compiler's commands do in a new folder, or, with a program, what the commands do that it builds for them."""
-    folder = os.path.join(base, "work")
-    with tempfile.TemporaryDirectory(dir=base) as other:
-        os.rename(other, folder)
-        for name, text in files.items():
-            os.makedirs(os.path.dirname(os.path.join(folder, name)), exist_ok=True)
-            with open(os.path.join(folder, name), "w") as file:
-                file.write(text)
-        if program:
-            answers = [built(program, compiler, words, folder, files, environment) for words in commands]
-            refused = [why for words, why in answers if words is None]
-            if refused:
-                os.rename(folder, other)
-                return None, refused[0]
-            commands = [words for words, _ in answers]
-        print("  ", "built:" if program else "given:", "; ".join(shlex.join([compiler] + words) for words in commands))
-        result = run(compiler, commands, folder, {} if program else environment)
-        os.rename(folder, other)
-    return result, "ok"
+def run(line, commands, folder, environment):
+    """Runs the commands one behind the other in a new folder, which is taken away again. What is told is of the last one."""
+    os.mkdir(folder)
+    try:
+        fill(folder, {**FILES, **line.files})
+        variables = {**os.environ, **{name: os.fsdecode(value) for name, value in environment.items()}}
+        for words in commands:
+            before = contents(folder)
+            if any(b"\0" in os.fsencode(word) for word in words):
+                return Run(127, {})
+            done = subprocess.run(program_of(line.compiler) + words, cwd=folder, capture_output=True, env=variables, timeout=60)
+        made = {name: without_time(data) for name, data in contents(folder).items() if before.get(name) != data}
+        return Run(done.returncode, {**made, "stdout": done.stdout} if done.stdout else made)
+    finally:
+        shutil.rmtree(folder)
 
 
 def targets(data):
-    return data.decode().split(":")[0]
+    return data.decode(errors="replace").partition(":")[0]
 
 
-def seen(given, built_one):
-    """What differs between what two commands did."""
-    found = []
-    if given[0] != built_one[0]:
-        found.append(f"status {given[0]} -> {built_one[0]}")
-    if given[1] != built_one[1]:
-        found.append("standard output " + ("given only" if not built_one[1] else "built only" if not given[1] else "differs"))
-    for name in sorted(set(given[2]) | set(built_one[2])):
-        one, two = given[2].get(name), built_one[2].get(name)
-        if one is None or two is None:
-            found.append(f"{name} " + ("built only" if one is None else "given only"))
-        elif one != two and name.endswith(".d"):
-            found.append(f"{name}: {targets(one)} -> {targets(two)}")
-        elif one != two:
-            found.append(f"{name} differs")
-    return found
+def file_seen(name, given, built):
+    """What differs in a file that both commands wrote."""
+    one, two = given.made[name], built.made[name]
+    if name.endswith(".d") and targets(one) != targets(two):
+        return [f"{name}: {targets(one)} \u2192 {targets(two)}"]
+    return ["differs" if name.endswith(OBJECTS) else f"{name} differs"] if one != two else []
 
 
-def try_with(compiler, program, number, words):
-    """Tries a row's command with a compiler and gives what is not as the row says."""
-    wanted, _ = SAYS[number]
-    commands = [shlex.split(BEFORE[number])] if number in BEFORE else []
-    commands.append(words)
-    files = dict(FILES, **FILES_OF.get(number, {}))
-    environment = ENVIRONMENT_OF.get(number, {})
-    with tempfile.TemporaryDirectory() as base:
-        given, _ = tried(compiler, commands, files, environment, base)
-        made, why = tried(compiler, commands, files, environment, base, program)
-    if made is None:
-        return [f"ccline built no command: {why}"]
-    found = seen(given, made)
-    print("   seen:", "; ".join(found) or "the same files")
-    return [] if sorted(found) == sorted(wanted) else ["the row says: " + ("; ".join(wanted) or "the same files")]
+def seen(given, built):
+    """What the built command does otherwise, as the page says it."""
+    if (given.status == 0) != (built.status == 0):
+        return "stops" if given.status == 0 else "compiles"
+    gone, come = sorted(given.made.keys() - built.made.keys()), sorted(built.made.keys() - given.made.keys())
+    if len(gone) == len(come) == 1:
+        found = [f"{gone[0]} \u2192 {come[0]}"]
+    else:
+        found = [f"no {name}" for name in gone] + [f"also {name}" for name in come]
+    for name in sorted(given.made.keys() & built.made.keys()):
+        found += file_seen(name, given, built)
+    return ", ".join(found) or "the same files"
 
 
-def try_row(program, number, row):
-    """Tries a row with each of its compilers and gives what is not as it says."""
-    compilers, words, text = row
-    _, quote = SAYS[number]
-    faults = [] if quote in text else [f"the row does not say: {quote}"]
-    for compiler in compilers:
-        faults += try_with(compiler, program, number, words)
-    return faults
+def tried(line, answers, folder):
+    """What the given and the built commands of a line do."""
+    commands = [line.before, line.words] if line.before else [line.words]
+    return run(line, commands, folder, line.environment), run(line, [answer.words for answer in answers], folder, {})
+
+
+# ---- rows
+
+
+def faults_of(row, line, answers, folder):
+    """What is not as the row says."""
+    if any(answer.words is None for answer in answers):
+        return ["no command is built"]
+    differs = seen(*tried(line, answers, folder))
+    faults = [] if differs == row.said.replace("messages", "the same files") else [f"seen: {differs}; the row says: {row.said}"]
+    names = answers[-1].hazards
+    return faults if row.hazard in names else [*faults, f"named: {' '.join(names) or 'nothing'}"]
+
+
+def try_rows(program, rows, folder):
+    tries = [(row, line) for row in rows for line in row.lines]
+    asked = [[(line, words) for words in (line.before, line.words) if words] for _, line in tries]
+    answers = iter(answers_to(program, [pair for pairs in asked for pair in pairs], folder))
+    count = 0
+    for (row, line), pairs in zip(tries, asked):
+        faults = faults_of(row, line, [next(answers) for _ in pairs], folder)
+        count += bool(faults)
+        print(f"{row.number} {row.hazard}: {line.compiler} {shlex.join(line.words)}:", "; ".join(faults) or row.said, flush=True)
+    print(f"{len(tries)} commands of {len(rows)} rows, {count} not as docs/LIMITS.md says")
+    return 1 if count else 0
+
+
+# ---- random lines
+
+INPUTS = ["r.c"] * 12 + ["r.cc"] * 4 + ["sub/r.c", "r.m", "a.s", "a.S", "a.h"]
+
+# Groups of words that builds write, and groups that hazards know; those of one compiler alone stand behind its name.
+USUAL = {
+    "gnu": """
+-O0; -O2; -Os; -g; -g -O2; -Wall; -Wextra; -Wall -Wextra; -Werror; -Wno-unused; -pipe; -fPIC; -fno-common; -fno-strict-aliasing; -ffunction-sections
+-fdata-sections; -fvisibility=hidden; -fomit-frame-pointer; -fstack-protector-strong; -m64; -march=x86-64; -mtune=generic; -pthread; -std=gnu11
+-std=c99; -std=gnu99; -DNDEBUG; -DX=1; -D X; -DX='"a b"'; -UX; -I.; -I in; -Iin; -Ion; -iquote in; -isystem on; -include a.h; -include b.h; -imacros b.h
+-MD; -MMD; -MD -MP; -MD -MF x.d; -MMD -MP -MF x.d -MT a.o; -MD -MQ one; -o x.o; -o sub/x.o; -x c; -x c++; -w; -fno-exceptions; -idirafter on; -undef
+-fdiagnostics-color=always; -fdiagnostics-color; -gsplit-dwarf; -g3; -ggdb; -gdwarf-4; -fno-diagnostics-color; -Wp,-DY; -Wl,-s; -lm; -L.; --sysroot=/
+-nostdinc; -fno-builtin; -ffreestanding; -fwrapv; -funsigned-char; -Wp,-MD,y.d; -D_FORTIFY_SOURCE=2; @r
+""",
+    "clang-cl": """
+/O1; /O2; /Od; /W3; /W4; /WX; /Z7; /nologo; /DX; /DNDEBUG; /D X; /UX; /Iin; /I on; /FIa.h; /external:Iin; /EHsc; /GR-; /GS-; /MD; /MT; /TC; /TP; /Gy
+/Fox.obj; /Fosub/; -m64; /std:c11; /utf-8; /showIncludes; /arch:AVX2; /wd4091; -Wno-unused; -Wall; -O2; -Xclang -DX; -Xclang -I -Xclang in; -clang:-O3
+-clang:-DX; -fno-exceptions; -imsvcin; /Zc:inline; /fp:fast; -g; @r; -fcolor-diagnostics; -fdiagnostics-absolute-paths; /bigobj; --target=x86_64-pc-windows-msvc
+""",
+}
+KNOWN = {
+    "gnu": """
+-S; --assemble; --preprocess; --dependencies; --user-dependencies; --output=z.o; --output z.o; --language=c; --language=c++; -trigraphs; -ansi; --std=gnu11
+-std=gnu11 -trigraphs; --include=b.h; --imacros=b.h; --include-directory=in; --include-directory-after=in; --include-prefix=./; -iprefix ./; -iwithprefix in
+-iwithprefixbefore on; --include-with-prefix=in; -fdiagnostics-color=never; -fdiagnostics-color=x; -fworking-directory; -fno-working-directory; -fverbose-asm
+-frecord-gcc-switches; -MTone; -MF y.d; -MFy.d; -MP; -MT one; -MT one -MT two; -Wp,-MT,one; -Wp,-MMD,y.d; -Xpreprocessor -MD; -o .hidden; -o 'a$b.o'
+-o a#b.o; -e; -T; -T x.ld; -l m; -dumpbase x; -ggdb3; --debug=3; -gno-split-dwarf; -fdump-go-spec=g.go; -Winvalid-pch; -Wno-error; -std=c2x
+-x assembler-with-cpp; -x c-header
+""",
+    "gcc": "--serialize-diagnostics d.dia; -dumpdir ./; --dump=M",
+    "clang": """
+-emit-llvm; -emit-ast; -frecord-command-line; -grecord-command-line; -fembed-bitcode-marker; -Xclang -DX; -Xclang -I -Xclang in; -z defs; -object; -ObjC
+--serialize-diagnostics d.dia; -stdlib=libstdc++; --stdlib=libc++; -stdlib=; -imultilibin; -Xanalyzer; -Xarch_host; -fdebug-macro; -fno-debug-macro
+--driver-mode=g++; -fno-trigraphs; -Weverything; -Wno-everything; -Qunused-arguments; -iwithsysroot/in; -isystem-after; -target x86_64-windows-msvc; -mllvm
+-Wno-unused-command-line-argument; -frewrite-includes; -rewrite-objc; --start-no-unused-arguments; -fcolor-diagnostics; -fno-color-diagnostics
+""",
+    "clang-cl": """
+/Fo.hidden; /MP; -link; -vctoolsdir; -sourceDependencies x.json; /depsx; -fsanitize-coverage=; /Xclang -DX; --via-file-asm; --rsp-quoting=posix; -clang:@r
+-clang:--include-directory=in; -clang:-Ion; -clang:--include=a.h; -clang:-include -clang:b.h; -clang:-std=gnu11; -clang:-trigraphs; -clang:-fplugin=libc.so.6
+-clang:-grecord-command-line; -clang:-lm; -clang:-MTone; -clang:-fno-exceptions; -clang:-isystem-after -clang:in; -Xclang -iframework -Xclang in
+""",
+}
+TEXTS = {
+    "gnu": [b"-DX -O2", b"'-DX=\"a\\\\b\"'", b'-DX "" -O1', b"-DX\x0c-DY", b"-DX\x0b-DY", b"-DY\\", b"\xef\xbb\xbf-DX", b"-DX -I in"],
+    "clang-cl": [b"/DX /O2", b'"/DX=a b"', b'"/DX=""q"""', b'/O2 "/DX', b"/DX='a' /I in", b"\xef\xbb\xbf/DX"],
+}
+
+
+def groups_of(text):
+    return [shlex.split(group) for line in text.strip().splitlines() for group in line.split("; ")]
+
+
+def random_line(chance):
+    """A line of the input, `-c` and one to eight groups of words, one in eight of these known to hazards."""
+    compiler = chance.choice(["gcc", "gcc", "gcc", "g++", "clang", "clang", "clang", "clang++", "clang-cl", "clang-cl"])
+    family = "clang-cl" if compiler == "clang-cl" else "gnu"
+    own = {"g++": "gcc", "clang++": "clang", "clang-cl": ""}.get(compiler, compiler)
+    usual, known = groups_of(USUAL[family]), [*groups_of(KNOWN[family]), *groups_of(KNOWN.get(own, ""))]
+    groups = [["-c"], [chance.choice(INPUTS)]]
+    groups += [chance.choice(known if chance.random() < 1 / 8 else usual) for _ in range(chance.randint(1, 8))]
+    chance.shuffle(groups)
+    return Line(compiler, [word for group in groups for word in group], {"r": chance.choice(TEXTS[family])})
+
+
+def random_tries(program, chance, count, folder):
+    """So many random lines that are compiled, as given or as built, with their answers and what differs."""
+    while count:
+        lines = [random_line(chance) for _ in range(count)]
+        for line, answer in zip(lines, answers_to(program, [(line, line.words) for line in lines], folder)):
+            runs = tried(line, [answer], folder) if answer.words is not None else ()
+            if any(run.status == 0 for run in runs):
+                yield line, answer, seen(*runs)
+                count -= 1
+
+
+def try_random(program, rows, count, seed, folder):
+    of_messages = {row.hazard for row in rows if row.said == "messages"}
+    differing = unnamed = flagged = 0
+    for line, answer, differs in random_tries(program, random.Random(seed), count, folder):
+        is_other, has_name = differs != "the same files", bool(set(answer.hazards) - of_messages)
+        differing += is_other
+        unnamed += is_other and not has_name
+        flagged += has_name and not is_other
+        if is_other != has_name:
+            text = f", r: {line.files['r']}" if any("@r" in word for word in line.words) else ""
+            print(f"{line.compiler} {shlex.join(line.words)}{text}: {differs}; named: {' '.join(answer.hazards) or 'nothing'}", flush=True)
+    print(f"{differing} of {count} lines differ, {unnamed} of them without a hazard; {count - differing} come out the same, {flagged} of them with one")
+    return 1 if unnamed else 0
+
+
+def called_wrongly(told=None):
+    print(f"examples/limits.py: {told}" if told else __doc__.split("\n\n")[1], file=sys.stderr)
+    return 64
 
 
 def main():
-    if len(sys.argv) < 2 or sys.argv[1].startswith("-") or not all(word.isdigit() for word in sys.argv[2:]):
-        print(__doc__.split("\n\n")[1], file=sys.stderr)
-        return 64
-    program = os.path.realpath(sys.argv[1])
+    arguments = sys.argv[1:]
+    is_random = arguments[1:2] == ["--random"]
+    numbers = arguments[2:] if is_random else arguments[1:]
+    if not arguments or arguments[0].startswith("-") or not all(map(str.isdigit, numbers)) or is_random and len(numbers) not in (1, 2):
+        return called_wrongly()
+    program = os.path.realpath(arguments[0])
     if not os.access(program, os.X_OK):
-        print(f"examples/limits.py: {program}: no program", file=sys.stderr)
-        return 64
+        return called_wrongly(f"{program}: no program")
     for variable in ("CL", "_CL_"):
         os.environ.pop(variable, None)
-    with open(DOCS) as docs:
-        rows = rows_of(docs.read())
-    differs = 0
-    for number in [int(word) for word in sys.argv[2:]] or sorted(rows.keys() | SAYS.keys()):
-        print(f"{number}:")
-        if number in rows and number in SAYS:
-            faults = try_row(program, number, rows[number])
-        else:
-            faults = [f"{'docs/LIMITS.md' if number in SAYS else 'this script'} has no row {number}"]
-        for fault in faults:
-            print("   DIFFERS:", fault)
-        differs += bool(faults)
-    print(f"{differs} rows differ" if differs else "all rows are as docs/LIMITS.md says")
-    return 1 if differs else 0
+    numbers = [int(number) for number in numbers]
+    with tempfile.TemporaryDirectory() as base:
+        folder = os.path.join(base, "work")
+        with open(DOCS, encoding="utf-8") as docs:
+            rows = rows_of(docs.read())
+        if is_random:
+            return try_random(program, rows, numbers[0], numbers[1] if numbers[1:] else 1, folder)
+        absent = set(numbers) - {row.number for row in rows}
+        if absent:
+            return called_wrongly(f"docs/LIMITS.md has no row {min(absent)}")
+        return try_rows(program, [row for row in rows if not numbers or row.number in numbers], folder)
 
 
 if __name__ == "__main__":

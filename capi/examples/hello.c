@@ -1,4 +1,5 @@
-/* hello PROGRAM COMPILER WORD..: the command to run in the place of `PROGRAM WORD..`, what it reads and what it makes.
+/* hello PROGRAM COMPILER WORD..: the command to run in the place of `PROGRAM WORD..`, what it reads and what it makes, and
+ * its hazards: where there is one, run the given words.
  * cc hello.c $(pkg-config --cflags --libs scl); ./a.out gcc gcc -c a.c */
 #include <stdio.h>
 #include "scl.h"
@@ -18,7 +19,7 @@ int main(int argc, char **argv) {
     for (size_t i = 0; i < len; i++) words[i] = scl_text(argv[i + 3]);
 
     scl_request request = scl_request_of(argv[2], words, len);
-    request.wants_runs = request.wants_questions = true;
+    request.wants_runs = request.wants_questions = request.wants_hazards = true;
     scl_given given;
     int32_t status = scl_ask_new(&request, &given);
     free(words);
@@ -32,6 +33,7 @@ int main(int argc, char **argv) {
     if (answer->outcome == SCL_COMPILED) {
         printf("program %s\n", argv[1]);
         print_words("arg", answer->command);
+        print_words("hazard", answer->hazards);
         printf("cacheable %s\ninput %s\n", answer->is_cacheable ? "yes" : "no", (const char *)answer->record.input.at);
         for (size_t i = 0; i < answer->record.outputs.len; i++)
             printf("makes %s\n", (const char *)answer->record.outputs.at[i].path.at);

@@ -1,4 +1,5 @@
-// go run hello.go, with CGO_CFLAGS=-I.. and CGO_LDFLAGS=../build/libscl.a: the answer to a request's text.
+// go run hello.go, with CGO_CFLAGS=-I.. and CGO_LDFLAGS=../build/libscl.a: the command of a line, what became of its options,
+// and its hazards, by the rows of a description (docs/PROTOCOL.md).
 package main
 
 /*
@@ -9,17 +10,20 @@ import "C"
 import (
 	"fmt"
 	"os"
+	"strings"
 	"unsafe"
 )
 
-// Run answers a request's text.
-func Run(request []byte) ([]byte, error) {
+// Describe gives the rows of the description of the answer to a request's text.
+func Describe(request []byte) ([]string, error) {
+	// (an empty line says nothing, and so there is a first byte to point at)
+	request = append(request, '\n')
 	room, wanted := make([]byte, 1024), C.size_t(0)
 	for {
-		status := C.scl_run((*C.uint8_t)(unsafe.Pointer(&request[0])), C.size_t(len(request)), (*C.uint8_t)(unsafe.Pointer(&room[0])), C.size_t(len(room)), &wanted)
+		status := C.scl_describe((*C.uint8_t)(unsafe.Pointer(&request[0])), C.size_t(len(request)), (*C.uint8_t)(unsafe.Pointer(&room[0])), C.size_t(len(room)), &wanted)
 		switch status {
 		case C.SCL_OK:
-			return room[:wanted], nil
+			return strings.SplitAfter(string(room[:wanted]), "\n"), nil
 		case C.SCL_SHORT:
 			room = make([]byte, wanted)
 		case C.SCL_BAD:
@@ -31,10 +35,15 @@ func Run(request []byte) ([]byte, error) {
 }
 
 func main() {
-	answer, err := Run([]byte("compiler gcc\nword -c\nword a.c\n"))
+	rows, err := Describe([]byte("compiler gcc\nword -c\nword a.c\nword -O2\nword -MD\nword -MT\nword x\nword -MT\nword y\n"))
 	if err != nil {
 		fmt.Fprintln(os.Stderr, err)
 		os.Exit(1)
 	}
-	os.Stdout.Write(answer)
+	for _, row := range rows {
+		switch name, _, _ := strings.Cut(row, " "); name {
+		case "arg", "option", "hazard":
+			fmt.Print(row)
+		}
+	}
 }

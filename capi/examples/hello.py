@@ -1,15 +1,17 @@
-"""python3 hello.py COMPILER WORD..: the command to run in the place of the words, and what it makes. It wants scl.py on
+"""python3 hello.py COMPILER WORD..: the command to run in the place of the words, what it makes, and its hazards. It wants scl.py on
 PYTHONPATH, and libscl.so where the loader finds it (or SCL_LIBRARY)."""
 import os
 import sys
 
 import scl
 
-answer = scl.ask(os.fsencode(sys.argv[1]), [os.fsencode(it) for it in sys.argv[2:]], directory=os.fsencode(os.getcwd()))
+answer = scl.ask(os.fsencode(sys.argv[1]), [os.fsencode(it) for it in sys.argv[2:]], directory=os.fsencode(os.getcwd()), wants_hazards=True)
 if answer.outcome == scl.COMPILED:
     for word in answer.command:
         print("arg", os.fsdecode(word))
     for name, path, _ in answer.record.outputs:
         print("makes", os.fsdecode(path), "as", name.decode())
+    for name in answer.hazards:
+        print("hazard", name)
 else:
     print("cannot-cache " + answer.reason.decode() if answer.outcome == scl.CANNOT_CACHE else "not-compilation")

@@ -1,4 +1,4 @@
-//! rustc hello.rs -L DIRECTORY_OF_LIBSCL -l static=scl: the command of a line, and the answer to a request's text.
+//! rustc hello.rs -L DIRECTORY_OF_LIBSCL -l static=scl: the command of a line, its hazards, and the answer to a request's text.
 use std::ffi::c_void;
 
 #[repr(C)]
@@ -31,6 +31,7 @@ struct Request {
     rewrite_includes_only: bool,
     cache_mode: bool,
     wants_questions: bool,
+    wants_hazards: bool,
 }
 
 #[repr(C)]
@@ -48,7 +49,7 @@ struct Sizes {
     runs: usize,
 }
 
-/// An answer; what stands behind the command is read by no one here.
+/// An answer; what stands between the command and the hazards is read by no one here.
 #[repr(C)]
 struct Answer {
     outcome: u32,
@@ -61,6 +62,7 @@ struct Answer {
     flags: [u32; 4],
     texts: [Bytes; 4],
     lists: [List; 12],
+    hazards: List,
 }
 
 extern "C" {
@@ -76,8 +78,15 @@ fn list<T>(of: &[T]) -> List {
     List { at: of.as_ptr().cast(), len: of.len() }
 }
 
-/// The words of the command, or the outcome.
-fn command(compiler: &[u8], words: &[&[u8]]) -> Result<Vec<Vec<u8>>, u32> {
+/// The texts of a list of an answer whose room lives.
+unsafe fn texts_of(list: &List) -> Vec<String> {
+    let texts = std::slice::from_raw_parts(list.at.cast::<Bytes>(), list.len);
+    let text = |it: &Bytes| String::from_utf8_lossy(std::slice::from_raw_parts(it.at, it.len)).into_owned();
+    texts.iter().map(text).collect()
+}
+
+/// The words of the command and its hazards, or the outcome.
+fn command(compiler: &[u8], words: &[&[u8]]) -> Result<(Vec<String>, Vec<String>), u32> {
     let empty = bytes(b"");
     let words: Vec<Bytes> = words.iter().map(|word| bytes(word)).collect();
     let none: List = list::<Bytes>(&[]);
@@ -96,6 +105,7 @@ fn command(compiler: &[u8], words: &[&[u8]]) -> Result<Vec<Vec<u8>>, u32> {
         rewrite_includes_only: false,
         cache_mode: false,
         wants_questions: false,
+        wants_hazards: true,
     };
     let mut wanted = Sizes { bytes: 1024, slots: 64, pairs: 0, outputs: 4, runs: 0 };
     loop {
@@ -120,12 +130,10 @@ fn command(compiler: &[u8], words: &[&[u8]]) -> Result<Vec<Vec<u8>>, u32> {
             flags: [0; 4],
             texts: [empty; 4],
             lists: [none; 12],
+            hazards: none,
         };
         match unsafe { scl_ask(&request, Room { parts: room }, &mut wanted, &mut answer) } {
-            0 if answer.outcome == 0 => {
-                let found = unsafe { std::slice::from_raw_parts(answer.command.at.cast::<Bytes>(), answer.command.len) };
-                return Ok(found.iter().map(|word| unsafe { std::slice::from_raw_parts(word.at, word.len) }.to_vec()).collect());
-            }
+            0 if answer.outcome == 0 => return Ok(unsafe { (texts_of(&answer.command), texts_of(&answer.hazards)) }),
             0 => return Err(answer.outcome),
             1 => continue,
             status => panic!("status {status}"),
@@ -149,8 +157,8 @@ fn run(request: &[u8]) -> Result<Vec<u8>, i32> {
 }
 
 fn main() {
-    for word in command(b"gcc", &[b"-c", b"a.c", b"-O2"]).unwrap() {
-        println!("arg {}", String::from_utf8(word).unwrap());
-    }
+    let (words, hazards) = command(b"gcc", &[b"-c", b"a.c", b"-O2", b"-MD", b"-MT", b"x", b"-MT", b"y"]).unwrap();
+    words.iter().for_each(|word| println!("arg {word}"));
+    hazards.iter().for_each(|name| println!("hazard {name}"));
     print!("{}", String::from_utf8(run(b"compiler gcc\nword -E\nword a.c\n").unwrap()).unwrap());
 }

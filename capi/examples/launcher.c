@@ -1,5 +1,5 @@
-/* launcher PROGRAM WORD..: runs the built command in the place of `PROGRAM WORD..`, where there is one, and else the given
- * one. What the answer asks of the disk (response files, directories of profiles, a file of debug information) is looked up,
+/* launcher PROGRAM WORD..: runs the built command in the place of `PROGRAM WORD..`, where there is one without a hazard, and
+ * else the given one. What the answer asks of the disk (response files, directories of profiles, a file of debug information) is looked up,
  * round by round, until nothing that it asks is there. A cache would look up a key of the command and its input before it runs it.
  * cc launcher.c $(pkg-config --cflags --libs scl); CC="./a.out gcc" make */
 #define _POSIX_C_SOURCE 200809L
@@ -23,8 +23,11 @@ static scl_bytes kept(scl_bytes text) {
     return scl_bytes_of(at, text.len);
 }
 
+/* The path as the C library takes it: at one that holds a NUL there is nothing. */
+static const char *path_of(scl_bytes path) { return memchr(path.at, 0, path.len) ? "" : (const char *)path.at; }
+
 static int read_file(scl_bytes path, scl_pair *file) {
-    FILE *in = fopen((const char *)path.at, "rb");
+    FILE *in = fopen(path_of(path), "rb");
     if (!in) return 0;
     size_t len = 0, room = 1 << 16, got;
     char *bytes = malloc(room);
@@ -45,9 +48,9 @@ static size_t look(const scl_questions *asked, scl_request *request) {
     for (size_t i = 0; i < asked->files.len && request->files.len < FOUND; i++)
         request->files.len += (size_t)read_file(asked->files.at[i], &files[request->files.len]);
     for (size_t i = 0; i < asked->directories.len && request->directories.len < FOUND; i++)
-        if (!stat((const char *)asked->directories.at[i].at, &it) && S_ISDIR(it.st_mode)) directories[request->directories.len++] = kept(asked->directories.at[i]);
+        if (!stat(path_of(asked->directories.at[i]), &it) && S_ISDIR(it.st_mode)) directories[request->directories.len++] = kept(asked->directories.at[i]);
     for (size_t i = 0; i < asked->existing.len && request->existing.len < FOUND; i++)
-        if (!stat((const char *)asked->existing.at[i].at, &it)) existing[request->existing.len++] = kept(asked->existing.at[i]);
+        if (!stat(path_of(asked->existing.at[i]), &it)) existing[request->existing.len++] = kept(asked->existing.at[i]);
     return request->files.len + request->directories.len + request->existing.len - before;
 }
 
@@ -60,6 +63,29 @@ static scl_pair *variables(size_t *len) {
         pairs[i].value = scl_text(environ[i] + key + (environ[i][key] == '='));
     }
     return pairs;
+}
+
+/* The environment of a command, as exec takes it. */
+static char **given_variables(scl_pairs pairs) {
+    char **all = calloc(pairs.len + 1, sizeof *all);
+    for (size_t i = 0; all && i < pairs.len; i++) {
+        scl_bytes key = pairs.at[i].key, value = pairs.at[i].value;
+        if (!(all[i] = malloc(key.len + value.len + 2))) exit(3);
+        sprintf(all[i], "%s=%s", (const char *)key.at, (const char *)value.at);
+    }
+    return all;
+}
+
+/* The words behind a program, as exec takes them; or none, where a word holds a NUL and no process can be given it. */
+static char **given_words(char *program, scl_words words) {
+    char **all = calloc(words.len + 2, sizeof *all);
+    if (!all) exit(3);
+    all[0] = program;
+    for (size_t i = 0; i < words.len; i++) {
+        if (memchr(words.at[i].at, 0, words.at[i].len)) return 0;
+        all[i + 1] = (char *)(uintptr_t)words.at[i].at;
+    }
+    return all;
 }
 
 int main(int argc, char **argv) {
@@ -77,21 +103,18 @@ int main(int argc, char **argv) {
     request.directories.at = directories;
     request.existing.at = existing;
     request.most_words = 1000000;
-    request.wants_questions = true;
+    request.wants_questions = request.wants_hazards = true;
     scl_given given;
     int32_t status;
     while ((status = scl_ask_new(&request, &given)) == SCL_OK && look(&given.answer.questions, &request)) scl_free(&given);
-    if (status == SCL_OK && given.answer.outcome == SCL_COMPILED) {
-        /* (the command's environment is the one that was handed in, but for cl's CL and _CL_) */
-        scl_words command = given.answer.command;
-        char **run = calloc(command.len + 2, sizeof *run);
-        if (!run) return 3;
-        run[0] = argv[1];
-        for (size_t i = 0; i < command.len; i++) run[i + 1] = (char *)(uintptr_t)command.at[i].at;
-        execvp(run[0], run);
-    } else {
-        execvp(argv[1], argv + 1);
+    char **command = argv + 1, **built = 0;
+    if (status == SCL_OK && given.answer.outcome == SCL_COMPILED && !given.answer.hazards.len) built = given_words(argv[1], given.answer.command);
+    if (built) {
+        /* (of cl it is without CL and _CL_, whose words stand in the command) */
+        environ = given_variables(given.answer.environment);
+        command = built;
     }
+    execvp(argv[1], command);
     perror(argv[1]);
     return 127;
 }

@@ -66,5 +66,8 @@ int main(int argc, char **argv) {
     measure("scl_ask_new, with runs", by_struct, rounds);
     request.wants_questions = true;
     measure("scl_ask_new, and with questions", by_struct, rounds);
+    request.wants_runs = request.wants_questions = false;
+    request.wants_hazards = true;
+    measure("scl_ask_new, with hazards", by_struct, rounds);
     return 0;
 }

@@ -36,9 +36,7 @@ void __wrap_free(void *p) {
 static const char text[] = "compiler clang\ncwd /w\nword -c\nword a.c\nword -MD\nword -Xclang\nword -fno-pch-timestamp\nword @r\n"
                            "word -arch\nword arm64\nmultiarch\nenv A\tB\nfile /w/r\t-DQ\\x20-O1\nexists /w/z.pdb\n";
 
-typedef int32_t respond(const uint8_t *, size_t, uint8_t *, size_t, size_t *);
-
-static int32_t call(respond *by, uint8_t *room, size_t len, size_t *wanted) { return by((const uint8_t *)text, sizeof text - 1, room, len, wanted); }
+static int32_t call(scl_respond *by, uint8_t *room, size_t len, size_t *wanted) { return by((const uint8_t *)text, sizeof text - 1, room, len, wanted); }
 
 static int is_filled(const void *at, size_t len) {
     const uint8_t *bytes = at;
@@ -47,7 +45,7 @@ static int is_filled(const void *at, size_t len) {
     return 1;
 }
 
-static int texts(const char *name, respond *by) {
+static int texts(const char *name, scl_respond *by) {
     static uint8_t whole[8192], room[8192];
     size_t wanted, length;
     int refused = 0;
@@ -75,11 +73,32 @@ static int texts(const char *name, respond *by) {
     return 0;
 }
 
+/* The same with memory of its own. */
+static int new_texts(const char *name, scl_respond *by) {
+    char *whole, *given;
+    size_t length, wanted;
+    int refused = 0;
+    if (scl_text_new(by, text, sizeof text - 1, &whole, &length) != SCL_OK || whole[length]) FAIL("scl_text_new of %s does not answer", name);
+    for (failing = 0;; failing++, refused++) {
+        calls = 0;
+        int32_t status = scl_text_new(by, text, sizeof text - 1, &given, &wanted);
+        if (status == SCL_OK && (wanted != length || memcmp(given, whole, length + 1))) FAIL("scl_text_new of %s answers otherwise where request %ld is refused", name, failing);
+        if (status == SCL_OK) free(given);
+        if (live != 1) FAIL("scl_text_new of %s leaks where request %ld is refused", name, failing);
+        if (status == SCL_OK && calls <= failing) break;
+        if (status != SCL_OK && status != SCL_NO_MEMORY) FAIL("scl_text_new of %s: status %d where request %ld is refused", name, (int)status, failing);
+    }
+    failing = -1;
+    free(whole);
+    printf("scl_text_new of %s: %d refusals\n", name, refused);
+    return 0;
+}
+
 /* What stands in an answer, as one text: enough to tell two of them apart. */
 static size_t flat(const scl_answer *answer, char *to) {
     size_t len = 0;
     const scl_words lists[] = {answer->command, answer->record.lists.dependency, answer->record.lists.preprocessor,
-                               answer->record.lists.common, answer->record.lists.arch, answer->questions.directories};
+                               answer->record.lists.common, answer->record.lists.arch, answer->questions.directories, answer->hazards};
     for (size_t i = 0; i < sizeof lists / sizeof *lists; i++)
         for (size_t k = 0; k < lists[i].len; k++) len += (size_t)sprintf(to + len, "%zu %s\n", i, (const char *)lists[i].at[k].at);
     for (size_t i = 0; i < answer->runs.len; i++)
@@ -90,10 +109,12 @@ static size_t flat(const scl_answer *answer, char *to) {
     return len;
 }
 
+static const char *const given_words[] = {"-c", "a.c", "-MD", "-Xclang", "-fno-pch-timestamp", "@r", "-arch", "arm64", "-fprofile-use=p", "-MT", "x", "-MT", "y"};
+enum { WORDS = sizeof given_words / sizeof *given_words };
+
 static scl_request asked(scl_bytes *words, scl_pair *pairs) {
-    const char *const given[] = {"-c", "a.c", "-MD", "-Xclang", "-fno-pch-timestamp", "@r", "-arch", "arm64", "-fprofile-use=p"};
-    for (size_t i = 0; i < 9; i++) words[i] = scl_text(given[i]);
-    scl_request request = scl_request_of("clang", words, 9);
+    for (size_t i = 0; i < WORDS; i++) words[i] = scl_text(given_words[i]);
+    scl_request request = scl_request_of("clang", words, WORDS);
     request.directory = scl_text("/w");
     pairs[0].key = scl_text("/w/r");
     pairs[0].value = scl_text("-DQ -O1");
@@ -101,18 +122,19 @@ static scl_request asked(scl_bytes *words, scl_pair *pairs) {
     pairs[1].value = scl_text("B");
     request.files = scl_pairs_of(pairs, 1);
     request.environment = scl_pairs_of(pairs + 1, 1);
-    request.is_multiarch = request.wants_runs = request.wants_questions = true;
+    request.is_multiarch = request.wants_runs = request.wants_questions = request.wants_hazards = true;
     return request;
 }
 
 static int structs(void) {
     static char whole[1 << 16], other[1 << 16];
-    scl_bytes words[9];
+    scl_bytes words[WORDS];
     scl_pair pairs[2];
     scl_request request = asked(words, pairs);
     scl_given given;
     int refused = 0;
     if (scl_ask_new(&request, &given) != SCL_OK || given.answer.outcome != SCL_COMPILED) FAIL("scl_ask_new does not answer");
+    if (!given.answer.hazards.len) FAIL("no hazard is told of two targets");
     size_t length = flat(&given.answer, whole);
     scl_free(&given);
     if (!length || live) FAIL("scl_ask_new leaks %ld blocks", live);
@@ -163,7 +185,7 @@ static void *many(void *whole) {
     uint8_t room[2048];
     char other[1 << 14], first[1 << 14];
     size_t wanted, length = 0;
-    scl_bytes words[9];
+    scl_bytes words[WORDS];
     scl_pair pairs[2];
     scl_request request = asked(words, pairs);
     for (int i = 0; i < 1000; i++) {
@@ -193,5 +215,5 @@ int main(void) {
     static uint8_t whole[2048];
     size_t wanted = 0;
     if (call(scl_run, whole, sizeof whole, &wanted) != SCL_OK) FAIL("scl_run does not answer");
-    return texts("scl_run", scl_run) || texts("scl_describe", scl_describe) || structs() || threads(whole);
+    return texts("scl_run", scl_run) || texts("scl_describe", scl_describe) || new_texts("scl_describe", scl_describe) || structs() || threads(whole);
 }

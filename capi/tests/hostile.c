@@ -74,7 +74,7 @@ static int is_sound(const scl_answer *a) {
         if (!are_texts(a->runs.at[i])) return 0;
     for (size_t i = 0; i < a->record.outputs.len; i++)
         if (!is_text(a->record.outputs.at[i].name) || !is_text(a->record.outputs.at[i].path)) return 0;
-    return are_texts(a->command) && are_texts(a->record.lists.common) && are_texts(a->record.lists.preprocessor) && are_texts(a->questions.files) &&
+    return are_texts(a->command) && are_texts(a->record.lists.common) && are_texts(a->record.lists.preprocessor) && are_texts(a->questions.files) && are_texts(a->hazards) &&
            a->outcome <= SCL_NOT_COMPILATION && a->record.language <= SCL_HIP && a->record.color <= SCL_COLOR_AUTO && is_text(a->reason) && is_text(a->text);
 }
 
@@ -105,6 +105,7 @@ int main(int argc, char **argv) {
         request.wants_runs = below(2);
         request.rewrite_includes_only = below(2);
         request.wants_questions = below(2);
+        request.wants_hazards = below(2);
         scl_given given;
         int32_t status = scl_ask_new(&request, &given);
         if (status < 0 || status > SCL_TOO_MANY_WORDS || status == SCL_SHORT || status == SCL_NO_MEMORY || (status == SCL_OK && !is_sound(&given.answer))) {

@@ -13,7 +13,7 @@ COMPILERS = [b"gcc", b"g++", b"clang", b"clang++", b"cl", b"clang-cl", b"diab", 
 WORDS = [b"-c", b"-o", b"a.o", b"a.c", b"b.cc", b"-O2", b"-MD", b"-MF", b"x.d", b"-I", b"inc", b"-D", b"X=1", b"-x", b"c++", b"@r", b"@s",
          b"-g", b"-Wall", b"-E", b"-arch", b"arm64", b"-fPIC", b"-include", b"p.h", b"-Xclang", b"-fmodules", b"-Wp,-MD,y.d", b"-S",
          b"--coverage", b"-gsplit-dwarf", b"/c", b"/Foq.obj", b"/Zi", b"/Fdz.pdb", b"/FS", b"--", b"-", b"", b"\xff\x00\n", b"-isystem",
-         b"-fprofile-generate", b"-Xpreprocessor", b"-fdebug-prefix-map=a=b", b"-fprofile-use=p", b"-clang:-MD"]
+         b"-fprofile-generate", b"-Xpreprocessor", b"-MT", b"t", b"-MMD", b"-fdebug-prefix-map=a=b", b"-fprofile-use=p", b"-clang:-MD"]
 FILES = [(b"/w/r", b"-DQ -O1")]
 
 
@@ -41,9 +41,8 @@ def request_of(chance):
 def rows_in(text):
     """The rows of a description, by their names: the fields of each."""
     rows = {}
-    for line in text.decode().splitlines():
-        name, *fields = line.split(" ")
-        rows.setdefault(name, []).append(fields)
+    for name, *fields in scl.rows(text):
+        rows.setdefault(name.decode(), []).append(fields)
     return rows
 
 
@@ -69,21 +68,22 @@ def rows_of(answer):
     rows = record_rows(answer.record) if answer.outcome == scl.COMPILED else {}
     if answer.outcome == scl.COMPILED:
         rows["run"], rows["environment"] = answer.runs, [list(pair) for pair in answer.environment]
+        rows["hazard"] = [[name.encode()] for name in answer.hazards]
     if answer.outcome == scl.CANNOT_CACHE:
         rows["reason"], rows["because"] = [[answer.reason]], [] if answer.text is None else [[answer.text]]
     kinds = {"file": answer.questions.files, "dir": answer.questions.directories, "exists": answer.questions.existing}
     rows["wants"] = [[kind.encode(), path] for kind, paths in kinds.items() for path in paths]
-    return {name: [[escaped(field) for field in fields] for fields in of] for name, of in rows.items()}
+    return rows
 
 
 def main(ccline, describe, count, seed):
-    chance, kinds = random.Random(seed), Counter()
+    chance, kinds, hazards = random.Random(seed), Counter(), 0
     for _ in range(count):
         name, words, is_multiarch = request_of(chance)
         lines = [f"compiler {name.decode()}", "cwd /w", *[f"word {escaped(it)}" for it in words], "file /w/r\t-DQ\\x20-O1", "env CL\t/DZ", "exists /w/z.pdb"]
         request = ("\n".join(lines + ["multiarch"] * is_multiarch) + "\n").encode()
         answer = scl.ask(name, words, b"/w", environment=[(b"CL", b"/DZ")], files=FILES, existing=[b"/w/z.pdb"], is_multiarch=is_multiarch,
-                         wants_runs=True, wants_questions=True)
+                         wants_runs=True, wants_questions=True, wants_hazards=True)
         ran = subprocess.run([ccline], input=request, stdout=subprocess.PIPE, check=True).stdout
         texts = {"ccline": ran, "scl_run": scl.run(request), "scl_ask": text_of(answer)}
         if len(set(texts.values())) > 1:
@@ -96,7 +96,9 @@ def main(ccline, describe, count, seed):
             if of != rows.get(name, []):
                 sys.exit(f"random_requests: {name} differs: {request!r}: {of!r}, {rows.get(name)!r}")
         kinds[("compiled", "cannot cache", "no compilation")[answer.outcome]] += 1
-    print(f"{count} random requests: the calls, ccline and describe agree: " + ", ".join(f"{number} {kind}" for kind, number in sorted(kinds.items())))
+        hazards += len(told.get("hazard", []))
+    counts = ", ".join(f"{number} {kind}" for kind, number in sorted(kinds.items()))
+    print(f"{count} random requests: the calls, ccline and describe agree: {counts}; {hazards} hazards")
 
 
 def raises(error, call, *given, **named):
@@ -108,11 +110,13 @@ def raises(error, call, *given, **named):
 
 
 def errors():
-    """What is no answer: each is told as itself."""
+    """What is no answer: each is told as itself. And a description is taken apart."""
     raises(scl.UnknownCompiler, scl.ask, b"rustc", [b"-c", b"a.c"])
     raises(scl.TooManyWords, scl.ask, b"gcc", [b"-c", b"@f"], files=[(b"f", b"a b c")], most_words=3)
     raises(scl.BadLine, scl.run, b"compiler gcc\nword \xff\n")
     raises(scl.BadLine, scl.run, b"word -c\n")
+    if scl.rows(b"ok\na  \\x20\\x5cb\n") != [[b"ok"], [b"a", b"", b" \\b"]]:
+        sys.exit("random_requests: rows are taken apart otherwise")
 
 
 if __name__ == "__main__":

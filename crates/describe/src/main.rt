@@ -1,4 +1,4 @@
-//! Describes the answer to the request on standard input (docs/RULES.md, The program describe).
+//! Describes the answer to the request on standard input (docs/RULES.md, The program).
 #![tactic(auto)]
 
 use scl_cl::{Counted, ManyDescriptions, Outcome, describe, serve_each};

@@ -23,6 +23,7 @@ fn run(rt: &HostRuntime) -> Result<Ending, Fault> {
         Wanted::Done(ending) => Ok(ending),
         Wanted::Explain(asked) => one::explain(rt, &asked),
         Wanted::Command(asked) => one::command(rt, &asked),
+        Wanted::Check(asked) => one::check(rt, &asked),
         Wanted::Database(asked) => batch::database(rt, &asked),
         Wanted::Reasons => one::reasons(rt),
     }

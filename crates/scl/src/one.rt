@@ -5,8 +5,8 @@ use crate::fault::Fault;
 use crate::options::Asked;
 use scl_cl::path;
 use scl_explain::{
-    Case, Ending, Form, Paint, Reply, command as command_reply, explain as explain_reply,
-    reasons_text,
+    Case, CommandForm, Ending, Form, Paint, Reply, check as check_reply, command as command_reply,
+    explain as explain_reply, reasons_text,
 };
 use std::alloc::Global;
 use std::io::{IsTerminal, Write};
@@ -84,11 +84,28 @@ pub fn command(rt: &HostRuntime, asked: &Asked) -> Result<Ending, Fault> {
         return Ok(Ending::Usage);
     };
     let disk = SystemDisk { rt };
-    let reply = command_reply(rt.alloc(), &disk, &case, asked.multiarch, asked.has_nuls)?;
+    let reply = command_reply(
+        rt.alloc(),
+        &disk,
+        &case,
+        asked.multiarch,
+        asked.command_form,
+    )?;
     say(rt, &reply)
 }
 
-/// Writes each reason.
+/// Says which hazards a command line has.
+pub fn check(rt: &HostRuntime, asked: &Asked) -> Result<Ending, Fault> {
+    let Some(case) = case_of(rt, asked)? else {
+        return Ok(Ending::Usage);
+    };
+    let disk = SystemDisk { rt };
+    let form = form_of(rt, asked);
+    let reply = check_reply(rt.alloc(), &disk, &case, asked.multiarch, form)?;
+    say(rt, &reply)
+}
+
+/// Writes each reason and hazard.
 pub fn reasons(rt: &HostRuntime) -> Result<Ending, Fault> {
     let text = reasons_text(rt.alloc())?;
     rt.stdout()

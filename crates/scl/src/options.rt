@@ -4,7 +4,7 @@ use crate::texts;
 use clap::error::ErrorKind;
 use clap::{Arg, ArgAction, ArgMatches, Command, Error};
 use scl_cl::Compiler;
-use scl_explain::{Ending, Kind};
+use scl_explain::{CommandForm, Ending, Kind};
 use std::alloc::{AllocError, Global};
 
 /// What is asked about one command line.
@@ -20,8 +20,8 @@ pub struct Asked {
     pub multiarch: bool,
     /// Whether machines read the answer.
     pub json: bool,
-    /// Whether words are ended by a NUL.
-    pub has_nuls: bool,
+    /// How a command is written.
+    pub command_form: CommandForm,
 }
 
 /// What is asked about a compile database.
@@ -48,9 +48,11 @@ pub enum Wanted {
     Explain(Asked),
     /// The command alone.
     Command(Asked),
+    /// The hazards alone.
+    Check(Asked),
     /// The entries of a database.
     Database(DatabaseAsked),
-    /// All reasons.
+    /// All reasons and hazards.
     Reasons,
 }
 
@@ -109,11 +111,23 @@ fn command_command<'a>(alloc: Global) -> Result<Command<'a>, AllocError> {
         .short('0')
         .action(ArgAction::SetTrue)
         .help("End each word with a NUL, in place of quotes for a shell");
+    let strict = Arg::new(alloc, "strict")
+        .long("strict")
+        .action(ArgAction::SetTrue)
+        .help("Write no command where a hazard is named");
     let command = Command::new(alloc, "command")
         .about(texts::ABOUT_COMMAND)
         .after_help(texts::EXAMPLE_COMMAND)
-        .arg(nul)?;
+        .arg(nul)?
+        .arg(strict)?;
     with_words(alloc, command)
+}
+
+fn check_command<'a>(alloc: Global) -> Result<Command<'a>, AllocError> {
+    let command = Command::new(alloc, "check")
+        .about(texts::ABOUT_CHECK)
+        .after_help(texts::EXAMPLE_CHECK);
+    with_words(alloc, with_json(alloc, command)?)
 }
 
 fn database_command<'a>(alloc: Global) -> Result<Command<'a>, AllocError> {
@@ -146,6 +160,7 @@ fn whole_command<'a>(alloc: Global) -> Result<Command<'a>, AllocError> {
         .disable_help_subcommand(true)
         .subcommand(explain_command(alloc)?)?
         .subcommand(command_command(alloc)?)?
+        .subcommand(check_command(alloc)?)?
         .subcommand(database_command(alloc)?)?
         .subcommand(reasons_command(alloc))
 }
@@ -206,7 +221,10 @@ fn asked_words(
         directory,
         multiarch: matches.get_flag("multiarch"),
         json: matches.get_flag("json"),
-        has_nuls: matches.get_flag("nul"),
+        command_form: CommandForm {
+            has_nuls: matches.get_flag("nul"),
+            is_strict: matches.get_flag("strict"),
+        },
     })
 }
 
@@ -229,6 +247,7 @@ fn what_is_wanted(
     match matches.subcommand() {
         Some(("explain", inner)) => Ok(Wanted::Explain(asked_words(alloc, arguments, inner)?)),
         Some(("command", inner)) => Ok(Wanted::Command(asked_words(alloc, arguments, inner)?)),
+        Some(("check", inner)) => Ok(Wanted::Check(asked_words(alloc, arguments, inner)?)),
         Some(("database", inner)) => Ok(Wanted::Database(asked_entries(alloc, inner)?)),
         Some(("reasons", _)) => Ok(Wanted::Reasons),
         Some(_) | None => Ok(Wanted::Done(Ending::Usage)),

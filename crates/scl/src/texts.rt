@@ -8,10 +8,13 @@ pub const ABOUT_EXPLAIN: &str =
 
 pub const ABOUT_COMMAND: &str = "Writes the command to run in the place of a compile command";
 
+pub const ABOUT_CHECK: &str =
+    "Names each hazard of a compile command: where the compiler is known to do something else with the command that is built";
+
 pub const ABOUT_DATABASE: &str = "Answers each entry of a compile database";
 
 pub const ABOUT_REASONS: &str =
-    "Lists each reason why a command cannot be cached, with a sentence for people";
+    "Lists each reason why a command cannot be cached, and each hazard, with a sentence for people";
 
 pub const STATUSES: &str =
     "Statuses: 0 answered; 2 wrong words; 3 out of memory; 4 a file cannot be read or the answer not be written; 5 the database is broken or has entries that are none (all others are answered); 10 cannot be cached; 11 compiles nothing; 12 a hazard.
@@ -26,11 +29,19 @@ pub const EXAMPLE_EXPLAIN: &str = "Example:
     scl explain --json --compiler clang -- /opt/wrapper -c foo.c";
 
 pub const EXAMPLE_COMMAND: &str =
-    "Ends with status 10 where the outcome cannot be cached, and 11 where nothing is compiled; then no command is written.
+    "Ends with status 10 where the outcome cannot be cached, and 11 where nothing is compiled; then no command is written. With --strict none is written where a hazard is named either, and the status is 12: run the command as given.
 
 Example:
     scl command gcc -c src/foo.c -o foo.o
+    scl command --strict gcc -c src/foo.c -o foo.o
     scl command -0 gcc -c src/foo.c | xargs -0 env";
+
+pub const EXAMPLE_CHECK: &str =
+    "Writes a line for each hazard, its name and what happens. Ends with status 12 where there is one, 0 where there is none, 10 where the outcome cannot be cached and 11 where nothing is compiled. Hazards are known of gcc, clang and clang-cl.
+
+Example:
+    scl check gcc -c src/foo.c -MD -MT one -MT two -o foo.o
+    scl check --json clang -c src/foo.c -o foo.o";
 
 pub const EXAMPLE_DATABASE: &str =
     "Each entry has a \"directory\", and \"arguments\" or a \"command\" of shell words. With --json each answer is an object in a line; otherwise a summary is written, with --only behind a line for each entry of that kind.

@@ -1,5 +1,5 @@
 -- What is replied by the library's calls is what the definitions have.
-use Rattle.std.proofs.Common.{rules, ◌≡◌, ℕ, pos, true, List, Option, None, Some, IfSome, Result, Ok, if◌then◌else◌, inl, sym, subst, refl}
+use Rattle.std.proofs.Common.{rules, ◌≡◌, ℕ, pos, true, List, [], map, Option, Some, IfSome, Result, Ok, if◌then◌else◌, inl, sym, subst, refl}
 use Rattle.scl_values.specs.Words.{words_of}
 use Rattle.scl_text.specs.Commands.{pairs_of}
 use Rattle.scl_text.specs.Records.{Parsed, Verdict, parsed_of}
@@ -12,6 +12,7 @@ use Rattle.scl_cl.specs.Answers.{Answer, answer_to, reading_by, environment_by, 
 use Rattle.scl_cl.specs.Answers as answers
 use Rattle.scl_cl.specs.AnswersGiven.{answer_of, HasParts}
 use Rattle.scl_cl.specs.Compilers.{compiler_named}
+use Rattle.scl_cl.specs.Hazards.{hazards_by}
 use Rattle.scl_cl.specs.QuestionsGiven.{given}
 use Rattle.scl_cl.specs.Questions.{questions_of}
 use Rattle.scl_cl.specs.Requests.{asked}
@@ -24,28 +25,28 @@ use Rattle.scl_c.specs.declared.shapes.Asked.{Asked}
 use Rattle.scl_c.specs.declared.shapes.Room.{Room}
 use Rattle.scl_c.specs.declared.shapes.Sizes.{Sizes}
 use Rattle.scl_c.specs.declared.shapes.Told.{Told}
-use Rattle.scl_c.specs.Replies.{Reply, compiled, reply_with, reply_to, reply_of, runs_in, no_questions, text_beside, IsReplied, Whole, whole, whole_to}
+use Rattle.scl_c.specs.Replies.{Reply, compiled, reply_with, reply_to, reply_of, runs_in, name_of, no_questions, IsReplied, Whole, whole, whole_to}
 use Rattle.scl_c.specs.Requests.{asked_of, viewed}
 use Rattle.scl_c.specs.Shapes.{texts_of, pairs_in}
 use Rattle.scl_c.specs.Sizes.{AreSizes, Fits, IsShort}
 use Rattle.scl_c.specs.Told.{IsGiven, IsTold, IsTooMuch, IsWhole, OfCompiler, Tells}
 
 compiled-is : (words : List (List ℕ)) (kept : Cacheable) (pairs : List (List ℕ × List ℕ)) (p : Parsed) (answer : Answer) (reading : Result Parsed Verdict) (environment : List (List ℕ × List ℕ)) →
-    answers.compiled words kept ≡ answer → reading ≡ Ok p → pairs ≡ environment → compiled words kept pairs p ≡ reply_with answer reading environment None
+    answers.compiled words kept ≡ answer → reading ≡ Ok p → pairs ≡ environment → compiled words kept pairs p ≡ reply_with answer reading environment
 compiled-is words kept pairs p answer reading environment is read same =
-    let P : Answer → Type 0 = λ a. compiled words kept pairs p ≡ reply_with a reading environment None in
-    let Q : Result Parsed Verdict → Type 0 = λ r. compiled words kept pairs p ≡ reply_with (answers.compiled words kept) r environment None in
+    let P : Answer → Type 0 = λ a. compiled words kept pairs p ≡ reply_with a reading environment in
+    let Q : Result Parsed Verdict → Type 0 = λ r. compiled words kept pairs p ≡ reply_with (answers.compiled words kept) r environment in
     let R : List (List ℕ × List ℕ) → Type 0 = λ e. compiled words kept pairs p ≡ compiled words kept e p in
     subst P is (subst Q (sym read) (subst R same refl))
 
 reply-is : (a : CompilerArguments Compilation) (answer : Answer) (reading : Result Parsed Verdict) (executable : List ℕ) (environment : List (List ℕ × List ℕ)) (cwd : List ℕ) →
-    answer_of a ≡ answer → HasParts reading executable environment cwd a → reply_of a ≡ reply_with answer reading environment (text_beside a)
+    answer_of a ≡ answer → HasParts reading executable environment cwd a → reply_of a ≡ reply_with answer reading environment
 reply-is (outcomes.Ok compilation) answer reading executable environment cwd is parts =
     compiled-is (words_of compilation.command.arguments.items) compilation.cacheable (pairs_of compilation.command.env_vars.items) (parsed_of compilation.parsed) answer reading environment is parts.0 parts.1.env_vars_are
 reply-is (outcomes.CannotCache reason text) answer reading executable environment cwd is parts =
-    let P : Answer → Type 0 = λ it. reply_of (outcomes.CannotCache reason text) ≡ reply_with it reading environment (text_beside (outcomes.CannotCache reason text)) in subst P is refl
+    let P : Answer → Type 0 = λ it. reply_of (outcomes.CannotCache reason text) ≡ reply_with it reading environment in subst P is refl
 reply-is outcomes.NotCompilation answer reading executable environment cwd is parts =
-    let P : Answer → Type 0 = λ it. reply_of outcomes.NotCompilation ≡ reply_with it reading environment (text_beside outcomes.NotCompilation) in subst P is refl
+    let P : Answer → Type 0 = λ it. reply_of outcomes.NotCompilation ≡ reply_with it reading environment in subst P is refl
 
 -- what is known of a reply to these words, pairs and view
 pub record IsFrom (compiler : Compiler) (a : Asked) (r : Replied) (words : List (List ℕ)) (pairs : List (List ℕ × List ℕ)) (view : Viewed) : Type 0 where
@@ -55,6 +56,7 @@ pub record IsFrom (compiler : Compiler) (a : Asked) (r : Replied) (words : List 
   pub parts : HasParts (reading_by compiler (asked compiler words a.directory.now pairs view)) executable (environment_by compiler pairs) a.directory.now r.answer
   pub runs : runs_of r.runs.items ≡ runs_in compiler a (reply_of r.answer)
   pub questions : given r.questions ≡ (if a.wants_questions then questions_of (asked compiler words a.directory.now pairs view) else no_questions)
+  pub hazards : words_of r.hazards.items ≡ (if a.wants_hazards then map name_of (hazards_by compiler (asked compiler words a.directory.now pairs view)) else [])
 
 replied-here : (compiler : Compiler) (a : Asked) (r : Replied) → IsFrom compiler a r (texts_of a.words.now) (pairs_in a.environment.now) (viewed a) → IsReplied compiler a r
 replied-here compiler a r h = record {
@@ -62,6 +64,7 @@ replied-here compiler a r h = record {
   reply = reply-is r.answer (answer_to (asked_of compiler a)) (reading_by compiler (asked_of compiler a)) h.executable (environment_by compiler (pairs_in a.environment.now)) a.directory.now h.answer_is h.parts;
   runs = h.runs;
   questions = h.questions;
+  hazards = h.hazards;
 }
 
 -- a reply to the words, pairs and view that C asks about is one to C
@@ -74,13 +77,14 @@ replied_is compiler a r words pairs view words-are pairs-are view-is h =
     replied-here compiler a r (subst R view-is (subst Q pairs-are (subst P words-are h)))
 
 abbrev whole_of : Replied → Whole
-whole_of r = whole (reply_of r.answer) (runs_of r.runs.items) (given r.questions)
+whole_of r = whole (reply_of r.answer) (runs_of r.runs.items) (given r.questions) (words_of r.hazards.items)
 
-whole-is : (compiler : Compiler) (a : Asked) (r : Replied) → IsReplied compiler a r → whole_of r ≡ whole_to compiler a (text_beside r.answer)
+whole-is : (compiler : Compiler) (a : Asked) (r : Replied) → IsReplied compiler a r → whole_of r ≡ whole_to compiler a
 whole-is compiler a r h =
     let same = h.reply in
     let runs = h.runs in
     let questions = h.questions in
+    let hazards = h.hazards in
     (cc)
 
 -- what is told is told of what the definitions have
@@ -91,7 +95,6 @@ whole_told compiler a r sizes room t named replied are fits tells =
     let Of : Option Compiler → Type 0 = λ o. IfSome o (λ it. IsWhole it a (IsGiven sizes room t)) in
     subst Of (sym named) (record {
       is_within = replied.is_within;
-      text = text_beside r.answer;
       holds = subst Given (whole-is compiler a r replied) (record { sizes_are = are; fits = fits; tells = tells });
     })
 
@@ -102,7 +105,6 @@ whole_short compiler a r sizes room named replied are short =
     let Of : Option Compiler → Type 0 = λ o. IfSome o (λ it. IsWhole it a (IsTooMuch sizes room)) in
     subst Of (sym named) (record {
       is_within = replied.is_within;
-      text = text_beside r.answer;
       holds = subst Given (whole-is compiler a r replied) (record { sizes_are = are; is_short = short });
     })
 

@@ -1,15 +1,18 @@
 -- What is told in reply to what C asks.
-use Rattle.std.specs.Prelude.{◌≡◌, ℕ, List, [], Bool, true, false, Option, None, Some, if◌then◌else◌, Result, Ok, Err, string_bytes}
+use Rattle.std.specs.Prelude.{◌≡◌, ℕ, List, [], map, Bool, true, false, Option, None, Some, if◌then◌else◌, Result, Ok, Err, string_bytes}
 use Rattle.std.specs.Option.{option_map}
 use Rattle.scl_values.specs.Words.{words_of}
 use Rattle.scl_text.specs.Commands.{pairs_of}
 use Rattle.scl_text.specs.Runs.{runs_of}
 use Rattle.scl_text.specs.Records.{Parsed, Verdict, parsed_of}
+use Rattle.scl_hazards.specs.Hazards.{told}
+use Rattle.scl_hazards.specs.declared.hazard.Hazard.{Hazard}
 use Rattle.scl_text.specs.declared.records.Cacheable.{Cacheable}
 use Rattle.scl_text.specs.declared.records.CompilerArguments.{CompilerArguments}
 use Rattle.scl_text.specs.declared.records.CompilerArguments.TheVariants as outcomes
 use Rattle.scl_cl.specs.Answers.{Answer, answer_to, reading_by, environment_by, runs_by}
 use Rattle.scl_cl.specs.Answers as answers
+use Rattle.scl_cl.specs.Hazards.{hazards_by}
 use Rattle.scl_cl.specs.Questions.{Questions, questions_of}
 use Rattle.scl_cl.specs.QuestionsGiven.{given}
 use Rattle.scl_cl.specs.Within.{has_at_most}
@@ -26,17 +29,17 @@ pub data Reply : Type 0 where
   cannot_cache : (reason : List ℕ) (text : Option (List ℕ)) → Reply
   not_compilation : Reply
 
--- the reply of an answer, what was read, the command's environment and the text beside a reason; where the answer is a command, what was read is a record
-abbrev pub reply_with : Answer → Result Parsed Verdict → List (List ℕ × List ℕ) → Option (List ℕ) → Reply
-reply_with (answers.compiled words kept) (Ok p) environment text = compiled words kept environment p
-reply_with (answers.compiled words kept) (Err v) environment text = not_compilation
-reply_with (answers.cannot_cache reason) reading environment text = cannot_cache reason text
-reply_with answers.not_compilation reading environment text = not_compilation
+-- the reply of an answer, what was read and the command's environment; where the answer is a command, what was read is a record
+abbrev pub reply_with : Answer → Result Parsed Verdict → List (List ℕ × List ℕ) → Reply
+reply_with (answers.compiled words kept) (Ok p) environment = compiled words kept environment p
+reply_with (answers.compiled words kept) (Err v) environment = not_compilation
+reply_with (answers.cannot_cache reason text) reading environment = cannot_cache reason text
+reply_with answers.not_compilation reading environment = not_compilation
 
--- the reply to what is asked of a compiler, with this text beside a reason
-abbrev pub reply_to : Compiler → Asked → Option (List ℕ) → Reply
-reply_to compiler a text =
-    reply_with (answer_to (asked_of compiler a)) (reading_by compiler (asked_of compiler a)) (environment_by compiler (pairs_in a.environment.now)) text
+-- the reply to what is asked of a compiler
+abbrev pub reply_to : Compiler → Asked → Reply
+reply_to compiler a =
+    reply_with (answer_to (asked_of compiler a)) (reading_by compiler (asked_of compiler a)) (environment_by compiler (pairs_in a.environment.now))
 
 -- the runs of the preprocessor, where they are wanted
 abbrev pub runs_in : Compiler → Asked → Reply → List (List (List ℕ))
@@ -52,24 +55,27 @@ no_questions = record { files = []; directories = []; existing = [] }
 abbrev pub questions_in : Compiler → Asked → Questions
 questions_in compiler a = if a.wants_questions then questions_of (asked_of compiler a) else no_questions
 
+abbrev pub name_of : Hazard → List ℕ
+name_of hazard = (told hazard).name
+
+-- the names of the hazards of the command line, where they are wanted
+abbrev pub hazards_in : Compiler → Asked → List (List ℕ)
+hazards_in compiler a = if a.wants_hazards then map name_of (hazards_by compiler (asked_of compiler a)) else []
+
 -- all that is told
 pub record Whole : Type 0 where
   pub reply : Reply
   pub runs : List (List (List ℕ))
   pub questions : Questions
+  pub hazards : List (List ℕ)
 
-abbrev pub whole : Reply → List (List (List ℕ)) → Questions → Whole
-whole reply runs questions = record { reply = reply; runs = runs; questions = questions }
+abbrev pub whole : Reply → List (List (List ℕ)) → Questions → List (List ℕ) → Whole
+whole reply runs questions hazards = record { reply = reply; runs = runs; questions = questions; hazards = hazards }
 
-abbrev pub whole_to : Compiler → Asked → Option (List ℕ) → Whole
-whole_to compiler a text = whole (reply_to compiler a text) (runs_in compiler a (reply_to compiler a text)) (questions_in compiler a)
+abbrev pub whole_to : Compiler → Asked → Whole
+whole_to compiler a = whole (reply_to compiler a) (runs_in compiler a (reply_to compiler a)) (questions_in compiler a) (hazards_in compiler a)
 
 -- ---- of an answer that the code gives
-
-abbrev pub text_beside : CompilerArguments Compilation → Option (List ℕ)
-text_beside (outcomes.Ok compilation) = None
-text_beside (outcomes.CannotCache reason text) = option_map string_bytes text
-text_beside outcomes.NotCompilation = None
 
 abbrev pub reply_of : CompilerArguments Compilation → Reply
 reply_of (outcomes.Ok compilation) =
@@ -80,6 +86,7 @@ reply_of outcomes.NotCompilation = not_compilation
 -- it is what a compiler replies to what is asked, where no command line is longer than is allowed
 pub record IsReplied (compiler : Compiler) (a : Asked) (r : Replied) : Type 0 where
   pub is_within : has_at_most a.most_words (asked_of compiler a) ≡ true
-  pub reply : reply_of r.answer ≡ reply_to compiler a (text_beside r.answer)
+  pub reply : reply_of r.answer ≡ reply_to compiler a
   pub runs : runs_of r.runs.items ≡ runs_in compiler a (reply_of r.answer)
   pub questions : given r.questions ≡ questions_in compiler a
+  pub hazards : words_of r.hazards.items ≡ hazards_in compiler a

@@ -81,8 +81,8 @@ pub record AreReplySizes (r : Reply) (sizes : Sizes) : Type 0 where
 
 -- so much memory what is told takes, and no less
 pub record AreSizes (w : Whole) (sizes : Sizes) : Type 0 where
-  pub bytes : sizes.bytes ≡ reply_bytes w.reply + lists_size w.runs + lists_size (questions_lists w.questions)
-  pub slots : sizes.slots ≡ reply_slots w.reply + lists_length w.runs + lists_length (questions_lists w.questions)
+  pub bytes : sizes.bytes ≡ reply_bytes w.reply + lists_size w.runs + lists_size (questions_lists w.questions) + texts_size w.hazards
+  pub slots : sizes.slots ≡ reply_slots w.reply + lists_length w.runs + lists_length (questions_lists w.questions) + length w.hazards
   pub pairs : sizes.pairs ≡ reply_pairs w.reply
   pub outputs : sizes.outputs ≡ reply_outputs w.reply
   pub runs : sizes.runs ≡ length w.runs

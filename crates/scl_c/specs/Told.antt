@@ -113,12 +113,12 @@ pub record Tells (w : Whole) (t : Told) : Type 0 where
   pub reply : TellsReply w.reply t
   pub runs : lists_of t.runs.now ≡ w.runs
   pub questions : AreQuestions w.questions t.questions
+  pub hazards : texts_of t.hazards.now ≡ w.hazards
 
--- no command line of the words is longer than was allowed, and with some text beside a reason, which no definition has, what is told is so
+-- no command line of the words is longer than was allowed, and what is told is so
 pub record IsWhole (compiler : Compiler) (a : Asked) (Holds : Whole → Type 0) : Type 0 where
   pub is_within : has_at_most a.most_words (asked_of compiler a) ≡ true
-  pub text : Option (List ℕ)
-  pub holds : Holds (whole_to compiler a text)
+  pub holds : Holds (whole_to compiler a)
 
 -- it is told, in the memory that it takes
 pub record IsGiven (sizes : Sizes) (room : Room) (t : Told) (w : Whole) : Type 0 where

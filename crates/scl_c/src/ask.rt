@@ -1,14 +1,15 @@
 //! What is asked, answered and told.
-ghost use Rattle.std.specs.Prelude.{◌≡◌, false, true, if◌then◌else◌, Some, IfOk, MatchResult};
+ghost use Rattle.std.specs.Prelude.{◌≡◌, false, true, [], map, if◌then◌else◌, Some, IfOk, MatchResult};
 ghost use Rattle.scl_values.specs.Words.{words_of};
 ghost use Rattle.scl_text.specs.Commands.{pairs_of};
 ghost use Rattle.scl_text.specs.Runs.{runs_of};
 ghost use Rattle.scl_cl.specs.Compilers.{compiler_named};
+ghost use Rattle.scl_cl.specs.Hazards.{hazards_by};
 ghost use Rattle.scl_cl.specs.QuestionsGiven.{given};
 ghost use Rattle.scl_cl.specs.Requests.{asked as asking};
 ghost use Rattle.scl_cl.specs.Questions.{questions_of};
 ghost use Rattle.scl_cl.specs.Within.{has_at_most};
-ghost use Rattle.scl_c.specs.Replies.{no_questions, reply_of, runs_in, IsReplied};
+ghost use Rattle.scl_c.specs.Replies.{name_of, no_questions, reply_of, runs_in, IsReplied};
 ghost use Rattle.scl_c.specs.Requests.{asked_of, viewed};
 ghost use Rattle.scl_c.specs.Shapes.{texts_of, pairs_in};
 ghost use Rattle.scl_c.specs.Told.{AreNoSizes, IsTold};
@@ -18,7 +19,9 @@ use crate::shapes::{Asked, Room, Sizes, Told};
 use crate::sizes::sizes_of;
 use crate::status::{BAD, NO_MEMORY, TOLD, TOO_MANY_WORDS, TOO_SHORT};
 use crate::told::tell;
-use scl_cl::{Compilation, Compiler, CompilerArguments, Mem, Questions, TooManyWords, View};
+use scl_cl::{
+    Compilation, Compiler, CompilerArguments, Hazard, Mem, Questions, TooManyWords, View,
+};
 use std::alloc::Global;
 
 /// What is asked, in the library's words.
@@ -35,6 +38,7 @@ struct Replied {
     answer: CompilerArguments<Compilation>,
     runs: Vec<Vec<Vec<u8>>>,
     questions: Questions,
+    hazards: Vec<Vec<u8>>,
 }
 
 fn line_of(alloc: Global, asked: &Asked<'_>) -> Mem<Line>
@@ -102,6 +106,39 @@ fn questions_for(
     )
 }
 
+/// The names of hazards.
+fn names_of(alloc: Global, hazards: &[Hazard]) -> Mem<Vec<Vec<u8>>>
+    ensures { IfOk result (λ names. words_of names.items ≡ map name_of hazards.now) }
+{
+    let mut names = Vec::with_capacity(alloc, hazards.len())?;
+    for hazard in hazards {
+        names.push(Vec::from_slice(alloc, hazard.name().as_bytes())?)?;
+    }
+    Ok(names)
+}
+
+/// The names of the hazards of the command line, where they are wanted.
+fn hazards_for(
+    alloc: Global,
+    compiler: Compiler,
+    asked: &Asked<'_>,
+    line: &Line,
+) -> Mem<Vec<Vec<u8>>>
+    ensures { IfOk result (λ names. words_of names.items ≡ (if asked.now.wants_hazards then map name_of (hazards_by compiler (asking compiler (words_of line.now.words.items) asked.now.directory.now (pairs_of line.now.environment.items) line.now.view)) else [])) }
+{
+    if !asked.wants_hazards {
+        return Ok(Vec::new(alloc));
+    }
+    let hazards = compiler.hazards(
+        alloc,
+        &line.words,
+        asked.directory,
+        &line.environment,
+        &line.view,
+    )?;
+    names_of(alloc, &hazards)
+}
+
 /// What a request is replied, or that a command line of its is too long.
 fn answered(
     alloc: Global,
@@ -131,11 +168,13 @@ fn answered(
         &line.view,
     )?;
     let runs = runs_for(alloc, compiler, asked, &answer)?;
+    let hazards = hazards_for(alloc, compiler, asked, &line)?;
     match questions_for(alloc, compiler, asked, &line)? {
         Ok(questions) => Ok(Ok(Replied {
             answer,
             runs,
             questions,
+            hazards,
         })),
         Err(TooManyWords) => Ok(Err(TooManyWords)),
     }
@@ -156,14 +195,25 @@ fn tell_in<'a>(
     requires untold { AreNoSizes wanted.old }
     ensures { IsTold asked.now room.entry wanted.new told.old told.new result }
 {
-    let Ok(sizes) = sizes_of(&replied.answer, &replied.runs, &replied.questions) else {
+    let Ok(sizes) = sizes_of(
+        &replied.answer,
+        &replied.runs,
+        &replied.questions,
+        &replied.hazards,
+    ) else {
         return NO_MEMORY;
     };
     *wanted = sizes;
     if !sizes.fit(&room) {
         return TOO_SHORT;
     }
-    *told = tell(&replied.answer, &replied.runs, &replied.questions, room);
+    *told = tell(
+        &replied.answer,
+        &replied.runs,
+        &replied.questions,
+        &replied.hazards,
+        room,
+    );
     TOLD
 }
 

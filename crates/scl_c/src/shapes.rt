@@ -54,6 +54,8 @@ pub struct Asked<'a> {
     pub cache_mode: bool,
     /// Whether it is told what the answer asks of files that were not handed in.
     pub wants_questions: bool,
+    /// Whether the hazards of the command line are told.
+    pub wants_hazards: bool,
 }
 
 /// A file that the command makes.
@@ -135,6 +137,8 @@ pub struct Told<'a> {
     /// The words of the runs of the preprocessor.
     pub runs: &'a [Words<'a>],
     pub questions: Questions<'a>,
+    /// The hazards of the command line, by their names.
+    pub hazards: &'a [Bytes<'a>],
 }
 
 /// The memory that C hands in for what is told.

@@ -172,12 +172,14 @@ pub(crate) fn sizes_of(
     answer: &CompilerArguments<Compilation>,
     runs: &[Vec<Vec<u8>>],
     questions: &Questions,
+    hazards: &[Vec<u8>],
 ) -> Mem<Sizes>
-    ensures { IfOk result (AreSizes (whole (reply_of answer.now) (runs_of runs.now) (given questions.now))) }
+    ensures { IfOk result (AreSizes (whole (reply_of answer.now) (runs_of runs.now) (given questions.now) (words_of hazards.now))) }
 {
     let mut sizes = answer_sizes(answer)?;
     sizes.add_lists(runs)?;
     sizes.add_questions(questions)?;
+    sizes.add_words(hazards)?;
     sizes.runs = runs.len();
     Ok(sizes)
 }

@@ -1,6 +1,7 @@
 //! What is told C, put into the memory that it handed in.
 ghost use Rattle.std.specs.Prelude.{◌≡◌, ◌+◌, ◌≤◌, [], None, true, false, length};
 ghost use Rattle.std.specs.Option.{option_copied, option_to_list};
+ghost use Rattle.scl_values.specs.Words.{words_of};
 ghost use Rattle.scl_text.specs.Records.{artifacts, parsed_of};
 ghost use Rattle.scl_text.specs.Runs.{runs_of};
 ghost use Rattle.scl_text.specs.declared.records.CompilerArguments.TheVariants as outcomes;
@@ -182,6 +183,7 @@ fn told_compilation<'a>(
         record: put_record(left, outputs, &compilation.parsed),
         runs: &[],
         questions: no_questions(),
+        hazards: &[],
     }
 }
 
@@ -216,6 +218,7 @@ fn told_nothing<'a>() -> Told<'a>
         record: no_record(),
         runs: &[],
         questions: no_questions(),
+        hazards: &[],
     }
 }
 
@@ -264,14 +267,15 @@ pub(crate) fn tell<'a>(
     answer: &CompilerArguments<Compilation>,
     runs: &[Vec<Vec<u8>>],
     questions: &Questions,
+    hazards: &[Vec<u8>],
     room: Room<'a>,
 ) -> Told<'a>
-    requires bytes { reply_bytes (reply_of answer.now) + lists_size (runs_of runs.now) + lists_size (questions_lists (given questions.now)) ≤ length room.bytes.now }
-    requires slots { reply_slots (reply_of answer.now) + lists_length (runs_of runs.now) + lists_length (questions_lists (given questions.now)) ≤ length room.slots.now }
+    requires bytes { reply_bytes (reply_of answer.now) + lists_size (runs_of runs.now) + lists_size (questions_lists (given questions.now)) + texts_size (words_of hazards.now) ≤ length room.bytes.now }
+    requires slots { reply_slots (reply_of answer.now) + lists_length (runs_of runs.now) + lists_length (questions_lists (given questions.now)) + length (words_of hazards.now) ≤ length room.slots.now }
     requires pairs { reply_pairs (reply_of answer.now) ≤ length room.pairs.now }
     requires outputs { reply_outputs (reply_of answer.now) ≤ length room.outputs.now }
     requires runs { length (runs_of runs.now) ≤ length room.runs.now }
-    ensures { Tells (whole (reply_of answer.now) (runs_of runs.now) (given questions.now)) result }
+    ensures { Tells (whole (reply_of answer.now) (runs_of runs.now) (given questions.now) (words_of hazards.now)) result }
 {
     let Room {
         bytes,
@@ -282,10 +286,12 @@ pub(crate) fn tell<'a>(
     } = room;
     let (runs, left) = put_lists(places, Left { bytes, slots }, runs);
     let (questions, left) = put_questions(left, questions);
+    let (hazards, left) = put_words(left, hazards);
     let told = told_answer(answer, left, pairs, outputs);
     Told {
         runs,
         questions,
+        hazards,
         ..told
     }
 }

@@ -31,7 +31,7 @@ answer-with promise p (Some words) kept h = (p, refl, h)
 answer-from : (command : Parsed → Option (List (List ℕ))) (kept : Parsed → Cacheable) (promise : Parsed → List (List ℕ) → Type 0) (said : Result Parsed Verdict) →
     IfCommand command promise said → Keeps promise said (answer_from command kept said)
 answer-from command kept promise (Ok p) h = answer-with promise p (command p) (kept p) h
-answer-from command kept promise (Err (CannotCache reason)) h = tt
+answer-from command kept promise (Err (CannotCache reason beside)) h = tt
 answer-from command kept promise (Err NotCompilation) h = tt
 
 command_kept : (compiler : Compiler) (request : Request) → IfCommand (command_by compiler) (read_again_by compiler request) (reading_by compiler request)

@@ -72,7 +72,7 @@ not-named m before o e = either_ (names_file o) refl where
   either_ true k = absurd (let no = rw k at e in cc)
   either_ false k = refl
 
-none-named : (m : Bool) (before os : List (Seen Kind)) → first_verdict (verdict m) before os ≡ None → Each (λ o. names_file o ≡ false) os
+pub none-named : (m : Bool) (before os : List (Seen Kind)) → first_verdict (verdict m) before os ≡ None → Each (λ o. names_file o ≡ false) os
 none-named m before [] e = tt
 none-named m before (o ∷ os) e =
     let both = option_or-none (verdict m before o) (first_verdict (verdict m) (before ++ o ∷ []) os) e in
@@ -115,7 +115,7 @@ module _ (tables : List (List (Row Kind))) (dashes : Bool) (rows_apart : handed_
     found-none os f.1 n.1,
   )
 
-  handed-none : (words : List (List ℕ)) → let os = map shown (cut (owner_in tables) dashes words).options in
+  pub handed-none : (words : List (List ℕ)) → let os = map shown (cut (owner_in tables) dashes words).options in
       Each (λ o. names_file o ≡ false) os → Each (λ w. begins_with_at w ≡ false) (texts (of (kind.XClang ∷ [])) os)
   handed-none words n = found-none _ (found tables dashes (of (kind.XClang ∷ [])) words) (filter-none _ n)
 
@@ -129,7 +129,7 @@ no-names : (ws : List (List ℕ)) → Each (λ w. begins_with_at w ≡ false) ws
 no-names [] h = refl
 no-names (w ∷ ws) h = rw (names-none w h.0, no-names ws h.1) refl
 
-stand : (directory : List ℕ) (files : List File) (ws : List (List ℕ)) → Each (λ w. begins_with_at w ≡ false) ws → expand expansions.Gnu directory files ws ≡ ws
+pub stand : (directory : List ℕ) (files : List File) (ws : List (List ℕ)) → Each (λ w. begins_with_at w ≡ false) ws → expand expansions.Gnu directory files ws ≡ ws
 stand directory files ws h = plain_words expansions.Gnu directory files ws (no-names ws h)
 
 -- ---- directories

@@ -5,6 +5,7 @@ pub mod RequestLaws
 pub mod WrittenLaws
 pub mod BadLineLaws
 pub mod GnuQuestionLaws
+pub mod InnerLineLaws
 pub mod MsvcQuestionLaws
 pub mod QuestionLaws
 pub mod RecordLaws

@@ -111,7 +111,7 @@ module _ (is_clang : Bool) (directory : List ℕ) (disk view : Viewed) (extends 
   answer-same : (r : Result Parsed Verdict) → Each (λ p. exists p disk ≡ false) (database_asked directory view (database_in r))
       → answer_from command (λ p. cacheable p directory disk) r ≡ answer_from command (λ p. cacheable p directory view) r
   answer-same (Ok p) n = ap (answer_with (command p)) (kept-same (path_at p.outputs (codes "pdb")) n)
-  answer-same (Err (CannotCache reason)) n = refl
+  answer-same (Err (CannotCache reason beside)) n = refl
   answer-same (Err NotCompilation) n = refl
 
   pub msvc-decided : (pairs : List (List ℕ × List ℕ)) (words : List (List ℕ))

@@ -17,7 +17,7 @@ use Rattle.scl_cl.proofs.AgainLaws.{have-commands}
 
 abbrev IsNone : Answer → Type 0
 IsNone (compiled words kept) = ⊥
-IsNone (cannot_cache reason) = Unit {0}
+IsNone (cannot_cache reason beside) = Unit {0}
 IsNone not_compilation = Unit {0}
 
 -- nothing was read

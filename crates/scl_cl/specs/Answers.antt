@@ -32,7 +32,7 @@ use Rattle.scl_cl.specs.Requests.{Request}
 
 pub data Answer : Type 0 where
   compiled : (words : List (List ℕ)) (kept : Cacheable) → Answer
-  cannot_cache : (reason : List ℕ) → Answer
+  cannot_cache : (reason : List ℕ) (beside : Option (List ℕ)) → Answer
   not_compilation : Answer
 
 -- the line of a word
@@ -44,21 +44,21 @@ abbrev pub cacheable_text : Cacheable → List ℕ
 cacheable_text cacheable.Yes = codes "cacheable yes"
 cacheable_text cacheable.No = codes "cacheable no"
 
--- the text of an answer, by lines with LF; a reason is not escaped
+-- the text of an answer, by lines with LF; a reason is not escaped, and the text beside it is left out
 abbrev pub text_of : Answer → List ℕ
 text_of (compiled words kept) = line (codes "ok") ++ flat_map arg_line words ++ line (cacheable_text kept)
-text_of (cannot_cache reason) = codes "cannot-cache " ++ line reason
+text_of (cannot_cache reason beside) = codes "cannot-cache " ++ line reason
 text_of not_compilation = line (codes "not-compilation")
 
 -- the answer of a record: its command's words; a record without output `obj`, as none is that was read, would be refused
 abbrev pub answer_with : Option (List (List ℕ)) → Cacheable → Answer
-answer_with None kept = cannot_cache (codes "Missing object file output")
+answer_with None kept = cannot_cache (codes "Missing object file output") None
 answer_with (Some words) kept = compiled words kept
 
 -- the answer of a reading, by the words of what was read and by whether its outcome may be kept
 abbrev pub answer_from : (Parsed → Option (List (List ℕ))) → (Parsed → Cacheable) → Result Parsed Verdict → Answer
 answer_from command kept (Ok parsed) = answer_with (command parsed) (kept parsed)
-answer_from command kept (Err (CannotCache reason)) = cannot_cache reason
+answer_from command kept (Err (CannotCache reason beside)) = cannot_cache reason beside
 answer_from command kept (Err NotCompilation) = not_compilation
 
 -- what a command line says to a compiler: its words, directory, environment and files
@@ -83,16 +83,20 @@ command_by compilers.ClangCl parsed = msvc.command parsed
 command_by compilers.Diab parsed = command parsed
 command_by compilers.Tasking parsed = command parsed
 
--- the words of the runs of the preprocessor for what was read; of no compiler is a version known
+-- the words of the runs of the preprocessor for what was read, by a compiler whose version has this text, if it is known
+abbrev pub runs_with : Option (List ℕ) → Compiler → (may_dist rewrites cache_mode : Bool) → Parsed → List (List (List ℕ))
+runs_with version compilers.Gcc may_dist rewrites cache_mode parsed = gcc_runs may_dist rewrites cache_mode parsed
+runs_with version compilers.Gxx may_dist rewrites cache_mode parsed = gcc_runs may_dist rewrites cache_mode parsed
+runs_with version compilers.Clang may_dist rewrites cache_mode parsed = clang_runs false version may_dist rewrites cache_mode parsed
+runs_with version compilers.Clangxx may_dist rewrites cache_mode parsed = clang_runs false version may_dist rewrites cache_mode parsed
+runs_with version compilers.Cl may_dist rewrites cache_mode parsed = msvc_preprocess.runs false may_dist rewrites parsed
+runs_with version compilers.ClangCl may_dist rewrites cache_mode parsed = msvc_preprocess.runs true may_dist rewrites parsed
+runs_with version compilers.Diab may_dist rewrites cache_mode parsed = diab_runs parsed
+runs_with version compilers.Tasking may_dist rewrites cache_mode parsed = tasking_runs parsed
+
+-- the same where no version is known
 abbrev pub runs_by : Compiler → (may_dist rewrites cache_mode : Bool) → Parsed → List (List (List ℕ))
-runs_by compilers.Gcc may_dist rewrites cache_mode parsed = gcc_runs may_dist rewrites cache_mode parsed
-runs_by compilers.Gxx may_dist rewrites cache_mode parsed = gcc_runs may_dist rewrites cache_mode parsed
-runs_by compilers.Clang may_dist rewrites cache_mode parsed = clang_runs false None may_dist rewrites cache_mode parsed
-runs_by compilers.Clangxx may_dist rewrites cache_mode parsed = clang_runs false None may_dist rewrites cache_mode parsed
-runs_by compilers.Cl may_dist rewrites cache_mode parsed = msvc_preprocess.runs false may_dist rewrites parsed
-runs_by compilers.ClangCl may_dist rewrites cache_mode parsed = msvc_preprocess.runs true may_dist rewrites parsed
-runs_by compilers.Diab may_dist rewrites cache_mode parsed = diab_runs parsed
-runs_by compilers.Tasking may_dist rewrites cache_mode parsed = tasking_runs parsed
+runs_by compiler may_dist rewrites cache_mode parsed = runs_with None compiler may_dist rewrites cache_mode parsed
 
 -- the environment that a compiler's command gets
 abbrev pub environment_by : Compiler → List (List ℕ × List ℕ) → List (List ℕ × List ℕ)
@@ -134,7 +138,7 @@ read_again_by compilers.Tasking request = TaskingReadsAgain request.words
 -- where the answer is a command, what was read is a record, and the two keep the promise
 abbrev pub Keeps : (Parsed → List (List ℕ) → Type 0) → Result Parsed Verdict → Answer → Type 0
 Keeps promise said (compiled words kept) = (parsed : Parsed) × (said ≡ Ok parsed) × promise parsed words
-Keeps promise said (cannot_cache reason) = Unit {0}
+Keeps promise said (cannot_cache reason beside) = Unit {0}
 Keeps promise said not_compilation = Unit {0}
 
 -- where the answer to the request is a command, it is read again

@@ -1,5 +1,6 @@
 -- What an answer that the code gives says, by what it keeps of a record and of its command.
-use Rattle.std.specs.Prelude.{◌≡◌, ℕ, List, Result, Ok}
+use Rattle.std.specs.Prelude.{◌≡◌, ℕ, List, Result, Ok, string_bytes}
+use Rattle.std.specs.Option.{option_map}
 use Rattle.scl_values.specs.Words.{words_of}
 use Rattle.scl_text.specs.Commands.{Builds}
 use Rattle.scl_text.specs.Records.{Parsed, Verdict, parsed_of}
@@ -13,10 +14,10 @@ use Rattle.scl_files.specs.Views.{Viewed}
 use Rattle.scl_cl.specs.Answers.{Answer, compiled, cannot_cache, not_compilation, answer_from}
 use Rattle.scl_cl.specs.Definitions.{Definitions}
 
--- the answer, less the text beside a reason, by the command that is kept and by whether its outcome may be
+-- the answer, by the command that is kept and by whether its outcome may be
 abbrev pub answer_by : {K : Type 0} → (K → SingleCompileCommand) → (K → Cacheable) → CompilerArguments K → Answer
 answer_by command cacheable (outcomes.Ok kept) = compiled (words_of (command kept).arguments.items) (cacheable kept)
-answer_by command cacheable (outcomes.CannotCache reason text) = cannot_cache reason.now
+answer_by command cacheable (outcomes.CannotCache reason text) = cannot_cache reason.now (option_map string_bytes text)
 answer_by command cacheable outcomes.NotCompilation = not_compilation
 
 -- where there is a command, what is kept is so
@@ -43,7 +44,7 @@ pub record IsAnswerBy {K : Type 0} (command : K → SingleCompileCommand) (cache
 
 -- ---- with the record
 
--- the answer, less the text beside a reason
+-- the answer
 abbrev pub answer_of : CompilerArguments Compilation → Answer
 answer_of = answer_by (λ compilation. compilation.command) (λ compilation. compilation.cacheable)
 
@@ -58,7 +59,7 @@ IfCompiled promise = IfKept (λ compilation. promise (parsed_of compilation.pars
 
 -- ---- without it
 
--- the answer, less the text beside a reason
+-- the answer
 abbrev pub command_answer : CompilerArguments BuiltCommand → Answer
 command_answer = answer_by (λ built. built.command) (λ built. built.cacheable)
 

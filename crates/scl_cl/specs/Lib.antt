@@ -7,6 +7,8 @@ pub mod Requests
 pub mod Drafts
 pub mod Answers
 pub mod AnswersGiven
+pub mod OptionRows
+pub mod Hazards
 pub mod Definitions
 pub mod Transfers
 pub mod Written
@@ -17,6 +19,7 @@ pub mod Within
 pub mod Outcomes
 pub mod Questions
 pub mod QuestionsGiven
+pub mod OptionLines
 pub mod Descriptions
 pub mod DescriptionsGiven
 pub mod Batches

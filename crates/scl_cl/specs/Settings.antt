@@ -4,29 +4,34 @@ use Rattle.std.specs.List.{filter_map}
 use Rattle.std.specs.Option.{option_map, option_to_list}
 use Rattle.std.specs.Str.{bytes_eq}
 use Rattle.scl_files.specs.Characters.{space}
+use Rattle.scl_files.specs.Decoding.{utf8_text}
+use Rattle.scl_description.specs.Fields.{field_of}
 use Rattle.scl_description.specs.Lines.{cut_at}
 
--- whether the runs of the preprocessor are for a distant compiler, leave macros in place, and are kept in a cache; and how many words a command line may have
+-- whether the runs of the preprocessor are for a distant compiler, leave macros in place, and are kept in a cache; the text of Clang's version, if it is known; and how many words a command line may have
 pub record Settings : Type 0 where
   pub may_dist : Bool
   pub rewrite_includes_only : Bool
   pub cache_mode : Bool
+  pub version : Option (List ℕ)
   pub bound : ℕ
 
 -- where no line says otherwise
 abbrev pub no_settings : Settings
-no_settings = record { may_dist = false; rewrite_includes_only = false; cache_mode = false; bound = 1000000 }
+no_settings = record { may_dist = false; rewrite_includes_only = false; cache_mode = false; version = None; bound = 1000000 }
 
 pub data Setting : Type 0 where
   MayDist : Setting
   RewriteIncludesOnly : Setting
   CacheMode : Setting
+  Version : (text : List ℕ) → Setting
   Bound : (words : ℕ) → Setting
 
 abbrev pub with_setting : Settings → Setting → Settings
 with_setting s MayDist = record s { may_dist = true }
 with_setting s RewriteIncludesOnly = record s { rewrite_includes_only = true }
 with_setting s CacheMode = record s { cache_mode = true }
+with_setting s (Version text) = record s { version = Some text }
 with_setting s (Bound words) = record s { bound = words }
 
 -- ---- lines
@@ -50,9 +55,15 @@ setting_alone name =
     else (if bytes_eq name (codes "rewrite-includes-only") then Some RewriteIncludesOnly
     else (if bytes_eq name (codes "cache-mode") then Some CacheMode else None))
 
+-- the text in UTF-8 that a field stands for, if it stands for one
+abbrev pub field_text : List ℕ → Option (List ℕ)
+field_text field = option_and_then utf8_text (field_of field)
+
 -- the setting of this name and value
 abbrev pub setting_with : List ℕ → List ℕ → Option Setting
-setting_with name value = if bytes_eq name (codes "bound") then option_map Bound (number_of value) else None
+setting_with name value =
+    if bytes_eq name (codes "bound") then option_map Bound (number_of value)
+    else (if bytes_eq name (codes "version") then option_map Version (field_text value) else None)
 
 abbrev pub setting_in : List ℕ → Option (List ℕ × List ℕ) → Option Setting
 setting_in text None = setting_alone text

@@ -1,5 +1,5 @@
 //! The texts of answers.
-ghost use Rattle.std.specs.Prelude.{◌≡◌, ◌++◌, OnOk, IfOk};
+ghost use Rattle.std.specs.Prelude.{◌≡◌, ◌++◌, None, OnOk, IfOk};
 ghost use Rattle.std.specs.List.{flat_map};
 ghost use Rattle.scl_values.specs.Words.{words_of};
 ghost use Rattle.scl_cl.specs.Answers.{compiled, cannot_cache, arg_line, text_of};
@@ -47,7 +47,7 @@ fn compiled_text(alloc: Global, words: &[Vec<u8>], cacheable: Cacheable) -> Mem<
 
 /// The text of a reason.
 fn reason_text(alloc: Global, reason: &str) -> Mem<Vec<u8>>
-    ensures { IfOk result (λ text. text.items ≡ text_of (cannot_cache reason.now)) }
+    ensures { IfOk result (λ text. text.items ≡ text_of (cannot_cache reason.now None)) }
 {
     let mut text = Vec::from_slice(alloc, b"cannot-cache ")?;
     text.extend_from_slice(reason.as_bytes())?;

@@ -1,11 +1,14 @@
 //! A compiler that is served, with its trees built: for many command lines.
-ghost use Rattle.std.specs.Prelude.{◌≡◌, true, false, IfOk, MatchResult};
+ghost use Rattle.std.specs.Prelude.{◌≡◌, true, false, map, IfOk, MatchResult};
+ghost use Rattle.scl_rows.specs.Rows.{Tells, told};
 ghost use Rattle.scl_values.specs.Words.{words_of};
 ghost use Rattle.scl_text.specs.Commands.{pairs_of};
 ghost use Rattle.scl_cl.specs.Requests.{asked};
 ghost use Rattle.scl_cl.specs.Answers.{Keeps, answer_to, environment_by, reading_by, read_again_by};
 ghost use Rattle.scl_cl.specs.AnswersGiven.{answer_of, command_answer, HasParts, HasCommand, IfCompiled};
 ghost use Rattle.scl_cl.specs.Definitions.{definitions_of};
+ghost use Rattle.scl_cl.specs.Hazards.{hazards_by};
+ghost use Rattle.scl_cl.specs.OptionRows.{rows_by};
 ghost use Rattle.scl_cl.specs.Within.{has_at_most};
 ghost use Rattle.scl_cl.specs.Questions.{questions_of};
 ghost use Rattle.scl_cl.specs.QuestionsGiven.{given};
@@ -13,14 +16,18 @@ ghost use Rattle.scl_cl.specs.QuestionsGiven.{given};
 use crate::ask::{Asked, Query};
 use crate::compile::{answer_line, compile_words};
 use crate::compiler::Compiler;
+use crate::hazards::line_hazards;
 use crate::kept::{BuiltCommand, Compilation};
-use crate::lent::lend;
+use crate::lent::Lent;
 use crate::questions::{Questions, all_questions, questions_beside};
+use crate::rows::option_rows;
 use crate::trees::{ClangTrees, DiabTree, GccTree, MsvcTrees, TaskingTree};
 use crate::within::CommandLines;
 use scl_gnu::clang::Clang;
 use scl_gnu::gcc::Gcc;
+use scl_hazards::Hazard;
 use scl_msvc::msvc::Msvc;
+use scl_rows::Row;
 use scl_small::diab::Diab;
 use scl_small::tasking_vx::TaskingVX;
 use scl_text::records::CompilerArguments;
@@ -98,32 +105,44 @@ impl Answerer {
         let gnu = CommandLines::Expanded(ExpansionKind::Gnu);
         let diab = CommandLines::Expanded(ExpansionKind::Diab);
         match &self.built {
-            Built::Gcc(trees) => query.ask(alloc, &lend(&Gcc::new(false), trees), gnu),
-            Built::Gxx(trees) => query.ask(alloc, &lend(&Gcc::new(true), trees), gnu),
-            Built::Clang(trees) => query.ask(alloc, &lend(&Clang::new(false), trees), gnu),
-            Built::Clangxx(trees) => query.ask(alloc, &lend(&Clang::new(true), trees), gnu),
+            Built::Gcc(trees) => ask_gcc(alloc, query, trees),
+            Built::Gxx(trees) => ask_gxx(alloc, query, trees),
+            Built::Clang(trees) => {
+                let compiler = &Clang {
+                    clangplusplus: false,
+                    is_appleclang: false,
+                    version: None,
+                    assembler_digest: None,
+                };
+                query.ask(alloc, &Lent { compiler, trees }, gnu)
+            }
+            Built::Clangxx(trees) => {
+                let compiler = &Clang {
+                    clangplusplus: true,
+                    is_appleclang: false,
+                    version: None,
+                    assembler_digest: None,
+                };
+                query.ask(alloc, &Lent { compiler, trees }, gnu)
+            }
             Built::Cl(trees) => {
-                let cl = Msvc::new(false, String::new(alloc));
-                query.ask(
-                    alloc,
-                    &lend(&cl, trees),
-                    CommandLines::Msvc { is_clang: false },
-                )
+                let compiler = &Msvc::new(false, String::new(alloc));
+                let lines = CommandLines::Msvc { is_clang: false };
+                query.ask(alloc, &Lent { compiler, trees }, lines)
             }
             Built::ClangCl(trees) => {
-                let cl = Msvc::new(true, String::new(alloc));
-                query.ask(
-                    alloc,
-                    &lend(&cl, trees),
-                    CommandLines::Msvc { is_clang: true },
-                )
+                let compiler = &Msvc::new(true, String::new(alloc));
+                let lines = CommandLines::Msvc { is_clang: true };
+                query.ask(alloc, &Lent { compiler, trees }, lines)
             }
-            Built::Diab(trees) => query.ask(alloc, &lend(&Diab::new(), trees), diab),
-            Built::Tasking(trees) => query.ask(
-                alloc,
-                &lend(&TaskingVX, trees),
-                CommandLines::Given,
-            ),
+            Built::Diab(trees) => {
+                let compiler = &Diab::new();
+                query.ask(alloc, &Lent { compiler, trees }, diab)
+            }
+            Built::Tasking(trees) => {
+                let compiler = &TaskingVX;
+                query.ask(alloc, &Lent { compiler, trees }, CommandLines::Given)
+            }
         }
     }
 
@@ -190,6 +209,35 @@ impl Answerer {
         Ok(Ok(answer))
     }
 
+    /// What `Compiler::hazards` gives. It fails only for want of memory.
+    pub fn hazards(
+        &self,
+        alloc: Global,
+        words: &[Vec<u8>],
+        cwd: &[u8],
+        env_vars: &[(Vec<u8>, Vec<u8>)],
+        view: &View,
+    ) -> Mem<Vec<Hazard>>
+        ensures { IfOk result (λ found. found.items ≡ hazards_by self.now (asked self.now (words_of words.now) cwd.now (pairs_of env_vars.now) view.now)) }
+    {
+        line_hazards(alloc, self, words, cwd, env_vars, view)
+    }
+
+    /// What `Compiler::rows` gives. It fails only for want of memory.
+    pub fn rows(
+        &self,
+        alloc: Global,
+        words: &[Vec<u8>],
+        cwd: &[u8],
+        env_vars: &[(Vec<u8>, Vec<u8>)],
+        view: &View,
+    ) -> Mem<Vec<Row>>
+        ensures rows { IfOk result (λ rows. map told rows.items ≡ rows_by self.now (asked self.now (words_of words.now) cwd.now (pairs_of env_vars.now) view.now)) }
+        ensures tells { IfOk result (λ rows. Tells (map told rows.items) (reading_by self.now (asked self.now (words_of words.now) cwd.now (pairs_of env_vars.now) view.now))) }
+    {
+        option_rows(alloc, self, words, cwd, env_vars, view)
+    }
+
     /// What `Compiler::open_questions` says. It fails only for want of memory.
     pub fn open_questions(
         &self,
@@ -243,6 +291,30 @@ impl Answerer {
         )?;
         Ok(Ok((answer, questions)))
     }
+}
+
+fn ask_gcc<Q: Query>(alloc: Global, query: Q, trees: &GccTree) -> Mem<Q::Answer>
+    ensures { IfOk result (λ answer. Q.gives query (definitions_of Compiler.Gcc) answer) }
+{
+    let compiler = &Gcc {
+        gplusplus: false,
+        version: None,
+        assembler_digest: None,
+    };
+    let gnu = CommandLines::Expanded(ExpansionKind::Gnu);
+    query.ask(alloc, &Lent { compiler, trees }, gnu)
+}
+
+fn ask_gxx<Q: Query>(alloc: Global, query: Q, trees: &GccTree) -> Mem<Q::Answer>
+    ensures { IfOk result (λ answer. Q.gives query (definitions_of Compiler.Gxx) answer) }
+{
+    let compiler = &Gcc {
+        gplusplus: true,
+        version: None,
+        assembler_digest: None,
+    };
+    let gnu = CommandLines::Expanded(ExpansionKind::Gnu);
+    query.ask(alloc, &Lent { compiler, trees }, gnu)
 }
 
 impl Asked for Answerer {

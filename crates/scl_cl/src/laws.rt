@@ -1,4 +1,5 @@
 //! Laws of the definitions of requests and answers, each a clause of a function that does nothing.
+ghost use Rattle.std.specs.Prelude.{◌≡◌, true};
 ghost use Rattle.scl_values.specs.Tables.{all_rows};
 ghost use Rattle.scl_gnu_reading.specs.ClangRows.{clang_tables};
 ghost use Rattle.scl_msvc_reading.specs.Places as msvc;
@@ -11,7 +12,18 @@ ghost use Rattle.scl_cl.specs.Answers.{AnswersAreReadAgain, RecordsHaveCommands}
 ghost use Rattle.scl_cl.specs.Explained.{AreExplained, is_refused_somewhere, is_refused_by_msvc, is_refused_by_small};
 ghost use Rattle.scl_cl.specs.Descriptions.{DescriptionsReadBack};
 ghost use Rattle.scl_cl.specs.Questions.{AnswersAreDecided};
+ghost use Rattle.scl_cl.specs.Within.{ClangInnerIsWithin};
+ghost use Rattle.scl_cl.specs.contracts.compiler.CompilerPartialEq.TheImpl as compilers;
+ghost use Rattle.scl_cl.specs.contracts.outcome.OutcomePartialEq.TheImpl as outcomes;
+ghost use Rattle.scl_cl.specs.declared.compiler.Compiler.{Compiler};
+ghost use Rattle.scl_cl.specs.declared.outcome.Outcome.{Outcome};
 ghost use Rattle.scl_cl.specs.Written.{FieldReadsBack, FieldIsPrintable, LineReadsBack, RequestReadsBack, LinesEndAtFeeds, AnswerHasLines, BadLineIsFirst, NamesReadBack};
+
+/// Laws of `==`: compilers that are equal are one, and so are ends of runs.
+pub fn of_equality()
+    ensures compilers_are_told_apart { (a b : Compiler) → compilers.ghosts.eq a b ≡ true → a ≡ b }
+    ensures outcomes_are_told_apart { (a b : Outcome) → outcomes.ghosts.eq a b ≡ true → a ≡ b }
+{}
 
 /// Laws of requests (docs/RULES.md, Lines, Fields, and Requests):
 ///
@@ -50,6 +62,14 @@ pub fn of_answers()
 ///   same answer.
 pub fn of_questions()
     ensures answers_are_decided { AnswersAreDecided }
+{}
+
+/// Laws of command lines that have at most so many words (docs/RULES.md, Expansion):
+///
+/// - `clang_inner_is_within`: where the given command line of a request to Clang has at most so many, so has the inner one,
+///   which is read only where no option of the given one is refused.
+pub fn of_bounds()
+    ensures clang_inner_is_within { ClangInnerIsWithin }
 {}
 
 /// Laws of reasons (docs/RULES.md, Sentences): each flag of a kind that a compiler's table refuses, as the driver's option or

@@ -1,7 +1,8 @@
 //! A compiler to which its trees are lent.
-ghost use Rattle.std.specs.Prelude.{◌≡◌};
 
 use crate::trees::HasTrees;
+use scl_hazards::{HasHazards, Hazard};
+use scl_rows::{HasRows, Row};
 use scl_text::records::{
     CCompilerKind, Cacheable, CommandError, CompilerArguments, ParsedArguments,
     SingleCompileCommand,
@@ -12,15 +13,8 @@ use std::alloc::Global;
 /// The compiler, which reads by the trees and builds none.
 #[derive(Drop)]
 pub(crate) struct Lent<'a, C: HasTrees> {
-    compiler: &'a C,
-    trees: &'a C::Trees,
-}
-
-/// The compiler with the trees that are lent to it.
-pub(crate) fn lend<'a, C: HasTrees>(compiler: &'a C, trees: &'a C::Trees) -> Lent<'a, C>
-    ensures { result.compiler.now ≡ compiler.now }
-{
-    Lent { compiler, trees }
+    pub(crate) compiler: &'a C,
+    pub(crate) trees: &'a C::Trees,
 }
 
 impl<'a, C: HasTrees> CCompilerImpl for Lent<'a, C> {
@@ -95,5 +89,35 @@ impl<'a, C: HasTrees> CCompilerImpl for Lent<'a, C> {
     ) -> Mem<Vec<Vec<Vec<u8>>>> {
         self.compiler
             .preprocess_passes(alloc, parsed, may_dist, rewrite_includes_only, cache_mode)
+    }
+}
+
+impl<'a, C: HasTrees> HasRows for Lent<'a, C> {
+    ghost rows = { λ lent. C.rows lent.compiler.now };
+
+    fn rows(
+        &self,
+        alloc: Global,
+        words: &[Vec<u8>],
+        cwd: &[u8],
+        env_vars: &[(Vec<u8>, Vec<u8>)],
+        view: &View,
+    ) -> Mem<Vec<Row>> {
+        self.compiler.rows(alloc, words, cwd, env_vars, view)
+    }
+}
+
+impl<'a, C: HasTrees> HasHazards for Lent<'a, C> {
+    ghost hazards = { λ lent. C.hazards lent.compiler.now };
+
+    fn hazards(
+        &self,
+        alloc: Global,
+        words: &[Vec<u8>],
+        cwd: &[u8],
+        env_vars: &[(Vec<u8>, Vec<u8>)],
+        view: &View,
+    ) -> Mem<Vec<Hazard>> {
+        self.compiler.hazards(alloc, words, cwd, env_vars, view)
     }
 }

@@ -1,14 +1,17 @@
 //! The runs of the preprocessor, of any compiler that is served.
-ghost use Rattle.std.specs.Prelude.{◌≡◌, IfOk};
+ghost use Rattle.std.specs.Prelude.{◌≡◌, IfOk, string_bytes};
+ghost use Rattle.std.specs.Option.{option_map};
 ghost use Rattle.scl_text.specs.Records.{parsed_of};
 ghost use Rattle.scl_text.specs.Runs.{runs_of};
-ghost use Rattle.scl_cl.specs.Answers.{runs_by};
+ghost use Rattle.scl_cl.specs.Answers.{runs_by, runs_with};
 
 use crate::ask::Query;
 use crate::compiler::Compiler;
 use crate::within::CommandLines;
+use scl_hazards::HasHazards;
+use scl_rows::HasRows;
+use scl_text::Mem;
 use scl_text::records::ParsedArguments;
-use scl_text::{CCompilerImpl, Mem};
 use std::alloc::Global;
 
 /// The words of the runs of the preprocessor for a record.
@@ -29,7 +32,7 @@ impl<'a> Query for PreprocessRuns<'a> {
 
     ghost gives = { λ query definitions runs. runs_of runs.items ≡ definitions.runs query.may_dist query.rewrite_includes_only query.cache_mode (parsed_of query.parsed.now) };
 
-    fn ask<C: CCompilerImpl>(
+    fn ask<C: HasRows + HasHazards>(
         self,
         alloc: Global,
         compiler: &C,
@@ -59,12 +62,35 @@ impl Compiler {
     ) -> Mem<Vec<Vec<Vec<u8>>>>
         ensures { IfOk result (λ runs. runs_of runs.items ≡ runs_by self may_dist rewrite_includes_only cache_mode (parsed_of parsed.now)) }
     {
+        self.preprocess_runs_with(
+            alloc,
+            None,
+            parsed,
+            may_dist,
+            rewrite_includes_only,
+            cache_mode,
+        )
+    }
+
+    /// What `preprocess_runs` gives of a compiler whose version has this text, if it is known: from some version on Clang has
+    /// one more flag (docs/RULES.md, Preprocessing). It fails only for want of memory.
+    pub fn preprocess_runs_with(
+        self,
+        alloc: Global,
+        version: Option<String>,
+        parsed: &ParsedArguments,
+        may_dist: bool,
+        rewrite_includes_only: bool,
+        cache_mode: bool,
+    ) -> Mem<Vec<Vec<Vec<u8>>>>
+        ensures { IfOk result (λ runs. runs_of runs.items ≡ runs_with (option_map string_bytes version) self may_dist rewrite_includes_only cache_mode (parsed_of parsed.now)) }
+    {
         let query = PreprocessRuns {
             parsed,
             may_dist,
             rewrite_includes_only,
             cache_mode,
         };
-        self.ask(alloc, query)
+        self.ask_with(alloc, query, version)
     }
 }

@@ -1,32 +1,34 @@
 //! What a description is asked beside its request: lines `setting`.
-ghost use Rattle.std.specs.Prelude.{◌≡◌, ◌++◌, IfOk, OnOk};
+ghost use Rattle.std.specs.Prelude.{◌≡◌, ◌++◌, IfOk, OnOk, string_bytes};
 ghost use Rattle.std.specs.Option.{option_map};
 ghost use Rattle.scl_description.specs.Lines.{line, lines_of};
-ghost use Rattle.scl_cl.specs.Settings.{no_settings, with_setting, with_line, blanked, with_digit, number_of, setting_alone, setting_with, setting_of, settings_in, request_lines};
+ghost use Rattle.scl_cl.specs.Settings.{no_settings, with_setting, with_line, blanked, with_digit, number_of, setting_alone, setting_with, setting_of, settings_in, field_text, request_lines};
 ghost use Rattle.scl_cl.specs.SettingsRead.{settings_by, set_by};
 
-use scl_description::{cut_at, next_line};
-use scl_text::Mem;
+use scl_description::{cut_at, next_line, read_field};
+use scl_text::{Mem, from_local_codepage};
 use std::alloc::Global;
 
 /// How many words a command line may have, where no setting says otherwise.
 const BOUND: usize = 1_000_000;
 
 /// What a description is asked beside its request (docs/RULES.md, Descriptions).
-#[derive(Debug, Clone, Copy)]
+#[derive(Debug, Drop)]
 pub(crate) struct Settings {
     pub may_dist: bool,
     pub rewrite_includes_only: bool,
     pub cache_mode: bool,
+    pub version: Option<String>,
     pub bound: usize,
 }
 
 /// What a line `setting` says.
-#[derive(Debug, Clone, Copy)]
+#[derive(Debug, Drop)]
 enum Setting {
     MayDist,
     RewriteIncludesOnly,
     CacheMode,
+    Version(String),
     Bound(usize),
 }
 
@@ -39,6 +41,7 @@ impl Settings {
             may_dist: false,
             rewrite_includes_only: false,
             cache_mode: false,
+            version: None,
             bound: BOUND,
         }
     }
@@ -51,6 +54,7 @@ impl Settings {
             Setting::MayDist => self.may_dist = true,
             Setting::RewriteIncludesOnly => self.rewrite_includes_only = true,
             Setting::CacheMode => self.cache_mode = true,
+            Setting::Version(text) => self.version = Some(text),
             Setting::Bound(words) => self.bound = words,
         }
     }
@@ -100,37 +104,51 @@ fn setting_alone(name: &[u8]) -> Option<Setting>
     }
 }
 
+/// The text in UTF-8 that a field stands for, if it stands for one.
+fn field_text(alloc: Global, field: &[u8]) -> Mem<Option<String>>
+    ensures { IfOk result (λ text. option_map string_bytes text ≡ field_text field.now) }
+{
+    let Some(bytes) = read_field(alloc, field)? else {
+        return Ok(None);
+    };
+    from_local_codepage(alloc, &bytes)
+}
+
 /// The setting of this name and value.
-fn setting_with(name: &[u8], value: &[u8]) -> Option<Setting>
-    ensures { option_map set_by result ≡ setting_with name.now value.now }
+fn setting_with(alloc: Global, name: &[u8], value: &[u8]) -> Mem<Option<Setting>>
+    ensures { IfOk result (λ setting. option_map set_by setting ≡ setting_with name.now value.now) }
 {
     if name == b"bound".as_slice() {
-        number_of(value).map(Setting::Bound)
+        Ok(number_of(value).map(Setting::Bound))
+    } else if name == b"version".as_slice() {
+        Ok(field_text(alloc, value)?.map(Setting::Version))
     } else {
-        None
+        Ok(None)
     }
 }
 
 /// The setting that a line says, if it says one.
-fn setting_of(line: &[u8]) -> Option<Setting>
-    ensures { option_map set_by result ≡ setting_of line.now }
+fn setting_of(alloc: Global, line: &[u8]) -> Mem<Option<Setting>>
+    ensures { IfOk result (λ setting. option_map set_by setting ≡ setting_of line.now) }
 {
-    let (keyword, text) = cut_at(b' ', line)?;
+    let Some((keyword, text)) = cut_at(b' ', line) else {
+        return Ok(None);
+    };
     if keyword != b"setting".as_slice() {
-        return None;
+        return Ok(None);
     }
     match cut_at(b' ', text) {
-        Some((name, value)) => setting_with(name, value),
-        None => setting_alone(text),
+        Some((name, value)) => setting_with(alloc, name, value),
+        None => Ok(setting_alone(text)),
     }
 }
 
 /// Takes a line: a setting, which is blank to the request, or a line of the request.
-fn take_line(settings: &mut Settings, request: &mut Vec<u8>, text: &[u8]) -> Mem<()>
+fn take_line(alloc: Global, settings: &mut Settings, request: &mut Vec<u8>, text: &[u8]) -> Mem<()>
     ensures settings { OnOk result (settings_by settings.new ≡ with_line (settings_by settings.old) text.now) }
     ensures request { OnOk result (request.new.items ≡ request.old.items ++ line (blanked text.now)) }
 {
-    match setting_of(text) {
+    match setting_of(alloc, text)? {
         Some(setting) => settings.take(setting),
         None => request.extend_from_slice(text)?,
     }
@@ -147,7 +165,7 @@ pub(crate) fn read_settings(alloc: Global, bytes: &[u8]) -> Mem<(Settings, Vec<u
     let mut request = Vec::with_capacity(alloc, bytes.len())?;
     let mut left = bytes;
     while let Some((line, rest)) = next_line(left) {
-        take_line(&mut settings, &mut request, line)?;
+        take_line(alloc, &mut settings, &mut request, line)?;
         left = rest;
     }
     Ok((settings, request))

@@ -1,5 +1,5 @@
 //! Reading all there is.
-ghost use Rattle.std.specs.Prelude.{◌<◌, length};
+ghost use Rattle.std.specs.Prelude.{◌<◌, ◌≤◌, ◌+◌, ◌^◌, length};
 ghost use Rattle.scl_cl.specs.Transfers.{ReadEnds};
 ghost use Rattle.scl_cl.specs.Batches.{ReadsMore};
 
@@ -40,7 +40,8 @@ fn read_blocks<R: Read>(
     block: &mut [u8],
 ) -> Result<Vec<u8>, ReadError>
     requires { 0 < length block.old }
-    ensures { ReadEnds (R.remaining reader.old.device) (R.remaining reader.new.device) reader.old.failed reader.new.failed result }
+    ensures ends { ReadEnds (R.remaining reader.old.device) (R.remaining reader.new.device) reader.old reader.new result }
+    ensures reads { reader.new.calls ≤ reader.old.calls + 2 ^ 40 }
 {
     let mut bytes = Vec::new(alloc);
     for _turn in 0..READS {
@@ -61,7 +62,8 @@ pub(crate) fn read_all<R: Read>(
     alloc: Global,
     reader: &mut Counted<R>,
 ) -> Result<Vec<u8>, ReadError>
-    ensures { ReadEnds (R.remaining reader.old.device) (R.remaining reader.new.device) reader.old.failed reader.new.failed result }
+    ensures ends { ReadEnds (R.remaining reader.old.device) (R.remaining reader.new.device) reader.old reader.new result }
+    ensures reads { reader.new.calls ≤ reader.old.calls + 2 ^ 40 }
 {
     let mut block = vec![in alloc; 0u8; BLOCK]?;
     read_blocks(alloc, reader, &mut block)

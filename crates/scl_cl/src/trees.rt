@@ -21,15 +21,17 @@ ghost use Rattle.scl_small.specs.TaskingValues as tasking_values;
 use scl_args::{FlagTree, Mem, SearchableArgInfo, Tables};
 use scl_gnu::clang::{self, Clang};
 use scl_gnu::gcc::{self, Gcc};
+use scl_hazards::HasHazards;
 use scl_msvc::msvc::{self, Msvc};
+use scl_rows::HasRows;
 use scl_small::diab::{self, Diab};
 use scl_small::tasking_vx::{self, TaskingVX};
+use scl_text::View;
 use scl_text::records::{CCompilerKind, CompilerArguments, ParsedArguments};
-use scl_text::{CCompilerImpl, View};
 use std::alloc::Global;
 
 /// A compiler that reads by trees that are lent to it.
-pub(crate) trait HasTrees: CCompilerImpl {
+pub(crate) trait HasTrees: HasRows + HasHazards {
     ghost use Rattle.std.specs.Prelude.{◌≡◌, IfOk};
     ghost use Rattle.scl_values.specs.Words.{words_of};
     ghost use Rattle.scl_text.specs.Commands.{pairs_of, command_by};

@@ -1,14 +1,19 @@
--- A device, and how many of its calls failed.
+-- A device, how many calls it had, and how many of them failed.
 use Rattle.std.specs.Prelude.{ℕ, ◌+◌, ◌-◌, ◌^◌, min, Result, Ok, Err, nat_eq, not, ◌&&◌, if◌then◌else◌}
 
--- the device, and the count of its calls that failed
+-- the device, the count of its calls, and the count of those that failed
 pub record Counting (D : Type 0) : Type 0 where
   pub device : D
+  pub calls : ℕ
   pub failed : ℕ
 
 -- one more, up to the greatest value that the count can have
 abbrev pub one_more : ℕ → ℕ
 one_more n = min (n + 1) (2 ^ 64 - 1)
+
+-- so many more, up to that value
+abbrev pub many_more : ℕ → ℕ → ℕ
+many_more k n = min (n + k) (2 ^ 64 - 1)
 
 -- the count after a read that gave this
 abbrev pub read_failures : {E : Type 0} → Result ℕ E → ℕ → ℕ

@@ -1,4 +1,4 @@
-//! A reader or writer that counts its calls that failed.
+//! A reader or writer that counts its calls, and those that failed.
 ghost use Rattle.std.specs.Prelude.{◌≡◌, length};
 ghost use Rattle.std.specs.Io.{ReadsAtMost, WritesAtMost};
 ghost use Rattle.std.specs.Io.KnownBytes.{ReadConsumes, WriteAppends, Keeps};
@@ -8,11 +8,12 @@ use std::io;
 use std::io::{Read, Write};
 use std::marker::Model;
 
-/// A reader or writer, with the number of its calls of `read` or `write` that failed: docs/RULES.md, Devices.
-/// The number stays at its greatest value. A clause sees the device and the number.
+/// A reader or writer, with the number of its calls of `read` or `write`, and of those that failed: docs/RULES.md, Devices.
+/// A number stays at its greatest value. A clause sees the device and the numbers.
 #[derive(Drop)]
 pub struct Counted<D> {
     device: D,
+    calls: u64,
     failed: u64,
 }
 
@@ -21,16 +22,28 @@ impl<D> Model for Counted<D> {
 
     ghost Value = { Counting D };
 
-    ghost view = { λ c. record { device = c.device; failed = c.failed } };
+    ghost view = { λ c. record { device = c.device; calls = c.calls; failed = c.failed } };
 }
 
 impl<D> Counted<D> {
-    /// Holds a reader or writer, none of whose calls failed yet: docs/RULES.md, Devices.
+    /// Holds a reader or writer that had no call yet: docs/RULES.md, Devices.
     pub fn new(device: D) -> Counted<D>
         ensures device { result.device ≡ device }
+        ensures no_calls { result.calls ≡ 0 }
         ensures none { result.failed ≡ 0 }
     {
-        Counted { device, failed: 0 }
+        Counted {
+            device,
+            calls: 0,
+            failed: 0,
+        }
+    }
+
+    /// How many calls of `read` or `write` there were: docs/RULES.md, Devices.
+    pub fn calls(&self) -> u64
+        ensures { result ≡ self.now.calls }
+    {
+        self.calls
     }
 
     /// How many calls of `read` or `write` failed: docs/RULES.md, Devices.
@@ -38,6 +51,12 @@ impl<D> Counted<D> {
         ensures { result ≡ self.now.failed }
     {
         self.failed
+    }
+
+    fn count_call(&mut self)
+        ensures { self.new ≡ record self.old { calls = one_more self.old.calls } }
+    {
+        self.calls = self.calls.saturating_add(1);
     }
 
     fn count_failure(&mut self)
@@ -53,8 +72,10 @@ impl<D: Read> Read for Counted<D> {
     fn read(&mut self, buf: &mut [u8]) -> io::Result<usize>
         ensures bound { ReadsAtMost result buf.new }
         ensures bytes { ReadConsumes (D.remaining self.old.device) (D.remaining self.new.device) result buf.new }
+        ensures calls { self.new.calls ≡ one_more self.old.calls }
         ensures failures { self.new.failed ≡ read_failures result self.old.failed }
     {
+        self.count_call();
         let result = self.device.read(buf);
         if result.is_err() {
             self.count_failure();
@@ -69,8 +90,10 @@ impl<D: Write> Write for Counted<D> {
     fn write(&mut self, buf: &[u8]) -> io::Result<usize>
         ensures bound { WritesAtMost result buf.now }
         ensures bytes { WriteAppends (D.contents self.old.device) (D.contents self.new.device) result buf.now }
+        ensures calls { self.new.calls ≡ one_more self.old.calls }
         ensures failures { self.new.failed ≡ write_failures result (length buf.now) self.old.failed }
     {
+        self.count_call();
         let result = self.device.write(buf);
         let has_failed = match &result {
             Ok(taken) => *taken == 0 && !buf.is_empty(),
@@ -84,6 +107,7 @@ impl<D: Write> Write for Counted<D> {
 
     fn flush(&mut self) -> io::Result<()>
         ensures bytes { Keeps (D.contents self.old.device) (D.contents self.new.device) }
+        ensures calls { self.new.calls ≡ self.old.calls }
         ensures failures { self.new.failed ≡ self.old.failed }
     {
         self.device.flush()

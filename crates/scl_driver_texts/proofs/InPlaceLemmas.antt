@@ -1,8 +1,9 @@
 -- Texts that are put in place, and files that are open.
-use Rattle.std.proofs.Common.{◌≡◌, ℕ, zero, suc, ◌<◌, ◌≤◌, ◌||◌, ◌&&◌, Bool, true, false, cond, List, [], ◌∷◌, ◌++◌, length, nat_eq, Option, None, Some, Vec, refl, sym, ap, ◌∙◌, append_assoc, arith, ◌+◌, get_or, drop, add-one}
-use Rattle.std.proofs.lemmas.List.{append-nil, map-append}
+use Rattle.std.proofs.Common.{◌≡◌, ℕ, zero, suc, ◌<◌, ◌≤◌, ◌||◌, ◌&&◌, Bool, true, false, cond, List, [], ◌∷◌, ◌++◌, length, nat_eq, Option, None, Some, Vec, refl, sym, ap, ◌∙◌, append_assoc, arith, ◌+◌, get_or, drop, map, add-one}
+use Rattle.std.proofs.lemmas.List.{append-nil, map-append, reverse-append}
 use Rattle.std.proofs.lemmas.Grind.{common_steps}
 use Rattle.std.proofs.Math.Seq.{drop-cons}
+use Rattle.std.specs.Prelude.{reverse}
 use Rattle.std.specs.declared.alloc.Global.{Global}
 use lib.Pointwise.{pointwise}
 use Rattle.std.specs.List.{flat_map}
@@ -15,9 +16,15 @@ use Rattle.scl_files.specs.declared.expand.ExpansionKind.{ExpansionKind}
 use Rattle.scl_files.proofs.FilesLemmas.{bytes_at-inside}
 use Rattle.scl_files.proofs.OpenLemmas.{opened-none, opened-less}
 use Rattle.scl_files.proofs.ExpandLemmas.{no_files}
+use Rattle.scl_files.proofs.StepLemmas.{steps-cons}
+use Rattle.scl_files.specs.ExpansionState.{steps}
 use Rattle.scl_driver_texts.specs.InPlace.{with_text, texts_within, texts_in_place, texts_of}
 use Rattle.scl_driver_texts.specs.Openings.{is_shut, closed_by, opens}
+use Rattle.scl_driver_texts.specs.Gathering.{closed_inside, texts_left, steps_left, paths_of, LooksAt}
 use Rattle.scl_driver_texts.specs.declared.in_place.Opening.{Opening}
+use Rattle.scl_driver_texts.specs.declared.in_place.Task.{Task}
+use Rattle.scl_driver_texts.specs.declared.in_place.Task.TheVariants as tasks
+use Rattle.scl_driver_texts.specs.declared.in_place.Texts.{Texts}
 
 hide_both : {X : Type 0} (a b : Bool) (x : Option X) → cond a None (cond b None x) ≡ cond (b || a) None x
 hide_both true true x = refl
@@ -88,25 +95,66 @@ pointwise-words (x ∷ xs) (y ∷ ys) = ap (λ b. pointwise nat_eq x.items y.ite
 
 pub ruleset word_rules = (pointwise-words)
 
--- ---- a file that a word opens
+-- ---- tasks
 
-module _ (kind : ExpansionKind) (directory : List ℕ) (files : List File) (paths paths' found found' : List (Vec ℕ Global)) (word : List ℕ) (file : Opening) where
-  -- it was opened, and stands behind the open ones
-  pub record IsOpened : Type 0 where
-    pub opening : opened kind directory (closed_by kind files (words_of paths)) word ≡ Some (opens file)
-    pub bytes : bytes_at file.path.items (closed_by kind files (words_of paths)) ≡ Some file.bytes.items
-    pub pushed : paths' ≡ paths ++ file.path ∷ []
-    pub added : found' ≡ found ++ file.bytes ∷ []
+inside-behind : (kind : ExpansionKind) (files : List File) (paths : List (List ℕ)) (path : List ℕ) → closed_inside kind files (paths ++ path ∷ []) ≡ closed_inside kind (files_inside kind path files) paths
+inside-behind kind files [] path = refl
+inside-behind kind files (other ∷ paths) path = ap (files_inside kind other) (inside-behind kind files paths path)
 
-  closed_more : IsOpened → closed_by kind files (words_of paths') ≡ files_inside kind file.path.items (closed_by kind files (words_of paths))
-  closed_more o = rw (o.pushed, map-append) (closed_by-push kind files (words_of paths) file.path.items)
+closed-turned : (kind : ExpansionKind) (files : List File) (paths : List (Vec ℕ Global)) → closed_inside kind files (words_of (reverse paths)) ≡ closed_by kind files (words_of paths)
+closed-turned kind files [] = refl
+closed-turned kind files (path ∷ paths) =
+    let turned : words_of (reverse (path ∷ paths)) ≡ words_of (reverse paths) ++ path.items ∷ [] =
+    ap words_of (reverse-append (path ∷ []) paths) ∙ map-append (λ (v : Vec ℕ Global). v.items) (reverse paths) (path ∷ []) in
+    rw turned (inside-behind kind files (words_of (reverse paths)) path.items) ∙ closed-turned kind (files_inside kind path.items files) paths
 
-  pub fewer : IsOpened → length (closed_by kind files (words_of paths')) < length (closed_by kind files (words_of paths))
-  fewer o = rw (closed_more o) (opened-less kind directory (closed_by kind files (words_of paths)) word (opens file) o.opening)
+steps-nil : (kind : ExpansionKind) (directory : List ℕ) (files : List File) → steps kind directory files [] ≡ 0
+unfolding steps
+steps-nil kind directory [] = refl
+steps-nil kind directory (f ∷ fs) = refl
 
-  pub texts_inside : (all : List (List ℕ)) → IsOpened → all ≡ words_of found' ++ texts_in_place kind directory (closed_by kind files (words_of paths')) (words_of file.words.items)
-      → all ≡ words_of found ++ texts_of kind directory (closed_by kind files (words_of paths)) word
-  texts_inside all o e = e ∙ rw (closed_more o, o.added, map-append, o.opening, o.bytes, append_assoc) refl
+module _ (kind : ExpansionKind) (directory : List ℕ) (files : List File) where
+  -- the words of a file, before other tasks
+  texts-words : (paths : List (List ℕ)) (words : List (Vec ℕ Global)) (rest : List Task)
+      → texts_left kind directory files paths (map tasks.Word words ++ rest)
+      ≡ texts_in_place kind directory (closed_inside kind files paths) (words_of words) ++ texts_left kind directory files paths rest
+  texts-words paths [] rest = rw (texts-nil kind directory (closed_inside kind files paths)) refl
+  texts-words paths (word ∷ words) rest =
+      rw (texts-cons kind directory (closed_inside kind files paths) word.items (words_of words), append_assoc)
+      (ap (λ (ts : List (List ℕ)). texts_of kind directory (closed_inside kind files paths) word.items ++ ts) (texts-words paths words rest))
+
+  steps-words : (paths : List (List ℕ)) (words : List (Vec ℕ Global)) (rest : List Task)
+      → steps_left kind directory files paths (map tasks.Word words ++ rest)
+      ≡ steps kind directory (closed_inside kind files paths) (words_of words) + steps_left kind directory files paths rest
+  steps-words paths [] rest = rw (steps-nil kind directory (closed_inside kind files paths)) (omega arith)
+  steps-words paths (word ∷ words) rest =
+      let first = steps-cons kind directory (closed_inside kind files paths) word.items (words_of words) in
+      let others = steps-words paths words rest in
+      omega arith
+
+  pub looks-at-none : (word : List ℕ) (t : Texts) → opened kind directory (closed_by kind files (words_of t.paths.items)) word ≡ None → LooksAt kind directory files word t t
+  looks-at-none word t e =
+      let none : opened kind directory (closed_inside kind files (paths_of t)) word ≡ None = rw (closed-turned kind files t.paths.items) e in
+      (rw none refl, rw none (omega arith))
+
+  -- the file that a word opens, behind the open ones, and what is to be done with it
+  pub record IsOpened (word : List ℕ) (before after : Texts) (file : Opening) : Type 0 where
+    pub opening : opened kind directory (closed_by kind files (words_of before.paths.items)) word ≡ Some (opens file)
+    pub bytes : bytes_at file.path.items (closed_by kind files (words_of before.paths.items)) ≡ Some file.bytes.items
+    pub added : after.found.items ≡ before.found.items ++ file.bytes ∷ []
+    pub pushed : after.paths.items ≡ before.paths.items ++ file.path ∷ []
+    pub to_do : reverse after.tasks.items ≡ map tasks.Word file.words.items ++ tasks.Close ∷ reverse before.tasks.items
+
+  pub looks-at-file : (word : List ℕ) (before after : Texts) (file : Opening) → IsOpened word before after file → LooksAt kind directory files word before after
+  looks-at-file word before after file o =
+      let shut = closed-turned kind files before.paths.items in
+      let opening : opened kind directory (closed_inside kind files (paths_of before)) word ≡ Some (opens file) = rw shut o.opening in
+      let bytes : bytes_at file.path.items (closed_inside kind files (paths_of before)) ≡ Some file.bytes.items = rw shut o.bytes in
+      let paths : paths_of after ≡ file.path.items ∷ paths_of before = ap (λ (vs : List (Vec ℕ Global)). words_of (reverse vs)) o.pushed ∙ ap words_of (reverse-append before.paths.items (file.path ∷ [])) in
+      let found : words_of after.found.items ≡ words_of before.found.items ++ file.bytes.items ∷ [] = ap words_of o.added ∙ map-append (λ (v : Vec ℕ Global). v.items) before.found.items (file.bytes ∷ []) in (
+        rw (found, paths, o.to_do, texts-words (file.path.items ∷ paths_of before) file.words.items (tasks.Close ∷ reverse before.tasks.items), opening, bytes, append_assoc) refl,
+        rw (paths, o.to_do, steps-words (file.path.items ∷ paths_of before) file.words.items (tasks.Close ∷ reverse before.tasks.items), opening) (omega arith),
+      )
 
 -- ---- a loop over words
 

@@ -1,5 +1,5 @@
 //! The texts of response files that are put in place.
-ghost use Rattle.std.specs.Prelude.{◌≡◌, ◌++◌, IfOk, IfSome, Some};
+ghost use Rattle.std.specs.Prelude.{◌≡◌, ◌++◌, map, reverse, IfOk, OnOk, IfSome, Some};
 ghost use Rattle.std.specs.Option.{option_map, option_copied};
 ghost use Rattle.scl_values.specs.Words.{words_of};
 ghost use Rattle.scl_files.specs.Views.{bytes_at};
@@ -7,6 +7,7 @@ ghost use Rattle.scl_files.specs.ResponseFiles.{hides, file_name_in, named};
 ghost use Rattle.scl_files.specs.Expand.{opened};
 ghost use Rattle.scl_driver_texts.specs.InPlace.{texts_of, texts_in_place};
 ghost use Rattle.scl_driver_texts.specs.Openings.{is_shut, closed_by, opens};
+ghost use Rattle.scl_driver_texts.specs.Gathering.{all_texts, LooksAt};
 
 use crate::rule_words::rule_words;
 use scl_files::path::{join, same_path};
@@ -112,55 +113,93 @@ fn opened(
     Ok(Some(Opening { path, bytes, words }))
 }
 
-/// The texts that were found, and the paths of the files that are open.
+/// What is still to be done: a word to look at, or the file that was opened last to close.
+#[derive(Drop)]
+pub(crate) enum Task {
+    Word(Vec<u8>),
+    Close,
+}
+
+/// The texts that were found, the paths of the files that are open, and what is still to be done, the next task last.
 #[derive(Drop)]
 pub(crate) struct Texts {
     found: Vec<Vec<u8>>,
     paths: Vec<Vec<u8>>,
+    tasks: Vec<Task>,
+}
+
+/// Puts words before the other tasks.
+fn push_words(tasks: &mut Vec<Task>, words: Vec<Vec<u8>>) -> Mem<()>
+    ensures { OnOk result (reverse tasks.new.items ≡ map Task.Word words.items ++ reverse tasks.old.items) }
+{
+    let mut words = words;
+    while let Some(word) = words.pop() {
+        tasks.push(Task::Word(word))?;
+    }
+    Ok(())
+}
+
+/// Adds the text of the file that a word opens; the words of the file are the next tasks.
+fn look_at(
+    alloc: Global,
+    kind: ExpansionKind,
+    directory: &[u8],
+    word: &[u8],
+    view: &View,
+    texts: &mut Texts,
+) -> Mem<()>
+    ensures { OnOk result (LooksAt kind directory.now view.now.files word.now texts.old texts.new) }
+{
+    let Some(file) = opened(alloc, kind, directory, word, view, &texts.paths)? else {
+        return Ok(());
+    };
+    texts.found.push(file.bytes)?;
+    texts.paths.push(file.path)?;
+    texts.tasks.push(Task::Close)?;
+    push_words(&mut texts.tasks, file.words)?;
+    Ok(())
+}
+
+/// Does what is still to be done.
+fn finish(
+    alloc: Global,
+    kind: ExpansionKind,
+    directory: &[u8],
+    view: &View,
+    texts: Texts,
+) -> Mem<Vec<Vec<u8>>>
+    ensures { IfOk result (λ found. words_of found.items ≡ all_texts kind directory.now view.now.files texts) }
+{
+    let mut texts = texts;
+    while let Some(task) = texts.tasks.pop() {
+        match task {
+            Task::Word(word) => look_at(alloc, kind, directory, &word, view, &mut texts)?,
+            Task::Close => {
+                texts.paths.pop();
+            }
+        }
+    }
+    Ok(texts.found)
 }
 
 /// Adds the text of the file that a word opens, and those inside it.
-#[cycle(texts)]
 fn with_word(
     alloc: Global,
     kind: ExpansionKind,
     directory: &[u8],
     word: &[u8],
     view: &View,
-    texts: Texts,
-) -> Mem<Texts>
-    ensures found { IfOk result (λ r. words_of r.found.items ≡ words_of texts.found.items ++ texts_of kind directory.now (closed_by kind view.now.files (words_of texts.paths.items)) word.now) }
-    ensures paths { IfOk result (λ r. words_of r.paths.items ≡ words_of texts.paths.items) }
+    found: Vec<Vec<u8>>,
+) -> Mem<Vec<Vec<u8>>>
+    ensures { IfOk result (λ r. words_of r.items ≡ words_of found.items ++ texts_of kind directory.now view.now.files word.now) }
 {
-    let mut texts = texts;
-    let Some(file) = opened(alloc, kind, directory, word, view, &texts.paths)? else {
-        return Ok(texts);
+    let mut texts = Texts {
+        found,
+        paths: Vec::new(alloc),
+        tasks: Vec::new(alloc),
     };
-    texts.found.push(file.bytes)?;
-    texts.paths.push(file.path)?;
-    let mut texts = with_words(alloc, kind, directory, &file.words, view, texts)?;
-    texts.paths.pop();
-    Ok(texts)
-}
-
-/// Adds the texts of the files that words open, and those inside them.
-#[cycle(texts)]
-fn with_words(
-    alloc: Global,
-    kind: ExpansionKind,
-    directory: &[u8],
-    words: &[Vec<u8>],
-    view: &View,
-    texts: Texts,
-) -> Mem<Texts>
-    ensures found { IfOk result (λ r. words_of r.found.items ≡ words_of texts.found.items ++ texts_in_place kind directory.now (closed_by kind view.now.files (words_of texts.paths.items)) (words_of words.now)) }
-    ensures paths { IfOk result (λ r. words_of r.paths.items ≡ words_of texts.paths.items) }
-{
-    let mut texts = texts;
-    for word in words {
-        texts = with_word(alloc, kind, directory, word, view, texts)?;
-    }
-    Ok(texts)
+    look_at(alloc, kind, directory, word, view, &mut texts)?;
+    finish(alloc, kind, directory, view, texts)
 }
 
 /// The bytes of the response files that the expansion of the words puts in place, in the order in which they are opened, each
@@ -174,10 +213,9 @@ pub fn texts_in_place(
 ) -> Mem<Vec<Vec<u8>>>
     ensures { IfOk result (λ texts. words_of texts.items ≡ texts_in_place kind cwd.now view.now.files (words_of words.now)) }
 {
-    let texts = Texts {
-        found: Vec::new(alloc),
-        paths: Vec::new(alloc),
-    };
-    let texts = with_words(alloc, kind, cwd, words, view, texts)?;
-    Ok(texts.found)
+    let mut found = Vec::new(alloc);
+    for word in words {
+        found = with_word(alloc, kind, cwd, word, view, found)?;
+    }
+    Ok(found)
 }

@@ -1,3 +1,6 @@
 pub mod Cases
 pub mod CommandTexts
 pub mod Endings
+pub mod Kinds
+pub mod Replies
+pub mod Said

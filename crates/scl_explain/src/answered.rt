@@ -1,16 +1,16 @@
 //! What a command line is answered, with what its answer asks of a disk.
 ghost use Rattle.std.specs.Prelude.{◌≡◌, IfOk, IfErr};
-ghost use Rattle.scl_values.specs.Words.{words_of};
 ghost use Rattle.scl_files.specs.Views.{Viewed};
-ghost use Rattle.scl_text.specs.Commands.{pairs_of};
 ghost use Rattle.scl_cl.specs.Answers.{answer_to};
 ghost use Rattle.scl_cl.specs.AnswersGiven.{answer_of};
-ghost use Rattle.scl_cl.specs.Requests.{asked};
+ghost use Rattle.scl_cl.specs.Hazards.{hazards_by};
+ghost use Rattle.scl_explain.specs.Said.{request_of};
 ghost use Rattle.scl_load.specs.Loads.{IsDiskError};
 
 use crate::case::Case;
 use crate::logged::Logged;
 use scl_cl::{Compilation, CompilerArguments, Mem, View};
+use scl_hazards::Hazard;
 use scl_load::{Disk, LoadError, load};
 use std::alloc::Global;
 
@@ -31,6 +31,8 @@ pub struct Answered {
     pub response_files: Vec<Vec<u8>>,
     /// The paths at which words name a response file, and there is none.
     pub missing_files: Vec<Vec<u8>>,
+    /// The hazards of the built command; none where there is none.
+    pub hazards: Vec<Hazard>,
     /// What the disk has of what is asked.
     pub view: View,
 }
@@ -64,7 +66,9 @@ pub fn answer_case<D: Disk>(
     multiarch: bool,
 ) -> Mem<Result<Answered, LoadError<D::Error>>>
     ensures answer { IfOk result (λ said. IfOk said (λ answered. (held : Viewed) → D.holds disk.now held → held.is_multiarch ≡ multiarch
-        → answer_to (asked case.now.compiler (words_of case.now.words.items) case.now.cwd.items (pairs_of case.now.env_vars.items) held) ≡ answer_of answered.answer)) }
+        → answer_to (request_of case.now held) ≡ answer_of answered.answer)) }
+    ensures loaded { IfOk result (λ said. IfOk said (λ answered. answer_to (request_of case.now answered.view) ≡ answer_of answered.answer)) }
+    ensures hazards { IfOk result (λ said. IfOk said (λ answered. answered.hazards.items ≡ hazards_by case.now.compiler (request_of case.now answered.view))) }
     ensures error { IfOk result (λ said. IfErr said (λ error. IsDiskError (D.fails disk.now) error)) }
 {
     let logged = Logged::new(alloc, disk);
@@ -92,11 +96,13 @@ pub fn answer_case<D: Disk>(
     let log = logged.into_log();
     let answer = compiler.answer(alloc, program, words, cwd, env_vars, &view)?;
     let runs = runs_of(alloc, case, &answer)?;
+    let hazards = compiler.hazards(alloc, words, cwd, env_vars, &view)?;
     Ok(Ok(Answered {
         answer,
         runs,
         response_files: log.found,
         missing_files: log.missing,
+        hazards,
         view,
     }))
 }

@@ -1,10 +1,11 @@
 //! What the program says to the entries of a compile database.
 use crate::answered::{Answered, answer_case};
 use crate::case::Case;
-use crate::count::{Counts, Kind};
+use crate::count::Counts;
 use crate::digest::{entry_line, summary};
 use crate::entry::case_of_entry;
 use crate::json::{answer_line, refused_entry_line};
+use crate::kind::Kind;
 use crate::reply::load_error_text;
 use crate::status::Ending;
 use scl_cl::{Compiler, Mem};

@@ -1,19 +1,14 @@
 //! What is counted over a database.
+ghost use Rattle.std.specs.Prelude.{◌≡◌, IfOk};
+ghost use Rattle.scl_cl.specs.AnswersGiven.{answer_of};
+ghost use Rattle.scl_explain.specs.Kinds.{kind_of};
+
 use crate::answered::Answered;
-use scl_cl::{Compilation, CompilerArguments, Mem, path};
+use crate::kind::Kind;
+use scl_cl::{Cacheable, Compilation, CompilerArguments, Mem, path};
+use scl_hazards::Hazard;
 use std::alloc::Global;
 use std::collections::BTreeMap;
-
-/// What an entry is.
-#[derive(Debug, Clone, Copy, PartialEq, Eq)]
-pub enum Kind {
-    /// It can be cached, and no hazard is named.
-    Ok,
-    /// A hazard is named.
-    Hazard,
-    /// It can't be cached, or compiles nothing.
-    Refused,
-}
 
 /// How often something was met, and the first entry where it was.
 #[derive(Drop)]
@@ -28,6 +23,8 @@ pub(crate) struct Met {
 pub struct Counts {
     pub(crate) entries: u64,
     pub(crate) ok: u64,
+    pub(crate) unkept: u64,
+    pub(crate) hazardous: u64,
     pub(crate) not_compilation: u64,
     pub(crate) refused: BTreeMap<String, Met>,
     pub(crate) hazards: BTreeMap<String, Met>,
@@ -60,6 +57,8 @@ impl Counts {
         Counts {
             entries: 0,
             ok: 0,
+            unkept: 0,
+            hazardous: 0,
             not_compilation: 0,
             refused: BTreeMap::new(alloc),
             hazards: BTreeMap::new(alloc),
@@ -94,6 +93,24 @@ impl Counts {
         meet(alloc, &mut self.refused, key, entry, file)
     }
 
+    /// Counts the hazards of an entry's command.
+    fn count_hazards(
+        &mut self,
+        alloc: Global,
+        entry: u64,
+        file: &str,
+        hazards: &[Hazard],
+    ) -> Mem<()> {
+        if !hazards.is_empty() {
+            self.hazardous = self.hazardous.saturating_add(1);
+        }
+        for hazard in hazards {
+            let key = String::from_str(alloc, hazard.name())?;
+            meet(alloc, &mut self.hazards, key, entry, file)?;
+        }
+        Ok(())
+    }
+
     fn count_missing(
         &mut self,
         alloc: Global,
@@ -108,30 +125,39 @@ impl Counts {
         Ok(())
     }
 
-    /// Counts an entry that is answered, of a source `file`; what it is.
-    pub fn count(
+    fn count_answer(
         &mut self,
         alloc: Global,
         entry: u64,
         file: &str,
         answered: &Answered,
-    ) -> Mem<Kind> {
-        self.count_missing(alloc, entry, file, &answered.missing_files)?;
+    ) -> Mem<()> {
         match &answered.answer {
             CompilerArguments::Ok(compilation) => {
-                self.ok = self.ok.saturating_add(1);
+                match compilation.cacheable {
+                    Cacheable::Yes => self.ok = self.ok.saturating_add(1),
+                    Cacheable::No => self.unkept = self.unkept.saturating_add(1),
+                }
                 self.count_output(alloc, entry, compilation)?;
-                Ok(Kind::Ok)
+                self.count_hazards(alloc, entry, file, &answered.hazards)
             }
             CompilerArguments::CannotCache(reason, _) => {
-                self.count_refused(alloc, entry, file, reason)?;
-                Ok(Kind::Refused)
+                self.count_refused(alloc, entry, file, reason)
             }
             CompilerArguments::NotCompilation => {
                 self.not_compilation = self.not_compilation.saturating_add(1);
-                Ok(Kind::Refused)
+                Ok(())
             }
         }
+    }
+
+    /// Counts an entry that is answered, of a source `file`; what it is.
+    pub fn count(&mut self, alloc: Global, entry: u64, file: &str, answered: &Answered) -> Mem<Kind>
+        ensures { IfOk result (λ kind. kind ≡ kind_of (answer_of answered.now.answer) answered.now.hazards.items) }
+    {
+        self.count_missing(alloc, entry, file, &answered.missing_files)?;
+        self.count_answer(alloc, entry, file, answered)?;
+        Ok(Kind::of_answer(&answered.answer, &answered.hazards))
     }
 
     /// Counts an entry that is none.

@@ -1,8 +1,11 @@
 //! What a database has, for a person.
 use crate::answered::Answered;
 use crate::count::{Counts, Met};
-use crate::words::{push_shown, refusal_text};
+use crate::hazards::push_names;
+use crate::refusal::{cached_text, refusal_text};
+use crate::words::push_shown;
 use scl_cl::{CompilerArguments, Mem};
+use scl_hazards::{HAZARDS, Hazard};
 use scl_reasons::sentence;
 use std::alloc::Global;
 use std::collections::BTreeMap;
@@ -41,6 +44,20 @@ fn push_reasons(text: &mut String, reasons: &BTreeMap<String, Met>) -> Mem<()> {
         push_met(text, reason.as_str(), met)?;
         let sentence = sentence(reason.as_str());
         write!(text, "          {sentence}\n")?;
+    }
+    Ok(())
+}
+
+/// The hazards of entries, with what happens.
+fn push_hazards(text: &mut String, counts: &Counts) -> Mem<()> {
+    let hazardous = counts.hazardous;
+    write!(text, "with a hazard: {hazardous}\n")?;
+    for hazard in HAZARDS {
+        if let Some(met) = counts.hazards.get(hazard.name()) {
+            push_met(text, hazard.name(), met)?;
+            let consequence = hazard.consequence();
+            write!(text, "          {consequence}\n")?;
+        }
     }
     Ok(())
 }
@@ -126,6 +143,11 @@ pub fn summary(alloc: Global, counts: &Counts) -> Mem<String> {
     let refused = refused_entries(counts);
     write!(text, "entries: {entries}\n")?;
     write!(text, "can be cached: {ok}\n")?;
+    if counts.unkept > 0 {
+        let unkept = counts.unkept;
+        write!(text, "may not be kept in the cache: {unkept}\n")?;
+    }
+    push_hazards(&mut text, counts)?;
     write!(text, "compile nothing: {none}\n")?;
     write!(text, "cannot be cached: {refused}\n")?;
     push_reasons(&mut text, &counts.refused)?;
@@ -136,16 +158,28 @@ pub fn summary(alloc: Global, counts: &Counts) -> Mem<String> {
     Ok(text)
 }
 
+/// The hazards of an entry, if it has some.
+fn push_named(text: &mut String, hazards: &[Hazard]) -> Mem<()> {
+    if !hazards.is_empty() {
+        text.push_str("; hazards: ")?;
+        push_names(text, hazards)?;
+    }
+    Ok(())
+}
+
 /// An entry and its outcome, in one line. It fails only for want of memory.
 pub fn entry_line(alloc: Global, entry: u64, file: &str, answered: &Answered) -> Mem<String> {
     let mut text = String::new(alloc);
     push_place(&mut text, entry, file)?;
     text.push_str(": ")?;
     match &answered.answer {
-        CompilerArguments::Ok(_) => text.push_str("can be cached")?,
+        CompilerArguments::Ok(compilation) => {
+            text.push_str(cached_text(compilation.cacheable))?;
+            push_named(&mut text, &answered.hazards)?;
+        }
         CompilerArguments::CannotCache(reason, more) => {
             let more = more.as_ref().map(|more| more.as_str());
-            let refusal = refusal_text(alloc, reason, more)?;
+            let refusal = refusal_text(alloc, reason, more, &answered.missing_files)?;
             text.push_str(refusal.as_str())?;
         }
         CompilerArguments::NotCompilation => text.push_str("compiles nothing")?,

@@ -2,6 +2,7 @@
 use crate::answered::Answered;
 use crate::case::Case;
 use scl_cl::{Cacheable, Compilation, CompilerArguments, Mem};
+use scl_hazards::Hazard;
 use scl_reasons::sentence;
 use scl_rows::Row;
 use scl_text::refusal::Refusal;
@@ -147,11 +148,26 @@ fn outputs_value(alloc: Global, compilation: &Compilation) -> Mem<Value> {
     Ok(members.into_value())
 }
 
+fn hazard_value(alloc: Global, hazard: Hazard) -> Mem<Value> {
+    let mut members = Members::new(alloc);
+    members.put_text("consequence", hazard.consequence())?;
+    members.put_text("danger", hazard.danger().name())?;
+    members.put_text("name", hazard.name())?;
+    Ok(members.into_value())
+}
+
+fn hazards_value(alloc: Global, hazards: &[Hazard]) -> Mem<Value> {
+    let mut items = Vec::new(alloc);
+    for hazard in hazards {
+        items.push(hazard_value(alloc, *hazard)?)?;
+    }
+    Ok(Value::Array(items))
+}
+
 fn put_compilation(members: &mut Members, compilation: &Compilation) -> Mem<()> {
     let alloc = members.alloc;
     let parsed = &compilation.parsed;
     let language = format!(in alloc; "{:?}", parsed.language)?;
-    members.put_text("outcome", "ok")?;
     members.put_flag("cacheable", compilation.cacheable == Cacheable::Yes)?;
     members.put_words("command", &compilation.command.arguments)?;
     members.put_words("hash_files", &parsed.extra_hash_files)?;
@@ -160,12 +176,13 @@ fn put_compilation(members: &mut Members, compilation: &Compilation) -> Mem<()> 
     members.put("outputs", outputs_value(alloc, compilation)?)
 }
 
-fn put_answer(members: &mut Members, answered: &Answered) -> Mem<()> {
+/// How the answer ends: with hazards, or why there is no command.
+fn put_outcome(members: &mut Members, answered: &Answered) -> Mem<()> {
     match &answered.answer {
-        CompilerArguments::Ok(compilation) => {
-            put_compilation(members, compilation)?;
-            let runs = runs_value(members.alloc, &answered.runs)?;
-            members.put("preprocessor", runs)
+        CompilerArguments::Ok(_) => {
+            members.put_text("outcome", "ok")?;
+            let hazards = hazards_value(members.alloc, &answered.hazards)?;
+            members.put("hazards", hazards)
         }
         CompilerArguments::CannotCache(reason, more) => {
             members.put_text("outcome", "cannot-cache")?;
@@ -180,15 +197,31 @@ fn put_answer(members: &mut Members, answered: &Answered) -> Mem<()> {
     }
 }
 
-fn members_of(alloc: Global, case: &Case, answered: &Answered) -> Mem<Members> {
+/// What is asked about, and how the answer ends.
+fn outcome_members(alloc: Global, case: &Case, answered: &Answered) -> Mem<Members> {
     let mut members = Members::new(alloc);
     members.put_text("compiler", case.compiler.name())?;
     members.put_bytes("directory", &case.cwd)?;
     members.put_bytes("program", &case.program)?;
     members.put_words("missing_files", &answered.missing_files)?;
     members.put_words("response_files", &answered.response_files)?;
-    put_answer(&mut members, answered)?;
+    put_outcome(&mut members, answered)?;
     Ok(members)
+}
+
+/// The same, with what was read, the command and the runs of the preprocessor.
+fn members_of(alloc: Global, case: &Case, answered: &Answered) -> Mem<Members> {
+    let mut members = outcome_members(alloc, case, answered)?;
+    if let CompilerArguments::Ok(compilation) = &answered.answer {
+        put_compilation(&mut members, compilation)?;
+        members.put("preprocessor", runs_value(alloc, &answered.runs)?)?;
+    }
+    Ok(members)
+}
+
+/// The hazards of a command line. It fails only for want of memory.
+pub fn check_line(alloc: Global, case: &Case, answered: &Answered) -> Mem<String> {
+    outcome_members(alloc, case, answered)?.into_line()
 }
 
 /// The answer to an entry of a database. It fails only for want of memory.

@@ -1,10 +1,13 @@
 //! What a command line is, for a person.
 use crate::answered::Answered;
 use crate::case::Case;
+use crate::hazards::hazard_text;
 use crate::options::push_options;
 use crate::paint::Paint;
-use crate::words::{push_shown, refusal_text, shown};
+use crate::refusal::{cached_text, refusal_text};
+use crate::words::{push_shown, shown};
 use scl_cl::{Cacheable, Compilation, CompilerArguments, Mem};
+use scl_hazards::Hazard;
 use scl_reasons::sentence;
 use scl_rows::Row;
 use scl_shell::quoted_command;
@@ -63,16 +66,20 @@ impl Page {
     }
 }
 
-fn push_outcome(page: &mut Page, answer: &CompilerArguments<Compilation>) -> Mem<()> {
+fn push_outcome(page: &mut Page, answered: &Answered) -> Mem<()> {
     let (good, bad) = (page.paint.good(), page.paint.bad());
-    match answer {
-        CompilerArguments::Ok(compilation) => match compilation.cacheable {
-            Cacheable::Yes => page.outcome(good, "can be cached"),
-            Cacheable::No => page.outcome(bad, "compiles, and may not be kept in the cache"),
-        },
+    match &answered.answer {
+        CompilerArguments::Ok(compilation) => {
+            let cacheable = compilation.cacheable;
+            let colour = match cacheable {
+                Cacheable::Yes => good,
+                Cacheable::No => bad,
+            };
+            page.outcome(colour, cached_text(cacheable))
+        }
         CompilerArguments::CannotCache(reason, more) => {
             let more = more.as_ref().map(|more| more.as_str());
-            let text = refusal_text(page.alloc, reason, more)?;
+            let text = refusal_text(page.alloc, reason, more, &answered.missing_files)?;
             page.outcome(bad, text.as_str())?;
             page.line("because", sentence(reason))
         }
@@ -120,9 +127,18 @@ fn push_record(page: &mut Page, compilation: &Compilation) -> Mem<()> {
     Ok(())
 }
 
+fn push_hazards(page: &mut Page, hazards: &[Hazard]) -> Mem<()> {
+    for hazard in hazards {
+        let text = hazard_text(page.alloc, *hazard)?;
+        page.line("hazard", text.as_str())?;
+    }
+    Ok(())
+}
+
 fn push_commands(page: &mut Page, case: &Case, answered: &Answered) -> Mem<()> {
     if let CompilerArguments::Ok(compilation) = &answered.answer {
         push_record(page, compilation)?;
+        push_hazards(page, &answered.hazards)?;
         page.command("command", &case.program, &compilation.command.arguments)?;
         for run in &answered.runs {
             page.command("preprocessor", &case.program, run)?;
@@ -151,7 +167,7 @@ pub fn explanation(
         paint,
         text: String::new(alloc),
     };
-    push_outcome(&mut page, &answered.answer)?;
+    push_outcome(&mut page, answered)?;
     push_case(&mut page, case)?;
     push_files(&mut page, answered)?;
     push_rows(&mut page, rows)?;

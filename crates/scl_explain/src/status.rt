@@ -1,6 +1,10 @@
 //! How the program ends.
 ghost use Rattle.std.specs.Prelude.{◌≡◌};
-ghost use Rattle.scl_explain.specs.Endings.{status_of};
+ghost use Rattle.scl_cl.specs.AnswersGiven.{answer_of};
+ghost use Rattle.scl_explain.specs.Endings.{ending_of, status_of};
+
+use scl_cl::{Compilation, CompilerArguments};
+use scl_hazards::Hazard;
 
 /// How the program ends.
 #[derive(Debug, Clone, Copy, PartialEq, Eq)]
@@ -24,6 +28,18 @@ pub enum Ending {
 }
 
 impl Ending {
+    /// How an answer ends, of whose command these hazards are named.
+    pub(crate) fn of_answer(answer: &CompilerArguments<Compilation>, hazards: &[Hazard]) -> Ending
+        ensures { result ≡ ending_of (answer_of answer.now) hazards.now }
+    {
+        match answer {
+            CompilerArguments::Ok(_) if hazards.is_empty() => Ending::Answered,
+            CompilerArguments::Ok(_) => Ending::Hazard,
+            CompilerArguments::CannotCache(_, _) => Ending::CannotCache,
+            CompilerArguments::NotCompilation => Ending::CompilesNothing,
+        }
+    }
+
     /// The status that the program ends with.
     pub fn status(self) -> u8
         ensures { result ≡ status_of self }

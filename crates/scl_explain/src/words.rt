@@ -6,7 +6,6 @@ ghost use Rattle.scl_shell.specs.Quoted.{quoted_text};
 ghost use Rattle.scl_explain.specs.CommandTexts.{ended_by_nul, command_text};
 
 use scl_cl::Mem;
-use scl_reasons::sentence;
 use scl_shell::quoted_command;
 use std::alloc::Global;
 
@@ -72,19 +71,4 @@ pub(crate) fn shown(alloc: Global, bytes: &[u8]) -> Mem<String> {
     let mut text = String::new(alloc);
     push_shown(alloc, &mut text, bytes)?;
     Ok(text)
-}
-
-/// Why a command line can't be cached, in a few words.
-pub(crate) fn refusal_text(alloc: Global, reason: &str, more: Option<&str>) -> Mem<String> {
-    match more {
-        Some(more) => format!(in alloc; "cannot be cached: {reason}: {more}"),
-        None => format!(in alloc; "cannot be cached: {reason}"),
-    }
-}
-
-/// The line that says why there is no command, with a sentence for people.
-pub(crate) fn refusal_line(alloc: Global, reason: &str, more: Option<&str>) -> Mem<String> {
-    let text = refusal_text(alloc, reason, more)?;
-    let sentence = sentence(reason);
-    format!(in alloc; "{text}: {sentence}")
 }

@@ -1,12 +1,12 @@
 -- Inner command lines: where the words of inner options go, what is said of each, and what the words of one say.
-use Rattle.std.specs.Prelude.{ℕ, Bool, false, List, Option, None, Some, Result, codes, if◌then◌else◌}
+use Rattle.std.specs.Prelude.{ℕ, Bool, false, List, [], Option, None, Some, Result, codes, if◌then◌else◌}
 use Rattle.std.specs.List.{flat_map}
-use Rattle.std.specs.Str.{bytes_eq}
+use Rattle.std.specs.Str.{bytes_eq, is_utf8}
 use Rattle.scl_args.specs.Options.{last, list, side_of_flag}
 use Rattle.scl_values.specs.Seen.{Seen, Raw, Unknown, Known, flag_of}
 use Rattle.scl_args.specs.Wrapped.{wrapped_apart}
 use Rattle.scl_files.specs.declared.expand.ExpansionKind.TheVariants as expansions
-use Rattle.scl_text.specs.Records.{Verdict}
+use Rattle.scl_text.specs.Records.{Verdict, CannotCache}
 use Rattle.scl_text.specs.JudgedWords.{judged_words}
 use Rattle.scl_files.specs.Views.{Viewed}
 use Rattle.scl_gnu_reading.specs.declared.gcc.data.Kind.{Kind}
@@ -15,7 +15,7 @@ use Rattle.scl_gnu_reading.specs.declared.gcc.place.Place.{Place}
 use Rattle.scl_gnu_reading.specs.declared.gcc.place.Place.TheVariants as places
 use Rattle.scl_gnu_reading.specs.ClangRows.{clang_tables}
 use Rattle.scl_gnu_reading.specs.Places.{places_of}
-use Rattle.scl_gnu_reading.specs.Verdicts.{refusal, flag_verdict}
+use Rattle.scl_gnu_reading.specs.Verdicts.{flag_verdict}
 
 -- ---- places
 
@@ -41,13 +41,21 @@ abbrev pub takes_raw : Option (Seen Kind) → Bool
 takes_raw None = false
 takes_raw (Some o) = bytes_eq (flag_of o) (codes "-plugin-arg")
 
-abbrev pub raw_verdict : Bool → Option Verdict
-raw_verdict is_taken = if is_taken then None else refusal (codes "Can't handle Raw arguments with -Xclang")
+-- the word, or the empty text where it is not UTF-8
+abbrev pub text_or_empty : List ℕ → List ℕ
+text_or_empty word = if is_utf8 word then word else []
+
+-- a word is refused for the reason, with the word beside it
+abbrev pub word_refusal : (reason word : List ℕ) → Option Verdict
+word_refusal reason word = Some (CannotCache reason (Some (text_or_empty word)))
+
+abbrev pub raw_verdict : Bool → List ℕ → Option Verdict
+raw_verdict is_taken word = if is_taken then None else word_refusal (codes "Can't handle Raw arguments with -Xclang") word
 
 -- what an inner option says after others, of which the one just before counts
 abbrev pub inner_verdict : List (Seen Kind) → Seen Kind → Option Verdict
-inner_verdict before (Raw w) = raw_verdict (takes_raw (last before))
-inner_verdict before (Unknown w) = refusal (codes "Can't handle UnknownFlag arguments with -Xclang")
+inner_verdict before (Raw w) = raw_verdict (takes_raw (last before)) w
+inner_verdict before (Unknown w) = word_refusal (codes "Can't handle UnknownFlag arguments with -Xclang") w
 inner_verdict before (Known f k v how) = flag_verdict (inner_place k) f
 
 -- ---- readings

@@ -2,12 +2,13 @@
 use Rattle.std.specs.Prelude.{ℕ, Bool, not, ◌==◌, ◌&&◌, List, [], ◌∷◌, Option, None, Some, codes, if◌then◌else◌}
 use Rattle.std.specs.Str.{bytes_eq}
 use Rattle.std.specs.Option.{option_or}
+use Rattle.scl_values.specs.Escaped.{escaped}
 use Rattle.scl_values.specs.Seen.{Seen, Raw, Unknown, Known}
 use Rattle.scl_args.specs.Options.{last_text, names_file}
 use Rattle.scl_text.specs.declared.language.Language.{Language}
 use Rattle.scl_text.specs.Languages.{language_of_gcc_text}
 use Rattle.scl_text.specs.Reasons.{unexpanded_file}
-use Rattle.scl_text.specs.Records.{Verdict, CannotCache}
+use Rattle.scl_text.specs.Records.{Verdict, CannotCache, because}
 use Rattle.scl_gnu_reading.specs.declared.gcc.data.Kind.{Kind}
 use Rattle.scl_gnu_reading.specs.declared.gcc.data.Kind.TheVariants as kind
 use Rattle.scl_gnu_reading.specs.declared.gcc.place.Place.{Place}
@@ -16,17 +17,17 @@ use Rattle.scl_gnu_reading.specs.Kinds.{of}
 use Rattle.scl_gnu_reading.specs.Places.{place}
 
 abbrev pub refusal : List ℕ → Option Verdict
-refusal reason = Some (CannotCache reason)
+refusal reason = Some (because reason)
 
 -- an option whose kind is refused is refused by its flag
 abbrev pub flag_verdict : Place → List ℕ → Option Verdict
 flag_verdict places.Refused flag = refusal flag
 flag_verdict _ flag = None
 
--- a module's path stands behind =, or there is none
+-- a module's path stands behind =, or there is none; any other value is refused, and stands beside the reason
 abbrev pub module_output_verdict : List ℕ → Option Verdict
 module_output_verdict [] = None
-module_output_verdict (byte ∷ bytes) = if byte == 61 then None else refusal (codes "unknown module output format")
+module_output_verdict (byte ∷ bytes) = if byte == 61 then None else Some (CannotCache (codes "unknown module output format") (Some (escaped (byte ∷ bytes))))
 
 abbrev pub unread_language : Option Language → Option Verdict
 unread_language None = refusal (codes "-x")

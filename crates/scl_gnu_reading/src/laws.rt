@@ -9,13 +9,17 @@ ghost use Rattle.scl_gnu_reading.specs.ClangRows.{clang_tables};
 ghost use Rattle.scl_gnu_reading.specs.GccRows.{gcc_rows};
 ghost use Rattle.scl_gnu_reading.specs.declared.gcc.data.Kind.{Kind};
 ghost use Rattle.scl_gnu_reading.specs.declared.gcc.place.Place.{Place};
+ghost use Rattle.scl_gnu_reading.specs.declared.gcc.hash_files.HashRole.{HashRole};
 ghost use Rattle.scl_gnu_reading.specs.contracts.gcc.data.KindPartialEq.TheImpl as kinds;
+ghost use Rattle.scl_gnu_reading.specs.contracts.gcc.hash_files.HashRolePartialEq.TheImpl as roles;
 ghost use Rattle.scl_gnu_reading.specs.contracts.gcc.place.PlacePartialEq.TheImpl as places;
 
-/// Laws of `==`, which definitions cite: kinds of options that are equal are one, and so are places.
+/// Laws of `==`, which definitions cite: kinds of options that are equal are one, and so are places, and roles of hashed
+/// files.
 pub fn of_equality()
     ensures kinds_are_told_apart { (a b : Kind) → kinds.ghosts.eq a b ≡ true → a ≡ b }
     ensures places_are_told_apart { (a b : Place) → places.ghosts.eq a b ≡ true → a ≡ b }
+    ensures roles_are_told_apart { (a b : HashRole) → roles.ghosts.eq a b ≡ true → a ≡ b }
 {}
 
 /// Laws of the written tables (docs/RULES.md, Cutting again, and Words that name response files):

@@ -1,4 +1,5 @@
 pub mod DepfileLemmas
+pub mod EqualityLaws
 pub mod EnvironmentLemmas
 pub mod InputLaws
 pub mod KeptLaws

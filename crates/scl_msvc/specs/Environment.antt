@@ -5,7 +5,7 @@ use Rattle.std.specs.Str.{bytes_eq, chars}
 use Rattle.scl_args.specs.Options.{◌>>=◌}
 use Rattle.scl_files.specs.Decoding.{utf8_text}
 use Rattle.scl_files.specs.MsvcText.{msvc_arguments}
-use Rattle.scl_text.specs.Records.{Parsed, Verdict, CannotCache}
+use Rattle.scl_text.specs.Records.{Parsed, Verdict, because}
 use Rattle.scl_files.specs.Views.{Viewed}
 use Rattle.scl_msvc_reading.specs.Readings.{reading}
 
@@ -49,15 +49,15 @@ variable_words broken (Some value) = ok_or (words_in value) broken
 -- the words of the two variables: those before the words of a command line, and those behind them
 abbrev pub surroundings : List (List ℕ × List ℕ) → Result (List (List ℕ) × List (List ℕ)) Verdict
 surroundings pairs = do
-  front ← variable_words (CannotCache (codes "CL environment variable value broken")) (value_of front_variable pairs)
-  back ← variable_words (CannotCache (codes "_CL_ environment variable value broken")) (value_of back_variable pairs)
+  front ← variable_words (because (codes "CL environment variable value broken")) (value_of front_variable pairs)
+  back ← variable_words (because (codes "_CL_ environment variable value broken")) (value_of back_variable pairs)
   Ok (front, back)
 
 -- the words of a command line between those of the two variables
 abbrev pub surrounded : List (List ℕ × List ℕ) → List (List ℕ) → Result (List (List ℕ)) Verdict
 surrounded pairs words = do
-  front ← variable_words (CannotCache (codes "CL environment variable value broken")) (value_of front_variable pairs)
-  back ← variable_words (CannotCache (codes "_CL_ environment variable value broken")) (value_of back_variable pairs)
+  front ← variable_words (because (codes "CL environment variable value broken")) (value_of front_variable pairs)
+  back ← variable_words (because (codes "_CL_ environment variable value broken")) (value_of back_variable pairs)
   Ok (front ++ words ++ back)
 
 -- what the words say between those of the two variables

@@ -1,7 +1,18 @@
 //! What follows for the commands of Msvc: each law is a clause of a function that does nothing.
+ghost use Rattle.std.specs.Prelude.{◌≡◌, true, string_bytes};
+ghost use Rattle.std.specs.Option.{option_map};
+ghost use Rattle.scl_msvc.specs.contracts.msvc.compiler.MsvcPartialEq.TheImpl.{ghosts};
+ghost use Rattle.scl_msvc.specs.declared.msvc.compiler.Msvc.{Msvc};
 ghost use Rattle.scl_msvc.specs.Promises.{MsvcCommandsAreFaithful, MsvcLinesHaveNoEmpty, MsvcRecordsHaveObjects};
 
 pub use scl_msvc_reading::laws::of_tables;
+
+/// Laws of `==`: compilers that are equal have the same prefix and version, and are the same of cl and clang-cl.
+pub fn of_equality()
+    ensures prefixes_are_told_apart { (a b : Msvc) → ghosts.eq a b ≡ true → string_bytes a.includes_prefix ≡ string_bytes b.includes_prefix }
+    ensures compilers_are_told_apart { (a b : Msvc) → ghosts.eq a b ≡ true → a.is_clang ≡ b.is_clang }
+    ensures versions_are_told_apart { (a b : Msvc) → ghosts.eq a b ≡ true → option_map string_bytes a.version ≡ option_map string_bytes b.version }
+{}
 
 /// Laws of the records of Msvc (docs/RULES.md, Cutting again):
 ///

@@ -11,7 +11,7 @@ use Rattle.scl_text.specs.declared.language.Language.TheVariants as languages
 use Rattle.scl_text.specs.Languages.{language_of_file_name}
 use Rattle.scl_files.specs.Paths.{join, file_name, extension, with_extension}
 use Rattle.scl_text.specs.Reasons.{unknown_source_language, invalid_input_file}
-use Rattle.scl_text.specs.Records.{Verdict, CannotCache, NotCompilation}
+use Rattle.scl_text.specs.Records.{Verdict, because, NotCompilation}
 use Rattle.scl_text.specs.Refusals.{the_input}
 use Rattle.scl_msvc_reading.specs.declared.msvc.data.Kind.{Kind}
 use Rattle.scl_msvc_reading.specs.declared.msvc.data.Kind.TheVariants as kind
@@ -34,8 +34,8 @@ differ false other = other
 -- where a module is compiled, its output is named, and only then; its input has no other language
 abbrev pub module_verdict : (is_compiled is_named has_language : Bool) → Option Verdict
 module_verdict is_compiled is_named has_language =
-    option_or (then_some (differ is_compiled is_named) (CannotCache (codes "-x c++-module without -fmodule-output= or vice versa")))
-    (then_some (is_compiled && has_language) (CannotCache (codes "-x c++-module with /Tc or /Tp")))
+    option_or (then_some (differ is_compiled is_named) (because (codes "-x c++-module without -fmodule-output= or vice versa")))
+    (then_some (is_compiled && has_language) (because (codes "-x c++-module with /Tc or /Tp")))
 
 -- the one input, where nothing is said against it; of several no more is asked
 abbrev pub input_unless : Option Verdict → List (List ℕ) → Result (List ℕ) Verdict
@@ -66,7 +66,7 @@ object_path (Some path) input =
     else Some (with_default_extension path (codes "obj"))
 
 abbrev pub shared_database : Verdict
-shared_database = CannotCache (codes "shared pdb")
+shared_database = because (codes "shared pdb")
 
 -- debug information goes to a file of its own, which must be named; clang-cl keeps it in the object
 abbrev pub program_database : Bool → Option (List ℕ) → Result (Option (List ℕ)) Verdict

@@ -6,7 +6,7 @@ use Rattle.std.specs.Bool.{then_some}
 use Rattle.scl_args.specs.Empties.{is_empty}
 use Rattle.scl_values.specs.Seen.{Seen, Raw, Unknown, Known}
 use Rattle.scl_text.specs.Reasons.{no_input_file}
-use Rattle.scl_text.specs.Records.{Verdict, CannotCache, NotCompilation}
+use Rattle.scl_text.specs.Records.{Verdict, because, NotCompilation}
 use Rattle.scl_msvc_reading.specs.declared.msvc.data.Kind.{Kind}
 use Rattle.scl_msvc_reading.specs.declared.msvc.data.Kind.TheVariants as kind
 use Rattle.scl_msvc_reading.specs.declared.msvc.place.Place.{Place}
@@ -15,18 +15,18 @@ use Rattle.scl_msvc_reading.specs.Places.{place}
 
 -- an option whose kind is refused is refused by its flag
 abbrev pub flag_verdict : Place → List ℕ → Option Verdict
-flag_verdict places.Refused flag = Some (CannotCache flag)
+flag_verdict places.Refused flag = Some (because flag)
 flag_verdict _ flag = None
 
 -- what a flag of the kind says with this value; that of a module's file, or of a language, only clang-cl has
 abbrev pub value_verdict : Bool → List ℕ → Kind → List ℕ → Option Verdict
 value_verdict is_clang flag kind.SuppressCompilation value = Some NotCompilation
-value_verdict is_clang flag kind.Output value = then_some (bytes_eq value (codes "nul")) (CannotCache (codes "output to nul"))
+value_verdict is_clang flag kind.Output value = then_some (bytes_eq value (codes "nul")) (because (codes "output to nul"))
 value_verdict is_clang flag kind.CInput value = then_some (is_empty value) no_input_file
 value_verdict is_clang flag kind.CxxInput value = then_some (is_empty value) no_input_file
-value_verdict is_clang flag kind.ClangModuleFile value = then_some (not is_clang || is_empty value) (CannotCache flag)
-value_verdict is_clang flag kind.ClangModuleOutput value = then_some (is_empty value) (CannotCache flag)
-value_verdict is_clang flag kind.ClangLanguage value = then_some (not is_clang || not (bytes_eq value (codes "c++-module"))) (CannotCache flag)
+value_verdict is_clang flag kind.ClangModuleFile value = then_some (not is_clang || is_empty value) (because flag)
+value_verdict is_clang flag kind.ClangModuleOutput value = then_some (is_empty value) (because flag)
+value_verdict is_clang flag kind.ClangLanguage value = then_some (not is_clang || not (bytes_eq value (codes "c++-module"))) (because flag)
 value_verdict is_clang flag _ value = None
 
 -- what an option with this flag and value says: what its kind does, else what its value does

@@ -3,14 +3,13 @@ use Rattle.std.proofs.Common.{◌≡◌, ℕ, true, false, List, [], map, Option
 use Rattle.std.specs.Prelude.{IfOk, ok_or}
 use Rattle.scl_args.specs.Options.{last_flag, side_of_flag, list, texts, unless, ◌>>=◌}
 use Rattle.scl_small.specs.Places.{goes_to, place_of}
-use Rattle.scl_small.specs.Readings.{list_at, reads, record_of, recorded, tested_by}
+use Rattle.scl_small.specs.Readings.{list_at, reads, record_of, recorded, tested_by, the_only_input}
 use Rattle.scl_small.specs.contracts.place.PlacePartialEq.TheImpl as place_equality
 use Rattle.scl_small.specs.declared.place.Place.{Place}
 use Rattle.scl_small.specs.declared.place.Place.TheVariants as places
 use Rattle.scl_text.specs.Languages.{language_of_file_name}
 use Rattle.scl_text.specs.Reasons.{unknown_source_language}
 use Rattle.scl_text.specs.Records.{Parsed, Verdict, NotCompilation}
-use Rattle.scl_text.specs.Refusals.{the_input}
 use Rattle.scl_text.specs.declared.language.Language.{Language}
 use Rattle.scl_values.specs.Cuts.{cut}
 use Rattle.scl_values.specs.Row.{Row}
@@ -88,7 +87,7 @@ module _ {K : Type 0} (place : K → Place) (verdict : Seen K → Option Verdict
     of-input flag (Err v) = tt
 
     of-flag : (found : Result (List ℕ) Verdict) → IfOk (found >>= (λ flag. recorded place os (flag_for flag))) (HasLists rows)
-    of-flag (Ok flag) = of-input (flag_for flag) (the_input (texts (goes_to place places.Input) os))
+    of-flag (Ok flag) = of-input (flag_for flag) (the_only_input (texts (goes_to place places.Input) os))
     of-flag (Err v) = tt
 
   pub small-tells : Tells rows (reads verdict (tested_by place flag_for) own words)

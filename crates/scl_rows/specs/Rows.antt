@@ -1,7 +1,7 @@
 -- What is told of the options of a command line, a row each, and the lists that rows make.
-use Rattle.std.specs.Prelude.{◌≡◌, ℕ, Bool, List, [], ◌∷◌, filter, Option, None, Some, Result, Err, IfOk, IfSome, is_some, codes, if◌then◌else◌}
+use Rattle.std.specs.Prelude.{◌≡◌, ℕ, Bool, List, [], ◌∷◌, filter, find, Option, None, Some, Result, Err, IfOk, IfSome, is_some, codes, if◌then◌else◌}
 use Rattle.std.specs.List.{flat_map}
-use Rattle.std.specs.Option.{option_map, option_or}
+use Rattle.std.specs.Option.{option_and_then, option_map, option_or}
 use Rattle.scl_args.specs.Wrapped.{wrapped_apart, wrapped_joined}
 use Rattle.scl_text.specs.Records.{Parsed, Verdict, path_of}
 use Rattle.scl_text.specs.Refusals.{verdict_of}
@@ -86,6 +86,10 @@ HasLists rows p = (there : Destination) → IfSome (list_of there) (λ list. wor
 abbrev pub first_refusal : List Told → Option Verdict
 first_refusal [] = None
 first_refusal (row ∷ rows) = option_or row.refusal (first_refusal rows)
+
+-- the index of the given word that brought the first row that is refused, if a given word did
+abbrev pub refused_at : List Told → Option ℕ
+refused_at rows = option_and_then (λ row. row.at) (find (λ row. is_some row.refusal) rows)
 
 -- where a row is refused, the outcome is the refusal of the first; of a record that was read, the rows make the lists
 pub record Tells (rows : List Told) (outcome : Result Parsed Verdict) : Type 0 where

@@ -16,4 +16,4 @@ mod ways;
 pub use compilers::HasRows;
 pub use destination::Destination;
 pub use origin::Origin;
-pub use row::Row;
+pub use row::{Row, refused_at};

@@ -19,8 +19,8 @@ use crate::row::{Row, kind_name, row_of};
 use crate::source::{Sourced, ats_of, ats_passing, behind, expand_sourced, first_at};
 use crate::ways::Ways;
 use scl_args::{
-    ArgParseError, Argument, ArgumentValue, ExactArg, Mem, Options, ReadArg, SearchableArgInfo,
-    Test, cut_options, texts,
+    Argument, ArgumentValue, ExactArg, Mem, Options, ReadArg, SearchableArgInfo, Test, cut_options,
+    texts,
 };
 use scl_text::refusal::argument_parse;
 use scl_text::{ExpansionKind, Judge, View, refusal_of};
@@ -104,7 +104,7 @@ where
         destination: Destination::Refused,
         origin,
         printed: Vec::new(alloc),
-        refusal: Some(argument_parse(alloc, &ArgParseError::UnexpectedEndOfArgs)?),
+        refusal: Some(argument_parse(alloc)?),
         at,
     })
 }

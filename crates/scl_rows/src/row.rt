@@ -9,7 +9,7 @@ ghost use Rattle.scl_values.specs.Seen.{seen};
 ghost use Rattle.scl_values.specs.Spell.{spelled};
 ghost use Rattle.scl_values.specs.Words.{words_of};
 ghost use Rattle.scl_rows.specs.Lines.{destination_unless, row_of, value_at};
-ghost use Rattle.scl_rows.specs.Rows.{first_refusal, handed, printed_at, told};
+ghost use Rattle.scl_rows.specs.Rows.{first_refusal, handed, printed_at, refused_at, told};
 
 use crate::destination::Destination;
 use crate::origin::Origin;
@@ -165,4 +165,17 @@ pub(crate) fn is_any_refused(rows: &[Row]) -> bool
         }
     }
     false
+}
+
+/// The index of the given word that brought the first refused row: none where no row is refused, and where no given word
+/// brought it.
+pub fn refused_at(rows: &[Row]) -> Option<usize>
+    ensures { result ≡ refused_at (map told rows.now) }
+{
+    for row in rows {
+        if row.refusal.is_some() {
+            return row.at;
+        }
+    }
+    None
 }

@@ -27,21 +27,20 @@ use Rattle.scl_text.specs.Languages.{language_of_file_name}
 use Rattle.scl_text.specs.Commands.{object_of}
 use Rattle.scl_text.specs.Reasons.{empty_value, argument_parse, unknown_source_language}
 use Rattle.scl_text.specs.Records.{Parsed, Verdict}
-use Rattle.scl_text.specs.Refusals.{the_input}
 use Rattle.scl_small.specs.Command.{command_words, command}
 use Rattle.scl_small.specs.Places.{goes_to}
 use Rattle.scl_small.specs.ReadAgain.{every_kind, list_of, line_of, parts, CommandsAreReadAgain, CommandIsReadAgain}
-use Rattle.scl_small.specs.Readings.{list_at, record_of, recorded, reads}
+use Rattle.scl_small.specs.Readings.{list_at, record_of, recorded, reads, the_only_input}
 use Rattle.scl_small.specs.contracts.place.PlacePartialEq.TheImpl.{ghosts}
 use Rattle.scl_small.specs.declared.place.Place.{Place}
 use Rattle.scl_small.specs.declared.place.Place.TheVariants as places
 
 -- ---- what a record says of the options
 
-the_input-ok : (xs : List (List ℕ)) (x : List ℕ) → the_input xs ≡ Ok x → xs ≡ x ∷ []
-the_input-ok [] x e = absurd (cc)
-the_input-ok (y ∷ []) x e = cc
-the_input-ok (y ∷ z ∷ ys) x e = absurd (cc)
+the_only_input-ok : (xs : List (List ℕ)) (x : List ℕ) → the_only_input xs ≡ Ok x → xs ≡ x ∷ []
+the_only_input-ok [] x e = absurd (cc)
+the_only_input-ok (y ∷ []) x e = cc
+the_only_input-ok (y ∷ z ∷ ys) x e = absurd (cc)
 
 module _ {K : Type 0} (place : K → Place) where
   pub record IsRecord (os : List (Seen K)) (f : List ℕ) (p : Parsed) : Type 0 where
@@ -53,12 +52,12 @@ module _ {K : Type 0} (place : K → Place) where
 
   pub is-record : (os : List (Seen K)) (f : List ℕ) (p : Parsed) → recorded place os f ≡ Ok p → IsRecord os f p
   is-record os f p e =
-      let a = bind-ok (the_input (texts (goes_to place places.Input) os)) _ p e in
+      let a = bind-ok (the_only_input (texts (goes_to place places.Input) os)) _ p e in
       let b = bind-ok (ok_or (language_of_file_name a.0) unknown_source_language) _ p a.2 in
       let is : record_of place os f a.0 b.0 ≡ p = cc (b.2) in
       record {
         flag_is = sym (ap (λ r. r.compilation_flag) is);
-        input_is = the_input-ok (texts (goes_to place places.Input) os) a.0 a.1 ∙ ap (λ r. r.input ∷ []) is;
+        input_is = the_only_input-ok (texts (goes_to place places.Input) os) a.0 a.1 ∙ ap (λ r. r.input ∷ []) is;
         preprocessor_is = sym (ap (λ r. r.preprocessor_args) is);
         unhashed_is = sym (ap (λ r. r.unhashed_args) is);
         common_is = sym (ap (λ r. r.common_args) is);
@@ -67,7 +66,7 @@ module _ {K : Type 0} (place : K → Place) where
   -- a record that was made has an object
   pub has-object : (os : List (Seen K)) (f : List ℕ) (p : Parsed) → recorded place os f ≡ Ok p → is_some (object_of p) ≡ true
   has-object os f p e =
-      let a = bind-ok (the_input (texts (goes_to place places.Input) os)) _ p e in
+      let a = bind-ok (the_only_input (texts (goes_to place places.Input) os)) _ p e in
       let b = bind-ok (ok_or (language_of_file_name a.0) unknown_source_language) _ p a.2 in
       let is : record_of place os f a.0 b.0 ≡ p = cc (b.2) in
       sym (ap (λ r. is_some (object_of r)) is)

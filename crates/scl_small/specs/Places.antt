@@ -1,14 +1,14 @@
 -- Where options go.
 use Rattle.std.specs.Prelude.{ℕ, Bool, List, Option, None, Some}
 use Rattle.scl_values.specs.Seen.{Seen, Raw, Unknown, Known, flag_of}
-use Rattle.scl_text.specs.Records.{Verdict, CannotCache, NotCompilation}
+use Rattle.scl_text.specs.Records.{Verdict, because, NotCompilation}
 use Rattle.scl_small.specs.contracts.place.PlacePartialEq.TheImpl.{ghosts}
 use Rattle.scl_small.specs.declared.place.Place.{Place}
 use Rattle.scl_small.specs.declared.place.Place.TheVariants as places
 
 -- the verdict that a place is, on an option with the flag
 abbrev pub verdict_at : Place → List ℕ → Option Verdict
-verdict_at places.Refused flag = Some (CannotCache flag)
+verdict_at places.Refused flag = Some (because flag)
 verdict_at places.NotCompilation flag = Some NotCompilation
 verdict_at _ flag = None
 

@@ -1,5 +1,5 @@
 -- What a command line says to Diab or TaskingVX: a first verdict, and filters over the finished list of its options.
-use Rattle.std.specs.Prelude.{ℕ, false, List, [], ◌∷◌, Option, None, Some, Result, Ok, codes, ok_or}
+use Rattle.std.specs.Prelude.{ℕ, false, List, [], ◌∷◌, Option, None, Some, Result, Ok, Err, codes, ok_or}
 use Rattle.scl_values.specs.Row.{Row}
 use Rattle.scl_values.specs.Seen.{Seen}
 use Rattle.scl_args.specs.Options.{last_flag, last_text, texts, list, side_of_flag, ◌>>=◌}
@@ -7,8 +7,8 @@ use Rattle.scl_files.specs.Paths.{with_extension}
 use Rattle.scl_text.specs.Languages.{language_of_file_name}
 use Rattle.scl_text.specs.Records.{Parsed, bare_record, artifact, Verdict, NotCompilation}
 use Rattle.scl_text.specs.JudgedWords.{judged_cut}
-use Rattle.scl_text.specs.Reasons.{unknown_source_language}
-use Rattle.scl_text.specs.Refusals.{the_input}
+use Rattle.scl_text.specs.Reasons.{unknown_source_language, no_input_file, multiple_input_files}
+use Rattle.scl_text.specs.Refusals.{without_text}
 use Rattle.scl_text.specs.declared.language.Language.{Language}
 use Rattle.scl_small.specs.Places.{goes_to}
 use Rattle.scl_small.specs.declared.place.Place.{Place}
@@ -26,6 +26,12 @@ reads verdict tested own words = do
   tested options
 
 -- ---- the fixed tests, and the record
+
+-- the one input; several are refused with no text beside the reason
+abbrev pub the_only_input : List (List ℕ) → Result (List ℕ) Verdict
+the_only_input [] = Err no_input_file
+the_only_input (input ∷ []) = Ok input
+the_only_input (input ∷ other ∷ inputs) = Err (without_text (multiple_input_files (other ∷ inputs)))
 
 -- the path of the object file: the one that was asked for, else the input with extension o
 abbrev pub object_path : Option (List ℕ) → List ℕ → List ℕ
@@ -52,7 +58,7 @@ module _ {K : Type 0} (place : K → Place) where
   -- the record of a compilation with the flag, where there is one input in a known language
   abbrev pub recorded : List (Seen K) → List ℕ → Result Parsed Verdict
   recorded os flag = do
-    input ← the_input (texts (goes_to place places.Input) os)
+    input ← the_only_input (texts (goes_to place places.Input) os)
     language ← ok_or (language_of_file_name input) unknown_source_language
     Ok (record_of os flag input language)
 

@@ -1,9 +1,8 @@
 //! The fixed tests.
 ghost use Rattle.scl_values.specs.Words.{words_of};
 ghost use Rattle.scl_text.specs.Records.{parsed_of};
-ghost use Rattle.scl_text.specs.Refusals.{the_input};
 ghost use Rattle.scl_text.specs.Stops.{Gives};
-ghost use Rattle.scl_small.specs.Readings.{tested_by};
+ghost use Rattle.scl_small.specs.Readings.{tested_by, the_only_input};
 
 use crate::judge::Rules;
 use crate::place::Place;
@@ -18,7 +17,7 @@ use std::alloc::Global;
 
 /// The one input, refused without a text beside the reason.
 fn input_of(alloc: Global, inputs: Vec<Vec<u8>>) -> Result<Vec<u8>, Stop>
-    ensures { Gives (λ input. input.items) result (the_input (words_of inputs.items)) }
+    ensures { Gives (λ input. input.items) result (the_only_input (words_of inputs.items)) }
 {
     match one_input(alloc, inputs) {
         Ok(input) => Ok(input),

@@ -1,5 +1,6 @@
 pub mod Commands
 pub mod Compilers
+pub mod FirstVerdicts
 pub mod JudgedWords
 pub mod Languages
 pub mod Outputs

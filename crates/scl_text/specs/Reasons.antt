@@ -1,24 +1,27 @@
 -- The refusals that several compilers share.
-use Rattle.std.specs.Prelude.{codes}
-use Rattle.scl_text.specs.Records.{Verdict, CannotCache}
+use Rattle.std.specs.Prelude.{ℕ, List, Some, codes}
+use Rattle.scl_values.specs.Escaped.{quoted_list}
+use Rattle.scl_text.specs.Records.{Verdict, CannotCache, because}
 
 abbrev pub unexpanded_file : Verdict
-unexpanded_file = CannotCache (codes "@")
+unexpanded_file = because (codes "@")
 
 abbrev pub empty_value : Verdict
-empty_value = CannotCache (codes "empty value")
+empty_value = because (codes "empty value")
 
+-- with the text of the error that the last flag lacks its value
 abbrev pub argument_parse : Verdict
-argument_parse = CannotCache (codes "argument parse")
+argument_parse = CannotCache (codes "argument parse") (Some (codes "Unexpected end of args"))
 
-abbrev pub multiple_input_files : Verdict
-multiple_input_files = CannotCache (codes "multiple input files")
+-- with the inputs behind the first
+abbrev pub multiple_input_files : (later : List (List ℕ)) → Verdict
+multiple_input_files later = CannotCache (codes "multiple input files") (Some (quoted_list later))
 
 abbrev pub no_input_file : Verdict
-no_input_file = CannotCache (codes "no input file")
+no_input_file = because (codes "no input file")
 
 abbrev pub unknown_source_language : Verdict
-unknown_source_language = CannotCache (codes "unknown source language")
+unknown_source_language = because (codes "unknown source language")
 
 abbrev pub invalid_input_file : Verdict
-invalid_input_file = CannotCache (codes "invalid input file")
+invalid_input_file = because (codes "invalid input file")

@@ -70,10 +70,14 @@ bare_record input language compilation_flag = record {
   too_hard_for_preprocessor_cache_mode = None;
 }
 
--- why a command line is not read: it can't be cached, for this reason, or it is no compilation
+-- why a command line is not read: it can't be cached, for this reason, perhaps with a text beside it, or it is no compilation
 pub data Verdict : Type 0 where
-  CannotCache : (reason : List ℕ) → Verdict
+  CannotCache : (reason : List ℕ) (beside : Option (List ℕ)) → Verdict
   NotCompilation : Verdict
+
+-- it can't be cached, for this reason, with no text beside it
+abbrev pub because : List ℕ → Verdict
+because reason = CannotCache reason None
 
 -- the bytes of a path that there may be
 abbrev pub path_of : Option (Vec ℕ Global) → Option (List ℕ)
@@ -111,10 +115,10 @@ parsed_of p = record {
   too_hard_for_preprocessor_cache_mode = path_of p.too_hard_for_preprocessor_cache_mode;
 }
 
--- the outcome that an answer stands for; the text beside a reason is left out
+-- the outcome that an answer stands for
 abbrev pub outcome_of : CompilerArguments ParsedArguments → Result Parsed Verdict
 outcome_of (answers.Ok p) = Ok (parsed_of p)
-outcome_of (answers.CannotCache reason text) = Err (CannotCache reason.now)
+outcome_of (answers.CannotCache reason text) = Err (CannotCache reason.now (option_map string_bytes text))
 outcome_of answers.NotCompilation = Err NotCompilation
 
 -- the second words of pairs of words; a last lone word is left out

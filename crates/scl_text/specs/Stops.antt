@@ -4,7 +4,6 @@ use Rattle.std.specs.declared.alloc.AllocError.{AllocError}
 use Rattle.scl_text.specs.declared.records.CompilerArguments.{CompilerArguments}
 use Rattle.scl_text.specs.declared.records.CompilerArguments.TheVariants as answers
 use Rattle.scl_text.specs.declared.records.ParsedArguments.{ParsedArguments}
-use Rattle.scl_text.specs.declared.refusal.Refusal.{Refusal}
 use Rattle.scl_text.specs.declared.stop.Stop.{Stop}
 use Rattle.scl_text.specs.declared.stop.Stop.TheVariants as stops
 use Rattle.scl_text.specs.Records.{Verdict}
@@ -15,12 +14,6 @@ abbrev pub Gives : {T A : Type 0} → (T → A) → Result T Stop → Result A V
 Gives see (Ok value) said = said ≡ Ok (see value)
 Gives see (Err (stops.Refused refusal)) said = said ≡ Err (verdict_of refusal)
 Gives see (Err stops.Memory) said = ⊤
-
--- P holds of what the step is refused for, if it is
-abbrev pub IfRefused : {T : Type 0} → Result T Stop → (Refusal → Type 0) → Type 0
-IfRefused (Ok value) P = ⊤
-IfRefused (Err (stops.Refused refusal)) P = P refusal
-IfRefused (Err stops.Memory) P = ⊤
 
 -- the answer that a reading gives: its record, or what it is refused for
 abbrev pub answer_to : Result ParsedArguments Stop → Result (CompilerArguments ParsedArguments) AllocError

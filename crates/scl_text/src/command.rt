@@ -1,5 +1,5 @@
 //! What every builder of a command uses: words put behind words, copies, and the command of its parts.
-ghost use Rattle.std.specs.Prelude.{◌≡◌, ◌↔◌, ◌++◌, ◌∷◌, [], OnOk, OnErr, IfOk, Err, None};
+ghost use Rattle.std.specs.Prelude.{◌≡◌, ◌↔◌, ◌++◌, ◌∷◌, [], false, OnOk, OnErr, IfOk, IsOk, Err, None};
 ghost use Rattle.std.specs.Option.{option_map};
 ghost use Rattle.std.specs.String.{string_bytes};
 ghost use Rattle.scl_values.specs.Words.{words_of};
@@ -52,10 +52,12 @@ pub fn append_words(list: &mut Vec<Vec<u8>>, words: Vec<Vec<u8>>) -> Mem<()>
     list.append(&mut words)
 }
 
-/// Puts `--` behind words, where an input stands behind it. It fails only for want of memory, and leaves the list as it was.
+/// Puts `--` behind words, where an input stands behind it, and else does nothing. It fails only for want of memory, and
+/// leaves the list as it was.
 pub fn push_dashes(alloc: Global, list: &mut Vec<Vec<u8>>, is_behind_dashes: bool) -> Mem<()>
     ensures ok { OnOk result (words_of list.new.items ≡ words_of list.old.items ++ dash_words is_behind_dashes) }
     ensures err { OnErr result (list.new.items ≡ list.old.items) }
+    ensures none { is_behind_dashes ≡ false → IsOk result }
 {
     if is_behind_dashes {
         push_word(alloc, list, b"--")?;
@@ -63,9 +65,10 @@ pub fn push_dashes(alloc: Global, list: &mut Vec<Vec<u8>>, is_behind_dashes: boo
     Ok(())
 }
 
-/// A copy of a text, where there is one. It fails only for want of memory.
+/// A copy of a text, where there is one. It fails only for want of memory, and where there is none not at all.
 pub fn copy_text(alloc: Global, text: &Option<String>) -> Mem<Option<String>>
-    ensures { IfOk result (λ copy. option_map string_bytes copy ≡ option_map string_bytes text.now) }
+    ensures copy { IfOk result (λ copy. option_map string_bytes copy ≡ option_map string_bytes text.now) }
+    ensures none { option_map string_bytes text.now ≡ None → IsOk result }
 {
     match text {
         Some(text) => Ok(Some(String::from_str(alloc, text.as_str())?)),

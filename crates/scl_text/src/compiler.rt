@@ -10,7 +10,7 @@ use std::alloc::Global;
 
 /// A compiler whose command lines are read and built. The ghost members are its own definitions (docs/RULES.md, Compilers).
 pub trait CCompilerImpl {
-    ghost use Rattle.std.specs.Prelude.{◌≡◌, ◌↔◌, ℕ, Bool, List, Option, None, Result, Ok, IfOk};
+    ghost use Rattle.std.specs.Prelude.{◌≡◌, ◌↔◌, ℕ, Bool, List, Option, None, Result, Ok, IfOk, IsOk};
     ghost use Rattle.std.specs.Option.{option_map};
     ghost use Rattle.std.specs.String.{string_bytes};
     ghost use Rattle.scl_values.specs.Words.{words_of};
@@ -61,9 +61,11 @@ pub trait CCompilerImpl {
     fn plusplus(&self) -> bool
         ensures { result ≡ plusplus_of self.now };
 
-    /// A copy of its version, if it is known (docs/RULES.md, Compilers). It fails only for want of memory.
+    /// A copy of its version, if it is known (docs/RULES.md, Compilers). It fails only for want of memory, and where no
+    /// version is known not at all.
     fn version(&self, alloc: Global) -> Mem<Option<String>>
-        ensures { IfOk result (λ version. option_map string_bytes version ≡ version_of self.now) };
+        ensures copy { IfOk result (λ version. option_map string_bytes version ≡ version_of self.now) }
+        ensures none { version_of self.now ≡ None → IsOk result };
 
     /// What the words of a command line, which are handed over, say; the directory and the view answer what they ask of
     /// files. Where they have a record with an output `obj`, its command is read again (docs/RULES.md, Compilers, and
@@ -131,9 +133,11 @@ pub trait CCompilerImpl {
         self.generate_compile_commands_owned(alloc, executable, parsed, cwd, env_vars, view)
     }
 
-    /// A copy of the assembler's digest, if it is known (docs/RULES.md, Compilers). It fails only for want of memory.
+    /// A copy of the assembler's digest, if it is known (docs/RULES.md, Compilers). It fails only for want of memory, and
+    /// where no digest is known not at all.
     fn assembler_digest(&self, alloc: Global) -> Mem<Option<String>>
-        ensures { IfOk result (λ digest. option_map string_bytes digest ≡ digest_of self.now) };
+        ensures copy { IfOk result (λ digest. option_map string_bytes digest ≡ digest_of self.now) }
+        ensures none { digest_of self.now ≡ None → IsOk result };
 
     /// The words of the runs of the preprocessor for a record, in order: for a distant compiler or not, with macros left in
     /// place where that is asked, for a cache of preprocessor runs or not (docs/RULES.md, Preprocessing). It fails only for

@@ -13,8 +13,7 @@ use crate::reasons::EMPTY_VALUE;
 use crate::refusal::{Refusal, argument_parse, cannot_cache};
 use crate::stop::Stop;
 use scl_args::{
-    ArgParseError, Argument, ArgumentValue, CutWords, Mem, Options, ReadArg, SearchableArgInfo,
-    has_empty_value,
+    Argument, ArgumentValue, CutWords, Mem, Options, ReadArg, SearchableArgInfo, has_empty_value,
 };
 use std::alloc::Global;
 
@@ -93,7 +92,7 @@ pub fn judge_all<T: ReadArg, S: SearchableArgInfo<T>, J: Judge<T>>(
         return Err(Stop::Refused(refusal));
     }
     if cut.is_dangling {
-        let refusal = argument_parse(alloc, &ArgParseError::UnexpectedEndOfArgs)?;
+        let refusal = argument_parse(alloc)?;
         return Err(Stop::Refused(refusal));
     }
     Ok(Options::new(cut.options))

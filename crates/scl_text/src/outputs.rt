@@ -1,5 +1,5 @@
 //! The outputs of a compilation, by their names.
-ghost use Rattle.std.specs.Prelude.{◌≡◌, IfOk, OnOk, OnErr};
+ghost use Rattle.std.specs.Prelude.{◌≡◌, false, IfOk, IsOk, None, OnOk, OnErr};
 ghost use Rattle.std.specs.Option.{option_copied};
 ghost use Rattle.std.specs.Bool.{then_some};
 ghost use Rattle.scl_text.specs.Outputs.{path_at, put_optional, put_output};
@@ -40,8 +40,8 @@ pub fn output_path<'a>(
     Some(&outputs.get(name)?.path)
 }
 
-/// Puts an output at its name, if there is a path for it (docs/RULES.md, Records). It fails only for want of memory, and
-/// leaves the outputs as they were.
+/// Puts an output at its name, if there is a path for it, and else does nothing (docs/RULES.md, Records). It fails only for
+/// want of memory, and leaves the outputs as they were.
 pub fn put_optional(
     alloc: Global,
     outputs: &mut BTreeMap<String, ArtifactDescriptor>,
@@ -51,6 +51,7 @@ pub fn put_optional(
 ) -> Mem<()>
     ensures ok { OnOk result (artifacts outputs.new ≡ put_optional (artifacts outputs.old) name.now optional (path_of path)) }
     ensures err { OnErr result (artifacts outputs.new ≡ artifacts outputs.old) }
+    ensures none { path ≡ None → IsOk result }
 {
     match path {
         Some(path) => put_output(alloc, outputs, name, path, optional),
@@ -58,9 +59,10 @@ pub fn put_optional(
     }
 }
 
-/// A copy of the path, if there is one. It fails only for want of memory.
+/// A copy of the path, if there is one. It fails only for want of memory, and where there is no path not at all.
 pub fn copy_path(alloc: Global, path: Option<&[u8]>) -> Mem<Option<Vec<u8>>>
-    ensures { IfOk result (λ copy. path_of copy ≡ option_copied path.entry) }
+    ensures copy { IfOk result (λ copy. path_of copy ≡ option_copied path.entry) }
+    ensures none { path.entry ≡ None → IsOk result }
 {
     match path {
         Some(path) => Ok(Some(Vec::from_slice(alloc, path)?)),
@@ -68,14 +70,15 @@ pub fn copy_path(alloc: Global, path: Option<&[u8]>) -> Mem<Option<Vec<u8>>>
     }
 }
 
-/// The path with this extension, if it is wanted. It fails only for want of memory.
+/// The path with this extension, if it is wanted. It fails only for want of memory, and where it is not wanted not at all.
 pub fn with_extension_if(
     alloc: Global,
     is_wanted: bool,
     path: &[u8],
     extension: &[u8],
 ) -> Mem<Option<Vec<u8>>>
-    ensures { IfOk result (λ whole. path_of whole ≡ then_some is_wanted (with_extension path.now extension.now)) }
+    ensures whole { IfOk result (λ whole. path_of whole ≡ then_some is_wanted (with_extension path.now extension.now)) }
+    ensures none { is_wanted ≡ false → IsOk result }
 {
     if !is_wanted {
         return Ok(None);

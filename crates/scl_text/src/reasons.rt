@@ -9,6 +9,9 @@ pub const EMPTY_VALUE: &str = "empty value";
 /// The words can't be cut.
 pub const ARGUMENT_PARSE: &str = "argument parse";
 
+/// The text beside `ARGUMENT_PARSE`: that of `ArgParseError::UnexpectedEndOfArgs`.
+pub const UNEXPECTED_END: &str = "Unexpected end of args";
+
 /// Several inputs are named.
 pub const MULTIPLE_INPUT_FILES: &str = "multiple input files";
 

@@ -1,17 +1,16 @@
 //! Why a command line is refused.
-ghost use Rattle.std.specs.Prelude.{◌≡◌, Err, IfOk, IsTrue, MatchOption, None, Some, is_some};
+ghost use Rattle.std.specs.Prelude.{◌≡◌, Err, IfOk};
 ghost use Rattle.scl_text.specs.Reasons.{argument_parse};
-ghost use Rattle.scl_text.specs.Records.{CannotCache, outcome_of};
-ghost use Rattle.scl_text.specs.Refusals.{verdict_of, text_of, answer_of, the_input, later_inputs};
-ghost use Rattle.scl_text.specs.Stops.{Gives, IfRefused};
+ghost use Rattle.scl_text.specs.Records.{because, outcome_of};
+ghost use Rattle.scl_text.specs.Refusals.{verdict_of, without_text, answer_of, the_input};
+ghost use Rattle.scl_text.specs.Stops.{Gives};
 ghost use Rattle.scl_values.specs.Words.{words_of};
 
-use crate::reasons::{ARGUMENT_PARSE, MULTIPLE_INPUT_FILES, NO_INPUT_FILE};
+use crate::reasons::{ARGUMENT_PARSE, MULTIPLE_INPUT_FILES, NO_INPUT_FILE, UNEXPECTED_END};
 use crate::records::{CompilerArguments, ParsedArguments};
 use crate::stop::Stop;
 use scl_args::{Mem, quote_list};
 use std::alloc::Global;
-use std::fmt::Display;
 
 /// Why a command line is refused: it can't be cached, with the reason and perhaps a text beside it, or it is no compilation
 /// (docs/RULES.md, Readings).
@@ -37,8 +36,7 @@ impl Refusal {
 
     /// The refusal, without a text beside its reason.
     pub fn without_text(self) -> Refusal
-        ensures verdict { verdict_of result ≡ verdict_of self }
-        ensures text { text_of result ≡ None }
+        ensures { verdict_of result ≡ without_text (verdict_of self) }
     {
         match self {
             Refusal::CannotCache(reason, text) => {
@@ -52,27 +50,24 @@ impl Refusal {
 
 /// The refusal for this reason, without a text beside it.
 pub fn cannot_cache(reason: &'static str) -> Refusal
-    ensures verdict { verdict_of result ≡ CannotCache reason.now }
-    ensures text { text_of result ≡ None }
+    ensures { verdict_of result ≡ because reason.now }
 {
     Refusal::CannotCache(reason, None)
 }
 
-/// The refusal of words that can't be cut, with the error's text beside the reason (docs/RULES.md, Readings). It fails only
-/// for want of memory.
-pub fn argument_parse<E: Display>(alloc: Global, error: &E) -> Mem<Refusal>
-    ensures verdict { IfOk result (λ refusal. verdict_of refusal ≡ argument_parse) }
-    ensures text { IfOk result (λ refusal. MatchOption (E.output error.now) (IsTrue (is_some (text_of refusal))) (λ bytes. text_of refusal ≡ Some bytes)) }
+/// The refusal of words whose last flag lacks its value, with that error's text beside the reason (docs/RULES.md, Readings).
+/// It fails only for want of memory.
+pub fn argument_parse(alloc: Global) -> Mem<Refusal>
+    ensures { IfOk result (λ refusal. verdict_of refusal ≡ argument_parse) }
 {
-    let text = format!(in alloc; "{error}")?;
+    let text = String::from_str(alloc, UNEXPECTED_END)?;
     Ok(Refusal::CannotCache(ARGUMENT_PARSE, Some(text)))
 }
 
 /// The one input; refused where there is none, and where there are several, with the later ones beside the reason
 /// (docs/RULES.md, Readings). It stops only so, or for want of memory.
 pub fn one_input(alloc: Global, inputs: Vec<Vec<u8>>) -> Result<Vec<u8>, Stop>
-    ensures input { Gives (λ input. input.items) result (the_input (words_of inputs.items)) }
-    ensures text { IfRefused result (λ refusal. text_of refusal ≡ later_inputs (words_of inputs.items)) }
+    ensures { Gives (λ input. input.items) result (the_input (words_of inputs.items)) }
 {
     let mut inputs = inputs;
     if let [_, _, ..] = inputs.as_slice() {

@@ -7,7 +7,8 @@ use std::test::Fail;
 static ENTRIES: &str = r#"[
 {"directory": "/w", "file": "a.c", "arguments": ["gcc", "-c", "a.c"]},
 {"directory": "/w", "file": "b.c", "command": "gcc -c @broken b.c"},
-{"directory": "/w", "file": "c.c", "command": "gcc -E c.c"}
+{"directory": "/w", "file": "c.c", "command": "gcc -E c.c"},
+{"directory": "/w", "file": "d.c", "command": "gcc -c d.c -MD -MT one -MT two"}
 ]"#;
 
 fn batch(alloc: Global, only: Option<Kind>) -> Result<Batch, Fail> {
@@ -25,19 +26,58 @@ fn database(alloc: Global, text: &str) -> Result<Result<Database, DatabaseError>
     Ok(Database::of_text(alloc, text.as_bytes())?)
 }
 
-#[test]
-fn entries_of_one_kind_are_written(rt: HostRuntime) -> Result<(), Fail> {
-    let alloc = rt.alloc();
+/// What is written of the entries of each kind.
+static OF_KINDS: [(Kind, &str); 3] = [
+    (Kind::Ok, "entry 1, a.c: can be cached\n"),
+    (
+        Kind::Hazard,
+        "entry 4, d.c: can be cached; hazards: two-targets\n",
+    ),
+    (Kind::Refused, "entry 3, c.c: cannot be cached: -E\n"),
+];
+
+/// What is written behind the entries.
+static SUMMARY: &str = "entries: 4
+can be cached: 2
+with a hazard: 1
+       1  two-targets (entry 4, d.c)
+          The dependency file names the last target alone.
+compile nothing: 0
+cannot be cached: 1
+       1  -E (entry 3, c.c)
+          The flag asks for text, a list or messages in place of an object file; run the command as given.
+files that cannot be read: 1
+      entry 2: a read failed
+";
+
+fn answered(alloc: Global, only: Option<Kind>) -> Result<(String, Counts, Batch), Fail> {
     let database = database(alloc, ENTRIES)?.ok().ok_or("broken")?;
-    let batch = batch(alloc, Some(Kind::Ok))?;
+    let batch = batch(alloc, only)?;
     let mut counts = Counts::new(alloc);
     let mut text = String::new(alloc);
     for value in database.entries() {
         let entry = batch.entry_text(alloc, &disk(alloc)?, &mut counts, value)?;
         text.push_str(entry.as_str())?;
     }
-    assert!(rt; text.as_str() == "entry 1, a.c: can be cached\n");
-    assert!(rt; ending_of_counts(&counts) == Ending::FileFailed);
+    Ok((text, counts, batch))
+}
+
+#[test]
+fn entries_of_one_kind_are_written(rt: HostRuntime) -> Result<(), Fail> {
+    for (kind, written) in OF_KINDS {
+        let (text, counts, _) = answered(rt.alloc(), Some(kind))?;
+        assert!(rt; text.as_str() == written, "{text}");
+        assert!(rt; ending_of_counts(&counts) == Ending::FileFailed);
+    }
+    Ok(())
+}
+
+#[test]
+fn entries_are_counted(rt: HostRuntime) -> Result<(), Fail> {
+    let (text, counts, batch) = answered(rt.alloc(), None)?;
+    assert!(rt; text.as_str().is_empty());
+    let summary = batch.closing_text(rt.alloc(), &counts)?;
+    assert!(rt; summary.as_str() == SUMMARY, "{summary}");
     Ok(())
 }
 

@@ -1,5 +1,5 @@
 //! Clang.
-ghost use Rattle.std.specs.Prelude.{◌≡◌, IfOk, None, false};
+ghost use Rattle.std.specs.Prelude.{◌≡◌, IfOk, IsOk, None, false, true};
 ghost use Rattle.std.specs.Option.{option_copied, option_map};
 ghost use Rattle.std.specs.String.{string_bytes};
 ghost use Rattle.scl_text.specs.Languages.{clang_text};
@@ -57,9 +57,11 @@ impl Clang {
     }
 
     /// Whether the version is at least `major`.0.0: false of Apple's clang, where no version is known, and where its
-    /// text names none (docs/RULES.md, Clang). The error is the refusal of memory.
+    /// text names none (docs/RULES.md, Clang). The error is the refusal of memory; Apple's and an unknown version have none.
     pub fn is_minversion(&self, alloc: Global, major: u64) -> Mem<bool>
-        ensures { IfOk result (λ is_new. is_new ≡ is_minversion self.now.is_appleclang (option_map string_bytes self.now.version) major) }
+        ensures is_new { IfOk result (λ is_new. is_new ≡ is_minversion self.now.is_appleclang (option_map string_bytes self.now.version) major) }
+        ensures apple { self.now.is_appleclang ≡ true → IsOk result }
+        ensures unknown { self.now.version ≡ None → IsOk result }
     {
         if self.is_appleclang {
             return Ok(false);

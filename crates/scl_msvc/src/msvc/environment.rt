@@ -3,7 +3,7 @@ ghost use Rattle.std.specs.Prelude.{◌≡◌, IfOk};
 ghost use Rattle.std.specs.Option.{option_copied, option_map};
 ghost use Rattle.scl_values.specs.Words.{words_of};
 ghost use Rattle.scl_text.specs.Commands.{pairs_of};
-ghost use Rattle.scl_text.specs.Records.{CannotCache};
+ghost use Rattle.scl_text.specs.Records.{because};
 ghost use Rattle.scl_text.specs.Stops.{Gives};
 ghost use Rattle.scl_msvc.specs.Environment.{is_variable, without_cl_env_vars, value_of, gives_words, with_equals, words_in, variable_words, surrounded, surroundings};
 
@@ -95,7 +95,7 @@ fn variable_words(
     value: Option<&[u8]>,
     broken: &'static str,
 ) -> Result<Vec<Vec<u8>>, Stop>
-    ensures { Gives (λ words. words_of words.items) result (variable_words (CannotCache broken.now) (option_copied value.entry)) }
+    ensures { Gives (λ words. words_of words.items) result (variable_words (because broken.now) (option_copied value.entry)) }
 {
     let Some(value) = value else {
         return Ok(Vec::new(alloc));

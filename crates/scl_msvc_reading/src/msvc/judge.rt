@@ -2,7 +2,7 @@
 ghost use Rattle.std.specs.Prelude.{◌≡◌};
 ghost use Rattle.std.specs.Option.{option_map};
 ghost use Rattle.std.specs.Bool.{then_some};
-ghost use Rattle.scl_text.specs.Records.{CannotCache};
+ghost use Rattle.scl_text.specs.Records.{because};
 ghost use Rattle.scl_text.specs.Refusals.{verdict_of};
 ghost use Rattle.scl_msvc_reading.specs.Data.{kind_of, word_of};
 ghost use Rattle.scl_msvc_reading.specs.Verdicts.{flag_verdict, known_verdict, value_verdict};
@@ -17,7 +17,7 @@ use std::alloc::Global;
 
 /// The refusal for this reason, where there is one.
 pub(crate) fn refuse_if(is_refused: bool, reason: &'static str) -> Option<Refusal>
-    ensures { option_map verdict_of result ≡ then_some is_refused (CannotCache reason.now) }
+    ensures { option_map verdict_of result ≡ then_some is_refused (because reason.now) }
 {
     if is_refused {
         Some(cannot_cache(reason))

@@ -2,6 +2,7 @@
 mod descriptions;
 mod devices;
 mod fields;
+mod lengths;
 mod msvc_rows;
 mod outcomes;
 mod read_again;

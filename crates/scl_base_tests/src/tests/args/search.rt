@@ -6,6 +6,7 @@ use scl_args::{ArgRow, ArgumentValue, FlagTable, FlagTree, SearchableArgInfo, Ta
 use scl_gnu::{clang, gcc};
 use std::alloc::Global;
 use std::process::Abort;
+use std::str;
 use std::test::Fail;
 
 type Rows = &'static [ArgRow<Kind>];
@@ -128,6 +129,34 @@ fn the_deepest_row_that_fits_is_found(rt: HostRuntime) -> Result<(), Fail> {
     }
     assert!(rt; tree.search(b"-ac").is_none());
     assert!(rt; tree.search(b"-").is_none());
+    Ok(())
+}
+
+/// The rows of two thousand flags, in the order of their bytes.
+fn many_rows(alloc: Global) -> Result<Vec<ArgRow<Kind>>, Fail> {
+    let mut flags = String::new(alloc);
+    for number in 1000..3000u32 {
+        flags.push_str(format!(in alloc; "-{number}\n")?.as_str())?;
+    }
+    let flags: &'static str = str::from_utf8(flags.into_bytes().leak())
+        .ok()
+        .ok_or("no text")?;
+    let mut rows = Vec::new(alloc);
+    for flag in flags.lines() {
+        rows.push(Flag(flag, Kind::Alone))?;
+    }
+    Ok(rows)
+}
+
+#[test]
+fn a_tree_of_many_rows_finds_each(rt: HostRuntime) -> Result<(), Fail> {
+    let rows = many_rows(rt.alloc())?;
+    let table = FlagTable::<Value>::new(&rows).ok_or("the rows make no table")?;
+    let tree = FlagTree::build(rt.alloc(), &table)?;
+    for row in &rows {
+        assert!(rt; finds(&tree, row.flag(), row.flag()));
+    }
+    assert!(rt; tree.search(b"-3000").is_none());
     Ok(())
 }
 

@@ -1,12 +1,11 @@
 //! What an inner option says against caching.
-ghost use Rattle.std.specs.Prelude.{◌≡◌, IfOk, map};
+ghost use Rattle.std.specs.Prelude.{◌≡◌, IfOk, Some, map};
 ghost use Rattle.std.specs.Option.{option_map};
 ghost use Rattle.scl_args.specs.Options.{last};
 ghost use Rattle.scl_values.specs.Seen.{seen};
 ghost use Rattle.scl_text.specs.Refusals.{verdict_of};
-ghost use Rattle.scl_text.specs.Records.{CannotCache};
 ghost use Rattle.scl_gnu_reading.specs.Data.{kind_of, word_of};
-ghost use Rattle.scl_gnu_reading.specs.Inners.{raw_verdict, takes_raw};
+ghost use Rattle.scl_gnu_reading.specs.Inners.{raw_verdict, takes_raw, text_or_empty, word_refusal};
 
 use super::place::inner_place_of_kind;
 use crate::gcc::data::ArgData;
@@ -16,11 +15,22 @@ use scl_text::Judge;
 use scl_text::refusal::Refusal;
 use std::alloc::Global;
 
+/// The word, or the empty text where it is not UTF-8.
+#[tactic(auto, using(crate::proofs::InnerLemmas::text_rules))]
+fn text_or_empty(word: &[u8]) -> &str
+    ensures { result.now ≡ text_or_empty word.now }
+{
+    match str::from_utf8(word) {
+        Ok(text) => text,
+        Err(_) => "",
+    }
+}
+
 /// The refusal for this reason, with the word beside it, or the empty text where it is not UTF-8.
 fn refuse_word(alloc: Global, reason: &'static str, word: &[u8]) -> Mem<Refusal>
-    ensures { IfOk result (λ refusal. verdict_of refusal ≡ CannotCache reason.now) }
+    ensures { IfOk result (λ refusal. Some (verdict_of refusal) ≡ word_refusal reason.now word.now) }
 {
-    let text = String::from_str(alloc, str::from_utf8(word).unwrap_or(""))?;
+    let text = String::from_str(alloc, text_or_empty(word))?;
     Ok(Refusal::CannotCache(reason, Some(text)))
 }
 
@@ -35,7 +45,7 @@ fn takes_raw(before: &[Argument<ArgData>]) -> bool
 }
 
 fn judge_raw(alloc: Global, is_taken: bool, word: &[u8]) -> Mem<Option<Refusal>>
-    ensures { IfOk result (λ refusal. option_map verdict_of refusal ≡ raw_verdict is_taken) }
+    ensures { IfOk result (λ refusal. option_map verdict_of refusal ≡ raw_verdict is_taken word.now) }
 {
     if is_taken {
         return Ok(None);

@@ -153,6 +153,9 @@ fn other_line(alloc: Global, line: &str) -> Result<String, Fail> {
     let Some((first, second)) = fields.split_once(' ') else {
         return Ok(format!(in alloc; "{line}\n")?);
     };
+    if keyword == "setting" {
+        return Ok(format!(in alloc; "{line}\n")?);
+    }
     Ok(format!(in alloc; "{keyword} {first}\t{second}\n")?)
 }
 

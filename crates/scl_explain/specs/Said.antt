@@ -1,0 +1,41 @@
+-- What is said of a command line on a disk.
+use Rattle.std.specs.Prelude.{◌≡◌, ◌⊎◌, ℕ, Bool, List, []}
+use Rattle.scl_values.specs.Words.{words_of}
+use Rattle.scl_files.specs.Views.{Viewed}
+use Rattle.scl_text.specs.Commands.{pairs_of}
+use Rattle.scl_hazards.specs.declared.hazard.Hazard.{Hazard}
+use Rattle.scl_cl.specs.Requests.{Request, asked}
+use Rattle.scl_cl.specs.Answers.{Answer, answer_to}
+use Rattle.scl_cl.specs.Hazards.{hazards_by}
+use Rattle.scl_explain.specs.Endings.{ending_of}
+use Rattle.scl_explain.specs.Replies.{IsChecked, barring, command_written}
+use Rattle.scl_explain.specs.declared.case.Case.{Case}
+use Rattle.scl_explain.specs.declared.commanded.CommandForm.{CommandForm}
+use Rattle.scl_explain.specs.declared.reply.Form.{Form}
+use Rattle.scl_explain.specs.declared.reply.Reply.{Reply}
+use Rattle.scl_explain.specs.declared.status.Ending.TheVariants as ending
+
+-- what is asked about a command line in a view
+abbrev pub request_of : Case → Viewed → Request
+request_of case view = asked case.compiler (words_of case.words.items) case.cwd.items (pairs_of case.env_vars.items) view
+
+-- in a view the answer is that on each disk of which this holds, and this is said of it and of the hazards there
+pub record IsSaid (holds : Viewed → Type 0) (multiarch : Bool) (case : Case) (says : Answer → List Hazard → Type 0) : Type 0 where
+  pub loaded : Viewed
+  pub same_answer : (held : Viewed) → holds held → held.is_multiarch ≡ multiarch → answer_to (request_of case held) ≡ answer_to (request_of case loaded)
+  pub said : says (answer_to (request_of case loaded)) (hazards_by case.compiler (request_of case loaded))
+
+-- a file can't be read, and nothing is written
+pub record IsUnread (reply : Reply) : Type 0 where
+  pub ending : reply.ending ≡ ending.FileFailed
+  pub output : reply.output.items ≡ []
+
+-- a reply with the command to run, where there is one and no hazard bars it
+pub record IsCommanded (form : CommandForm) (case : Case) (reply : Reply) (answer : Answer) (hazards : List Hazard) : Type 0 where
+  pub ending : reply.ending ≡ ending_of answer (barring form.is_strict hazards)
+  pub output : reply.output.items ≡ command_written form.has_nuls case.program.items answer (barring form.is_strict hazards)
+
+-- a reply with the hazards
+pub record IsCheckedReply (form : Form) (reply : Reply) (answer : Answer) (hazards : List Hazard) : Type 0 where
+  pub ending : reply.ending ≡ ending_of answer hazards
+  pub output : IsChecked form hazards reply.output.items

@@ -1,0 +1,64 @@
+//! The hazards of a command line, alone.
+ghost use Rattle.std.specs.Prelude.{◌⊎◌, IfOk};
+ghost use Rattle.scl_cl.specs.AnswersGiven.{answer_of};
+ghost use Rattle.scl_explain.specs.Replies.{IsChecked};
+ghost use Rattle.scl_explain.specs.Said.{IsCheckedReply, IsSaid, IsUnread};
+
+use crate::answered::{Answered, answer_case};
+use crate::case::Case;
+use crate::hazards::hazards_text;
+use crate::json::check_line;
+use crate::refusal::no_command_line;
+use crate::reply::{Form, Reply, unread};
+use crate::status::Ending;
+use scl_cl::Mem;
+use scl_load::Disk;
+use std::alloc::Global;
+use std::fmt::Display;
+
+/// What is written.
+fn check_bytes(alloc: Global, case: &Case, answered: &Answered, form: Form) -> Mem<Vec<u8>>
+    ensures { IfOk result (λ text. IsChecked form answered.now.hazards.items text.items) }
+{
+    match form {
+        Form::Text(_) => hazards_text(alloc, &answered.hazards),
+        Form::Json => Ok(check_line(alloc, case, answered)?.into_bytes()),
+    }
+}
+
+/// The line of standard error, for a person.
+fn error_line(alloc: Global, answered: &Answered, form: Form) -> Mem<Option<String>> {
+    match form {
+        Form::Text(_) => no_command_line(alloc, answered),
+        Form::Json => Ok(None),
+    }
+}
+
+fn check_reply(alloc: Global, case: &Case, answered: &Answered, form: Form) -> Mem<Reply>
+    ensures { IfOk result (λ reply. IsCheckedReply form reply (answer_of answered.now.answer) answered.now.hazards.items) }
+{
+    Ok(Reply {
+        output: check_bytes(alloc, case, answered, form)?,
+        error: error_line(alloc, answered, form)?,
+        ending: Ending::of_answer(&answered.answer, &answered.hazards),
+    })
+}
+
+/// The hazards of a command line, a line each, or an object for machines. It ends as a hazard where there is one, as the answer
+/// does where there is no command, and as a failed file where one can't be read. It fails only for want of memory.
+pub fn check<D: Disk>(
+    alloc: Global,
+    disk: &D,
+    case: &Case,
+    multiarch: bool,
+    form: Form,
+) -> Mem<Reply>
+where
+    D::Error: Display,
+    ensures { IfOk result (λ reply. IsUnread reply ⊎ IsSaid (D.holds disk.now) multiarch case.now (IsCheckedReply form reply)) }
+{
+    match answer_case(alloc, disk, case, multiarch)? {
+        Ok(answered) => check_reply(alloc, case, &answered, form),
+        Err(error) => unread(alloc, &error),
+    }
+}

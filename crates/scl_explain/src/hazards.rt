@@ -1,0 +1,53 @@
+//! Hazards, for a person.
+ghost use Rattle.std.specs.Prelude.{◌≡◌, ◌++◌, OnOk, IfOk};
+ghost use Rattle.scl_explain.specs.Replies.{hazard_line, hazards_text};
+
+use scl_cl::Mem;
+use scl_hazards::Hazard;
+use std::alloc::Global;
+
+/// Puts the names of hazards behind a text.
+pub(crate) fn push_names(text: &mut String, hazards: &[Hazard]) -> Mem<()> {
+    for (at, hazard) in hazards.iter().enumerate() {
+        let (before, name) = (if at == 0 { "" } else { ", " }, hazard.name());
+        write!(text, "{before}{name}")?;
+    }
+    Ok(())
+}
+
+/// A hazard, and what happens.
+pub(crate) fn hazard_text(alloc: Global, hazard: Hazard) -> Mem<String> {
+    let (name, consequence) = (hazard.name(), hazard.consequence());
+    format!(in alloc; "{name}: {consequence}")
+}
+
+fn push_hazard_line(text: &mut Vec<u8>, hazard: Hazard) -> Mem<()>
+    ensures { OnOk result (text.new.items ≡ text.old.items ++ hazard_line hazard) }
+{
+    text.extend_from_slice(hazard.name().as_bytes())?;
+    text.extend_from_slice(b": ")?;
+    text.extend_from_slice(hazard.consequence().as_bytes())?;
+    text.push(b'\n')?;
+    Ok(())
+}
+
+/// A line for each hazard, with what happens.
+pub(crate) fn hazards_text(alloc: Global, hazards: &[Hazard]) -> Mem<Vec<u8>>
+    ensures { IfOk result (λ text. text.items ≡ hazards_text hazards.now) }
+{
+    let mut text = Vec::new(alloc);
+    for hazard in hazards {
+        push_hazard_line(&mut text, *hazard)?;
+    }
+    Ok(text)
+}
+
+/// That hazards keep a command from being written, if there are some.
+pub(crate) fn hazards_line(alloc: Global, hazards: &[Hazard]) -> Mem<Option<String>> {
+    if hazards.is_empty() {
+        return Ok(None);
+    }
+    let mut text = String::from_str(alloc, "hazards: ")?;
+    push_names(&mut text, hazards)?;
+    Ok(Some(text))
+}

@@ -1,0 +1,36 @@
+//! What an entry of a compile database is.
+ghost use Rattle.std.specs.Prelude.{◌≡◌};
+ghost use Rattle.scl_cl.specs.AnswersGiven.{answer_of};
+ghost use Rattle.scl_explain.specs.Kinds.{kind_of};
+
+use scl_cl::{Cacheable, Compilation, CompilerArguments};
+use scl_hazards::Hazard as Named;
+
+/// What an entry is.
+#[derive(Debug, Clone, Copy, PartialEq, Eq)]
+pub enum Kind {
+    /// It can be cached, and no hazard is named.
+    Ok,
+    /// A hazard is named.
+    Hazard,
+    /// It can't be cached, may not be kept, or compiles nothing.
+    Refused,
+}
+
+impl Kind {
+    /// What an entry with this answer is, of whose command these hazards are named.
+    pub(crate) fn of_answer(answer: &CompilerArguments<Compilation>, hazards: &[Named]) -> Kind
+        ensures { result ≡ kind_of (answer_of answer.now) hazards.now }
+    {
+        match answer {
+            CompilerArguments::Ok(_) if !hazards.is_empty() => Kind::Hazard,
+            CompilerArguments::Ok(compilation) => match compilation.cacheable {
+                Cacheable::Yes => Kind::Ok,
+                Cacheable::No => Kind::Refused,
+            },
+            CompilerArguments::CannotCache(_, _) | CompilerArguments::NotCompilation => {
+                Kind::Refused
+            }
+        }
+    }
+}

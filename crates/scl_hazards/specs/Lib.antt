@@ -1,0 +1,13 @@
+pub mod ClangCl
+pub mod ClangClHazards
+pub mod ClangClRows
+pub mod Conditions
+pub mod GnuHazards
+pub mod GnuRows
+pub mod Groups
+pub mod Hazards
+pub mod Inner
+pub mod Lines
+pub mod Rows
+pub mod Tests
+pub mod Texts

@@ -1,0 +1,26 @@
+//! Hazards: command lines for which gcc, clang or clang-cl do something else with the built command than with the given one.
+#![tactic(auto)]
+
+mod clang_cl;
+mod clang_cl_rows;
+mod compilers;
+mod condition;
+mod delimiter;
+mod driver;
+mod gnu;
+mod gnu_rows;
+mod groups;
+mod hazard;
+mod language;
+mod line;
+mod order;
+mod row;
+mod test;
+mod text;
+
+pub use compilers::HasHazards;
+pub use driver::Driver;
+pub use hazard::{Danger, HAZARDS, Hazard};
+
+#[cfg(test)]
+mod tests;

@@ -1,0 +1,5 @@
+//! Tests of the hazards of command lines.
+#![tactic(auto)]
+
+#[cfg(test)]
+mod tests;
