@@ -13,7 +13,10 @@
  * - malloc, realloc and free are of one allocator, and a block is aligned to each power of two up to 16 that divides its size.
  * - No call is made from a signal handler, or in a forked child of a process with threads.
  *
- * Calls may be made from any thread, and from several at once. */
+ * Calls may be made from any thread, and from several at once.
+ *
+ * Compile with the scl.h of the library that is linked: no struct says its version. The tables of flags are the written ones
+ * (docs/FLAGS.md); tables of one's own are for callers in Rattle. */
 #ifndef SCL_H
 #define SCL_H
 #include <stdbool.h>
@@ -35,13 +38,14 @@ enum scl_status {
 
 /* ---- texts */
 
-/* The request's text (docs/RULES.md, Requests) is answered by the answer's text (Answers), as ccline does. *wanted is the
- * length of the text (SCL_OK, SCL_SHORT), or the number of the bad line (SCL_BAD), or 0. The text has no NUL behind it;
- * the rest of the room, and all of it where the status is not SCL_OK, is as it was. */
+/* The request's text (docs/PROTOCOL.md, A request) is answered by the answer's text (An answer), as ccline does. *wanted is
+ * the length of the text (SCL_OK, SCL_SHORT), or the number of the bad line (SCL_BAD), or 0. The text has no NUL behind it;
+ * the rest of the room, and all of it where the status is not SCL_OK, is as it was. Words have no bound: where others write
+ * the request, its files may name each other and give millions, so call scl_describe, or scl_ask with most_words. */
 int32_t scl_run(const uint8_t *request, size_t request_len, uint8_t *room, size_t room_len, size_t *wanted);
 
-/* The same with a description of the answer (docs/RULES.md, Descriptions), as describe writes it; the request may have lines
- * `setting`. */
+/* The same with a description of the answer (docs/PROTOCOL.md, A description), as describe writes it; the request may have
+ * lines `setting`, and without one words are bounded by 1,000,000. */
 int32_t scl_describe(const uint8_t *request, size_t request_len, uint8_t *room, size_t room_len, size_t *wanted);
 
 /* ---- structs */

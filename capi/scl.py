@@ -101,6 +101,8 @@ def rows(description):
 
 
 def _bytes(it, kept):
+    if not isinstance(it, bytes):
+        raise TypeError(f"wanted are bytes, not {it!r}")
     held = c.create_string_buffer(it, len(it) + 1)
     kept.append(held)
     return Bytes(c.addressof(held), len(it))

@@ -5,6 +5,8 @@ import sys
 
 import scl
 
+if len(sys.argv) < 2:
+    sys.exit(__doc__)
 answer = scl.ask(os.fsencode(sys.argv[1]), [os.fsencode(it) for it in sys.argv[2:]], directory=os.fsencode(os.getcwd()), wants_hazards=True)
 if answer.outcome == scl.COMPILED:
     for word in answer.command:

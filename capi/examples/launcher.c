@@ -1,7 +1,9 @@
 /* launcher PROGRAM WORD..: runs the built command in the place of `PROGRAM WORD..`, where there is one without a hazard, and
  * else the given one. What the answer asks of the disk (response files, directories of profiles, a file of debug information) is looked up,
  * round by round, until nothing that it asks is there. A cache would look up a key of the command and its input before it runs it.
- * cc launcher.c $(pkg-config --cflags --libs scl); CC="./a.out gcc" make */
+ * A program whose name is no served compiler's (cc, x86_64-linux-gnu-gcc) is run with the given words.
+ * cc launcher.c $(pkg-config --cflags --libs scl); CC="./a.out gcc" make
+ * cmake -DCMAKE_C_COMPILER=gcc -DCMAKE_C_COMPILER_LAUNCHER=$PWD/a.out .. */
 #define _POSIX_C_SOURCE 200809L
 #include <stdio.h>
 #include <sys/stat.h>
@@ -26,7 +28,10 @@ static scl_bytes kept(scl_bytes text) {
 /* The path as the C library takes it: at one that holds a NUL there is nothing. */
 static const char *path_of(scl_bytes path) { return memchr(path.at, 0, path.len) ? "" : (const char *)path.at; }
 
+/* Reads a regular file: what a pipe holds is left to the compiler, which may be run with the given words. */
 static int read_file(scl_bytes path, scl_pair *file) {
+    struct stat it;
+    if (stat(path_of(path), &it) || !S_ISREG(it.st_mode)) return 0;
     FILE *in = fopen(path_of(path), "rb");
     if (!in) return 0;
     size_t len = 0, room = 1 << 16, got;

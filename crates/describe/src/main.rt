@@ -2,8 +2,9 @@
 #![tactic(auto)]
 
 use scl_cl::{Counted, ManyDescriptions, Outcome, describe, serve_each};
+use std::env;
+use std::io::{self, ErrorKind};
 use std::process::ExitCode;
-use std::{env, io};
 
 /// What `--help` prints.
 const HELP: &str = "\
@@ -43,6 +44,14 @@ fn call_of(rt: &HostRuntime) -> io::Result<Option<Call>> {
     Ok(if words.next().is_none() { call } else { None })
 }
 
+/// Tells a failure on standard error, and gives the status. Where standard error takes nothing, the status alone tells.
+fn tell(rt: &HostRuntime, outcome: Outcome) -> u8 {
+    if outcome != Outcome::Answered {
+        let _ = eprintln!(rt; "describe: {outcome}");
+    }
+    outcome.status()
+}
+
 /// Describes what standard input asks, and gives the status.
 fn describe_input(rt: &HostRuntime, is_batch: bool) -> u8 {
     let mut reader = Counted::new(rt.stdin());
@@ -55,28 +64,31 @@ fn describe_input(rt: &HostRuntime, is_batch: bool) -> u8 {
     } else {
         describe(rt.alloc(), &mut reader, &mut writer)
     };
-    if outcome != Outcome::Answered {
-        // Where standard error takes nothing, the status alone tells.
-        let _ = eprintln!(rt; "describe: {outcome}");
-    }
-    outcome.status()
+    tell(rt, outcome)
 }
 
-fn main(rt: HostRuntime) -> io::Result<ExitCode> {
-    Ok(ExitCode::from(match call_of(&rt)? {
-        Some(Call::One) => describe_input(&rt, false),
-        Some(Call::Batch) => describe_input(&rt, true),
-        Some(Call::Help) => {
-            print!(&rt; "{HELP}")?;
-            0
-        }
-        Some(Call::Version) => {
-            println!(&rt; "describe 1")?;
-            0
-        }
-        None => {
-            eprintln!(&rt; "describe: no such words; describe --help says which there are")?;
-            64
-        }
-    }))
+/// Says that it was called with other words, and gives the status.
+fn refuse_words(rt: &HostRuntime) -> u8 {
+    let _ = eprintln!(rt; "describe: no such words; describe --help says which there are");
+    64
+}
+
+/// Writes a text, and gives the status.
+fn write_text(rt: &HostRuntime, text: &str) -> u8 {
+    let outcome = match print!(rt; "{text}") {
+        Ok(()) => Outcome::Answered,
+        Err(_) => Outcome::WriteFailed,
+    };
+    tell(rt, outcome)
+}
+
+fn main(rt: HostRuntime) -> ExitCode {
+    ExitCode::from(match call_of(&rt) {
+        Ok(Some(Call::One)) => describe_input(&rt, false),
+        Ok(Some(Call::Batch)) => describe_input(&rt, true),
+        Ok(Some(Call::Help)) => write_text(&rt, HELP),
+        Ok(Some(Call::Version)) => write_text(&rt, "describe 1\n"),
+        Err(error) if error.kind() == ErrorKind::OutOfMemory => tell(&rt, Outcome::OutOfMemory),
+        Ok(None) | Err(_) => refuse_words(&rt),
+    })
 }

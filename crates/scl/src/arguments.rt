@@ -1,13 +1,36 @@
 //! What the system hands to the program, as bytes.
 use crate::fault::Fault;
-use std::alloc::Global;
-use std::env::{self, Env, FillError};
+use std::alloc::{AllocError, Global};
+use std::env::{Env, FillError};
 
-/// Argument `at`, if there is one: read into buffers of 2^8 to 2^22 bytes, which is more than a Linux kernel takes.
-fn argument(rt: &HostRuntime, alloc: Global, at: usize) -> Result<Option<Vec<u8>>, Fault> {
+/// What the system hands over.
+#[derive(Clone, Copy)]
+enum Source<'a> {
+    Argument(usize),
+    Variable(&'a str),
+}
+
+fn fill(rt: &HostRuntime, source: Source<'_>, buffer: &mut [u8]) -> Result<usize, FillError> {
+    match source {
+        Source::Argument(at) => rt.arg(at, buffer),
+        Source::Variable(name) => rt.var(name, buffer),
+    }
+}
+
+fn too_long(alloc: Global, source: Source<'_>) -> Result<Fault, AllocError> {
+    let text = match source {
+        Source::Argument(at) => format!(in alloc; "argument {at} is too long")?,
+        Source::Variable(name) => format!(in alloc; "the variable {name} is too long")?,
+    };
+    Ok(Fault::Input(text))
+}
+
+/// What the system hands over, if it has it: read into buffers of 2^8 to 2^22 bytes, which is more than a Linux kernel takes.
+fn bytes_of(rt: &HostRuntime, source: Source<'_>) -> Result<Option<Vec<u8>>, Fault> {
+    let alloc = rt.alloc();
     for power in 8u32..23 {
         let mut buffer = vec![in alloc; 0u8; 1usize << power]?;
-        match rt.arg(at, &mut buffer) {
+        match fill(rt, source, &mut buffer) {
             Ok(length) => {
                 buffer.truncate(length);
                 return Ok(Some(buffer));
@@ -16,7 +39,7 @@ fn argument(rt: &HostRuntime, alloc: Global, at: usize) -> Result<Option<Vec<u8>
             Err(FillError::TooLong) => {}
         }
     }
-    Err(Fault::Input(format!(in alloc; "argument {at} is too long")?))
+    Err(too_long(alloc, source)?)
 }
 
 /// All arguments behind the program's name.
@@ -24,7 +47,7 @@ pub fn raw_arguments(rt: &HostRuntime) -> Result<Vec<Vec<u8>>, Fault> {
     let alloc = rt.alloc();
     let mut all = Vec::new(alloc);
     for at in 1..usize::MAX {
-        match argument(rt, alloc, at)? {
+        match bytes_of(rt, Source::Argument(at))? {
             Some(word) => all.push(word)?,
             None => break,
         }
@@ -32,11 +55,18 @@ pub fn raw_arguments(rt: &HostRuntime) -> Result<Vec<Vec<u8>>, Fault> {
     Ok(all)
 }
 
+/// How many bytes Linux gives the path of a directory that a program runs in, at most.
+const LONGEST_PATH: usize = 4096;
+
 /// The directory that the program runs in.
 pub fn working_directory(rt: &HostRuntime) -> Result<Vec<u8>, Fault> {
     let alloc = rt.alloc();
-    match env::current_dir(rt) {
-        Ok(path) => Ok(Vec::from_slice(alloc, path.as_str().as_bytes())?),
+    let mut buffer = vec![in alloc; 0u8; LONGEST_PATH]?;
+    match rt.current_dir(&mut buffer) {
+        Ok(length) => {
+            buffer.truncate(length);
+            Ok(buffer)
+        }
         Err(error) => Err(Fault::Input(format!(in alloc; "the working directory: {error}")?)),
     }
 }
@@ -46,9 +76,8 @@ pub fn variables(rt: &HostRuntime) -> Result<Vec<(Vec<u8>, Vec<u8>)>, Fault> {
     let alloc = rt.alloc();
     let mut pairs = Vec::new(alloc);
     for name in ["CL", "_CL_"] {
-        if let Ok(value) = env::var(rt, name) {
-            let key = Vec::from_slice(alloc, name.as_bytes())?;
-            pairs.push((key, Vec::from_slice(alloc, value.as_bytes())?))?;
+        if let Some(value) = bytes_of(rt, Source::Variable(name))? {
+            pairs.push((Vec::from_slice(alloc, name.as_bytes())?, value))?;
         }
     }
     Ok(pairs)

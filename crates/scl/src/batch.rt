@@ -1,7 +1,7 @@
 //! The answers to the entries of a compile database.
 use crate::arguments::{variables, working_directory};
 use crate::disk::SystemDisk;
-use crate::fault::Fault;
+use crate::fault::{Fault, warn};
 use crate::options::DatabaseAsked;
 use crate::progress::Progress;
 use scl_explain::{Batch, Counts, Database, Ending, ending_of_counts};
@@ -17,11 +17,23 @@ fn bytes_of(rt: &HostRuntime, path: &str) -> io::Result<Vec<u8>> {
     fs::read(rt, path)
 }
 
+/// A database's path, as messages name it.
+fn database_name(path: &str) -> &str {
+    match path {
+        "-" => "standard input",
+        "" => "''",
+        _ => path,
+    }
+}
+
 fn read_file(rt: &HostRuntime, path: &str) -> Result<Vec<u8>, Fault> {
     match bytes_of(rt, path) {
         Ok(bytes) => Ok(bytes),
         Err(error) if error.kind() == ErrorKind::OutOfMemory => Err(Fault::Memory),
-        Err(error) => Err(Fault::Input(format!(in rt.alloc(); "{path}: {error}")?)),
+        Err(error) => {
+            let name = database_name(path);
+            Err(Fault::Input(format!(in rt.alloc(); "{name}: {error}")?))
+        }
     }
 }
 
@@ -52,7 +64,11 @@ fn answer_database(rt: &HostRuntime, batch: &Batch, database: &Database) -> Resu
     let text = batch.closing_text(alloc, &counts)?;
     writer.write_all(text.as_bytes()).map_err(Fault::of_output)?;
     writer.flush().map_err(Fault::of_output)?;
-    Ok(ending_of_counts(&counts))
+    let ending = ending_of_counts(&counts);
+    if batch.json && batch.only.is_some() && ending != Ending::Answered {
+        warn(rt, &"entries have no answer; without --only each says why");
+    }
+    Ok(ending)
 }
 
 /// Answers each entry of a database.
@@ -63,7 +79,9 @@ pub fn database(rt: &HostRuntime, asked: &DatabaseAsked) -> Result<Ending, Fault
     let database = match Database::of_text(alloc, &bytes)? {
         Ok(database) => database,
         Err(error) => {
-            eprintln!(rt; "scl: {path}: {error}").map_err(Fault::of_output)?;
+            let name = database_name(path);
+            let line = format!(in alloc; "{name}: {error}")?;
+            warn(rt, &line);
             return Ok(Ending::BadDatabase);
         }
     };

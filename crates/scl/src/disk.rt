@@ -1,5 +1,6 @@
 //! The system's files as a disk.
 use scl_cl::Mem;
+use scl_explain::shown;
 use scl_load::Disk;
 use std::alloc::{AllocError, Global};
 use std::io::{self, ErrorKind};
@@ -22,13 +23,20 @@ pub struct Unreadable {
     reason: String,
 }
 
+/// Whether nothing stands at a path of which this is said, which may be too long or hold a NUL.
 fn is_absent(error: &io::Error) -> bool {
-    matches!(error.kind(), ErrorKind::NotFound | ErrorKind::NotADirectory)
+    matches!(
+        error.kind(),
+        ErrorKind::NotFound
+            | ErrorKind::NotADirectory
+            | ErrorKind::InvalidFilename
+            | ErrorKind::InvalidInput
+    )
 }
 
 fn not_read(alloc: Global, path: &[u8], reason: String) -> Mem<Unreadable> {
     Ok(Unreadable {
-        path: String::from_utf8_lossy(alloc, path)?,
+        path: shown(alloc, path)?,
         reason,
     })
 }

@@ -1,6 +1,7 @@
 //! Why the program does not answer.
 use scl_explain::Ending;
 use std::alloc::{AllocError, AllocFailed};
+use std::fmt::Display;
 use std::io::{self, ErrorKind};
 use thiserror::Error;
 
@@ -35,6 +36,11 @@ impl Fault {
             Fault::Output(error)
         }
     }
+}
+
+/// Tells a line on standard error. Where that takes nothing, the status alone tells.
+pub fn warn<L: Display>(rt: &HostRuntime, line: &L) {
+    let _ = eprintln!(rt; "scl: {line}");
 }
 
 impl From<AllocError> for Fault {

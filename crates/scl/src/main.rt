@@ -12,7 +12,7 @@ mod progress;
 mod texts;
 
 use crate::arguments::raw_arguments;
-use crate::fault::Fault;
+use crate::fault::{Fault, warn};
 use crate::options::{Wanted, read_options};
 use scl_explain::Ending;
 use std::process::ExitCode;
@@ -33,8 +33,7 @@ fn main(rt: HostRuntime) -> ExitCode {
     match run(&rt) {
         Ok(ending) => ExitCode::from(ending.status()),
         Err(fault) => {
-            // Where standard error takes nothing, the status alone tells.
-            let _ = eprintln!(rt; "scl: {fault}");
+            warn(&rt, &fault);
             ExitCode::from(fault.ending().status())
         }
     }

@@ -1,7 +1,7 @@
 //! The answers to one command line.
 use crate::arguments::{variables, working_directory};
 use crate::disk::SystemDisk;
-use crate::fault::Fault;
+use crate::fault::{Fault, warn};
 use crate::options::Asked;
 use scl_cl::path;
 use scl_explain::{
@@ -40,7 +40,7 @@ fn case_of(rt: &HostRuntime, asked: &Asked) -> Result<Option<Case>, Fault> {
     match Case::of_words(alloc, words, asked.compiler, directory, env_vars)? {
         Ok(case) => Ok(Some(case)),
         Err(error) => {
-            eprintln!(rt; "scl: {error}").map_err(Fault::of_output)?;
+            warn(rt, &error);
             Ok(None)
         }
     }
@@ -52,7 +52,7 @@ fn say(rt: &HostRuntime, reply: &Reply) -> Result<Ending, Fault> {
         .write_all(&reply.output)
         .map_err(Fault::of_output)?;
     if let Some(error) = &reply.error {
-        eprintln!(rt; "scl: {error}").map_err(Fault::of_output)?;
+        warn(rt, error);
     }
     Ok(reply.ending)
 }

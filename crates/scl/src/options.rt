@@ -1,11 +1,12 @@
 //! The program's own command line.
-use crate::fault::Fault;
+use crate::fault::{Fault, warn};
 use crate::texts;
 use clap::error::ErrorKind;
 use clap::{Arg, ArgAction, ArgMatches, Command, Error};
 use scl_cl::Compiler;
-use scl_explain::{CommandForm, Ending, Kind};
+use scl_explain::{CommandForm, Ending, EntryKind, shown};
 use std::alloc::{AllocError, Global};
+use std::str;
 
 /// What is asked about one command line.
 #[derive(Drop)]
@@ -36,7 +37,7 @@ pub struct DatabaseAsked {
     /// Whether machines read the answers.
     pub json: bool,
     /// The one kind of entries that is wanted, if not each.
-    pub only: Option<Kind>,
+    pub only: Option<EntryKind>,
 }
 
 /// What the command line asks for.
@@ -155,6 +156,7 @@ fn reasons_command<'a>(alloc: Global) -> Command<'a> {
 fn whole_command<'a>(alloc: Global) -> Result<Command<'a>, AllocError> {
     Command::new(alloc, "scl")
         .about(texts::ABOUT)
+        .version(texts::VERSION)
         .after_help(texts::STATUSES)
         .subcommand_required(true)
         .disable_help_subcommand(true)
@@ -173,6 +175,42 @@ fn shown_words(alloc: Global, arguments: &[Vec<u8>]) -> Result<Vec<String>, Allo
         words.push(String::from_utf8_lossy(alloc, argument)?)?;
     }
     Ok(words)
+}
+
+fn count_of_words(matches: &ArgMatches<'_>) -> usize {
+    matches.get_strs("words").map_or(0, |words| words.len())
+}
+
+/// How many arguments stand before the command line that is asked about.
+fn count_of_own(arguments: &[Vec<u8>], matches: &ArgMatches<'_>) -> usize {
+    let count = match matches.subcommand() {
+        Some((_, inner)) => count_of_words(inner),
+        None => 0,
+    };
+    arguments.len().saturating_sub(count)
+}
+
+/// What is wrong with the arguments, if something is, that were read as text: the program's own are UTF-8, where those of the
+/// command line may be any bytes, and no compiler's name begins as an option.
+fn wrong_argument(
+    alloc: Global,
+    arguments: &[Vec<u8>],
+    matches: &ArgMatches<'_>,
+) -> Result<Option<String>, AllocError> {
+    let own = count_of_own(arguments, matches);
+    for word in arguments.iter().take(own) {
+        if str::from_utf8(word).is_err() {
+            let text = String::from_utf8_lossy(alloc, word)?;
+            return Ok(Some(format!(in alloc; "'{text}' is no UTF-8")?));
+        }
+    }
+    match arguments.get(own) {
+        Some(word) if word.starts_with(b"-") => {
+            let text = String::from_utf8_lossy(alloc, word)?;
+            Ok(Some(format!(in alloc; "'{text}' is neither an option nor a compiler")?))
+        }
+        Some(_) | None => Ok(None),
+    }
 }
 
 /// The last arguments, so many, as they are.
@@ -196,11 +234,11 @@ fn compiler_named(matches: &ArgMatches<'_>) -> Option<Compiler> {
     }
 }
 
-fn kind_named(matches: &ArgMatches<'_>) -> Option<Kind> {
+fn kind_named(matches: &ArgMatches<'_>) -> Option<EntryKind> {
     match matches.get_str("only") {
-        Some("ok") => Some(Kind::Ok),
-        Some("hazard") => Some(Kind::Hazard),
-        Some("refused") => Some(Kind::Refused),
+        Some("ok") => Some(EntryKind::Ok),
+        Some("hazard") => Some(EntryKind::Hazard),
+        Some("refused") => Some(EntryKind::Refused),
         Some(_) | None => None,
     }
 }
@@ -210,7 +248,7 @@ fn asked_words(
     arguments: &[Vec<u8>],
     matches: &ArgMatches<'_>,
 ) -> Result<Asked, AllocError> {
-    let count = matches.get_strs("words").map_or(0, |words| words.len());
+    let count = count_of_words(matches);
     let directory = match matches.get_str("cwd") {
         Some(path) => Some(Vec::from_slice(alloc, path.as_bytes())?),
         None => None,
@@ -254,10 +292,27 @@ fn what_is_wanted(
     }
 }
 
-/// The first line of a mistake's text, behind `error: `.
-fn first_line(text: &str) -> &str {
-    let line = text.lines().next().unwrap_or("wrong words");
-    line.strip_prefix("error: ").unwrap_or(line)
+/// A mistake in one line: what stands behind `error: ` and before the first empty line of its text.
+fn mistake_line(alloc: Global, text: &str) -> Result<String, AllocError> {
+    let mut line = String::new(alloc);
+    for part in text.strip_prefix("error: ").unwrap_or(text).lines() {
+        if part.is_empty() {
+            break;
+        }
+        if !line.is_empty() {
+            line.push(' ')?;
+        }
+        line.push_str(part.trim())?;
+    }
+    Ok(line)
+}
+
+/// Tells what is wrong with the program's own words.
+fn wrong_words(rt: &HostRuntime, what: &str) -> Result<Wanted, AllocError> {
+    let what = shown(rt.alloc(), what.as_bytes())?;
+    let line = format!(in rt.alloc(); "{what} (scl --help says what there is)")?;
+    warn(rt, &line);
+    Ok(Wanted::Done(Ending::Usage))
 }
 
 /// Tells a mistake in one line, and writes help where that was asked for.
@@ -267,9 +322,8 @@ fn tell(rt: &HostRuntime, error: &Error) -> Result<Wanted, Fault> {
     }
     if error.use_stderr() {
         let text = format!(in rt.alloc(); "{error}")?;
-        let line = first_line(text.as_str());
-        eprintln!(rt; "scl: {line} (scl --help says what there is)").map_err(Fault::of_output)?;
-        return Ok(Wanted::Done(Ending::Usage));
+        let line = mistake_line(rt.alloc(), text.as_str())?;
+        return Ok(wrong_words(rt, line.as_str())?);
     }
     error.print(rt).map_err(Fault::of_output)?;
     Ok(Wanted::Done(Ending::Answered))
@@ -284,7 +338,10 @@ pub fn read_options(rt: &HostRuntime, arguments: &[Vec<u8>]) -> Result<Wanted, F
     let alloc = rt.alloc();
     let words = shown_words(alloc, arguments)?;
     match matches_of(alloc, &words) {
-        Ok(matches) => Ok(what_is_wanted(alloc, arguments, &matches)?),
+        Ok(matches) => match wrong_argument(alloc, arguments, &matches)? {
+            Some(what) => Ok(wrong_words(rt, what.as_str())?),
+            None => Ok(what_is_wanted(alloc, arguments, &matches)?),
+        },
         Err(error) => tell(rt, &error),
     }
 }

@@ -1,21 +1,31 @@
 //! The texts of the program's help.
 
+/// The version of sccache whose rules these are.
+pub const VERSION: &str = "0.19.0";
+
+/// What the program is for.
 pub const ABOUT: &str =
     "Understands the command lines of gcc, clang, cl, clang-cl, Diab and TaskingVX";
 
+/// What `explain` does.
 pub const ABOUT_EXPLAIN: &str =
     "Says what a compile command is: what becomes of it, what it reads and writes, and the command to run in its place";
 
+/// What `command` does.
 pub const ABOUT_COMMAND: &str = "Writes the command to run in the place of a compile command";
 
+/// What `check` does.
 pub const ABOUT_CHECK: &str =
     "Names each hazard of a compile command: where the compiler is known to do something else with the command that is built";
 
+/// What `database` does.
 pub const ABOUT_DATABASE: &str = "Answers each entry of a compile database";
 
+/// What `reasons` does.
 pub const ABOUT_REASONS: &str =
     "Lists each reason why a command cannot be cached, and each hazard, with a sentence for people";
 
+/// How the program ends, and which compiler a command line is of.
 pub const STATUSES: &str =
     "Statuses: 0 answered; 2 wrong words; 3 out of memory; 4 a file cannot be read or the answer not be written; 5 the database is broken or has entries that are none (all others are answered); 10 cannot be cached; 11 compiles nothing; 12 a hazard.
 
@@ -24,18 +34,25 @@ Which compiler: by the file name of the first word that is neither a launcher (c
 Example:
     scl explain gcc -c src/foo.c -O2 -Iinclude -MMD -o foo.o";
 
-pub const EXAMPLE_EXPLAIN: &str = "Example:
+/// How `explain` ends, and calls of it.
+pub const EXAMPLE_EXPLAIN: &str = "Ends with status 0 whatever the answer is.
+
+Example:
     scl explain gcc -c src/foo.c -O2 -Iinclude -MMD -o foo.o
     scl explain --json --compiler clang -- /opt/wrapper -c foo.c";
 
+/// How `command` ends, and calls of it.
 pub const EXAMPLE_COMMAND: &str =
     "Ends with status 10 where the outcome cannot be cached, and 11 where nothing is compiled; then no command is written. With --strict none is written where a hazard is named either, and the status is 12: run the command as given.
+
+Words in front of the compiler are left out: run the command in the environment that they make, without CL and _CL_, whose words stand in a command of cl or clang-cl.
 
 Example:
     scl command gcc -c src/foo.c -o foo.o
     scl command --strict gcc -c src/foo.c -o foo.o
     scl command -0 gcc -c src/foo.c | xargs -0 env";
 
+/// What `check` writes, how it ends, and calls of it.
 pub const EXAMPLE_CHECK: &str =
     "Writes a line for each hazard, its name and what happens. Ends with status 12 where there is one, 0 where there is none, 10 where the outcome cannot be cached and 11 where nothing is compiled. Hazards are known of gcc, clang and clang-cl.
 
@@ -43,6 +60,7 @@ Example:
     scl check gcc -c src/foo.c -MD -MT one -MT two -o foo.o
     scl check --json clang -c src/foo.c -o foo.o";
 
+/// What `database` reads and writes, and calls of it.
 pub const EXAMPLE_DATABASE: &str =
     "Each entry has a \"directory\", and \"arguments\" or a \"command\" of shell words. With --json each answer is an object in a line; otherwise a summary is written, with --only behind a line for each entry of that kind.
 

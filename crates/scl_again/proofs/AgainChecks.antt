@@ -9,12 +9,6 @@ use Rattle.scl_again.specs.Checks.{extends, no_flag, is_last, keeps_flags, joins
 use Rattle.scl_tables.proofs.PrefixLemmas.{both, starts-append, starts-longer, starts-length, fits-starts, fits-append}
 use Rattle.scl_args.proofs.OwnerLaws.{AtMost, Below, Wins, owner-wins}
 
-at_most : (m n : ℕ) → (n < m → ⊥) → m ≤ n
-at_most m n h = elim (nat_lt n m) as (λ b. nat_lt n m ≡ b → m ≤ n) [
-  | true ↦ λ e. absurd (h (grind (arith, nat_tests)))
-  | false ↦ λ e. grind (arith, nat_tests)
-] refl
-
 pub implied : (a b : Bool) → (not a || b) ≡ true → a ≡ true → b ≡ true
 implied true b h e = h
 implied false b h e = absurd (cc)

@@ -13,7 +13,7 @@ use Rattle.scl_values.specs.declared.argument.ArgDisposition.TheVariants as how
 use Rattle.scl_values.specs.Row.{Row, Shape, bare, apart, joined, either, joins}
 use Rattle.scl_values.specs.Tables.{owner, owner_in, all_rows}
 use Rattle.scl_values.specs.Cuts.{Cut, raw, unknown, flag, with_value, after_delimiter}
-use Rattle.scl_values.specs.Seen.{Plain, plain, plain_seen, Seen, shown}
+use Rattle.scl_values.specs.Seen.{plain, plain_seen, Seen, shown}
 use Rattle.scl_values.specs.Seen as plain
 use Rattle.scl_again.specs.Reads.{Reads}
 use Rattle.scl_again.specs.Checks.{extends, keeps_flags, joins_safely, is_changing, is_changing_shape, is_joining, is_together}

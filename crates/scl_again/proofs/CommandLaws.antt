@@ -7,7 +7,7 @@ use Rattle.scl_args.specs.Options.{list, side_of_flag}
 use Rattle.scl_values.specs.Row.{Row}
 use Rattle.scl_values.specs.Tables.{owner_in, all_rows}
 use Rattle.scl_values.specs.Cuts.{Cut}
-use Rattle.scl_values.specs.Seen.{Seen, Plain, shown, plain_seen}
+use Rattle.scl_values.specs.Seen.{Plain, shown, plain_seen}
 use Rattle.scl_values.specs.Seen as plain
 use Rattle.scl_again.specs.Checks.{PassChecks, has_no_kept}
 use Rattle.scl_again.specs.Commands.{Inner, Said, CommandList, Parts, handed_words, handed, carried, carried_inner, values_at, raw_words, IsReadAgain}

@@ -7,7 +7,7 @@ use Rattle.scl_args.specs.Options.{is_of, is_raw, last_by, texts}
 use Rattle.scl_values.specs.Row.{Row, Shape, bare, apart, joined, either}
 use Rattle.scl_values.specs.Tables.{owner_in, all_rows}
 use Rattle.scl_values.specs.Cuts.{Cut, raw, unknown, flag, with_value, cut}
-use Rattle.scl_values.specs.Seen.{Seen, Raw, Unknown, Known, shown, flag_of, text_of}
+use Rattle.scl_values.specs.Seen.{Seen, shown, flag_of, text_of}
 use Rattle.scl_values.specs.Seen as plain
 use Rattle.scl_args.proofs.OwnerLaws.{owner_in-is}
 use Rattle.scl_tables.proofs.PrefixLemmas.{both}

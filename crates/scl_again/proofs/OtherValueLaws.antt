@@ -4,7 +4,7 @@ use Rattle.std.specs.List.{list_all}
 use Rattle.scl_values.specs.declared.argument.NormalizedDisposition.{NormalizedDisposition}
 use Rattle.scl_values.specs.Each.{Has}
 use Rattle.scl_args.specs.Options.{is_of}
-use Rattle.scl_values.specs.Row.{Row, Shape, bare, apart, joined, either}
+use Rattle.scl_values.specs.Row.{Row, joined}
 use Rattle.scl_values.specs.Tables.{owner_in, all_rows}
 use Rattle.scl_values.specs.Cuts.{Cut, raw, unknown, flag, with_value}
 use Rattle.scl_values.specs.Seen.{Seen, shown, flag_of}

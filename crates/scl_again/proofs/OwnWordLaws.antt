@@ -5,7 +5,6 @@ use Rattle.std.proofs.lemmas.Slice.Eq.{bytes_eq-Decides}
 use Rattle.std.specs.Str.{bytes_eq}
 use Rattle.scl_values.specs.Cuts.{mark}
 use Rattle.scl_values.specs.Row.{Row, Shape, row, bare, apart, joined, either}
-use Rattle.scl_values.specs.Seen.{Plain}
 use Rattle.scl_values.specs.Seen as plain
 use Rattle.scl_values.specs.Tables.{owner_in}
 use Rattle.scl_again.specs.Origins.{is_mark}

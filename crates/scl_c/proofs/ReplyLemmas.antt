@@ -25,7 +25,7 @@ use Rattle.scl_c.specs.declared.shapes.Asked.{Asked}
 use Rattle.scl_c.specs.declared.shapes.Room.{Room}
 use Rattle.scl_c.specs.declared.shapes.Sizes.{Sizes}
 use Rattle.scl_c.specs.declared.shapes.Told.{Told}
-use Rattle.scl_c.specs.Replies.{Reply, compiled, reply_with, reply_to, reply_of, runs_in, name_of, no_questions, IsReplied, Whole, whole, whole_to}
+use Rattle.scl_c.specs.Replies.{compiled, reply_with, reply_of, runs_in, name_of, no_questions, IsReplied, Whole, whole, whole_to}
 use Rattle.scl_c.specs.Requests.{asked_of, viewed}
 use Rattle.scl_c.specs.Shapes.{texts_of, pairs_in}
 use Rattle.scl_c.specs.Sizes.{AreSizes, Fits, IsShort}

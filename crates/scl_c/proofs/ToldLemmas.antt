@@ -1,11 +1,11 @@
 -- What is told of a reply stays so with the runs and the questions of the whole.
-use Rattle.std.proofs.Common.{◌≡◌, Bor, List}
+use Rattle.std.proofs.Common.{Bor, List}
 use Rattle.scl_c.specs.declared.shapes.Told.{Told}
 use Rattle.scl_c.specs.declared.shapes.Bytes.{Bytes}
 use Rattle.scl_c.specs.declared.shapes.Words.{Words}
 use Rattle.scl_c.specs.declared.shapes.Questions.{Questions}
 use Rattle.scl_c.specs.Replies.{Reply, compiled, cannot_cache, not_compilation}
-use Rattle.scl_c.specs.Told.{TellsReply, IsCommand, IsReason}
+use Rattle.scl_c.specs.Told.{TellsReply}
 
 pub tells_with : (r : Reply) (t : Told) (places : Bor (List Words)) (asked : Questions) (names : Bor (List Bytes)) → TellsReply r t → TellsReply r (record t { runs = places; questions = asked; hazards = names })
 tells_with (compiled words kept environment p) t places asked names h =

@@ -1,8 +1,11 @@
 //! What is asked, answered and told.
 ghost use Rattle.std.specs.Prelude.{◌≡◌, false, true, [], map, if◌then◌else◌, Some, IfOk, MatchResult};
+ghost use Rattle.std.specs.Result.{result_ok};
 ghost use Rattle.scl_values.specs.Words.{words_of};
 ghost use Rattle.scl_text.specs.Commands.{pairs_of};
 ghost use Rattle.scl_text.specs.Runs.{runs_of};
+ghost use Rattle.scl_cl.specs.Answers.{reading_by};
+ghost use Rattle.scl_cl.specs.AnswersGiven.{record_given};
 ghost use Rattle.scl_cl.specs.Compilers.{compiler_named};
 ghost use Rattle.scl_cl.specs.Hazards.{hazards_by};
 ghost use Rattle.scl_cl.specs.QuestionsGiven.{given};
@@ -85,24 +88,25 @@ fn questions_for(
     compiler: Compiler,
     asked: &Asked<'_>,
     line: &Line,
-) -> Mem<Result<Questions, TooManyWords>>
-    ensures { IfOk result (λ said. let request = asking compiler (words_of line.now.words.items) asked.now.directory.now (pairs_of line.now.environment.items) line.now.view in
-        MatchResult said (λ questions. given questions ≡ (if asked.now.wants_questions then questions_of request else no_questions)) (λ _. has_at_most asked.now.most_words request ≡ false)) }
+    answer: &CompilerArguments<Compilation>,
+) -> Mem<Questions>
+    requires { record_given answer.now ≡ result_ok (reading_by compiler (asking compiler (words_of line.now.words.items) asked.now.directory.now (pairs_of line.now.environment.items) line.now.view)) }
+    ensures { IfOk result (λ questions. given questions ≡ (if asked.now.wants_questions then questions_of (asking compiler (words_of line.now.words.items) asked.now.directory.now (pairs_of line.now.environment.items) line.now.view) else no_questions)) }
 {
     if !asked.wants_questions {
-        return Ok(Ok(Questions {
+        return Ok(Questions {
             files: Vec::new(alloc),
             directories: Vec::new(alloc),
             existing: Vec::new(alloc),
-        }));
+        });
     }
-    compiler.open_questions(
+    compiler.questions_of(
         alloc,
+        answer,
         &line.words,
         asked.directory,
         &line.environment,
         &line.view,
-        asked.most_words,
     )
 }
 
@@ -123,14 +127,17 @@ fn hazards_for(
     compiler: Compiler,
     asked: &Asked<'_>,
     line: &Line,
+    answer: &CompilerArguments<Compilation>,
 ) -> Mem<Vec<Vec<u8>>>
+    requires { record_given answer.now ≡ result_ok (reading_by compiler (asking compiler (words_of line.now.words.items) asked.now.directory.now (pairs_of line.now.environment.items) line.now.view)) }
     ensures { IfOk result (λ names. words_of names.items ≡ (if asked.now.wants_hazards then map name_of (hazards_by compiler (asking compiler (words_of line.now.words.items) asked.now.directory.now (pairs_of line.now.environment.items) line.now.view)) else [])) }
 {
     if !asked.wants_hazards {
         return Ok(Vec::new(alloc));
     }
-    let hazards = compiler.hazards(
+    let hazards = compiler.hazards_of(
         alloc,
+        answer,
         &line.words,
         asked.directory,
         &line.environment,
@@ -168,16 +175,14 @@ fn answered(
         &line.view,
     )?;
     let runs = runs_for(alloc, compiler, asked, &answer)?;
-    let hazards = hazards_for(alloc, compiler, asked, &line)?;
-    match questions_for(alloc, compiler, asked, &line)? {
-        Ok(questions) => Ok(Ok(Replied {
-            answer,
-            runs,
-            questions,
-            hazards,
-        })),
-        Err(TooManyWords) => Ok(Err(TooManyWords)),
-    }
+    let questions = questions_for(alloc, compiler, asked, &line, &answer)?;
+    let hazards = hazards_for(alloc, compiler, asked, &line, &answer)?;
+    Ok(Ok(Replied {
+        answer,
+        runs,
+        questions,
+        hazards,
+    }))
 }
 
 /// Tells what is replied, where the memory is long enough.

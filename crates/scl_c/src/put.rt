@@ -3,7 +3,7 @@ ghost use Rattle.std.specs.Prelude.{◌≡◌, ◌+◌, ◌≤◌, [], length};
 ghost use Rattle.std.specs.Option.{option_copied, option_to_list};
 ghost use Rattle.scl_values.specs.Words.{words_of};
 ghost use Rattle.scl_text.specs.Commands.{pairs_of};
-ghost use Rattle.scl_text.specs.Records.{artifacts, path_of};
+ghost use Rattle.scl_text.specs.Records.{artifacts};
 ghost use Rattle.scl_text.specs.Runs.{runs_of};
 ghost use Rattle.scl_c.specs.Shapes.{texts_of, pairs_in, artifacts_in, lists_of};
 ghost use Rattle.scl_c.specs.Sizes.{text_size, texts_size, pairs_size, outputs_size, lists_size, lists_length};

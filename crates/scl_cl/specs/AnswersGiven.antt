@@ -1,5 +1,5 @@
 -- What an answer that the code gives says, by what it keeps of a record and of its command.
-use Rattle.std.specs.Prelude.{◌≡◌, ℕ, List, Result, Ok, string_bytes}
+use Rattle.std.specs.Prelude.{◌≡◌, ℕ, List, Option, None, Some, Result, Ok, string_bytes}
 use Rattle.std.specs.Option.{option_map}
 use Rattle.scl_values.specs.Words.{words_of}
 use Rattle.scl_text.specs.Commands.{Builds}
@@ -56,6 +56,12 @@ HasParts reading executable env_vars cwd = IfKept (λ compilation.
 -- where there is a command, what was read and its words keep the promise
 abbrev pub IfCompiled : (Parsed → List (List ℕ) → Type 0) → CompilerArguments Compilation → Type 0
 IfCompiled promise = IfKept (λ compilation. promise (parsed_of compilation.parsed) (words_of compilation.command.arguments.items))
+
+-- the record that is kept, where there is a command
+abbrev pub record_given : CompilerArguments Compilation → Option Parsed
+record_given (outcomes.Ok compilation) = Some (parsed_of compilation.parsed)
+record_given (outcomes.CannotCache reason text) = None
+record_given outcomes.NotCompilation = None
 
 -- ---- without it
 

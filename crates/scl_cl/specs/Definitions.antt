@@ -9,7 +9,7 @@ use Rattle.scl_cl.specs.declared.compiler.Compiler.{Compiler}
 use Rattle.scl_cl.specs.Requests.{asked}
 use Rattle.scl_cl.specs.Answers.{reading_by, command_by, environment_by, kept_by, read_again_by, runs_with}
 use Rattle.scl_cl.specs.OptionRows.{rows_by}
-use Rattle.scl_cl.specs.Hazards.{hazards_by}
+use Rattle.scl_cl.specs.Hazards.{hazards_with}
 use Rattle.scl_cl.specs.Within.{command_lines_by}
 use Rattle.scl_cl.specs.Questions.{files_by}
 
@@ -29,8 +29,8 @@ pub record Definitions : Type 1 where
   pub runs : (may_dist rewrites cache_mode : Bool) → Parsed → List (List (List ℕ))
   -- what is told of the options of a command line
   pub rows : List (List ℕ) → List ℕ → List (List ℕ × List ℕ) → Viewed → List Told
-  -- the hazards of a command line
-  pub hazards : List (List ℕ) → List ℕ → List (List ℕ × List ℕ) → Viewed → List Hazard
+  -- the hazards of a command line with this record, if it has one
+  pub hazards : List (List ℕ) → List ℕ → List (List ℕ × List ℕ) → Viewed → Option Parsed → List Hazard
   -- the command lines in which response files are put in place, given and inner ones
   pub command_lines : List (List ℕ) → List ℕ → List (List ℕ × List ℕ) → Viewed → List (List (List ℕ))
   -- the response files that they name and the view lacks
@@ -46,7 +46,7 @@ definitions_with version compiler = record {
   is_read_again = λ words directory environment view. read_again_by compiler (asked compiler words directory environment view);
   runs = runs_with version compiler;
   rows = λ words directory environment view. rows_by compiler (asked compiler words directory environment view);
-  hazards = λ words directory environment view. hazards_by compiler (asked compiler words directory environment view);
+  hazards = λ words directory environment view. hazards_with compiler (asked compiler words directory environment view);
   command_lines = λ words directory environment view. command_lines_by compiler (asked compiler words directory environment view);
   files = λ words directory environment view. files_by compiler (asked compiler words directory environment view);
 }

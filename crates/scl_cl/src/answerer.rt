@@ -1,11 +1,12 @@
 //! A compiler that is served, with its trees built: for many command lines.
 ghost use Rattle.std.specs.Prelude.{◌≡◌, true, false, map, IfOk, MatchResult};
+ghost use Rattle.std.specs.Result.{result_ok};
 ghost use Rattle.scl_rows.specs.Rows.{Tells, told};
 ghost use Rattle.scl_values.specs.Words.{words_of};
 ghost use Rattle.scl_text.specs.Commands.{pairs_of};
 ghost use Rattle.scl_cl.specs.Requests.{asked};
 ghost use Rattle.scl_cl.specs.Answers.{Keeps, answer_to, environment_by, reading_by, read_again_by};
-ghost use Rattle.scl_cl.specs.AnswersGiven.{answer_of, command_answer, HasParts, HasCommand, IfCompiled};
+ghost use Rattle.scl_cl.specs.AnswersGiven.{answer_of, command_answer, record_given, HasParts, HasCommand, IfCompiled};
 ghost use Rattle.scl_cl.specs.Definitions.{definitions_of};
 ghost use Rattle.scl_cl.specs.Hazards.{hazards_by};
 ghost use Rattle.scl_cl.specs.OptionRows.{rows_by};
@@ -16,7 +17,7 @@ ghost use Rattle.scl_cl.specs.QuestionsGiven.{given};
 use crate::ask::{Asked, Query};
 use crate::compile::{answer_line, compile_words};
 use crate::compiler::Compiler;
-use crate::hazards::line_hazards;
+use crate::hazards::{answer_hazards, line_hazards};
 use crate::kept::{BuiltCommand, Compilation};
 use crate::lent::Lent;
 use crate::questions::{Questions, all_questions, questions_beside};
@@ -159,6 +160,7 @@ impl Answerer {
         ensures answer { IfOk result (λ answer. answer_of answer ≡ answer_to (asked self.now (words_of words.now) cwd.now (pairs_of env_vars.now) view.now)) }
         ensures parts { IfOk result (λ answer. HasParts (reading_by self.now (asked self.now (words_of words.now) cwd.now (pairs_of env_vars.now) view.now))
             executable.now (environment_by self.now (pairs_of env_vars.now)) cwd.now answer) }
+        ensures record { IfOk result (λ answer. record_given answer ≡ result_ok (reading_by self.now (asked self.now (words_of words.now) cwd.now (pairs_of env_vars.now) view.now))) }
         ensures read_again { IfOk result (λ answer. IfCompiled (read_again_by self.now (asked self.now (words_of words.now) cwd.now (pairs_of env_vars.now) view.now)) answer) }
     {
         answer_line(alloc, self, executable, words, cwd, env_vars, view)
@@ -221,6 +223,22 @@ impl Answerer {
         ensures { IfOk result (λ found. found.items ≡ hazards_by self.now (asked self.now (words_of words.now) cwd.now (pairs_of env_vars.now) view.now)) }
     {
         line_hazards(alloc, self, words, cwd, env_vars, view)
+    }
+
+    /// What `Compiler::hazards_of` gives. It fails only for want of memory.
+    pub fn hazards_of(
+        &self,
+        alloc: Global,
+        answer: &CompilerArguments<Compilation>,
+        words: &[Vec<u8>],
+        cwd: &[u8],
+        env_vars: &[(Vec<u8>, Vec<u8>)],
+        view: &View,
+    ) -> Mem<Vec<Hazard>>
+        requires { record_given answer.now ≡ result_ok (reading_by self.now (asked self.now (words_of words.now) cwd.now (pairs_of env_vars.now) view.now)) }
+        ensures { IfOk result (λ found. found.items ≡ hazards_by self.now (asked self.now (words_of words.now) cwd.now (pairs_of env_vars.now) view.now)) }
+    {
+        answer_hazards(alloc, self, answer, words, cwd, env_vars, view)
     }
 
     /// What `Compiler::rows` gives. It fails only for want of memory.
@@ -286,9 +304,7 @@ impl Answerer {
             return Ok(Err(TooManyWords));
         }
         let answer = self.answer(alloc, executable, words, cwd, env_vars, view)?;
-        let questions = questions_beside(
-            alloc, self, &answer, executable, words, cwd, env_vars, view,
-        )?;
+        let questions = questions_beside(alloc, self, &answer, words, cwd, env_vars, view)?;
         Ok(Ok((answer, questions)))
     }
 }

@@ -1,12 +1,13 @@
 //! The answer to a command line, by its compiler.
 ghost use Rattle.std.specs.Prelude.{◌≡◌, ℕ, List, IfOk, Ok};
+ghost use Rattle.std.specs.Result.{result_ok};
 ghost use Rattle.scl_files.specs.Views.{Viewed};
 ghost use Rattle.scl_text.specs.Records.{parsed_of};
 ghost use Rattle.scl_values.specs.Words.{words_of};
 ghost use Rattle.scl_text.specs.Commands.{pairs_of, command_by};
 ghost use Rattle.scl_cl.specs.Requests.{asked};
 ghost use Rattle.scl_cl.specs.Answers.{Keeps, answer_to, answer_with, environment_by, reading_by, read_again_by};
-ghost use Rattle.scl_cl.specs.AnswersGiven.{answer_by, answer_of, command_answer, HasBuilt, HasKept, HasParts, HasCommand, IfCompiled, IsAnswerBy};
+ghost use Rattle.scl_cl.specs.AnswersGiven.{answer_by, answer_of, command_answer, record_given, HasBuilt, HasKept, HasParts, HasCommand, IfCompiled, IsAnswerBy};
 ghost use Rattle.scl_cl.specs.Definitions.{definitions_of};
 
 use crate::ask::{Asked, Query};
@@ -130,6 +131,7 @@ pub(crate) fn answer_line<A: Asked>(
     ensures answer { IfOk result (λ answer. answer_of answer ≡ answer_to (asked (A.compiler asks.now) (words_of words.now) cwd.now (pairs_of env_vars.now) view.now)) }
     ensures parts { IfOk result (λ answer. HasParts (reading_by (A.compiler asks.now) (asked (A.compiler asks.now) (words_of words.now) cwd.now (pairs_of env_vars.now) view.now))
         executable.now (environment_by (A.compiler asks.now) (pairs_of env_vars.now)) cwd.now answer) }
+    ensures record { IfOk result (λ answer. record_given answer ≡ result_ok (reading_by (A.compiler asks.now) (asked (A.compiler asks.now) (words_of words.now) cwd.now (pairs_of env_vars.now) view.now))) }
     ensures read_again { IfOk result (λ answer. IfCompiled (read_again_by (A.compiler asks.now) (asked (A.compiler asks.now) (words_of words.now) cwd.now (pairs_of env_vars.now) view.now)) answer) }
 {
     let words = copy_words(alloc, words)?;
@@ -152,6 +154,7 @@ impl Compiler {
         ensures answer { IfOk result (λ answer. answer_of answer ≡ answer_to (asked self (words_of words.now) cwd.now (pairs_of env_vars.now) view.now)) }
         ensures parts { IfOk result (λ answer. HasParts (reading_by self (asked self (words_of words.now) cwd.now (pairs_of env_vars.now) view.now))
             executable.now (environment_by self (pairs_of env_vars.now)) cwd.now answer) }
+        ensures record { IfOk result (λ answer. record_given answer ≡ result_ok (reading_by self (asked self (words_of words.now) cwd.now (pairs_of env_vars.now) view.now))) }
         ensures read_again { IfOk result (λ answer. IfCompiled (read_again_by self (asked self (words_of words.now) cwd.now (pairs_of env_vars.now) view.now)) answer) }
     {
         answer_line(alloc, &self, executable, words, cwd, env_vars, view)

@@ -1,12 +1,13 @@
 //! Descriptions: the answer's lines, and behind them rows of what was read.
 ghost use Rattle.std.specs.Prelude.{◌≡◌, ◌≢◌, ◌^◌, ◌+◌, ◌<◌, ◌≤◌, ◌⊎◌, [], ℕ, List, length, map, take, IfOk, IfSome, Ok, Err};
+ghost use Rattle.std.specs.Result.{result_ok};
 ghost use Rattle.std.specs.Io.KnownBytes.{Appends, IsAtEnd};
 ghost use Rattle.scl_devices.specs.Counts.{one_more, many_more};
 ghost use Rattle.scl_rows.specs.Rows.{told};
 ghost use Rattle.scl_cl.specs.Transfers.{Gave};
 ghost use Rattle.scl_cl.specs.Drafts.{asked_by};
 ghost use Rattle.scl_cl.specs.Answers.{answer_to, environment_by, reading_by};
-ghost use Rattle.scl_cl.specs.AnswersGiven.{answer_of, HasParts};
+ghost use Rattle.scl_cl.specs.AnswersGiven.{answer_of, record_given, HasParts};
 ghost use Rattle.scl_cl.specs.Hazards.{hazards_by};
 ghost use Rattle.scl_cl.specs.OptionRows.{rows_by};
 ghost use Rattle.scl_cl.specs.Outcomes.{IsJudged, IsSilent};
@@ -21,7 +22,7 @@ use crate::answerers::Answerers;
 use crate::ask::Asked;
 use crate::compile::answer_line;
 use crate::described::{Findings, description_text, too_many_words};
-use crate::hazards::line_hazards;
+use crate::hazards::answer_hazards;
 use crate::kept::Compilation;
 use crate::outcome::Outcome;
 use crate::questions::{Questions, questions_beside};
@@ -47,6 +48,7 @@ fn request_answer<A: Asked>(
     ensures answer { IfOk result (λ answer. answer_of answer ≡ answer_to (asked_by request.now)) }
     ensures parts { IfOk result (λ answer. HasParts (reading_by request.now.compiler (asked_by request.now)) []
         (environment_by request.now.compiler (asked_by request.now).environment) request.now.directory.items answer) }
+    ensures record { IfOk result (λ answer. record_given answer ≡ result_ok (reading_by request.now.compiler (asked_by request.now))) }
 {
     let Request {
         compiler: _,
@@ -74,8 +76,14 @@ fn request_rows<A: Asked>(alloc: Global, asks: &A, request: &Request) -> Mem<Vec
 }
 
 /// The hazards of a request's command line, of whoever is asked.
-fn request_hazards<A: Asked>(alloc: Global, asks: &A, request: &Request) -> Mem<Vec<Hazard>>
-    requires { A.compiler asks.now ≡ request.now.compiler }
+fn request_hazards<A: Asked>(
+    alloc: Global,
+    asks: &A,
+    request: &Request,
+    answer: &CompilerArguments<Compilation>,
+) -> Mem<Vec<Hazard>>
+    requires compiler { A.compiler asks.now ≡ request.now.compiler }
+    requires record { record_given answer.now ≡ result_ok (reading_by request.now.compiler (asked_by request.now)) }
     ensures { IfOk result (λ hazards. hazards.items ≡ hazards_by request.now.compiler (asked_by request.now)) }
 {
     let Request {
@@ -85,7 +93,7 @@ fn request_hazards<A: Asked>(alloc: Global, asks: &A, request: &Request) -> Mem<
         environment,
         view,
     } = request;
-    line_hazards(alloc, asks, words, directory, environment, view)
+    answer_hazards(alloc, asks, answer, words, directory, environment, view)
 }
 
 /// What the answer to a request asks, of whoever is asked.
@@ -96,9 +104,7 @@ fn request_questions<A: Asked>(
     answer: &CompilerArguments<Compilation>,
 ) -> Mem<Questions>
     requires compiler { A.compiler asks.now ≡ request.now.compiler }
-    requires answer { answer_of answer.now ≡ answer_to (asked_by request.now) }
-    requires parts { HasParts (reading_by request.now.compiler (asked_by request.now)) []
-        (environment_by request.now.compiler (asked_by request.now).environment) request.now.directory.items answer.now }
+    requires record { record_given answer.now ≡ result_ok (reading_by request.now.compiler (asked_by request.now)) }
     ensures { IfOk result (λ questions. given questions ≡ questions_of (asked_by request.now)) }
 {
     let Request {
@@ -108,16 +114,7 @@ fn request_questions<A: Asked>(
         environment,
         view,
     } = request;
-    questions_beside(
-        alloc,
-        asks,
-        answer,
-        b"",
-        words,
-        directory,
-        environment,
-        view,
-    )
+    questions_beside(alloc, asks, answer, words, directory, environment, view)
 }
 
 /// What is described of a request, of whoever is asked.
@@ -127,7 +124,7 @@ fn request_findings<A: Asked>(alloc: Global, asks: &A, request: &Request) -> Mem
 {
     let answer = request_answer(alloc, asks, request)?;
     let rows = request_rows(alloc, asks, request)?;
-    let hazards = request_hazards(alloc, asks, request)?;
+    let hazards = request_hazards(alloc, asks, request, &answer)?;
     let questions = request_questions(alloc, asks, request, &answer)?;
     Ok(Findings {
         answer,

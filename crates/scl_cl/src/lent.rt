@@ -110,14 +110,16 @@ impl<'a, C: HasTrees> HasRows for Lent<'a, C> {
 impl<'a, C: HasTrees> HasHazards for Lent<'a, C> {
     ghost hazards = { λ lent. C.hazards lent.compiler.now };
 
-    fn hazards(
+    fn hazards_of_record(
         &self,
         alloc: Global,
+        parsed: Option<&ParsedArguments>,
         words: &[Vec<u8>],
         cwd: &[u8],
         env_vars: &[(Vec<u8>, Vec<u8>)],
         view: &View,
     ) -> Mem<Vec<Hazard>> {
-        self.compiler.hazards(alloc, words, cwd, env_vars, view)
+        self.compiler
+            .hazards_of_record(alloc, parsed, words, cwd, env_vars, view)
     }
 }

@@ -2,11 +2,12 @@
 ghost use Rattle.std.specs.Prelude.{◌≡◌, ◌++◌, true, false, IfOk, MatchResult, OnOk};
 ghost use Rattle.std.specs.List.{flat_map};
 ghost use Rattle.std.specs.Option.{option_copied};
+ghost use Rattle.std.specs.Result.{result_ok};
 ghost use Rattle.scl_values.specs.Words.{words_of};
 ghost use Rattle.scl_text.specs.Commands.{pairs_of};
 ghost use Rattle.scl_cl.specs.Requests.{asked};
-ghost use Rattle.scl_cl.specs.Answers.{answer_to, environment_by, reading_by};
-ghost use Rattle.scl_cl.specs.AnswersGiven.{answer_of, HasParts};
+ghost use Rattle.scl_cl.specs.Answers.{reading_by};
+ghost use Rattle.scl_cl.specs.AnswersGiven.{record_given};
 ghost use Rattle.scl_cl.specs.Within.{has_at_most};
 ghost use Rattle.scl_cl.specs.Questions.{no_directory, database_asked, questions_of};
 ghost use Rattle.scl_cl.specs.QuestionsGiven.{given, hash_files_given, database_given};
@@ -146,15 +147,12 @@ pub(crate) fn questions_beside<A: Asked>(
     alloc: Global,
     asks: &A,
     answer: &CompilerArguments<Compilation>,
-    executable: &[u8],
     words: &[Vec<u8>],
     cwd: &[u8],
     env_vars: &[(Vec<u8>, Vec<u8>)],
     view: &View,
 ) -> Mem<Questions>
-    requires answer { answer_of answer.now ≡ answer_to (asked (A.compiler asks.now) (words_of words.now) cwd.now (pairs_of env_vars.now) view.now) }
-    requires parts { HasParts (reading_by (A.compiler asks.now) (asked (A.compiler asks.now) (words_of words.now) cwd.now (pairs_of env_vars.now) view.now))
-        executable.now (environment_by (A.compiler asks.now) (pairs_of env_vars.now)) cwd.now answer.now }
+    requires { record_given answer.now ≡ result_ok (reading_by (A.compiler asks.now) (asked (A.compiler asks.now) (words_of words.now) cwd.now (pairs_of env_vars.now) view.now)) }
     ensures { IfOk result (λ questions. given questions ≡ questions_of (asked (A.compiler asks.now) (words_of words.now) cwd.now (pairs_of env_vars.now) view.now)) }
 {
     let query = FilesWanted {
@@ -183,7 +181,7 @@ pub(crate) fn all_questions<A: Asked>(
     ensures { IfOk result (λ questions. given questions ≡ questions_of (asked (A.compiler asks.now) (words_of words.now) cwd.now (pairs_of env_vars.now) view.now)) }
 {
     let answer = answer_line(alloc, asks, b"", words, cwd, env_vars, view)?;
-    questions_beside(alloc, asks, &answer, b"", words, cwd, env_vars, view)
+    questions_beside(alloc, asks, &answer, words, cwd, env_vars, view)
 }
 
 impl Compiler {
@@ -209,5 +207,22 @@ impl Compiler {
         }
         let questions = all_questions(alloc, &self, words, cwd, env_vars, view)?;
         Ok(Ok(questions))
+    }
+
+    /// What a command line of which this is the answer asks, as `open_questions` says it: nothing is read again. It fails only
+    /// for want of memory.
+    pub fn questions_of(
+        self,
+        alloc: Global,
+        answer: &CompilerArguments<Compilation>,
+        words: &[Vec<u8>],
+        cwd: &[u8],
+        env_vars: &[(Vec<u8>, Vec<u8>)],
+        view: &View,
+    ) -> Mem<Questions>
+        requires { record_given answer.now ≡ result_ok (reading_by self (asked self (words_of words.now) cwd.now (pairs_of env_vars.now) view.now)) }
+        ensures { IfOk result (λ questions. given questions ≡ questions_of (asked self (words_of words.now) cwd.now (pairs_of env_vars.now) view.now)) }
+    {
+        questions_beside(alloc, &self, answer, words, cwd, env_vars, view)
     }
 }

@@ -71,7 +71,3 @@ pub one_escape_on : (bytes left behind run rest : List ℕ) (b : ℕ) (all : Opt
 one_escape_on bytes left behind run rest b all is taken whole plain =
     ap (λ more. onto more (field_of rest)) (append_assoc bytes (b ∷ []) run) ∙ sym (onto-more bytes (b ∷ run) (field_of rest))
     ∙ ap (onto bytes) (sym (before-is b run (field_of rest)) ∙ ap (before (Some b)) (sym (field-run run rest plain) ∙ ap field_of (sym whole)) ∙ sym taken) ∙ is
-
--- no byte of the field could be taken
-pub no_byte_on : (bytes left : List ℕ) (all : Option (List ℕ)) → onto bytes (field_of left) ≡ all → field_of left ≡ None → None ≡ all
-no_byte_on bytes left all h k = ap (onto bytes) (sym k) ∙ h

@@ -1,5 +1,5 @@
 -- A record is read back from its rows.
-use Rattle.std.proofs.Common.{◌≡◌, ℕ, Bool, true, false, cond, List, [], ◌∷◌, ◌++◌, map, codes, Option, Some, None, refl, ap, sym, subst, ◌∙◌, append-nil, append_assoc, arith}
+use Rattle.std.proofs.Common.{◌≡◌, ℕ, Bool, true, false, cond, List, [], ◌∷◌, ◌++◌, map, codes, Option, Some, None, refl, ap, sym, ◌∙◌, append-nil, arith}
 use Rattle.std.specs.List.{flat_map, list_any}
 use Rattle.std.specs.Str.{bytes_eq}
 use Rattle.std.specs.Option.{option_to_list}
@@ -10,7 +10,7 @@ use Rattle.scl_text.specs.declared.language.Language.{Language}
 use Rattle.scl_text.specs.declared.records.ColorMode.{ColorMode}
 use Rattle.scl_text.specs.Records.{Artifact, artifact, Parsed}
 use Rattle.scl_description.specs.Laws.{IsBeside, DescriptionReadsBack, DescriptionReadsBackAmong}
-use Rattle.scl_description.specs.Rows.{Entry, yes_rests, entry_rows, rows_of, behind, rests_at, lone, IsRow, row_text, rows_text, entry_text, entries_text}
+use Rattle.scl_description.specs.Rows.{Entry, yes_rests, entry_rows, rows_of, behind, rests_at, lone, row_text, rows_text, entry_text, entries_text}
 use Rattle.scl_description.specs.Lines.{line}
 use Rattle.scl_description.specs.Records.{record_entries, record_names, output_rest, words_back, maybe_back, yes_back, output_back, language_text, language_back, color_text, color_back, record_by, record_in}
 use Rattle.scl_description.proofs.RowLaws.{rows-back}

@@ -1,13 +1,12 @@
 -- Rows that are written are read back.
-use Rattle.std.proofs.Common.{◌≡◌, ℕ, Bool, false, cond, List, [], ◌∷◌, ◌++◌, map, Some, None, refl, ap, sym, ◌∙◌, arith, nat_eq, append_assoc, append-nil, lit<}
-use Rattle.std.specs.List.{flat_map, filter_map, cons_option, onto_first}
+use Rattle.std.proofs.Common.{◌≡◌, ℕ, false, cond, List, [], ◌∷◌, ◌++◌, map, Some, None, refl, ap, ◌∙◌, arith, nat_eq, append-nil}
+use Rattle.std.specs.List.{filter_map, cons_option, onto_first}
 use Rattle.std.proofs.lemmas.Bool.Decides.{nat_tests}
-use Rattle.scl_values.specs.Each.{Each}
 use Rattle.scl_values.specs.Escaped.{escaped}
 use Rattle.scl_description.specs.Fields.{ArePrintable, AreAllBytes}
-use Rattle.scl_description.specs.Lines.{cut_at, line, lines_of}
+use Rattle.scl_description.specs.Lines.{cut_at}
 use Rattle.scl_description.specs.Laws.{RowsReadBack}
-use Rattle.scl_description.specs.Rows.{fields_behind, row_text, rows_text, parts_of, first_and, all_fields, row_of, rows_in, IsRow}
+use Rattle.scl_description.specs.Rows.{fields_behind, row_text, rows_text, parts_of, all_fields, row_of, rows_in, IsRow}
 use Rattle.scl_description.proofs.CutLaws.{cut_at-append}
 use Rattle.scl_description.proofs.WrittenFieldLaws.{escaped-printable, field-escaped, no-feed, lines-line}
 

@@ -1,6 +1,5 @@
 -- A text to which the lines of entries were added, one entry after the other.
 use Rattle.std.proofs.Common.{◌≡◌, ℕ, List, [], ◌∷◌, ◌++◌, ap, sym, ◌∙◌, append-nil, append_assoc}
-use Rattle.std.specs.List.{flat_map}
 use Rattle.std.proofs.lemmas.Grind.{flat_map-append}
 use Rattle.scl_description.specs.Rows.{Entry, entry_text, entries_text}
 

@@ -1,12 +1,12 @@
 -- Fields and lines that are written are read back.
-use Rattle.std.proofs.Common.{◌≡◌, ℕ, ◌+◌, ◌*◌, ◌/◌, ◌%◌, ◌<◌, ◌≤◌, Bool, true, false, cond, List, [], ◌∷◌, ◌++◌, Some, None, refl, ap, sym, ◌∙◌, arith, nat_eq, append_assoc, lit≤, lit<}
+use Rattle.std.proofs.Common.{◌≡◌, ℕ, ◌+◌, ◌*◌, ◌/◌, ◌%◌, ◌<◌, ◌≤◌, Bool, true, false, cond, List, [], ◌∷◌, ◌++◌, Some, None, refl, ap, ◌∙◌, arith, nat_eq, append_assoc, lit≤, lit<}
 use Rattle.std.proofs.lemmas.Bool.Decides.{nat_tests}
 use Rattle.scl_values.specs.Escaped.{is_plain, digit_of, escape, escaped}
 use Rattle.scl_description.specs.Fields.{digit_value, before, field_of, fields_of, two_fields, AreBytes, ArePrintable}
 use Rattle.std.specs.Option.{option_zip}
 use Rattle.scl_description.specs.Lines.{cut_at, with_first, line, lines_of}
 use Rattle.scl_description.proofs.FieldLaws.{field-plain}
-use Rattle.scl_description.proofs.CutLaws.{cut_at-mark, cut_at-append, lines_of-cut}
+use Rattle.scl_description.proofs.CutLaws.{cut_at-mark, lines_of-cut}
 
 pub digit-back : (n : ℕ) → n < 16 → digit_value (digit_of n) ≡ Some n
 digit-back n h = grind (arith, nat_tests)

@@ -8,7 +8,7 @@ use scl_values::shapes::*;
 use scl_values::{ArgInfo, rows};
 
 /// Flags of both compilers without a row that are asked for, as gcc 12.2 and clang 14.0 have them.
-static BOTH: [ArgInfo<OwnFlag>; 33] = rows![
+static BOTH: &[ArgInfo<OwnFlag>] = &rows![
     "--assemble" AssemblyText,
     "--assert" Other EITHER_EQUALS,
     "--define-macro" Other EITHER_EQUALS,
@@ -45,7 +45,7 @@ static BOTH: [ArgInfo<OwnFlag>; 33] = rows![
 ];
 
 /// gcc's flags without a row that are asked for, as gcc 12.2 has them.
-static GCC: [ArgInfo<OwnFlag>; 20] = rows![
+static GCC: &[ArgInfo<OwnFlag>] = &rows![
     "--dump" Other EITHER_EQUALS,
     "--dumpbase" Other EITHER_EQUALS,
     "--dumpbase-ext" Other EITHER_EQUALS,
@@ -69,7 +69,7 @@ static GCC: [ArgInfo<OwnFlag>; 20] = rows![
 ];
 
 /// clang's flags without a row that are asked for, as clang 14.0 has them.
-static CLANG: [ArgInfo<OwnFlag>; 76] = rows![
+static CLANG: &[ArgInfo<OwnFlag>] = &rows![
     "--analyzer-output" Other EITHER_EQUALS,
     "--classpath" Other EITHER_EQUALS,
     "--config" Other EITHER_EQUALS,
@@ -152,19 +152,19 @@ static CLANG: [ArgInfo<OwnFlag>; 76] = rows![
 pub(crate) fn both() -> FlagTable<'static, OwnFlag>
     ensures { result ≡ both_rows }
 {
-    FlagTable::new(&BOTH).unwrap()
+    FlagTable::new(BOTH).unwrap()
 }
 
 #[tactic(auto, unfolding(crate::specs::DriverRows::gcc_rows))]
 pub(crate) fn gcc() -> FlagTable<'static, OwnFlag>
     ensures { result ≡ gcc_rows }
 {
-    FlagTable::new(&GCC).unwrap()
+    FlagTable::new(GCC).unwrap()
 }
 
 #[tactic(auto, unfolding(crate::specs::DriverRows::clang_rows))]
 pub(crate) fn clang() -> FlagTable<'static, OwnFlag>
     ensures { result ≡ clang_rows }
 {
-    FlagTable::new(&CLANG).unwrap()
+    FlagTable::new(CLANG).unwrap()
 }

@@ -15,7 +15,7 @@ use Rattle.scl_files.specs.Expand.{OpenFile, opened}
 use Rattle.scl_files.specs.declared.expand.ExpansionKind.{ExpansionKind}
 use Rattle.scl_files.proofs.FilesLemmas.{bytes_at-inside}
 use Rattle.scl_files.proofs.OpenLemmas.{opened-none, opened-less}
-use Rattle.scl_files.proofs.ExpandLemmas.{no_files}
+use Rattle.scl_files.proofs.ExpandLemmas.{no_files, flat_map-same}
 use Rattle.scl_files.proofs.StepLemmas.{steps-cons}
 use Rattle.scl_files.specs.ExpansionState.{steps}
 use Rattle.scl_driver_texts.specs.InPlace.{with_text, texts_within, texts_in_place, texts_of}
@@ -40,15 +40,7 @@ bytes_at-closed_by kind path files (other ∷ paths) =
 
 pub ruleset closed_rules = (bytes_at-closed_by)
 
-pub closed_by-push : (kind : ExpansionKind) (files : List File) (paths : List (List ℕ)) (path : List ℕ) → closed_by kind files (paths ++ path ∷ []) ≡ files_inside kind path (closed_by kind files paths)
-closed_by-push kind files [] path = refl
-closed_by-push kind files (other ∷ paths) path = closed_by-push kind (files_inside kind other files) paths path
-
 -- ---- the texts of words, one by one
-
-gathered-same : (f g : List ℕ → List (List ℕ)) (words : List (List ℕ)) → ((word : List ℕ) → f word ≡ g word) → flat_map f words ≡ flat_map g words
-gathered-same f g [] h = refl
-gathered-same f g (w ∷ ws) h = rw (h w, gathered-same f g ws h) refl
 
 gathered-none : (f : List ℕ → List (List ℕ)) (words : List (List ℕ)) → ((word : List ℕ) → f word ≡ []) → flat_map f words ≡ []
 gathered-none f [] h = refl
@@ -66,7 +58,7 @@ texts-stable : (n m : ℕ) (kind : ExpansionKind) (directory : List ℕ) (files 
 texts-stable zero m kind directory files words h k = rw (no_files files h) (sym (texts-no_files m kind directory words))
 texts-stable (suc n) zero kind directory files words h k = rw (no_files files k) (texts-no_files (suc n) kind directory words)
 texts-stable (suc n) (suc m) kind directory files words h k =
-    gathered-same _ _ words (λ word. with_text-same files _ _ (opened kind directory files word)
+    flat_map-same _ _ words (λ word. with_text-same files _ _ (opened kind directory files word)
     (λ file e. let less = opened-less kind directory files word file e in texts-stable n m kind directory (files_inside kind file.path files) file.words (omega (arith, less)) (omega (arith, less))))
 
 pub texts-nil : (kind : ExpansionKind) (directory : List ℕ) (files : List File) → texts_in_place kind directory files [] ≡ []
@@ -92,8 +84,6 @@ pointwise-words [] [] = refl
 pointwise-words [] (y ∷ ys) = refl
 pointwise-words (x ∷ xs) [] = refl
 pointwise-words (x ∷ xs) (y ∷ ys) = ap (λ b. pointwise nat_eq x.items y.items && b) (pointwise-words xs ys)
-
-pub ruleset word_rules = (pointwise-words)
 
 -- ---- tasks
 

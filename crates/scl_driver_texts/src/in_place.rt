@@ -3,44 +3,16 @@ ghost use Rattle.std.specs.Prelude.{◌≡◌, ◌++◌, map, reverse, IfOk, OnO
 ghost use Rattle.std.specs.Option.{option_map, option_copied};
 ghost use Rattle.scl_values.specs.Words.{words_of};
 ghost use Rattle.scl_files.specs.Views.{bytes_at};
-ghost use Rattle.scl_files.specs.ResponseFiles.{hides, file_name_in, named};
+ghost use Rattle.scl_files.specs.ResponseFiles.{hides};
 ghost use Rattle.scl_files.specs.Expand.{opened};
 ghost use Rattle.scl_driver_texts.specs.InPlace.{texts_of, texts_in_place};
 ghost use Rattle.scl_driver_texts.specs.Openings.{is_shut, closed_by, opens};
 ghost use Rattle.scl_driver_texts.specs.Gathering.{all_texts, LooksAt};
 
-use crate::rule_words::rule_words;
-use scl_files::path::{join, same_path};
+use scl_files::path::same_path;
+use scl_files::response_file::{arguments, named};
 use scl_files::{ExpansionKind, Mem, View};
 use std::alloc::Global;
-
-/// The name of the file that a word names.
-fn file_name_in(kind: ExpansionKind, word: &[u8]) -> Option<&[u8]>
-    ensures { option_copied result ≡ file_name_in kind word.now }
-{
-    match kind {
-        ExpansionKind::Gnu | ExpansionKind::Msvc => word.strip_prefix(b"@"),
-        ExpansionKind::Diab => {
-            let name = word.strip_prefix(b"-@")?;
-            if matches!(name, [b'E' | b'O' | b'@', ..]) {
-                None
-            } else {
-                Some(name)
-            }
-        }
-    }
-}
-
-/// The path of the file that a word names, from the directory.
-#[tactic(auto, unfolding(scl_files::specs::ResponseFiles::named))]
-fn named(alloc: Global, kind: ExpansionKind, directory: &[u8], word: &[u8]) -> Mem<Option<Vec<u8>>>
-    ensures { IfOk result (λ path. option_map (λ p. p.items) path ≡ named kind directory.now word.now) }
-{
-    match file_name_in(kind, word) {
-        Some(name) => Ok(Some(join(alloc, directory, name)?)),
-        None => Ok(None),
-    }
-}
 
 /// Whether no word opens a file at one path while one is open at the other.
 fn hides(kind: ExpansionKind, other: &[u8], path: &[u8]) -> bool
@@ -106,7 +78,7 @@ fn opened(
     let Some(bytes) = bytes_of(kind, view, paths, &path) else {
         return Ok(None);
     };
-    let Some(words) = rule_words(alloc, kind, bytes)? else {
+    let Some(words) = arguments(alloc, kind, bytes)? else {
         return Ok(None);
     };
     let bytes = Vec::from_slice(alloc, bytes)?;

@@ -5,7 +5,6 @@
 mod gnu_words;
 mod in_place;
 mod otherwise;
-mod rule_words;
 mod splitter;
 mod windows_words;
 mod words;

@@ -5,8 +5,8 @@ ghost use Rattle.scl_driver_texts.specs.Splitters.{are_same, is_otherwise};
 ghost use Rattle.scl_driver_texts.specs.Otherwise.{is_split_otherwise, splits_otherwise};
 
 use crate::in_place::texts_in_place;
-use crate::rule_words::rule_words;
 use crate::splitter::{Splitter, split};
+use scl_files::response_file::arguments;
 use scl_files::{ExpansionKind, Mem, View};
 use std::alloc::Global;
 
@@ -37,7 +37,7 @@ pub fn is_split_otherwise(
 ) -> Mem<bool>
     ensures { IfOk result (λ it_is. it_is ≡ is_split_otherwise splitter kind bytes.now) }
 {
-    match rule_words(alloc, kind, bytes)? {
+    match arguments(alloc, kind, bytes)? {
         Some(words) => is_otherwise(alloc, splitter, bytes, &words),
         None => Ok(false),
     }

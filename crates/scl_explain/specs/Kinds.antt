@@ -3,10 +3,10 @@ use Rattle.std.specs.Prelude.{List, [], ◌∷◌}
 use Rattle.scl_hazards.specs.declared.hazard.Hazard.{Hazard}
 use Rattle.scl_text.specs.declared.records.Cacheable.TheVariants as cacheable
 use Rattle.scl_cl.specs.Answers.{Answer, compiled, cannot_cache, not_compilation}
-use Rattle.scl_explain.specs.declared.kind.Kind.{Kind}
-use Rattle.scl_explain.specs.declared.kind.Kind.TheVariants as kinds
+use Rattle.scl_explain.specs.declared.entry_kind.EntryKind.{EntryKind}
+use Rattle.scl_explain.specs.declared.entry_kind.EntryKind.TheVariants as kinds
 
-abbrev pub kind_of : Answer → List Hazard → Kind
+abbrev pub kind_of : Answer → List Hazard → EntryKind
 kind_of (compiled words kept) (hazard ∷ hazards) = kinds.Hazard
 kind_of (compiled words cacheable.Yes) [] = kinds.Ok
 kind_of (compiled words cacheable.No) [] = kinds.Refused

@@ -1,12 +1,14 @@
 -- What is said of a command line on a disk.
-use Rattle.std.specs.Prelude.{◌≡◌, ◌⊎◌, ℕ, Bool, List, []}
+use Rattle.std.specs.Prelude.{◌≡◌, ℕ, Bool, false, List, [], Option, None, Some}
 use Rattle.scl_values.specs.Words.{words_of}
 use Rattle.scl_files.specs.Views.{Viewed}
 use Rattle.scl_text.specs.Commands.{pairs_of}
+use Rattle.scl_text.specs.Records.{Parsed}
 use Rattle.scl_hazards.specs.declared.hazard.Hazard.{Hazard}
 use Rattle.scl_cl.specs.Requests.{Request, asked}
-use Rattle.scl_cl.specs.Answers.{Answer, answer_to}
+use Rattle.scl_cl.specs.Answers.{Answer, answer_to, runs_by}
 use Rattle.scl_cl.specs.Hazards.{hazards_by}
+use Rattle.scl_cl.specs.declared.compiler.Compiler.{Compiler}
 use Rattle.scl_explain.specs.Endings.{ending_of}
 use Rattle.scl_explain.specs.Replies.{IsChecked, barring, command_written}
 use Rattle.scl_explain.specs.declared.case.Case.{Case}
@@ -18,6 +20,12 @@ use Rattle.scl_explain.specs.declared.status.Ending.TheVariants as ending
 -- what is asked about a command line in a view
 abbrev pub request_of : Case → Viewed → Request
 request_of case view = asked case.compiler (words_of case.words.items) case.cwd.items (pairs_of case.env_vars.items) view
+
+-- the words of the preprocessor's runs for what was read, if a record was: for no distant compiler, with macros replaced, and for
+-- no cache of such runs
+abbrev pub runs_for : Compiler → Option Parsed → List (List (List ℕ))
+runs_for compiler None = []
+runs_for compiler (Some parsed) = runs_by compiler false false false parsed
 
 -- in a view the answer is that on each disk of which this holds, and this is said of it and of the hazards there
 pub record IsSaid (holds : Viewed → Type 0) (multiarch : Bool) (case : Case) (says : Answer → List Hazard → Type 0) : Type 0 where

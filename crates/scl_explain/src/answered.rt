@@ -1,10 +1,12 @@
 //! What a command line is answered, with what its answer asks of a disk.
 ghost use Rattle.std.specs.Prelude.{◌≡◌, IfOk, IfErr};
+ghost use Rattle.std.specs.Result.{result_ok};
 ghost use Rattle.scl_files.specs.Views.{Viewed};
-ghost use Rattle.scl_cl.specs.Answers.{answer_to};
-ghost use Rattle.scl_cl.specs.AnswersGiven.{answer_of};
+ghost use Rattle.scl_text.specs.Runs.{runs_of};
+ghost use Rattle.scl_cl.specs.Answers.{answer_to, reading_by};
+ghost use Rattle.scl_cl.specs.AnswersGiven.{answer_of, record_given};
 ghost use Rattle.scl_cl.specs.Hazards.{hazards_by};
-ghost use Rattle.scl_explain.specs.Said.{request_of};
+ghost use Rattle.scl_explain.specs.Said.{request_of, runs_for};
 ghost use Rattle.scl_load.specs.Loads.{IsDiskError};
 
 use crate::case::Case;
@@ -38,11 +40,13 @@ pub struct Answered {
 }
 
 /// The words of the preprocessor's runs for an answer.
-fn runs_of(
+fn runs_for(
     alloc: Global,
     case: &Case,
     answer: &CompilerArguments<Compilation>,
-) -> Mem<Vec<Vec<Vec<u8>>>> {
+) -> Mem<Vec<Vec<Vec<u8>>>>
+    ensures { IfOk result (λ runs. runs_of runs.items ≡ runs_for case.now.compiler (record_given answer.now)) }
+{
     match answer {
         CompilerArguments::Ok(compilation) => {
             let parsed = &compilation.parsed;
@@ -68,6 +72,7 @@ pub fn answer_case<D: Disk>(
     ensures answer { IfOk result (λ said. IfOk said (λ answered. (held : Viewed) → D.holds disk.now held → held.is_multiarch ≡ multiarch
         → answer_to (request_of case.now held) ≡ answer_of answered.answer)) }
     ensures loaded { IfOk result (λ said. IfOk said (λ answered. answer_to (request_of case.now answered.view) ≡ answer_of answered.answer)) }
+    ensures runs { IfOk result (λ said. IfOk said (λ answered. runs_of answered.runs.items ≡ runs_for case.now.compiler (result_ok (reading_by case.now.compiler (request_of case.now answered.view))))) }
     ensures hazards { IfOk result (λ said. IfOk said (λ answered. answered.hazards.items ≡ hazards_by case.now.compiler (request_of case.now answered.view))) }
     ensures error { IfOk result (λ said. IfErr said (λ error. IsDiskError (D.fails disk.now) error)) }
 {
@@ -95,8 +100,8 @@ pub fn answer_case<D: Disk>(
     };
     let log = logged.into_log();
     let answer = compiler.answer(alloc, program, words, cwd, env_vars, &view)?;
-    let runs = runs_of(alloc, case, &answer)?;
-    let hazards = compiler.hazards(alloc, words, cwd, env_vars, &view)?;
+    let runs = runs_for(alloc, case, &answer)?;
+    let hazards = compiler.hazards_of(alloc, &answer, words, cwd, env_vars, &view)?;
     Ok(Ok(Answered {
         answer,
         runs,

@@ -4,12 +4,13 @@ use crate::case::Case;
 use crate::count::Counts;
 use crate::digest::{entry_line, summary};
 use crate::entry::case_of_entry;
+use crate::entry_kind::EntryKind;
 use crate::json::{answer_line, refused_entry_line};
-use crate::kind::Kind;
 use crate::reply::load_error_text;
 use crate::status::Ending;
 use scl_cl::{Compiler, Mem};
 use scl_load::Disk;
+use scl_text::command::copy_pairs;
 use serde_json::Value;
 use std::alloc::Global;
 use std::fmt::Display;
@@ -28,7 +29,7 @@ pub struct Batch {
     /// Whether machines read the answers.
     pub json: bool,
     /// The one kind of entries that is written, if not each.
-    pub only: Option<Kind>,
+    pub only: Option<EntryKind>,
 }
 
 /// The source that an entry names.
@@ -39,17 +40,8 @@ fn file_of(value: &Value) -> &str {
     }
 }
 
-fn copied(alloc: Global, pairs: &[(Vec<u8>, Vec<u8>)]) -> Mem<Vec<(Vec<u8>, Vec<u8>)>> {
-    let mut copies = Vec::new(alloc);
-    for (key, value) in pairs {
-        let key = Vec::from_slice(alloc, key)?;
-        copies.push((key, Vec::from_slice(alloc, value)?))?;
-    }
-    Ok(copies)
-}
-
 impl Batch {
-    fn is_written(&self, kind: Kind) -> bool {
+    fn is_written(&self, kind: EntryKind) -> bool {
         match self.only {
             Some(only) => only == kind,
             None => self.json,
@@ -122,7 +114,7 @@ impl Batch {
         D::Error: Display,
     {
         let entry = counts.next();
-        let env_vars = copied(alloc, &self.env_vars)?;
+        let env_vars = copy_pairs(alloc, &self.env_vars)?;
         match case_of_entry(alloc, value, self.named, &self.base, env_vars)? {
             Ok(case) => self.case_text(alloc, disk, counts, entry, file_of(value), &case),
             Err(error) => {

@@ -1,9 +1,13 @@
 //! A command line that is asked about.
-ghost use Rattle.std.specs.Prelude.{◌≡◌, IfOk, Some};
-ghost use Rattle.scl_explain.specs.Cases.{compiler_for};
+ghost use Rattle.std.specs.Prelude.{◌≡◌, ◌+◌, ◌<◌, ◌==◌, ◌++◌, IfOk, IfSome, MatchResult, OnOk, Some, length, position};
+ghost use Rattle.scl_values.specs.Words.{words_of};
+ghost use Rattle.scl_text.specs.Commands.{pairs_of};
+ghost use Rattle.scl_explain.specs.Cases.{IsCase, IsDivided, IsNoCase, assigned, assigned_by, compiler_for};
 
+use crate::words::shown;
 use scl_cl::{Compiler, Mem};
 use scl_names::{compiler_of, program_at};
+use scl_shell::quoted_command;
 use std::alloc::Global;
 use thiserror::Error;
 
@@ -28,7 +32,7 @@ pub enum CaseError {
     /// There is no word but launchers and assignments.
     #[error("no word names a compiler")]
     NoProgram,
-    /// The program's name is not known.
+    /// The program's name is not known; it is quoted for a shell.
     #[error("{0} is no compiler by its name; --compiler NAME says which one it is")]
     UnknownCompiler(String),
 }
@@ -42,32 +46,52 @@ struct Divided {
 }
 
 /// The words before the program, the program, and those behind it.
-fn divide(alloc: Global, all: Vec<Vec<u8>>, at: usize) -> Mem<Divided> {
-    let mut divided = Divided {
-        front: Vec::new(alloc),
-        program: Vec::new(alloc),
-        words: Vec::new(alloc),
-    };
-    for (index, word) in all.into_iter().enumerate() {
-        if index < at {
-            divided.front.push(word)?;
-        } else if index == at {
-            divided.program = word;
-        } else {
-            divided.words.push(word)?;
-        }
-    }
-    Ok(divided)
+#[tactic(auto, using(crate::proofs::CaseLemmas::divided_rules))]
+fn divide(mut all: Vec<Vec<u8>>, at: usize) -> Mem<Divided>
+    requires { at < length all.items }
+    ensures { IfOk result (λ divided. IsDivided (words_of all.items) at divided) }
+{
+    let mut words = all.split_off(at)?;
+    let program = words.remove(0);
+    Ok(Divided {
+        front: all,
+        program,
+        words,
+    })
+}
+
+fn equals_at(word: &[u8]) -> Option<usize>
+    ensures at { result ≡ position (λ byte. byte == 61) word.now }
+    ensures within { IfSome result (λ at. at < length word.now) }
+{
+    word.iter().position(|byte| *byte == b'=')
 }
 
 /// Puts the variable that a word assigns, if it assigns one, behind others.
-fn push_assigned(alloc: Global, env_vars: &mut Vec<(Vec<u8>, Vec<u8>)>, word: &[u8]) -> Mem<()> {
-    if let Some(at) = word.iter().position(|byte| *byte == b'=') {
+fn push_assigned(alloc: Global, env_vars: &mut Vec<(Vec<u8>, Vec<u8>)>, word: &[u8]) -> Mem<()>
+    ensures { OnOk result (pairs_of env_vars.new.items ≡ pairs_of env_vars.old.items ++ assigned_by word.now) }
+{
+    if let Some(at) = equals_at(word) {
         let key = Vec::from_slice(alloc, &word[..at])?;
         let value = Vec::from_slice(alloc, &word[at + 1..])?;
         env_vars.push((key, value))?;
     }
     Ok(())
+}
+
+/// Variables, with those that words assign behind them.
+fn with_assigned(
+    alloc: Global,
+    env_vars: Vec<(Vec<u8>, Vec<u8>)>,
+    words: &[Vec<u8>],
+) -> Mem<Vec<(Vec<u8>, Vec<u8>)>>
+    ensures { IfOk result (λ all. pairs_of all.items ≡ pairs_of env_vars.items ++ assigned (words_of words.now)) }
+{
+    let mut all = env_vars;
+    for word in words {
+        push_assigned(alloc, &mut all, word)?;
+    }
+    Ok(all)
 }
 
 fn compiler_for(alloc: Global, named: Option<Compiler>, program: &[u8]) -> Mem<Option<Compiler>>
@@ -79,9 +103,10 @@ fn compiler_for(alloc: Global, named: Option<Compiler>, program: &[u8]) -> Mem<O
     }
 }
 
-fn unknown(alloc: Global, program: &[u8]) -> Mem<CaseError> {
-    let program = String::from_utf8_lossy(alloc, program)?;
-    Ok(CaseError::UnknownCompiler(program))
+/// A program, quoted for a shell, as a person reads it.
+fn quoted(alloc: Global, program: &[u8]) -> Mem<String> {
+    let text = quoted_command(alloc, program, &[])?;
+    shown(alloc, &text)
 }
 
 impl Case {
@@ -89,13 +114,16 @@ impl Case {
     /// variables that are assigned come behind `env_vars`. It is `named`'s, where a compiler is named, and else that of the
     /// compiler that the program's name names; `UnknownCompiler` where it names none, `NoProgram` where no word may be a program.
     /// The outer error is the refusal of memory.
+    #[tactic(auto, using(crate::proofs::CaseLemmas::program_inside))]
     pub fn of_words(
         alloc: Global,
         all: Vec<Vec<u8>>,
         named: Option<Compiler>,
         cwd: Vec<u8>,
         env_vars: Vec<(Vec<u8>, Vec<u8>)>,
-    ) -> Mem<Result<Case, CaseError>> {
+    ) -> Mem<Result<Case, CaseError>>
+        ensures { IfOk result (λ said. MatchResult said (IsCase (words_of all.items) named cwd.items (pairs_of env_vars.items)) (IsNoCase (words_of all.items) named)) }
+    {
         let Some(at) = program_at(alloc, &all)? else {
             return Ok(Err(CaseError::NoProgram));
         };
@@ -103,14 +131,11 @@ impl Case {
             front,
             program,
             words,
-        } = divide(alloc, all, at)?;
+        } = divide(all, at)?;
         let Some(compiler) = compiler_for(alloc, named, &program)? else {
-            return Ok(Err(unknown(alloc, &program)?));
+            return Ok(Err(CaseError::UnknownCompiler(quoted(alloc, &program)?)));
         };
-        let mut env_vars = env_vars;
-        for word in &front {
-            push_assigned(alloc, &mut env_vars, word)?;
-        }
+        let env_vars = with_assigned(alloc, env_vars, &front)?;
         Ok(Ok(Case {
             compiler,
             program,

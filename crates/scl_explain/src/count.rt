@@ -4,7 +4,7 @@ ghost use Rattle.scl_cl.specs.AnswersGiven.{answer_of};
 ghost use Rattle.scl_explain.specs.Kinds.{kind_of};
 
 use crate::answered::Answered;
-use crate::kind::Kind;
+use crate::entry_kind::EntryKind;
 use scl_cl::{Cacheable, Compilation, CompilerArguments, Mem, path};
 use scl_hazards::Hazard;
 use std::alloc::Global;
@@ -152,12 +152,18 @@ impl Counts {
     }
 
     /// Counts an entry that is answered, of a source `file`; what it is.
-    pub fn count(&mut self, alloc: Global, entry: u64, file: &str, answered: &Answered) -> Mem<Kind>
+    pub fn count(
+        &mut self,
+        alloc: Global,
+        entry: u64,
+        file: &str,
+        answered: &Answered,
+    ) -> Mem<EntryKind>
         ensures { IfOk result (λ kind. kind ≡ kind_of (answer_of answered.now.answer) answered.now.hazards.items) }
     {
         self.count_missing(alloc, entry, file, &answered.missing_files)?;
         self.count_answer(alloc, entry, file, answered)?;
-        Ok(Kind::of_answer(&answered.answer, &answered.hazards))
+        Ok(EntryKind::of_answer(&answered.answer, &answered.hazards))
     }
 
     /// Counts an entry that is none.

@@ -8,14 +8,25 @@ use thiserror::Error;
 /// Why a text is no compile database.
 #[derive(Debug, Clone, Copy, Drop, Error)]
 pub enum DatabaseError {
-    /// It is no JSON: near which place that shows, and in which entry.
-    #[error("near line {line} column {column}, in entry {entry}: the text is no JSON")]
+    /// It is empty.
+    #[error("the text is empty")]
+    Empty,
+    /// It is no JSON: near which place that shows, before any entry.
+    #[error("near line {line} column {column}: the text is no JSON")]
     NoJson {
         /// The line, the first being 1.
         line: usize,
         /// The column, the first being 1.
         column: usize,
-        /// The entry, the first being 1; 0 before any.
+    },
+    /// It is no JSON: near which place that shows, and in which entry.
+    #[error("near line {line} column {column}, in entry {entry}: the text is no JSON")]
+    NoEntry {
+        /// The line, the first being 1.
+        line: usize,
+        /// The column, the first being 1.
+        column: usize,
+        /// The entry, the first being 1.
         entry: u64,
     },
     /// It is no array.
@@ -25,10 +36,14 @@ pub enum DatabaseError {
 
 fn no_json(text: &[u8], error: &JsonError) -> DatabaseError {
     let (line, column) = (error.line(), error.column());
-    DatabaseError::NoJson {
-        line,
-        column,
-        entry: entry_at(text, line, column),
+    match entry_at(text, line, column) {
+        _ if text.is_empty() => DatabaseError::Empty,
+        0 => DatabaseError::NoJson { line, column },
+        entry => DatabaseError::NoEntry {
+            line,
+            column,
+            entry,
+        },
     }
 }
 

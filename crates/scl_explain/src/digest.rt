@@ -52,7 +52,7 @@ fn push_reasons(text: &mut String, reasons: &BTreeMap<String, Met>) -> Mem<()> {
 fn push_hazards(text: &mut String, counts: &Counts) -> Mem<()> {
     let hazardous = counts.hazardous;
     write!(text, "with a hazard: {hazardous}\n")?;
-    for hazard in HAZARDS {
+    for &hazard in HAZARDS {
         if let Some(met) = counts.hazards.get(hazard.name()) {
             push_met(text, hazard.name(), met)?;
             let consequence = hazard.consequence();
@@ -178,8 +178,8 @@ pub fn entry_line(alloc: Global, entry: u64, file: &str, answered: &Answered) ->
             push_named(&mut text, &answered.hazards)?;
         }
         CompilerArguments::CannotCache(reason, more) => {
-            let more = more.as_ref().map(|more| more.as_str());
-            let refusal = refusal_text(alloc, reason, more, &answered.missing_files)?;
+            let missing = &answered.missing_files;
+            let refusal = refusal_text(alloc, reason, more.as_deref(), missing)?;
             text.push_str(refusal.as_str())?;
         }
         CompilerArguments::NotCompilation => text.push_str("compiles nothing")?,

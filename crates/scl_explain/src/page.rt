@@ -78,8 +78,8 @@ fn push_outcome(page: &mut Page, answered: &Answered) -> Mem<()> {
             page.outcome(colour, cached_text(cacheable))
         }
         CompilerArguments::CannotCache(reason, more) => {
-            let more = more.as_ref().map(|more| more.as_str());
-            let text = refusal_text(page.alloc, reason, more, &answered.missing_files)?;
+            let missing = &answered.missing_files;
+            let text = refusal_text(page.alloc, reason, more.as_deref(), missing)?;
             page.outcome(bad, text.as_str())?;
             page.line("because", sentence(reason))
         }
@@ -97,7 +97,7 @@ fn push_files(page: &mut Page, answered: &Answered) -> Mem<()> {
     page.paths(
         "response file",
         &answered.missing_files,
-        " (it is not there)",
+        " (no file is there)",
     )
 }
 

@@ -36,7 +36,7 @@ pub fn reasons_text(alloc: Global) -> Mem<String> {
         push_explanation(&mut text, explanation)?;
     }
     text.push_str("\nHazards of built commands, with what differs:\n")?;
-    for hazard in HAZARDS {
+    for &hazard in HAZARDS {
         push_hazard(&mut text, hazard)?;
     }
     Ok(text)

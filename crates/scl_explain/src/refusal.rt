@@ -6,12 +6,11 @@ use scl_reasons::sentence;
 use scl_text::reasons::UNEXPANDED_FILE;
 use std::alloc::Global;
 
-/// Says of each path that nothing is there.
+/// Says of each path that no file is there.
 fn push_missing(alloc: Global, text: &mut String, paths: &[Vec<u8>]) -> Mem<()> {
     for path in paths {
-        text.push_str(": ")?;
+        text.push_str(": no file at ")?;
         push_shown(alloc, text, path)?;
-        text.push_str(" is not there")?;
     }
     Ok(())
 }
@@ -47,8 +46,8 @@ pub(crate) fn no_command_line(alloc: Global, answered: &Answered) -> Mem<Option<
     match &answered.answer {
         CompilerArguments::Ok(_) => Ok(None),
         CompilerArguments::CannotCache(reason, more) => {
-            let more = more.as_ref().map(|more| more.as_str());
-            let mut text = refusal_text(alloc, reason, more, &answered.missing_files)?;
+            let missing = &answered.missing_files;
+            let mut text = refusal_text(alloc, reason, more.as_deref(), missing)?;
             let sentence = sentence(reason);
             write!(text, ": {sentence}")?;
             Ok(Some(text))

@@ -52,8 +52,7 @@ pub fn command_text(
     }
 }
 
-/// Puts bytes behind a text as a person reads them: what is no UTF-8 as its replacement, control characters as `\x` and their
-/// code.
+/// Puts bytes behind a text as a person reads them (`shown`).
 pub(crate) fn push_shown(alloc: Global, text: &mut String, bytes: &[u8]) -> Mem<()> {
     let shown = String::from_utf8_lossy(alloc, bytes)?;
     for c in shown.as_str().chars() {
@@ -66,8 +65,9 @@ pub(crate) fn push_shown(alloc: Global, text: &mut String, bytes: &[u8]) -> Mem<
     Ok(())
 }
 
-/// Bytes as a person reads them.
-pub(crate) fn shown(alloc: Global, bytes: &[u8]) -> Mem<String> {
+/// Bytes as a person reads them: what is no UTF-8 as its replacement, control characters as `\x` and their code. It fails only
+/// for want of memory.
+pub fn shown(alloc: Global, bytes: &[u8]) -> Mem<String> {
     let mut text = String::new(alloc);
     push_shown(alloc, &mut text, bytes)?;
     Ok(text)

@@ -11,7 +11,7 @@ pub no_files : (files : List File) → length files ≤ 0 → files ≡ []
 no_files [] h = refl
 no_files (f ∷ fs) h = absurd (omega arith)
 
-flat_map-same : (f g : List ℕ → List (List ℕ)) (words : List (List ℕ)) → ((word : List ℕ) → f word ≡ g word) → flat_map f words ≡ flat_map g words
+pub flat_map-same : (f g : List ℕ → List (List ℕ)) (words : List (List ℕ)) → ((word : List ℕ) → f word ≡ g word) → flat_map f words ≡ flat_map g words
 flat_map-same f g [] h = refl
 flat_map-same f g (w ∷ ws) h = rw (h w, flat_map-same f g ws h) refl
 

@@ -7,12 +7,12 @@ use Rattle.std.proofs.lemmas.Bool.Decides.{nat_tests}
 use Rattle.std.proofs.lemmas.List.{get_or-append_right}
 use Rattle.std.proofs.lemmas.List.Sums.{suffix_len_is}
 use Rattle.std.specs.Str.{bytes_eq}
-use Rattle.std.proofs.lemmas.Bool.{false≢true, cases_Bool}
+use Rattle.std.proofs.lemmas.Bool.{false≢true, cases_Bool, and_parts}
 use Rattle.std.proofs.lemmas.List.{append_assoc, append-nil, length-append}
 use Rattle.std.specs.Option.{option_map, option_and_then}
 use Rattle.std.specs.List.{slice_split, last_or, onto_first, list_all, before_last, after_last, suffix_len}
 use Rattle.scl_files.specs.Paths.{is_slash, is_dot, is_one_part, is_file_name, is_name, is_plain_extension, Place, placed, places, places_after, unless_parent, file_place, file_name, stem_of_name, extension_of_name, extended_name, extended_at, extension}
-use Rattle.scl_files.proofs.PathLaws.{AllParts, slashed, both, negated, file_place-slashed}
+use Rattle.scl_files.proofs.PathLaws.{AllParts, slashed, negated, file_place-slashed}
 
 onto_first-parts : (x : ℕ) (parts : List (List ℕ)) → AllParts parts → is_slash x ≡ false → AllParts (onto_first x parts)
 onto_first-parts x [] a other = (rw other refl, tt)
@@ -95,11 +95,11 @@ file_place-stands path place h = elim (last_stands [] (slice_split is_slash path
 one_part-take : (part : List ℕ) (n : ℕ) → is_one_part part ≡ true → is_one_part (take n part) ≡ true
 one_part-take part zero h = refl
 one_part-take [] (suc n) h = refl
-one_part-take (x ∷ xs) (suc n) h = let parts = both (not (is_slash x)) (is_one_part xs) h in rw (parts.0) (one_part-take xs n parts.1)
+one_part-take (x ∷ xs) (suc n) h = let parts = and_parts (not (is_slash x)) (is_one_part xs) h in rw (parts.0) (one_part-take xs n parts.1)
 
 one_part-append : (a b : List ℕ) → is_one_part a ≡ true → is_one_part b ≡ true → is_one_part (a ++ b) ≡ true
 one_part-append [] b h k = k
-one_part-append (x ∷ xs) b h k = let parts = both (not (is_slash x)) (is_one_part xs) h in rw (parts.0) (one_part-append xs b parts.1 k)
+one_part-append (x ∷ xs) b h k = let parts = and_parts (not (is_slash x)) (is_one_part xs) h in rw (parts.0) (one_part-append xs b parts.1 k)
 
 stem-one : (name : List ℕ) → is_one_part name ≡ true → is_one_part (stem_of_name name) ≡ true
 stem-one name h = elim (length (before_last is_dot name) == 0) as (λ b. is_one_part (if b then name else before_last is_dot name) ≡ true) [
@@ -133,8 +133,8 @@ is_file_name-extended stem e one full e_one e_full =
 
 passes_at : (bytes : List ℕ) (i : ℕ) → list_all (λ byte. not (is_dot byte)) bytes ≡ true → i < length bytes → not (is_dot (get_or bytes i 0)) ≡ true
 passes_at [] i h l = absurd (omega arith)
-passes_at (x ∷ xs) zero h l = (both (not (is_dot x)) (list_all (λ byte. not (is_dot byte)) xs) h).0
-passes_at (x ∷ xs) (suc i) h l = passes_at xs i (both (not (is_dot x)) (list_all (λ byte. not (is_dot byte)) xs) h).1 (omega arith)
+passes_at (x ∷ xs) zero h l = (and_parts (not (is_dot x)) (list_all (λ byte. not (is_dot byte)) xs) h).0
+passes_at (x ∷ xs) (suc i) h l = passes_at xs i (and_parts (not (is_dot x)) (list_all (λ byte. not (is_dot byte)) xs) h).1 (omega arith)
 
 behind_dot : (stem e : List ℕ) (k : ℕ) → list_all (λ byte. not (is_dot byte)) e ≡ true → length stem + 1 ≤ k → k < length (stem ++ 46 ∷ e) → not (is_dot (get_or (stem ++ 46 ∷ e) k 0)) ≡ true
 behind_dot stem e k h l m =
@@ -188,8 +188,8 @@ record IsPlain (e : List ℕ) : Type 0 where
 
 plain : (e : List ℕ) → is_plain_extension e ≡ true → IsPlain e
 plain e h =
-    let some = both (not (length e == 0)) (is_one_part e && list_all (λ byte. not (is_dot byte)) e) h in
-    let rest = both (is_one_part e) (list_all (λ byte. not (is_dot byte)) e) some.1 in
+    let some = and_parts (not (length e == 0)) (is_one_part e && list_all (λ byte. not (is_dot byte)) e) h in
+    let rest = and_parts (is_one_part e) (list_all (λ byte. not (is_dot byte)) e) some.1 in
     record { filled = negated (length e == 0) some.0; one = rest.0; dotless = rest.1 }
 
 new_file_name : (path e : List ℕ) (place : Place) → file_place path ≡ Some place → is_plain_extension e ≡ true

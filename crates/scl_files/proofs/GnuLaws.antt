@@ -1,14 +1,14 @@
 -- The laws of GNU texts.
 use Rattle.std.proofs.Common.{◌≡◌, ℕ, ◌<◌, ◌==◌, ◌||◌, Bool, true, false, List, [], ◌∷◌, ◌++◌, map, length, encode_utf8, encode_utf8_all, refl, sym, ap, subst, ◌∙◌, append_assoc, arith, inl, inr, length-append}
 use Rattle.std.proofs.lemmas.List.{append-nil}
-use Rattle.std.proofs.lemmas.Bool.{eqb-true, false≢true}
+use Rattle.std.proofs.lemmas.Bool.{eqb-true, false≢true, cases_Bool}
 use Rattle.std.proofs.lemmas.Str.{length-encode, len_utf8_bounds}
 use Rattle.std.specs.List.{list_all, join_with_byte}
 use Rattle.scl_files.specs.GnuText.{is_gnu_separator, Piece, gap, stands, Inside, nothing, one, pair, HasNone, more, ArePieces, end, separator, plain, escaped, lone, single, open_single, double, open_double, lone_inside, outside, in_single, in_double, pieces_from, pieces, keep, joined, gnu_arguments, is_not_empty, in_single_quotes, gnu_quoted, gnu_escaped, TextsHavePieces, TextsHaveNoOtherPieces, GivesNoEmptyArgument, IsReadBack}
 use Rattle.scl_files.specs.GnuReader.{mark_of, mode_after}
 use Rattle.scl_files.specs.declared.gnu_text.Mode.TheVariants as mode
 use Rattle.scl_files.specs.declared.gnu_text.Mark.TheVariants as mark
-use Rattle.scl_files.proofs.GnuLemmas.{read_from, bool_cases, differs, Test, are_pieces, gnu_arguments-read}
+use Rattle.scl_files.proofs.GnuLemmas.{read_from, differs, Test, are_pieces, gnu_arguments-read}
 
 -- ---- no other pieces
 
@@ -91,7 +91,7 @@ quoted_char c word ih (inr h) = λ begun rest. rw (h, h) (ih (begun ++ encode_ut
 
 read_in_quotes : (word : List ℕ) → ReadsQuoted word
 read_in_quotes [] = λ begun rest. rw append-nil refl
-read_in_quotes (c ∷ word) = quoted_char c word (read_in_quotes word) (bool_cases (c == 39))
+read_in_quotes (c ∷ word) = quoted_char c word (read_in_quotes word) (cases_Bool (c == 39))
 
 pub quoted_words_are_read_back : IsReadBack gnu_quoted
 quoted_words_are_read_back = λ words h. sym (gnu_arguments-read _) ∙ words_read gnu_quoted (record { reads = λ word begun rest. read_in_quotes word begun rest }) words h
@@ -128,7 +128,7 @@ escaped_char c word ih (inr h) = λ begun rest. rw (h, (stands_plain c h).0, (st
 
 read_escaped : (word : List ℕ) → ReadsEscaped word
 read_escaped [] = λ begun rest. rw append-nil refl
-read_escaped (c ∷ word) = escaped_char c word (read_escaped word) (bool_cases (means_more c))
+read_escaped (c ∷ word) = escaped_char c word (read_escaped word) (cases_Bool (means_more c))
 
 pub escaped_words_are_read_back : IsReadBack gnu_escaped
 escaped_words_are_read_back = λ words h. sym (gnu_arguments-read _) ∙ words_read gnu_escaped (record { reads = λ word begun rest. read_escaped word begun rest }) words h

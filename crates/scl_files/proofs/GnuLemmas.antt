@@ -1,7 +1,7 @@
 -- Reading a GNU text by characters gives the arguments of its pieces.
 use Rattle.std.proofs.Common.{◌≡◌, ◌≢◌, ℕ, ◌==◌, Bool, true, false, List, [], ◌∷◌, ◌++◌, encode_utf8, encode_utf8_all, refl, sym, ap, subst, ◌∙◌, append_assoc, arith, length, ◌⊎◌, inl, inr}
 use Rattle.std.proofs.lemmas.List.{append-nil}
-use Rattle.std.proofs.lemmas.Bool.{eqb-true}
+use Rattle.std.proofs.lemmas.Bool.{eqb-true, cases_Bool}
 use Rattle.std.proofs.lemmas.Str.{chars_past_char, IsUtf8-past_char, chars-nil}
 use Rattle.std.specs.Str.{chars, IsUtf8}
 use Rattle.scl_files.specs.GnuText.{is_gnu_separator, Piece, Inside, nothing, one, pair, HasNone, none, more, ArePieces, end, separator, plain, escaped, lone, single, open_single, double, open_double, lone_inside, At, outside, behind_backslash, in_single, in_double, in_double_behind_backslash, pieces_from, pieces, keep, joined, gnu_arguments}
@@ -20,10 +20,6 @@ put mark.Stands c begun others = others (begun ++ encode_utf8 c)
 abbrev pub read_from : Mode → List ℕ → List ℕ → List (List ℕ)
 read_from m begun [] = keep begun []
 read_from m begun (c ∷ cs) = put (mark_of m c) c begun (λ bytes. read_from (mode_after m c) bytes cs)
-
-pub bool_cases : (b : Bool) → (b ≡ true) ⊎ (b ≡ false)
-bool_cases true = inl refl
-bool_cases false = inr refl
 
 pub differs : (a b : ℕ) → a ≢ b → (a == b) ≡ false
 differs a b h = grind arith
@@ -110,10 +106,10 @@ found [] behind_backslash = lone
 found [] (in_single m) = λ h. rw append-nil (open_single m h)
 found [] (in_double m) = λ s h. rw append-nil (open_double s m h)
 found [] (in_double_behind_backslash m) = λ s h. lone_inside s m h
-found (c ∷ t) outside = found_outside c t (found t) (bool_cases (is_gnu_separator c)) (bool_cases (c == 92)) (bool_cases (c == 39)) (bool_cases (c == 34))
+found (c ∷ t) outside = found_outside c t (found t) (cases_Bool (is_gnu_separator c)) (cases_Bool (c == 92)) (cases_Bool (c == 39)) (cases_Bool (c == 34))
 found (c ∷ t) behind_backslash = escaped c t (pieces_from outside t) (found t outside)
-found (c ∷ t) (in_single m) = found_single c t m (found t) (bool_cases (c == 39))
-found (c ∷ t) (in_double m) = found_double c t m (found t) (bool_cases (c == 34)) (bool_cases (c == 92))
+found (c ∷ t) (in_single m) = found_single c t m (found t) (cases_Bool (c == 39))
+found (c ∷ t) (in_double m) = found_double c t m (found t) (cases_Bool (c == 34)) (cases_Bool (c == 92))
 found (c ∷ t) (in_double_behind_backslash m) = λ s h. rw append_assoc at (found t (in_double (m ++ c ∷ [])) (s ++ 92 ∷ c ∷ []) (Inside-push_pair s m c h))
 
 pub are_pieces : (text : List ℕ) → ArePieces text (pieces text)

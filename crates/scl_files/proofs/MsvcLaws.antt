@@ -1,7 +1,7 @@
 -- The laws of MSVC texts.
 use Rattle.std.proofs.Common.{◌≡◌, ◌↔◌, ℕ, ◌+◌, ◌/◌, ◌%◌, ◌<◌, ◌==◌, ◌&&◌, not, Bool, true, false, cond, List, [], ◌∷◌, ◌++◌, map, length, encode_utf8, encode_utf8_all, refl, sym, ap, subst, ◌∙◌, append_assoc, arith, ◌⊎◌, inl, inr, length-append, lit<}
-use Rattle.std.proofs.lemmas.List.{append-nil, replicate-append-replicate}
-use Rattle.std.proofs.lemmas.Bool.{eqb-true, false≢true}
+use Rattle.std.proofs.lemmas.List.{append-nil}
+use Rattle.std.proofs.lemmas.Bool.{eqb-true, false≢true, cases_Bool}
 use Rattle.std.proofs.lemmas.Grind.{flat_map-append}
 use Rattle.std.proofs.lemmas.Str.{length-encode, len_utf8_bounds, encode_ascii}
 use Rattle.std.proofs.lemmas.List.Folds.{list_all-append}
@@ -9,7 +9,7 @@ use Rattle.std.specs.List.{list_all, join_with_byte}
 use Rattle.scl_values.specs.Each.{Each}
 use Rattle.scl_files.specs.MsvcText.{is_msvc_separator, is_even, leads_to_quote, Place, split, means, keep_stretch, stretches, place_meaning, stretch_meaning, is_toggle, OnlyQuotesGiveEmptyArguments, leads_to_quote_or_end, in_double_quotes, msvc_quoted, QuotedWordsAreReadBack}
 use Rattle.scl_files.specs.MsvcReader.{backslashes, read_on}
-use Rattle.scl_files.proofs.MsvcLemmas.{places_on, msvc_stretches-on, msvc_arguments-read, bool_cases}
+use Rattle.scl_files.proofs.MsvcLemmas.{places_on, msvc_stretches-on, msvc_arguments-read, backslashes-more}
 
 -- ---- empty arguments
 
@@ -73,14 +73,14 @@ each_other c cs ih h k stretch n inside (inr s) b = rw (s, h, k) (ih (stretch ++
 
 each_char : (c : ℕ) (cs : List ℕ) → EachFrom cs → ((c == 92) ≡ true) ⊎ ((c == 92) ≡ false) → ((c == 34) ≡ true) ⊎ ((c == 34) ≡ false) → EachFrom (c ∷ cs)
 each_char c cs ih (inl h) k = let P : ℕ → Type 0 = λ x. EachFrom (x ∷ cs) in
-    subst P (sym (eqb-true c 92 h)) (λ stretch n inside b. ih _ (n + 1) inside (begun-slash stretch n cs (bool_cases (leads_to_quote cs)) b))
+    subst P (sym (eqb-true c 92 h)) (λ stretch n inside b. ih _ (n + 1) inside (begun-slash stretch n cs (cases_Bool (leads_to_quote cs)) b))
 each_char c cs ih (inr h) (inl k) = let P : ℕ → Type 0 = λ x. EachFrom (x ∷ cs) in
     subst P (sym (eqb-true c 34 k)) (λ stretch n inside b. ih _ 0 (cond (is_even n) (not inside) inside) (begun-quote stretch n cs b))
-each_char c cs ih (inr h) (inr k) = λ stretch n inside b. each_other c cs ih h k stretch n inside (bool_cases (is_msvc_separator c && not inside)) b
+each_char c cs ih (inr h) (inr k) = λ stretch n inside b. each_other c cs ih h k stretch n inside (cases_Bool (is_msvc_separator c && not inside)) b
 
 each : (cs : List ℕ) → EachFrom cs
 each [] = λ stretch n inside b. keep_each stretch [] (done stretch n [] refl b) tt
-each (c ∷ cs) = each_char c cs (each cs) (bool_cases (c == 92)) (bool_cases (c == 34))
+each (c ∷ cs) = each_char c cs (each cs) (cases_Bool (c == 92)) (cases_Bool (c == 34))
 
 pub only_quotes_give_empty_arguments : OnlyQuotesGiveEmptyArguments
 only_quotes_give_empty_arguments = λ text. rw msvc_stretches-on (each text [] 0 false (toggling refl refl))
@@ -105,9 +105,6 @@ double_half n = omega arith
 
 double_half_more : (n : ℕ) → (n + n + 1) / 2 ≡ n
 double_half_more n = omega arith
-
-backslashes-more : (n : ℕ) → backslashes n ++ 92 ∷ [] ≡ backslashes (n + 1)
-backslashes-more n = replicate-append-replicate n 1 92
 
 backslashes-out : (begun more : List ℕ) (n : ℕ) → (begun ++ backslashes (n + 1)) ++ more ≡ (begun ++ backslashes n) ++ (encode_utf8 92 ++ more)
 backslashes-out begun more n = rw (encode_ascii 92 (lit< tt), ← backslashes-more n) (simp append_assoc)
@@ -140,13 +137,13 @@ read_other : (c : ℕ) (word : List ℕ) → ReadsQuoted word → (c == 92) ≡ 
 read_other c word ih h k = λ begun rest n. rw (h, k, h, k, and-false (is_msvc_separator c)) (fresh word ((begun ++ backslashes n) ++ encode_utf8 c) rest ih ∙ rw append_assoc refl)
 
 read_char : (c : ℕ) (word : List ℕ) → ReadsQuoted word → ((c == 92) ≡ true) ⊎ ((c == 92) ≡ false) → ((c == 34) ≡ true) ⊎ ((c == 34) ≡ false) → ReadsQuoted (c ∷ word)
-read_char c word ih (inl h) k = let P : ℕ → Type 0 = λ x. ReadsQuoted (x ∷ word) in subst P (sym (eqb-true c 92 h)) (read_slash word ih (bool_cases (leads_to_quote_or_end word)))
+read_char c word ih (inl h) k = let P : ℕ → Type 0 = λ x. ReadsQuoted (x ∷ word) in subst P (sym (eqb-true c 92 h)) (read_slash word ih (cases_Bool (leads_to_quote_or_end word)))
 read_char c word ih (inr h) (inl k) = let P : ℕ → Type 0 = λ x. ReadsQuoted (x ∷ word) in subst P (sym (eqb-true c 34 k)) (read_quote word ih)
 read_char c word ih (inr h) (inr k) = read_other c word ih h k
 
 read_in_quotes : (word : List ℕ) → ReadsQuoted word
 read_in_quotes [] = λ begun rest n. rw (double_even n, double_half n, append-nil) refl
-read_in_quotes (c ∷ word) = read_char c word (read_in_quotes word) (bool_cases (c == 92)) (bool_cases (c == 34))
+read_in_quotes (c ∷ word) = read_char c word (read_in_quotes word) (cases_Bool (c == 92)) (cases_Bool (c == 34))
 
 words_read : (words : List (List ℕ)) → read_on false [] 0 false (join_with_byte 32 (map msvc_quoted words)) ≡ map encode_utf8_all words
 words_read [] = refl

@@ -2,7 +2,7 @@
 use Rattle.std.proofs.Common.{◌≡◌, ◌≢◌, ℕ, zero, suc, ◌+◌, ◌/◌, ◌%◌, ◌<◌, ◌==◌, ◌&&◌, not, Bool, true, false, cond, List, [], ◌∷◌, ◌++◌, length, drop, get_or, map, encode_utf8, Option, Some, None, refl, sym, ap, subst, ◌∙◌, append_assoc, add-one, arith}
 use Rattle.std.proofs.lemmas.List.{append-nil, replicate-append-replicate}
 use Rattle.std.proofs.Common.{◌⊎◌, inl, inr}
-use Rattle.std.proofs.lemmas.Bool.{false≢true}
+use Rattle.std.proofs.lemmas.Bool.{false≢true, cases_Bool}
 use Rattle.std.proofs.lemmas.Bool.{eqb-true}
 use Rattle.std.proofs.Common.{length-append}
 use Rattle.std.proofs.lemmas.Str.{chars_past_char, chars-nil, length-encode, len_utf8_bounds}
@@ -82,17 +82,13 @@ abbrev Same : List ℕ → Type 0
 Same cs = ((n : ℕ) (inside : Bool) (b : List ℕ) → bytes_from (Some (b ++ shown n (leads_to_quote cs))) (places_on n inside cs) ≡ read_on true b n inside cs)
     × (bytes_from None (places_on 0 false cs) ≡ read_on false [] 0 false cs)
 
-pub bool_cases : (b : Bool) → (b ≡ true) ⊎ (b ≡ false)
-bool_cases true = inl refl
-bool_cases false = inr refl
-
 half_even : (n : ℕ) → is_even n ≡ true → (n + 1) / 2 ≡ n / 2
 half_even n h = let e : n % 2 ≡ 0 = eqb-true (n % 2) 0 h in omega arith
 
 half_odd : (n : ℕ) → is_even n ≡ false → (n + 1) / 2 ≡ n / 2 + 1
 half_odd n h = let e : n % 2 ≢ 0 = grind arith in omega arith
 
-backslashes-more : (n : ℕ) → backslashes n ++ 92 ∷ [] ≡ backslashes (n + 1)
+pub backslashes-more : (n : ℕ) → backslashes n ++ 92 ∷ [] ≡ backslashes (n + 1)
 backslashes-more n = replicate-append-replicate n 1 92
 
 shown-more : (n : ℕ) (quoted : Bool) (b : List ℕ) → (quoted ≡ false) ⊎ (quoted ≡ true) → (is_even n ≡ true) ⊎ (is_even n ≡ false)
@@ -117,7 +113,7 @@ Begun c cs n inside b = bytes_from (Some (b ++ shown n (leads_to_quote (c ∷ cs
 
 at_slash : (cs : List ℕ) (n : ℕ) (inside : Bool) (b : List ℕ) → Same cs → Begun 92 cs n inside b
 unfolding Begun
-at_slash cs n inside b ih = rw (shown-more n (leads_to_quote cs) b (flip_cases (leads_to_quote cs)) (bool_cases (is_even n))) (ih.0 (n + 1) inside b)
+at_slash cs n inside b ih = rw (shown-more n (leads_to_quote cs) b (flip_cases (leads_to_quote cs)) (cases_Bool (is_even n))) (ih.0 (n + 1) inside b)
 
 at_quote : (cs : List ℕ) (n : ℕ) (inside : Bool) (b : List ℕ) → Same cs → (is_even n ≡ true) ⊎ (is_even n ≡ false) → Begun 34 cs n inside b
 unfolding Begun
@@ -137,8 +133,8 @@ at_other c cs n inside b ih h k (inr s) = rw (s, h, k) (fresh cs ((b ++ backslas
 
 begun_at : (c : ℕ) (cs : List ℕ) (n : ℕ) (inside : Bool) (b : List ℕ) → Same cs → ((c == 92) ≡ true) ⊎ ((c == 92) ≡ false) → ((c == 34) ≡ true) ⊎ ((c == 34) ≡ false) → Begun c cs n inside b
 begun_at c cs n inside b ih (inl h) k = let P : ℕ → Type 0 = λ x. Begun x cs n inside b in subst P (sym (eqb-true c 92 h)) (at_slash cs n inside b ih)
-begun_at c cs n inside b ih (inr h) (inl k) = let P : ℕ → Type 0 = λ x. Begun x cs n inside b in subst P (sym (eqb-true c 34 k)) (at_quote cs n inside b ih (bool_cases (is_even n)))
-begun_at c cs n inside b ih (inr h) (inr k) = at_other c cs n inside b ih h k (bool_cases (is_msvc_separator c && not inside))
+begun_at c cs n inside b ih (inr h) (inl k) = let P : ℕ → Type 0 = λ x. Begun x cs n inside b in subst P (sym (eqb-true c 34 k)) (at_quote cs n inside b ih (cases_Bool (is_even n)))
+begun_at c cs n inside b ih (inr h) (inr k) = at_other c cs n inside b ih h k (cases_Bool (is_msvc_separator c && not inside))
 
 None_at : ℕ → List ℕ → Type 0
 None_at c cs = bytes_from None (places_on 0 false (c ∷ cs)) ≡ read_on false [] 0 false (c ∷ cs)
@@ -156,12 +152,12 @@ none_at : (c : ℕ) (cs : List ℕ) → Same cs → ((c == 92) ≡ true) ⊎ ((c
 unfolding None_at
 none_at c cs ih (inl h) k = let P : ℕ → Type 0 = λ x. None_at x cs in subst P (sym (eqb-true c 92 h)) (none_slash cs ih)
 none_at c cs ih (inr h) (inl k) = let P : ℕ → Type 0 = λ x. None_at x cs in subst P (sym (eqb-true c 34 k)) (fresh cs [] true ih)
-none_at c cs ih (inr h) (inr k) = none_other c cs ih h k (bool_cases (is_msvc_separator c))
+none_at c cs ih (inr h) (inr k) = none_other c cs ih h k (cases_Bool (is_msvc_separator c))
 
 both : (cs : List ℕ) → Same cs
 unfolding Begun None_at
 both [] = (λ n inside b. refl, refl)
-both (c ∷ cs) = (λ n inside b. begun_at c cs n inside b (both cs) (bool_cases (c == 92)) (bool_cases (c == 34)), none_at c cs (both cs) (bool_cases (c == 92)) (bool_cases (c == 34)))
+both (c ∷ cs) = (λ n inside b. begun_at c cs n inside b (both cs) (cases_Bool (c == 92)) (cases_Bool (c == 34)), none_at c cs (both cs) (cases_Bool (c == 92)) (cases_Bool (c == 34)))
 
 pub msvc_arguments-read : (text : List ℕ) → msvc_arguments text ≡ read_on false [] 0 false text
 unfolding msvc_arguments

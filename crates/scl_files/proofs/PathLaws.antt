@@ -1,6 +1,6 @@
 -- Paths that are put together of parts.
 use Rattle.std.proofs.Common.{if◌then◌else◌, ◌≡◌, ℕ, suc, ◌-◌, ◌==◌, ◌&&◌, not, nat_eq, Bool, true, false, inl, inr, length, List, [], ◌∷◌, ◌++◌, drop, Option, None, Some, refl, sym, ap, ◌∙◌, arith, codes}
-use Rattle.std.proofs.lemmas.Bool.{eqb-true, false≢true, cases_Bool}
+use Rattle.std.proofs.lemmas.Bool.{eqb-true, false≢true, cases_Bool, and_parts}
 use Rattle.std.proofs.lemmas.List.{append_assoc, append-nil}
 use Rattle.std.proofs.lemmas.Slice.Eq.{bytes_eq-Decides}
 use Rattle.std.proofs.lemmas.Bool.Decides.{nat_tests}
@@ -21,10 +21,6 @@ abbrev pub AllParts : List (List ℕ) → Type 0
 AllParts [] = Unit {0}
 AllParts (part ∷ parts) = (is_one_part part ≡ true) × AllParts parts
 
-pub both : (a b : Bool) → (a && b) ≡ true → (a ≡ true) × (b ≡ true)
-both true b h = (refl, h)
-both false b h = absurd (false≢true h)
-
 pub negated : (a : Bool) → not a ≡ true → a ≡ false
 negated true h = absurd (false≢true h)
 negated false h = refl
@@ -32,7 +28,7 @@ negated false h = refl
 -- the components are equal exactly where the test says so
 pub same_components-Decides : (a b : Components) → Decides (same_components a b) (a ≡ b)
 same_components-Decides a b = (
-  λ h. let parts = both (bytes_eq a.start b.start) (pointwise bytes_eq a.names b.names) h in
+  λ h. let parts = and_parts (bytes_eq a.start b.start) (pointwise bytes_eq a.names b.names) h in
       let starts = (bytes_eq-Decides a.start b.start).0 parts.0 in
       let names = (pointwise_decides bytes_eq-Decides a.names b.names).0 parts.1 in
       ap (λ s. record { start = s; names = a.names }) starts ∙ ap (λ n. record { start = b.start; names = n }) names,
@@ -42,11 +38,11 @@ same_components-Decides a b = (
 -- a part is the one part of itself
 split-part : (part : List ℕ) → is_one_part part ≡ true → slice_split is_slash part ≡ part ∷ []
 split-part [] h = refl
-split-part (x ∷ xs) h = let parts = both (not (is_slash x)) (is_one_part xs) h in rw (negated (is_slash x) parts.0, split-part xs parts.1) refl
+split-part (x ∷ xs) h = let parts = and_parts (not (is_slash x)) (is_one_part xs) h in rw (negated (is_slash x) parts.0, split-part xs parts.1) refl
 
 split-slash : (part rest : List ℕ) → is_one_part part ≡ true → slice_split is_slash (part ++ 47 ∷ rest) ≡ part ∷ slice_split is_slash rest
 split-slash [] rest h = refl
-split-slash (x ∷ xs) rest h = let parts = both (not (is_slash x)) (is_one_part xs) h in rw (negated (is_slash x) parts.0, split-slash xs rest parts.1) refl
+split-slash (x ∷ xs) rest h = let parts = and_parts (not (is_slash x)) (is_one_part xs) h in rw (negated (is_slash x) parts.0, split-slash xs rest parts.1) refl
 
 -- parts with a slash behind each, and a last one
 split-slashed : (parts : List (List ℕ)) (part : List ℕ) → AllParts parts → is_one_part part ≡ true → slice_split is_slash (slashed parts ++ part) ≡ parts ++ part ∷ []
@@ -72,8 +68,8 @@ last_place-append found (p ∷ ps) place = last_place-append (Some p) ps place
 pub file_place-slashed : (parts : List (List ℕ)) (name : List ℕ) → AllParts parts → is_file_name name ≡ true → file_place (slashed parts ++ name) ≡ Some (placed (slashed parts) name)
 unfolding places
 file_place-slashed parts name a h =
-    let plain = both (is_one_part name) (is_name name && not (bytes_eq name (codes ".."))) h in
-    let named = both (is_name name) (not (bytes_eq name (codes ".."))) plain.1 in
+    let plain = and_parts (is_one_part name) (is_name name && not (bytes_eq name (codes ".."))) h in
+    let named = and_parts (is_name name) (not (bytes_eq name (codes ".."))) plain.1 in
     let last : places_after [] (slice_split is_slash (slashed parts ++ name)) ≡ places_after [] parts ++ placed (slashed parts) name ∷ [] =
     rw (split-slashed parts name a plain.0, places_after-append [] parts (name ∷ []), named.0) refl in
     rw (last, last_place-append None (places_after [] parts) (placed (slashed parts) name), negated (bytes_eq name (codes "..")) named.1) refl
@@ -110,8 +106,8 @@ ends-append (x ∷ []) y ys = ends-behind x y ys
 ends-append (x ∷ (z ∷ zs)) y ys = ends-behind x z (zs ++ y ∷ ys) ∙ ends-append (z ∷ zs) y ys
 
 part-ends : (y : ℕ) (ys : List ℕ) → is_one_part (y ∷ ys) ≡ true → ends_with_slash (y ∷ ys) ≡ false
-part-ends y [] h = let other = negated (is_slash y) (both (not (is_slash y)) true h).0 in grind (arith, nat_tests)
-part-ends y (z ∷ zs) h = ends-behind y z zs ∙ part-ends z zs (both (not (is_slash y)) (is_one_part (z ∷ zs)) h).1
+part-ends y [] h = let other = negated (is_slash y) (and_parts (not (is_slash y)) true h).0 in grind (arith, nat_tests)
+part-ends y (z ∷ zs) h = ends-behind y z zs ∙ part-ends z zs (and_parts (not (is_slash y)) (is_one_part (z ∷ zs)) h).1
 
 -- a path that ends with a slash is parts with a slash behind each
 pub record IsSlashed (path : List ℕ) (parts : List (List ℕ)) : Type 0 where
@@ -131,7 +127,7 @@ file_name-behind path name parts cut h = ap (λ p. file_name (p ++ name)) cut.wh
 begins_with_no_slash : (name : List ℕ) → is_file_name name ≡ true → begins_with_slash name ≡ false
 begins_with_no_slash [] h = absurd (false≢true h)
 begins_with_no_slash (x ∷ xs) h =
-    let other = negated (is_slash x) (both (not (is_slash x)) (is_one_part xs) (both (is_one_part (x ∷ xs)) _ h).0).0 in
+    let other = negated (is_slash x) (and_parts (not (is_slash x)) (is_one_part xs) (and_parts (is_one_part (x ∷ xs)) _ h).0).0 in
     let differs : nat_eq 47 x ≡ false = grind (arith, nat_tests) in
     rw differs refl
 

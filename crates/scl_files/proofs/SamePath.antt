@@ -1,22 +1,18 @@
 -- Paths with the same components, and the number that they share.
-use Rattle.std.proofs.Common.{◌≡◌, ℕ, ◌&&◌, Bool, true, false, List, ◌∷◌, refl}
-use Rattle.std.proofs.lemmas.Bool.{false≢true}
+use Rattle.std.proofs.Common.{◌≡◌, ℕ, true, List, ◌∷◌, refl}
+use Rattle.std.proofs.lemmas.Bool.{and_parts}
 use Rattle.std.specs.Str.{bytes_eq}
 use Rattle.std.specs.Cmp.Lexicographic.{pointwise}
 use lib.Pointwise.{pointwise_decides, bytes_decides}
 use Rattle.scl_files.specs.Paths.{Components, components, same_components, same_path, start}
 use Rattle.scl_files.specs.PathTrees.{parts_of}
 
-both_true : (a b : Bool) → (a && b) ≡ true → (a ≡ true) × (b ≡ true)
-both_true true b h = (refl, h)
-both_true false b h = absurd (false≢true h)
-
 names : List ℕ → List (List ℕ)
 names path = (components path).names
 
 components_equal : (a b : Components) → same_components a b ≡ true → (a.start ≡ b.start) × (a.names ≡ b.names)
 components_equal a b h =
-    let parts = both_true (bytes_eq a.start b.start) (pointwise bytes_eq a.names b.names) h in
+    let parts = and_parts (bytes_eq a.start b.start) (pointwise bytes_eq a.names b.names) h in
     ((bytes_decides a.start b.start).0 parts.0, (pointwise_decides bytes_decides a.names b.names).0 parts.1)
 
 same_components-left : (a b c : Components) → same_components a b ≡ true → same_components b c ≡ same_components a c

@@ -11,7 +11,7 @@ pub mod laws;
 mod msvc_text;
 pub mod path;
 mod path_map;
-mod response_file;
+pub mod response_file;
 pub mod view;
 mod wanted;
 
@@ -25,4 +25,4 @@ pub use gnu_text::split_gnu_response_file_args;
 pub use msvc_text::{SplitMsvcResponseFileArgs, msvc_words};
 pub use scl_values::Mem;
 pub use view::View;
-pub use wanted::{wanted_by, wanted_files};
+pub use wanted::wanted_files;

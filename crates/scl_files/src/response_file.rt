@@ -30,9 +30,9 @@ pub(crate) fn file_name_in(kind: ExpansionKind, word: &[u8]) -> Option<&[u8]>
     }
 }
 
-/// The path of the file that a word names, from the directory.
+/// The path of the file that a word names, from the directory, if it names one. The error is a refusal of memory.
 #[tactic(auto, unfolding(crate::specs::ResponseFiles::named))]
-pub(crate) fn named(
+pub fn named(
     alloc: Global,
     kind: ExpansionKind,
     directory: &[u8],
@@ -76,12 +76,8 @@ fn diab_arguments(alloc: Global, bytes: &[u8]) -> Mem<Option<Vec<Vec<u8>>>>
     }
 }
 
-/// The words that the bytes of a file hold, if they are a text that can be read.
-pub(crate) fn arguments(
-    alloc: Global,
-    kind: ExpansionKind,
-    bytes: &[u8],
-) -> Mem<Option<Vec<Vec<u8>>>>
+/// The words that the bytes of a file hold, if they are a text that can be read. The error is a refusal of memory.
+pub fn arguments(alloc: Global, kind: ExpansionKind, bytes: &[u8]) -> Mem<Option<Vec<Vec<u8>>>>
     ensures { IfOk result (λ words. option_map (λ w. words_of w.items) words ≡ arguments kind bytes.now) }
 {
     match kind {

@@ -1,10 +1,10 @@
 //! Which response files words ask for that a view lacks.
-ghost use Rattle.std.specs.Prelude.{◌≡◌, ◌<◌, ◌≤◌, ◌++◌, length, IfOk, MatchResult, OnOk};
+ghost use Rattle.std.specs.Prelude.{◌≡◌, ◌++◌, IfOk, OnOk};
 ghost use Rattle.std.specs.List.{flat_map};
 ghost use Rattle.scl_values.specs.Words.{words_of};
-ghost use Rattle.scl_files.specs.Wanted.{lacked_by, words_asked, wanted};
+ghost use Rattle.scl_files.specs.Wanted.{lacked_by, wanted};
 
-use crate::expand::{ExpansionKind, TooManyWords, expand_all, expand_at_most};
+use crate::expand::{ExpansionKind, expand_all};
 use crate::response_file::named;
 use crate::view::View;
 use scl_values::Mem;
@@ -64,38 +64,6 @@ pub fn wanted_files(
         ExpansionKind::Gnu | ExpansionKind::Diab => {
             let words = expand_all(alloc, kind, directory, words, view)?;
             absent_files(alloc, kind, directory, &words, view)
-        }
-    }
-}
-
-/// What `wanted_files` gives, where the words that may name a file are `most` or fewer, else `TooManyWords`. These are the
-/// words with response files put in place, which nested files can double; of Msvc the given ones, since words inside its
-/// files name none. The outer error is the refusal of memory.
-#[tactic(auto, unfolding(crate::specs::Wanted::wanted))]
-pub fn wanted_by(
-    alloc: Global,
-    kind: ExpansionKind,
-    directory: &[u8],
-    words: &[Vec<u8>],
-    view: &View,
-    most: usize,
-) -> Mem<Result<Vec<Vec<u8>>, TooManyWords>>
-    ensures { IfOk result (λ found. let asked = words_asked kind directory.now view.now.files (words_of words.now) in
-        MatchResult found (λ paths. (words_of paths.items ≡ wanted kind directory.now view.now.files (words_of words.now)) × (length asked ≤ most))
-        (λ _. most < length asked)) }
-{
-    match kind {
-        ExpansionKind::Msvc => {
-            if words.len() > most {
-                return Ok(Err(TooManyWords));
-            }
-            Ok(Ok(absent_files(alloc, kind, directory, words, view)?))
-        }
-        ExpansionKind::Gnu | ExpansionKind::Diab => {
-            match expand_at_most(alloc, kind, directory, words, view, most)? {
-                Ok(words) => Ok(Ok(absent_files(alloc, kind, directory, &words, view)?)),
-                Err(TooManyWords) => Ok(Err(TooManyWords)),
-            }
         }
     }
 }

@@ -1,37 +1,19 @@
-use Rattle.std.proofs.Common.{ℕ, true, List, [], ◌∷◌, ◌++◌, map, Option, None, Some, refl}
-use Rattle.std.proofs.lemmas.List.{append-nil}
-use Rattle.std.specs.Prelude.{codes}
+use Rattle.std.proofs.Common.{ℕ, true, List, [], ◌∷◌, map, refl}
 use Rattle.scl_values.specs.Each.{Each}
-use Rattle.scl_args.specs.Options.{side_of_flag, texts}
-use Rattle.scl_values.specs.Row.{Row, row, apart, joined, either}
 use Rattle.scl_values.specs.Seen.{shown}
-use Rattle.scl_values.specs.Seen as plain
-use Rattle.scl_values.specs.Tables.{owner_in, all_rows}
-use Rattle.scl_args.proofs.OwnerLaws.{owner_in-is}
-use Rattle.scl_again.specs.Checks.{is_changing, is_joining}
 use Rattle.scl_again.specs.Origins.{IsClear}
 use Rattle.scl_again.specs.Promises.{inner_of, IsFaithful}
-use Rattle.scl_again.specs.Reads.{Reads}
-use Rattle.scl_again.proofs.FreshLaws.{fresh-either}
-use Rattle.scl_again.proofs.OriginLaws.{has_row}
-use Rattle.scl_again.proofs.ReadsLaws.{reads-apart, reads-either_apart, reads-joined}
 use Rattle.scl_text.proofs.CompilerLaws.{command-kept}
 use Rattle.scl_files.specs.declared.expand.ExpansionKind.TheVariants as expansions
 use Rattle.scl_text.specs.declared.records.CCompilerKind.TheVariants as compilers
-use Rattle.scl_files.specs.Expand.{expand}
 use Rattle.scl_text.specs.JudgedWords.{options_of}
 use Rattle.scl_text.specs.Languages.{clang_text}
 use Rattle.scl_files.specs.Views.{Viewed}
-use Rattle.scl_gnu_reading.specs.declared.gcc.data.Kind.{Kind}
-use Rattle.scl_gnu_reading.specs.declared.gcc.data.Kind.TheVariants as kind
-use Rattle.scl_gnu_reading.specs.Again.{carried}
 use Rattle.scl_gnu.specs.Building.{command_words}
 use Rattle.scl_gnu_reading.specs.ClangRows.{clang_rows, clang_tables}
 use Rattle.scl_gnu_reading.specs.GccRows.{gcc_rows}
-use Rattle.scl_gnu_reading.specs.Kinds.{of}
 use Rattle.scl_gnu.specs.ReadAgain.{inner_options_of, behind_xclang, parts, clang_line, ClangCommandsAreFaithful}
 use Rattle.scl_gnu_reading.specs.Readings.{reading}
-use Rattle.scl_gnu_reading.proofs.CheckLaws.{clang_passes, no_xclang}
 use Rattle.scl_gnu.proofs.NoFileLaws.{clang_none}
 use Rattle.scl_gnu.proofs.OwnWordsLaws.{OwnWords, AreInners}
 use Rattle.scl_gnu.proofs.OwnTableLaws.{Keeps, own-tables-keep, own-words, handed-on}

@@ -1,5 +1,5 @@
 -- Lists carry options of the kinds that the checks of tables are for, and unknown ones.
-use Rattle.std.proofs.Common.{◌≡◌, Bool, true, false, List, [], ◌∷◌, refl, arith}
+use Rattle.std.proofs.Common.{◌≡◌, Bool, true, false, List, [], refl, arith}
 use Rattle.scl_values.specs.Cuts.{Cut, raw, unknown, flag, with_value}
 use Rattle.scl_values.specs.Each.{Each}
 use Rattle.scl_args.specs.Options.{side_of_flag}

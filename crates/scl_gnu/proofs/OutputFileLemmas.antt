@@ -1,24 +1,14 @@
 -- What is left of words without those that make the preprocessor write a file.
 use Rattle.std.proofs.Common.{◌≡◌, ℕ, zero, suc, ◌<◌, Bool, true, false, List, [], ◌∷◌, ◌++◌, drop, length, append_assoc, refl, sym, ap, ◌∙◌, arith}
-use Rattle.std.proofs.lemmas.Str.{IsUtf8-from_is_utf8, is_utf8-from_IsUtf8}
 use Rattle.std.proofs.lemmas.List.Folds.{list_any_at, list_any_none}
 use Rattle.std.proofs.lemmas.List.{append-nil, drop-map}
 use Rattle.std.specs.Bool.{MatchBool}
 use Rattle.std.specs.List.{AllWithin, HoldsAt, list_any}
-use Rattle.std.specs.Str.{IsUtf8, is_utf8}
 use Rattle.std.specs.Prelude.{Vec}
 use Rattle.std.specs.declared.alloc.Global.{Global}
 use Rattle.std.proofs.Common.{get_or}
 use Rattle.scl_values.specs.Words.{words_of}
-use Rattle.scl_gnu.specs.OutputFiles.{is_diagnostics, is_preprocessor_flag, flag_count, file_count, left_behind, without_output_files}
-
-pub text-yes : (bs : List ℕ) → IsUtf8 bs → is_utf8 bs ≡ true
-text-yes bs h = is_utf8-from_IsUtf8 bs h
-
-pub text-no : (bs : List ℕ) → (IsUtf8 bs → ⊥) → is_utf8 bs ≡ false
-text-no bs h = elim (is_utf8 bs) as (λ b. is_utf8 bs ≡ b → b ≡ false) [ true ↦ λ e. absurd (h (IsUtf8-from_is_utf8 bs e)) | false ↦ λ _. refl ] refl
-
-pub ruleset text_rules = (text-yes, text-no)
+use Rattle.scl_gnu.specs.OutputFiles.{file_count, left_behind, without_output_files}
 
 -- what is left behind so many words is what is left of the others
 pub left_behind-drop : (n : ℕ) (words : List (List ℕ)) → left_behind n words ≡ left_behind 0 (drop n words)
@@ -33,10 +23,6 @@ nothing = refl
 pub any-result : (t : List ℕ → Bool) (all : List (List ℕ)) (r : Bool) → MatchBool r ((k : ℕ) × (k < length all) × HoldsAt (λ x. t x ≡ true) all k) (AllWithin (λ x. t x ≡ false) all 0 (length all)) → r ≡ list_any t all
 any-result t all true h = sym (list_any_at t all h.0 [] h.1 (h.2 []))
 any-result t all false h = sym (list_any_none t all (λ k d lt. h k d (omega arith) lt))
-
-pub file-front : (word : List ℕ) (words : List (List ℕ)) → is_diagnostics word ≡ false → is_preprocessor_flag word ≡ true → file_count (word ∷ words) ≡ flag_count words
-unfolding file_count
-file-front word words d f = rw (d, f) refl
 
 abbrev pub step : List ℕ → List (List ℕ) → ℕ → List (List ℕ)
 step word words n = elim n [ zero ↦ word ∷ left_behind 0 words | suc m ↦ left_behind m words ]

@@ -10,7 +10,6 @@ use Rattle.scl_files.specs.Views.{Viewed}
 use Rattle.scl_files.specs.declared.expand.ExpansionKind.TheVariants as expansions
 use Rattle.scl_msvc.specs.Environment.{back_variable, front_variable, surroundings, value_of}
 use Rattle.scl_msvc_reading.specs.Kinds.{of}
-use Rattle.scl_msvc_reading.specs.Readings.{reading}
 use Rattle.scl_msvc_reading.specs.Rows.{msvc_tables}
 use Rattle.scl_msvc_reading.specs.declared.msvc.data.Kind.{Kind}
 use Rattle.scl_msvc_reading.specs.declared.msvc.data.Kind.TheVariants as kind
@@ -70,16 +69,12 @@ cl_line directory view words environment is_split p =
 unfoldable pub cl_found : Lined Kind → List Hazard
 cl_found l = found cl_text_rows l ++ found cl_word_rows l
 
--- of words between those that the environment gives
-abbrev pub cl_hazards_of : List ℕ → Viewed → List (List ℕ) → (environment : List (List ℕ)) → (is_split : Bool) → List Hazard
-cl_hazards_of directory view words environment is_split =
-    of_record (λ p. cl_found (cl_line directory view words environment is_split p)) (reading true directory view words)
-
--- none where the environment is refused
-abbrev pub cl_hazards_between : List ℕ → List (List ℕ × List ℕ) → Viewed → List (List ℕ) → Result (List (List ℕ) × List (List ℕ)) Verdict → List Hazard
-cl_hazards_between directory pairs view words (Ok both) = cl_hazards_of directory view (both.0 ++ words ++ both.1) (both.0 ++ both.1) (splits_environment pairs)
-cl_hazards_between directory pairs view words (Err said) = []
+-- of words with this record, between those that the environment gives; none where that is refused
+abbrev pub cl_hazards_between : List ℕ → List (List ℕ × List ℕ) → Viewed → List (List ℕ) → Result (List (List ℕ) × List (List ℕ)) Verdict → Parsed → List Hazard
+cl_hazards_between directory pairs view words (Ok both) p = cl_found (cl_line directory view (both.0 ++ words ++ both.1) (both.0 ++ both.1) (splits_environment pairs) p)
+cl_hazards_between directory pairs view words (Err said) p = []
 
 -- of cl none is known
-unfoldable pub msvc_hazards : (is_clang : Bool) → List ℕ → List (List ℕ × List ℕ) → Viewed → List (List ℕ) → List Hazard
-msvc_hazards is_clang directory pairs view words = cond is_clang (cl_hazards_between directory pairs view words (surroundings pairs)) []
+unfoldable pub msvc_hazards : (is_clang : Bool) → List ℕ → List (List ℕ × List ℕ) → Viewed → List (List ℕ) → Option Parsed → List Hazard
+msvc_hazards is_clang directory pairs view words record_read =
+    cond is_clang (of_record (λ p. cl_hazards_between directory pairs view words (surroundings pairs) p) record_read) []

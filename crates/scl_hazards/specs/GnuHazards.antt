@@ -1,5 +1,5 @@
 -- The hazards of gcc's and clang's command lines.
-use Rattle.std.specs.Prelude.{ℕ, Bool, false, List, [], ◌∷◌, ◌++◌, map, codes, Result, Ok, Err, unwrap_or}
+use Rattle.std.specs.Prelude.{ℕ, Bool, false, List, [], ◌∷◌, ◌++◌, map, codes, Option, None, Some, unwrap_or}
 use Rattle.scl_args.specs.Options.{texts}
 use Rattle.scl_driver_texts.specs.InPlace.{texts_in_place}
 use Rattle.scl_driver_texts.specs.Otherwise.{splits_otherwise}
@@ -14,7 +14,7 @@ use Rattle.scl_gnu_reading.specs.declared.gcc.data.Kind.{Kind}
 use Rattle.scl_gnu_reading.specs.declared.gcc.data.Kind.TheVariants as kind
 use Rattle.scl_text.specs.Commands.{object_of}
 use Rattle.scl_text.specs.JudgedWords.{options_of}
-use Rattle.scl_text.specs.Records.{Parsed, Verdict}
+use Rattle.scl_text.specs.Records.{Parsed}
 use Rattle.scl_values.specs.Row.{Row}
 use Rattle.scl_values.specs.Seen.{Seen, shown}
 use Rattle.scl_hazards.specs.GnuRows.{text_rows, split_dwarf_rows, recorded_rows, output_rows, language_rows, word_rows, order_rows, dependency_rows, diagnostic_rows}
@@ -25,10 +25,10 @@ use Rattle.scl_hazards.specs.declared.driver.Driver.TheVariants as drivers
 use Rattle.scl_hazards.specs.contracts.driver.DriverPartialEq.TheImpl as drivers_equal
 use Rattle.scl_hazards.specs.declared.hazard.Hazard.{Hazard}
 
--- of a command line that has a record
-abbrev pub of_record : (Parsed → List Hazard) → Result Parsed Verdict → List Hazard
-of_record hazards (Ok p) = hazards p
-of_record hazards (Err verdict) = []
+-- of a command line that has a record, if it has one
+abbrev pub of_record : (Parsed → List Hazard) → Option Parsed → List Hazard
+of_record hazards (Some p) = hazards p
+of_record hazards None = []
 
 -- how the driver splits texts
 abbrev pub splitter_of : Driver → Splitter
@@ -89,7 +89,7 @@ in_order_and_messages l = found order_rows l ++ (found dependency_rows l ++ foun
 unfoldable pub gnu_found : Lined Kind → List Hazard
 gnu_found l = in_texts_and_records l ++ (in_outputs_and_words l ++ in_order_and_messages l)
 
--- the hazards of words of which the reading is this
-unfoldable pub gnu_hazards : Driver → (is_apple is_plusplus : Bool) → List (List (Row Kind)) → List ℕ → Viewed → List (List ℕ) → Result Parsed Verdict → List Hazard
-gnu_hazards driver is_apple is_plusplus tables directory view words reading =
-    of_record (λ p. gnu_found (gnu_line driver is_apple is_plusplus tables directory view words p)) reading
+-- the hazards of words that have this record, if they have one
+unfoldable pub gnu_hazards : Driver → (is_apple is_plusplus : Bool) → List (List (Row Kind)) → List ℕ → Viewed → List (List ℕ) → Option Parsed → List Hazard
+gnu_hazards driver is_apple is_plusplus tables directory view words record_read =
+    of_record (λ p. gnu_found (gnu_line driver is_apple is_plusplus tables directory view words p)) record_read

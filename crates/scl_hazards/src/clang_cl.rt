@@ -1,6 +1,6 @@
 //! The hazards of clang-cl's command lines.
 ghost use Rattle.std.specs.Prelude.{◌≡◌, ◌++◌, IfOk, IsTrue, OnOk, map};
-ghost use Rattle.std.specs.Option.{option_copied};
+ghost use Rattle.std.specs.Option.{option_copied, option_map};
 ghost use Rattle.scl_driver_texts.specs.InPlace.{texts_in_place};
 ghost use Rattle.scl_driver_texts.specs.Otherwise.{splits_otherwise};
 ghost use Rattle.scl_driver_texts.specs.declared.splitter.Splitter.{Splitter};
@@ -10,12 +10,12 @@ ghost use Rattle.scl_gnu_reading.specs.Data as gnu;
 ghost use Rattle.scl_msvc.specs.Environment.{surroundings, value_of};
 ghost use Rattle.scl_msvc_reading.specs.Data.{holds_value, kind_of, word_of};
 ghost use Rattle.scl_text.specs.Commands.{pairs_of};
-ghost use Rattle.scl_text.specs.Records.{outcome_of, parsed_of};
+ghost use Rattle.scl_text.specs.Records.{parsed_of};
 ghost use Rattle.scl_values.specs.Seen.{seen};
 ghost use Rattle.scl_values.specs.Tables.{tables_hold_values};
 ghost use Rattle.scl_values.specs.Words.{words_of};
-ghost use Rattle.scl_hazards.specs.ClangClHazards.{cl_found, cl_hazards_between, cl_hazards_of, cl_inner_words, cl_line, cl_options, cl_options_cut, msvc_hazards, splits_environment, splits_value};
-ghost use Rattle.scl_hazards.specs.GnuHazards.{inner_by, of_record};
+ghost use Rattle.scl_hazards.specs.ClangClHazards.{cl_found, cl_hazards_between, cl_inner_words, cl_line, cl_options, cl_options_cut, msvc_hazards, splits_environment, splits_value};
+ghost use Rattle.scl_hazards.specs.GnuHazards.{inner_by};
 ghost use Rattle.scl_hazards.specs.Lines.{line_of};
 
 use crate::clang_cl_rows::{cl_text_rows, cl_word_rows};
@@ -29,11 +29,9 @@ use scl_args::{Argument, Mem, OfKinds, SearchableArgInfo, texts};
 use scl_driver_texts::{Splitter, is_split_otherwise, splits_otherwise, texts_in_place};
 use scl_gnu_reading::gcc;
 use scl_msvc::msvc::surroundings;
-use scl_msvc_reading::msvc::{ArgData, Kind, Place, parse_arguments, place_of, trees};
+use scl_msvc_reading::msvc::{ArgData, Kind, Place, place_of, trees};
 use scl_text::command::{append_words, copy_words, push_words};
-use scl_text::{
-    CompilerArguments, ExpansionKind, ParsedArguments, Stop, View, cut_line, expand_all,
-};
+use scl_text::{ExpansionKind, ParsedArguments, Stop, View, cut_line, expand_all};
 use std::alloc::{AllocError, Global};
 
 impl Kinded for ArgData {
@@ -200,27 +198,6 @@ fn hazards_with(
     cl_found(alloc, &line)
 }
 
-/// The hazards of words, where the environment gives these of them.
-fn cl_hazards_of(
-    alloc: Global,
-    words: &[Vec<u8>],
-    cwd: &[u8],
-    view: &View,
-    environment: &[Vec<u8>],
-    is_split: bool,
-) -> Mem<Vec<Hazard>>
-    ensures { IfOk result (λ hazards. hazards.items ≡ cl_hazards_of cwd.now view.now (words_of words.now) (words_of environment.now) is_split) }
-{
-    match parse_arguments(alloc, words, cwd, true, view)? {
-        CompilerArguments::Ok(parsed) => {
-            hazards_with(alloc, words, cwd, view, environment, is_split, &parsed)
-        }
-        CompilerArguments::CannotCache(_, _) | CompilerArguments::NotCompilation => {
-            Ok(Vec::new(alloc))
-        }
-    }
-}
-
 /// The words between others.
 fn between(
     alloc: Global,
@@ -236,15 +213,17 @@ fn between(
     Ok(all)
 }
 
-/// The hazards of a command line of clang-cl, with the words that its environment gives; none where that is refused.
+/// The hazards of a command line of clang-cl that has this record, with the words that its environment gives; none where that
+/// is refused.
 fn cl_hazards(
     alloc: Global,
     words: &[Vec<u8>],
     cwd: &[u8],
     env_vars: &[(Vec<u8>, Vec<u8>)],
     view: &View,
+    parsed: &ParsedArguments,
 ) -> Mem<Vec<Hazard>>
-    ensures { IfOk result (λ hazards. hazards.items ≡ cl_hazards_between cwd.now (pairs_of env_vars.now) view.now (words_of words.now) (surroundings (pairs_of env_vars.now))) }
+    ensures { IfOk result (λ hazards. hazards.items ≡ cl_hazards_between cwd.now (pairs_of env_vars.now) view.now (words_of words.now) (surroundings (pairs_of env_vars.now)) (parsed_of parsed.now)) }
 {
     match surroundings(alloc, env_vars) {
         Ok((front, back)) => {
@@ -252,7 +231,7 @@ fn cl_hazards(
             let mut environment = front;
             append_words(&mut environment, back)?;
             let is_split = splits_environment(alloc, env_vars)?;
-            cl_hazards_of(alloc, &all, cwd, view, &environment, is_split)
+            hazards_with(alloc, &all, cwd, view, &environment, is_split, parsed)
         }
         Err(Stop::Refused(refusal)) => {
             drop(refusal);
@@ -262,7 +241,7 @@ fn cl_hazards(
     }
 }
 
-/// The hazards of a command line of cl or of clang-cl: of cl none is known.
+/// The hazards of a command line of cl or of clang-cl that has this record, if it has one: of cl none is known.
 #[tactic(auto, unfolding(crate::specs::ClangClHazards::msvc_hazards))]
 pub(crate) fn msvc_hazards(
     alloc: Global,
@@ -271,11 +250,15 @@ pub(crate) fn msvc_hazards(
     cwd: &[u8],
     env_vars: &[(Vec<u8>, Vec<u8>)],
     view: &View,
+    parsed: Option<&ParsedArguments>,
 ) -> Mem<Vec<Hazard>>
-    ensures { IfOk result (λ hazards. hazards.items ≡ msvc_hazards is_clang cwd.now (pairs_of env_vars.now) view.now (words_of words.now)) }
+    ensures { IfOk result (λ hazards. hazards.items ≡ msvc_hazards is_clang cwd.now (pairs_of env_vars.now) view.now (words_of words.now) (option_map parsed_of (option_copied parsed.entry))) }
 {
     if !is_clang {
         return Ok(Vec::new(alloc));
     }
-    cl_hazards(alloc, words, cwd, env_vars, view)
+    match parsed {
+        Some(parsed) => cl_hazards(alloc, words, cwd, env_vars, view, parsed),
+        None => Ok(Vec::new(alloc)),
+    }
 }

@@ -1,11 +1,12 @@
 //! The hazards of gcc's and clang's command lines.
 ghost use Rattle.std.specs.Prelude.{◌≡◌, ◌++◌, false, IfOk, IsTrue, OnOk, map, unwrap_or, []};
+ghost use Rattle.std.specs.Option.{option_copied, option_map};
 ghost use Rattle.scl_driver_texts.specs.InPlace.{texts_in_place};
 ghost use Rattle.scl_driver_texts.specs.Otherwise.{splits_otherwise};
 ghost use Rattle.scl_files.specs.Expand.{expand};
 ghost use Rattle.scl_gnu_reading.specs.Data.{holds_value, kind_of, word_of};
 ghost use Rattle.scl_text.specs.Commands.{object_of};
-ghost use Rattle.scl_text.specs.Records.{outcome_of, parsed_of};
+ghost use Rattle.scl_text.specs.Records.{parsed_of};
 ghost use Rattle.scl_values.specs.Seen.{seen};
 ghost use Rattle.scl_values.specs.Tables.{tables_hold_values};
 ghost use Rattle.scl_values.specs.Words.{words_of};
@@ -24,7 +25,7 @@ use scl_gnu_reading::clang::trees;
 use scl_gnu_reading::gcc::{ArgData, Kind, Place, place_of};
 use scl_text::command::copy_words;
 use scl_text::outputs::output_path;
-use scl_text::{CompilerArguments, ExpansionKind, ParsedArguments, View, cut_line, expand_all};
+use scl_text::{ExpansionKind, ParsedArguments, View, cut_line, expand_all};
 use std::alloc::Global;
 
 impl Kinded for ArgData {
@@ -237,7 +238,7 @@ fn hazards_with<S: SearchableArgInfo<ArgData> + Drop>(
     gnu_found(alloc, &line)
 }
 
-/// The hazards of a command line of which the answer is this: none where it has no record.
+/// The hazards of a command line that has this record, if it has one.
 #[tactic(auto, unfolding(crate::specs::GnuHazards::gnu_hazards))]
 pub(crate) fn gnu_hazards<S: SearchableArgInfo<ArgData> + Drop>(
     alloc: Global,
@@ -246,17 +247,13 @@ pub(crate) fn gnu_hazards<S: SearchableArgInfo<ArgData> + Drop>(
     words: &[Vec<u8>],
     cwd: &[u8],
     view: &View,
-    answer: &CompilerArguments<ParsedArguments>,
+    parsed: Option<&ParsedArguments>,
 ) -> Mem<Vec<Hazard>>
     requires { IsTrue (tables_hold_values holds_value (S.tables arg_info)) }
-    ensures { IfOk result (λ hazards. hazards.items ≡ gnu_hazards asked.driver asked.is_apple asked.is_plusplus (S.tables arg_info) cwd.now view.now (words_of words.now) (outcome_of answer.now)) }
+    ensures { IfOk result (λ hazards. hazards.items ≡ gnu_hazards asked.driver asked.is_apple asked.is_plusplus (S.tables arg_info) cwd.now view.now (words_of words.now) (option_map parsed_of (option_copied parsed.entry))) }
 {
-    match answer {
-        CompilerArguments::Ok(parsed) => {
-            hazards_with(alloc, asked, arg_info, words, cwd, view, parsed)
-        }
-        CompilerArguments::CannotCache(_, _) | CompilerArguments::NotCompilation => {
-            Ok(Vec::new(alloc))
-        }
+    match parsed {
+        Some(parsed) => hazards_with(alloc, asked, arg_info, words, cwd, view, parsed),
+        None => Ok(Vec::new(alloc)),
     }
 }

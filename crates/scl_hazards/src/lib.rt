@@ -21,6 +21,3 @@ mod text;
 pub use compilers::HasHazards;
 pub use driver::Driver;
 pub use hazard::{Danger, HAZARDS, Hazard};
-
-#[cfg(test)]
-mod tests;

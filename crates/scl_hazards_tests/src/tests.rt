@@ -152,7 +152,7 @@ fn is_in(rows: &str, hazard: Hazard) -> bool {
 
 #[test]
 fn each_hazard_has_a_row(rt: HostRuntime) -> Result<(), Fail> {
-    for hazard in HAZARDS {
+    for &hazard in HAZARDS {
         let has_row = is_in(gnu::GCC, hazard)
             || is_in(gnu::CLANG, hazard)
             || is_in(clang_cl::ROWS, hazard);

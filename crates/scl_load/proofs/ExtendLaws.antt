@@ -1,9 +1,9 @@
--- A view still has only what the disk has, where what is put into it is on the disk.
-use Rattle.std.proofs.Common.{◌≡◌, ℕ, Bool, true, false, cond, ◌||◌, List, [], ◌∷◌, Some, refl, sym, ◌∙◌}
+-- A view still has only what the disk has, and all that it had, where what is put into it is on the disk.
+use Rattle.std.proofs.Common.{◌≡◌, ℕ, Bool, true, false, cond, ◌||◌, List, [], ◌∷◌, Some, refl, sym, ap, ◌∙◌}
 use Rattle.std.specs.Prelude.{is_some}
 use Rattle.scl_files.specs.Paths.{same_path}
 use Rattle.scl_files.specs.Views.{File, Viewed, bytes_at, put_file, is_among, is_directory, exists}
-use Rattle.scl_files.proofs.SamePath.{same_path-right}
+use Rattle.scl_files.proofs.SamePath.{same_path-right, same_path-same}
 use Rattle.scl_files.proofs.ViewLemmas.{bytes_at-put}
 use Rattle.scl_cl.specs.Questions.{Extends}
 
@@ -97,3 +97,87 @@ extends-empty disk multiarch e = record {
   existing = λ other h. absurd (cc);
   multiarch = e;
 }
+
+-- ---- what the view had
+
+or-true-end : (a b c : Bool) → (a || (b || (true || c))) ≡ true
+or-true-end true b c = refl
+or-true-end false true c = refl
+or-true-end false false c = refl
+
+pub extends-same : (view : Viewed) → Extends view view
+extends-same view = record {
+  files = λ other b e. e;
+  directories = λ other e. e;
+  existing = λ other e. e;
+  multiarch = refl;
+}
+
+pub extends-behind : (last middle first : Viewed) → Extends last middle → Extends middle first → Extends last first
+extends-behind last middle first one two = record {
+  files = λ other b e. one.files other b (two.files other b e);
+  directories = λ other e. one.directories other (two.directories other e);
+  existing = λ other e. one.existing other (two.existing other e);
+  multiarch = one.multiarch ∙ two.multiarch;
+}
+
+or-right : (a b : Bool) → b ≡ true → (a || b) ≡ true
+or-right true b e = refl
+or-right false b e = e
+
+in-middle : (a s d e : Bool) → (a || (d || e)) ≡ true → (a || ((s || d) || e)) ≡ true
+in-middle true s d e h = refl
+in-middle false true d e h = refl
+in-middle false false d e h = h
+
+at-end : (a d s e : Bool) → (a || (d || e)) ≡ true → (a || (d || (s || e))) ≡ true
+at-end true d s e h = refl
+at-end false true s e h = refl
+at-end false false true e h = refl
+at-end false false false e h = h
+
+module _ (before : Viewed) (path : List ℕ) where
+  pub keeps-directory : Extends (record before { directories = path ∷ before.directories }) before
+  keeps-directory = record {
+    files = λ other b e. e;
+    directories = λ other e. or-right (same_path path other) (is_directory other before) e;
+    existing = λ other e. in-middle (is_some (bytes_at other before.files)) (same_path path other) (is_directory other before) (is_among other before.existing) e;
+    multiarch = refl;
+  }
+
+  pub keeps-existing : Extends (record before { existing = path ∷ before.existing }) before
+  keeps-existing = record {
+    files = λ other b e. e;
+    directories = λ other e. e;
+    existing = λ other e. at-end (is_some (bytes_at other before.files)) (is_directory other before) (same_path path other) (is_among other before.existing) e;
+    multiarch = refl;
+  }
+
+  -- a file that the disk has too
+  pub keeps-file : (disk : Viewed) (bytes : List ℕ) → Extends disk before → bytes_at path disk.files ≡ Some bytes
+      → Extends (record before { files = put_file (record { path = path; bytes = bytes }) before.files }) before
+  keeps-file disk bytes extends there = record {
+    files = λ other b e. bytes_at-put (record { path = path; bytes = bytes }) other before.files
+        ∙ elim (same_path path other) as (λ s. same_path path other ≡ s → cond s (Some bytes) (bytes_at other before.files) ≡ Some b) [
+          | true ↦ λ k. sym there ∙ bytes-alike path other disk.files k ∙ extends.files other b e
+          | false ↦ λ _. e
+        ] refl;
+    directories = λ other e. e;
+    existing = λ other e. rw (bytes_at-put (record { path = path; bytes = bytes }) other before.files)
+        (elim (same_path path other) as (λ s. (is_some (cond s (Some bytes) (bytes_at other before.files)) || (is_directory other before || is_among other before.existing)) ≡ true) [
+          | true ↦ refl
+          | false ↦ e
+        ]);
+    multiarch = refl;
+  }
+
+  -- what was put is there
+  pub has-file : (bytes : List ℕ) → bytes_at path (put_file (record { path = path; bytes = bytes }) before.files) ≡ Some bytes
+  has-file bytes = bytes_at-put (record { path = path; bytes = bytes }) path before.files ∙ ap (λ s. cond s (Some bytes) (bytes_at path before.files)) (same_path-same path)
+
+  pub has-directory : is_directory path (record before { directories = path ∷ before.directories }) ≡ true
+  has-directory = ap (λ s. s || is_among path before.directories) (same_path-same path)
+
+  pub has-existing : exists path (record before { existing = path ∷ before.existing }) ≡ true
+  has-existing = ap (λ s. is_some (bytes_at path before.files) || (is_directory path before || (s || is_among path before.existing))) (same_path-same path)
+      ∙ or-true-end (is_some (bytes_at path before.files)) (is_directory path before) (is_among path before.existing)

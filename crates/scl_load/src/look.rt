@@ -1,9 +1,8 @@
 //! What is asked is looked for on a disk, and what is found is put into a view.
 ghost use Rattle.std.specs.Prelude.{◌≡◌, ◌||◌, IfOk, IfErr};
 ghost use Rattle.scl_values.specs.Words.{words_of};
-ghost use Rattle.scl_cl.specs.Questions.{HasNoneOf};
 ghost use Rattle.scl_cl.specs.QuestionsGiven.{given};
-ghost use Rattle.scl_load.specs.Loads.{IsLookedFor, IsAbsent, AreAbsent};
+ghost use Rattle.scl_load.specs.Loads.{IsLookedFor, IsAbsent, AreAbsent, IsSame, AreSame, AreAllSame, HasNoneAsked};
 
 use crate::disk::Disk;
 use scl_cl::{Mem, Questions, View};
@@ -30,7 +29,7 @@ fn look_for_file<D: Disk>(
     view: &mut View,
     path: &[u8],
 ) -> Mem<Result<bool, D::Error>>
-    ensures found { IfOk result (λ read. IfOk read (λ found. IsLookedFor (D.holds disk.now) (IsAbsent Sought.File path.now) view.old view.new found)) }
+    ensures found { IfOk result (λ read. IfOk read (λ found. IsLookedFor (D.holds disk.now) (IsAbsent Sought.File path.now) (IsSame Sought.File path.now) view.old view.new found)) }
     ensures error { IfOk result (λ read. IfErr read (λ error. D.fails disk.now error)) }
 {
     if view.file(path).is_some() {
@@ -53,7 +52,7 @@ fn look_for_directory<D: Disk>(
     view: &mut View,
     path: &[u8],
 ) -> Mem<Result<bool, D::Error>>
-    ensures found { IfOk result (λ read. IfOk read (λ found. IsLookedFor (D.holds disk.now) (IsAbsent Sought.Directory path.now) view.old view.new found)) }
+    ensures found { IfOk result (λ read. IfOk read (λ found. IsLookedFor (D.holds disk.now) (IsAbsent Sought.Directory path.now) (IsSame Sought.Directory path.now) view.old view.new found)) }
     ensures error { IfOk result (λ read. IfErr read (λ error. D.fails disk.now error)) }
 {
     if view.is_dir(path) {
@@ -76,7 +75,7 @@ fn look_for_existing<D: Disk>(
     view: &mut View,
     path: &[u8],
 ) -> Mem<Result<bool, D::Error>>
-    ensures found { IfOk result (λ read. IfOk read (λ found. IsLookedFor (D.holds disk.now) (IsAbsent Sought.Existing path.now) view.old view.new found)) }
+    ensures found { IfOk result (λ read. IfOk read (λ found. IsLookedFor (D.holds disk.now) (IsAbsent Sought.Existing path.now) (IsSame Sought.Existing path.now) view.old view.new found)) }
     ensures error { IfOk result (λ read. IfErr read (λ error. D.fails disk.now error)) }
 {
     if view.exists(path) {
@@ -99,7 +98,7 @@ fn look_for<D: Disk>(
     sought: Sought,
     path: &[u8],
 ) -> Mem<Result<bool, D::Error>>
-    ensures found { IfOk result (λ read. IfOk read (λ found. IsLookedFor (D.holds disk.now) (IsAbsent sought path.now) view.old view.new found)) }
+    ensures found { IfOk result (λ read. IfOk read (λ found. IsLookedFor (D.holds disk.now) (IsAbsent sought path.now) (IsSame sought path.now) view.old view.new found)) }
     ensures error { IfOk result (λ read. IfErr read (λ error. D.fails disk.now error)) }
 {
     match sought {
@@ -117,7 +116,7 @@ fn look_for_each<D: Disk>(
     sought: Sought,
     paths: &[Vec<u8>],
 ) -> Mem<Result<bool, D::Error>>
-    ensures found { IfOk result (λ read. IfOk read (λ found. IsLookedFor (D.holds disk.now) (AreAbsent sought (words_of paths.now)) view.old view.new found)) }
+    ensures found { IfOk result (λ read. IfOk read (λ found. IsLookedFor (D.holds disk.now) (AreAbsent sought (words_of paths.now)) (AreSame sought (words_of paths.now)) view.old view.new found)) }
     ensures error { IfOk result (λ read. IfErr read (λ error. D.fails disk.now error)) }
 {
     let mut any = false;
@@ -143,7 +142,7 @@ pub(crate) fn look_for_all<D: Disk>(
     view: &mut View,
     questions: &Questions,
 ) -> Mem<Result<bool, D::Error>>
-    ensures found { IfOk result (λ read. IfOk read (λ found. IsLookedFor (D.holds disk.now) (λ held. HasNoneOf held (given questions.now)) view.old view.new found)) }
+    ensures found { IfOk result (λ read. IfOk read (λ found. IsLookedFor (D.holds disk.now) (HasNoneAsked (given questions.now)) (AreAllSame (given questions.now)) view.old view.new found)) }
     ensures error { IfOk result (λ read. IfErr read (λ error. D.fails disk.now error)) }
 {
     let sought = Sought::File;

@@ -1,5 +1,6 @@
 //! A disk in memory.
 ghost use Rattle.std.specs.Prelude.{◌≡◌, IsTrue, IsSome};
+ghost use Rattle.scl_load.specs.MemoryDisks.{is_broken};
 
 use crate::disk::Disk;
 use scl_text::{Mem, View};
@@ -27,7 +28,8 @@ impl fmt::Display for Broken {
 
 impl MemoryDisk {
     fn is_broken(&self, path: &[u8]) -> bool
-        ensures { IsTrue result → IsSome self.now.broken }
+        ensures path { result ≡ is_broken self.now.broken path.now }
+        ensures some { IsTrue result → IsSome self.now.broken }
     {
         match &self.broken {
             Some(broken) => broken.as_slice() == path,
@@ -37,13 +39,22 @@ impl MemoryDisk {
 }
 
 impl Disk for MemoryDisk {
+    ghost use Rattle.std.specs.Prelude.{◌≡◌, IfOk, IfErr, is_ok, not};
+    ghost use Rattle.std.specs.Option.{option_map};
+    ghost use Rattle.scl_files.specs.Views.{Viewed, bytes_at, is_directory, exists};
+    ghost use Rattle.scl_load.specs.MemoryDisks.{is_broken};
+
     type Error = Broken;
 
     ghost holds = { λ disk held. disk.view ≡ held };
 
     ghost fails = { λ disk _. IsSome disk.broken };
 
-    fn file(&self, alloc: Global, path: &[u8]) -> Mem<Result<Option<Vec<u8>>, Broken>> {
+    fn file(&self, alloc: Global, path: &[u8]) -> Mem<Result<Option<Vec<u8>>, Broken>>
+        ensures found { IfOk result (λ read. IfOk read (λ found. (disk : Viewed) → self.now.view ≡ disk → option_map (λ bytes. bytes.items) found ≡ bytes_at path.now disk.files)) }
+        ensures error { IfOk result (λ read. IfErr read (λ error. IsSome self.now.broken)) }
+        ensures broken { IfOk result (λ read. is_ok read ≡ not (is_broken self.now.broken path.now)) }
+    {
         if self.is_broken(path) {
             return Ok(Err(Broken));
         }
@@ -53,14 +64,22 @@ impl Disk for MemoryDisk {
         }
     }
 
-    fn is_dir(&self, _alloc: Global, path: &[u8]) -> Mem<Result<bool, Broken>> {
+    fn is_dir(&self, _alloc: Global, path: &[u8]) -> Mem<Result<bool, Broken>>
+        ensures found { IfOk result (λ read. IfOk read (λ found. (disk : Viewed) → self.now.view ≡ disk → found ≡ is_directory path.now disk)) }
+        ensures error { IfOk result (λ read. IfErr read (λ error. IsSome self.now.broken)) }
+        ensures broken { IfOk result (λ read. is_ok read ≡ not (is_broken self.now.broken path.now)) }
+    {
         if self.is_broken(path) {
             return Ok(Err(Broken));
         }
         Ok(Ok(self.view.is_dir(path)))
     }
 
-    fn exists(&self, _alloc: Global, path: &[u8]) -> Mem<Result<bool, Broken>> {
+    fn exists(&self, _alloc: Global, path: &[u8]) -> Mem<Result<bool, Broken>>
+        ensures found { IfOk result (λ read. IfOk read (λ found. (disk : Viewed) → self.now.view ≡ disk → found ≡ exists path.now disk)) }
+        ensures error { IfOk result (λ read. IfErr read (λ error. IsSome self.now.broken)) }
+        ensures broken { IfOk result (λ read. is_ok read ≡ not (is_broken self.now.broken path.now)) }
+    {
         if self.is_broken(path) {
             return Ok(Err(Broken));
         }

@@ -5,7 +5,7 @@ ghost use Rattle.scl_files.specs.Views.{Viewed};
 ghost use Rattle.scl_text.specs.Commands.{pairs_of};
 ghost use Rattle.scl_cl.specs.Answers.{answer_to};
 ghost use Rattle.scl_cl.specs.Requests.{asked};
-ghost use Rattle.scl_load.specs.Loads.{IsDiskError};
+ghost use Rattle.scl_load.specs.Loads.{IsDiskError, IsEnd, load_of};
 
 use crate::disk::Disk;
 use crate::look::look_for_all;
@@ -41,6 +41,8 @@ pub fn load<D: Disk>(
 ) -> Mem<Result<View, LoadError<D::Error>>>
     ensures answer { IfOk result (λ said. IfOk said (λ view. (held : Viewed) → D.holds disk.now held → held.is_multiarch ≡ multiarch
         → answer_to (asked compiler (words_of words.now) cwd.now (pairs_of env_vars.now) held) ≡ answer_to (asked compiler (words_of words.now) cwd.now (pairs_of env_vars.now) view))) }
+    ensures end { IfOk result (λ said. (held : Viewed) → D.holds disk.now held → held.is_multiarch ≡ multiarch
+        → IsEnd held (load_of compiler (words_of words.now) cwd.now (pairs_of env_vars.now) multiarch most rounds) said) }
     ensures error { IfOk result (λ said. IfErr said (λ error. IsDiskError (D.fails disk.now) error)) }
 {
     let mut view = View::new(alloc);

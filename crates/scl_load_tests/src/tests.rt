@@ -156,7 +156,7 @@ fn what_is_not_asked_is_not_read(rt: HostRuntime) -> Result<(), Fail> {
 }
 
 #[test]
-fn what_is_loaded_tells(rt: HostRuntime) -> Result<(), Fail> {
+fn a_file_that_is_loaded_changes_the_answer(rt: HostRuntime) -> Result<(), Fail> {
     let request = ASKINGS[9].request;
     let asked = asked_by(rt.alloc(), request)?;
     let nothing = text_in(rt.alloc(), &asked, &View::new(rt.alloc()))?;
@@ -168,7 +168,7 @@ fn what_is_loaded_tells(rt: HostRuntime) -> Result<(), Fail> {
 }
 
 #[test]
-fn bounds_are_told(rt: HostRuntime) -> Result<(), Fail> {
+fn a_load_past_a_bound_says_which(rt: HostRuntime) -> Result<(), Fail> {
     let request = ASKINGS[0].request;
     let rounds = loaded(rt.alloc(), request, None, 100, 3)?;
     assert!(rt; matches!(rounds, Err(LoadError::TooManyRounds)));

@@ -29,7 +29,7 @@ macro_rules! names {
 }
 
 /// The names that are known. No program is called by two of them.
-static NAMES: [Name; 10] = names![
+static NAMES: &[Name] = &names![
     "clang-cl" Prefixed ClangCl,
     "clang++" Prefixed Clangxx,
     "clang" Prefixed Clang,
@@ -45,7 +45,7 @@ static NAMES: [Name; 10] = names![
 fn names() -> &'static [Name]
     ensures { map entry_of result.now ≡ names }
 {
-    &NAMES
+    NAMES
 }
 
 /// Whether a name may stand behind this.

@@ -8,12 +8,12 @@ use scl_cl::Mem;
 use std::alloc::Global;
 
 /// The programs that run the compiler which a later word names.
-static LAUNCHERS: [&str; 5] = ["ccache", "sccache", "distcc", "icecc", "env"];
+static LAUNCHERS: &[&str] = &["ccache", "sccache", "distcc", "icecc", "env"];
 
 fn launchers() -> &'static [&'static str]
     ensures { map (λ text. text.now) result.now ≡ launchers }
 {
-    &LAUNCHERS
+    LAUNCHERS
 }
 
 fn is_one_of(texts: &[&'static str], stem: &[u8]) -> bool

@@ -23,7 +23,7 @@ const OTHER: &str = "The compiler's table refuses this; run the command as given
 pub fn explanations() -> &'static [Explanation]
     ensures { map explained result.now ≡ table }
 {
-    &EXPLANATIONS
+    EXPLANATIONS
 }
 
 /// Whether it explains the reason.

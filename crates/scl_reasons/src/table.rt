@@ -11,7 +11,7 @@ macro_rules! explanations {
 
 /// Each reason once: those that are no flags, and then flags. A flag is the reason where its kind is refused whatever its
 /// value, and where it is the driver's and can't be handed on.
-pub(crate) static EXPLANATIONS: [Explanation; 33] = explanations![
+pub(crate) static EXPLANATIONS: &[Explanation] = &explanations![
     "A word or a value names a response file that was not put in its place; hand the file in, or write its words out.":
         UNEXPANDED_FILE;
     "A flag has an empty value; write the value behind it, or leave the flag out.":

@@ -129,7 +129,7 @@ fn rows_of_clang_cl_have_those_of_the_environment(rt: HostRuntime) -> Result<(),
 }
 
 #[test]
-fn rows_of_diab_and_tasking(rt: HostRuntime) -> Result<(), Fail> {
+fn rows_of_diab_and_tasking_say_where_options_go(rt: HostRuntime) -> Result<(), Fail> {
     let diab = [
         "-c,DoCompilation,compile-flag,given,,0",
         "a.c,raw,input,given,,1",

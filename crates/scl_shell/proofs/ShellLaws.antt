@@ -1,14 +1,14 @@
 -- The laws of a shell's texts.
 use Rattle.std.proofs.Common.{◌≡◌, ℕ, ◌==◌, ◌||◌, ◌&&◌, Bool, true, false, not, cond, List, [], ◌∷◌, ◌++◌, length, Option, None, Some, Ok, Err, refl, sym, ap, subst, ◌∙◌, append_assoc, arith, inl, inr, ◌⊎◌}
 use Rattle.std.proofs.lemmas.List.{append-nil}
-use Rattle.std.proofs.lemmas.Bool.{eqb-true}
+use Rattle.std.proofs.lemmas.Bool.{eqb-true, cases_Bool}
 use Rattle.std.specs.List.{list_all, flat_map}
 use Rattle.scl_shell.specs.Laws.{EachTextHasOneReading, BrokenTextsHaveNoWords, QuotedWordsAreReadBack}
-use Rattle.scl_shell.specs.ShellText.{with, AreWords, IsBroken}
+use Rattle.scl_shell.specs.ShellText.{with}
 use Rattle.scl_shell.specs.Quoted.{is_plain, is_bare, in_quotes, in_single_quotes, quoted, quoted_next, quoted_text}
 use Rattle.scl_shell.specs.declared.split.ShellError.{ShellError}
 use Rattle.scl_shell.specs.declared.split.Mode.TheVariants as mode
-use Rattle.scl_shell.proofs.ShellLemmas.{Said, before, before-nil, read_from, with-with, bool_cases, words_read, broken_read, read_means}
+use Rattle.scl_shell.proofs.ShellLemmas.{Said, before, before-nil, read_from, with-with, words_read, broken_read, read_means}
 
 same_words : (words others : List (List ℕ)) (said : Said) → said ≡ Ok words → said ≡ Ok others → words ≡ others
 same_words words others said a b = cc
@@ -66,7 +66,7 @@ quoted_byte c word ih (inr q) = λ rest m begun. rw (q, q) (before-nil _ ∙ rw 
 
 read_in_quotes : (word : List ℕ) → ReadsInQuotes word
 read_in_quotes [] = λ rest m begun. rw append-nil (before-nil _)
-read_in_quotes (c ∷ word) = quoted_byte c word (read_in_quotes word) (bool_cases (c == 39))
+read_in_quotes (c ∷ word) = quoted_byte c word (read_in_quotes word) (cases_Bool (c == 39))
 
 -- a quoted word is read as the word, whatever follows
 read_single_quoted : (word rest : List ℕ) → read_from mode.Plain None (in_single_quotes word ++ rest) ≡ read_from mode.Plain (Some word) rest

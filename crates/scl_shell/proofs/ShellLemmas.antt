@@ -1,12 +1,11 @@
 -- Reading a text byte by byte gives the words of its pieces.
-use Rattle.std.proofs.Common.{◌≡◌, ◌≢◌, ℕ, ◌==◌, Bool, true, false, List, [], ◌∷◌, ◌++◌, Option, None, Some, Result, Ok, Err, refl, sym, ap, subst, ◌∙◌, ◌+◌, ◌<◌, ◌≤◌, length, get_or, drop, add-one, drop-cons, append_assoc, arith, ◌⊎◌, inl, inr}
+use Rattle.std.proofs.Common.{◌≡◌, ◌≢◌, ℕ, ◌==◌, Bool, true, false, List, [], ◌∷◌, ◌++◌, Option, None, Some, Result, Ok, Err, refl, sym, ap, subst, ◌∙◌, ◌+◌, ◌≤◌, length, drop, append_assoc, arith, ◌⊎◌, inl, inr}
 use Rattle.std.proofs.lemmas.List.{append-nil, drop_all}
-use Rattle.std.proofs.lemmas.Bool.{eqb-true}
+use Rattle.std.proofs.lemmas.Bool.{eqb-true, cases_Bool}
 use Rattle.scl_shell.specs.ShellText.{is_blank, is_special, HasNone, none, more, Inside, nothing, one, special, line_end, other, Piece, gap, stands, ArePieces, end, blank, plain, escaped, continued, single, double, with, kept, joined, AreWords, IsBroken, last_backslash, open_single, open_double, open_escape}
 use Rattle.scl_shell.specs.ShellReader.{mark_of, mode_after, closed, begun_after}
 use Rattle.scl_shell.specs.declared.split.ShellError.{ShellError}
 use Rattle.scl_shell.specs.declared.split.ShellError.TheVariants as errors
-use Rattle.scl_shell.specs.declared.split.Mark.{Mark}
 use Rattle.scl_shell.specs.declared.split.Mode.{Mode}
 use Rattle.scl_shell.specs.declared.split.Mode.TheVariants as mode
 
@@ -35,20 +34,9 @@ pub before-nil : (s : Said) → before [] s ≡ s
 before-nil (Ok vs) = refl
 before-nil (Err e) = refl
 
-pub before-append : (xs ys : List (List ℕ)) (s : Said) → before (xs ++ ys) s ≡ before xs (before ys s)
-before-append xs ys (Ok vs) = rw append_assoc refl
-before-append xs ys (Err e) = refl
-
 pub with-with : (b : Option (List ℕ)) (m n : List ℕ) → with (with b m) n ≡ with b (m ++ n)
 with-with None m n = refl
 with-with (Some w) m n = rw append_assoc refl
-
-pub with-nil : (b : Option (List ℕ)) (m : List ℕ) → with (with b []) m ≡ with b m
-with-nil b m = with-with b [] m
-
-pub bool_cases : (b : Bool) → (b ≡ true) ⊎ (b ≡ false)
-bool_cases true = inl refl
-bool_cases false = inr refl
 
 pub differs : (a b : ℕ) → a ≢ b → (a == b) ≡ false
 differs a b h = grind arith
@@ -225,11 +213,11 @@ told_at [] behind_backslash = inr (errors.LastBackslash, last_backslash [] [] en
 told_at [] (in_single s) = λ h. inr (errors.OpenQuote, rw append-nil (open_single [] s [] end h))
 told_at [] (in_double s m) = λ h. inr (errors.OpenQuote, rw append-nil (open_double [] s m [] end h))
 told_at [] (in_double_behind_backslash s m) = λ h. inr (errors.OpenQuote, open_escape [] s m [] end h)
-told_at (c ∷ t) outside = told_outside c t (told_at t) (bool_cases (is_blank c)) (bool_cases (c == 92)) (bool_cases (c == 39)) (bool_cases (c == 34))
-told_at (c ∷ t) behind_backslash = told_escaped c t (told_at t outside) (bool_cases (c == 10))
-told_at (c ∷ t) (in_single s) = λ h. told_single c t s (told_at t) (bool_cases (c == 39)) h
-told_at (c ∷ t) (in_double s m) = λ h. told_double c t s m (told_at t) (bool_cases (c == 34)) (bool_cases (c == 92)) h
-told_at (c ∷ t) (in_double_behind_backslash s m) = λ h. told_double_escaped c t s m (told_at t) (bool_cases (c == 10)) (bool_cases (is_special c)) h
+told_at (c ∷ t) outside = told_outside c t (told_at t) (cases_Bool (is_blank c)) (cases_Bool (c == 92)) (cases_Bool (c == 39)) (cases_Bool (c == 34))
+told_at (c ∷ t) behind_backslash = told_escaped c t (told_at t outside) (cases_Bool (c == 10))
+told_at (c ∷ t) (in_single s) = λ h. told_single c t s (told_at t) (cases_Bool (c == 39)) h
+told_at (c ∷ t) (in_double s m) = λ h. told_double c t s m (told_at t) (cases_Bool (c == 34)) (cases_Bool (c == 92)) h
+told_at (c ∷ t) (in_double_behind_backslash s m) = λ h. told_double_escaped c t s m (told_at t) (cases_Bool (c == 10)) (cases_Bool (is_special c)) h
 
 -- what is read is what the text says
 abbrev Means : List ℕ → Said → Type 0
@@ -256,29 +244,6 @@ ended-open m done begun (inr (inr e)) = rw e refl
 
 pub ended-plain : (m : Mode) (done all : List (List ℕ)) (begun : Option (List ℕ)) → m ≡ mode.Plain → all ≡ done ++ kept begun → before done (ended m begun) ≡ Ok all
 ended-plain m done all begun e h = rw (e, h) refl
-
--- ---- a step of the loop
-
-pub record IsStep (m m' : Mode) (k : Mark) (c : ℕ) (done done' : List (List ℕ)) (begun begun' : Option (List ℕ)) : Type 0 where
-  pub mode_is : m' ≡ mode_after m c
-  pub mark_is : k ≡ mark_of m c
-  pub done_is : done' ≡ done ++ closed k begun
-  pub begun_is : begun' ≡ begun_after k c begun
-
-read_step : (m m' : Mode) (k : Mark) (c : ℕ) (done done' : List (List ℕ)) (begun begun' : Option (List ℕ)) (rest : List ℕ) → IsStep m m' k c done done' begun begun'
-    → before done' (read_from m' begun' rest) ≡ before done (read_from m begun (c ∷ rest))
-read_step m m' k c done done' begun begun' rest s =
-    rw (s.done_is, s.begun_is, s.mode_is, s.mark_is) (before-append done (closed (mark_of m c) begun) (read_from (mode_after m c) (begun_after (mark_of m c) c begun) rest))
-
-drop-here : (text : List ℕ) (i : ℕ) → i < length text → get_or text i 0 ∷ drop (i + 1) text ≡ drop i text
-drop-here text i h = rw add-one (sym (drop-cons text i 0 h))
-
-pub next_step : (m m' : Mode) (k : Mark) (text : List ℕ) (i : ℕ) (done done' : List (List ℕ)) (begun begun' : Option (List ℕ)) (total : Said) → i < length text
-    → IsStep m m' k (get_or text i 0) done done' begun begun' → before done (read_from m begun (drop i text)) ≡ total → before done' (read_from m' begun' (drop (i + 1) text)) ≡ total
-next_step m m' k text i done done' begun begun' total h s e =
-    read_step m m' k (get_or text i 0) done done' begun begun' (drop (i + 1) text) s
-    ∙ ap (λ (rest : List ℕ). before done (read_from m begun rest)) (drop-here text i h)
-    ∙ e
 
 pub last_step : (text : List ℕ) (i : ℕ) (m : Mode) (done : List (List ℕ)) (begun : Option (List ℕ)) (said : Said) → length text ≤ i
     → before done (read_from m begun (drop i text)) ≡ read_from mode.Plain None text → before done (ended m begun) ≡ said → Means text said

@@ -1,5 +1,5 @@
 -- What `shell_words` makes of one byte.
-use Rattle.std.specs.Prelude.{ℕ, ◌==◌, ◌||◌, cond, List, [], ◌∷◌, ◌++◌, Option, None, Some, Vec}
+use Rattle.std.specs.Prelude.{ℕ, ◌==◌, ◌||◌, cond, List, [], ◌∷◌, Option, None, Vec}
 use Rattle.std.specs.Option.{option_map}
 use Rattle.std.specs.declared.alloc.Global.{Global}
 use Rattle.scl_shell.specs.ShellText.{is_blank, is_special, line_feed, double_quote, single_quote, backslash, kept, with}

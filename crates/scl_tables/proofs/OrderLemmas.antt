@@ -1,4 +1,5 @@
-use Rattle.std.proofs.Common.{◌≡◌, ◌≢◌, ℕ, zero, suc, ◌+◌, ◌<◌, ◌≤◌, Bool, true, false, cond, nat_lt, nat_eq, ◌==◌, ◌&&◌, List, [], ◌∷◌, length, drop, take, slice_index_or, None, Some, refl, sym, ap, subst, ◌∙◌, length-drop, arith}
+use Rattle.std.proofs.Common.{◌≡◌, ◌≢◌, ℕ, zero, suc, ◌+◌, ◌<◌, ◌≤◌, true, false, cond, nat_lt, nat_eq, ◌==◌, ◌&&◌, List, [], ◌∷◌, length, drop, take, slice_index_or, None, Some, refl, sym, ap, subst, ◌∙◌, length-drop, arith}
+use Rattle.std.proofs.lemmas.Bool.{and_parts}
 use Rattle.std.proofs.lemmas.Bool.Decides.{nat_tests}
 use Rattle.std.specs.Cmp.Lexicographic.{pointwise, slice_cmp}
 use Rattle.std.specs.Ordering.{nat_cmp, is_gt, is_lt, ordering_then, ordering_reverse, MatchOrdering}
@@ -12,10 +13,6 @@ use Rattle.scl_tables.proofs.TablesLemmas.{owner_cons, longer_longer}
 
 abbrev pub cmp : List ℕ → List ℕ → Ordering
 cmp = slice_cmp nat_cmp
-
-both : (a b : Bool) → (a && b) ≡ true → (a ≡ true) × (b ≡ true)
-both true b h = (refl, h)
-both false b h = absurd (cc)
 
 pub is_less : (o : Ordering) → is_lt o ≡ true → o ≡ Less
 is_less Less h = refl
@@ -33,18 +30,18 @@ first_below : {K : Type 0} (flag : List ℕ) (rows : List (Row K)) → comes_bef
 first_below flag [] c t k d h = absurd (omega arith)
 first_below flag (row ∷ rows) c t zero d h = is_less _ c
 first_below flag (row ∷ rows) c t (suc k) d h =
-    let ab = both (has_ascii_delimiter row.shape && comes_before row.flag rows) (is_table rows) t in
-    let a = both (has_ascii_delimiter row.shape) (comes_before row.flag rows) ab.0 in
+    let ab = and_parts (has_ascii_delimiter row.shape && comes_before row.flag rows) (is_table rows) t in
+    let a = and_parts (has_ascii_delimiter row.shape) (comes_before row.flag rows) ab.0 in
     nat_list_cmp_total.trans flag row.flag (slice_index_or rows k d).flag (is_less _ c) (first_below row.flag rows a.1 ab.1 k d (omega arith))
 
 pub rising : {K : Type 0} (rows : List (Row K)) → is_table rows ≡ true → (j k : ℕ) (d : Row K) → j < k → k < length rows → cmp (slice_index_or rows j d).flag (slice_index_or rows k d).flag ≡ Less
 rising [] t j k d h l = absurd (omega arith)
 rising (row ∷ rows) t j zero d h l = absurd (omega arith)
 rising (row ∷ rows) t zero (suc k) d h l =
-    let ab = both (has_ascii_delimiter row.shape && comes_before row.flag rows) (is_table rows) t in
-    let a = both (has_ascii_delimiter row.shape) (comes_before row.flag rows) ab.0 in
+    let ab = and_parts (has_ascii_delimiter row.shape && comes_before row.flag rows) (is_table rows) t in
+    let a = and_parts (has_ascii_delimiter row.shape) (comes_before row.flag rows) ab.0 in
     first_below row.flag rows a.1 ab.1 k d (omega arith)
-rising (row ∷ rows) t (suc j) (suc k) d h l = let ab = both (has_ascii_delimiter row.shape && comes_before row.flag rows) (is_table rows) t in rising rows ab.1 j k d (omega arith) (omega arith)
+rising (row ∷ rows) t (suc j) (suc k) d h l = let ab = and_parts (has_ascii_delimiter row.shape && comes_before row.flag rows) (is_table rows) t in rising rows ab.1 j k d (omega arith) (omega arith)
 
 greater_up : (x y key : List ℕ) → cmp x y ≡ Less → is_gt (cmp x key) ≡ true → is_gt (cmp y key) ≡ true
 greater_up x y key l g =
@@ -148,9 +145,6 @@ common_end xs ys n h = common_none xs (drop n ys) (omega (arith, length-drop n y
 
 -- ---- the owner, by places
 
-abbrev at_place : {K : Type 0} → List (Row K) → ℕ → Row K → Row K
-at_place rows k d = slice_index_or rows k d
-
 pub owner_none : {K : Type 0} (rows : List (Row K)) (word : List ℕ) → ((k : ℕ) (d : Row K) → k < length rows → fits (slice_index_or rows k d) word ≡ false) → owner rows word ≡ None
 owner_none [] word h = refl
 owner_none (row ∷ rows) word h = owner_cons row rows word ∙ rw (h 0 row (omega arith)) (owner_none rows word (λ k d l. h (suc k) d (omega arith)))
@@ -185,12 +179,12 @@ starts_prefix word [] n h l = tt
 starts_prefix [] (x ∷ xs) n h l = absurd (cc)
 starts_prefix (y ∷ ys) (x ∷ xs) zero h l = absurd (omega arith)
 starts_prefix (y ∷ ys) (x ∷ xs) (suc n) h l =
-    let parts = both (nat_eq x y) _ h in
+    let parts = and_parts (nat_eq x y) _ h in
     let first : nat_eq x y ≡ true = parts.0 in
     (grind (arith, nat_tests), starts_prefix ys xs n parts.1 (omega arith))
 
 pub fits_prefix : {K : Type 0} (row : Row K) (word : List ℕ) (n : ℕ) → fits row word ≡ true → length row.flag ≤ n → IsPrefix row.flag (take n word)
-fits_prefix row word n h l = let parts = both (starts_with nat_eq word row.flag) (joins row.shape (drop (length row.flag) word)) h in starts_prefix word row.flag n parts.0 l
+fits_prefix row word n h l = let parts = and_parts (starts_with nat_eq word row.flag) (joins row.shape (drop (length row.flag) word)) h in starts_prefix word row.flag n parts.0 l
 
 -- ---- one round: the rows before place i do not come after the first n bytes of the word, the others do, and no row that fits is longer than n
 module _ {K : Type 0} (rows : List (Row K)) (table : is_table rows ≡ true) (word : List ℕ) (n i : ℕ)

@@ -11,7 +11,7 @@ use Rattle.scl_values.specs.declared.argument.ArgRow.{ArgRow}
 use Rattle.scl_tables.specs.declared.nodes.Node.{Node}
 use Rattle.scl_values.specs.Row.{Row, row_of}
 use Rattle.scl_values.specs.Tables.{is_table}
-use Rattle.scl_tables.specs.Trees.{Group, group_of, whole, RiseBehind, RiseIn, IsBelow, AreChildren, IsBare, IsNode, IsTree, Grows, ChildrenRise}
+use Rattle.scl_tables.specs.Trees.{Group, group_of, whole, RiseBehind, RiseIn, IsBelow, AreChildren, IsBare, IsNode, Grows, ChildrenRise}
 use Rattle.scl_tables.specs.Probes.{bits}
 use Rattle.scl_tables.proofs.BitsLemmas.{bits_half}
 use Rattle.scl_tables.proofs.OrderLemmas.{cmp, head, rising}
@@ -215,21 +215,6 @@ groups_pushed : (nodes : List Node) (node : Node) → map group_of (nodes ++ nod
 groups_pushed [] node = refl
 groups_pushed (x ∷ nodes) node = ap (λ rest. group_of x ∷ rest) (groups_pushed nodes node)
 
-pub no_children : {K : Type 0} (rows : List (Row K)) (nodes : List Node) (depth first end : ℕ) → first ≤ end → Growing rows nodes nodes depth first first end
-no_children rows nodes depth first end o = record {
-  grows = record { longer = omega arith; keeps = λ i other l. refl; rise = λ i other l m. absurd (omega (arith, l, m)); bare = λ i other l m. absurd (omega (arith, l, m)) };
-  from = omega arith;
-  to = o;
-  children = record {
-    few = omega arith;
-    within = omega (arith, length-map nodes group_of);
-    deeper = λ i other l m. absurd (omega (arith, l, m));
-    rise = λ i j other l m n. absurd (omega (arith, l, m, n));
-    all_below = λ k l m. absurd (omega (arith, l, m));
-  };
-  ahead = λ i none k other l m _ _. absurd (omega (arith, l, m));
-}
-
 module _ {K : Type 0} (rows : List (Row K)) (old new : List Node) (depth from first next end : ℕ) (rises : RiseBehind rows depth from end) (inside : from ≤ first)
     (longer : (k : ℕ) (other : Row K) → first ≤ k → k < end → depth < length (slice_index_or rows k other).flag) (growing : Growing rows old new depth first next end)
     (child : Node) (bare : IsBare child) (child_rows : RiseIn rows (group_of child)) (deeper : depth < child.depth) (starts : child.first_row ≡ next) (some : next < child.end_row) (ends : child.end_row ≤ end)
@@ -424,9 +409,6 @@ module _ {K : Type 0} (rows : List (Row K)) (old new : List Node) (grows : Grows
       first_set groups other =
           let count : length (set new index node) ≡ length new = length-set new index node in
           sym (get_or-map group_of (set new index node) 0 other (group_of other) (omega (arith, count, l, grows.longer))) ∙ ap (λ gs. slice_index_or gs 0 (group_of other)) groups ∙ get_or-map group_of new 0 other (group_of other) (omega (arith, l, grows.longer))
-
-pub built_tree : {K : Type 0} (rows : List (Row K)) (nodes : List Node) (index : ℕ) → Built rows nodes index → length nodes ≤ index → IsTree rows nodes
-built_tree rows nodes index built all = record { some = built.some; root = built.root; rise = built.rise; is_node = λ i other l. built.is_node i other (omega arith) (omega (arith, l, all)) }
 
 pub same_group : (node : Node) (byte depth first end : ℕ) → node.byte ≡ byte → node.depth ≡ depth → node.first_row ≡ first → node.end_row ≡ end → group_of node ≡ record { byte = byte; depth = depth; first = first; end = end }
 same_group node byte depth first end b d f e = rw (b, d, f, e) refl

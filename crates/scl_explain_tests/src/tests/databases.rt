@@ -1,6 +1,6 @@
 //! What is said of databases.
 use super::replies::disk;
-use scl_explain::{Batch, Counts, Database, DatabaseError, Ending, Kind, ending_of_counts};
+use scl_explain::{Batch, Counts, Database, DatabaseError, Ending, EntryKind, ending_of_counts};
 use std::alloc::Global;
 use std::test::Fail;
 
@@ -11,7 +11,7 @@ static ENTRIES: &str = r#"[
 {"directory": "/w", "file": "d.c", "command": "gcc -c d.c -MD -MT one -MT two"}
 ]"#;
 
-fn batch(alloc: Global, only: Option<Kind>) -> Result<Batch, Fail> {
+fn batch(alloc: Global, only: Option<EntryKind>) -> Result<Batch, Fail> {
     Ok(Batch {
         named: None,
         base: Vec::from_slice(alloc, b"/")?,
@@ -27,13 +27,13 @@ fn database(alloc: Global, text: &str) -> Result<Result<Database, DatabaseError>
 }
 
 /// What is written of the entries of each kind.
-static OF_KINDS: [(Kind, &str); 3] = [
-    (Kind::Ok, "entry 1, a.c: can be cached\n"),
+static OF_KINDS: [(EntryKind, &str); 3] = [
+    (EntryKind::Ok, "entry 1, a.c: can be cached\n"),
     (
-        Kind::Hazard,
+        EntryKind::Hazard,
         "entry 4, d.c: can be cached; hazards: two-targets\n",
     ),
-    (Kind::Refused, "entry 3, c.c: cannot be cached: -E\n"),
+    (EntryKind::Refused, "entry 3, c.c: cannot be cached: -E\n"),
 ];
 
 /// What is written behind the entries.
@@ -50,7 +50,7 @@ files that cannot be read: 1
       entry 2: a read failed
 ";
 
-fn answered(alloc: Global, only: Option<Kind>) -> Result<(String, Counts, Batch), Fail> {
+fn answered(alloc: Global, only: Option<EntryKind>) -> Result<(String, Counts, Batch), Fail> {
     let database = database(alloc, ENTRIES)?.ok().ok_or("broken")?;
     let batch = batch(alloc, only)?;
     let mut counts = Counts::new(alloc);
@@ -82,13 +82,10 @@ fn entries_are_counted(rt: HostRuntime) -> Result<(), Fail> {
 }
 
 /// Texts that are no databases, and how what is said of them begins and ends.
-static BROKEN: [(&str, &str, &str); 3] = [
+static BROKEN: [(&str, &str, &str); 4] = [
     ("{}", "the text is no array", " of entries"),
-    (
-        "",
-        "near line 1 column ",
-        ", in entry 0: the text is no JSON",
-    ),
+    ("", "the text is ", "empty"),
+    ("\n]", "near line 2 column ", "1: the text is no JSON"),
     (
         "[{\"a\": [1, 2]},\n {\"b\": }]",
         "near line 2 column ",

@@ -75,7 +75,7 @@ static REPLIES: [(Question, &str, Ending, &str, &str); 17] = [
         "gcc -c @absent a.c",
         Ending::CannotCache,
         "",
-        "cannot be cached: @: /w/absent is not there: A word or a value names a response file",
+        "cannot be cached: @: no file at /w/absent: A word or a value names a response file",
     ),
     (
         Question::Command,
@@ -185,7 +185,7 @@ fn says(reply: &Reply, ending: Ending, output: &str, error: &str) -> bool {
 }
 
 #[test]
-fn replies_are_these(rt: HostRuntime) -> Result<(), Fail> {
+fn command_lines_have_their_replies(rt: HostRuntime) -> Result<(), Fail> {
     let alloc = rt.alloc();
     for (question, line, ending, output, error) in REPLIES {
         let reply = reply_to(alloc, question, &case(alloc, line)?)?;
@@ -193,6 +193,37 @@ fn replies_are_these(rt: HostRuntime) -> Result<(), Fail> {
             says(&reply, ending, output, error),
             "{question:?} {line}: {reply:?}"
         );
+    }
+    Ok(())
+}
+
+/// Lines without a known compiler, and what is said of them.
+static UNKNOWN: [(&str, &str); 4] = [
+    ("env A=b", "no word names a compiler"),
+    (
+        "nvcc -c a.cu",
+        "nvcc is no compiler by its name; --compiler NAME says which one it is",
+    ),
+    (
+        "'' -c a.c",
+        "'' is no compiler by its name; --compiler NAME says which one it is",
+    ),
+    (
+        "'my cc' -c a.c",
+        "'my cc' is no compiler by its name; --compiler NAME says which one it is",
+    ),
+];
+
+#[test]
+fn unknown_compilers_are_told(rt: HostRuntime) -> Result<(), Fail> {
+    let alloc = rt.alloc();
+    for (line, told) in UNKNOWN {
+        let words = shell_words(alloc, line.as_bytes())?.ok().ok_or("broken")?;
+        let cwd = Vec::from_slice(alloc, b"/w")?;
+        let case = Case::of_words(alloc, words, None, cwd, Vec::new(alloc))?;
+        let error = case.err().ok_or("a command line")?;
+        let said = format!(in alloc; "{error}")?;
+        assert!(rt; said.as_str() == told, "{said}");
     }
     Ok(())
 }
@@ -250,7 +281,7 @@ fn explained(
 }
 
 #[test]
-fn explanations_are_these(rt: HostRuntime) -> Result<(), Fail> {
+fn command_lines_have_their_explanations(rt: HostRuntime) -> Result<(), Fail> {
     explained(
         &rt,
         rt.alloc(),

@@ -14,7 +14,7 @@ const PREPROCESSOR_FLAG: &[u8] = b"-Xpreprocessor";
 /// The flag whose value is a file of diagnostics.
 const DIAGNOSTICS: &[u8] = b"--serialize-diagnostics";
 
-#[tactic(auto, using(crate::proofs::OutputFileLemmas::text_rules))]
+#[tactic(auto, using(scl_gnu_reading::proofs::InnerLemmas::text_rules))]
 fn is_text(word: &[u8]) -> bool
     ensures { result ≡ is_utf8 word.now }
 {

@@ -13,7 +13,7 @@ use scl_values::rows;
 use std::alloc::Global;
 
 /// Clang's rows beside Gcc's, in the order of their flags' bytes (docs/RULES.md, Clang).
-pub static ARGS: [ArgInfo<ArgData>; 100] = rows![
+pub static ARGS: &[ArgInfo<ArgData>] = &rows![
     "--analyze" TooHardFlag,
     "--analyzer-output" TooHard APART,
     "--config" TooHard EITHER_EQUALS,
@@ -122,7 +122,7 @@ pub fn table() -> FlagTable<'static, ArgData>
     ensures rows { result ≡ clang_rows }
     ensures values { IsTrue (tables_hold_values holds_value (result ∷ [])) }
 {
-    FlagTable::new(&ARGS).unwrap()
+    FlagTable::new(ARGS).unwrap()
 }
 
 /// Prefix trees of Gcc's table and of Clang's; where both have a flag, Clang's row owns it (docs/RULES.md, Clang). The

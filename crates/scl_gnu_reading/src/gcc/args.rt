@@ -13,7 +13,7 @@ use scl_values::rows;
 pub const ARCH_FLAG: &str = "-arch";
 
 /// Gcc's rows, in the order of their flags' bytes (docs/RULES.md, Gcc).
-pub static ARGS: [ArgInfo<ArgData>; 86] = rows![
+pub static ARGS: &[ArgInfo<ArgData>] = &rows![
     "-" TooHardFlag,
     "--coverage" Coverage,
     "--param" PassThrough APART,
@@ -108,5 +108,5 @@ pub fn table() -> FlagTable<'static, ArgData>
     ensures rows { result ≡ gcc_rows }
     ensures values { IsTrue (tables_hold_values holds_value (result ∷ [])) }
 {
-    FlagTable::new(&ARGS).unwrap()
+    FlagTable::new(ARGS).unwrap()
 }

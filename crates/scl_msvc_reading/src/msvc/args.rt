@@ -279,23 +279,23 @@ macro_rules! rows_behind {
 
 /// The rows whose flags begin with `-`, in the order of their flags' bytes, and behind them that of response files, `@`
 /// (docs/RULES.md, Msvc).
-pub static ARGS: [ArgInfo<ArgData>; 257] = rows_behind!("-");
+pub static ARGS: &[ArgInfo<ArgData>] = &rows_behind!("-");
 
 /// The same rows with `/` in place of `-`, and the row `@` (docs/RULES.md, Msvc).
-pub static SLASH_ARGS: [ArgInfo<ArgData>; 257] = rows_behind!("/");
+pub static SLASH_ARGS: &[ArgInfo<ArgData>] = &rows_behind!("/");
 
 /// The table of the flags that begin with `-`, with the row `@`.
 pub fn table() -> FlagTable<'static, ArgData>
     ensures { result ≡ msvc_rows (codes "-") }
 {
-    FlagTable::new(&ARGS).unwrap()
+    FlagTable::new(ARGS).unwrap()
 }
 
 /// The table of the flags that begin with `/`, with the row `@`.
 pub fn slash_table() -> FlagTable<'static, ArgData>
     ensures { result ≡ msvc_rows (codes "/") }
 {
-    FlagTable::new(&SLASH_ARGS).unwrap()
+    FlagTable::new(SLASH_ARGS).unwrap()
 }
 
 /// Prefix trees of the table of flags that begin with `-` and of that of flags that begin with `/` (docs/RULES.md, Msvc).

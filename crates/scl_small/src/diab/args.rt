@@ -10,7 +10,7 @@ use scl_args::{ArgInfo, FlagTable};
 use scl_values::rows;
 
 /// Diab's flags, in rising order by bytes (docs/RULES.md, Diab and TaskingVX).
-pub static ARGS: [ArgInfo<ArgData>; 23] = rows![
+pub static ARGS: &[ArgInfo<ArgData>] = &rows![
     "-" TooHardFlag,
     "-##" TooHardFlag,
     "-###" TooHardFlag,
@@ -42,5 +42,5 @@ pub fn table() -> FlagTable<'static, ArgData>
     ensures rows { result ≡ rows }
     ensures values { IsTrue (tables_hold_values holds_value (result ∷ [])) }
 {
-    FlagTable::new(&ARGS).unwrap()
+    FlagTable::new(ARGS).unwrap()
 }

@@ -10,7 +10,7 @@ use scl_args::{ArgInfo, FlagTable};
 use scl_values::rows;
 
 /// TaskingVX's flags, in rising order by bytes (docs/RULES.md, Diab and TaskingVX).
-pub static ARGS: [ArgInfo<ArgData>; 25] = rows![
+pub static ARGS: &[ArgInfo<ArgData>] = &rows![
     "--define" PreprocessorArgument JOINED_EQUALS,
     "--dep-file" DepFile JOINED_EQUALS,
     "--dry-run" TooHardFlag,
@@ -44,5 +44,5 @@ pub fn table() -> FlagTable<'static, ArgData>
     ensures rows { result ≡ rows }
     ensures values { IsTrue (tables_hold_values holds_value (result ∷ [])) }
 {
-    FlagTable::new(&ARGS).unwrap()
+    FlagTable::new(ARGS).unwrap()
 }

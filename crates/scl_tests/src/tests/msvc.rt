@@ -122,8 +122,8 @@ fn finds<S: SearchableArgInfo<ArgData>>(trees: &S, flag: &str) -> bool {
     }
 }
 
-/// The flag is found. For each of its bytes and one more that may take ten looks in each of the two trees, as 257 rows
-/// have nine binary digits.
+/// The flag is found. For each of its bytes and one more that may take ten looks in each of the two trees, as each has
+/// fewer than 512 rows.
 fn expect_found<S: SearchableArgInfo<ArgData>>(rt: &impl Abort, trees: &S, flag: &str) {
     assert!(rt; finds(trees, flag), "{flag}");
     let bytes = flag.len() as u64;

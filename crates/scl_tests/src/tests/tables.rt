@@ -15,40 +15,40 @@ use scl_small::{diab, tasking_vx};
 fn gcc_args() -> FlagTable<'static, gcc::ArgData>
     ensures { result ≡ gcc_rows }
 {
-    FlagTable::new(&gcc::ARGS).unwrap()
+    FlagTable::new(gcc::ARGS).unwrap()
 }
 
 #[tactic(auto, unfolding(scl_gnu_reading::specs::ClangRows::clang_rows))]
 fn clang_args() -> FlagTable<'static, gcc::ArgData>
     ensures { result ≡ clang_rows }
 {
-    FlagTable::new(&clang::ARGS).unwrap()
+    FlagTable::new(clang::ARGS).unwrap()
 }
 
 #[tactic(auto, unfolding(scl_small::specs::DiabTable::rows))]
 fn diab_args() -> FlagTable<'static, diab::ArgData>
     ensures { result ≡ diab_rows }
 {
-    FlagTable::new(&diab::ARGS).unwrap()
+    FlagTable::new(diab::ARGS).unwrap()
 }
 
 #[tactic(auto, unfolding(scl_small::specs::TaskingTable::rows))]
 fn tasking_args() -> FlagTable<'static, tasking_vx::ArgData>
     ensures { result ≡ tasking_rows }
 {
-    FlagTable::new(&tasking_vx::ARGS).unwrap()
+    FlagTable::new(tasking_vx::ARGS).unwrap()
 }
 
 fn msvc_args() -> FlagTable<'static, msvc::ArgData>
     ensures { result ≡ msvc_rows (codes "-") }
 {
-    FlagTable::new(&msvc::ARGS).unwrap()
+    FlagTable::new(msvc::ARGS).unwrap()
 }
 
 fn msvc_slash_args() -> FlagTable<'static, msvc::ArgData>
     ensures { result ≡ msvc_rows (codes "/") }
 {
-    FlagTable::new(&msvc::SLASH_ARGS).unwrap()
+    FlagTable::new(msvc::SLASH_ARGS).unwrap()
 }
 
 #[test]

@@ -42,7 +42,7 @@ fn finds_kind<S: SearchableArgInfo<Value>>(tables: &S, key: &str, kind: Kind) ->
 }
 
 /// Keys with the flags of gcc that they find, and how many looks that may take: eight for each byte of the key and one
-/// more, as the 86 rows have seven binary digits.
+/// more, as the rows are fewer than 128.
 static FOUND: [(&str, &str, u64); 3] = [
     ("-stdlib=libc++", "-stdlib", 120),
     ("-c", "-c", 24),
@@ -61,7 +61,7 @@ fn expect_few_looks<S: SearchableArgInfo<gcc::ArgData>>(rt: &impl Abort, tables:
 /// Expects that each flag of gcc is found, by at least 300 looks in all.
 fn expect_flags<S: SearchableArgInfo<gcc::ArgData>>(rt: &impl Abort, tables: &S) {
     let mut sum: u64 = 0;
-    for row in &gcc::ARGS {
+    for row in gcc::ARGS {
         assert!(rt; finds(tables, row.flag(), row.flag()));
         sum = sum.saturating_add(looks(tables, row.flag().as_bytes()));
     }
@@ -203,7 +203,7 @@ fn of_one_length_the_last_member_wins(rt: HostRuntime) -> Result<(), Fail> {
 }
 
 #[test]
-fn pairs_are_members(rt: HostRuntime) -> Result<(), Fail> {
+fn a_pair_of_tables_is_a_member(rt: HostRuntime) -> Result<(), Fail> {
     let first = pair_of(&INCLUDE_PCH, &OTHER_INCLUDE)?;
     let last = pair_of(&INCLUDE, &INCLUDE_PCH)?;
     let tables = Tables::new(vec![in rt.alloc(); first, last]?);
@@ -226,8 +226,8 @@ fn make_a_table<T: ArgumentValue>(rows: &[ArgRow<T::Kind>]) -> bool {
 
 #[test]
 fn rows_in_disorder_make_no_table(rt: HostRuntime) {
-    assert!(rt; make_a_table::<gcc::ArgData>(&gcc::ARGS));
-    assert!(rt; make_a_table::<clang::ArgData>(&clang::ARGS));
+    assert!(rt; make_a_table::<gcc::ArgData>(gcc::ARGS));
+    assert!(rt; make_a_table::<clang::ArgData>(clang::ARGS));
     let twice = [Flag("-bar", Kind::Alone), Flag("-bar", Kind::Alone)];
     let falling = [Flag("-plop", Kind::Alone), Flag("-bar", Kind::Alone)];
     let delimiter = [TakeArg("-foo", Kind::Valued, Concatenated(Some(128)))];

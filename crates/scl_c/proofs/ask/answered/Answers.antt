@@ -4,9 +4,9 @@ use Rattle.scl_text.specs.Commands.{pairs_of}
 use Rattle.scl_c.proofs.ReplyLemmas.{replied_is}
 use Rattle.scl_c.proofs.ask.answered.Goals as goal
 
-pub returns-in-Ok : goal.returns-in-Ok
-returns-in-Ok c =
-    replied_is c.args.compiler c.args.asked.now (record { answer = c.in_ok-answer.answer; runs = c.in_ok-runs.runs; questions = c.in-Ok.questions; hazards = c.in_ok-hazards.hazards })
+pub returns : goal.returns
+returns c =
+    replied_is c.args.compiler c.args.asked.now (record { answer = c.in_ok-answer.answer; runs = c.in_ok-runs.runs; questions = c.in_ok-questions.questions; hazards = c.in_ok-hazards.hazards })
     (words_of c.in_ok-line.line.words.items) (pairs_of c.in_ok-line.line.environment.items) c.in_ok-line.line.view
     (search rules) (search rules) (search rules)
     (record {

@@ -1,4 +1,4 @@
-use Rattle.std.proofs.Common.{rules, ◌≡◌, ◌++◌, ◌∷◌, [], List, ℕ, codes}
+use Rattle.std.proofs.Common.{◌≡◌, ◌++◌, List, ℕ}
 use Rattle.scl_text.specs.Records.{Parsed, parsed_of}
 use Rattle.scl_description.specs.Rows.{entries_text}
 use Rattle.scl_description.specs.Records.{source_entries, output_entries, list_entries, file_entries, switch_entries}

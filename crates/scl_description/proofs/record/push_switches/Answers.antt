@@ -1,6 +1,6 @@
 use Rattle.std.proofs.Common.{rules, ◌≡◌, ◌++◌, ◌∷◌, [], List, ℕ, codes}
 use Rattle.scl_text.specs.Records.{Parsed, parsed_of}
-use Rattle.scl_description.specs.Rows.{Entry, entry_text, row_entry, yes_entry, words_entry, maybe_entry, lone}
+use Rattle.scl_description.specs.Rows.{Entry, entry_text, row_entry, yes_entry, maybe_entry, lone}
 use Rattle.scl_description.specs.Records.{color_text}
 use Rattle.scl_description.proofs.TextLaws.{one_entry, and_entry}
 use Rattle.scl_description.proofs.record.push_switches.Goals as goal

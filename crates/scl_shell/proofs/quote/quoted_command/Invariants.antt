@@ -1,7 +1,7 @@
 use Rattle.std.proofs.Common.{◌≡◌, ◌++◌, take}
 use Rattle.std.specs.List.{flat_map}
 use Rattle.scl_values.specs.Words.{words_of}
-use Rattle.scl_shell.specs.Quoted.{quoted, quoted_next}
+use Rattle.scl_shell.specs.Quoted.{quoted_next}
 use Rattle.scl_shell.proofs.quote.quoted_command.Given as goal
 
 abbrev pub invariant-loop-word : goal.invariant-loop-word

@@ -86,34 +86,42 @@ fn settings_are_read_by_descriptions_alone(rt: HostRuntime) -> Result<(), Fail> 
     Ok(())
 }
 
+/// How a batch of descriptions over memory ends, and what it writes.
+fn described_each(alloc: Global, requests: &[u8]) -> Mem<(Outcome, Vec<u8>)> {
+    let mut written = Vec::new(alloc);
+    let service = ManyDescriptions::new(alloc)?;
+    let mut reader = Counted::new(requests);
+    let mut writer = Counted::new(&mut written);
+    let outcome = serve_each(alloc, &service, &mut reader, &mut writer);
+    drop(writer);
+    Ok((outcome, written))
+}
+
+/// The lines that answer a request that compiles nothing, one with a bad line, and one that is refused.
+static THREE_ANSWERS: &[&str] = &[
+    "not-compilation",
+    "version 1",
+    "option given input 0 raw - - 1 a.c",
+    "end",
+    "bad-line 2",
+    "end",
+    "cannot-cache multiple input files",
+    "version 1",
+    "reason multiple\\x20input\\x20files",
+    "sentence Several\\x20inputs\\x20are\\x20named,\\x20and\\x20one\\x20object\\x20is\\x20kept\\x20for\\x20one\\x20input;\\x20compile\\x20each\\x20by\\x20a\\x20command\\x20of\\x20its\\x20own.",
+    "option given compile-flag 0 DoCompilation =-c - 1 -c",
+    "option given input 1 raw - - 1 a.c",
+    "option given input 2 raw - - 1 b.c",
+    "end",
+];
+
 #[test]
 fn requests_of_a_batch_are_answered_one_by_one(rt: HostRuntime) -> Result<(), Fail> {
     let requests =
         b"compiler gcc\nword a.c\nend\nword -c\nwrod a.c\nend\ncompiler diab\nword -c\nword a.c\nword b.c";
-    let mut written = Vec::new(rt.alloc());
-    let service = ManyDescriptions::new(rt.alloc())?;
-    let mut reader = Counted::new(requests.as_slice());
-    let outcome = serve_each(
-        rt.alloc(),
-        &service,
-        &mut reader,
-        &mut Counted::new(&mut written),
-    );
+    let (outcome, written) = described_each(rt.alloc(), requests)?;
     assert!(rt; outcome == Outcome::Answered);
-    let first = "not-compilation\nversion 1\noption given input 0 raw - - 1 a.c\nend\n";
-    let second = "bad-line 2\nend\n";
-    let lines = [
-        "cannot-cache multiple input files",
-        "version 1",
-        "reason multiple\\x20input\\x20files",
-        "sentence Several\\x20inputs\\x20are\\x20named,\\x20and\\x20one\\x20object\\x20is\\x20kept\\x20for\\x20one\\x20input;\\x20compile\\x20each\\x20by\\x20a\\x20command\\x20of\\x20its\\x20own.",
-        "option given compile-flag 0 DoCompilation =-c - 1 -c",
-        "option given input 1 raw - - 1 a.c",
-        "option given input 2 raw - - 1 b.c",
-        "end",
-    ];
-    let third = lines_of(rt.alloc(), &lines)?;
-    let want = format!(in rt.alloc(); "{first}{second}{third}")?;
+    let want = lines_of(rt.alloc(), THREE_ANSWERS)?;
     assert!(rt; written.as_slice() == want.as_bytes());
     Ok(())
 }

@@ -96,18 +96,18 @@ impl Met {
     }
 
     fn ask_gnu(&mut self, rt: &impl Abort) -> Mem<()> {
-        self.ask_flags(rt, Compiler::Gcc, &gcc::ARGS)?;
-        self.ask_flags(rt, Compiler::Clang, &gcc::ARGS)?;
-        self.ask_flags(rt, Compiler::Clang, &clang::ARGS)?;
-        self.ask_handed_on(rt, Compiler::Clang, &gcc::ARGS)?;
-        self.ask_handed_on(rt, Compiler::Clang, &clang::ARGS)
+        self.ask_flags(rt, Compiler::Gcc, gcc::ARGS)?;
+        self.ask_flags(rt, Compiler::Clang, gcc::ARGS)?;
+        self.ask_flags(rt, Compiler::Clang, clang::ARGS)?;
+        self.ask_handed_on(rt, Compiler::Clang, gcc::ARGS)?;
+        self.ask_handed_on(rt, Compiler::Clang, clang::ARGS)
     }
 
     fn ask_msvc(&mut self, rt: &impl Abort, compiler: Compiler) -> Mem<()> {
-        self.ask_flags(rt, compiler, &msvc::ARGS)?;
-        self.ask_flags(rt, compiler, &msvc::SLASH_ARGS)?;
-        self.ask_handed_on(rt, compiler, &gcc::ARGS)?;
-        self.ask_handed_on(rt, compiler, &clang::ARGS)
+        self.ask_flags(rt, compiler, msvc::ARGS)?;
+        self.ask_flags(rt, compiler, msvc::SLASH_ARGS)?;
+        self.ask_handed_on(rt, compiler, gcc::ARGS)?;
+        self.ask_handed_on(rt, compiler, clang::ARGS)
     }
 
     /// Asks for a row, whose reason stands behind its arrow.
@@ -151,8 +151,8 @@ fn every_reason_has_its_sentence(rt: HostRuntime) -> Result<(), Fail> {
     met.ask_gnu(&rt)?;
     met.ask_msvc(&rt, Compiler::Cl)?;
     met.ask_msvc(&rt, Compiler::ClangCl)?;
-    met.ask_flags(&rt, Compiler::Diab, &diab::ARGS)?;
-    met.ask_flags(&rt, Compiler::Tasking, &tasking_vx::ARGS)?;
+    met.ask_flags(&rt, Compiler::Diab, diab::ARGS)?;
+    met.ask_flags(&rt, Compiler::Tasking, tasking_vx::ARGS)?;
     for row in NO_FLAGS.lines() {
         if !row.is_empty() {
             met.ask_row(&rt, row)?;

@@ -77,7 +77,7 @@ fn a_third_table_has_the_last_word(rt: HostRuntime) -> Result<(), Fail> {
 }
 
 #[test]
-fn without_it_two_architectures_are_refused(rt: HostRuntime) -> Result<(), Fail> {
+fn without_the_third_table_two_architectures_are_refused(rt: HostRuntime) -> Result<(), Fail> {
     let text = b"-c a.c --threads 2 -arch sm_50 -arch sm_60";
     let answer = answer(rt.alloc(), text, false, &View::new(rt.alloc()))?;
     let several = "multiple different -arch, and SCCACHE_CACHE_MULTIARCH not set";

@@ -8,7 +8,7 @@ use scl_hazards::Hazard as Named;
 
 /// What an entry is.
 #[derive(Debug, Clone, Copy, PartialEq, Eq)]
-pub enum Kind {
+pub enum EntryKind {
     /// It can be cached, and no hazard is named.
     Ok,
     /// A hazard is named.
@@ -17,19 +17,19 @@ pub enum Kind {
     Refused,
 }
 
-impl Kind {
+impl EntryKind {
     /// What an entry with this answer is, of whose command these hazards are named.
-    pub(crate) fn of_answer(answer: &CompilerArguments<Compilation>, hazards: &[Named]) -> Kind
+    pub(crate) fn of_answer(answer: &CompilerArguments<Compilation>, hazards: &[Named]) -> EntryKind
         ensures { result ≡ kind_of (answer_of answer.now) hazards.now }
     {
         match answer {
-            CompilerArguments::Ok(_) if !hazards.is_empty() => Kind::Hazard,
+            CompilerArguments::Ok(_) if !hazards.is_empty() => EntryKind::Hazard,
             CompilerArguments::Ok(compilation) => match compilation.cacheable {
-                Cacheable::Yes => Kind::Ok,
-                Cacheable::No => Kind::Refused,
+                Cacheable::Yes => EntryKind::Ok,
+                Cacheable::No => EntryKind::Refused,
             },
             CompilerArguments::CannotCache(_, _) | CompilerArguments::NotCompilation => {
-                Kind::Refused
+                EntryKind::Refused
             }
         }
     }
