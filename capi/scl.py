@@ -63,7 +63,10 @@ PARTS = [("bytes", c.c_uint8), ("slots", Bytes), ("pairs", Pair), ("outputs", Ou
 Room = _struct("Room", *[field for name, of in PARTS for field in ((name, c.POINTER(of)), (f"{name}_len", c.c_size_t))])
 Sizes = _struct("Sizes", *[(name, c.c_size_t) for name, _ in PARTS])
 
-_lib = c.CDLL(os.environ.get("SCL_LIBRARY", "libscl.so"))
+try:
+    _lib = c.CDLL(os.environ.get("SCL_LIBRARY", "libscl.so"))
+except OSError as error:
+    raise ImportError(f"{error}; SCL_LIBRARY names the libscl.so that make -C capi builds") from None
 _lib.scl_run.restype = _lib.scl_describe.restype = _lib.scl_ask.restype = c.c_int32
 _lib.scl_run.argtypes = _lib.scl_describe.argtypes = [c.c_char_p, c.c_size_t, c.c_char_p, c.c_size_t, c.POINTER(c.c_size_t)]
 _lib.scl_ask.argtypes = [c.POINTER(Request), Room, c.POINTER(Sizes), c.POINTER(Answer)]

@@ -13,7 +13,8 @@ counts those that differ, and those of them without a hazard; those that come ou
 prints both kinds. Lines that neither command compiles are passed over. A hazard of messages alone counts as none there, since
 messages are not compared.
 
-Status 0: all is as the page says, and no random line differs without a hazard; 1: not so; 64: called wrongly.
+Status 0: all is as the page says, and no random line differs without a hazard; 1: not so; 64: called wrongly, or
+a compiler is not there.
 """
 import os
 import random
@@ -75,6 +76,9 @@ FILES = {
     "v.cc": "#include <vector>\nint main() { return std::vector<int>{1}.size() - 1; }\n",
     **dict.fromkeys(["w.o", "y.o"], "b.o -pipe"),
 }
+
+# What random lines are of.
+COMPILERS = ["gcc", "g++", "clang", "clang++", "clang-cl"]
 
 # The words that a compiler is called by.
 PROGRAMS = {"clang-cl": [["clang-cl"], ["clang-cl-14"], ["clang", "--driver-mode=cl"]]}
@@ -190,8 +194,11 @@ def answer_of(text):
 def answers_to(program, asked, folder):
     """The answers of `describe --batch` to pairs of a line and its words."""
     requests = "".join(request_of(line, words, folder) for line, words in asked)
-    done = subprocess.run([program, "--batch"], input=requests.encode(), stdout=subprocess.PIPE, check=True)
-    return [answer_of(text) for text in done.stdout.decode().split("\nend\n")[:-1]]
+    done = subprocess.run([program, "--batch"], input=requests.encode(), stdout=subprocess.PIPE)
+    answers = [answer_of(text) for text in done.stdout.decode(errors="replace").split("\nend\n")[:-1]]
+    if done.returncode != 0 or len(answers) != len(asked):
+        sys.exit(called_wrongly(f"{program} --batch: status {done.returncode}, {len(answers)} answers to {len(asked)} requests"))
+    return answers
 
 
 # ---- a command run
@@ -200,6 +207,11 @@ def answers_to(program, asked, folder):
 def program_of(compiler):
     called = PROGRAMS.get(compiler, [[compiler]])
     return next((words for words in called if shutil.which(words[0])), called[0])
+
+
+def lacking_of(compilers):
+    """The programs of these compilers that are not there."""
+    return sorted({program_of(it)[0] for it in compilers if not shutil.which(program_of(it)[0])})
 
 
 def fill(folder, files):
@@ -401,7 +413,7 @@ def main():
     if not arguments or arguments[0].startswith("-") or not all(map(str.isdigit, numbers)) or is_random and len(numbers) not in (1, 2):
         return called_wrongly()
     program = os.path.realpath(arguments[0])
-    if not os.access(program, os.X_OK):
+    if not shutil.which(program):
         return called_wrongly(f"{program}: no program")
     for variable in ("CL", "_CL_"):
         os.environ.pop(variable, None)
@@ -410,12 +422,16 @@ def main():
         folder = os.path.join(base, "work")
         with open(DOCS, encoding="utf-8") as docs:
             rows = rows_of(docs.read())
-        if is_random:
-            return try_random(program, rows, numbers[0], numbers[1] if numbers[1:] else 1, folder)
-        absent = set(numbers) - {row.number for row in rows}
+        absent = set() if is_random else set(numbers) - {row.number for row in rows}
         if absent:
             return called_wrongly(f"docs/LIMITS.md has no row {min(absent)}")
-        return try_rows(program, [row for row in rows if not numbers or row.number in numbers], folder)
+        chosen = [row for row in rows if is_random or not numbers or row.number in numbers]
+        lacking = lacking_of(COMPILERS if is_random else {line.compiler for row in chosen for line in row.lines})
+        if lacking:
+            return called_wrongly(f"not there: {', '.join(lacking)}")
+        if is_random:
+            return try_random(program, rows, numbers[0], numbers[1] if numbers[1:] else 1, folder)
+        return try_rows(program, chosen, folder)
 
 
 if __name__ == "__main__":

@@ -10,10 +10,11 @@ usage: examples/refusals.py PATH_OF_CCLINE [REQUEST_FILE ..]   (it needs cc; wit
 The second form refuses each request for memory of the program `refusals` in turn: the call that made it, and no other,
 says `out of memory`, or, where a block could not be made smaller, all calls are done.
 
-Status 0: each run said what it should; 1: one did not, and what it said is printed; 64: called wrongly.
+Status 0: each run said what it should; 1: one did not, and what it said is printed; 64: called wrongly, or there is no cc.
 """
 import itertools
 import os
+import shutil
 import subprocess
 import sys
 import tempfile
@@ -160,15 +161,24 @@ def answers(program, shim, requests):
         print(f"{memory} requests for memory refused and {smaller} blocks not made smaller, {reads} reads and {writes} writes failed: {request.split()[1].decode()}, {whole.splitlines()[0].decode()}")
 
 
+def called_wrongly(told=None):
+    print(f"examples/refusals.py: {told}" if told else __doc__.split("\n\n")[1], file=sys.stderr)
+    return 64
+
+
 def main():
     words = sys.argv[1:]
     of_calls = words[:1] == ["--calls"]
     if of_calls:
         words = words[1:]
-    if not words or words[0].startswith("-") or (of_calls and len(words) > 1) or not os.access(words[0], os.X_OK):
-        print(__doc__.split("\n\n")[1], file=sys.stderr)
-        return 64
+    if not words or words[0].startswith("-") or of_calls and len(words) > 1:
+        return called_wrongly()
     program = os.path.realpath(words[0])
+    absent = [name for name in words[1:] if not os.path.isfile(name)]
+    if not shutil.which(program) or absent:
+        return called_wrongly(f"{absent[0]}: no file" if absent else f"{program}: no program")
+    if not shutil.which("cc"):
+        return called_wrongly("there is no cc")
     if of_calls:
         with_shim(lambda shim: calls(program, shim))
         return 0

@@ -2,7 +2,7 @@
 # Compiles a C file as it is asked for, and again by the command that `scl command` gives for the same words,
 # and compares the two objects and dependency files byte for byte.
 #
-# Status 0: they are the same; 1: they differ, or there is no built command; 64: called wrongly.
+# Status 0: they are the same; 1: they differ, or there is no built command; 64: called wrongly, or the compiler is not there.
 set -euo pipefail
 
 usage() {
@@ -10,12 +10,13 @@ usage() {
     exit 64
 }
 [ $# -eq 1 ] || [ $# -eq 2 ] || usage
-[ -x "$1" ] || { echo "examples/same_object.sh: $1: no program" >&2; usage; }
+[ -f "$1" ] && [ -x "$1" ] || { echo "examples/same_object.sh: $1: no program" >&2; usage; }
 scl=$(realpath "$1")
 compiler=${2:-gcc}
 case $compiler in gcc | g++ | clang | clang++ | clang-cl) ;; *) usage ;; esac
 executable=$compiler
 command -v "$executable" > /dev/null || executable=$compiler-14
+command -v "$executable" > /dev/null || { echo "examples/same_object.sh: there is no $compiler" >&2; exit 64; }
 folder=$(mktemp -d)
 trap 'rm -rf "$folder"' EXIT
 cd "$folder"

@@ -2,7 +2,7 @@
 # Preprocesses a C and a C++ file with the words of the row `run` that the program `describe` gives for a compile command, and with the
 # given words themselves, with -E and -P in the place of -c and its output, and compares the two texts byte for byte.
 #
-# Status 0: they are the same; 1: they differ, or there are no words; 64: called wrongly.
+# Status 0: they are the same; 1: they differ, or there are no words; 64: called wrongly, or a compiler is not there.
 set -euo pipefail
 
 usage() {
@@ -10,8 +10,11 @@ usage() {
     exit 64
 }
 [ $# -eq 1 ] || usage
-[ -x "$1" ] || { echo "examples/same_preprocessed.sh: $1: no program" >&2; usage; }
+[ -f "$1" ] && [ -x "$1" ] || { echo "examples/same_preprocessed.sh: $1: no program" >&2; usage; }
 program=$(realpath "$1")
+for compiler in gcc g++ clang clang++; do
+    command -v "$compiler" > /dev/null || { echo "examples/same_preprocessed.sh: there is no $compiler" >&2; exit 64; }
+done
 folder=$(mktemp -d)
 trap 'rm -rf "$folder"' EXIT
 cd "$folder"
@@ -40,8 +43,8 @@ same() {
         echo "compiler $compiler"
         printf 'word %s\n' -c "$input" "${given[@]}" -o build/main.o
     } > request
-    "$program" < request > answer
-    [ "$(head -n 1 answer)" = ok ] || { echo "$compiler: $(cat answer)" >&2; exit 1; }
+    "$program" < request > answer || true
+    [ "$(head -n 1 answer)" = ok ] || { echo "$compiler: no command is built: $(cat answer)" >&2; exit 1; }
     [ "$(grep -c '^run ' answer)" = 1 ] || { echo "$compiler: more runs than one" >&2; exit 1; }
     read -r -a words < <(sed -n 's/^run //p' answer) # none of these words has a byte that is escaped
     "$compiler" "${words[@]}" > by_runs.i
