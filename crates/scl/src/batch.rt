@@ -2,7 +2,7 @@
 use crate::arguments::{variables, working_directory};
 use crate::disk::SystemDisk;
 use crate::fault::{Fault, warn};
-use crate::options::DatabaseAsked;
+use crate::options::DatabaseArguments;
 use crate::progress::Progress;
 use scl_explain::{Batch, Counts, Database, Ending, ending_of_counts};
 use std::fs;
@@ -72,7 +72,7 @@ fn answer_database(rt: &HostRuntime, batch: &Batch, database: &Database) -> Resu
 }
 
 /// Answers each entry of a database.
-pub fn database(rt: &HostRuntime, asked: &DatabaseAsked) -> Result<Ending, Fault> {
+pub fn database(rt: &HostRuntime, asked: &DatabaseArguments) -> Result<Ending, Fault> {
     let alloc = rt.alloc();
     let path = asked.path.as_str();
     let bytes = read_file(rt, path)?;

@@ -2,7 +2,7 @@
 use crate::arguments::{variables, working_directory};
 use crate::disk::SystemDisk;
 use crate::fault::{Fault, warn};
-use crate::options::Asked;
+use crate::options::LineArguments;
 use scl_cl::path;
 use scl_explain::{
     Case, CommandForm, Ending, Form, Paint, Reply, check as check_reply, command as command_reply,
@@ -12,7 +12,7 @@ use std::alloc::Global;
 use std::io::{IsTerminal, Write};
 
 /// The directory that a command line is run in.
-fn directory_of(rt: &HostRuntime, asked: &Asked) -> Result<Vec<u8>, Fault> {
+fn directory_of(rt: &HostRuntime, asked: &LineArguments) -> Result<Vec<u8>, Fault> {
     let alloc = rt.alloc();
     match &asked.directory {
         Some(directory) if directory.first() == Some(&b'/') => {
@@ -32,7 +32,7 @@ fn copied(alloc: Global, words: &[Vec<u8>]) -> Result<Vec<Vec<u8>>, Fault> {
 }
 
 /// The command line that is asked about; none where its words are no command line, which is told.
-fn case_of(rt: &HostRuntime, asked: &Asked) -> Result<Option<Case>, Fault> {
+fn case_of(rt: &HostRuntime, asked: &LineArguments) -> Result<Option<Case>, Fault> {
     let alloc = rt.alloc();
     let words = copied(alloc, &asked.words)?;
     let directory = directory_of(rt, asked)?;
@@ -57,7 +57,7 @@ fn say(rt: &HostRuntime, reply: &Reply) -> Result<Ending, Fault> {
     Ok(reply.ending)
 }
 
-fn form_of(rt: &HostRuntime, asked: &Asked) -> Form {
+fn form_of(rt: &HostRuntime, asked: &LineArguments) -> Form {
     if asked.json {
         Form::Json
     } else if rt.stdout().is_terminal() {
@@ -68,7 +68,7 @@ fn form_of(rt: &HostRuntime, asked: &Asked) -> Form {
 }
 
 /// Says what a command line is.
-pub fn explain(rt: &HostRuntime, asked: &Asked) -> Result<Ending, Fault> {
+pub fn explain(rt: &HostRuntime, asked: &LineArguments) -> Result<Ending, Fault> {
     let Some(case) = case_of(rt, asked)? else {
         return Ok(Ending::Usage);
     };
@@ -79,7 +79,7 @@ pub fn explain(rt: &HostRuntime, asked: &Asked) -> Result<Ending, Fault> {
 }
 
 /// Writes the command to run in the place of a command line.
-pub fn command(rt: &HostRuntime, asked: &Asked) -> Result<Ending, Fault> {
+pub fn command(rt: &HostRuntime, asked: &LineArguments) -> Result<Ending, Fault> {
     let Some(case) = case_of(rt, asked)? else {
         return Ok(Ending::Usage);
     };
@@ -95,7 +95,7 @@ pub fn command(rt: &HostRuntime, asked: &Asked) -> Result<Ending, Fault> {
 }
 
 /// Says which hazards a command line has.
-pub fn check(rt: &HostRuntime, asked: &Asked) -> Result<Ending, Fault> {
+pub fn check(rt: &HostRuntime, asked: &LineArguments) -> Result<Ending, Fault> {
     let Some(case) = case_of(rt, asked)? else {
         return Ok(Ending::Usage);
     };

@@ -10,7 +10,7 @@ use std::str;
 
 /// What is asked about one command line.
 #[derive(Drop)]
-pub struct Asked {
+pub struct LineArguments {
     /// The compiler, where one is named.
     pub compiler: Option<Compiler>,
     /// The words, the program's included.
@@ -27,7 +27,7 @@ pub struct Asked {
 
 /// What is asked about a compile database.
 #[derive(Drop)]
-pub struct DatabaseAsked {
+pub struct DatabaseArguments {
     /// Its path; `-` is standard input.
     pub path: String,
     /// The compiler of each entry, where one is named.
@@ -46,13 +46,13 @@ pub enum Wanted {
     /// Nothing more: help was written, or a mistake told.
     Done(Ending),
     /// What a command line is.
-    Explain(Asked),
+    Explain(LineArguments),
     /// The command alone.
-    Command(Asked),
+    Command(LineArguments),
     /// The hazards alone.
-    Check(Asked),
+    Check(LineArguments),
     /// The entries of a database.
-    Database(DatabaseAsked),
+    Database(DatabaseArguments),
     /// All reasons and hazards.
     Reasons,
 }
@@ -247,13 +247,13 @@ fn asked_words(
     alloc: Global,
     arguments: &[Vec<u8>],
     matches: &ArgMatches<'_>,
-) -> Result<Asked, AllocError> {
+) -> Result<LineArguments, AllocError> {
     let count = count_of_words(matches);
     let directory = match matches.get_str("cwd") {
         Some(path) => Some(Vec::from_slice(alloc, path.as_bytes())?),
         None => None,
     };
-    Ok(Asked {
+    Ok(LineArguments {
         compiler: compiler_named(matches),
         words: last_words(alloc, arguments, count)?,
         directory,
@@ -266,9 +266,9 @@ fn asked_words(
     })
 }
 
-fn asked_entries(alloc: Global, matches: &ArgMatches<'_>) -> Result<DatabaseAsked, AllocError> {
+fn asked_entries(alloc: Global, matches: &ArgMatches<'_>) -> Result<DatabaseArguments, AllocError> {
     let path = matches.get_str("path").unwrap_or("-");
-    Ok(DatabaseAsked {
+    Ok(DatabaseArguments {
         path: String::from_str(alloc, path)?,
         compiler: compiler_named(matches),
         multiarch: matches.get_flag("multiarch"),

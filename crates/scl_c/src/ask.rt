@@ -1,5 +1,5 @@
 //! What is asked, answered and told.
-ghost use Rattle.std.specs.Prelude.{◌≡◌, false, true, [], map, if◌then◌else◌, Some, IfOk, MatchResult};
+ghost use Rattle.std.specs.Prelude.{◌≡◌, false, [], map, if◌then◌else◌, Some, IfOk, MatchResult};
 ghost use Rattle.std.specs.Result.{result_ok};
 ghost use Rattle.scl_values.specs.Words.{words_of};
 ghost use Rattle.scl_text.specs.Commands.{pairs_of};

@@ -2,7 +2,7 @@
 use Rattle.std.proofs.Common.{◌≡◌, ℕ, ◌<◌, Bool, true, false, cond, List, [], ◌∷◌, ◌++◌, codes, length, Option, Some, None, IfSome, Result, Ok, Err, refl, ap, sym, subst, ◌∙◌, append-nil, append_assoc, nat_eq, is_some}
 use Rattle.std.specs.List.{flat_map, onto_first}
 use Rattle.std.specs.Str.{bytes_eq}
-use Rattle.std.specs.Io.KnownBytes.{Appends, Consumes, IsAtEnd}
+use Rattle.std.specs.Io.KnownBytes.{Appends, IsAtEnd}
 use Rattle.std.proofs.lemmas.Grind.{flat_map-append}
 use Rattle.scl_description.specs.Lines.{cut_at, with_first, line, lines_of}
 use Rattle.scl_description.proofs.CutLaws.{lines_of-cut, lines_of-only}
@@ -41,16 +41,6 @@ cut-more m (x ∷ xs) r h =
 
 lines-more : (xs r text rest : List ℕ) → cut_at 10 xs ≡ parts text rest → lines_of (xs ++ r) ≡ text ∷ lines_of (rest ++ r)
 lines-more xs r text rest h = lines_of-cut (xs ++ r) text (rest ++ r) (cut-more 10 xs r (ap is_some h) ∙ ap (more_behind r) h)
-
--- bytes came from the reader
-pub came : (old new : Option (List ℕ)) (pending bytes : List ℕ) → Consumes old new bytes → Stays old new pending (pending ++ bytes)
-came None new pending bytes h = tt
-came (Some r) None pending bytes h = h
-came (Some r) (Some r') pending bytes h = ap (λ x. pending ++ x) h ∙ sym (append_assoc pending bytes r')
-
-pub stays-still : (old : Option (List ℕ)) (pending : List ℕ) → Stays old old pending pending
-stays-still None pending = tt
-stays-still (Some r) pending = refl
 
 pub stays-on : (a b c : Option (List ℕ)) (p q s : List ℕ) → Stays a b p q → Stays b c q s → Stays a c p s
 stays-on None b c p q s h k = tt
@@ -162,10 +152,6 @@ appends-on (Some x) (Some y) (Some z) first last h k = k ∙ ap (λ t. t ++ last
 pub appends-none : (a : Option (List ℕ)) → Appends a a []
 appends-none None = tt
 appends-none (Some x) = sym (append-nil x)
-
-pub owes-all : (answers : List ℕ → Result (List ℕ) ℕ → Type 0) (all : Option (List ℕ)) (pending request : List ℕ) → pending ≡ [] → request ≡ [] → Owes answers all all pending request []
-owes-all answers None pending request h k = tt
-owes-all answers (Some r) pending request h k = ([], k, λ rest told_. subst (λ p. AreTold answers (requests_of (lines_of (p ++ r))) rest) h told_)
 
 pub owes-less : (answers : List ℕ → Result (List ℕ) ℕ → Type 0) (all now now' : Option (List ℕ)) (pending pending' text request request' written more : List ℕ) → Owes answers all now pending request written
     → LosesLine now now' pending pending' text → Steps answers text request request' more → Owes answers all now' pending' request' (written ++ more)

@@ -1,5 +1,5 @@
 -- Descriptions: what the code gives is what is defined, and a record is read back from its description.
-use Rattle.std.proofs.Common.{◌≡◌, ℕ, true, cond, List, [], ◌∷◌, ◌++◌, map, codes, refl, ap, sym, subst, ◌∙◌, append-nil, append_assoc}
+use Rattle.std.proofs.Common.{◌≡◌, ℕ, true, cond, List, [], ◌∷◌, ◌++◌, map, codes, Option, None, Some, unwrap_or, refl, ap, sym, subst, ◌∙◌, append-nil, append_assoc}
 use Rattle.std.specs.List.{flat_map}
 use Rattle.std.proofs.lemmas.Grind.{flat_map-append}
 use Rattle.scl_values.specs.Each.{Each}
@@ -15,11 +15,11 @@ use Rattle.scl_description.specs.Rows.{Entry, IsRow, lone, row_text, rows_text, 
 use Rattle.scl_description.specs.Records.{record_entries, record_in}
 use Rattle.scl_description.proofs.RecordLaws.{description-back-among}
 use Rattle.scl_hazards.specs.declared.hazard.Hazard.{Hazard}
-use Rattle.scl_rows.specs.Rows.{refused_at, told}
+use Rattle.scl_rows.specs.Rows.{refused_at, told, unless_owned}
 use Rattle.scl_rows.specs.declared.row.Row.{Row}
 use Rattle.scl_cl.specs.declared.described.Findings.{Findings}
 use Rattle.scl_cl.specs.declared.kept.Compilation.{Compilation}
-use Rattle.scl_cl.specs.OptionLines.{fields_given, kind_name, option_rests, options_entry, options_given}
+use Rattle.scl_cl.specs.OptionLines.{fields_given, kind_name, option_fields, option_rests, options_entry, options_given}
 use Rattle.scl_cl.specs.OptionRows.{rows_by}
 use Rattle.scl_cl.specs.Hazards.{hazards_by}
 use Rattle.scl_cl.specs.QuestionsGiven.{given}
@@ -47,9 +47,16 @@ outcome-is s r executable cwd (outcomes.Ok compilation) e parts =
 outcome-is s r executable cwd (outcomes.CannotCache reason text) e parts = ap (λ a. outcome_entries s r a (reading_by r.compiler r)) e
 outcome-is s r executable cwd outcomes.NotCompilation e parts = ap (λ a. outcome_entries s r a (reading_by r.compiler r)) e
 
+-- what is told of a kind's name is its name
+name-is : (flag : Option (List ℕ)) (name : List ℕ) → unwrap_or (unless_owned flag name) name ≡ name
+name-is None name = refl
+name-is (Some f) name = refl
+
 options-are : (rows : List Row) → map fields_given rows ≡ option_rests (map kind_name rows) (map told rows)
 options-are [] = refl
-options-are (row ∷ rows) = ap (λ rests. fields_given row ∷ rests) (options-are rows)
+options-are (row ∷ rows) =
+    ap (λ kind. option_fields kind (told row) ∷ map fields_given rows) (sym (name-is (told row).flag (kind_name row)))
+    ∙ ap (λ rests. option_fields (unwrap_or (told row).kind (kind_name row)) (told row) ∷ rests) (options-are rows)
 
 abbrev all_entries : List Entry → Entry → List Hazard → Questions → List Entry
 all_entries outcome options hazards asks = version_entry ∷ [] ++ outcome ++ (options ∷ hazards_entry hazards ∷ question_entries asks)

@@ -1,13 +1,13 @@
 -- A request read line by line.
-use Rattle.std.proofs.Common.{◌≡◌, ℕ, ◌+◌, ◌<◌, ◌≤◌, Bool, true, false, ◌||◌, cond, List, [], ◌∷◌, ◌++◌, reverse, length, Some, None, Err, refl, ap, sym, ◌∙◌, arith, append-nil, append_assoc}
+use Rattle.std.proofs.Common.{◌≡◌, ℕ, ◌+◌, ◌<◌, ◌≤◌, Bool, true, false, ◌||◌, cond, List, [], ◌∷◌, ◌++◌, reverse, length, Some, refl, ap, sym, ◌∙◌, arith, append-nil, append_assoc}
 use Rattle.std.specs.List.{flat_map, filter_map, list_any, cons_option}
-use Rattle.std.specs.Option.{option_to_list, ok_or}
+use Rattle.std.specs.Option.{option_to_list}
 use Rattle.std.proofs.lemmas.Grind.{flat_map-append, fold-append}
 use Rattle.std.proofs.lemmas.List.{reverse-append}
 use Rattle.scl_description.specs.Lines.{lines_of}
 use Rattle.scl_cl.specs.Sayings.{Saying, said}
 use Rattle.scl_cl.specs.Sayings as sayings
-use Rattle.scl_cl.specs.Requests.{Gathered, gathered, breaks, first_broken, request_in, request_of, request_unless, viewed_directory_in, path_in}
+use Rattle.scl_cl.specs.Requests.{Gathered, gathered, breaks, first_broken, viewed_directory_in, path_in}
 use Rattle.scl_cl.specs.Drafts.{with_line}
 
 or-comm : (a b : Bool) → a || b ≡ b || a
@@ -64,9 +64,6 @@ pub record Passed (all left : List ℕ) (number : ℕ) (kept : Gathered) : Type 
   pub numbered : number + length (lines_of left) ≡ length (lines_of all) + 1
   pub counted : number + length left ≤ length all + 1
 
-pub starts : (all : List ℕ) (kept : Gathered) → kept ≡ gathered [] → Passed all all 1 kept
-starts all kept k = record { before = []; kept_is = k; told = refl; whole = refl; numbered = omega arith; counted = omega arith }
-
 -- a line was taken
 pub goes_on : (all left rest line : List ℕ) (number : ℕ) (kept kept' : Gathered) (s : Saying) → Passed all left number kept → lines_of left ≡ line ∷ lines_of rest → length rest < length left
     → said line ≡ Some s → breaks kept (Some s) ≡ false → kept' ≡ with_line kept s → Passed all rest (number + 1) kept'
@@ -86,20 +83,3 @@ goes_on all left rest line number kept kept' s p cut shorter says keeps takes =
       numbered = omega (arith, p.numbered, ap length cut);
       counted = omega (arith, p.counted);
     }
-
--- a line that breaks a rule
-pub is_bad : (all left rest line : List ℕ) (number : ℕ) (kept : Gathered) → Passed all left number kept → lines_of left ≡ line ∷ lines_of rest → breaks kept (said line) ≡ true → request_in (lines_of all) ≡ Err number
-is_bad all left rest line number kept p cut h =
-    let found : first_broken 1 [] (lines_of all) ≡ Some number =
-    sym p.told ∙ ap (first_broken number p.before) cut
-    ∙ ap (λ b. cond b (Some number) (first_broken (number + 1) (p.before ++ option_to_list (said line)) (lines_of rest))) (ap (λ g. breaks g (said line)) (sym p.kept_is) ∙ h) in
-    ap (λ o. request_unless o (lines_of all)) found
-
--- the end, behind lines none of which breaks a rule
-pub at_end : (all left : List ℕ) (number : ℕ) (kept : Gathered) → Passed all left number kept → left ≡ [] → request_in (lines_of all) ≡ ok_or (request_of kept) number
-at_end all left number kept p e =
-    let none : first_broken 1 [] (lines_of all) ≡ None = sym p.told ∙ ap (λ bs. first_broken number p.before (lines_of bs)) e in
-    let named : gathered (filter_map said (lines_of all)) ≡ kept =
-    ap gathered (sym p.whole ∙ ap (λ bs. p.before ++ filter_map said (lines_of bs)) e ∙ append-nil p.before) ∙ sym p.kept_is in
-    let last : length (lines_of all) + 1 ≡ number = omega (arith, p.numbered, ap (λ bs. length (lines_of bs)) e) in
-    ap (λ o. request_unless o (lines_of all)) none ∙ ap (λ g. ok_or (request_of g) (length (lines_of all) + 1)) named ∙ ap (λ n. ok_or (request_of kept) n) last

@@ -85,7 +85,7 @@ outcome_entries s request (compiled words kept) (Err v) = []
 outcome_entries s request (cannot_cache reason beside) r = refused_entries reason beside (refused_at (rows_by request.compiler request))
 outcome_entries s request not_compilation r = undone_entries (refused_at (rows_by request.compiler request))
 
--- the rows behind the answer's lines, with the names of the options' kinds
+-- the rows behind the answer's lines, with the names of the kinds of flags
 abbrev pub answer_entries : Settings → Request → List (List ℕ) → List Entry
 answer_entries s request kinds =
     version_entry ∷ []
@@ -100,7 +100,7 @@ abbrev pub description : Settings → Request → List (List ℕ) → List ℕ
 description s request kinds =
     if has_at_most s.bound request then text_of (answer_to request) ++ entries_text (answer_entries s request kinds) else entries_text too_many_entries
 
--- the text describes the answer to the request; which names kinds have is not said
+-- the text describes the answer to the request; which names the kinds of flags have is not said
 abbrev pub IsDescription : Settings → Request → List ℕ → Type 0
 IsDescription s request text = (kinds : List (List ℕ)) × (text ≡ description s request kinds)
 

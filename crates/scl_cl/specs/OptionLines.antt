@@ -1,5 +1,5 @@
 -- The rows of a description that say what became of each option of a command line.
-use Rattle.std.specs.Prelude.{ℕ, List, [], ◌∷◌, ◌++◌, drop, length, map, codes, Option, None, Some, string_bytes}
+use Rattle.std.specs.Prelude.{ℕ, List, [], ◌∷◌, ◌++◌, drop, length, map, codes, Option, None, Some, string_bytes, unwrap_or}
 use Rattle.std.specs.Fmt.{decimal}
 use Rattle.std.specs.Option.{option_map}
 use Rattle.scl_description.specs.Records.{first_field}
@@ -34,10 +34,10 @@ flag_fields row = bytes_field row.flag ∷ bytes_field row.value ∷ decimal (le
 abbrev pub option_fields : List ℕ → Told → List (List ℕ)
 option_fields kind row = place_fields kind row ++ flag_fields row ++ row.given ++ row.printed
 
--- of options of kinds of these names, in order
+-- of options in order, those with a flag of kinds of these names
 abbrev pub option_rests : List (List ℕ) → List Told → List (List (List ℕ))
 option_rests kinds [] = []
-option_rests kinds (row ∷ rows) = option_fields (first_field kinds) row ∷ option_rests (drop 1 kinds) rows
+option_rests kinds (row ∷ rows) = option_fields (unwrap_or row.kind (first_field kinds)) row ∷ option_rests (drop 1 kinds) rows
 
 abbrev pub options_entry : List (List ℕ) → List Told → Entry
 options_entry kinds rows = entry (codes "option") (option_rests kinds rows)

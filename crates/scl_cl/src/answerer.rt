@@ -14,7 +14,7 @@ ghost use Rattle.scl_cl.specs.Within.{has_at_most};
 ghost use Rattle.scl_cl.specs.Questions.{questions_of};
 ghost use Rattle.scl_cl.specs.QuestionsGiven.{given};
 
-use crate::ask::{Asked, Query};
+use crate::ask::{Askable, Query};
 use crate::compile::{answer_line, compile_words};
 use crate::compiler::Compiler;
 use crate::hazards::{answer_hazards, line_hazards};
@@ -333,7 +333,7 @@ fn ask_gxx<Q: Query>(alloc: Global, query: Q, trees: &GccTree) -> Mem<Q::Answer>
     query.ask(alloc, &Lent { compiler, trees }, gnu)
 }
 
-impl Asked for Answerer {
+impl Askable for Answerer {
     ghost compiler = { λ answerer. answerer };
 
     fn ask<Q: Query>(&self, alloc: Global, query: Q) -> Mem<Q::Answer> {

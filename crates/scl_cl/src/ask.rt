@@ -50,8 +50,8 @@ pub trait Query: Sized {
         }) answer) };
 }
 
-/// Who is asked: a compiler by its name, which builds its trees where a query reads words, or one whose trees are built.
-pub(crate) trait Asked {
+/// Who may be asked: a compiler by its name, which builds its trees where a query reads words, or one whose trees are built.
+pub(crate) trait Askable {
     ghost use Rattle.std.specs.Prelude.{IfOk};
     ghost use Rattle.scl_cl.specs.declared.compiler.Compiler.{Compiler};
     ghost use Rattle.scl_cl.specs.Definitions.{definitions_of};
@@ -64,7 +64,7 @@ pub(crate) trait Asked {
         ensures { IfOk result (λ answer. Q.gives query (definitions_of (compiler self.now)) answer) };
 }
 
-impl Asked for Compiler {
+impl Askable for Compiler {
     ghost compiler = { λ compiler. compiler };
 
     fn ask<Q: Query>(&self, alloc: Global, query: Q) -> Mem<Q::Answer> {

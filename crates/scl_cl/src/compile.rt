@@ -10,7 +10,7 @@ ghost use Rattle.scl_cl.specs.Answers.{Keeps, answer_to, answer_with, environmen
 ghost use Rattle.scl_cl.specs.AnswersGiven.{answer_by, answer_of, command_answer, record_given, HasBuilt, HasKept, HasParts, HasCommand, IfCompiled, IsAnswerBy};
 ghost use Rattle.scl_cl.specs.Definitions.{definitions_of};
 
-use crate::ask::{Asked, Query};
+use crate::ask::{Askable, Query};
 use crate::compiler::Compiler;
 use crate::kept::{BuiltCommand, Compilation, Kept};
 use crate::within::CommandLines;
@@ -96,7 +96,7 @@ impl<'a, K: Kept> Query for Compile<'a, K> {
 }
 
 /// What a command line, whose words are handed over, is answered.
-pub(crate) fn compile_words<A: Asked, K: Kept>(
+pub(crate) fn compile_words<A: Askable, K: Kept>(
     alloc: Global,
     asks: &A,
     executable: &[u8],
@@ -119,7 +119,7 @@ pub(crate) fn compile_words<A: Asked, K: Kept>(
 }
 
 /// What `Compiler::answer` answers, of whoever is asked.
-pub(crate) fn answer_line<A: Asked>(
+pub(crate) fn answer_line<A: Askable>(
     alloc: Global,
     asks: &A,
     executable: &[u8],

@@ -19,7 +19,7 @@ ghost use Rattle.scl_cl.specs.Descriptions.{IsDescription, DescribesBytes};
 ghost use Rattle.scl_cl.specs.DescriptionsGiven.{AreOf};
 
 use crate::answerers::Answerers;
-use crate::ask::Asked;
+use crate::ask::Askable;
 use crate::compile::answer_line;
 use crate::described::{Findings, description_text, too_many_words};
 use crate::hazards::answer_hazards;
@@ -39,7 +39,7 @@ use std::alloc::Global;
 use std::io::{Read, Write};
 
 /// The answer to a request, of whoever is asked.
-fn request_answer<A: Asked>(
+fn request_answer<A: Askable>(
     alloc: Global,
     asks: &A,
     request: &Request,
@@ -61,7 +61,7 @@ fn request_answer<A: Asked>(
 }
 
 /// What became of each option of a request's command line, of whoever is asked.
-fn request_rows<A: Asked>(alloc: Global, asks: &A, request: &Request) -> Mem<Vec<Row>>
+fn request_rows<A: Askable>(alloc: Global, asks: &A, request: &Request) -> Mem<Vec<Row>>
     requires { A.compiler asks.now ≡ request.now.compiler }
     ensures { IfOk result (λ rows. map told rows.items ≡ rows_by request.now.compiler (asked_by request.now)) }
 {
@@ -76,7 +76,7 @@ fn request_rows<A: Asked>(alloc: Global, asks: &A, request: &Request) -> Mem<Vec
 }
 
 /// The hazards of a request's command line, of whoever is asked.
-fn request_hazards<A: Asked>(
+fn request_hazards<A: Askable>(
     alloc: Global,
     asks: &A,
     request: &Request,
@@ -97,7 +97,7 @@ fn request_hazards<A: Asked>(
 }
 
 /// What the answer to a request asks, of whoever is asked.
-fn request_questions<A: Asked>(
+fn request_questions<A: Askable>(
     alloc: Global,
     asks: &A,
     request: &Request,
@@ -118,7 +118,7 @@ fn request_questions<A: Asked>(
 }
 
 /// What is described of a request, of whoever is asked.
-fn request_findings<A: Asked>(alloc: Global, asks: &A, request: &Request) -> Mem<Findings>
+fn request_findings<A: Askable>(alloc: Global, asks: &A, request: &Request) -> Mem<Findings>
     requires { A.compiler asks.now ≡ request.now.compiler }
     ensures { IfOk result (AreOf (asked_by request.now)) }
 {
@@ -149,7 +149,7 @@ fn request_has_at_most(alloc: Global, request: &Request, most: usize) -> Mem<boo
 }
 
 /// The description of the answer to a request, of whoever is asked.
-fn request_description<A: Asked>(
+fn request_description<A: Askable>(
     alloc: Global,
     asks: &A,
     settings: &Settings,

@@ -10,7 +10,7 @@ ghost use Rattle.scl_cl.specs.AnswersGiven.{record_given};
 ghost use Rattle.scl_cl.specs.Hazards.{hazards_by, hazards_with};
 ghost use Rattle.scl_cl.specs.Requests.{asked};
 
-use crate::ask::{Asked, Query};
+use crate::ask::{Askable, Query};
 use crate::compiler::Compiler;
 use crate::kept::Compilation;
 use crate::within::CommandLines;
@@ -101,7 +101,7 @@ fn record_of(answer: &CompilerArguments<Compilation>) -> Option<&ParsedArguments
 }
 
 /// What `Compiler::hazards` gives, of whoever is asked.
-pub(crate) fn line_hazards<A: Asked>(
+pub(crate) fn line_hazards<A: Askable>(
     alloc: Global,
     asks: &A,
     words: &[Vec<u8>],
@@ -121,7 +121,7 @@ pub(crate) fn line_hazards<A: Asked>(
 }
 
 /// What `Compiler::hazards_of` gives, of whoever is asked.
-pub(crate) fn answer_hazards<A: Asked>(
+pub(crate) fn answer_hazards<A: Askable>(
     alloc: Global,
     asks: &A,
     answer: &CompilerArguments<Compilation>,

@@ -12,7 +12,7 @@ ghost use Rattle.scl_cl.specs.Within.{has_at_most};
 ghost use Rattle.scl_cl.specs.Questions.{no_directory, database_asked, questions_of};
 ghost use Rattle.scl_cl.specs.QuestionsGiven.{given, hash_files_given, database_given};
 
-use crate::ask::{Asked, Query};
+use crate::ask::{Askable, Query};
 use crate::compile::answer_line;
 use crate::compiler::Compiler;
 use crate::kept::Compilation;
@@ -143,7 +143,7 @@ impl<'a> Query for FilesWanted<'a> {
 
 /// What an answer asks, where that answer is at hand.
 #[tactic(auto, using(crate::proofs::RecordLaws::hash_files_are_given, crate::proofs::RecordLaws::database_is_given))]
-pub(crate) fn questions_beside<A: Asked>(
+pub(crate) fn questions_beside<A: Askable>(
     alloc: Global,
     asks: &A,
     answer: &CompilerArguments<Compilation>,
@@ -170,7 +170,7 @@ pub(crate) fn questions_beside<A: Asked>(
 }
 
 /// What the answer asks, with no bound on words.
-pub(crate) fn all_questions<A: Asked>(
+pub(crate) fn all_questions<A: Askable>(
     alloc: Global,
     asks: &A,
     words: &[Vec<u8>],

@@ -7,7 +7,7 @@ ghost use Rattle.scl_cl.specs.Answers.{reading_by};
 ghost use Rattle.scl_cl.specs.OptionRows.{rows_by};
 ghost use Rattle.scl_cl.specs.Requests.{asked};
 
-use crate::ask::{Asked, Query};
+use crate::ask::{Askable, Query};
 use crate::compiler::Compiler;
 use crate::within::CommandLines;
 use scl_hazards::HasHazards;
@@ -47,7 +47,7 @@ impl<'a> Query for OptionRows<'a> {
 }
 
 /// What `Compiler::rows` gives, of whoever is asked.
-pub(crate) fn option_rows<A: Asked>(
+pub(crate) fn option_rows<A: Askable>(
     alloc: Global,
     asks: &A,
     words: &[Vec<u8>],

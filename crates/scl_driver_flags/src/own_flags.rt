@@ -1,6 +1,6 @@
 //! Whether a word that the rules do not know is one of the compilers' own flags.
-ghost use Rattle.std.specs.Prelude.{◌≡◌, ◌==◌, Bool};
-ghost use Rattle.scl_values.specs.Row.{row_of, row_at, shape_of};
+ghost use Rattle.std.specs.Prelude.{◌≡◌, ◌==◌};
+ghost use Rattle.scl_values.specs.Row.{row_of, row_at};
 ghost use Rattle.scl_values.specs.Tables.{owner_in};
 ghost use Rattle.scl_driver_flags.specs.OwnFlags.{is_of, can_stand_apart, takes_next, owns};
 

@@ -1,1 +1,2 @@
 pub mod CaseLemmas
+pub mod UnreadLaws

@@ -1,5 +1,5 @@
 -- What is said of a command line on a disk.
-use Rattle.std.specs.Prelude.{◌≡◌, ℕ, Bool, false, List, [], Option, None, Some}
+use Rattle.std.specs.Prelude.{◌≡◌, ℕ, Bool, false, List, [], Option, None, Some, Err}
 use Rattle.scl_values.specs.Words.{words_of}
 use Rattle.scl_files.specs.Views.{Viewed}
 use Rattle.scl_text.specs.Commands.{pairs_of}
@@ -9,6 +9,8 @@ use Rattle.scl_cl.specs.Requests.{Request, asked}
 use Rattle.scl_cl.specs.Answers.{Answer, answer_to, runs_by}
 use Rattle.scl_cl.specs.Hazards.{hazards_by}
 use Rattle.scl_cl.specs.declared.compiler.Compiler.{Compiler}
+use Rattle.scl_load.specs.Loads.{Load, IsDiskError, IsEnd, load_of}
+use Rattle.scl_load.specs.declared.rounds.LoadError.{LoadError}
 use Rattle.scl_explain.specs.Endings.{ending_of}
 use Rattle.scl_explain.specs.Replies.{IsChecked, barring, command_written}
 use Rattle.scl_explain.specs.declared.case.Case.{Case}
@@ -33,10 +35,25 @@ pub record IsSaid (holds : Viewed → Type 0) (multiarch : Bool) (case : Case) (
   pub same_answer : (held : Viewed) → holds held → held.is_multiarch ≡ multiarch → answer_to (request_of case held) ≡ answer_to (request_of case loaded)
   pub said : says (answer_to (request_of case loaded)) (hazards_by case.compiler (request_of case loaded))
 
--- a file can't be read, and nothing is written
-pub record IsUnread (reply : Reply) : Type 0 where
+-- what is loaded for a command line: it may have 2^20 words with its response files in place, and 2^12 files may name each the next
+abbrev pub load_for : Case → Bool → Load
+load_for case multiarch = load_of case.compiler (words_of case.words.items) case.cwd.items (pairs_of case.env_vars.items) multiarch 1048576 4096
+
+-- a load for a command line ends by this error, on each disk of which this holds
+abbrev pub IsNotLoaded : {E : Type 0} → (Viewed → Type 0) → Bool → Case → LoadError E → Type 0
+IsNotLoaded holds multiarch case error = (held : Viewed) → holds held → held.is_multiarch ≡ multiarch → IsEnd held (load_for case multiarch) (Err error)
+
+-- a reply that is nothing but that a file can't be read
+pub record IsFailure (reply : Reply) : Type 0 where
   pub ending : reply.ending ≡ ending.FileFailed
   pub output : reply.output.items ≡ []
+
+-- the reply to a load that ends by an error, which is one of the disk's where it is of the disk
+pub record IsUnread {E : Type 0} (holds : Viewed → Type 0) (fails : E → Type 0) (multiarch : Bool) (case : Case) (reply : Reply) : Type 0 where
+  pub error : LoadError E
+  pub is_not_loaded : IsNotLoaded holds multiarch case error
+  pub is_disk_error : IsDiskError fails error
+  pub is_failure : IsFailure reply
 
 -- a reply with the command to run, where there is one and no hazard bars it
 pub record IsCommanded (form : CommandForm) (case : Case) (reply : Reply) (answer : Answer) (hazards : List Hazard) : Type 0 where

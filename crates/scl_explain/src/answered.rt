@@ -6,7 +6,7 @@ ghost use Rattle.scl_text.specs.Runs.{runs_of};
 ghost use Rattle.scl_cl.specs.Answers.{answer_to, reading_by};
 ghost use Rattle.scl_cl.specs.AnswersGiven.{answer_of, record_given};
 ghost use Rattle.scl_cl.specs.Hazards.{hazards_by};
-ghost use Rattle.scl_explain.specs.Said.{request_of, runs_for};
+ghost use Rattle.scl_explain.specs.Said.{IsNotLoaded, request_of, runs_for};
 ghost use Rattle.scl_load.specs.Loads.{IsDiskError};
 
 use crate::case::Case;
@@ -74,20 +74,15 @@ pub fn answer_case<D: Disk>(
     ensures loaded { IfOk result (λ said. IfOk said (λ answered. answer_to (request_of case.now answered.view) ≡ answer_of answered.answer)) }
     ensures runs { IfOk result (λ said. IfOk said (λ answered. runs_of answered.runs.items ≡ runs_for case.now.compiler (result_ok (reading_by case.now.compiler (request_of case.now answered.view))))) }
     ensures hazards { IfOk result (λ said. IfOk said (λ answered. answered.hazards.items ≡ hazards_by case.now.compiler (request_of case.now answered.view))) }
+    ensures end { IfOk result (λ said. IfErr said (IsNotLoaded (D.holds disk.now) multiarch case.now)) }
     ensures error { IfOk result (λ said. IfErr said (λ error. IsDiskError (D.fails disk.now) error)) }
 {
     let logged = Logged::new(alloc, disk);
-    let Case {
-        compiler,
-        program,
-        words,
-        cwd,
-        env_vars,
-    } = case;
+    let (words, cwd, env_vars) = (&case.words, &case.cwd, &case.env_vars);
     let view = match load(
         alloc,
         &logged,
-        *compiler,
+        case.compiler,
         words,
         cwd,
         env_vars,
@@ -99,7 +94,8 @@ pub fn answer_case<D: Disk>(
         Err(error) => return Ok(Err(error)),
     };
     let log = logged.into_log();
-    let answer = compiler.answer(alloc, program, words, cwd, env_vars, &view)?;
+    let compiler = case.compiler;
+    let answer = compiler.answer(alloc, &case.program, words, cwd, env_vars, &view)?;
     let runs = runs_for(alloc, case, &answer)?;
     let hazards = compiler.hazards_of(alloc, &answer, words, cwd, env_vars, &view)?;
     Ok(Ok(Answered {

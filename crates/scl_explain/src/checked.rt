@@ -46,6 +46,7 @@ fn check_reply(alloc: Global, case: &Case, answered: &Answered, form: Form) -> M
 
 /// The hazards of a command line, a line each, or an object for machines. It ends as a hazard where there is one, as the answer
 /// does where there is no command, and as a failed file where one can't be read. It fails only for want of memory.
+#[tactic(auto, using(crate::proofs::UnreadLaws::is_unread))]
 pub fn check<D: Disk>(
     alloc: Global,
     disk: &D,
@@ -55,7 +56,7 @@ pub fn check<D: Disk>(
 ) -> Mem<Reply>
 where
     D::Error: Display,
-    ensures { IfOk result (λ reply. IsUnread reply ⊎ IsSaid (D.holds disk.now) multiarch case.now (IsCheckedReply form reply)) }
+    ensures { IfOk result (λ reply. IsUnread (D.holds disk.now) (D.fails disk.now) multiarch case.now reply ⊎ IsSaid (D.holds disk.now) multiarch case.now (IsCheckedReply form reply)) }
 {
     match answer_case(alloc, disk, case, multiarch)? {
         Ok(answered) => check_reply(alloc, case, &answered, form),

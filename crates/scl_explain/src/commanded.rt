@@ -78,6 +78,7 @@ fn command_reply(alloc: Global, case: &Case, answered: &Answered, form: CommandF
 /// The command to run in the place of a command line, quoted for a shell or each word with a NUL behind it. Nothing is written
 /// where there is none, and of a strict form where a hazard is named; then it ends as such, and so says the line of standard
 /// error. It fails only for want of memory.
+#[tactic(auto, using(crate::proofs::UnreadLaws::is_unread))]
 pub fn command<D: Disk>(
     alloc: Global,
     disk: &D,
@@ -87,7 +88,7 @@ pub fn command<D: Disk>(
 ) -> Mem<Reply>
 where
     D::Error: Display,
-    ensures { IfOk result (λ reply. IsUnread reply ⊎ IsSaid (D.holds disk.now) multiarch case.now (IsCommanded form case.now reply)) }
+    ensures { IfOk result (λ reply. IsUnread (D.holds disk.now) (D.fails disk.now) multiarch case.now reply ⊎ IsSaid (D.holds disk.now) multiarch case.now (IsCommanded form case.now reply)) }
 {
     match answer_case(alloc, disk, case, multiarch)? {
         Ok(answered) => command_reply(alloc, case, &answered, form),

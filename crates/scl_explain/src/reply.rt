@@ -1,6 +1,6 @@
 //! What a command line is.
 ghost use Rattle.std.specs.Prelude.{◌≡◌, ◌⊎◌, IfOk};
-ghost use Rattle.scl_explain.specs.Said.{IsUnread};
+ghost use Rattle.scl_explain.specs.Said.{IsFailure, IsUnread};
 ghost use Rattle.scl_explain.specs.declared.status.Ending.TheVariants as ending;
 
 use crate::answered::{Answered, answer_case};
@@ -50,7 +50,7 @@ pub(crate) fn load_error_text<E: Display>(alloc: Global, error: &LoadError<E>) -
 
 /// What is said where a disk gives no answer.
 pub(crate) fn unread<E: Display>(alloc: Global, error: &LoadError<E>) -> Mem<Reply>
-    ensures { IfOk result IsUnread }
+    ensures { IfOk result IsFailure }
 {
     Ok(Reply {
         output: Vec::new(alloc),
@@ -77,6 +77,7 @@ fn explanation_bytes(alloc: Global, case: &Case, answered: &Answered, form: Form
 
 /// What a command line is. It ends as answered whatever the answer is, and as a failed file where one can't be read. It fails
 /// only for want of memory.
+#[tactic(auto, using(crate::proofs::UnreadLaws::is_unread))]
 pub fn explain<D: Disk>(
     alloc: Global,
     disk: &D,
@@ -86,7 +87,7 @@ pub fn explain<D: Disk>(
 ) -> Mem<Reply>
 where
     D::Error: Display,
-    ensures { IfOk result (λ reply. IsUnread reply ⊎ (reply.ending ≡ ending.Answered)) }
+    ensures { IfOk result (λ reply. IsUnread (D.holds disk.now) (D.fails disk.now) multiarch case.now reply ⊎ (reply.ending ≡ ending.Answered)) }
 {
     match answer_case(alloc, disk, case, multiarch)? {
         Ok(answered) => Ok(Reply {

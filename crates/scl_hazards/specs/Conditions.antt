@@ -1,7 +1,6 @@
 -- What is asked of a command line.
-use Rattle.std.specs.Prelude.{◌≡◌, ℕ, Bool, true, false, cond, not, ◌&&◌, ◌||◌, nat_eq, List, [], ◌∷◌, length, drop, codes, Option, None, Some}
-use Rattle.std.specs.Borrow.{Bor}
-use Rattle.std.specs.List.{list_any, list_all, starts_with}
+use Rattle.std.specs.Prelude.{ℕ, Bool, true, false, cond, not, ◌&&◌, ◌||◌, nat_eq, List, [], ◌∷◌, length, drop, codes, Option, None, Some}
+use Rattle.std.specs.List.{list_any, starts_with}
 use Rattle.std.specs.Option.{option_or}
 use Rattle.std.specs.Str.{bytes_eq}
 use Rattle.scl_args.specs.Options.{first_is}

@@ -1,5 +1,5 @@
 -- The hazards of gcc's and clang's command lines.
-use Rattle.std.specs.Prelude.{ℕ, Bool, false, List, [], ◌∷◌, ◌++◌, map, codes, Option, None, Some, unwrap_or}
+use Rattle.std.specs.Prelude.{ℕ, Bool, false, List, [], ◌∷◌, ◌++◌, map, Option, None, Some, unwrap_or}
 use Rattle.scl_args.specs.Options.{texts}
 use Rattle.scl_driver_texts.specs.InPlace.{texts_in_place}
 use Rattle.scl_driver_texts.specs.Otherwise.{splits_otherwise}

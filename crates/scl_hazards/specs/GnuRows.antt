@@ -229,7 +229,3 @@ diagnostic_rows =
     ∷ row hazards.CAsCxxUnsaid (case (by drivers.Clang ∷ plusplus ∷ extension_is (is (codes "c" ∷ [])) ∷ []) (any language ∷ [])
     ∷ [])
     ∷ []
-
--- all of them, in the order in which they are named
-abbrev pub gnu_hazard_rows : List (Hazardous Kind)
-gnu_hazard_rows = text_rows ++ split_dwarf_rows ++ recorded_rows ++ output_rows ++ language_rows ++ word_rows ++ order_rows ++ dependency_rows ++ diagnostic_rows

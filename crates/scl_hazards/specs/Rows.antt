@@ -1,6 +1,5 @@
 -- Hazards and when they are there.
 use Rattle.std.specs.Prelude.{Bool, not, ◌&&◌, List, map, filter, Option}
-use Rattle.std.specs.Borrow.{Bor}
 use Rattle.std.specs.List.{list_any, list_all}
 use Rattle.scl_gnu_reading.specs.declared.gcc.data.Kind.{Kind}
 use Rattle.scl_values.specs.Seen.{Seen}

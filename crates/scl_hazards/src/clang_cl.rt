@@ -1,10 +1,9 @@
 //! The hazards of clang-cl's command lines.
-ghost use Rattle.std.specs.Prelude.{◌≡◌, ◌++◌, IfOk, IsTrue, OnOk, map};
+ghost use Rattle.std.specs.Prelude.{◌≡◌, ◌++◌, IfOk, IsTrue, map};
 ghost use Rattle.std.specs.Option.{option_copied, option_map};
 ghost use Rattle.scl_driver_texts.specs.InPlace.{texts_in_place};
 ghost use Rattle.scl_driver_texts.specs.Otherwise.{splits_otherwise};
 ghost use Rattle.scl_driver_texts.specs.declared.splitter.Splitter.{Splitter};
-ghost use Rattle.scl_files.specs.Decoding.{utf8_mark};
 ghost use Rattle.scl_files.specs.Expand.{expand};
 ghost use Rattle.scl_gnu_reading.specs.Data as gnu;
 ghost use Rattle.scl_msvc.specs.Environment.{surroundings, value_of};

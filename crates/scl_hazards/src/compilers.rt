@@ -6,7 +6,7 @@ ghost use Rattle.scl_text.specs.Records.{outcome_of, parsed_of};
 
 use crate::clang_cl::msvc_hazards;
 use crate::driver::Driver;
-use crate::gnu::{Asked, gnu_hazards};
+use crate::gnu::{GnuCompiler, gnu_hazards};
 use crate::hazard::Hazard;
 use scl_args::{FlagTree, Mem};
 use scl_gnu::clang::{Clang, trees};
@@ -89,13 +89,13 @@ impl HasHazards for Gcc {
         _env_vars: &[(Vec<u8>, Vec<u8>)],
         view: &View,
     ) -> Mem<Vec<Hazard>> {
-        let asked = Asked {
+        let compiler = GnuCompiler {
             driver: Driver::Gcc,
             is_apple: false,
             is_plusplus: self.gplusplus,
         };
         let tree = FlagTree::build(alloc, &table())?;
-        gnu_hazards(alloc, asked, tree, words, cwd, view, parsed)
+        gnu_hazards(alloc, compiler, tree, words, cwd, view, parsed)
     }
 }
 
@@ -115,12 +115,12 @@ impl HasHazards for Clang {
         _env_vars: &[(Vec<u8>, Vec<u8>)],
         view: &View,
     ) -> Mem<Vec<Hazard>> {
-        let asked = Asked {
+        let compiler = GnuCompiler {
             driver: Driver::Clang,
             is_apple: self.is_appleclang,
             is_plusplus: self.clangplusplus,
         };
-        gnu_hazards(alloc, asked, trees(alloc)?, words, cwd, view, parsed)
+        gnu_hazards(alloc, compiler, trees(alloc)?, words, cwd, view, parsed)
     }
 }
 

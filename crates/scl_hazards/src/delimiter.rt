@@ -1,6 +1,5 @@
 //! Options that lack their delimiter in the built command.
 ghost use Rattle.std.specs.Prelude.{◌≡◌};
-ghost use Rattle.scl_values.specs.Seen.{seen};
 ghost use Rattle.scl_values.specs.Words.{words_of};
 ghost use Rattle.scl_hazards.specs.Conditions.{delimiter_of, is_delimited, lacks_delimiter, stands_delimited};
 ghost use Rattle.scl_hazards.specs.Texts.{texts_of};

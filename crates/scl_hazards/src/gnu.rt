@@ -10,7 +10,7 @@ ghost use Rattle.scl_text.specs.Records.{parsed_of};
 ghost use Rattle.scl_values.specs.Seen.{seen};
 ghost use Rattle.scl_values.specs.Tables.{tables_hold_values};
 ghost use Rattle.scl_values.specs.Words.{words_of};
-ghost use Rattle.scl_hazards.specs.GnuHazards.{ends_at_dashes, gnu_found, gnu_hazards, gnu_line, in_order_and_messages, in_outputs_and_words, in_texts_and_records, inner_by, inner_words, options_by, options_cut, splitter_of};
+ghost use Rattle.scl_hazards.specs.GnuHazards.{gnu_found, gnu_hazards, gnu_line, in_order_and_messages, in_outputs_and_words, in_texts_and_records, inner_by, inner_words, options_by, options_cut, splitter_of};
 ghost use Rattle.scl_hazards.specs.Lines.{line_of};
 
 use crate::driver::Driver;
@@ -199,7 +199,7 @@ fn gnu_found(alloc: Global, line: &Line<'_, ArgData>) -> Mem<Vec<Hazard>>
 
 /// What the compiler is, beside its tables.
 #[derive(Clone, Copy)]
-pub(crate) struct Asked {
+pub(crate) struct GnuCompiler {
     pub(crate) driver: Driver,
     pub(crate) is_apple: bool,
     pub(crate) is_plusplus: bool,
@@ -208,7 +208,7 @@ pub(crate) struct Asked {
 /// The hazards of a command line that has this record.
 fn hazards_with<S: SearchableArgInfo<ArgData> + Drop>(
     alloc: Global,
-    asked: Asked,
+    compiler: GnuCompiler,
     arg_info: S,
     words: &[Vec<u8>],
     cwd: &[u8],
@@ -216,13 +216,13 @@ fn hazards_with<S: SearchableArgInfo<ArgData> + Drop>(
     parsed: &ParsedArguments,
 ) -> Mem<Vec<Hazard>>
     requires { IsTrue (tables_hold_values holds_value (S.tables arg_info)) }
-    ensures { IfOk result (λ hazards. hazards.items ≡ gnu_found (gnu_line asked.driver asked.is_apple asked.is_plusplus (S.tables arg_info) cwd.now view.now (words_of words.now) (parsed_of parsed.now))) }
+    ensures { IfOk result (λ hazards. hazards.items ≡ gnu_found (gnu_line compiler.driver compiler.is_apple compiler.is_plusplus (S.tables arg_info) cwd.now view.now (words_of words.now) (parsed_of parsed.now))) }
 {
-    let cut = cut(alloc, asked.driver, arg_info, words, cwd, view)?;
+    let cut = cut(alloc, compiler.driver, arg_info, words, cwd, view)?;
     let line = Line {
-        driver: asked.driver,
-        is_plusplus: asked.is_plusplus,
-        is_apple: asked.is_apple,
+        driver: compiler.driver,
+        is_plusplus: compiler.is_plusplus,
+        is_apple: compiler.is_apple,
         words: &cut.words,
         options: &cut.options,
         inner_words: &cut.inner_words,
@@ -242,7 +242,7 @@ fn hazards_with<S: SearchableArgInfo<ArgData> + Drop>(
 #[tactic(auto, unfolding(crate::specs::GnuHazards::gnu_hazards))]
 pub(crate) fn gnu_hazards<S: SearchableArgInfo<ArgData> + Drop>(
     alloc: Global,
-    asked: Asked,
+    compiler: GnuCompiler,
     arg_info: S,
     words: &[Vec<u8>],
     cwd: &[u8],
@@ -250,10 +250,10 @@ pub(crate) fn gnu_hazards<S: SearchableArgInfo<ArgData> + Drop>(
     parsed: Option<&ParsedArguments>,
 ) -> Mem<Vec<Hazard>>
     requires { IsTrue (tables_hold_values holds_value (S.tables arg_info)) }
-    ensures { IfOk result (λ hazards. hazards.items ≡ gnu_hazards asked.driver asked.is_apple asked.is_plusplus (S.tables arg_info) cwd.now view.now (words_of words.now) (option_map parsed_of (option_copied parsed.entry))) }
+    ensures { IfOk result (λ hazards. hazards.items ≡ gnu_hazards compiler.driver compiler.is_apple compiler.is_plusplus (S.tables arg_info) cwd.now view.now (words_of words.now) (option_map parsed_of (option_copied parsed.entry))) }
 {
     match parsed {
-        Some(parsed) => hazards_with(alloc, asked, arg_info, words, cwd, view, parsed),
+        Some(parsed) => hazards_with(alloc, compiler, arg_info, words, cwd, view, parsed),
         None => Ok(Vec::new(alloc)),
     }
 }

@@ -1,5 +1,5 @@
 //! Hazards and the cases in which they are there.
-ghost use Rattle.std.specs.Prelude.{◌≡◌, ◌++◌, map, OnOk};
+ghost use Rattle.std.specs.Prelude.{◌≡◌, ◌++◌, OnOk};
 ghost use Rattle.std.specs.List.{list_all, list_any};
 ghost use Rattle.scl_hazards.specs.Lines.{line_of};
 ghost use Rattle.scl_hazards.specs.Rows.{case_of, conditions_of, found, is_there, row_of, rows_of};

@@ -1,7 +1,5 @@
 //! Tests that options pass.
 ghost use Rattle.std.specs.Prelude.{◌≡◌};
-ghost use Rattle.std.specs.List.{list_any};
-ghost use Rattle.std.specs.Option.{option_map};
 ghost use Rattle.scl_values.specs.Seen.{seen};
 ghost use Rattle.scl_hazards.specs.Tests.{any_part, apart, could_be_joined, could_stand_apart, flag, in_one_word, an_input, is_among, is_one, is_one_word, joined, of, of_value, one_of, part, raw, stays, unknown, tests_of, value, which_test};
 ghost use Rattle.scl_hazards.specs.Texts.{text_test, texts_of};

@@ -154,15 +154,6 @@ module _ (holds one other : Viewed → Type 0) (one_same other_same : Viewed →
 
 -- ---- the paths of a list
 
-pub none-sought : (holds : Viewed → Type 0) (sought : Sought) (view : Viewed) → IsLookedFor holds (AreAbsent sought []) (AreSame sought []) view view false
-none-sought holds sought view disk h extends = record {
-  extends = extends;
-  keeps = extends-same view;
-  same = tt;
-  none_found = λ _. (refl, tt);
-  some_found = λ k. absurd (cc);
-}
-
 each-behind : (P : List ℕ → Type 0) (xs : List (List ℕ)) (x : List ℕ) → Each P xs → P x → Each P (xs ++ x ∷ [])
 each-behind P [] x h k = (k, tt)
 each-behind P (y ∷ xs) x h k = (h.0, each-behind P xs x h.1 k)

@@ -1,5 +1,5 @@
 //! What an answer asks of a disk, loaded round by round.
-ghost use Rattle.std.specs.Prelude.{◌≡◌, ℕ, IfOk, IfErr};
+ghost use Rattle.std.specs.Prelude.{◌≡◌, IfOk, IfErr};
 ghost use Rattle.scl_values.specs.Words.{words_of};
 ghost use Rattle.scl_files.specs.Views.{Viewed};
 ghost use Rattle.scl_text.specs.Commands.{pairs_of};

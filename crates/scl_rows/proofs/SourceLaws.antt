@@ -1,6 +1,5 @@
 -- Words that are expanded one by one; the next index; the last of words.
-use Rattle.std.proofs.Common.{◌≡◌, ℕ, Bool, true, ◌==◌, ◌+◌, ◌-◌, ◌<◌, ◌≤◌, suc, List, [], ◌∷◌, ◌++◌, length, drop, get_or, replicate, Option, Some, Vec, refl, sym, ap, ◌∙◌, add-one, append_assoc, drop-cons, arith}
-use Rattle.std.proofs.lemmas.Grind.{common_steps}
+use Rattle.std.proofs.Common.{◌≡◌, ℕ, Bool, true, ◌==◌, ◌+◌, ◌-◌, ◌<◌, suc, List, [], ◌∷◌, ◌++◌, length, drop, get_or, replicate, Option, Some, Vec, refl, sym, ap, ◌∙◌, add-one, append_assoc, drop-cons}
 use Rattle.std.proofs.lemmas.Bool.{eqb-true}
 use Rattle.std.proofs.lemmas.Iterator.Adapters.{option_map_id}
 use Rattle.std.proofs.lemmas.List.{append-nil, length-map, map-id, nil_from_length}
@@ -71,9 +70,6 @@ last_is xs = sym (option_map_id (slice_get xs (length xs - 1))) ∙ last-get (λ
 
 pub last-word : (words : List (Vec ℕ Global)) (word : Vec ℕ Global) → Some word ≡ slice_get words (length words - 1) → word.items ≡ unwrap_or (last (words_of words)) []
 last-word words word is = ap (λ o. unwrap_or (option_map (λ w. w.items) o) []) is ∙ ap (λ o. unwrap_or o []) (last-get (λ w. w.items) words)
-
-pub drop-all : {A : Type 0} (xs : List A) (i : ℕ) → length xs ≤ i → drop i xs ≡ []
-drop-all xs i past = grind (arith, common_steps)
 
 -- an inner command line of no words has no rows
 pub none_inside : {K : Type 0} (kind : ExpansionKind) (ways : Ways K) (verdict : List (Seen K) → Seen K → Option Verdict) (tables : List (List (Row K))) (dashes : Bool) (directory : List ℕ) (view : Viewed)

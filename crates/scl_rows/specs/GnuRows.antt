@@ -82,6 +82,7 @@ row_added there flag value words = record {
   given = [];
   flag = Some flag;
   value = Some value;
+  kind = None;
   destination = there;
   origin = origins.Added;
   printed = words;

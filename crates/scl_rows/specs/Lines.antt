@@ -1,5 +1,5 @@
 -- The rows of a command line, given or inner.
-use Rattle.std.specs.Prelude.{ℕ, Bool, true, false, List, [], ◌∷◌, ◌++◌, drop, map, Option, None, Some, unwrap_or}
+use Rattle.std.specs.Prelude.{ℕ, Bool, true, false, List, [], ◌∷◌, ◌++◌, drop, map, Option, None, Some, codes, unwrap_or}
 use Rattle.std.specs.Option.{option_and_then, option_map}
 use Rattle.scl_args.specs.Empties.{refusing_empty}
 use Rattle.scl_args.specs.Options.{last, spelled_on}
@@ -14,7 +14,7 @@ use Rattle.scl_values.specs.Seen.{Seen, Raw, Unknown, Known, shown}
 use Rattle.scl_values.specs.Spell.{spelled}
 use Rattle.scl_values.specs.Tables.{owner_in}
 use Rattle.scl_values.specs.declared.argument.NormalizedDisposition.{NormalizedDisposition}
-use Rattle.scl_rows.specs.Rows.{Told, printed_at}
+use Rattle.scl_rows.specs.Rows.{Told, printed_at, unless_owned}
 use Rattle.scl_rows.specs.Sources.{ats_cut, ats_expanded, first_at}
 use Rattle.scl_rows.specs.declared.destination.Destination.{Destination}
 use Rattle.scl_rows.specs.declared.destination.Destination.TheVariants as destinations
@@ -25,6 +25,12 @@ abbrev pub flag_at : {K : Type 0} → Seen K → Option (List ℕ)
 flag_at (Raw w) = None
 flag_at (Unknown w) = None
 flag_at (Known f k v how) = Some f
+
+-- the kind's name of an option that has no flag
+abbrev pub kind_at : {K : Type 0} → Seen K → Option (List ℕ)
+kind_at (Raw w) = Some (codes "raw")
+kind_at (Unknown w) = Some (codes "unknown")
+kind_at (Known f k v how) = None
 
 -- the value of an option that has one
 abbrev pub value_at : {K : Type 0} → Seen K → Option (List ℕ)
@@ -52,6 +58,7 @@ row_of ways at said o =
       given = spelled o;
       flag = flag_at o;
       value = value_at o;
+      kind = kind_at o;
       destination = there;
       origin = ways.origin;
       printed = printed_at there ways.origin (spelled_on ways.side o);
@@ -71,6 +78,7 @@ row_dangling origin at flag word = record {
   given = word ∷ [];
   flag = flag;
   value = None;
+  kind = unless_owned flag (codes "unknown");
   destination = destinations.Refused;
   origin = origin;
   printed = [];

@@ -4,7 +4,6 @@ ghost use Rattle.scl_args.specs.Options.{texts};
 ghost use Rattle.scl_files.specs.declared.expand.ExpansionKind.{ExpansionKind};
 ghost use Rattle.scl_gnu_reading.specs.ClangRows.{clang_tables};
 ghost use Rattle.scl_gnu_reading.specs.Data.{holds_value, kind_of, word_of};
-ghost use Rattle.scl_gnu_reading.specs.Recordings.{is_clang};
 ghost use Rattle.scl_text.specs.JudgedWords.{options_of};
 ghost use Rattle.scl_values.specs.Seen.{seen, shown};
 ghost use Rattle.scl_values.specs.Tables.{tables_hold_values};

@@ -1,5 +1,5 @@
 //! The rows of a command line, given or inner.
-ghost use Rattle.std.specs.Prelude.{◌≡◌, [], ◌++◌, IfOk, IsTrue, map, unwrap_or};
+ghost use Rattle.std.specs.Prelude.{◌≡◌, [], IfOk, IsTrue, map, unwrap_or};
 ghost use Rattle.std.specs.Option.{option_and_then, option_map};
 ghost use Rattle.scl_args.specs.Empties.{refusing_empty};
 ghost use Rattle.scl_args.specs.Options.{last, texts};

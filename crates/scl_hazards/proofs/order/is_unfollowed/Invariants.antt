@@ -1,8 +1,7 @@
-use Rattle.std.proofs.Common.{◌≡◌, ◌&&◌, ◌||◌, cond, not, map, drop}
-use Rattle.std.specs.List.{list_any}
+use Rattle.std.proofs.Common.{◌≡◌, ◌&&◌, ◌||◌, not, map, drop}
 use Rattle.scl_args.specs.Options.{first_is}
 use Rattle.scl_values.specs.Seen.{seen}
-use Rattle.scl_hazards.specs.Conditions.{is_before, is_last, is_unfollowed}
+use Rattle.scl_hazards.specs.Conditions.{is_unfollowed}
 use Rattle.scl_hazards.proofs.order.is_unfollowed.Given as goal
 
 abbrev pub invariant-loop-option : goal.invariant-loop-option

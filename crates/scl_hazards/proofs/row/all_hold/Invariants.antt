@@ -1,7 +1,7 @@
-use Rattle.std.proofs.Common.{◌≡◌, ◌++◌, map, drop}
-use Rattle.std.specs.List.{list_all, list_any}
+use Rattle.std.proofs.Common.{◌≡◌, drop}
+use Rattle.std.specs.List.{list_all}
 use Rattle.scl_hazards.specs.Lines.{line_of}
-use Rattle.scl_hazards.specs.Rows.{case_of, conditions_of, found, rows_of}
+use Rattle.scl_hazards.specs.Rows.{conditions_of}
 use Rattle.scl_hazards.proofs.row.all_hold.Given as goal
 
 abbrev pub invariant-loop-condition : goal.invariant-loop-condition

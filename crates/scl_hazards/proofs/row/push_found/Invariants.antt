@@ -1,7 +1,6 @@
-use Rattle.std.proofs.Common.{◌≡◌, ◌++◌, map, drop}
-use Rattle.std.specs.List.{list_all, list_any}
+use Rattle.std.proofs.Common.{◌≡◌, ◌++◌, drop}
 use Rattle.scl_hazards.specs.Lines.{line_of}
-use Rattle.scl_hazards.specs.Rows.{case_of, conditions_of, found, rows_of}
+use Rattle.scl_hazards.specs.Rows.{found, rows_of}
 use Rattle.scl_hazards.proofs.row.push_found.Given as goal
 
 abbrev pub invariant-loop-row : goal.invariant-loop-row

@@ -1,7 +1,7 @@
-use Rattle.std.proofs.Common.{◌≡◌, ◌++◌, map, drop}
-use Rattle.std.specs.List.{list_all, list_any}
+use Rattle.std.proofs.Common.{◌≡◌, map, drop}
+use Rattle.std.specs.List.{list_any}
 use Rattle.scl_hazards.specs.Lines.{line_of}
-use Rattle.scl_hazards.specs.Rows.{case_of, conditions_of, found, rows_of}
+use Rattle.scl_hazards.specs.Rows.{case_of}
 use Rattle.scl_hazards.proofs.row.Row.is_there.Given as goal
 
 abbrev pub invariant-loop-case : goal.invariant-loop-case
