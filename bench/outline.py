@@ -1,0 +1,145 @@
+"""Reads a source of a crate as far as its contracts go: its functions with their clauses, and what stands outside their bodies.
+
+A brace, a quote or `//` in a text, a letter or a comment is none of the language's."""
+import re
+
+TOKEN = re.compile(
+    r"""(?P<comment>//[^\n]*|/\*.*?\*/)
+      | (?P<text>b?r(?P<marks>\#*)".*?"(?P=marks) | b?"(?:[^"\\]|\\.)*" | b?'(?:\\'|\\[^\n']+|[^'\\\n])')
+      | (?P<word>[^\W\d]\w*'*)
+      | (?P<space>\s+)
+      | .""",
+    re.S | re.X,
+)
+OPENS, CLOSES = {"(": ")", "[": "]", "{": "}"}, {")", "]", "}"}
+CLAUSE = re.compile(r"(?:(?:requires|ensures)\*?(?: \w+)?|ghost \w+ ?:)$")
+BEFORE = re.compile(r'(?:pub(?: ?\([^)]*\))? )?(?:(?:(?:const|unsafe|final|extern "C") )+(?=(?:fn|impl|trait)\b))?')
+BLOCKS = {"impl", "trait", "mod"}
+TYPES = {"struct", "enum", "union"}
+
+
+class Item:
+    """An item: its kind, which is the word that it begins with; its name; its text up to its clauses, its block or its end; of a
+    function its clauses, and whether it has a body; of a block or a type its members; and the number of its line, from 0."""
+
+    def __init__(self, kind, head, line):
+        self.kind, self.head, self.line = kind, head, line
+        name = re.match(rf"{BEFORE.pattern}{re.escape(kind)} (\w+)", head)
+        self.name = name[1] if name else ""
+        self.clauses, self.members, self.has_body = [], [], False
+
+
+class Source:
+    """A source: its items, and its outline, which is its text without comments, without what steers proofs, and without bodies."""
+
+    def __init__(self, text):
+        self.tokens = [(it.lastgroup, it[0]) for it in TOKEN.finditer(text)]
+        self.lines, at = [], 0
+        for _, token in self.tokens:
+            self.lines.append(at)
+            at += token.count("\n")
+        self.ends = self.pairs()
+        self.left_out = set()
+        self.items = self.items_of(0, len(self.tokens))
+
+    def pairs(self):
+        """Where each bracket that is opened is closed."""
+        ends, open_ones = {}, []
+        for at, (kind, token) in enumerate(self.tokens):
+            if kind is None and token in OPENS:
+                open_ones.append(at)
+            elif kind is None and token in CLOSES and open_ones and OPENS[self.tokens[open_ones[-1]][1]] == token:
+                ends[open_ones.pop()] = at
+        return {**ends, **{at: len(self.tokens) - 1 for at in open_ones}}
+
+    def said(self, begin, end):
+        """The text of these tokens, without comments, and with one space for several."""
+        kept = (" " if kind == "space" else token for kind, token in self.tokens[begin:end] if kind != "comment")
+        return re.sub(r" {2,}", " ", "".join(kept)).strip()
+
+    def begins(self, at, end):
+        """Where the next item begins: behind spaces, comments and attributes, of which those that steer proofs are left out."""
+        while at < end:
+            kind, token = self.tokens[at]
+            if kind in ("space", "comment"):
+                at += 1
+            elif token == "#":
+                closed = self.ends[next(it for it in range(at, end) if self.tokens[it][1] == "[")]
+                if re.match(r"#!? ?\[ ?tactic\b", self.said(at, closed)):
+                    self.left_out |= set(range(at, closed + 1))
+                at = closed + 1
+            else:
+                break
+        return at
+
+    def items_of(self, at, end):
+        items = []
+        at = self.begins(at, end)
+        while at < end:
+            item, at = self.item(at, end)
+            items.append(item)
+            at = self.begins(at, end)
+        return items
+
+    def item(self, begin, end):
+        """The item that begins here, and where it ends."""
+        kind = self.kind_of(begin, end)
+        if kind == "fn":
+            return self.function(begin, end)
+        has_block = kind in BLOCKS | TYPES | {"macro_rules", "!"}
+        at = begin
+        while at < end:
+            token = self.tokens[at][1] if self.tokens[at][0] is None else ""
+            if token == ";":
+                break
+            if token == "{" and has_block:
+                item = Item(kind, self.said(begin, at), self.lines[begin])
+                item.members = self.members(kind, at + 1, self.ends[at])
+                return item, self.ends[at] + 1
+            at = self.ends.get(at, at) + 1
+        return Item(kind, self.said(begin, at), self.lines[begin]), at + 1
+
+    def kind_of(self, begin, end):
+        """The word that tells what an item is; `!` for one that a macro makes."""
+        head = self.said(begin, min(end, begin + 40))
+        word = re.match(r"\w+", head[BEFORE.match(head).end() :])
+        called = re.match(r"(?:\w+::)*\w+ ?!", head)
+        return "!" if called and word[0] != "macro_rules" else word[0] if word else ""
+
+    def function(self, begin, end):
+        item, at, since = None, begin, begin
+        while at < end:
+            token = self.tokens[at][1] if self.tokens[at][0] is None else ""
+            if token in (";", "{"):
+                before = self.said(since, at)
+                clause = CLAUSE.search(before) if token == "{" else None
+                head = before[: clause.start()].strip() if clause else before
+                item = item or Item("fn", head, self.lines[begin])
+                if token == "{":
+                    closed = self.ends[at]
+                    if clause:
+                        item.clauses.append(f"{clause[0]} {self.said(at, closed + 1)}")
+                        at, since = closed + 1, closed + 1
+                        continue
+                    item.has_body = True
+                    self.left_out |= set(range(at + 1, closed))
+                    at = closed
+                return item, at + 1
+            at = self.ends.get(at, at) + 1
+        return item or Item("fn", self.said(begin, end), self.lines[begin]), end
+
+    def members(self, kind, begin, end):
+        """The items of a block, and the ghost fields of a type."""
+        if kind in BLOCKS:
+            return self.items_of(begin, end)
+        found = []
+        for at in range(begin, end) if kind in TYPES else ():
+            if self.tokens[at] == ("word", "ghost"):
+                opened = next((it for it in range(at, end) if self.tokens[it][1] == "{"), None)
+                if opened:
+                    found.append(Item("ghost", self.said(at, self.ends[opened] + 1), self.lines[at]))
+        return found
+
+    def outline(self):
+        kept = ((" " if kind == "space" else token) for at, (kind, token) in enumerate(self.tokens) if kind != "comment" and at not in self.left_out)
+        return re.sub(r" {2,}", " ", "".join(kept))
