@@ -30,7 +30,7 @@ class Item:
 
 
 class Source:
-    """A source: its items, and its outline, which is its text without comments, without what steers proofs, and without bodies."""
+    """A source, by its tokens: its items, its code and its outline."""
 
     def __init__(self, text):
         self.tokens = [(it.lastgroup, it[0]) for it in TOKEN.finditer(text)]
@@ -140,6 +140,11 @@ class Source:
                     found.append(Item("ghost", self.said(at, self.ends[opened] + 1), self.lines[at]))
         return found
 
+    def code(self):
+        """The text without comments."""
+        return self.said(0, len(self.tokens))
+
     def outline(self):
+        """The text without comments, bodies and what steers proofs."""
         kept = ((" " if kind == "space" else token) for at, (kind, token) in enumerate(self.tokens) if kind != "comment" and at not in self.left_out)
         return re.sub(r" {2,}", " ", "".join(kept))
