@@ -139,7 +139,11 @@ def read(text):
     return {name: said for name, said in entries.items() if said}
 
 
-def shown(old, new):
+def beginning(text):
+    return text if len(text) <= 100 else f"{text[:98]}.."
+
+
+def around(old, new):
     """Where two texts differ, each with some words around."""
     same = next((at for at, pair in enumerate(zip(old, new)) if pair[0] != pair[1]), min(len(old), len(new)))
     begin = max(0, same - 30)
@@ -148,19 +152,16 @@ def shown(old, new):
 
 
 def differences(old, new):
-    """What one page says otherwise than another, a text for each clause."""
+    """What one page says otherwise than another, a text for each clause; of what an entry cites only where its clauses are the same."""
     old, new = read(old), read(new)
     for name in [*old, *(it for it in new if it not in old)]:
         if name not in new or name not in old:
             yield f"{name} is {'gone' if name in old else 'added'}"
             continue
-        for what in [*old[name], *(it for it in new[name] if it not in old[name])]:
+        differ = [it for it in dict.fromkeys([*old[name], *new[name]]) if old[name].get(it) != new[name].get(it)]
+        for what in [it for it in differ if it != "by"] or differ:
             before, after = old[name].get(what), new[name].get(what)
             if before is None or after is None:
-                yield f"{name}: `{what}` is {'gone' if after is None else 'added'}: {shown_whole(before or after)}"
-            elif before != after:
-                yield f"{name}: `{what}` differs: {shown(before, after)}"
-
-
-def shown_whole(text):
-    return text if len(text) <= 100 else f"{text[:98]}.."
+                yield f"{name}: `{what}` is {'gone' if after is None else 'added'}: {beginning(before or after)}"
+            else:
+                yield f"{name}: `{what}` differs: {around(before, after)}"
