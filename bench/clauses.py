@@ -1,6 +1,6 @@
 """The page of clauses: of each public call what it requires and ensures, and what these clauses stand on outside specs/.
 
-An entry of the page is a line with a name, and behind it, indented, a line for each clause, which goes on in lines indented further."""
+An entry of the page is a line with a name, and after it, indented, a line for each clause, which goes on in lines indented further."""
 import re
 import textwrap
 

@@ -58,7 +58,7 @@ class Source:
         return re.sub(r" {2,}", " ", "".join(kept)).strip()
 
     def begins(self, at, end):
-        """Where the next item begins: behind spaces, comments and attributes, of which those that steer proofs are left out."""
+        """Where the next item begins: after spaces, comments and attributes; of these, those that steer proofs are left out."""
         while at < end:
             kind, token = self.tokens[at]
             if kind in ("space", "comment"):
