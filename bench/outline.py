@@ -53,9 +53,17 @@ class Source:
         return {**ends, **{at: len(self.tokens) - 1 for at in open_ones}}
 
     def said(self, begin, end):
-        """The text of these tokens, without comments, and with one space for several."""
-        kept = (" " if kind == "space" else token for kind, token in self.tokens[begin:end] if kind != "comment")
-        return re.sub(r" {2,}", " ", "".join(kept)).strip()
+        """The text of these tokens, without comments, and with one space for what separates them."""
+        return self.text_of(range(begin, end)).strip()
+
+    def text_of(self, numbers):
+        kept = []
+        for kind, token in (self.tokens[it] for it in numbers):
+            if kind not in ("space", "comment"):
+                kept.append(token)
+            elif not kept or kept[-1] != " ":
+                kept.append(" ")
+        return "".join(kept)
 
     def begins(self, at, end):
         """Where the next item begins: after spaces, comments and attributes; of these, those that steer proofs are left out."""
@@ -146,5 +154,4 @@ class Source:
 
     def outline(self):
         """The text without comments, bodies and what steers proofs."""
-        kept = ((" " if kind == "space" else token) for at, (kind, token) in enumerate(self.tokens) if kind != "comment" and at not in self.left_out)
-        return re.sub(r" {2,}", " ", "".join(kept))
+        return self.text_of(it for it in range(len(self.tokens)) if it not in self.left_out)
