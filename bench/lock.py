@@ -7,7 +7,7 @@ A wrong body that was refused stays so while its key does. The key is made of
     functions, which is signatures, clauses, types, tables, constants and macros
 
 Proofs are no part of it, nor what steers them: they cannot make a wrong body right. A file `lock` in wrong/ has a line for
-each edit, its name and its key. A line that is neither, as one that a merge leaves, counts as none."""
+each edit, its name and its key. What else a merge leaves there a try removes."""
 import hashlib
 import os
 import re
@@ -17,7 +17,7 @@ import tempfile
 
 from outline import Source
 
-LINE = re.compile(r"^([a-z0-9_]+) ([0-9a-f]{24})$", re.M)
+LINE = re.compile(r"([a-z0-9_]+) ([0-9a-f]{24})")
 SPEC_COMMENT = re.compile(r"^\s*--.*\n", re.M)
 
 
@@ -65,10 +65,19 @@ class Keys:
         return sum_of([*lines, *files, self.of_crate(edit.crate), *(self.of_crate(it) for _, it in below)])
 
 
+def lines_of(crate):
+    file = f"{crate.folder}/wrong/lock"
+    return text_of(file).splitlines() if os.path.isfile(file) else []
+
+
 def read(crate):
     """The keys that the lock of a crate has, by the names of its edits."""
-    file = f"{crate.folder}/wrong/lock"
-    return dict(LINE.findall(text_of(file))) if os.path.isfile(file) else {}
+    return dict(it.groups() for it in map(LINE.fullmatch, lines_of(crate)) if it)
+
+
+def odd_lines(crate):
+    """The lines of the lock that have no name and key."""
+    return [it for it in lines_of(crate) if not LINE.fullmatch(it)]
 
 
 def write(crate, keys):
