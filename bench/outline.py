@@ -20,13 +20,13 @@ TYPES = {"struct", "enum", "union"}
 
 class Item:
     """An item: its kind, which is the word that it begins with; its name; its text up to its clauses, its block or its end; of a
-    function its clauses, and whether it has a body; of a block or a type its members; and the number of its line, from 0."""
+    function its clauses; of a block its items, of a type its ghost fields; and the number of its line, from 0."""
 
     def __init__(self, kind, head, line):
         self.kind, self.head, self.line = kind, head, line
         name = re.match(rf"{BEFORE.pattern}{re.escape(kind)} (\w+)", head)
         self.name = name[1] if name else ""
-        self.clauses, self.members, self.has_body = [], [], False
+        self.clauses, self.members = [], []
 
 
 class Source:
@@ -129,7 +129,6 @@ class Source:
                         item.clauses.append(f"{clause[0]} {self.said(at, closed + 1)}")
                         at, since = closed + 1, closed + 1
                         continue
-                    item.has_body = True
                     self.left_out |= set(range(at + 1, closed))
                     at = closed
                 return item, at + 1
