@@ -45,7 +45,7 @@ class Entry:
         self.name, self.said = name, said
         text = " ".join(said.values())
         words = set(re.findall(r"[^\W\d]\w*'*", text))
-        cited = sorted({f"{whole}" for use in uses for name, whole in names_of(use) if is_cited(name, text, words)})
+        cited = sorted({whole for use in uses for name, whole in names_of(use) if is_cited(name, text, words)})
         if cited:
             self.said["by"] = ", ".join(cited)
 
