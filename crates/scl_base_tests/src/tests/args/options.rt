@@ -42,17 +42,6 @@ fn filters_give_what_passes(rt: HostRuntime) -> Result<(), Fail> {
 }
 
 #[test]
-fn of_no_options_none_passes(rt: HostRuntime) -> Result<(), Fail> {
-    let options = Options::<Value>::new(Vec::new(rt.alloc()));
-    let all = OfKinds(&[Kind::Alone, Kind::Valued]);
-    assert!(rt; options.last_by(&all).is_none());
-    assert!(rt; !options.any(&all));
-    assert!(rt; !options.is_behind_dashes(&all));
-    assert!(rt; gives(&options.texts(rt.alloc(), &all), &[]));
-    Ok(())
-}
-
-#[test]
 fn flags_of_two_bytes_are_joined(rt: HostRuntime) {
     let sides = ShortFlagsJoined;
     assert!(rt; sides.side("-I") == NormalizedDisposition::Concatenated);
