@@ -1,5 +1,5 @@
 -- Rows of bytes of files, and of the texts that they are read as.
-use Rattle.std.specs.Prelude.{◌≡◌, ℕ, List, [], ◌∷◌, codes, Option, None, Some, encode_utf8_all}
+use Rattle.std.specs.Prelude.{◌≡◌, ℕ, List, [], ◌∷◌, codes, None, Some, encode_utf8_all}
 use Rattle.scl_files.specs.Decoding.{decoded, utf8_text}
 
 -- the text of these bytes has these characters

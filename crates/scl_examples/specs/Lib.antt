@@ -4,3 +4,4 @@ pub mod Options
 pub mod Paths
 pub mod Texts
 pub mod Decoded
+pub mod Languages

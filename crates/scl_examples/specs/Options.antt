@@ -1,5 +1,5 @@
 -- Rows of what words are cut into, of what options print, and of owners.
-use Rattle.std.specs.Prelude.{◌≡◌, ℕ, Bool, true, false, List, [], ◌∷◌, codes, Option, None, Some}
+use Rattle.std.specs.Prelude.{◌≡◌, ℕ, true, false, List, [], ◌∷◌, codes, Option, None, Some}
 use Prim.Native.String.{String}
 use Rattle.std.specs.Option.{option_map}
 use Rattle.scl_values.specs.Cuts.{Cut, Cutting, raw, unknown, flag, with_value, clean, dangling, cut}

@@ -1,5 +1,5 @@
 -- Rows of paths.
-use Rattle.std.specs.Prelude.{◌≡◌, Bool, true, false, codes, Option, None, Some}
+use Rattle.std.specs.Prelude.{◌≡◌, true, false, codes, Option, None, Some}
 use Prim.Native.String.{String}
 use Rattle.scl_files.specs.Paths.{join, with_extension, with_file_name, file_name, extension, same_path}
 

@@ -1,5 +1,5 @@
 -- Rows of texts of response files, and of the words that they are cut into.
-use Rattle.std.specs.Prelude.{◌≡◌, ℕ, List, [], ◌∷◌, ◌++◌, codes, map, encode_utf8_all, Option, None, Some}
+use Rattle.std.specs.Prelude.{◌≡◌, ℕ, List, [], ◌∷◌, ◌++◌, codes, map, encode_utf8_all, None, Some}
 use Rattle.std.specs.List.{flat_map}
 use Rattle.scl_files.specs.DiabText.{diab_arguments}
 use Rattle.scl_files.specs.GnuText.{gnu_arguments}

@@ -1,5 +1,5 @@
 -- How rows are written.
-use Rattle.std.specs.Prelude.{ℕ, ◌==◌, List, [], ◌∷◌, ◌++◌, codes, map}
+use Rattle.std.specs.Prelude.{ℕ, ◌==◌, List, codes}
 use Prim.Native.String.{String}
 use Rattle.std.specs.List.{slice_split}
 

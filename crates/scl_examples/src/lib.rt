@@ -4,6 +4,7 @@
 #![tactic(auto)]
 
 ghost use Rattle.scl_examples.specs.Decoded.{TextsAreReadByTheirMarks, HighBytesAreRead, LocalTextsAreRead};
+ghost use Rattle.scl_examples.specs.Languages.{ExtensionsHaveLanguages, LanguagesHaveTexts, OtherTextsAreRead, LanguagesNeedPreprocessing};
 ghost use Rattle.scl_examples.specs.Options.{ValuesArePrinted, ValuesAreMoved, WordsAfterDashesAreRaw, WithoutDashesOptionsGoOn, LastFlagsAreCut, LongestFlagsAreFound, LongestOfTablesAreFound};
 ghost use Rattle.scl_examples.specs.Paths.{PathsAreJoined, ExtensionsAreChanged, FileNamesAreChanged, FileNamesAndExtensionsAreFound, ComponentsAreCompared};
 ghost use Rattle.scl_examples.specs.Texts.{GnuTextsHaveSeparators, MsvcTextsHaveSeparators, DiabTextsHaveSeparators, DiabTextsHaveNoEmptyWord, DiabTextsHaveNoQuote, GnuTextsHaveQuotesAndEscapes, MsvcTextsHaveQuotes};
@@ -47,4 +48,13 @@ pub fn of_bytes()
     ensures texts_are_read_by_their_marks { TextsAreReadByTheirMarks }
     ensures high_bytes_are_read { HighBytesAreRead }
     ensures local_texts_are_read { LocalTextsAreRead }
+{}
+
+/// Rows of languages: by extension, by the texts of `-x`, and whether they are preprocessed.
+#[tactic(auto, unfolding(scl_files::specs::Paths::places))]
+pub fn of_languages()
+    ensures extensions_have_languages { ExtensionsHaveLanguages }
+    ensures languages_have_texts { LanguagesHaveTexts }
+    ensures other_texts_are_read { OtherTextsAreRead }
+    ensures languages_need_preprocessing { LanguagesNeedPreprocessing }
 {}

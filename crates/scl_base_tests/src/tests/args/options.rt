@@ -1,6 +1,5 @@
 //! Filters over a finished list of options.
-use super::cutting::SHAPES;
-use super::values::{Kind, Told, Value, as_told, table_of};
+use super::values::{Kind, SHAPES, Told, Value, as_told, table_of};
 use crate::tests::{gives, words_of};
 use scl_args::{
     Argument, NormalizedDisposition, OfKinds, Options, ShortFlagsJoined, Sides, cut_words,
