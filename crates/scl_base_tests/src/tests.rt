@@ -1,5 +1,6 @@
-//! Tests of tables, cutting, printing, texts, paths and expansions.
+//! Tests of tables, cutting, printing, texts, expansions and shells' words.
 mod args;
+mod shell;
 mod text;
 
 use scl_text::Mem;

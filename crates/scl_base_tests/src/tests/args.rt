@@ -1,6 +1,5 @@
 //! Tests of `scl_args` and of the crates that it re-exports: worked rows, and each call once.
 mod counted;
-mod cutting;
 mod error;
 mod failing;
 mod options;

@@ -1,16 +1,7 @@
-//! The program over memory, and the calls below it: rows worked by hand, and what becomes of requests and devices.
-mod descriptions;
+//! The program over memory, and the calls below it: devices that fail, texts of outcomes, and what requests say.
 mod devices;
-mod fields;
-mod lengths;
-mod msvc_rows;
 mod outcomes;
-mod read_again;
-mod reasons;
-mod refusals;
 mod requests;
-pub(crate) mod rows;
-mod within;
 
 use scl_cl::{Counted, Outcome, Request, read_request, run};
 use std::alloc::Global;

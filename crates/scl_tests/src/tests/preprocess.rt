@@ -1,30 +1,13 @@
-//! Runs of the preprocessor, and what is made of them.
+//! Runs of the preprocessor by a caller's own words, and what is made of their outputs.
 use crate::tests::cl::asked_by;
-use crate::tests::cl::rows::request_of;
-use crate::tests::records::{answer_of, msvc, record_in};
+use crate::tests::records::record_of;
 use crate::tests::words::{cut, joined, printed};
 use scl_args::Mem;
-use scl_cl::Compiler;
-use scl_gnu::clang::Clang;
 use scl_gnu::gcc::{Gcc, join_passes, preprocess_passes, without_output_files};
-use scl_small::diab::Diab;
-use scl_small::tasking_vx::TaskingVX;
-use scl_text::records::{CCompilerKind, ParsedArguments, PassOutput};
-use scl_text::{CCompilerImpl, View};
+use scl_text::records::{CCompilerKind, PassOutput};
 use std::alloc::Global;
 use std::process::Abort;
 use std::test::Fail;
-
-/// What a compiler reads where several architectures are meant.
-fn record_of<C: CCompilerImpl>(
-    alloc: Global,
-    compiler: &C,
-    words: &[u8],
-) -> Result<ParsedArguments, Fail> {
-    let mut view = View::new(alloc);
-    view.set_multiarch(true);
-    record_in(answer_of(alloc, compiler, words, &view)?)
-}
 
 /// The runs of a command line, with ` | ` between two.
 fn line_of(alloc: Global, runs: &[Vec<Vec<u8>>]) -> Mem<Vec<u8>> {
@@ -36,131 +19,6 @@ fn line_of(alloc: Global, runs: &[Vec<Vec<u8>>]) -> Mem<Vec<u8>> {
         line.extend_from_slice(&joined(alloc, words)?)?;
     }
     Ok(line)
-}
-
-/// The words of command lines, and behind ` => ` those of their runs, with ` | ` between two. Before the words stands what is
-/// set, ended by `; `: `dist` for a distant compiler, `rewrite` to leave macros in place, `cache` for the cache mode.
-static GCC: &str = "
--c a.c -arch i386 -arch x86_64 -MMD => -x c -E -P -arch i386 a.c | -x c -E -P -MMD -MT a.o -MF a.d -arch x86_64 a.c
-cache; -c a.c -arch i386 -arch x86_64 -MMD => -x c -E -arch i386 a.c | -x c -E -MMD -MT a.o -MF a.d -arch x86_64 a.c
--c a.c -arch i386 -arch i386 => -x c -E -P -arch i386 -arch i386 a.c
-dist; -c a.c => -x c -E a.c
-rewrite; -c a.c => -x c -E -P -fdirectives-only a.c
-rewrite; -c a.c -pedantic => -x c -E -P -pedantic a.c
--c a.c -fprofile-generate => -x c -E -fprofile-generate a.c
-dist rewrite; -c a.c -arch i386 -arch x86_64 => -x c -E -P -fdirectives-only -arch i386 a.c | -x c -E -P -fdirectives-only -arch x86_64 a.c
-";
-
-static CLANG: &str = "
-dist rewrite; -c a.c => -x c -E -frewrite-includes a.c
-";
-
-static CLANG_13: &str = "
--c a.c => -x c -E -P a.c
-";
-
-static CLANG_14: &str = "
--c a.c => -x c -E -P -fminimize-whitespace a.c
-cache; -c a.c => -x c -E -fminimize-whitespace a.c
--c a.S => -x assembler-with-cpp -E -P a.S
--c -- -a.c => -x c -E -P -fminimize-whitespace -- -a.c
-";
-
-static CL: &str = "
--c x.c => -EP -nologo /WX- x.c
--c x.c /sourceDependencies x.d => -EP -nologo /sourceDependencies x.d /WX- x.c
-/c /Tpx.c /O2 /MP => -EP -nologo /O2 /WX- -Tpx.c
-dist rewrite; -c x.c => -E -nologo /WX- x.c
-";
-
-static CLANG_CL: &str = "
--c x.c /sourceDependencies x.d => -EP -nologo -showIncludes x.c
--c x.c -depsx.d /showIncludes => -EP -nologo /showIncludes x.c
--c /DA -- -x.c => -EP -nologo /DA -- -x.c
-dist rewrite; -c x.c => -E -nologo -clang:-frewrite-includes x.c
-";
-
-static DIAB: &str = "
--c a.c -Xmake-dependency -DA -fx => -E a.c -Xmake-dependency -DA -fx
-";
-
-static TASKING: &str = "
--c a.c --dep-file => -Em -o a.d a.c | -E a.c
-cache; -c a.c -DA -x => -E a.c -DA -x
-";
-
-fn runs_of<C: CCompilerImpl>(
-    alloc: Global,
-    compiler: &C,
-    settings: &str,
-    words: &str,
-) -> Result<Vec<u8>, Fail> {
-    let record = record_of(alloc, compiler, words.as_bytes())?;
-    let runs = compiler.preprocess_passes(
-        alloc,
-        &record,
-        settings.contains("dist"),
-        settings.contains("rewrite"),
-        settings.contains("cache"),
-    )?;
-    Ok(line_of(alloc, &runs)?)
-}
-
-fn expect_run<C: CCompilerImpl>(
-    rt: &(impl Abort + Alloc<A = Global>),
-    compiler: &C,
-    row: &str,
-) -> Result<(), Fail> {
-    let (line, want) = row.split_once(" => ").ok_or("no runs")?;
-    let (settings, words) = line.split_once("; ").unwrap_or(("", line));
-    let runs = runs_of(rt.alloc(), compiler, settings, words)?;
-    assert!(rt; runs.as_slice() == want.as_bytes(), "of {row}");
-    Ok(())
-}
-
-/// The compiler has the runs of the rows.
-fn expect_runs<C: CCompilerImpl>(
-    rt: &(impl Abort + Alloc<A = Global>),
-    compiler: &C,
-    rows: &str,
-) -> Result<(), Fail> {
-    for row in rows.lines() {
-        if !row.is_empty() {
-            expect_run(rt, compiler, row)?;
-        }
-    }
-    Ok(())
-}
-
-/// The same of a Clang of the version.
-fn expect_clang_runs(
-    rt: &(impl Abort + Alloc<A = Global>),
-    version: &str,
-    rows: &str,
-) -> Result<(), Fail> {
-    let mut clang = Clang::new(false);
-    clang.version = Some(String::from_str(rt.alloc(), version)?);
-    expect_runs(rt, &clang, rows)
-}
-
-#[test]
-fn compilers_have_their_runs(rt: HostRuntime) -> Result<(), Fail> {
-    expect_runs(&rt, &Gcc::new(false), GCC)?;
-    expect_runs(&rt, &Clang::new(false), CLANG)?;
-    expect_clang_runs(&rt, "clang 13.0.1", CLANG_13)?;
-    expect_clang_runs(&rt, "\"Ubuntu Clang 14.0.0\"", CLANG_14)?;
-    expect_runs(&rt, &Diab::new(), DIAB)?;
-    expect_runs(&rt, &TaskingVX, TASKING)
-}
-
-#[test]
-fn cl_has_its_runs(rt: HostRuntime) -> Result<(), Fail> {
-    expect_runs(&rt, &msvc(rt.alloc(), false)?, CL)
-}
-
-#[test]
-fn clang_cl_has_its_runs(rt: HostRuntime) -> Result<(), Fail> {
-    expect_runs(&rt, &msvc(rt.alloc(), true)?, CLANG_CL)
 }
 
 /// The runs of a kind, with a word of its own for the language and two words to ignore.
@@ -217,9 +75,21 @@ static KEPT: &str = r#"
  =>
 "#;
 
+/// A request of these words.
+fn request_of(alloc: Global, words: &str) -> Mem<String> {
+    let mut request = String::from_str(alloc, "compiler gcc\n")?;
+    if words.is_empty() {
+        return Ok(request);
+    }
+    for word in words.split(' ') {
+        request.push_str(format!(in alloc; "word {word}\n")?.as_str())?;
+    }
+    Ok(request)
+}
+
 fn expect_kept(rt: &(impl Abort + Alloc<A = Global>), row: &str) -> Result<(), Fail> {
     let (words, want) = row.split_once(" =>").ok_or("no arrow")?;
-    let request = request_of(rt.alloc(), Compiler::Gcc, "", words)?;
+    let request = request_of(rt.alloc(), words)?;
     let asked = asked_by(rt.alloc(), request.as_bytes())?;
     let kept = without_output_files(rt.alloc(), &asked.words)?;
     let kept = printed(rt.alloc(), &kept)?;

@@ -5,7 +5,7 @@ ghost use Rattle.scl_small.specs.DiabValues.{holds_value};
 ghost use Rattle.scl_small.specs.TaskingValues as tasking;
 
 use crate::tests::records::record_in;
-use crate::tests::words::{cut, joined, pairs, printed};
+use crate::tests::words::{cut, printed};
 use scl_args::ArgDisposition::{Concatenated, Separated};
 use scl_args::ArgRow::{Flag, TakeArg};
 use scl_args::{
@@ -14,44 +14,11 @@ use scl_args::{
 };
 use scl_gnu::gcc;
 use scl_small::{diab, tasking_vx};
-use scl_text::language::Language;
-use scl_text::outputs::put_output;
-use scl_text::records::{Cacheable, ParsedArguments, SingleCompileCommand};
+use scl_text::records::ParsedArguments;
 use scl_text::{Mem, View};
 use std::alloc::Global;
 use std::process::Abort;
 use std::test::Fail;
-
-/// A record of `foo.cu` with two words that are not hashed, and without an output.
-fn cuda_record(alloc: Global) -> Mem<ParsedArguments> {
-    let input = Vec::from_slice(alloc, b"foo.cu")?;
-    let flag = Vec::from_slice(alloc, b"-c")?;
-    let mut record = ParsedArguments::bare(alloc, input, Language::Cuda, flag);
-    record.unhashed_args = cut(alloc, b"--threads 2")?;
-    Ok(record)
-}
-
-/// The command of a record with an object, and a pair of the environment.
-fn object_command(alloc: Global) -> Result<(SingleCompileCommand, Cacheable), Fail> {
-    let mut record = cuda_record(alloc)?;
-    let path = Vec::from_slice(alloc, b"foo.o")?;
-    put_output(alloc, &mut record.outputs, "obj", path, false)?;
-    let (variables, view) = (pairs(alloc, &[("K", "V")])?, View::new(alloc));
-    Ok(tasking_vx::generate_compile_commands(alloc, b"cctc", &record, b"/w", &variables, &view)?)
-}
-
-#[test]
-fn a_record_with_an_object_has_a_command(rt: HostRuntime) -> Result<(), Fail> {
-    let (command, cacheable) = object_command(rt.alloc())?;
-    assert!(rt; cacheable == Cacheable::Yes);
-    assert!(rt; command.executable.as_slice() == b"cctc".as_slice());
-    assert!(rt; command.cwd.as_slice() == b"/w".as_slice());
-    assert!(rt; command.env_vars.len() == 1);
-    assert!(rt; !command.share_jobserver);
-    let words = joined(rt.alloc(), &command.arguments)?;
-    assert!(rt; words.as_slice() == b"-c foo.cu -o foo.o --threads 2".as_slice());
-    Ok(())
-}
 
 static OTHER_DIAB_ARGS: [ArgInfo<diab::ArgData>; 2] = [
     Flag("--build", diab::Kind::DoCompilation),

@@ -1,6 +1,5 @@
 //! Filters over a finished list of options.
-use super::cutting::SHAPES;
-use super::values::{Kind, Told, Value, as_told, table_of};
+use super::values::{Kind, SHAPES, Told, Value, as_told, table_of};
 use crate::tests::{gives, words_of};
 use scl_args::{
     Argument, NormalizedDisposition, OfKinds, Options, ShortFlagsJoined, Sides, cut_words,
@@ -38,17 +37,6 @@ fn filters_give_what_passes(rt: HostRuntime) -> Result<(), Fail> {
             &words
         )
     );
-    Ok(())
-}
-
-#[test]
-fn of_no_options_none_passes(rt: HostRuntime) -> Result<(), Fail> {
-    let options = Options::<Value>::new(Vec::new(rt.alloc()));
-    let all = OfKinds(&[Kind::Alone, Kind::Valued]);
-    assert!(rt; options.last_by(&all).is_none());
-    assert!(rt; !options.any(&all));
-    assert!(rt; !options.is_behind_dashes(&all));
-    assert!(rt; gives(&options.texts(rt.alloc(), &all), &[]));
     Ok(())
 }
 

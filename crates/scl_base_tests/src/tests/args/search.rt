@@ -81,16 +81,6 @@ fn a_search_of_the_written_rows_looks_at_few(rt: HostRuntime) -> Result<(), Fail
     Ok(())
 }
 
-#[test]
-fn of_the_written_tables_the_longer_flag_wins(rt: HostRuntime) -> Result<(), Fail> {
-    let tables = (gcc::table(), clang::table());
-    let first = FlagTree::build(rt.alloc(), &tables.0)?;
-    let trees = (first, FlagTree::build(rt.alloc(), &tables.1)?);
-    assert!(rt; finds(&tables, "-include-pch", "-include-pch"));
-    assert!(rt; finds(&trees, "-include-pch", "-include-pch"));
-    Ok(())
-}
-
 static NO_ROWS: [ArgRow<Kind>; 0] = [];
 
 /// Whether a search for the key finds no row, in so many looks at the most.
@@ -104,31 +94,6 @@ fn nothing_is_found_without_rows_or_members(rt: HostRuntime) -> Result<(), Fail>
     assert!(rt; finds_none(&Tables::new(members), "-include", 0));
     assert!(rt; finds_none(&table_of(&NO_ROWS)?, "-abcd", 6));
     assert!(rt; finds_none(&tree_of(rt.alloc(), &NO_ROWS)?, "-abcd", 5));
-    Ok(())
-}
-
-static NESTED: [ArgRow<Kind>; 5] = [
-    TakeArg("", Kind::Valued, Concatenated(Some(b'@'))),
-    Flag("-a", Kind::Alone),
-    TakeArg("-ab", Kind::Valued, Concatenated(None)),
-    TakeArg("-abcd", Kind::Valued, CanBeSeparated(Some(b'='))),
-    Flag("-b", Kind::Alone),
-];
-
-#[test]
-fn the_deepest_row_that_fits_is_found(rt: HostRuntime) -> Result<(), Fail> {
-    let tree = tree_of(rt.alloc(), &NESTED)?;
-    for (key, flag) in [
-        ("@file", ""),
-        ("-a", "-a"),
-        ("-abc", "-ab"),
-        ("-abcde", "-ab"),
-        ("-abcd=e", "-abcd"),
-    ] {
-        assert!(rt; finds(&tree, key, flag), "{key}");
-    }
-    assert!(rt; tree.search(b"-ac").is_none());
-    assert!(rt; tree.search(b"-").is_none());
     Ok(())
 }
 
@@ -166,19 +131,6 @@ static INCLUDE_PCH: [ArgRow<Kind>; 1] = [TakeArg("-include-pch", Kind::Valued, C
 
 static OTHER_INCLUDE: [ArgRow<Kind>; 1] = [TakeArg("-include", Kind::Alone, Concatenated(None))];
 
-fn finds_both<S: SearchableArgInfo<Value>>(tables: &S) -> bool {
-    finds(tables, "-include", "-include") && finds(tables, "-include-pch", "-include-pch")
-}
-
-#[test]
-fn of_two_tables_the_longer_flag_wins(rt: HostRuntime) -> Result<(), Fail> {
-    assert!(rt; finds_both(&pair_of(&INCLUDE, &INCLUDE_PCH)?));
-    assert!(rt; finds_both(&pair_of(&INCLUDE_PCH, &INCLUDE)?));
-    assert!(rt; finds_both(&trees_of(rt.alloc(), &INCLUDE, &INCLUDE_PCH)?));
-    assert!(rt; finds_both(&trees_of(rt.alloc(), &INCLUDE_PCH, &INCLUDE)?));
-    Ok(())
-}
-
 /// Whether the second of two rows of one flag is found, by as many looks through a reference.
 fn finds_the_second<S: SearchableArgInfo<Value>>(tied: &S) -> bool {
     finds_kind(tied, "-include", Kind::Alone)
@@ -189,16 +141,6 @@ fn finds_the_second<S: SearchableArgInfo<Value>>(tied: &S) -> bool {
 fn of_one_length_the_second_table_wins(rt: HostRuntime) -> Result<(), Fail> {
     assert!(rt; finds_the_second(&pair_of(&INCLUDE, &OTHER_INCLUDE)?));
     assert!(rt; finds_the_second(&trees_of(rt.alloc(), &INCLUDE, &OTHER_INCLUDE)?));
-    Ok(())
-}
-
-#[test]
-fn of_one_length_the_last_member_wins(rt: HostRuntime) -> Result<(), Fail> {
-    let (first, pch) = pair_of(&INCLUDE, &INCLUDE_PCH)?;
-    let tables = Tables::new(vec![in rt.alloc(); first, pch, table_of(&OTHER_INCLUDE)?]?);
-    assert!(rt; finds_kind(&tables, "-include", Kind::Alone));
-    assert!(rt; finds(&tables, "-include-pch", "-include-pch"));
-    assert!(rt; tables.search(b"-inc").is_none());
     Ok(())
 }
 

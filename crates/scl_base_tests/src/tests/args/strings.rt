@@ -4,8 +4,7 @@ ghost use Rattle.scl_values.specs.Row.{shape_of};
 ghost use Rattle.scl_values.specs.Tables.{has_ascii_delimiter};
 ghost use Rattle.scl_values.specs.Texts.{is_delimited_by_ascii};
 
-use super::cutting::SHAPES;
-use super::values::table_of;
+use super::values::{SHAPES, table_of};
 use crate::tests::{makes, says, words_of};
 use scl_args::{
     ArgDisposition, ArgParseResult, ArgToStringResult, Argument, ArgumentValue, FromArg, IntoArg,

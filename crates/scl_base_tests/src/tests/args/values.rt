@@ -1,6 +1,8 @@
 //! A value of two kinds, tables of it, and its options as a test writes them.
 ghost use Rattle.std.specs.Prelude.{◌≡◌, IsOkAnd, true, false};
 
+use scl_args::ArgDisposition::{CanBeSeparated, Concatenated, Separated};
+use scl_args::ArgRow::{Flag, TakeArg};
 use scl_args::{
     ArgDisposition, ArgParseResult, ArgRow, ArgToStringResult, Argument, ArgumentValue, ExactArg,
     FlagTable, FlagTree, Held, IntoArg, Mem, ReadArg,
@@ -70,6 +72,17 @@ impl ReadArg for Value {
     }
 }
 
+/// A row of each shape.
+pub(super) static SHAPES: [ArgRow<Kind>; 7] = [
+    Flag("-bar", Kind::Alone),
+    TakeArg("-foo", Kind::Valued, Separated),
+    Flag("-fuga", Kind::Alone),
+    TakeArg("-hoge", Kind::Valued, Concatenated(None)),
+    Flag("-plop", Kind::Alone),
+    TakeArg("-qux", Kind::Valued, CanBeSeparated(Some(b'='))),
+    Flag("-zorglub", Kind::Alone),
+];
+
 /// An option as a test writes it.
 #[derive(Clone, Copy, PartialEq, Eq)]
 pub(super) enum Told<'a> {
@@ -86,15 +99,6 @@ pub(super) fn as_told<'a>(option: &'a Argument<Value>) -> Told<'a> {
         Argument::Flag(flag, _) => Told::Flag(flag),
         Argument::WithValue(flag, value, how) => Told::Value(flag, value.word.as_slice(), *how),
     }
-}
-
-/// Whether the options are those that are told.
-pub(super) fn are_told(options: &[Argument<Value>], told: &[Told<'_>]) -> bool {
-    options.len() == told.len()
-        && options
-            .iter()
-            .zip(told.iter())
-            .all(|(option, told)| as_told(option) == *told)
 }
 
 pub(super) fn table_of(rows: &'static [ArgRow<Kind>]) -> Result<FlagTable<'static, Value>, Fail> {
