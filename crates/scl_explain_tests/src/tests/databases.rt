@@ -1,6 +1,7 @@
 //! What is said of databases.
 use super::replies::disk;
-use scl_explain::{Batch, Counts, Database, DatabaseError, Ending, EntryKind, ending_of_counts};
+use scl_explain::{Counts, Ending, EntryKind};
+use scl_report::{Batch, Database, DatabaseError, ending_of_counts};
 use std::alloc::Global;
 use std::test::Fail;
 

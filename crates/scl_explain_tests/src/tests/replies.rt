@@ -2,6 +2,7 @@
 use scl_cl::View;
 use scl_explain::{Case, CommandForm, Ending, Form, Paint, Reply, check, command, explain};
 use scl_load::MemoryDisk;
+use scl_report::Pages;
 use scl_shell::shell_words;
 use std::alloc::Global;
 use std::process::Abort;
@@ -171,8 +172,8 @@ fn reply_to(alloc: Global, question: Question, case: &Case) -> Result<Reply, Fai
         Question::Command => commanded(alloc, case, false, false),
         Question::Ended => commanded(alloc, case, true, false),
         Question::Strict => commanded(alloc, case, false, true),
-        Question::Check => Ok(check(alloc, &disk(alloc)?, case, false, plain)?),
-        Question::Json => Ok(check(alloc, &disk(alloc)?, case, false, Form::Json)?),
+        Question::Check => Ok(check(alloc, &disk(alloc)?, case, false, plain, &Pages)?),
+        Question::Json => Ok(check(alloc, &disk(alloc)?, case, false, Form::Json, &Pages)?),
     }
 }
 
@@ -272,7 +273,14 @@ fn explained(
     form: Form,
     text: &str,
 ) -> Result<(), Fail> {
-    let reply = explain(alloc, &disk(alloc)?, &case(alloc, line)?, false, form)?;
+    let reply = explain(
+        alloc,
+        &disk(alloc)?,
+        &case(alloc, line)?,
+        false,
+        form,
+        &Pages,
+    )?;
     assert!(rt;
         reply.output.as_slice() == text.as_bytes(),
         "{line}: {reply:?}"
