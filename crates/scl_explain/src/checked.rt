@@ -56,8 +56,8 @@ fn check_reply<R: Report>(
     })
 }
 
-/// The hazards of a command line, a line each, or for machines as `report` writes them. It ends as a hazard where there is one, as the answer
-/// does where there is no command, and as a failed file where one can't be read. It fails only for want of memory.
+/// The hazards of a command line, a line each, or for machines as `report` writes them. It ends as a hazard where there is one,
+/// as the answer does where there is no command, and as a failed file where one can't be read. It fails only for want of memory.
 #[tactic(auto, using(crate::proofs::UnreadLaws::is_unread))]
 pub fn check<D: Disk, R: Report>(
     alloc: Global,

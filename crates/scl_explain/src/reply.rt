@@ -66,8 +66,8 @@ pub(crate) fn unread<E: Display>(alloc: Global, error: &LoadError<E>) -> Mem<Rep
     })
 }
 
-/// What a command line is, as `report` writes it. It ends as answered whatever the answer is, and as a failed file where one can't be read. It fails
-/// only for want of memory.
+/// What a command line is, as `report` writes it. It ends as answered whatever the answer is, and as a failed file where one
+/// can't be read. It fails only for want of memory.
 #[tactic(auto, using(crate::proofs::UnreadLaws::is_unread))]
 pub fn explain<D: Disk, R: Report>(
     alloc: Global,
