@@ -4,7 +4,8 @@ use crate::disk::SystemDisk;
 use crate::fault::{Fault, warn};
 use crate::options::DatabaseArguments;
 use crate::progress::Progress;
-use scl_explain::{Batch, Counts, Database, Ending, ending_of_counts};
+use scl_explain::{Counts, Ending};
+use scl_report::{Batch, Database, ending_of_counts};
 use std::fs;
 use std::io::{self, BufWriter, ErrorKind, Read, Write};
 

@@ -6,8 +6,9 @@ use crate::options::LineArguments;
 use scl_cl::path;
 use scl_explain::{
     Case, CommandForm, Ending, Form, Paint, Reply, check as check_reply, command as command_reply,
-    explain as explain_reply, reasons_text,
+    explain as explain_reply,
 };
+use scl_report::{Pages, reasons_text};
 use std::alloc::Global;
 use std::io::{IsTerminal, Write};
 
@@ -74,7 +75,7 @@ pub fn explain(rt: &HostRuntime, asked: &LineArguments) -> Result<Ending, Fault>
     };
     let disk = SystemDisk { rt };
     let form = form_of(rt, asked);
-    let reply = explain_reply(rt.alloc(), &disk, &case, asked.multiarch, form)?;
+    let reply = explain_reply(rt.alloc(), &disk, &case, asked.multiarch, form, &Pages)?;
     say(rt, &reply)
 }
 
@@ -101,7 +102,7 @@ pub fn check(rt: &HostRuntime, asked: &LineArguments) -> Result<Ending, Fault> {
     };
     let disk = SystemDisk { rt };
     let form = form_of(rt, asked);
-    let reply = check_reply(rt.alloc(), &disk, &case, asked.multiarch, form)?;
+    let reply = check_reply(rt.alloc(), &disk, &case, asked.multiarch, form, &Pages)?;
     say(rt, &reply)
 }
 

@@ -12,7 +12,7 @@ use std::alloc::Global;
 use thiserror::Error;
 
 /// A command line that is asked about.
-#[derive(Debug, Drop)]
+#[derive(Drop)]
 pub struct Case {
     /// The compiler whose command line it is.
     pub compiler: Compiler,

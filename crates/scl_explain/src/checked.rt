@@ -7,9 +7,9 @@ ghost use Rattle.scl_explain.specs.Said.{IsCheckedReply, IsSaid, IsUnread};
 use crate::answered::{Answered, answer_case};
 use crate::case::Case;
 use crate::hazards::hazards_text;
-use crate::json::check_line;
 use crate::refusal::no_command_line;
 use crate::reply::{Form, Reply, unread};
+use crate::report::Report;
 use crate::status::Ending;
 use scl_cl::Mem;
 use scl_load::Disk;
@@ -17,12 +17,18 @@ use std::alloc::Global;
 use std::fmt::Display;
 
 /// What is written.
-fn check_bytes(alloc: Global, case: &Case, answered: &Answered, form: Form) -> Mem<Vec<u8>>
+fn check_bytes<R: Report>(
+    alloc: Global,
+    case: &Case,
+    answered: &Answered,
+    form: Form,
+    report: &R,
+) -> Mem<Vec<u8>>
     ensures { IfOk result (λ text. IsChecked form answered.now.hazards.items text.items) }
 {
     match form {
         Form::Text(_) => hazards_text(alloc, &answered.hazards),
-        Form::Json => Ok(check_line(alloc, case, answered)?.into_bytes()),
+        Form::Json => Ok(report.hazards(alloc, case, answered)?.into_bytes()),
     }
 }
 
@@ -34,32 +40,39 @@ fn error_line(alloc: Global, answered: &Answered, form: Form) -> Mem<Option<Stri
     }
 }
 
-fn check_reply(alloc: Global, case: &Case, answered: &Answered, form: Form) -> Mem<Reply>
+fn check_reply<R: Report>(
+    alloc: Global,
+    case: &Case,
+    answered: &Answered,
+    form: Form,
+    report: &R,
+) -> Mem<Reply>
     ensures { IfOk result (λ reply. IsCheckedReply form reply (answer_of answered.now.answer) answered.now.hazards.items) }
 {
     Ok(Reply {
-        output: check_bytes(alloc, case, answered, form)?,
+        output: check_bytes(alloc, case, answered, form, report)?,
         error: error_line(alloc, answered, form)?,
         ending: Ending::of_answer(&answered.answer, &answered.hazards),
     })
 }
 
-/// The hazards of a command line, a line each, or an object for machines. It ends as a hazard where there is one, as the answer
-/// does where there is no command, and as a failed file where one can't be read. It fails only for want of memory.
+/// The hazards of a command line, a line each, or for machines as `report` writes them. It ends as a hazard where there is one,
+/// as the answer does where there is no command, and as a failed file where one can't be read. It fails only for want of memory.
 #[tactic(auto, using(crate::proofs::UnreadLaws::is_unread))]
-pub fn check<D: Disk>(
+pub fn check<D: Disk, R: Report>(
     alloc: Global,
     disk: &D,
     case: &Case,
     multiarch: bool,
     form: Form,
+    report: &R,
 ) -> Mem<Reply>
 where
     D::Error: Display,
     ensures { IfOk result (λ reply. IsUnread (D.holds disk.now) (D.fails disk.now) multiarch case.now reply ⊎ IsSaid (D.holds disk.now) multiarch case.now (IsCheckedReply form reply)) }
 {
     match answer_case(alloc, disk, case, multiarch)? {
-        Ok(answered) => check_reply(alloc, case, &answered, form),
+        Ok(answered) => check_reply(alloc, case, &answered, form, report),
         Err(error) => unread(alloc, &error),
     }
 }

@@ -18,7 +18,7 @@ use std::alloc::Global;
 use std::fmt::Display;
 
 /// How a command is written.
-#[derive(Debug, Clone, Copy, PartialEq, Eq)]
+#[derive(Clone, Copy)]
 pub struct CommandForm {
     /// Whether each word has a NUL behind it, in place of quotes for a shell.
     pub has_nuls: bool,

@@ -12,26 +12,40 @@ use std::collections::BTreeMap;
 
 /// How often something was met, and the first entry where it was.
 #[derive(Drop)]
-pub(crate) struct Met {
-    pub(crate) times: u64,
-    pub(crate) entry: u64,
-    pub(crate) file: String,
+pub struct Met {
+    /// How often.
+    pub times: u64,
+    /// The number of the first entry.
+    pub entry: u64,
+    /// The source of the first entry.
+    pub file: String,
 }
 
 /// What is counted over the entries of a database.
 #[derive(Drop)]
 pub struct Counts {
-    pub(crate) entries: u64,
-    pub(crate) ok: u64,
-    pub(crate) unkept: u64,
-    pub(crate) hazardous: u64,
-    pub(crate) not_compilation: u64,
-    pub(crate) refused: BTreeMap<String, Met>,
-    pub(crate) hazards: BTreeMap<String, Met>,
-    pub(crate) broken: Vec<(u64, String)>,
-    pub(crate) unread: Vec<(u64, String)>,
-    pub(crate) outputs: BTreeMap<Vec<u8>, Vec<u64>>,
-    pub(crate) missing: BTreeMap<Vec<u8>, Met>,
+    /// How many entries there are.
+    pub entries: u64,
+    /// How many can be cached.
+    pub ok: u64,
+    /// How many compile, and may not be kept in the cache.
+    pub unkept: u64,
+    /// How many have a hazard.
+    pub hazardous: u64,
+    /// How many compile nothing.
+    pub not_compilation: u64,
+    /// The reasons for which entries can't be cached.
+    pub refused: BTreeMap<String, Met>,
+    /// The names of the hazards of entries.
+    pub hazards: BTreeMap<String, Met>,
+    /// The entries that are none, with why.
+    pub broken: Vec<(u64, String)>,
+    /// The entries with a file that can't be read, with why.
+    pub unread: Vec<(u64, String)>,
+    /// The paths of the object files that are written, with the entries that write them.
+    pub outputs: BTreeMap<Vec<u8>, Vec<u64>>,
+    /// The paths at which words name a response file, and there is none.
+    pub missing: BTreeMap<Vec<u8>, Met>,
 }
 
 fn meet<K: Ord + Drop>(

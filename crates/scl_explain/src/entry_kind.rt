@@ -7,7 +7,7 @@ use scl_cl::{Cacheable, Compilation, CompilerArguments};
 use scl_hazards::Hazard as Named;
 
 /// What an entry is.
-#[derive(Debug, Clone, Copy, PartialEq, Eq)]
+#[derive(Clone, Copy, PartialEq, Eq)]
 pub enum EntryKind {
     /// It can be cached, and no hazard is named.
     Ok,

@@ -6,19 +6,13 @@ use scl_cl::Mem;
 use scl_hazards::Hazard;
 use std::alloc::Global;
 
-/// Puts the names of hazards behind a text.
-pub(crate) fn push_names(text: &mut String, hazards: &[Hazard]) -> Mem<()> {
+/// Puts the names of hazards behind a text. It fails only for want of memory.
+pub fn push_hazard_names(text: &mut String, hazards: &[Hazard]) -> Mem<()> {
     for (at, hazard) in hazards.iter().enumerate() {
         let (before, name) = (if at == 0 { "" } else { ", " }, hazard.name());
         write!(text, "{before}{name}")?;
     }
     Ok(())
-}
-
-/// A hazard, and what happens.
-pub(crate) fn hazard_text(alloc: Global, hazard: Hazard) -> Mem<String> {
-    let (name, consequence) = (hazard.name(), hazard.consequence());
-    format!(in alloc; "{name}: {consequence}")
 }
 
 fn push_hazard_line(text: &mut Vec<u8>, hazard: Hazard) -> Mem<()>
@@ -48,6 +42,6 @@ pub(crate) fn hazards_line(alloc: Global, hazards: &[Hazard]) -> Mem<Option<Stri
         return Ok(None);
     }
     let mut text = String::from_str(alloc, "hazards: ")?;
-    push_names(&mut text, hazards)?;
+    push_hazard_names(&mut text, hazards)?;
     Ok(Some(text))
 }

@@ -1,7 +1,7 @@
-//! Whether a command line can be cached, and why not, in a few words.
+//! Why a command line can't be cached, in a few words.
 use crate::answered::Answered;
 use crate::words::push_shown;
-use scl_cl::{Cacheable, CompilerArguments, Mem};
+use scl_cl::{CompilerArguments, Mem};
 use scl_reasons::sentence;
 use scl_text::reasons::UNEXPANDED_FILE;
 use std::alloc::Global;
@@ -15,17 +15,9 @@ fn push_missing(alloc: Global, text: &mut String, paths: &[Vec<u8>]) -> Mem<()> 
     Ok(())
 }
 
-/// What becomes of the outcome of a compilation.
-pub(crate) fn cached_text(cacheable: Cacheable) -> &'static str {
-    match cacheable {
-        Cacheable::Yes => "can be cached",
-        Cacheable::No => "compiles, and may not be kept in the cache",
-    }
-}
-
 /// Why a command line can't be cached: the reason, the text beside it, and the response files that are not there, where the
-/// reason is one of them.
-pub(crate) fn refusal_text(
+/// reason is one of them. It fails only for want of memory.
+pub fn refusal_text(
     alloc: Global,
     reason: &str,
     more: Option<&str>,

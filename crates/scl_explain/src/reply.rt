@@ -5,9 +5,7 @@ ghost use Rattle.scl_explain.specs.declared.status.Ending.TheVariants as ending;
 
 use crate::answered::{Answered, answer_case};
 use crate::case::Case;
-use crate::json::explanation_line;
-use crate::page::explanation;
-use crate::paint::Paint;
+use crate::report::Report;
 use crate::status::Ending;
 use scl_cl::Mem;
 use scl_load::{Disk, LoadError};
@@ -25,8 +23,17 @@ pub struct Reply {
     pub ending: Ending,
 }
 
-/// How explanations are written.
-#[derive(Debug, Clone, Copy, PartialEq, Eq)]
+/// Whether texts are coloured.
+#[derive(Clone, Copy)]
+pub enum Paint {
+    /// For a terminal.
+    Colours,
+    /// For a file or a pipe.
+    Plain,
+}
+
+/// How answers are written.
+#[derive(Clone, Copy)]
 pub enum Form {
     /// For a person.
     Text(Paint),
@@ -34,8 +41,8 @@ pub enum Form {
     Json,
 }
 
-/// Why a disk gives no answer, in a line.
-pub(crate) fn load_error_text<E: Display>(alloc: Global, error: &LoadError<E>) -> Mem<String> {
+/// Why a disk gives no answer, in a line. It fails only for want of memory.
+pub fn load_error_text<E: Display>(alloc: Global, error: &LoadError<E>) -> Mem<String> {
     match error {
         LoadError::Disk(error) => format!(in alloc; "{error}"),
         LoadError::TooManyWords => String::from_str(
@@ -59,31 +66,16 @@ pub(crate) fn unread<E: Display>(alloc: Global, error: &LoadError<E>) -> Mem<Rep
     })
 }
 
-fn explanation_bytes(alloc: Global, case: &Case, answered: &Answered, form: Form) -> Mem<Vec<u8>> {
-    let Case {
-        compiler,
-        program: _,
-        words,
-        cwd,
-        env_vars,
-    } = case;
-    let rows = compiler.rows(alloc, words, cwd, env_vars, &answered.view)?;
-    let text = match form {
-        Form::Text(paint) => explanation(alloc, case, answered, &rows, paint)?,
-        Form::Json => explanation_line(alloc, case, answered, &rows)?,
-    };
-    Ok(text.into_bytes())
-}
-
-/// What a command line is. It ends as answered whatever the answer is, and as a failed file where one can't be read. It fails
-/// only for want of memory.
+/// What a command line is, as `report` writes it. It ends as answered whatever the answer is, and as a failed file where one
+/// can't be read. It fails only for want of memory.
 #[tactic(auto, using(crate::proofs::UnreadLaws::is_unread))]
-pub fn explain<D: Disk>(
+pub fn explain<D: Disk, R: Report>(
     alloc: Global,
     disk: &D,
     case: &Case,
     multiarch: bool,
     form: Form,
+    report: &R,
 ) -> Mem<Reply>
 where
     D::Error: Display,
@@ -91,7 +83,9 @@ where
 {
     match answer_case(alloc, disk, case, multiarch)? {
         Ok(answered) => Ok(Reply {
-            output: explanation_bytes(alloc, case, &answered, form)?,
+            output: report
+                .explanation(alloc, case, &answered, form)?
+                .into_bytes(),
             error: None,
             ending: Ending::Answered,
         }),

@@ -52,8 +52,8 @@ pub fn command_text(
     }
 }
 
-/// Puts bytes behind a text as a person reads them (`shown`).
-pub(crate) fn push_shown(alloc: Global, text: &mut String, bytes: &[u8]) -> Mem<()> {
+/// Puts bytes behind a text as a person reads them (`shown`). It fails only for want of memory.
+pub fn push_shown(alloc: Global, text: &mut String, bytes: &[u8]) -> Mem<()> {
     let shown = String::from_utf8_lossy(alloc, bytes)?;
     for c in shown.as_str().chars() {
         if c.is_control() {

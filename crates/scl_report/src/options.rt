@@ -1,7 +1,7 @@
 //! The table of a command line's options, for a person.
 use crate::table::Table;
-use crate::words::shown;
 use scl_cl::Mem;
+use scl_explain::shown;
 use scl_rows::{Destination, Origin, Row};
 use scl_shell::quoted_words;
 use scl_text::refusal::Refusal;

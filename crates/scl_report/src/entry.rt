@@ -1,6 +1,6 @@
 //! An entry of a compile database.
-use crate::case::{Case, CaseError};
 use scl_cl::{Compiler, Mem, path};
+use scl_explain::{Case, CaseError};
 use scl_shell::{ShellError, shell_words};
 use serde_json::{Map, Value};
 use std::alloc::Global;

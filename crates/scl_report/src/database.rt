@@ -6,7 +6,7 @@ use std::alloc::{AllocError, Global};
 use thiserror::Error;
 
 /// Why a text is no compile database.
-#[derive(Debug, Clone, Copy, Drop, Error)]
+#[derive(Debug, Drop, Error)]
 pub enum DatabaseError {
     /// It is empty.
     #[error("the text is empty")]

@@ -1,12 +1,8 @@
 //! What a command line is, for a person.
-use crate::answered::Answered;
-use crate::case::Case;
-use crate::hazards::hazard_text;
 use crate::options::push_options;
-use crate::paint::Paint;
-use crate::refusal::{cached_text, refusal_text};
-use crate::words::{push_shown, shown};
+use crate::paint::{Codes, codes_of};
 use scl_cl::{Cacheable, Compilation, CompilerArguments, Mem};
+use scl_explain::{Answered, Case, Paint, push_shown, refusal_text, shown};
 use scl_hazards::Hazard;
 use scl_reasons::sentence;
 use scl_rows::Row;
@@ -17,7 +13,7 @@ use std::alloc::Global;
 #[derive(Drop)]
 struct Page {
     alloc: Global,
-    paint: Paint,
+    codes: Codes,
     text: String,
 }
 
@@ -26,7 +22,7 @@ const TITLE: usize = 15;
 
 impl Page {
     fn push_title(&mut self, title: &str) -> Mem<()> {
-        let (begin, end) = (self.paint.title(), self.paint.end());
+        let (begin, end) = (self.codes.title, self.codes.end);
         write!(self.text, "{begin}{title}:{end}")?;
         for _ in title.len()..TITLE {
             self.text.push(' ')?;
@@ -61,13 +57,21 @@ impl Page {
     }
 
     fn outcome(&mut self, colour: &str, text: &str) -> Mem<()> {
-        let end = self.paint.end();
+        let end = self.codes.end;
         write!(self.text, "{colour}{text}{end}\n")
     }
 }
 
+/// What becomes of the outcome of a compilation.
+pub(crate) fn cached_text(cacheable: Cacheable) -> &'static str {
+    match cacheable {
+        Cacheable::Yes => "can be cached",
+        Cacheable::No => "compiles, and may not be kept in the cache",
+    }
+}
+
 fn push_outcome(page: &mut Page, answered: &Answered) -> Mem<()> {
-    let (good, bad) = (page.paint.good(), page.paint.bad());
+    let (good, bad) = (page.codes.good, page.codes.bad);
     match &answered.answer {
         CompilerArguments::Ok(compilation) => {
             let cacheable = compilation.cacheable;
@@ -127,6 +131,12 @@ fn push_record(page: &mut Page, compilation: &Compilation) -> Mem<()> {
     Ok(())
 }
 
+/// A hazard, and what happens.
+fn hazard_text(alloc: Global, hazard: Hazard) -> Mem<String> {
+    let (name, consequence) = (hazard.name(), hazard.consequence());
+    format!(in alloc; "{name}: {consequence}")
+}
+
 fn push_hazards(page: &mut Page, hazards: &[Hazard]) -> Mem<()> {
     for hazard in hazards {
         let text = hazard_text(page.alloc, *hazard)?;
@@ -149,7 +159,7 @@ fn push_commands(page: &mut Page, case: &Case, answered: &Answered) -> Mem<()> {
 
 /// The table of options, under its title.
 fn push_rows(page: &mut Page, rows: &[Row]) -> Mem<()> {
-    let (begin, end) = (page.paint.title(), page.paint.end());
+    let (begin, end) = (page.codes.title, page.codes.end);
     write!(page.text, "{begin}options:{end}\n")?;
     push_options(page.alloc, &mut page.text, rows)
 }
@@ -164,7 +174,7 @@ pub fn explanation(
 ) -> Mem<String> {
     let mut page = Page {
         alloc,
-        paint,
+        codes: codes_of(paint),
         text: String::new(alloc),
     };
     push_outcome(&mut page, answered)?;

@@ -1,14 +1,9 @@
 //! What the program says to the entries of a compile database.
-use crate::answered::{Answered, answer_case};
-use crate::case::Case;
-use crate::count::Counts;
 use crate::digest::{entry_line, summary};
 use crate::entry::case_of_entry;
-use crate::entry_kind::EntryKind;
 use crate::json::{answer_line, refused_entry_line};
-use crate::reply::load_error_text;
-use crate::status::Ending;
 use scl_cl::{Compiler, Mem};
+use scl_explain::{Answered, Case, Counts, Ending, EntryKind, answer_case, load_error_text};
 use scl_load::Disk;
 use scl_text::command::copy_pairs;
 use serde_json::Value;

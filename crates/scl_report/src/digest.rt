@@ -1,10 +1,7 @@
 //! What a database has, for a person.
-use crate::answered::Answered;
-use crate::count::{Counts, Met};
-use crate::hazards::push_names;
-use crate::refusal::{cached_text, refusal_text};
-use crate::words::push_shown;
+use crate::page::cached_text;
 use scl_cl::{CompilerArguments, Mem};
+use scl_explain::{Answered, Counts, Met, push_hazard_names, push_shown, refusal_text};
 use scl_hazards::{HAZARDS, Hazard};
 use scl_reasons::sentence;
 use std::alloc::Global;
@@ -162,7 +159,7 @@ pub fn summary(alloc: Global, counts: &Counts) -> Mem<String> {
 fn push_named(text: &mut String, hazards: &[Hazard]) -> Mem<()> {
     if !hazards.is_empty() {
         text.push_str("; hazards: ")?;
-        push_names(text, hazards)?;
+        push_hazard_names(text, hazards)?;
     }
     Ok(())
 }

@@ -1,7 +1,6 @@
 //! Answers as JSON: an object in one line, whose members are in the order of their names.
-use crate::answered::Answered;
-use crate::case::Case;
 use scl_cl::{Cacheable, Compilation, CompilerArguments, Mem};
+use scl_explain::{Answered, Case};
 use scl_hazards::Hazard;
 use scl_reasons::sentence;
 use scl_rows::Row;

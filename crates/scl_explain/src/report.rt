@@ -1,0 +1,21 @@
+//! What writes answers.
+use crate::answered::Answered;
+use crate::case::Case;
+use crate::reply::Form;
+use scl_cl::Mem;
+use std::alloc::Global;
+
+/// What writes answers. Each call fails only for want of memory.
+pub trait Report {
+    /// What a command line is.
+    fn explanation(
+        &self,
+        alloc: Global,
+        case: &Case,
+        answered: &Answered,
+        form: Form,
+    ) -> Mem<String>;
+
+    /// The hazards of a command line, for machines.
+    fn hazards(&self, alloc: Global, case: &Case, answered: &Answered) -> Mem<String>;
+}

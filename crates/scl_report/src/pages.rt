@@ -1,0 +1,37 @@
+//! The answers to one command line, written.
+use crate::json::{check_line, explanation_line};
+use crate::page::explanation;
+use scl_cl::Mem;
+use scl_explain::{Answered, Case, Form, Report};
+use std::alloc::Global;
+
+/// Writes pages for people, and JSON for machines.
+#[derive(Clone, Copy)]
+pub struct Pages;
+
+impl Report for Pages {
+    fn explanation(
+        &self,
+        alloc: Global,
+        case: &Case,
+        answered: &Answered,
+        form: Form,
+    ) -> Mem<String> {
+        let Case {
+            compiler,
+            program: _,
+            words,
+            cwd,
+            env_vars,
+        } = case;
+        let rows = compiler.rows(alloc, words, cwd, env_vars, &answered.view)?;
+        match form {
+            Form::Text(paint) => explanation(alloc, case, answered, &rows, paint),
+            Form::Json => explanation_line(alloc, case, answered, &rows),
+        }
+    }
+
+    fn hazards(&self, alloc: Global, case: &Case, answered: &Answered) -> Mem<String> {
+        check_line(alloc, case, answered)
+    }
+}
