@@ -113,25 +113,22 @@ class Tries:
     def __exit__(self, *_):
         shutil.rmtree(self.room, ignore_errors=True)
 
-    def ran(self, folder, *words):
+    def verdicts(self, chosen):
+        """What the prover says of each of these edits, by crates: whether it is refused, and the verdict. `rt ci` proves a crate
+        as it stands before it tries an edit, since one that is not proved refuses all; it takes what earlier runs proved."""
+        for crate, edits in chosen.items():
+            os.makedirs(f"{self.room}/{crate.folder}/must-fail")
+            for edit in edits:
+                shutil.copy(f"{self.room}/{edit.path}", f"{self.room}/{crate.folder}/must-fail")
         how = {"stdin": subprocess.DEVNULL, "stdout": subprocess.PIPE, "stderr": subprocess.STDOUT, "errors": "replace"}
-        done = subprocess.run(["rt", *words], cwd=f"{self.room}/{folder}", **how)
-        return done.returncode, done.stdout
-
-    def verdicts(self, crate, edits):
-        """What the prover says of each edit of a crate: whether it is refused, and the verdict. A crate that is not proved as it stands
-        refuses all, so it is proved first."""
-        status, said = self.ran(crate.folder, "check")
-        if status:
-            last = next((it for it in said.split("\n") if ": error" in it), said.strip().rsplit("\n", 1)[-1])
-            return [(edit, False, f"is not tried: {crate.name} itself is not proved: {last}") for edit in edits]
-        os.makedirs(f"{self.room}/{crate.folder}/must-fail")
-        for edit in edits:
-            shutil.copy(f"{self.room}/{edit.path}", f"{self.room}/{crate.folder}/must-fail")
-        status, said = self.ran(".", "must-fail", crate.name)
-        told = dict(re.findall(rf"must-fail {crate.name}/(\w+)\.edit: (.*)", said))
-        shutil.rmtree(f"{self.room}/{crate.folder}/must-fail")
-        return [(edit, is_refusal(told.get(edit.name, "")), told.get(edit.name) or f"has no verdict: rt must-fail ended with status {status}") for edit in edits]
+        done = subprocess.run(["rt", "ci", *(it.name for it in chosen)], cwd=self.room, **how)
+        told = dict(re.findall(r"must-fail (\w+/\w+)\.edit: (.*)", done.stdout))
+        unproved = dict(re.findall(r"^rt: (\w+)(?:: its tests are)? (NOT PROVED.*)", done.stdout, re.M))
+        for crate, edits in chosen.items():
+            why = unproved.get(crate.name, f"no verdict: rt ci ended with status {done.returncode}")
+            for edit in edits:
+                verdict = told.get(f"{crate.name}/{edit.name}")
+                yield edit, is_refusal(verdict or ""), verdict or f"is not tried: {crate.name}: {why}"
 
 
 def is_refusal(verdict):
