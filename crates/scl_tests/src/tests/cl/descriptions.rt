@@ -1,7 +1,7 @@
 //! Descriptions: of each compiler a command line with a command, one that is refused, and one that compiles nothing.
 use super::rows::request_and_rest;
 use super::run_over;
-use scl_cl::{Counted, ManyDescriptions, Mem, Outcome, describe, serve_each};
+use scl_cl::{Counted, Descriptions, Mem, Outcome, describe, serve_each};
 use std::alloc::Global;
 use std::process::Abort;
 use std::test::Fail;
@@ -89,10 +89,9 @@ fn settings_are_read_by_descriptions_alone(rt: HostRuntime) -> Result<(), Fail> 
 /// How a batch of descriptions over memory ends, and what it writes.
 fn described_each(alloc: Global, requests: &[u8]) -> Mem<(Outcome, Vec<u8>)> {
     let mut written = Vec::new(alloc);
-    let service = ManyDescriptions::new(alloc)?;
     let mut reader = Counted::new(requests);
     let mut writer = Counted::new(&mut written);
-    let outcome = serve_each(alloc, &service, &mut reader, &mut writer);
+    let outcome = serve_each(alloc, &Descriptions, &mut reader, &mut writer);
     drop(writer);
     Ok((outcome, written))
 }

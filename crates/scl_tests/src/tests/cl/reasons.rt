@@ -2,7 +2,7 @@
 use super::asked_by;
 use super::rows::request_and_rest;
 use scl_args::ArgRow;
-use scl_cl::{Answerers, Compilation, Compiler, CompilerArguments, Mem, View};
+use scl_cl::{Compilation, Compiler, CompilerArguments, Mem, View};
 use scl_gnu::{clang, gcc};
 use scl_msvc::msvc;
 use scl_reasons::{explanations, known_sentence};
@@ -39,7 +39,6 @@ const NO_OBJECT: &str = "Missing object file output";
 #[derive(Drop)]
 struct Met {
     alloc: Global,
-    answerers: Answerers,
     reasons: Vec<&'static str>,
 }
 
@@ -47,7 +46,6 @@ impl Met {
     fn new(alloc: Global) -> Mem<Met> {
         Ok(Met {
             alloc,
-            answerers: Answerers::new(alloc)?,
             reasons: Vec::new(alloc),
         })
     }
@@ -67,9 +65,8 @@ impl Met {
         for word in words {
             line.push(Vec::from_slice(self.alloc, word.as_bytes())?)?;
         }
-        let answerer = self.answerers.of(compiler);
         let view = View::new(self.alloc);
-        let answer = answerer.answer(self.alloc, b"", &line, b"", &[], &view)?;
+        let answer = compiler.answer(self.alloc, b"", &line, b"", &[], &view)?;
         self.keep(rt, &answer)
     }
 
@@ -114,8 +111,7 @@ impl Met {
     fn ask_row(&mut self, rt: &impl Abort, row: &str) -> Result<(), Fail> {
         let (request, reason) = request_and_rest(self.alloc, row)?;
         let asked = asked_by(self.alloc, request.as_bytes())?;
-        let answerer = self.answerers.of(asked.compiler);
-        let answer = answerer.answer(
+        let answer = asked.compiler.answer(
             self.alloc,
             b"",
             &asked.words,
