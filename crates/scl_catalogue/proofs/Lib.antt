@@ -1,3 +1,4 @@
 pub mod AnyLemmas
+pub mod CutLemmas
 pub mod FilterLemmas
 pub mod KeyLemmas
