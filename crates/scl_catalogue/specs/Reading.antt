@@ -1,5 +1,5 @@
 -- How a catalogue's text is cut and read.
-use Rattle.std.specs.Prelude.{ℕ, suc, ◌+◌, ◌-◌, ◌*◌, nat_lt, ◌==◌, Bool, true, false, cond, not, ◌&&◌, ◌||◌, List, [], ◌∷◌, ◌++◌, codes, filter, Option, None, Some, Result, Ok, Err}
+use Rattle.std.specs.Prelude.{◌≡◌, ℕ, suc, ◌+◌, ◌-◌, ◌*◌, nat_lt, ◌==◌, Bool, true, false, cond, not, ◌&&◌, ◌||◌, List, [], ◌∷◌, ◌++◌, codes, filter, Option, None, Some, Result, Ok, Err}
 use Rattle.std.specs.List.{list_any, slice_split}
 use Rattle.std.specs.Str.{bytes_eq}
 use Rattle.scl_catalogue.specs.Form.{Pattern, Text, Demand, Marked, Value, Part, Test, Group, Relation, Any, Two, Before, Unfollowed, Last, Question, Is, At, Given, Inner, Condition, Case, Tells, Hazard, Effect, Reason, Entry, Catalogue}
@@ -14,6 +14,8 @@ use Rattle.scl_catalogue.specs.declared.entry.Verb.{Verb}
 use Rattle.scl_catalogue.specs.declared.mistake.BadLine.{BadLine}
 use Rattle.scl_catalogue.specs.declared.mistake.Mistake.{Mistake}
 use Rattle.scl_catalogue.specs.declared.mistake.Mistake.TheVariants as mistake
+use Rattle.scl_catalogue.specs.declared.mistake.Stop.{Stop}
+use Rattle.scl_catalogue.specs.declared.mistake.Stop.TheVariants as stop
 use Rattle.scl_catalogue.specs.declared.seen.Mark.{Mark}
 use Rattle.scl_catalogue.specs.declared.test.Class.{Class}
 use Rattle.scl_catalogue.specs.declared.text.How.TheVariants as how
@@ -66,6 +68,15 @@ each f (x ∷ xs) = after (f x) (λ y. after (each f xs) (λ ys. Ok (y ∷ ys)))
 abbrev pub or_mistake : {A : Type 0} → Mistake → Option A → Result A Mistake
 or_mistake m None = Err m
 or_mistake m (Some x) = Ok x
+
+-- what is read of a part, and what a reader of the code gives: want of memory says nothing of the text
+abbrev pub StopsAt : {B : Type 0} → Stop → Result B Mistake → Type 0
+StopsAt (stop.Mistake m) r = r ≡ Err m
+StopsAt stop.Memory r = Unit {0}
+
+abbrev pub Reads : {A B : Type 0} → (A → B) → Result A Stop → Result B Mistake → Type 0
+Reads view (Ok x) r = r ≡ Ok (view x)
+Reads view (Err s) r = StopsAt s r
 
 -- where no word is left
 abbrev pub at_end : {A : Type 0} → List ℕ → A → Result A Mistake
@@ -336,18 +347,18 @@ line_read gs line = cond (not (is_word (first_word line)) || is_comment line) (O
 pub record SoFar : Type 0 where
   pub groups : List Group
   pub entries : List Entry
-  pub open : Option Entry
+  pub last : Option Entry
 
 abbrev pub closed : SoFar → Option Entry → List Entry
 closed s None = s.entries
 closed s (Some e) = s.entries ++ e ∷ []
 
 abbrev pub catalogue_so_far : SoFar → Catalogue
-catalogue_so_far s = record { groups = s.groups; entries = closed s s.open }
+catalogue_so_far s = record { groups = s.groups; entries = closed s s.last }
 
 abbrev pub goes_on : SoFar → Option Entry → (Entry → Result Entry Mistake) → Result SoFar Mistake
 goes_on s None f = Err mistake.NoEntry
-goes_on s (Some e) f = after (f e) (λ changed. Ok (record s { open = Some changed }))
+goes_on s (Some e) f = after (f e) (λ changed. Ok (record s { last = Some changed }))
 
 abbrev pub with_sentence : List ℕ → List ℕ → Entry → Result Entry Mistake
 with_sentence [] says e = Ok (record e { says = says })
@@ -356,10 +367,10 @@ with_sentence (b ∷ bs) says e = Err mistake.SaysTwice
 abbrev pub added : SoFar → Said → Result SoFar Mistake
 added s Nothing = Ok s
 added s (NewGroup g) = Ok (record s { groups = s.groups ++ g ∷ [] })
-added s (NewEntry tells name) = cond (list_any (λ e. bytes_eq e.name name) (closed s s.open)) (Err mistake.NameTwice)
-    (Ok (record { groups = s.groups; entries = closed s s.open; open = Some (record { tells = tells; name = name; says = []; cases = [] }) }))
-added s (Says says) = goes_on s s.open (λ e. with_sentence e.says says e)
-added s (NewCase c) = goes_on s s.open (λ e. Ok (record e { cases = e.cases ++ c ∷ [] }))
+added s (NewEntry tells name) = cond (list_any (λ e. bytes_eq e.name name) (closed s s.last)) (Err mistake.NameTwice)
+    (Ok (record { groups = s.groups; entries = closed s s.last; last = Some (record { tells = tells; name = name; says = []; cases = [] }) }))
+added s (Says says) = goes_on s s.last (λ e. with_sentence e.says says e)
+added s (NewCase c) = goes_on s s.last (λ e. Ok (record e { cases = e.cases ++ c ∷ [] }))
 
 abbrev pub at_line : {A : Type 0} → ℕ → Result A Mistake → Result A BadLine
 at_line n (Ok x) = Ok x
@@ -375,4 +386,4 @@ lines_read n s (line ∷ lines) = after_line (at_line n (after (line_read s.grou
 
 -- the catalogue of a text, or its first line that is wrong
 abbrev pub read : List ℕ → Result Catalogue BadLine
-read text = lines_read 1 (record { groups = []; entries = []; open = None }) (parts 10 text)
+read text = lines_read 1 (record { groups = []; entries = []; last = None }) (parts 10 text)
