@@ -15,7 +15,9 @@ fn number(word: &[u8]) -> Option<u32> {
     let mut number = 0u32;
     for byte in word {
         match *byte {
-            b'0'..=b'9' => number = number.checked_mul(10)?.checked_add(u32::from(*byte - b'0'))?,
+            b'0'..=b'9' => number = number
+                .checked_mul(10)?
+                .checked_add(u32::from(*byte - b'0'))?,
             _ => return None,
         }
     }

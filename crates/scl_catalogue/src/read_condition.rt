@@ -81,11 +81,7 @@ fn question<'a>(
     Ok(Question::Given(relation(room, groups, word, others)?))
 }
 
-fn condition<'a>(
-    room: Room<'a>,
-    groups: &[Group<'a>],
-    bytes: &'a [u8],
-) -> Part<Condition<'a>> {
+fn condition<'a>(room: Room<'a>, groups: &[Group<'a>], bytes: &'a [u8]) -> Part<Condition<'a>> {
     let (word, others) = first_word(bytes);
     if is(word, "not") {
         let (word, others) = first_word(others);
