@@ -10,11 +10,10 @@ use Rattle.scl_values.specs.declared.argument.ArgRow.{ArgRow}
 use Rattle.scl_values.specs.Row.{Row, row_of, row_at, fits}
 use Rattle.scl_values.specs.Tables.{owner}
 use Rattle.scl_tables.specs.Probes.{bits}
-use Rattle.scl_tables.specs.Trees.{Group, group_of, whole, RiseIn, IsBelow, IsNode, IsTree, OwnFits, NoneFits, NoChild, IsChild, ChildrenRise}
+use Rattle.scl_tables.specs.Trees.{Group, group_of, no_node, Lies, Leads, IsBelow, IsNode, OwnFits, NoneFits, NoChild, IsChild, ChildrenRise}
 use Rattle.scl_tables.proofs.OrderLemmas.{owner_some, none_fits}
 use Rattle.scl_tables.proofs.PrefixLemmas.{both, starts-length, fits-starts}
 use Rattle.scl_tables.proofs.BitsLemmas.{bits_half}
-use Rattle.scl_tables.proofs.TreeLemmas.{no_node, node_rises}
 
 -- ---- a flag that begins a word has the word's bytes
 
@@ -58,7 +57,7 @@ module _ {K : Type 0} (rows : List (Row K)) (nodes : List Node) (node : Node) (i
   pub within : node.end_child ≤ length nodes
   within = elim is.others as (λ _. node.end_child ≤ length nodes) [ inl c ↦ omega (arith, c.1.within, count) | inr c ↦ omega (arith, c.within, count) ]
 
-  pub few : RiseIn rows (group_of node) → node.end_child - node.first_child ≤ length rows
+  pub few : Lies rows node → node.end_child - node.first_child ≤ length rows
   few rises = elim is.others as (λ _. node.end_child - node.first_child ≤ length rows) [ inl c ↦ omega (arith, c.1.few, rises.within, rises.order) | inr c ↦ omega (arith, c.few, rises.within, rises.order) ]
 
   deeper : (i : ℕ) (other : Group) → node.first_child ≤ i → i < node.end_child → node.depth < (slice_index_or (map group_of nodes) i other).depth
@@ -87,7 +86,7 @@ module _ {K : Type 0} (rows : List (Row K)) (nodes : List Node) (node : Node) (i
 
   -- ---- a node's own row is tried
 
-  module _ (word : List ℕ) (rises : RiseIn rows (group_of node)) where
+  module _ (word : List ℕ) (rises : Lies rows node) where
     still_below : NoneFits rows node word → (k : ℕ) (other : Row K) → fits (slice_index_or rows k other) word ≡ true → InRange node k → Below rows nodes node k
     still_below none k other f range = elim (placed k range) as (λ _. Below rows nodes node k) [
       | inl own ↦ absurd (let P : ℕ → Type 0 = λ i. fits (slice_index_or rows i other) word ≡ true in let no : true ≡ false = sym (subst P own.1 f) ∙ none own.0 other in cc)
@@ -112,7 +111,7 @@ module _ {K : Type 0} (rows : List (Row K)) (nodes : List Node) (node : Node) (i
 
     module _ (row : Row K) (own : OwnFits rows node word row) where
       deep : node.depth ≤ length row.flag
-      deep = rw (← own.is row) (rises.long node.first_row row (omega arith) (is.own own.own))
+      deep = rw (← own.is row) (rises.long own.own row)
 
       others_below : (k : ℕ) → k ≢ node.first_row → InRange node k → Below rows nodes node k
       others_below k ne range = elim (placed k range) as (λ _. Below rows nodes node k) [ inl p ↦ absurd (ne p.1) | inr below ↦ below ]
@@ -220,16 +219,17 @@ pub first_of : {K : Type 0} (own : Option (Bor (ArgRow K))) → row_at own ≡ l
 first_of None = refl
 first_of (Some row) = refl
 
-module _ {K : Type 0} (rows : List (Row K)) (nodes : List Node) (tree : IsTree rows nodes) (word : List ℕ) where
-  pub node_there : (i : ℕ) (node : Node) → i < length nodes → ((other : Node) → slice_index_or nodes i other ≡ node) → IsNode rows (map group_of nodes) node × RiseIn rows (group_of node)
-  node_there i node l at = (subst (IsNode rows (map group_of nodes)) (at node) (tree.is_node i node l), node_rises rows nodes i node tree.rise l (sym (at node)))
+module _ {K : Type 0} (rows : List (Row K)) (nodes : List Node) (tree : Leads rows nodes) (word : List ℕ) where
+  pub node_there : (i : ℕ) (node : Node) → i < length nodes → ((other : Node) → slice_index_or nodes i other ≡ node) → IsNode rows (map group_of nodes) node × Lies rows node
+  node_there i node l at = (subst (IsNode rows (map group_of nodes)) (at node) (tree.is_node i node l), subst (Lies rows) (at node) (tree.lies i node l))
 
   pub root_before : (root : Node) → ((other : Node) → slice_index_or nodes 0 other ≡ root) → Before rows word root None
   root_before root at =
-      let all : group_of root ≡ whole rows = ap group_of (sym (at root)) ∙ tree.root root in
-      λ k other l f. (omega (arith, ap (λ group. group.first) all), omega (arith, l, ap (λ group. group.end) all))
+      let first : root.first_row ≡ 0 = ap (λ node. node.first_row) (sym (at root)) ∙ tree.first root in
+      let end : root.end_row ≡ length rows = ap (λ node. node.end_row) (sym (at root)) ∙ tree.end root in
+      λ k other l f. (omega (arith, first), omega (arith, l, end))
 
-  pub tried : (node : Node) → IsNode rows (map group_of nodes) node → RiseIn rows (group_of node) → (found : Option (Row K)) → Before rows word node found
+  pub tried : (node : Node) → IsNode rows (map group_of nodes) node → Lies rows node → (found : Option (Row K)) → Before rows word node found
       → (own : Option (Bor (ArgRow K))) → MatchOption own (NoneFits rows node word) (λ row. OwnFits rows node word (row_of row.now)) → (now : Option (Row K)) → now ≡ longer_of own found → Behind rows nodes word node now
   tried node is rises found before None none now e = subst (Behind rows nodes word node) (sym e) (none_tried rows nodes node is word rises none found before)
   tried node is rises found before (Some row) own now e = subst (Behind rows nodes word node) (sym e) (own_tried rows nodes node is word rises (row_of row.now) own found before)

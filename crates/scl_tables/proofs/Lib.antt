@@ -1,4 +1,5 @@
 pub mod BitsLemmas
+pub mod CheckedLemmas
 pub mod DescentLemmas
 pub mod OrderLemmas
 pub mod PrefixLemmas

@@ -11,7 +11,7 @@ use Rattle.scl_values.specs.declared.argument.ArgRow.{ArgRow}
 use Rattle.scl_tables.specs.declared.nodes.Node.{Node}
 use Rattle.scl_values.specs.Row.{Row, row_of}
 use Rattle.scl_values.specs.Tables.{is_table}
-use Rattle.scl_tables.specs.Trees.{Group, group_of, whole, RiseBehind, RiseIn, IsBelow, AreChildren, IsBare, IsNode, Grows, ChildrenRise}
+use Rattle.scl_tables.specs.Trees.{Group, group_of, whole, RiseBehind, RiseIn, IsBelow, AreChildren, IsBare, IsNode, Grows, ChildrenRise, no_node}
 use Rattle.scl_tables.specs.Probes.{bits}
 use Rattle.scl_tables.proofs.BitsLemmas.{bits_half}
 use Rattle.scl_tables.proofs.OrderLemmas.{cmp, head, rising}
@@ -315,9 +315,6 @@ grown_node rows old new first next node growing e starts own ends low high =
         ⊎ AreChildren rows (map group_of new) node.depth node.first_child node.end_child node.first_row node.end_row
     which (inl s) all = inl (s.0, subst (λ f. AreChildren rows (map group_of new) node.depth node.first_child node.end_child f node.end_row) s.1 all)
     which (inr s) all = inr (subst (λ f. AreChildren rows (map group_of new) node.depth node.first_child node.end_child f node.end_row) s.1 all)
-
-abbrev pub no_node : Node
-no_node = record { byte = 0; has_row = false; depth = 0; first_row = 0; end_row = 0; first_child = 0; end_child = 0 }
 
 -- ---- the nodes so far, up to one that has no children yet
 

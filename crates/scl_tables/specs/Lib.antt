@@ -1,2 +1,4 @@
+pub mod Checked
+pub mod Lent
 pub mod Probes
 pub mod Trees

@@ -13,6 +13,10 @@ pub record Group : Type 0 where
   pub first : ℕ
   pub end : ℕ
 
+-- what stands where no node does
+abbrev pub no_node : Node
+no_node = record { byte = 0; has_row = false; depth = 0; first_row = 0; end_row = 0; first_child = 0; end_child = 0 }
+
 abbrev pub group_of : Node → Group
 group_of node = record { byte = node.byte; depth = node.depth; first = node.first_row; end = node.end_row }
 
@@ -67,6 +71,24 @@ pub record IsTree {K : Type 0} (rows : List (Row K)) (nodes : List Node) : Type 
   pub root : (other : Node) → group_of (slice_index_or nodes 0 other) ≡ whole rows
   pub rise : (i : ℕ) (other : Group) → i < length nodes → RiseIn rows (slice_index_or (map group_of nodes) i other)
   pub is_node : (i : ℕ) (other : Node) → i < length nodes → IsNode rows (map group_of nodes) (slice_index_or nodes i other)
+
+-- a node's rows are among them, and the flag of its own has all bytes on the way
+pub record Lies {K : Type 0} (rows : List (Row K)) (node : Node) : Type 0 where
+  pub order : node.first_row ≤ node.end_row
+  pub within : node.end_row ≤ length rows
+  pub long : node.has_row ≡ true → (other : Row K) → node.depth ≤ length (slice_index_or rows node.first_row other).flag
+
+-- what a search asks of nodes: the first has all rows, and each has its rows itself or in its children
+pub record Leads {K : Type 0} (rows : List (Row K)) (nodes : List Node) : Type 0 where
+  pub some : 0 < length nodes
+  pub first : (other : Node) → (slice_index_or nodes 0 other).first_row ≡ 0
+  pub end : (other : Node) → (slice_index_or nodes 0 other).end_row ≡ length rows
+  pub lies : (i : ℕ) (other : Node) → i < length nodes → Lies rows (slice_index_or nodes i other)
+  pub is_node : (i : ℕ) (other : Node) → i < length nodes → IsNode rows (map group_of nodes) (slice_index_or nodes i other)
+
+-- there are no nodes, or they lead to the rows
+abbrev pub Lead : {K : Type 0} → List (Row K) → List Node → Type 0
+Lead rows nodes = (length nodes ≡ 0) ⊎ Leads rows nodes
 
 -- more bare nodes, of rows that rise, stand behind those that there were
 pub record Grows {K : Type 0} (rows : List (Row K)) (old new : List Node) : Type 0 where

@@ -8,5 +8,6 @@ mod table;
 mod tables;
 mod tree;
 
+pub use nodes::Node;
 pub use rows::{FlagTable, FlagTree, Probes, RowStore, SearchableArgInfo, looks};
 pub use tables::Tables;

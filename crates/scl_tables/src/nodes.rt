@@ -2,25 +2,56 @@
 ghost use Rattle.std.specs.Prelude.{◌≡◌, ℕ, ◌+◌, ◌<◌, ◌≤◌, ◌≢◌, ◌^◌, map, length, true, false, IsTrue, IfOk, slice_index, slice_index_or};
 ghost use Rattle.scl_values.specs.Row.{Row, row_of};
 ghost use Rattle.scl_values.specs.Tables.{is_table};
-ghost use Rattle.scl_tables.specs.Trees.{group_of, RiseBehind, RiseIn, IsBare, IsNode, IsTree, Grows};
+ghost use Rattle.scl_tables.specs.Trees.{group_of, RiseBehind, RiseIn, IsBare, IsNode, IsTree, Grows, Lead, Leads};
+ghost use Rattle.scl_tables.specs.Lent.{nodes_in, GivesLent};
 
 use scl_values::{ArgRow, Mem};
 use std::alloc::Global;
 
 /// A node of a prefix tree. Its rows are those whose flags begin with the bytes on the way to it, which are all that
 /// they share where there are two rows or more.
-#[derive(Clone, Copy)]
-pub(crate) struct Node {
-    /// The byte on the way behind those on the way to its parent.
-    pub(crate) byte: u8,
+#[derive(Clone, Copy, Debug)]
+pub struct Node {
+    /// The byte on the way after those on the way to its parent.
+    pub byte: u8,
     /// Whether the first of its rows is its own, and not of a child.
-    pub(crate) has_row: bool,
+    pub has_row: bool,
     /// How many bytes are on the way.
-    pub(crate) depth: usize,
-    pub(crate) first_row: usize,
-    pub(crate) end_row: usize,
-    pub(crate) first_child: usize,
-    pub(crate) end_child: usize,
+    pub depth: usize,
+    /// The index of its first row.
+    pub first_row: usize,
+    /// The index after that of its last row.
+    pub end_row: usize,
+    /// The index of its first child.
+    pub first_child: usize,
+    /// The index after that of its last child.
+    pub end_child: usize,
+}
+
+/// Nodes, each by its byte, whether it has a row of its own, its depth, its rows and its children.
+#[macro_export]
+macro_rules! nodes {
+    ($($byte:literal $has_row:literal $depth:literal $first_row:literal $end_row:literal $first_child:literal $end_child:literal),* $(,)?) => {
+        [$($crate::Node { byte: $byte, has_row: $has_row, depth: $depth, first_row: $first_row, end_row: $end_row, first_child: $first_child, end_child: $end_child }),*]
+    };
+}
+
+/// The nodes of a tree: those that stand beside a table's rows, or built ones.
+#[derive(Drop)]
+pub(crate) enum Nodes<'a> {
+    Lent(&'a [Node]),
+    Built(Vec<Node>),
+}
+
+impl<'a> Nodes<'a> {
+    pub(crate) fn as_slice(&self) -> &[Node]
+        ensures { result.now ≡ nodes_in self.now }
+    {
+        match self {
+            Nodes::Lent(nodes) => nodes,
+            Nodes::Built(nodes) => nodes.as_slice(),
+        }
+    }
 }
 
 /// A node with these rows, and no children yet. A single row is its own.
@@ -159,4 +190,23 @@ pub(crate) fn nodes_of<K>(alloc: Global, rows: &[ArgRow<K>]) -> Mem<Vec<Node>>
         index += 1;
     }
     Ok(nodes)
+}
+
+/// The nodes of a tree of a table's rows: the lent ones, which ask for no memory, or built ones where none are lent.
+pub(crate) fn lent_or_built<'a, K>(
+    alloc: Global,
+    rows: &[ArgRow<K>],
+    lent: &'a [Node],
+) -> Mem<Nodes<'a>>
+    requires table { is_table (map row_of rows.now) ≡ true }
+    requires lead { Lead (map row_of rows.now) lent.now }
+    ensures leads { IfOk result (λ nodes. Leads (map row_of rows.now) (nodes_in nodes)) }
+    ensures lent { 0 < length lent.now → GivesLent lent.now result }
+{
+    if lent.is_empty() {
+        let built = nodes_of(alloc, rows)?;
+        Ok(Nodes::Built(built))
+    } else {
+        Ok(Nodes::Lent(lent))
+    }
 }

@@ -2,11 +2,12 @@
 ghost use Rattle.std.specs.Prelude.{◌≡◌, ℕ, ◌<◌, ◌≤◌, List, map, length, is_some, true, IsTrue, IfOk, IfSome, OnSome, ◌↔◌, slice_index_or};
 ghost use Rattle.scl_values.specs.Row.{Row, row_of, row_at};
 ghost use Rattle.scl_values.specs.Tables.{is_table, owner_in, finds_ascii_delimiter};
-ghost use Rattle.scl_tables.specs.Trees.{IsTree};
+ghost use Rattle.scl_tables.specs.Checked.{is_tree};
+ghost use Rattle.scl_tables.specs.Trees.{Leads};
 ghost use Rattle.scl_tables.specs.declared.nodes.Node.{Node};
 ghost use Rattle.scl_tables.specs.Probes.{looks_in, CountsUpTo, Rises};
 
-use crate::nodes::{Node, nodes_of};
+use crate::nodes::{Node, Nodes, lent_or_built};
 use scl_values::{ArgInfo, ArgRow, ArgumentValue, Mem};
 use std::alloc::Global;
 use std::cmp::Ordering;
@@ -88,22 +89,24 @@ impl<'a, K> RowStore<'a, K> {
 }
 
 /// Rows whose flags rise strictly by bytes and whose delimiters are below 128, for values of type `T`
-/// (docs/RULES.md, Rows and tables).
+/// (docs/RULES.md, Rows and tables). It carries the nodes of its prefix tree where they stand beside the rows.
 #[derive(Drop)]
 pub struct FlagTable<'a, T: ArgumentValue> {
     store: RowStore<'a, T::Kind>,
+    nodes: &'a [Node],
 }
 
 impl<'a, T: ArgumentValue> Model for FlagTable<'a, T> {
     ghost use Rattle.std.specs.Prelude.{List, IsTrue};
     ghost use Rattle.scl_values.specs.Row.{Row};
     ghost use Rattle.scl_values.specs.Tables.{is_table};
+    ghost use Rattle.scl_tables.specs.Trees.{Lead};
 
     ghost Value = { List (Row T.Kind) };
 
     ghost view = { λ t. t.store };
 
-    ghost invariant = { λ t. IsTrue (is_table t.store) };
+    ghost invariant = { λ t. IsTrue (is_table t.store) × Lead t.store t.nodes.now };
 }
 
 fn is_table<K>(rows: &[ArgRow<K>]) -> bool
@@ -131,9 +134,24 @@ impl<'a, T: ArgumentValue> FlagTable<'a, T> {
         if is_table(rows) {
             Some(FlagTable {
                 store: RowStore { rows },
+                nodes: &[],
             })
         } else {
             None
+        }
+    }
+
+    /// The table of the rows, which carries the nodes of their prefix tree (docs/RULES.md, Rows and tables). Both are
+    /// checked where a call is proved, and nothing is checked when it runs.
+    #[tactic(auto, using(crate::proofs::CheckedLemmas::tree_leads))]
+    pub fn with_nodes(rows: &'a [ArgInfo<T>], nodes: &'a [Node]) -> FlagTable<'a, T>
+        requires table { is_table (map row_of rows.now) ≡ true }
+        requires tree { is_tree (map row_of rows.now) nodes.now ≡ true }
+        ensures { result ≡ map row_of rows.now }
+    {
+        FlagTable {
+            store: RowStore { rows },
+            nodes,
         }
     }
 
@@ -148,28 +166,28 @@ impl<'a, T: ArgumentValue> FlagTable<'a, T> {
 
 /// Nodes of a prefix tree that are read one at a time, each read being counted (docs/RULES.md, Looks).
 #[derive(Drop)]
-pub(crate) struct NodeStore {
-    nodes: Vec<Node>,
+pub(crate) struct NodeStore<'n> {
+    nodes: &'n [Node],
 }
 
-impl Model for NodeStore {
+impl<'n> Model for NodeStore<'n> {
     ghost use Rattle.std.specs.Prelude.{List};
     ghost use Rattle.scl_tables.specs.declared.nodes.Node.{Node};
 
     ghost Value = { List Node };
 
-    ghost view = { λ s. s.nodes.items };
+    ghost view = { λ s. s.nodes.now };
 }
 
-impl NodeStore {
+impl<'n> NodeStore<'n> {
     /// Reads the node at an index, counted from 0, and counts the read.
-    pub(crate) fn look(&self, index: usize, probes: &mut Probes) -> &Node
+    pub(crate) fn look(&self, index: usize, probes: &mut Probes) -> &'n Node
         requires { index < length self.now }
         ensures node { (other : Node) → slice_index_or self.now index other ≡ result.now }
         ensures count { CountsUpTo probes.old probes.new 1 }
         ensures rises { Rises probes.old probes.new }
     {
-        read(self.nodes.as_slice(), index, probes)
+        read(self.nodes, index, probes)
     }
 }
 
@@ -178,42 +196,45 @@ impl NodeStore {
 #[derive(Drop)]
 pub struct FlagTree<'a, T: ArgumentValue> {
     store: RowStore<'a, T::Kind>,
-    nodes: NodeStore,
+    nodes: Nodes<'a>,
 }
 
 impl<'a, T: ArgumentValue> Model for FlagTree<'a, T> {
     ghost use Rattle.std.specs.Prelude.{List, IsTrue};
     ghost use Rattle.scl_values.specs.Row.{Row};
     ghost use Rattle.scl_values.specs.Tables.{is_table};
-    ghost use Rattle.scl_tables.specs.Trees.{IsTree};
+    ghost use Rattle.scl_tables.specs.Trees.{Leads};
+    ghost use Rattle.scl_tables.specs.Lent.{nodes_in};
 
     ghost Value = { List (Row T.Kind) };
 
     ghost view = { λ t. t.store };
 
-    ghost invariant = { λ t. IsTrue (is_table t.store) × IsTree t.store t.nodes };
+    ghost invariant = { λ t. IsTrue (is_table t.store) × Leads t.store (nodes_in t.nodes) };
 }
 
 impl<'a, T: ArgumentValue> FlagTree<'a, T> {
-    /// The tree of a table's rows. `AllocError` where memory for its nodes is refused.
+    /// The tree of a table's rows, by the nodes that the table carries, or by built ones where it carries none.
+    /// `AllocError` where memory for built nodes is refused.
     pub fn build(alloc: Global, table: &FlagTable<'a, T>) -> Mem<FlagTree<'a, T>>
         ensures rows { IfOk result (λ tree. tree ≡ table.now) }
     {
         let rows = table.store.rows;
-        let nodes = nodes_of(alloc, rows)?;
+        let nodes = lent_or_built(alloc, rows, table.nodes)?;
         Ok(FlagTree {
             store: RowStore { rows },
-            nodes: NodeStore { nodes },
+            nodes,
         })
     }
 
     /// The rows of the tree, and its nodes.
-    pub(crate) fn stores(&self) -> (&RowStore<'a, T::Kind>, &NodeStore)
+    pub(crate) fn stores(&self) -> (&RowStore<'a, T::Kind>, NodeStore<'_>)
         ensures rows { result.0.now ≡ self.now }
-        ensures nodes { IsTree self.now result.1.now }
+        ensures nodes { Leads self.now result.1 }
         ensures valid { IsTrue (is_table self.now) }
     {
-        (&self.store, &self.nodes)
+        let nodes = self.nodes.as_slice();
+        (&self.store, NodeStore { nodes })
     }
 }
 

@@ -2,7 +2,7 @@
 ghost use Rattle.std.specs.Prelude.{◌≡◌, ◌+◌, ◌-◌, ◌*◌, ◌<◌, ◌≤◌, [], ◌∷◌, length, MatchOption, OnSome, true, false};
 ghost use Rattle.scl_values.specs.Row.{row_of, row_at};
 ghost use Rattle.scl_values.specs.Tables.{owner};
-ghost use Rattle.scl_tables.specs.Trees.{IsTree, OwnFits, NoneFits, ChildrenRise, NoChild, IsChild};
+ghost use Rattle.scl_tables.specs.Trees.{Leads, OwnFits, NoneFits, ChildrenRise, NoChild, IsChild};
 ghost use Rattle.scl_tables.specs.Probes.{bits, CountsUpTo, Rises};
 
 use crate::nodes::Node;
@@ -12,7 +12,7 @@ use std::cmp::Ordering;
 
 /// The child for a byte, found by halving.
 fn child_for<'n>(
-    nodes: &'n NodeStore,
+    nodes: &NodeStore<'n>,
     parent: &Node,
     byte: u8,
     probes: &mut Probes,
@@ -58,11 +58,11 @@ fn own_fit<'a, K>(
 /// The longest row that fits a word: the last that is met on the way that the word's bytes go.
 fn deepest_fit<'a, K>(
     rows: &RowStore<'a, K>,
-    nodes: &NodeStore,
+    nodes: &NodeStore<'_>,
     word: &[u8],
     probes: &mut Probes,
 ) -> Option<&'a ArgRow<K>>
-    requires { IsTree rows.now nodes.now }
+    requires { Leads rows.now nodes.now }
     ensures owner { row_at result ≡ owner rows.now word.now }
     ensures count { CountsUpTo probes.old probes.new ((length word.now + 1) * (bits (length rows.now) + 1)) }
     ensures rises { OnSome result (Rises probes.old probes.new) }
@@ -87,6 +87,6 @@ impl<'a, T: ArgumentValue> SearchableArgInfo<T> for FlagTree<'a, T> {
     #[tactic(auto, using(crate::proofs::TablesLemmas::owner_finds_ascii_delimiter))]
     fn search_counted(&self, key: &[u8], probes: &mut Probes) -> Option<&ArgInfo<T>> {
         let (rows, nodes) = self.stores();
-        deepest_fit(rows, nodes, key, probes)
+        deepest_fit(rows, &nodes, key, probes)
     }
 }

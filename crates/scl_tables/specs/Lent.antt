@@ -1,0 +1,14 @@
+-- The nodes of a tree that are lent to it, or its own.
+use Rattle.std.specs.Prelude.{◌≡◌, List, Result, Ok, Err}
+use Rattle.scl_tables.specs.declared.nodes.Node.{Node}
+use Rattle.scl_tables.specs.declared.nodes.Nodes.{Nodes}
+use Rattle.scl_tables.specs.declared.nodes.Nodes.TheVariants.{Lent, Built}
+
+abbrev pub nodes_in : Nodes → List Node
+nodes_in (Lent nodes) = nodes.now
+nodes_in (Built nodes) = nodes.items
+
+-- the answer has these very nodes, and is no refusal of memory
+abbrev pub GivesLent : {E : Type 0} → List Node → Result Nodes E → Type 0
+GivesLent lent (Ok (Lent nodes)) = nodes.now ≡ lent
+GivesLent lent _ = ⊥
