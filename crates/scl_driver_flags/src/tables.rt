@@ -3,7 +3,7 @@ ghost use Rattle.std.specs.Prelude.{◌≡◌};
 ghost use Rattle.scl_driver_flags.specs.DriverRows.{both_rows, gcc_rows, clang_rows};
 
 use crate::data::{Kind, OwnFlag};
-use scl_tables::FlagTable;
+use scl_tables::{FlagTable, Node, nodes};
 use scl_values::shapes::*;
 use scl_values::{ArgInfo, rows};
 
@@ -148,23 +148,213 @@ static CLANG: &[ArgInfo<OwnFlag>] = &rows![
     "-weak_reference_mismatches" Other APART,
 ];
 
+/// The nodes of the prefix tree of `BOTH`, made by bench/nodes.
+static BOTH_NODES: &[Node] = &nodes![
+    0 false 0 0 33 1 2,
+    45 false 1 0 33 2 8,
+    45 false 2 0 25 8 18,
+    83 true 2 25 26 0 0,
+    84 true 2 26 30 18 21,
+    101 true 2 30 31 0 0,
+    108 true 2 31 32 0 0,
+    115 true 2 32 33 0 0,
+    97 false 6 0 2 21 23,
+    100 false 4 2 4 23 25,
+    101 true 3 4 5 0 0,
+    102 false 5 5 8 25 27,
+    105 false 3 8 17 27 29,
+    108 false 3 17 19 29 31,
+    111 true 3 19 20 0 0,
+    112 false 5 20 22 31 33,
+    115 true 3 22 23 0 0,
+    117 false 3 23 25 33 35,
+    98 true 3 27 28 0 0,
+    100 true 3 28 29 0 0,
+    116 true 3 29 30 0 0,
+    109 true 7 0 1 0 0,
+    114 true 7 1 2 0 0,
+    102 true 5 2 3 0 0,
+    112 true 5 3 4 0 0,
+    45 false 6 5 7 35 37,
+    99 true 6 7 8 0 0,
+    109 true 4 8 9 0 0,
+    110 true 9 9 17 37 38,
+    97 true 4 17 18 0 0,
+    105 true 4 18 19 0 0,
+    102 true 6 20 21 0 0,
+    112 true 6 21 22 0 0,
+    110 true 4 23 24 0 0,
+    115 true 4 24 25 0 0,
+    97 true 7 5 6 0 0,
+    108 true 7 6 7 0 0,
+    45 false 10 10 17 38 42,
+    98 true 11 10 11 0 0,
+    100 true 19 11 13 42 43,
+    112 true 11 13 14 0 0,
+    119 true 21 14 17 43 44,
+    45 true 20 12 13 0 0,
+    45 false 22 15 17 44 46,
+    97 true 23 15 16 0 0,
+    98 true 23 16 17 0 0,
+];
+
 #[tactic(auto, unfolding(crate::specs::DriverRows::both_rows))]
 pub(crate) fn both() -> FlagTable<'static, OwnFlag>
     ensures { result ≡ both_rows }
 {
-    FlagTable::new(BOTH).unwrap()
+    FlagTable::with_nodes(BOTH, BOTH_NODES)
 }
+
+/// The nodes of the prefix tree of `GCC`, made by bench/nodes.
+static GCC_NODES: &[Node] = &nodes![
+    0 false 0 0 20 1 2,
+    45 false 1 0 20 2 14,
+    45 false 2 0 5 14 16,
+    72 false 2 5 7 16 18,
+    74 true 2 7 8 0 0,
+    82 true 2 8 9 0 0,
+    88 true 2 9 10 0 0,
+    97 true 2 10 11 0 0,
+    100 true 2 11 15 18 19,
+    102 true 2 15 16 0 0,
+    103 true 2 16 17 0 0,
+    104 true 2 17 18 0 0,
+    105 true 2 18 19 0 0,
+    119 true 2 19 20 0 0,
+    100 true 6 0 4 19 21,
+    111 true 3 4 5 0 0,
+    100 true 3 5 6 0 0,
+    102 true 3 6 7 0 0,
+    117 false 5 12 15 21 23,
+    98 true 10 1 3 23 24,
+    100 true 7 3 4 0 0,
+    98 true 9 12 14 24 25,
+    100 true 6 14 15 0 0,
+    45 true 11 2 3 0 0,
+    45 true 10 13 14 0 0,
+];
 
 #[tactic(auto, unfolding(crate::specs::DriverRows::gcc_rows))]
 pub(crate) fn gcc() -> FlagTable<'static, OwnFlag>
     ensures { result ≡ gcc_rows }
 {
-    FlagTable::new(GCC).unwrap()
+    FlagTable::with_nodes(GCC, GCC_NODES)
 }
+
+/// The nodes of the prefix tree of `CLANG`, made by bench/nodes.
+static CLANG_NODES: &[Node] = &nodes![
+    0 false 0 0 76 1 2,
+    45 false 1 0 76 2 18,
+    45 false 2 0 4 18 21,
+    88 false 2 4 11 21 25,
+    97 false 2 11 13 25 27,
+    98 true 2 13 14 0 0,
+    99 false 2 14 23 27 33,
+    100 false 5 23 25 33 35,
+    101 false 2 25 29 35 37,
+    102 false 2 29 37 37 43,
+    103 true 2 37 38 0 0,
+    105 false 2 38 42 43 47,
+    109 false 2 42 47 47 51,
+    112 true 2 47 48 0 0,
+    114 false 2 48 55 51 53,
+    115 false 2 55 71 53 56,
+    117 false 2 71 73 56 58,
+    119 false 6 73 76 58 61,
+    97 true 3 0 1 0 0,
+    99 false 3 1 3 61 63,
+    109 true 3 3 4 0 0,
+    97 false 3 4 6 63 65,
+    99 false 7 6 8 65 67,
+    111 true 15 8 10 67 68,
+    112 true 3 10 11 0 0,
+    108 true 3 11 12 0 0,
+    114 true 3 12 13 0 0,
+    45 true 3 14 15 0 0,
+    99 false 5 15 19 68 72,
+    108 true 3 19 20 0 0,
+    111 true 3 20 21 0 0,
+    117 true 3 21 22 0 0,
+    120 true 3 22 23 0 0,
+    98 true 6 23 24 0 0,
+    110 true 6 24 25 0 0,
+    109 false 6 25 27 72 74,
+    120 false 3 27 29 74 76,
+    101 true 3 29 30 0 0,
+    105 true 3 30 31 0 0,
+    111 true 3 31 32 0 0,
+    114 false 3 32 35 76 78,
+    116 true 3 35 36 0 0,
+    120 true 3 36 37 0 0,
+    102 true 3 38 39 0 0,
+    109 true 3 39 40 0 0,
+    110 true 3 40 41 0 0,
+    119 true 3 41 42 0 0,
+    101 true 3 42 43 0 0,
+    111 true 3 43 44 0 0,
+    116 true 3 44 45 0 0,
+    117 true 17 45 47 78 79,
+    101 false 3 48 54 79 83,
+    112 true 3 54 55 0 0,
+    101 false 3 55 68 83 86,
+    116 true 3 68 69 0 0,
+    117 false 5 69 71 86 88,
+    109 true 3 71 72 0 0,
+    110 true 3 72 73 0 0,
+    102 true 7 73 74 0 0,
+    108 true 7 74 75 0 0,
+    114 true 7 75 76 0 0,
+    108 true 4 1 2 0 0,
+    111 true 4 2 3 0 0,
+    110 true 4 4 5 0 0,
+    114 true 4 5 6 0 0,
+    102 true 8 6 7 0 0,
+    112 true 8 7 8 0 0,
+    61 true 16 9 10 0 0,
+    97 true 6 15 16 0 0,
+    103 true 6 16 17 0 0,
+    105 true 6 17 18 0 0,
+    111 true 6 18 19 0 0,
+    97 true 7 25 26 0 0,
+    108 true 7 26 27 0 0,
+    112 true 4 27 28 0 0,
+    116 true 4 28 29 0 0,
+    97 true 4 32 33 0 0,
+    101 false 11 33 35 88 90,
+    95 true 18 46 47 0 0,
+    97 true 4 48 49 0 0,
+    101 false 10 49 51 90 92,
+    115 true 4 51 52 0 0,
+    119 false 9 52 54 92 94,
+    99 false 5 55 59 94 97,
+    103 false 4 59 67 97 102,
+    114 true 4 67 68 0 0,
+    108 true 6 69 70 0 0,
+    117 true 6 70 71 0 0,
+    109 true 12 33 34 0 0,
+    110 true 12 34 35 0 0,
+    102 true 11 49 50 0 0,
+    108 true 11 50 51 0 0,
+    108 true 10 52 53 0 0,
+    111 true 10 53 54 0 0,
+    97 true 6 55 56 0 0,
+    99 true 6 56 57 0 0,
+    111 false 6 57 59 102 104,
+    95 true 15 59 61 104 105,
+    97 true 5 61 62 0 0,
+    99 true 5 62 63 0 0,
+    112 true 5 63 64 0 0,
+    115 true 11 64 67 105 107,
+    98 true 7 57 58 0 0,
+    114 true 7 58 59 0 0,
+    95 true 16 60 61 0 0,
+    111 true 12 65 66 0 0,
+    119 true 12 66 67 0 0,
+];
 
 #[tactic(auto, unfolding(crate::specs::DriverRows::clang_rows))]
 pub(crate) fn clang() -> FlagTable<'static, OwnFlag>
     ensures { result ≡ clang_rows }
 {
-    FlagTable::new(CLANG).unwrap()
+    FlagTable::with_nodes(CLANG, CLANG_NODES)
 }
