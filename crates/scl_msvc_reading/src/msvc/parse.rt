@@ -79,8 +79,8 @@ pub fn parse_arguments_owned(
     parse_arguments_by(alloc, arguments, cwd, trees(alloc)?, is_clang, view)
 }
 
-/// What `parse_arguments_owned` gives, by Msvc's tables or trees, which are handed in, as `trees` builds them: so one that
-/// reads many command lines builds them once. It fails only for want of memory.
+/// What `parse_arguments_owned` gives, by Msvc's tables or trees, which are passed in, as `trees` gives them. It fails only
+/// for want of memory.
 #[tactic(auto, using(scl_text::proofs::StopLemmas::outcome_given))]
 pub fn parse_arguments_by<S: SearchableArgInfo<ArgData> + Drop>(
     alloc: Global,
