@@ -1,7 +1,7 @@
 //! Describes the answer to the request on standard input (docs/RULES.md, The program).
 #![tactic(auto)]
 
-use scl_cl::{Counted, ManyDescriptions, Outcome, describe, serve_each};
+use scl_cl::{Counted, Descriptions, Outcome, describe, serve_each};
 use std::env;
 use std::io::{self, ErrorKind};
 use std::process::ExitCode;
@@ -57,10 +57,7 @@ fn describe_input(rt: &HostRuntime, is_batch: bool) -> u8 {
     let mut reader = Counted::new(rt.stdin());
     let mut writer = Counted::new(rt.stdout());
     let outcome = if is_batch {
-        match ManyDescriptions::new(rt.alloc()) {
-            Ok(service) => serve_each(rt.alloc(), &service, &mut reader, &mut writer),
-            Err(_) => Outcome::OutOfMemory,
-        }
+        serve_each(rt.alloc(), &Descriptions, &mut reader, &mut writer)
     } else {
         describe(rt.alloc(), &mut reader, &mut writer)
     };

@@ -1,4 +1,3 @@
-pub mod Answerers
 pub mod Explained
 pub mod Compilers
 pub mod Sayings

@@ -50,29 +50,6 @@ pub trait Query: Sized {
         }) answer) };
 }
 
-/// Who may be asked: a compiler by its name, which builds its trees where a query reads words, or one whose trees are built.
-pub(crate) trait Askable {
-    ghost use Rattle.std.specs.Prelude.{IfOk};
-    ghost use Rattle.scl_cl.specs.declared.compiler.Compiler.{Compiler};
-    ghost use Rattle.scl_cl.specs.Definitions.{definitions_of};
-
-    /// Which compiler it is.
-    ghost compiler: { Self → Compiler };
-
-    /// The answer to a query. It fails only for want of memory.
-    fn ask<Q: Query>(&self, alloc: Global, query: Q) -> Mem<Q::Answer>
-        ensures { IfOk result (λ answer. Q.gives query (definitions_of (compiler self.now)) answer) };
-}
-
-impl Askable for Compiler {
-    ghost compiler = { λ compiler. compiler };
-
-    fn ask<Q: Query>(&self, alloc: Global, query: Q) -> Mem<Q::Answer> {
-        let compiler = *self;
-        compiler.ask(alloc, query)
-    }
-}
-
 impl Compiler {
     /// The answer to a query, by the definitions of the compiler with this name, of which no version is known (docs/RULES.md,
     /// Compilers). It fails only for want of memory.

@@ -10,7 +10,7 @@ ghost use Rattle.scl_cl.specs.Answers.{Keeps, answer_to, answer_with, environmen
 ghost use Rattle.scl_cl.specs.AnswersGiven.{answer_by, answer_of, command_answer, record_given, HasBuilt, HasKept, HasParts, HasCommand, IfCompiled, IsAnswerBy};
 ghost use Rattle.scl_cl.specs.Definitions.{definitions_of};
 
-use crate::ask::{Askable, Query};
+use crate::ask::Query;
 use crate::compiler::Compiler;
 use crate::kept::{BuiltCommand, Compilation, Kept};
 use crate::within::CommandLines;
@@ -96,16 +96,16 @@ impl<'a, K: Kept> Query for Compile<'a, K> {
 }
 
 /// What a command line, whose words are handed over, is answered.
-pub(crate) fn compile_words<A: Askable, K: Kept>(
+pub(crate) fn compile_words<K: Kept>(
     alloc: Global,
-    asks: &A,
+    compiler: Compiler,
     executable: &[u8],
     words: Vec<Vec<u8>>,
     cwd: &[u8],
     env_vars: &[(Vec<u8>, Vec<u8>)],
     view: &View,
 ) -> Mem<CompilerArguments<K>>
-    ensures { IfOk result (IsAnswerBy K.command K.cacheable K.is_of (definitions_of (A.compiler asks.now)) executable.now (words_of words.items) cwd.now (pairs_of env_vars.now) view.now) }
+    ensures { IfOk result (IsAnswerBy K.command K.cacheable K.is_of (definitions_of compiler) executable.now (words_of words.items) cwd.now (pairs_of env_vars.now) view.now) }
 {
     let query = Compile {
         executable,
@@ -115,27 +115,7 @@ pub(crate) fn compile_words<A: Askable, K: Kept>(
         view,
         kept: PhantomData,
     };
-    asks.ask(alloc, query)
-}
-
-/// What `Compiler::answer` answers, of whoever is asked.
-pub(crate) fn answer_line<A: Askable>(
-    alloc: Global,
-    asks: &A,
-    executable: &[u8],
-    words: &[Vec<u8>],
-    cwd: &[u8],
-    env_vars: &[(Vec<u8>, Vec<u8>)],
-    view: &View,
-) -> Mem<CompilerArguments<Compilation>>
-    ensures answer { IfOk result (λ answer. answer_of answer ≡ answer_to (asked (A.compiler asks.now) (words_of words.now) cwd.now (pairs_of env_vars.now) view.now)) }
-    ensures parts { IfOk result (λ answer. HasParts (reading_by (A.compiler asks.now) (asked (A.compiler asks.now) (words_of words.now) cwd.now (pairs_of env_vars.now) view.now))
-        executable.now (environment_by (A.compiler asks.now) (pairs_of env_vars.now)) cwd.now answer) }
-    ensures record { IfOk result (λ answer. record_given answer ≡ result_ok (reading_by (A.compiler asks.now) (asked (A.compiler asks.now) (words_of words.now) cwd.now (pairs_of env_vars.now) view.now))) }
-    ensures read_again { IfOk result (λ answer. IfCompiled (read_again_by (A.compiler asks.now) (asked (A.compiler asks.now) (words_of words.now) cwd.now (pairs_of env_vars.now) view.now)) answer) }
-{
-    let words = copy_words(alloc, words)?;
-    compile_words(alloc, asks, executable, words, cwd, env_vars, view)
+    compiler.ask(alloc, query)
 }
 
 impl Compiler {
@@ -157,7 +137,8 @@ impl Compiler {
         ensures record { IfOk result (λ answer. record_given answer ≡ result_ok (reading_by self (asked self (words_of words.now) cwd.now (pairs_of env_vars.now) view.now))) }
         ensures read_again { IfOk result (λ answer. IfCompiled (read_again_by self (asked self (words_of words.now) cwd.now (pairs_of env_vars.now) view.now)) answer) }
     {
-        answer_line(alloc, &self, executable, words, cwd, env_vars, view)
+        let words = copy_words(alloc, words)?;
+        compile_words(alloc, self, executable, words, cwd, env_vars, view)
     }
 
     /// What `answer` answers, to words that are handed over; what was read is made into the command, and not kept. It fails
@@ -176,6 +157,6 @@ impl Compiler {
         ensures read_again { IfOk result (λ answer. Keeps (read_again_by self (asked self (words_of words.items) cwd.now (pairs_of env_vars.now) view.now))
             (reading_by self (asked self (words_of words.items) cwd.now (pairs_of env_vars.now) view.now)) (command_answer answer)) }
     {
-        compile_words(alloc, &self, executable, words, cwd, env_vars, view)
+        compile_words(alloc, self, executable, words, cwd, env_vars, view)
     }
 }

@@ -18,16 +18,11 @@ ghost use Rattle.scl_cl.specs.SettingsRead.{settings_by};
 ghost use Rattle.scl_cl.specs.Descriptions.{IsDescription, DescribesBytes};
 ghost use Rattle.scl_cl.specs.DescriptionsGiven.{AreOf};
 
-use crate::answerers::Answerers;
-use crate::ask::Askable;
-use crate::compile::answer_line;
 use crate::described::{Findings, description_text, too_many_words};
-use crate::hazards::answer_hazards;
 use crate::kept::Compilation;
 use crate::outcome::Outcome;
-use crate::questions::{Questions, questions_beside};
+use crate::questions::Questions;
 use crate::request::{Request, read_request};
-use crate::rows::option_rows;
 use crate::service::{Service, serve};
 use crate::settings::{Settings, read_settings};
 use scl_args::Counted;
@@ -38,94 +33,83 @@ use scl_text::records::CompilerArguments;
 use std::alloc::Global;
 use std::io::{Read, Write};
 
-/// The answer to a request, of whoever is asked.
-fn request_answer<A: Askable>(
-    alloc: Global,
-    asks: &A,
-    request: &Request,
-) -> Mem<CompilerArguments<Compilation>>
-    requires { A.compiler asks.now ≡ request.now.compiler }
+/// The answer to a request.
+fn request_answer(alloc: Global, request: &Request) -> Mem<CompilerArguments<Compilation>>
     ensures answer { IfOk result (λ answer. answer_of answer ≡ answer_to (asked_by request.now)) }
     ensures parts { IfOk result (λ answer. HasParts (reading_by request.now.compiler (asked_by request.now)) []
         (environment_by request.now.compiler (asked_by request.now).environment) request.now.directory.items answer) }
     ensures record { IfOk result (λ answer. record_given answer ≡ result_ok (reading_by request.now.compiler (asked_by request.now))) }
 {
     let Request {
-        compiler: _,
+        compiler,
         directory,
         words,
         environment,
         view,
     } = request;
-    answer_line(alloc, asks, b"", words, directory, environment, view)
+    compiler.answer(alloc, b"", words, directory, environment, view)
 }
 
-/// What became of each option of a request's command line, of whoever is asked.
-fn request_rows<A: Askable>(alloc: Global, asks: &A, request: &Request) -> Mem<Vec<Row>>
-    requires { A.compiler asks.now ≡ request.now.compiler }
+/// What became of each option of a request's command line.
+fn request_rows(alloc: Global, request: &Request) -> Mem<Vec<Row>>
     ensures { IfOk result (λ rows. map told rows.items ≡ rows_by request.now.compiler (asked_by request.now)) }
 {
     let Request {
-        compiler: _,
+        compiler,
         directory,
         words,
         environment,
         view,
     } = request;
-    option_rows(alloc, asks, words, directory, environment, view)
+    compiler.rows(alloc, words, directory, environment, view)
 }
 
-/// The hazards of a request's command line, of whoever is asked.
-fn request_hazards<A: Askable>(
+/// The hazards of a request's command line.
+fn request_hazards(
     alloc: Global,
-    asks: &A,
     request: &Request,
     answer: &CompilerArguments<Compilation>,
 ) -> Mem<Vec<Hazard>>
-    requires compiler { A.compiler asks.now ≡ request.now.compiler }
     requires record { record_given answer.now ≡ result_ok (reading_by request.now.compiler (asked_by request.now)) }
     ensures { IfOk result (λ hazards. hazards.items ≡ hazards_by request.now.compiler (asked_by request.now)) }
 {
     let Request {
-        compiler: _,
+        compiler,
         directory,
         words,
         environment,
         view,
     } = request;
-    answer_hazards(alloc, asks, answer, words, directory, environment, view)
+    compiler.hazards_of(alloc, answer, words, directory, environment, view)
 }
 
-/// What the answer to a request asks, of whoever is asked.
-fn request_questions<A: Askable>(
+/// What the answer to a request asks.
+fn request_questions(
     alloc: Global,
-    asks: &A,
     request: &Request,
     answer: &CompilerArguments<Compilation>,
 ) -> Mem<Questions>
-    requires compiler { A.compiler asks.now ≡ request.now.compiler }
     requires record { record_given answer.now ≡ result_ok (reading_by request.now.compiler (asked_by request.now)) }
     ensures { IfOk result (λ questions. given questions ≡ questions_of (asked_by request.now)) }
 {
     let Request {
-        compiler: _,
+        compiler,
         directory,
         words,
         environment,
         view,
     } = request;
-    questions_beside(alloc, asks, answer, words, directory, environment, view)
+    compiler.questions_of(alloc, answer, words, directory, environment, view)
 }
 
-/// What is described of a request, of whoever is asked.
-fn request_findings<A: Askable>(alloc: Global, asks: &A, request: &Request) -> Mem<Findings>
-    requires { A.compiler asks.now ≡ request.now.compiler }
+/// What is described of a request.
+fn request_findings(alloc: Global, request: &Request) -> Mem<Findings>
     ensures { IfOk result (AreOf (asked_by request.now)) }
 {
-    let answer = request_answer(alloc, asks, request)?;
-    let rows = request_rows(alloc, asks, request)?;
-    let hazards = request_hazards(alloc, asks, request, &answer)?;
-    let questions = request_questions(alloc, asks, request, &answer)?;
+    let answer = request_answer(alloc, request)?;
+    let rows = request_rows(alloc, request)?;
+    let hazards = request_hazards(alloc, request, &answer)?;
+    let questions = request_questions(alloc, request, &answer)?;
     Ok(Findings {
         answer,
         rows,
@@ -148,20 +132,14 @@ fn request_has_at_most(alloc: Global, request: &Request, most: usize) -> Mem<boo
     compiler.has_at_most(alloc, words, directory, environment, view, most)
 }
 
-/// The description of the answer to a request, of whoever is asked.
-fn request_description<A: Askable>(
-    alloc: Global,
-    asks: &A,
-    settings: &Settings,
-    request: &Request,
-) -> Mem<Vec<u8>>
-    requires { A.compiler asks.now ≡ request.now.compiler }
+/// The description of the answer to a request.
+fn request_description(alloc: Global, settings: &Settings, request: &Request) -> Mem<Vec<u8>>
     ensures { IfOk result (λ text. IsDescription (settings_by settings.now) (asked_by request.now) text.items) }
 {
     if !request_has_at_most(alloc, request, settings.bound)? {
         return too_many_words(alloc);
     }
-    let findings = request_findings(alloc, asks, request)?;
+    let findings = request_findings(alloc, request)?;
     let text = description_text(alloc, request.compiler, settings, &findings)?;
     Ok(text)
 }
@@ -179,43 +157,7 @@ impl Service for Descriptions {
         let (settings, lines) = read_settings(alloc, &bytes)?;
         drop(bytes);
         match read_request(alloc, &lines)? {
-            Ok(request) => {
-                let asks = request.compiler;
-                Ok(Ok(request_description(alloc, &asks, &settings, &request)?))
-            }
-            Err(number) => Ok(Err(number)),
-        }
-    }
-}
-
-/// Answers many requests by descriptions, with the trees of each compiler built once.
-#[derive(Drop)]
-pub struct ManyDescriptions {
-    answerers: Answerers,
-}
-
-impl ManyDescriptions {
-    /// Builds the trees. It fails only for want of memory.
-    pub fn new(alloc: Global) -> Mem<ManyDescriptions> {
-        Ok(ManyDescriptions {
-            answerers: Answerers::new(alloc)?,
-        })
-    }
-}
-
-impl Service for ManyDescriptions {
-    ghost use Rattle.scl_cl.specs.Descriptions.{DescribesBytes};
-
-    ghost answers = { λ _ bytes said. DescribesBytes bytes said };
-
-    fn answer(&self, alloc: Global, bytes: Vec<u8>) -> Mem<Result<Vec<u8>, u64>> {
-        let (settings, lines) = read_settings(alloc, &bytes)?;
-        drop(bytes);
-        match read_request(alloc, &lines)? {
-            Ok(request) => {
-                let asks = self.answerers.of(request.compiler);
-                Ok(Ok(request_description(alloc, asks, &settings, &request)?))
-            }
+            Ok(request) => { Ok(Ok(request_description(alloc, &settings, &request)?)) }
             Err(number) => Ok(Err(number)),
         }
     }

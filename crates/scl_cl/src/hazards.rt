@@ -10,7 +10,7 @@ ghost use Rattle.scl_cl.specs.AnswersGiven.{record_given};
 ghost use Rattle.scl_cl.specs.Hazards.{hazards_by, hazards_with};
 ghost use Rattle.scl_cl.specs.Requests.{asked};
 
-use crate::ask::{Askable, Query};
+use crate::ask::Query;
 use crate::compiler::Compiler;
 use crate::kept::Compilation;
 use crate::within::CommandLines;
@@ -100,48 +100,6 @@ fn record_of(answer: &CompilerArguments<Compilation>) -> Option<&ParsedArguments
     }
 }
 
-/// What `Compiler::hazards` gives, of whoever is asked.
-pub(crate) fn line_hazards<A: Askable>(
-    alloc: Global,
-    asks: &A,
-    words: &[Vec<u8>],
-    cwd: &[u8],
-    env_vars: &[(Vec<u8>, Vec<u8>)],
-    view: &View,
-) -> Mem<Vec<Hazard>>
-    ensures { IfOk result (λ found. found.items ≡ hazards_by (A.compiler asks.now) (asked (A.compiler asks.now) (words_of words.now) cwd.now (pairs_of env_vars.now) view.now)) }
-{
-    let query = LineHazards {
-        words,
-        cwd,
-        env_vars,
-        view,
-    };
-    asks.ask(alloc, query)
-}
-
-/// What `Compiler::hazards_of` gives, of whoever is asked.
-pub(crate) fn answer_hazards<A: Askable>(
-    alloc: Global,
-    asks: &A,
-    answer: &CompilerArguments<Compilation>,
-    words: &[Vec<u8>],
-    cwd: &[u8],
-    env_vars: &[(Vec<u8>, Vec<u8>)],
-    view: &View,
-) -> Mem<Vec<Hazard>>
-    ensures { IfOk result (λ found. found.items ≡ hazards_with (A.compiler asks.now) (asked (A.compiler asks.now) (words_of words.now) cwd.now (pairs_of env_vars.now) view.now) (record_given answer.now)) }
-{
-    let query = RecordHazards {
-        parsed: record_of(answer),
-        words,
-        cwd,
-        env_vars,
-        view,
-    };
-    asks.ask(alloc, query)
-}
-
 impl Compiler {
     /// The hazards of a command line: what gcc, clang or clang-cl is known to do otherwise with the built command than with the
     /// given one; none where there is no command, and none of cl, Diab and TaskingVX, of which nothing is known (docs/RULES.md,
@@ -156,7 +114,13 @@ impl Compiler {
     ) -> Mem<Vec<Hazard>>
         ensures { IfOk result (λ found. found.items ≡ hazards_by self (asked self (words_of words.now) cwd.now (pairs_of env_vars.now) view.now)) }
     {
-        line_hazards(alloc, &self, words, cwd, env_vars, view)
+        let query = LineHazards {
+            words,
+            cwd,
+            env_vars,
+            view,
+        };
+        self.ask(alloc, query)
     }
 
     /// What `hazards` gives, of a command line of which this is the answer: nothing is read again. It fails only for want of
@@ -173,6 +137,13 @@ impl Compiler {
         requires { record_given answer.now ≡ result_ok (reading_by self (asked self (words_of words.now) cwd.now (pairs_of env_vars.now) view.now)) }
         ensures { IfOk result (λ found. found.items ≡ hazards_by self (asked self (words_of words.now) cwd.now (pairs_of env_vars.now) view.now)) }
     {
-        answer_hazards(alloc, &self, answer, words, cwd, env_vars, view)
+        let query = RecordHazards {
+            parsed: record_of(answer),
+            words,
+            cwd,
+            env_vars,
+            view,
+        };
+        self.ask(alloc, query)
     }
 }

@@ -4,8 +4,6 @@
 #![tactic(auto)]
 
 mod answer;
-mod answerer;
-mod answerers;
 mod ask;
 mod batch;
 mod compile;
@@ -17,7 +15,6 @@ mod hazards;
 mod kept;
 mod keyword;
 pub mod laws;
-mod lent;
 mod option_lines;
 mod outcome;
 mod program;
@@ -29,16 +26,13 @@ mod saying;
 mod service;
 mod settings;
 mod transfer;
-mod trees;
 mod within;
 
 pub use answer::{answer_text, command_text};
-pub use answerer::Answerer;
-pub use answerers::Answerers;
 pub use ask::Query;
 pub use batch::serve_each;
 pub use compiler::Compiler;
-pub use descriptions::{Descriptions, ManyDescriptions, describe};
+pub use descriptions::{Descriptions, describe};
 pub use kept::{BuiltCommand, Compilation};
 pub use outcome::Outcome;
 pub use program::{Commands, run};

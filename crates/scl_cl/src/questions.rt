@@ -6,14 +6,13 @@ ghost use Rattle.std.specs.Result.{result_ok};
 ghost use Rattle.scl_values.specs.Words.{words_of};
 ghost use Rattle.scl_text.specs.Commands.{pairs_of};
 ghost use Rattle.scl_cl.specs.Requests.{asked};
-ghost use Rattle.scl_cl.specs.Answers.{reading_by};
-ghost use Rattle.scl_cl.specs.AnswersGiven.{record_given};
+ghost use Rattle.scl_cl.specs.Answers.{answer_to, environment_by, reading_by, read_again_by};
+ghost use Rattle.scl_cl.specs.AnswersGiven.{answer_of, record_given, HasParts, IfCompiled};
 ghost use Rattle.scl_cl.specs.Within.{has_at_most};
 ghost use Rattle.scl_cl.specs.Questions.{no_directory, database_asked, questions_of};
 ghost use Rattle.scl_cl.specs.QuestionsGiven.{given, hash_files_given, database_given};
 
-use crate::ask::{Askable, Query};
-use crate::compile::answer_line;
+use crate::ask::Query;
 use crate::compiler::Compiler;
 use crate::kept::Compilation;
 use crate::within::CommandLines;
@@ -141,49 +140,6 @@ impl<'a> Query for FilesWanted<'a> {
     }
 }
 
-/// What an answer asks, where that answer is at hand.
-#[tactic(auto, using(crate::proofs::RecordLaws::hash_files_are_given, crate::proofs::RecordLaws::database_is_given))]
-pub(crate) fn questions_beside<A: Askable>(
-    alloc: Global,
-    asks: &A,
-    answer: &CompilerArguments<Compilation>,
-    words: &[Vec<u8>],
-    cwd: &[u8],
-    env_vars: &[(Vec<u8>, Vec<u8>)],
-    view: &View,
-) -> Mem<Questions>
-    requires { record_given answer.now ≡ result_ok (reading_by (A.compiler asks.now) (asked (A.compiler asks.now) (words_of words.now) cwd.now (pairs_of env_vars.now) view.now)) }
-    ensures { IfOk result (λ questions. given questions ≡ questions_of (asked (A.compiler asks.now) (words_of words.now) cwd.now (pairs_of env_vars.now) view.now)) }
-{
-    let query = FilesWanted {
-        words,
-        cwd,
-        env_vars,
-        view,
-    };
-    let files = asks.ask(alloc, query)?;
-    Ok(Questions {
-        files,
-        directories: absent_directories(alloc, hash_files_of(answer), view)?,
-        existing: absent_database(alloc, database_of(answer), cwd, view)?,
-    })
-}
-
-/// What the answer asks, with no bound on words.
-pub(crate) fn all_questions<A: Askable>(
-    alloc: Global,
-    asks: &A,
-    words: &[Vec<u8>],
-    cwd: &[u8],
-    env_vars: &[(Vec<u8>, Vec<u8>)],
-    view: &View,
-) -> Mem<Questions>
-    ensures { IfOk result (λ questions. given questions ≡ questions_of (asked (A.compiler asks.now) (words_of words.now) cwd.now (pairs_of env_vars.now) view.now)) }
-{
-    let answer = answer_line(alloc, asks, b"", words, cwd, env_vars, view)?;
-    questions_beside(alloc, asks, &answer, words, cwd, env_vars, view)
-}
-
 impl Compiler {
     /// What the answer to a command line asks of a view that the view does not have: the response files that its words name,
     /// those that words inside the files of the view name, and those of inner command lines; the directories in which
@@ -205,12 +161,14 @@ impl Compiler {
         if !self.has_at_most(alloc, words, cwd, env_vars, view, most)? {
             return Ok(Err(TooManyWords));
         }
-        let questions = all_questions(alloc, &self, words, cwd, env_vars, view)?;
+        let answer = self.answer(alloc, b"", words, cwd, env_vars, view)?;
+        let questions = self.questions_of(alloc, &answer, words, cwd, env_vars, view)?;
         Ok(Ok(questions))
     }
 
     /// What a command line of which this is the answer asks, as `open_questions` says it: nothing is read again. It fails only
     /// for want of memory.
+    #[tactic(auto, using(crate::proofs::RecordLaws::hash_files_are_given, crate::proofs::RecordLaws::database_is_given))]
     pub fn questions_of(
         self,
         alloc: Global,
@@ -223,6 +181,43 @@ impl Compiler {
         requires { record_given answer.now ≡ result_ok (reading_by self (asked self (words_of words.now) cwd.now (pairs_of env_vars.now) view.now)) }
         ensures { IfOk result (λ questions. given questions ≡ questions_of (asked self (words_of words.now) cwd.now (pairs_of env_vars.now) view.now)) }
     {
-        questions_beside(alloc, &self, answer, words, cwd, env_vars, view)
+        let query = FilesWanted {
+            words,
+            cwd,
+            env_vars,
+            view,
+        };
+        let files = self.ask(alloc, query)?;
+        Ok(Questions {
+            files,
+            directories: absent_directories(alloc, hash_files_of(answer), view)?,
+            existing: absent_database(alloc, database_of(answer), cwd, view)?,
+        })
+    }
+
+    /// What `answer_within` answers, and what `open_questions` says of it: the command line is read once for both. It fails
+    /// only for want of memory.
+    pub fn answer_with_questions(
+        self,
+        alloc: Global,
+        executable: &[u8],
+        words: &[Vec<u8>],
+        cwd: &[u8],
+        env_vars: &[(Vec<u8>, Vec<u8>)],
+        view: &View,
+        most: usize,
+    ) -> Mem<Result<(CompilerArguments<Compilation>, Questions), TooManyWords>>
+        ensures within { IfOk result (λ said. let request = asked self (words_of words.now) cwd.now (pairs_of env_vars.now) view.now in
+            MatchResult said (λ both. (has_at_most most request ≡ true) × (answer_of both.0 ≡ answer_to request) × (given both.1 ≡ questions_of request)) (λ _. has_at_most most request ≡ false)) }
+        ensures parts { IfOk result (λ said. IfOk said (λ both. HasParts (reading_by self (asked self (words_of words.now) cwd.now (pairs_of env_vars.now) view.now))
+            executable.now (environment_by self (pairs_of env_vars.now)) cwd.now both.0)) }
+        ensures read_again { IfOk result (λ said. IfOk said (λ both. IfCompiled (read_again_by self (asked self (words_of words.now) cwd.now (pairs_of env_vars.now) view.now)) both.0)) }
+    {
+        if !self.has_at_most(alloc, words, cwd, env_vars, view, most)? {
+            return Ok(Err(TooManyWords));
+        }
+        let answer = self.answer(alloc, executable, words, cwd, env_vars, view)?;
+        let questions = self.questions_of(alloc, &answer, words, cwd, env_vars, view)?;
+        Ok(Ok((answer, questions)))
     }
 }

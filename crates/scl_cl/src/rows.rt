@@ -7,7 +7,7 @@ ghost use Rattle.scl_cl.specs.Answers.{reading_by};
 ghost use Rattle.scl_cl.specs.OptionRows.{rows_by};
 ghost use Rattle.scl_cl.specs.Requests.{asked};
 
-use crate::ask::{Askable, Query};
+use crate::ask::Query;
 use crate::compiler::Compiler;
 use crate::within::CommandLines;
 use scl_hazards::HasHazards;
@@ -46,27 +46,6 @@ impl<'a> Query for OptionRows<'a> {
     }
 }
 
-/// What `Compiler::rows` gives, of whoever is asked.
-pub(crate) fn option_rows<A: Askable>(
-    alloc: Global,
-    asks: &A,
-    words: &[Vec<u8>],
-    cwd: &[u8],
-    env_vars: &[(Vec<u8>, Vec<u8>)],
-    view: &View,
-) -> Mem<Vec<Row>>
-    ensures rows { IfOk result (λ rows. map told rows.items ≡ rows_by (A.compiler asks.now) (asked (A.compiler asks.now) (words_of words.now) cwd.now (pairs_of env_vars.now) view.now)) }
-    ensures tells { IfOk result (λ rows. Tells (map told rows.items) (reading_by (A.compiler asks.now) (asked (A.compiler asks.now) (words_of words.now) cwd.now (pairs_of env_vars.now) view.now))) }
-{
-    let query = OptionRows {
-        words,
-        cwd,
-        env_vars,
-        view,
-    };
-    asks.ask(alloc, query)
-}
-
 impl Compiler {
     /// What became of each option of a command line, whether that is refused or not, a row each: those of its words in
     /// order, those of inner command lines, and those that the rules add to a compilation. Where a row is refused, so is the
@@ -83,6 +62,12 @@ impl Compiler {
         ensures rows { IfOk result (λ rows. map told rows.items ≡ rows_by self (asked self (words_of words.now) cwd.now (pairs_of env_vars.now) view.now)) }
         ensures tells { IfOk result (λ rows. Tells (map told rows.items) (reading_by self (asked self (words_of words.now) cwd.now (pairs_of env_vars.now) view.now))) }
     {
-        option_rows(alloc, &self, words, cwd, env_vars, view)
+        let query = OptionRows {
+            words,
+            cwd,
+            env_vars,
+            view,
+        };
+        self.ask(alloc, query)
     }
 }

@@ -48,8 +48,8 @@ impl Msvc {
     }
 }
 
-/// What words that are handed over say between those that the environment gives, by Msvc's tables or trees, which are handed
-/// in, as `trees` builds them (docs/RULES.md, Msvc). It fails only for want of memory.
+/// What words that are handed over say between those that the environment gives, by Msvc's tables or trees, which are
+/// passed in, as `trees` gives them (docs/RULES.md, Msvc). It fails only for want of memory.
 #[tactic(auto, using(crate::proofs::EnvironmentLemmas::refusal_given))]
 pub fn parse_surrounded<S: SearchableArgInfo<ArgData> + Drop>(
     alloc: Global,

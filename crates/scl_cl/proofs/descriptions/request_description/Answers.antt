@@ -5,6 +5,6 @@ use Rattle.scl_cl.proofs.DescriptionLaws.{is-description}
 use Rattle.scl_cl.proofs.descriptions.request_description.Goals as goal
 
 pub returns : goal.returns
-returns g c =
+returns c =
     is-description (settings_by c.args.settings.now) (asked_by c.args.request.now) c.in_ok-text.text.items c.in_ok-findings.findings
     (search rules) c.in_ok-findings.ensures c.in_ok-text.ensures

@@ -6,11 +6,11 @@ use Rattle.scl_cl.specs.Answers.{reading_by}
 use Rattle.scl_cl.specs.AnswersGiven.{record_given}
 use Rattle.scl_cl.specs.Requests.{asked}
 use Rattle.scl_cl.proofs.RecordLaws.{record_is_given}
-use Rattle.scl_cl.proofs.compile.answer_line.Goals as goal
+use Rattle.scl_cl.proofs.compile.Compiler.answer.Goals as goal
 
 pub returns-clause-record : goal.returns-clause-record
-returns-clause-record g c =
-    let compiler = g.A.Askable.compiler c.args.asks.now in
+returns-clause-record c =
+    let compiler = c.args.self in
     let pairs = pairs_of c.args.env_vars.now in
     subst (λ words. IfOk c.compile_words.result (λ answer. record_given answer ≡ result_ok (reading_by compiler (asked compiler words c.args.cwd.now pairs c.args.view.now)))) c.in_ok-words.ensures
     (IfOk-weaker c.compile_words.result _ _ (record_is_given compiler _ c.args.cwd.now pairs c.args.view.now c.args.executable.now) c.compile_words.ensures)
