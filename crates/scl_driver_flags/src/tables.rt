@@ -3,7 +3,7 @@ ghost use Rattle.std.specs.Prelude.{◌≡◌};
 ghost use Rattle.scl_driver_flags.specs.DriverRows.{both_rows, gcc_rows, clang_rows};
 
 use crate::data::{Kind, OwnFlag};
-use scl_tables::{FlagTable, Node, nodes};
+use scl_tables::{FlagTree, Node, nodes};
 use scl_values::shapes::*;
 use scl_values::{ArgInfo, rows};
 
@@ -199,10 +199,10 @@ static BOTH_NODES: &[Node] = &nodes![
 ];
 
 #[tactic(auto, unfolding(crate::specs::DriverRows::both_rows))]
-pub(crate) fn both() -> FlagTable<'static, OwnFlag>
+pub(crate) fn both() -> FlagTree<'static, OwnFlag>
     ensures { result ≡ both_rows }
 {
-    FlagTable::with_nodes(BOTH, BOTH_NODES)
+    FlagTree::with_nodes(BOTH, BOTH_NODES)
 }
 
 /// The nodes of the prefix tree of `GCC`, made by bench/nodes.
@@ -235,10 +235,10 @@ static GCC_NODES: &[Node] = &nodes![
 ];
 
 #[tactic(auto, unfolding(crate::specs::DriverRows::gcc_rows))]
-pub(crate) fn gcc() -> FlagTable<'static, OwnFlag>
+pub(crate) fn gcc() -> FlagTree<'static, OwnFlag>
     ensures { result ≡ gcc_rows }
 {
-    FlagTable::with_nodes(GCC, GCC_NODES)
+    FlagTree::with_nodes(GCC, GCC_NODES)
 }
 
 /// The nodes of the prefix tree of `CLANG`, made by bench/nodes.
@@ -353,8 +353,8 @@ static CLANG_NODES: &[Node] = &nodes![
 ];
 
 #[tactic(auto, unfolding(crate::specs::DriverRows::clang_rows))]
-pub(crate) fn clang() -> FlagTable<'static, OwnFlag>
+pub(crate) fn clang() -> FlagTree<'static, OwnFlag>
     ensures { result ≡ clang_rows }
 {
-    FlagTable::with_nodes(CLANG, CLANG_NODES)
+    FlagTree::with_nodes(CLANG, CLANG_NODES)
 }

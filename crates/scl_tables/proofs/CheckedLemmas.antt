@@ -214,7 +214,7 @@ module _ {K : Type 0} (rows : List (Row K)) (nodes : List Node) where
   node_there : (i : ℕ) (other : Node) → i < length nodes → node_at nodes i ≡ slice_index_or nodes i other
   node_there i other l = get_or_default nodes i no_node other l
 
-  leads : is_tree rows nodes ≡ true → Leads rows nodes
+  pub leads : is_tree rows nodes ≡ true → Leads rows nodes
   leads ok =
       let ab = and_parts (nat_lt 0 (length nodes) && is_root flags (node_at nodes 0)) (all_from (λ i. is_node flags nodes (node_at nodes i)) (length nodes) 0) ok in
       let cd = and_parts (nat_lt 0 (length nodes)) (is_root flags (node_at nodes 0)) ab.0 in

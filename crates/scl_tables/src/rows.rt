@@ -227,6 +227,20 @@ impl<'a, T: ArgumentValue> FlagTree<'a, T> {
         })
     }
 
+    /// The tree of a table's rows, by the nodes that stand beside them. Both are checked where a call is proved; nothing is
+    /// checked when it runs, and no memory is asked for.
+    #[tactic(auto, using(crate::proofs::CheckedLemmas::leads))]
+    pub fn with_nodes(rows: &'a [ArgInfo<T>], nodes: &'a [Node]) -> FlagTree<'a, T>
+        requires table { is_table (map row_of rows.now) ≡ true }
+        requires tree { is_tree (map row_of rows.now) nodes.now ≡ true }
+        ensures { result ≡ map row_of rows.now }
+    {
+        FlagTree {
+            store: RowStore { rows },
+            nodes: Nodes::Lent(nodes),
+        }
+    }
+
     /// The rows of the tree, and its nodes.
     pub(crate) fn stores(&self) -> (&RowStore<'a, T::Kind>, NodeStore<'_>)
         ensures rows { result.0.now ≡ self.now }
