@@ -1,12 +1,13 @@
 //! What a command line is, for a person.
+use crate::nothing::nothing_text;
 use crate::options::push_options;
 use crate::paint::{Codes, codes_of};
 use scl_cl::{Cacheable, Compilation, CompilerArguments, Mem};
-use scl_explain::{Answered, Case, Paint, push_shown, refusal_text, shown};
+use scl_explain::{Answered, Case, Paint, cached_text, refusal_text};
 use scl_hazards::Hazard;
 use scl_reasons::sentence;
 use scl_rows::Row;
-use scl_shell::quoted_command;
+use scl_shell::{shown, shown_command};
 use std::alloc::Global;
 
 /// A text that is written.
@@ -38,7 +39,7 @@ impl Page {
 
     fn path(&mut self, title: &str, path: &[u8], note: &str) -> Mem<()> {
         self.push_title(title)?;
-        push_shown(self.alloc, &mut self.text, path)?;
+        self.text.push_str(shown(self.alloc, path)?.as_str())?;
         self.text.push_str(note)?;
         self.text.push('\n')
     }
@@ -51,8 +52,7 @@ impl Page {
     }
 
     fn command(&mut self, title: &str, program: &[u8], words: &[Vec<u8>]) -> Mem<()> {
-        let quoted = quoted_command(self.alloc, program, words)?;
-        let text = String::from_utf8_lossy(self.alloc, &quoted)?;
+        let text = shown_command(self.alloc, program, words)?;
         self.line(title, text.as_str())
     }
 
@@ -62,15 +62,7 @@ impl Page {
     }
 }
 
-/// What becomes of the outcome of a compilation.
-pub(crate) fn cached_text(cacheable: Cacheable) -> &'static str {
-    match cacheable {
-        Cacheable::Yes => "can be cached",
-        Cacheable::No => "compiles, and may not be kept in the cache",
-    }
-}
-
-fn push_outcome(page: &mut Page, answered: &Answered) -> Mem<()> {
+fn push_outcome(page: &mut Page, answered: &Answered, rows: &[Row]) -> Mem<()> {
     let (good, bad) = (page.codes.good, page.codes.bad);
     match &answered.answer {
         CompilerArguments::Ok(compilation) => {
@@ -87,7 +79,10 @@ fn push_outcome(page: &mut Page, answered: &Answered) -> Mem<()> {
             page.outcome(bad, text.as_str())?;
             page.line("because", sentence(reason))
         }
-        CompilerArguments::NotCompilation => page.outcome(bad, "compiles nothing"),
+        CompilerArguments::NotCompilation => {
+            let text = nothing_text(page.alloc, rows)?;
+            page.outcome(bad, text.as_str())
+        }
     }
 }
 
@@ -177,7 +172,7 @@ pub fn explanation(
         codes: codes_of(paint),
         text: String::new(alloc),
     };
-    push_outcome(&mut page, answered)?;
+    push_outcome(&mut page, answered, rows)?;
     push_case(&mut page, case)?;
     push_files(&mut page, answered)?;
     push_rows(&mut page, rows)?;

@@ -1,5 +1,6 @@
 //! The answers to one command line, written.
 use crate::json::{check_line, explanation_line};
+use crate::nothing::{nothing_text, rows_of};
 use crate::page::explanation;
 use scl_cl::Mem;
 use scl_explain::{Answered, Case, Form, Report};
@@ -17,18 +18,15 @@ impl Report for Pages {
         answered: &Answered,
         form: Form,
     ) -> Mem<String> {
-        let Case {
-            compiler,
-            program: _,
-            words,
-            cwd,
-            env_vars,
-        } = case;
-        let rows = compiler.rows(alloc, words, cwd, env_vars, &answered.view)?;
+        let rows = rows_of(alloc, case, answered)?;
         match form {
             Form::Text(paint) => explanation(alloc, case, answered, &rows, paint),
             Form::Json => explanation_line(alloc, case, answered, &rows),
         }
+    }
+
+    fn nothing(&self, alloc: Global, case: &Case, answered: &Answered) -> Mem<String> {
+        nothing_text(alloc, &rows_of(alloc, case, answered)?)
     }
 
     fn hazards(&self, alloc: Global, case: &Case, answered: &Answered) -> Mem<String> {

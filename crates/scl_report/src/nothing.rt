@@ -1,0 +1,34 @@
+//! Why a command line compiles nothing.
+use scl_cl::Mem;
+use scl_explain::{Answered, Case};
+use scl_rows::Row;
+use scl_text::refusal::Refusal;
+use std::alloc::Global;
+
+/// What became of each option of a command line.
+pub(crate) fn rows_of(alloc: Global, case: &Case, answered: &Answered) -> Mem<Vec<Row>> {
+    let Case {
+        compiler,
+        program: _,
+        words,
+        cwd,
+        env_vars,
+    } = case;
+    compiler.rows(alloc, words, cwd, env_vars, &answered.view)
+}
+
+/// Why a line with these rows compiles nothing: the first flag that asks for something else, or that none asks to compile.
+pub(crate) fn why_nothing(rows: &[Row]) -> &'static str {
+    for row in rows {
+        if let Some(Refusal::NotCompilation) = &row.refusal {
+            return row.flag.unwrap_or("another mode");
+        }
+    }
+    "no flag says to compile and not to link"
+}
+
+/// That a line with these rows compiles nothing, and why. It fails only for want of memory.
+pub(crate) fn nothing_text(alloc: Global, rows: &[Row]) -> Mem<String> {
+    let why = why_nothing(rows);
+    format!(in alloc; "compiles nothing: {why}")
+}
