@@ -31,6 +31,8 @@ pub const STATUSES: &str =
 
 Which compiler: by the file name of the first word that is neither a launcher (ccache, sccache, distcc, icecc, env) nor an assignment (NAME=.., NAME of letters, digits and _); without .exe and a version it ends in clang-cl, clang++, clang, g++, gcc, c++ or cc (alone or behind a -), or is cl, dcc or cctc. cc and c++ are gcc and g++ unless --compiler says otherwise.
 
+A response file is read where it is a regular file whose size the system tells, and has 67108864 bytes at most.
+
 Example:
     scl explain gcc -c src/foo.c -O2 -Iinclude -MMD -o foo.o";
 

@@ -1,16 +1,10 @@
 -- Words that a NUL ends each.
-use Rattle.std.proofs.Common.{◌≡◌, ℕ, ◌==◌, ◌||◌, Bool, true, false, List, [], ◌∷◌, ◌++◌, Vec, refl, sym, ap, ◌∙◌, append_assoc}
-use Rattle.std.specs.List.{list_any, flat_map}
-use Rattle.std.specs.declared.alloc.Global.{Global}
-use Rattle.scl_values.specs.Words.{words_of}
+use Rattle.std.proofs.Common.{◌≡◌, ℕ, ◌==◌, ◌||◌, Bool, true, false, List, [], ◌∷◌, ◌++◌, refl, append_assoc}
+use Rattle.std.specs.List.{flat_map}
 use Rattle.scl_explain.specs.CommandTexts.{ended_by_nul}
 use Rattle.scl_explain.specs.Laws.{EndedWordsAreReadBack, EndedWordsAreOne}
 use Rattle.scl_explain.specs.Nuls.{holds_nul, some_hold_nul, AreEndedByNul}
 use Rattle.scl_explain.specs.Nuls.AreEndedByNul.{none, one}
-
-pub some_in_words : (words : List (Vec ℕ Global)) → list_any (λ word. holds_nul word.items) words ≡ list_any holds_nul (words_of words)
-some_in_words [] = refl
-some_in_words (word ∷ words) = ap (λ b. holds_nul word.items || b) (some_in_words words)
 
 or_left : (a b : Bool) → (a || b) ≡ false → a ≡ false
 or_left true b h = cc

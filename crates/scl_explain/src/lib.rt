@@ -24,6 +24,7 @@ pub use commanded::{CommandForm, command};
 pub use count::{Counts, Met};
 pub use entry_kind::EntryKind;
 pub use hazards::push_hazard_names;
+pub use nuls::unrunnable_text;
 pub use refusal::{cached_text, refusal_text};
 pub use reply::{Form, Paint, Reply, explain, load_error_text};
 pub use report::Report;

@@ -1,7 +1,7 @@
 //! Why a command line can't be cached, in a few words.
 use crate::answered::Answered;
 use crate::case::Case;
-use crate::nuls::{nul_line, some_hold_nul};
+use crate::nuls::unrunnable_text;
 use crate::report::Report;
 use scl_cl::{Cacheable, Compilation, CompilerArguments, Mem};
 use scl_reasons::sentence;
@@ -51,8 +51,8 @@ pub fn cached_text(cacheable: Cacheable) -> &'static str {
 
 fn command_line(alloc: Global, program: &[u8], compilation: &Compilation) -> Mem<Option<String>> {
     let (words, cacheable) = (&compilation.command.arguments, compilation.cacheable);
-    if some_hold_nul(program, words) {
-        return Ok(Some(nul_line(alloc, program, words)?));
+    if let Some(text) = unrunnable_text(alloc, program, words)? {
+        return Ok(Some(text));
     }
     match cacheable {
         Cacheable::Yes => Ok(None),

@@ -1,7 +1,9 @@
 //! What a database has, for a person.
 use crate::nothing::{nothing_text, rows_of};
-use scl_cl::{CompilerArguments, Mem};
-use scl_explain::{Answered, Case, Counts, Met, cached_text, push_hazard_names, refusal_text};
+use scl_cl::{Compilation, CompilerArguments, Mem};
+use scl_explain::{
+    Answered, Case, Counts, Met, cached_text, push_hazard_names, refusal_text, unrunnable_text,
+};
 use scl_hazards::{HAZARDS, Hazard};
 use scl_reasons::sentence;
 use scl_shell::shown_briefly;
@@ -166,6 +168,19 @@ fn push_named(text: &mut String, hazards: &[Hazard]) -> Mem<()> {
     Ok(())
 }
 
+/// Whether a command can be run, and its outcome be kept.
+fn push_compiled(
+    alloc: Global,
+    text: &mut String,
+    program: &[u8],
+    compilation: &Compilation,
+) -> Mem<()> {
+    match unrunnable_text(alloc, program, &compilation.command.arguments)? {
+        Some(why) => text.push_str(why.as_str()),
+        None => text.push_str(cached_text(compilation.cacheable)),
+    }
+}
+
 /// An entry and its outcome, in one line. It fails only for want of memory.
 pub fn entry_line(
     alloc: Global,
@@ -179,7 +194,7 @@ pub fn entry_line(
     text.push_str(": ")?;
     match &answered.answer {
         CompilerArguments::Ok(compilation) => {
-            text.push_str(cached_text(compilation.cacheable))?;
+            push_compiled(alloc, &mut text, &case.program, compilation)?;
             push_named(&mut text, &answered.hazards)?;
         }
         CompilerArguments::CannotCache(reason, more) => {

@@ -1,7 +1,7 @@
 //! Answers as JSON: an object in one line, whose members are in the order of their names.
 use crate::nothing::{rows_of, why_nothing};
 use scl_cl::{Cacheable, Compilation, CompilerArguments, Mem};
-use scl_explain::{Answered, Case};
+use scl_explain::{Answered, Case, unrunnable_text};
 use scl_hazards::Hazard;
 use scl_reasons::sentence;
 use scl_rows::Row;
@@ -199,12 +199,21 @@ fn put_compilation(members: &mut Members, compilation: &Compilation) -> Mem<()> 
     members.put("outputs", outputs_value(alloc, compilation)?)
 }
 
+/// Why no process can be given a command, where that is so.
+fn put_unrunnable(members: &mut Members, program: &[u8], compilation: &Compilation) -> Mem<()> {
+    match unrunnable_text(members.alloc, program, &compilation.command.arguments)? {
+        Some(text) => members.put_text("unrunnable", text.as_str()),
+        None => Ok(()),
+    }
+}
+
 /// How the answer ends: with hazards, or why there is no command.
 fn put_outcome(members: &mut Members, case: &Case, answered: &Answered) -> Mem<()> {
     match &answered.answer {
         CompilerArguments::Ok(compilation) => {
             members.put_text("outcome", "ok")?;
             members.put_flag("cacheable", compilation.cacheable == Cacheable::Yes)?;
+            put_unrunnable(members, &case.program, compilation)?;
             let hazards = hazards_value(members.alloc, &answered.hazards)?;
             members.put("hazards", hazards)
         }

@@ -17,6 +17,14 @@ pub(crate) fn rows_of(alloc: Global, case: &Case, answered: &Answered) -> Mem<Ve
     compiler.rows(alloc, words, cwd, env_vars, &answered.view)
 }
 
+/// Whether the option is `-S`, which asks for assembly, and which the tables of most compilers have not.
+fn asks_for_assembly(row: &Row) -> bool {
+    match row.given.first() {
+        Some(word) => row.flag.is_none() && word.as_slice() == b"-S".as_slice(),
+        None => false,
+    }
+}
+
 /// Why a line with these rows compiles nothing: the first flag that asks for something else, or that none asks to compile.
 pub(crate) fn why_nothing(rows: &[Row]) -> &'static str {
     for row in rows {
@@ -24,7 +32,11 @@ pub(crate) fn why_nothing(rows: &[Row]) -> &'static str {
             return row.flag.unwrap_or("another mode");
         }
     }
-    "no flag says to compile and not to link"
+    if rows.iter().any(|row| asks_for_assembly(row)) {
+        "-S"
+    } else {
+        "no flag says to compile and not to link"
+    }
 }
 
 /// That a line with these rows compiles nothing, and why. It fails only for want of memory.

@@ -3,7 +3,7 @@ use crate::nothing::nothing_text;
 use crate::options::push_options;
 use crate::paint::{Codes, codes_of};
 use scl_cl::{Cacheable, Compilation, CompilerArguments, Mem};
-use scl_explain::{Answered, Case, Paint, cached_text, refusal_text};
+use scl_explain::{Answered, Case, Paint, cached_text, refusal_text, unrunnable_text};
 use scl_hazards::Hazard;
 use scl_reasons::sentence;
 use scl_rows::Row;
@@ -62,17 +62,23 @@ impl Page {
     }
 }
 
-fn push_outcome(page: &mut Page, answered: &Answered, rows: &[Row]) -> Mem<()> {
+/// Whether a command can be run, and its outcome be kept.
+fn push_compiled(page: &mut Page, program: &[u8], compilation: &Compilation) -> Mem<()> {
     let (good, bad) = (page.codes.good, page.codes.bad);
+    if let Some(text) = unrunnable_text(page.alloc, program, &compilation.command.arguments)? {
+        return page.outcome(bad, text.as_str());
+    }
+    let colour = match compilation.cacheable {
+        Cacheable::Yes => good,
+        Cacheable::No => bad,
+    };
+    page.outcome(colour, cached_text(compilation.cacheable))
+}
+
+fn push_outcome(page: &mut Page, case: &Case, answered: &Answered, rows: &[Row]) -> Mem<()> {
+    let bad = page.codes.bad;
     match &answered.answer {
-        CompilerArguments::Ok(compilation) => {
-            let cacheable = compilation.cacheable;
-            let colour = match cacheable {
-                Cacheable::Yes => good,
-                Cacheable::No => bad,
-            };
-            page.outcome(colour, cached_text(cacheable))
-        }
+        CompilerArguments::Ok(compilation) => push_compiled(page, &case.program, compilation),
         CompilerArguments::CannotCache(reason, more) => {
             let missing = &answered.missing_files;
             let text = refusal_text(page.alloc, reason, more.as_deref(), missing)?;
@@ -172,7 +178,7 @@ pub fn explanation(
         codes: codes_of(paint),
         text: String::new(alloc),
     };
-    push_outcome(&mut page, answered, rows)?;
+    push_outcome(&mut page, case, answered, rows)?;
     push_case(&mut page, case)?;
     push_files(&mut page, answered)?;
     push_rows(&mut page, rows)?;
