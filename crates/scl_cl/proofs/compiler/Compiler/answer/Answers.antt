@@ -6,7 +6,7 @@ use Rattle.scl_cl.specs.Answers.{reading_by}
 use Rattle.scl_cl.specs.AnswersGiven.{record_given}
 use Rattle.scl_cl.specs.Requests.{asked}
 use Rattle.scl_cl.proofs.RecordLaws.{record_is_given}
-use Rattle.scl_cl.proofs.compile.Compiler.answer.Goals as goal
+use Rattle.scl_cl.proofs.compiler.Compiler.answer.Goals as goal
 
 pub returns-clause-record : goal.returns-clause-record
 returns-clause-record c =
