@@ -119,7 +119,7 @@ class Tries:
         for crate, edits in chosen.items():
             os.makedirs(f"{self.room}/{crate.folder}/must-fail")
             for edit in edits:
-                shutil.copy(f"{self.room}/{edit.path}", f"{self.room}/{crate.folder}/must-fail")
+                shutil.copy(edit.path, f"{self.room}/{crate.folder}/must-fail")
         how = {"stdin": subprocess.DEVNULL, "stdout": subprocess.PIPE, "stderr": subprocess.STDOUT, "errors": "replace"}
         done = subprocess.run(["rt", "ci", *(it.name for it in chosen)], cwd=self.room, **how)
         told = dict(re.findall(r"must-fail (\w+/\w+)\.edit: (.*)", done.stdout))
