@@ -49,7 +49,7 @@ fn names_file(kind: ExpansionKind, word: &[u8]) -> bool
 }
 
 /// Whether any of the words names a file.
-fn name_files(kind: ExpansionKind, words: &[Vec<u8>]) -> bool
+pub(crate) fn name_files(kind: ExpansionKind, words: &[Vec<u8>]) -> bool
     ensures { result ≡ list_any (λ word. is_some (file_name_in kind word)) (words_of words.now) }
 {
     for word in words {

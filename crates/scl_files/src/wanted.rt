@@ -2,6 +2,7 @@
 ghost use Rattle.std.specs.Prelude.{◌≡◌, ◌++◌, IfOk, OnOk};
 ghost use Rattle.std.specs.List.{flat_map};
 ghost use Rattle.scl_values.specs.Words.{words_of};
+ghost use Rattle.scl_files.specs.Expand.{expand};
 ghost use Rattle.scl_files.specs.Wanted.{lacked_by, wanted};
 
 use crate::expand::{ExpansionKind, expand_all};
@@ -44,6 +45,27 @@ fn absent_files(
         push_absent(alloc, &mut paths, kind, directory, word, view)?;
     }
     Ok(paths)
+}
+
+/// The paths of the files that given words and the words of their expansion ask for and the view lacks.
+#[tactic(auto, unfolding(crate::specs::Wanted::wanted))]
+pub(crate) fn lacked_files(
+    alloc: Global,
+    kind: ExpansionKind,
+    directory: &[u8],
+    given: &[Vec<u8>],
+    expanded: &[Vec<u8>],
+    view: &View,
+) -> Mem<Vec<Vec<u8>>>
+    requires { words_of expanded.now ≡ expand kind directory.now view.now.files (words_of given.now) }
+    ensures { IfOk result (λ paths. words_of paths.items ≡ wanted kind directory.now view.now.files (words_of given.now)) }
+{
+    match kind {
+        ExpansionKind::Msvc => absent_files(alloc, kind, directory, given, view),
+        ExpansionKind::Gnu | ExpansionKind::Diab => {
+            absent_files(alloc, kind, directory, expanded, view)
+        }
+    }
 }
 
 /// The paths of the files that the expansion of the words would open and the view lacks, in order, and as often as they are
