@@ -1,3 +1,4 @@
 pub mod CheckLaws
 pub mod InnerLemmas
 pub mod OutputLaws
+pub mod ReadLaws
