@@ -7,6 +7,7 @@ pub mod Inners
 pub mod Kinds
 pub mod Places
 pub mod Readings
+pub mod Reads
 pub mod Recordings
 pub mod Rows
 pub mod Verdicts
