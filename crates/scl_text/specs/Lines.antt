@@ -28,17 +28,18 @@ ats_passing p (o ∷ os) ats = (if p o then first_at ats ∷ [] else []) ++ ats_
 
 -- ---- lines
 
--- a last flag that lacks its value: its word, the flag of the row that owns it, and the given word that brought it
-pub record Dangled : Type 0 where
+-- a last flag that lacks its value: its word, the flag and the kind of the row that owns it, and the given word that brought it
+pub record Dangled (K : Type 0) : Type 0 where
   pub word : List ℕ
   pub flag : Option (List ℕ)
+  pub kind : Option K
   pub at : Option ℕ
 
 pub record JudgedLine (K : Type 0) : Type 0 where
   pub options : List (Seen K)
   pub ats : List (Option ℕ)
   pub refusals : List (Option Verdict)
-  pub dangling : Option Dangled
+  pub dangling : Option (Dangled K)
 
 -- what is said against each option, judged after those before it
 abbrev pub refusals_after : {K : Type 0} → (List (Seen K) → Seen K → Option Verdict) → List (Seen K) → List (Seen K) → List (Option Verdict)
@@ -46,11 +47,11 @@ refusals_after verdict before [] = []
 refusals_after verdict before (o ∷ os) = verdict before o ∷ refusals_after verdict (before ++ o ∷ []) os
 
 -- the end of words of which the last is such a flag
-abbrev pub dangled_by : {K : Type 0} → (List ℕ → Option (Row K)) → Bool → List (List ℕ) → List (Option ℕ) → Option Dangled
+abbrev pub dangled_by : {K : Type 0} → (List ℕ → Option (Row K)) → Bool → List (List ℕ) → List (Option ℕ) → Option (Dangled K)
 dangled_by own false words ats = None
 dangled_by own true words ats =
     let word = unwrap_or (last words) [] in
-    Some (record { word = word; flag = option_map (λ row. row.flag) (own word); at = option_and_then (λ at. at) (last ats) })
+    Some (record { word = word; flag = option_map (λ row. row.flag) (own word); kind = option_map (λ row. row.kind) (own word); at = option_and_then (λ at. at) (last ats) })
 
 -- the line of words that these given ones brought, cut where `own` gives a word's owner, with `--` as the end of options or without
 unfoldable pub line_by : {K : Type 0} → (List (Seen K) → Seen K → Option Verdict) → (List ℕ → Option (Row K)) → Bool → List (List ℕ) → List (Option ℕ) → JudgedLine K
@@ -84,8 +85,8 @@ line_options l = unless (line_refusal l) (Ok l.options)
 
 -- ---- what the code keeps
 
-abbrev pub dangled_of : {K : Type 0} → Dangling K → Dangled
-dangled_of d = record { word = d.word.items; flag = option_map (λ owner. owner.0.now) d.owner; at = d.at }
+abbrev pub dangled_of : {K : Type 0} → Dangling K → Dangled K
+dangled_of d = record { word = d.word.items; flag = option_map (λ owner. owner.0.now) d.owner; kind = option_map (λ owner. owner.1) d.owner; at = d.at }
 
 abbrev pub verdicts_of : List (Option Refusal) → List (Option Verdict)
 verdicts_of refusals = map (option_map verdict_of) refusals

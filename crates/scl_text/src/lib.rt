@@ -30,5 +30,4 @@ pub use scl_files::{
     expand_words, from_local_codepage, msvc_words, path, read_text, split_diab,
     split_gnu_response_file_args, standing_line, view,
 };
-
 pub use stop::Stop;

@@ -137,7 +137,8 @@ fn dangling_of<T: ArgumentValue, S: SearchableArgInfo<T>>(
     at: Option<usize>,
     word: Vec<u8>,
 ) -> Dangling<T::Kind>
-    ensures { dangled_of result ≡ record { word = word.items; flag = option_map (λ owner. owner.flag) (owner_in (S.tables arg_info.now) word.items); at = at } }
+    ensures { let owner = owner_in (S.tables arg_info.now) word.items in
+        dangled_of result ≡ record { word = word.items; flag = option_map (λ row. row.flag) owner; kind = option_map (λ row. row.kind) owner; at = at } }
 {
     let owner = match arg_info.search(&word) {
         Some(owner) => Some((owner.flag(), owner.kind())),
