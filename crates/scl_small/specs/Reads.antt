@@ -2,7 +2,7 @@
 use Rattle.std.specs.Prelude.{◌≡◌, ℕ, false, List, Option, Result}
 use Rattle.scl_args.specs.Options.{◌>>=◌}
 use Rattle.scl_files.specs.Expanded.{ExpandedWords}
-use Rattle.scl_text.specs.Lines.{line_options}
+use Rattle.scl_text.specs.Lines.{JudgedLine, line_options}
 use Rattle.scl_text.specs.ReadLines.{LineRead, line_read}
 use Rattle.scl_text.specs.Records.{Parsed, Verdict}
 use Rattle.scl_small.specs.Readings.{reads}
@@ -14,11 +14,15 @@ pub record SmallRead (K : Type 0) : Type 0 where
   pub outer : LineRead K
   pub outcome : Result Parsed Verdict
 
+-- what a line says: its first refusal, else what the tests find, recorded
+abbrev pub outcome_by : {K : Type 0} → (List (Seen K) → Result Parsed Verdict) → JudgedLine K → Result Parsed Verdict
+outcome_by tested line = line_options line >>= tested
+
 -- that of words in which response files were put in place, whose options are judged each by itself and then tested and recorded
 abbrev pub read_by : {K : Type 0} → (Seen K → Option Verdict) → (List (Seen K) → Result Parsed Verdict) → (List ℕ → Option (Row K)) → ExpandedWords → SmallRead K
 read_by verdict tested own e =
     let outer = line_read (λ before. verdict) own false e in
-    record { outer = outer; outcome = line_options outer.line >>= tested }
+    record { outer = outer; outcome = outcome_by tested outer.line }
 
 -- ---- a law
 

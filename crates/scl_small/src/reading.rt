@@ -1,13 +1,11 @@
 //! A command line of Diab or TaskingVX, read: all that is said of it is a function of this.
 ghost use Rattle.std.specs.Prelude.{◌≡◌, IfOk, IsTrue};
-ghost use Rattle.scl_args.specs.Options.{◌>>=◌};
 ghost use Rattle.scl_files.specs.Expanded.{expanded_of};
-ghost use Rattle.scl_text.specs.Lines.{line_options};
 ghost use Rattle.scl_text.specs.Records.{outcome_of, parsed_of};
 ghost use Rattle.scl_text.specs.Stops.{Gives};
 ghost use Rattle.scl_values.specs.Tables.{owner_in, tables_hold_values};
 ghost use Rattle.scl_small.specs.Readings.{tested_by};
-ghost use Rattle.scl_small.specs.Reads.{read_by};
+ghost use Rattle.scl_small.specs.Reads.{outcome_by, read_by};
 
 use crate::fixed_tests::read_beside;
 use crate::judge::{ByRules, Rules};
@@ -36,7 +34,7 @@ impl<T: Rules> Model for SmallReading<T> {
 
 /// The record of a line that is not refused.
 fn record<T: Rules>(alloc: Global, line: &Line<T>) -> Result<ParsedArguments, Stop>
-    ensures { Gives parsed_of result (line_options line.now >>= tested_by T.place T.compile_flag_for) }
+    ensures { Gives parsed_of result (outcome_by (tested_by T.place T.compile_flag_for) line.now) }
 {
     line.check(alloc)?;
     read_beside(alloc, line.options())
@@ -45,7 +43,7 @@ fn record<T: Rules>(alloc: Global, line: &Line<T>) -> Result<ParsedArguments, St
 /// What the line says.
 #[tactic(auto, using(scl_text::proofs::StopLemmas::outcome_given))]
 fn outcome<T: Rules>(alloc: Global, line: &Line<T>) -> Mem<CompilerArguments<ParsedArguments>>
-    ensures { IfOk result (λ answer. outcome_of answer ≡ (line_options line.now >>= tested_by T.place T.compile_flag_for)) }
+    ensures { IfOk result (λ answer. outcome_of answer ≡ outcome_by (tested_by T.place T.compile_flag_for) line.now) }
 {
     into_answer(record(alloc, line))
 }
