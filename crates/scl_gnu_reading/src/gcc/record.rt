@@ -130,9 +130,9 @@ fn short_record(
     view: &View,
 ) -> Mem<ParsedArguments>
     ensures { IfOk result (λ parsed. let f = found_of found.now in record (parsed_of parsed) {
-        input = f.input;
-        preprocessor_args = all_words_at Place.Preprocessor options.now inner.now;
-        common_args = all_words_at Place.Common options.now inner.now ++ added_common (any (Kind.SplitDwarf ∷ []) options.now) f.object;
+      input = f.input;
+      preprocessor_args = all_words_at Place.Preprocessor options.now inner.now;
+      common_args = all_words_at Place.Common options.now inner.now ++ added_common (any (Kind.SplitDwarf ∷ []) options.now) f.object;
     } ≡ record_of kind cwd.now view.now options.now inner.now f) }
 {
     let outputs = outputs_of(alloc, options, found)?;
