@@ -6,6 +6,7 @@ pub mod InnerBy
 pub mod Inners
 pub mod Kinds
 pub mod Places
+pub mod ReadBy
 pub mod Readings
 pub mod Reads
 pub mod Recordings

@@ -83,11 +83,14 @@ read_by is_clang directory view environment e =
       outcome = outcome_by is_clang directory view outer.line xclang.line clang.line;
     }
 
--- whether each inner line has at most so many words, and opens files at most so many times
-abbrev pub are_inner_within : ℕ → Bool → List ℕ → Viewed → ExpandedWords → Bool
-are_inner_within most is_clang directory view e =
-    let outer = (outer_read is_clang e).line in
+-- whether each inner line of a line has at most so many words, and opens files at most so many times
+abbrev pub are_behind_within : ℕ → List ℕ → Viewed → JudgedLine Kind → Bool
+are_behind_within most directory view outer =
     is_behind_within most only_xclang directory view outer && (is_behind_within most only_clang directory view outer && is_behind_within most either directory view outer)
+
+-- the same of the line that words are in which response files were put in place
+abbrev pub are_inner_within : ℕ → Bool → List ℕ → Viewed → ExpandedWords → Bool
+are_inner_within most is_clang directory view e = are_behind_within most directory view (outer_read is_clang e).line
 
 -- a command line that is refused before it is read
 abbrev pub refused_by : Bool → Result Parsed Verdict → MsvcRead

@@ -4,7 +4,8 @@ ghost use Rattle.scl_files.specs.Expanded.{expanded_of};
 ghost use Rattle.scl_text.specs.Records.{outcome_of, parsed_of};
 ghost use Rattle.scl_text.specs.Stops.{Gives};
 ghost use Rattle.scl_values.specs.Words.{words_of};
-ghost use Rattle.scl_msvc_reading.specs.Reads.{are_inner_within, is_behind_within, line_behind, outcome_by, outer_read, read_by, refused_by};
+ghost use Rattle.scl_msvc_reading.specs.ReadBy.{AreInnerLines};
+ghost use Rattle.scl_msvc_reading.specs.Reads.{are_behind_within, are_inner_within, is_behind_within, line_behind, outcome_by, outer_read, read_by, refused_by};
 
 use super::args::trees;
 use super::data::{ArgData, Kind};
@@ -78,6 +79,48 @@ fn line_behind(
     gcc::read_inner_line(alloc, &ByInnerVerdict, handed, cwd, view, most)
 }
 
+/// The inner lines of a line: behind `-Xclang`, behind `-clang:`, and of the words that either hands on.
+#[derive(Drop)]
+struct InnerLines {
+    xclang: ReadLine<gcc::ArgData>,
+    clang: ReadLine<gcc::ArgData>,
+    handed: Vec<Vec<u8>>,
+    either: ReadLine<gcc::ArgData>,
+}
+
+/// The inner lines, where each has at most so many words and openings of files.
+fn inner_lines(
+    alloc: Global,
+    outer: &Line<ArgData>,
+    cwd: &[u8],
+    view: &View,
+    most: usize,
+) -> Mem<Result<InnerLines, TooManyWords>>
+    ensures { IfOk result (λ said. let within = are_behind_within most cwd.now view.now outer.now in
+        MatchResult said (λ lines. (within ≡ true) × AreInnerLines cwd.now view.now outer.now lines) (λ _. within ≡ false)) }
+{
+    let xclang = match line_behind(alloc, outer, &[Kind::XClang], cwd, view, most)? {
+        Ok(xclang) => xclang,
+        Err(too_many) => return Ok(Err(too_many)),
+    };
+    let clang = match line_behind(alloc, outer, &[Kind::Clang], cwd, view, most)? {
+        Ok(clang) => clang,
+        Err(too_many) => return Ok(Err(too_many)),
+    };
+    let kinds = [Kind::XClang, Kind::Clang];
+    let handed = outer.options().texts(alloc, &OfKinds(&kinds))?;
+    let either = match line_behind(alloc, outer, &kinds, cwd, view, most)? {
+        Ok(either) => either,
+        Err(too_many) => return Ok(Err(too_many)),
+    };
+    Ok(Ok(InnerLines {
+        xclang,
+        clang,
+        handed,
+        either,
+    }))
+}
+
 /// The record of lines that are not refused.
 fn record(
     alloc: Global,
@@ -134,30 +177,20 @@ impl MsvcReading {
             MatchResult said (λ r. (within ≡ true) × (r ≡ read_by is_clang cwd.now view.now (words_of environment.items) (expanded_of expanded))) (λ _. within ≡ false)) }
     {
         let outer = outer_line(alloc, is_clang, expanded)?;
-        let xclang = match line_behind(alloc, outer.line(), &[Kind::XClang], cwd, view, most)? {
-            Ok(line) => line,
+        let inner = match inner_lines(alloc, outer.line(), cwd, view, most)? {
+            Ok(inner) => inner,
             Err(too_many) => return Ok(Err(too_many)),
         };
-        let clang = match line_behind(alloc, outer.line(), &[Kind::Clang], cwd, view, most)? {
-            Ok(line) => line,
-            Err(too_many) => return Ok(Err(too_many)),
-        };
-        let either = [Kind::XClang, Kind::Clang];
-        let handed = outer.line().options().texts(alloc, &OfKinds(&either))?;
-        let inner = match line_behind(alloc, outer.line(), &either, cwd, view, most)? {
-            Ok(line) => line,
-            Err(too_many) => return Ok(Err(too_many)),
-        };
-        let lines = (outer.line(), xclang.line(), clang.line());
-        let outcome = outcome(alloc, lines.0, lines.1, lines.2, cwd, is_clang, view)?;
+        let (xclang, clang) = (inner.xclang.line(), inner.clang.line());
+        let outcome = outcome(alloc, outer.line(), xclang, clang, cwd, is_clang, view)?;
         Ok(Ok(MsvcReading {
             is_clang,
             environment,
             outer,
-            xclang,
-            clang,
-            handed,
-            inner,
+            xclang: inner.xclang,
+            clang: inner.clang,
+            handed: inner.handed,
+            inner: inner.either,
             outcome,
         }))
     }

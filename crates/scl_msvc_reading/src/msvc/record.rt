@@ -72,9 +72,9 @@ fn short_record(
     view: &View,
 ) -> Mem<ParsedArguments>
     ensures { IfOk result (λ parsed. let f = found_of found.now in record (parsed_of parsed) {
-        input = f.input;
-        preprocessor_args = all_words_at Place.Preprocessor options.now (inner_of inner.now);
-        common_args = all_words_at Place.Common options.now (inner_of inner.now);
+      input = f.input;
+      preprocessor_args = all_words_at Place.Preprocessor options.now (inner_of inner.now);
+      common_args = all_words_at Place.Common options.now (inner_of inner.now);
     } ≡ record_of cwd.now view.now options.now (inner_of inner.now) f) }
 {
     let outputs = outputs_of(alloc, options, found)?;
