@@ -122,6 +122,93 @@ fn names_of(alloc: Global, hazards: &[Hazard]) -> Mem<Vec<Vec<u8>>>
 }
 
 /// The names of the hazards of the command line, where they are wanted.
+/// What a request is replied.
+#[derive(Drop)]
+struct Replied {
+    answer: CompilerArguments<Compilation>,
+    runs: Vec<Vec<Vec<u8>>>,
+    questions: Questions,
+    hazards: Vec<Vec<u8>>,
+}
+
+fn line_of(alloc: Global, asked: &Asked<'_>) -> Mem<Line>
+    ensures { IfOk result (λ line. (words_of line.words.items ≡ texts_of asked.now.words.now) × (pairs_of line.environment.items ≡ pairs_in asked.now.environment.now) × (line.view ≡ viewed asked.now)) }
+{
+    Ok(Line {
+        words: copied_words(alloc, asked.words)?,
+        environment: copied_pairs(alloc, asked.environment)?,
+        view: view_of(alloc, asked)?,
+    })
+}
+
+/// The runs of the preprocessor, where they are wanted.
+fn runs_for(
+    alloc: Global,
+    compiler: Compiler,
+    asked: &Asked<'_>,
+    answer: &CompilerArguments<Compilation>,
+) -> Mem<Vec<Vec<Vec<u8>>>>
+    ensures { IfOk result (λ runs. runs_of runs.items ≡ runs_in compiler asked.now (reply_of answer.now)) }
+{
+    match answer {
+        CompilerArguments::Ok(compilation) => {
+            if !asked.wants_runs {
+                return Ok(Vec::new(alloc));
+            }
+            compiler.preprocess_runs(
+                alloc,
+                &compilation.parsed,
+                asked.may_dist,
+                asked.rewrite_includes_only,
+                asked.cache_mode,
+            )
+        }
+        CompilerArguments::CannotCache(_, _) | CompilerArguments::NotCompilation => {
+            Ok(Vec::new(alloc))
+        }
+    }
+}
+
+/// What the answer asks of files that were not handed in, where it is wanted.
+fn questions_for(
+    alloc: Global,
+    compiler: Compiler,
+    asked: &Asked<'_>,
+    line: &Line,
+    answer: &CompilerArguments<Compilation>,
+) -> Mem<Questions>
+    requires { record_given answer.now ≡ result_ok (reading_by compiler (asking compiler (words_of line.now.words.items) asked.now.directory.now (pairs_of line.now.environment.items) line.now.view)) }
+    ensures { IfOk result (λ questions. given questions ≡ (if asked.now.wants_questions then questions_of (asking compiler (words_of line.now.words.items) asked.now.directory.now (pairs_of line.now.environment.items) line.now.view) else no_questions)) }
+{
+    if !asked.wants_questions {
+        return Ok(Questions {
+            files: Vec::new(alloc),
+            directories: Vec::new(alloc),
+            existing: Vec::new(alloc),
+        });
+    }
+    compiler.questions_of(
+        alloc,
+        answer,
+        &line.words,
+        asked.directory,
+        &line.environment,
+        &line.view,
+    )
+}
+
+/// The names of hazards.
+fn names_of(alloc: Global, hazards: &[Hazard]) -> Mem<Vec<Vec<u8>>>
+    ensures { IfOk result (λ names. words_of names.items ≡ map name_of hazards.now) }
+{
+    let mut names = Vec::with_capacity(alloc, hazards.len())?;
+    for hazard in hazards {
+        names.push(Vec::from_slice(alloc, hazard.name().as_bytes())?)?;
+    }
+    Ok(names)
+}
+
+/// The names of the hazards of the command line, where they are wanted.
 fn hazards_for(
     alloc: Global,
     compiler: Compiler,
@@ -135,9 +222,8 @@ fn hazards_for(
     if !asked.wants_hazards {
         return Ok(Vec::new(alloc));
     }
-    let hazards = compiler.hazards_of(
+    let hazards = compiler.hazards(
         alloc,
-        answer,
         &line.words,
         asked.directory,
         &line.environment,
@@ -176,7 +262,7 @@ fn answered(
     )?;
     let runs = runs_for(alloc, compiler, asked, &answer)?;
     let questions = questions_for(alloc, compiler, asked, &line, &answer)?;
-    let hazards = hazards_for(alloc, compiler, asked, &line, &answer)?;
+    let hazards = hazards_for(alloc, compiler, asked, &line)?;
     Ok(Ok(Replied {
         answer,
         runs,

@@ -1,15 +1,11 @@
 -- What is defined of a compiler that is served, by its name.
 use Rattle.std.specs.Prelude.{ℕ, Bool, List, Option, None, Result}
 use Rattle.scl_files.specs.Views.{Viewed}
-use Rattle.scl_hazards.specs.declared.hazard.Hazard.{Hazard}
-use Rattle.scl_rows.specs.Rows.{Told}
 use Rattle.scl_text.specs.Records.{Parsed, Verdict}
 use Rattle.scl_text.specs.declared.records.Cacheable.{Cacheable}
 use Rattle.scl_cl.specs.declared.compiler.Compiler.{Compiler}
 use Rattle.scl_cl.specs.Requests.{asked}
 use Rattle.scl_cl.specs.Answers.{reading_by, command_by, environment_by, kept_by, read_again_by, runs_with}
-use Rattle.scl_cl.specs.OptionRows.{rows_by}
-use Rattle.scl_cl.specs.Hazards.{hazards_with}
 use Rattle.scl_cl.specs.Within.{command_lines_by}
 use Rattle.scl_cl.specs.Questions.{files_by}
 
@@ -27,10 +23,6 @@ pub record Definitions : Type 1 where
   pub is_read_again : List (List ℕ) → List ℕ → List (List ℕ × List ℕ) → Viewed → Parsed → List (List ℕ) → Type 0
   -- the words of the preprocessor's runs for what was read
   pub runs : (may_dist rewrites cache_mode : Bool) → Parsed → List (List (List ℕ))
-  -- what is told of the options of a command line
-  pub rows : List (List ℕ) → List ℕ → List (List ℕ × List ℕ) → Viewed → List Told
-  -- the hazards of a command line with this record, if it has one
-  pub hazards : List (List ℕ) → List ℕ → List (List ℕ × List ℕ) → Viewed → Option Parsed → List Hazard
   -- the command lines in which response files are put in place, given and inner ones
   pub command_lines : List (List ℕ) → List ℕ → List (List ℕ × List ℕ) → Viewed → List (List (List ℕ))
   -- the response files that they name and the view lacks
@@ -45,8 +37,6 @@ definitions_with version compiler = record {
   cacheable = λ words directory environment view. kept_by compiler (asked compiler words directory environment view);
   is_read_again = λ words directory environment view. read_again_by compiler (asked compiler words directory environment view);
   runs = runs_with version compiler;
-  rows = λ words directory environment view. rows_by compiler (asked compiler words directory environment view);
-  hazards = λ words directory environment view. hazards_with compiler (asked compiler words directory environment view);
   command_lines = λ words directory environment view. command_lines_by compiler (asked compiler words directory environment view);
   files = λ words directory environment view. files_by compiler (asked compiler words directory environment view);
 }

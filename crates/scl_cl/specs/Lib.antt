@@ -6,6 +6,7 @@ pub mod Requests
 pub mod Drafts
 pub mod Answers
 pub mod AnswersGiven
+pub mod Reads
 pub mod OptionRows
 pub mod Hazards
 pub mod Definitions

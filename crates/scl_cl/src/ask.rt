@@ -7,12 +7,10 @@ use crate::compiler::Compiler;
 use crate::within::CommandLines;
 use scl_gnu::clang::Clang;
 use scl_gnu::gcc::Gcc;
-use scl_hazards::HasHazards;
 use scl_msvc::msvc::Msvc;
-use scl_rows::HasRows;
 use scl_small::diab::Diab;
 use scl_small::tasking_vx::TaskingVX;
-use scl_text::{ExpansionKind, Mem};
+use scl_text::{CCompilerImpl, ExpansionKind, Mem};
 use std::alloc::Global;
 
 /// What can be asked of every compiler that is served. A query holds what it is asked about: words, a record, settings.
@@ -30,7 +28,7 @@ pub trait Query: Sized {
     ghost gives: { Self → Definitions → Self.Answer → Type 0 };
 
     /// The answer of a compiler that puts response files in place in these command lines. It fails only for want of memory.
-    fn ask<C: HasRows + HasHazards>(
+    fn ask<C: CCompilerImpl>(
         self,
         alloc: Global,
         compiler: &C,
@@ -43,8 +41,6 @@ pub trait Query: Sized {
           cacheable = λ words directory environment view parsed. C.cacheable compiler.now parsed directory view;
           is_read_again = C.is_read_again compiler.now;
           runs = C.runs compiler.now;
-          rows = C.rows compiler.now;
-          hazards = C.hazards compiler.now;
           command_lines = command_lines_in command_lines;
           files = files_in command_lines;
         }) answer) };

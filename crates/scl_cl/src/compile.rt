@@ -14,8 +14,6 @@ use crate::ask::Query;
 use crate::compiler::Compiler;
 use crate::kept::{BuiltCommand, Compilation, Kept};
 use crate::within::CommandLines;
-use scl_hazards::HasHazards;
-use scl_rows::HasRows;
 use scl_text::command::copy_words;
 use scl_text::records::{CommandError, CompilerArguments, ParsedArguments};
 use scl_text::{CCompilerImpl, Mem, View};
@@ -69,7 +67,7 @@ impl<'a, K: Kept> Query for Compile<'a, K> {
     ghost gives = { λ query definitions. IsAnswerBy K.command K.cacheable K.is_of definitions query.executable.now
         (words_of query.words.items) query.cwd.now (pairs_of query.env_vars.now) query.view.now };
 
-    fn ask<C: HasRows + HasHazards>(
+    fn ask<C: CCompilerImpl>(
         self,
         alloc: Global,
         compiler: &C,

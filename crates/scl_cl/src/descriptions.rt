@@ -1,17 +1,15 @@
 //! Descriptions: the answer's lines, and behind them rows of what was read.
-ghost use Rattle.std.specs.Prelude.{◌≡◌, ◌≢◌, ◌^◌, ◌+◌, ◌<◌, ◌≤◌, ◌⊎◌, [], ℕ, List, length, map, take, IfOk, IfSome, Ok, Err};
+ghost use Rattle.std.specs.Prelude.{◌≡◌, ◌≢◌, ◌^◌, ◌+◌, ◌<◌, ◌≤◌, ◌⊎◌, [], ℕ, List, length, take, IfOk, IfSome, Ok, Err};
 ghost use Rattle.std.specs.Result.{result_ok};
 ghost use Rattle.std.specs.Io.KnownBytes.{Appends, IsAtEnd};
 ghost use Rattle.scl_devices.specs.Counts.{one_more, many_more};
-ghost use Rattle.scl_rows.specs.Rows.{told};
 ghost use Rattle.scl_cl.specs.Transfers.{Gave};
 ghost use Rattle.scl_cl.specs.Drafts.{asked_by};
 ghost use Rattle.scl_cl.specs.Answers.{answer_to, environment_by, reading_by};
 ghost use Rattle.scl_cl.specs.AnswersGiven.{answer_of, record_given, HasParts};
-ghost use Rattle.scl_cl.specs.Hazards.{hazards_by};
-ghost use Rattle.scl_cl.specs.OptionRows.{rows_by};
 ghost use Rattle.scl_cl.specs.Outcomes.{IsJudged, IsSilent};
 ghost use Rattle.scl_cl.specs.Questions.{questions_of};
+ghost use Rattle.scl_cl.specs.Reads.{read_of};
 ghost use Rattle.scl_cl.specs.QuestionsGiven.{given};
 ghost use Rattle.scl_cl.specs.Within.{has_at_most};
 ghost use Rattle.scl_cl.specs.SettingsRead.{settings_by};
@@ -22,12 +20,11 @@ use crate::described::{Findings, description_text, too_many_words};
 use crate::kept::Compilation;
 use crate::outcome::Outcome;
 use crate::questions::Questions;
+use crate::read::Reading;
 use crate::request::{Request, read_request};
 use crate::service::{Service, serve};
 use crate::settings::{Settings, read_settings};
 use scl_args::Counted;
-use scl_hazards::Hazard;
-use scl_rows::Row;
 use scl_text::Mem;
 use scl_text::records::CompilerArguments;
 use std::alloc::Global;
@@ -50,9 +47,9 @@ fn request_answer(alloc: Global, request: &Request) -> Mem<CompilerArguments<Com
     compiler.answer(alloc, b"", words, directory, environment, view)
 }
 
-/// What became of each option of a request's command line.
-fn request_rows(alloc: Global, request: &Request) -> Mem<Vec<Row>>
-    ensures { IfOk result (λ rows. map told rows.items ≡ rows_by request.now.compiler (asked_by request.now)) }
+/// What a request's command line says, read once.
+fn request_reading(alloc: Global, request: &Request) -> Mem<Reading>
+    ensures { IfOk result (λ reading. reading ≡ read_of request.now.compiler (asked_by request.now)) }
 {
     let Request {
         compiler,
@@ -61,26 +58,7 @@ fn request_rows(alloc: Global, request: &Request) -> Mem<Vec<Row>>
         environment,
         view,
     } = request;
-    compiler.rows(alloc, words, directory, environment, view)
-}
-
-/// The hazards of a request's command line.
-fn request_hazards(
-    alloc: Global,
-    request: &Request,
-    answer: &CompilerArguments<Compilation>,
-) -> Mem<Vec<Hazard>>
-    requires record { record_given answer.now ≡ result_ok (reading_by request.now.compiler (asked_by request.now)) }
-    ensures { IfOk result (λ hazards. hazards.items ≡ hazards_by request.now.compiler (asked_by request.now)) }
-{
-    let Request {
-        compiler,
-        directory,
-        words,
-        environment,
-        view,
-    } = request;
-    compiler.hazards_of(alloc, answer, words, directory, environment, view)
+    compiler.read(alloc, words, directory, environment, view)
 }
 
 /// What the answer to a request asks.
@@ -107,8 +85,9 @@ fn request_findings(alloc: Global, request: &Request) -> Mem<Findings>
     ensures { IfOk result (AreOf (asked_by request.now)) }
 {
     let answer = request_answer(alloc, request)?;
-    let rows = request_rows(alloc, request)?;
-    let hazards = request_hazards(alloc, request, &answer)?;
+    let reading = request_reading(alloc, request)?;
+    let rows = reading.rows(alloc)?;
+    let hazards = reading.hazards(alloc, &request.environment)?;
     let questions = request_questions(alloc, request, &answer)?;
     Ok(Findings {
         answer,

@@ -17,13 +17,11 @@ use crate::compiler::Compiler;
 use crate::kept::Compilation;
 use crate::within::CommandLines;
 use scl_files::wanted_files;
-use scl_hazards::HasHazards;
 use scl_msvc::msvc;
-use scl_rows::HasRows;
 use scl_text::outputs::output_path;
 use scl_text::path::join;
 use scl_text::records::CompilerArguments;
-use scl_text::{Mem, TooManyWords, View};
+use scl_text::{CCompilerImpl, Mem, TooManyWords, View};
 use std::alloc::Global;
 
 /// What the answer to a command line asks of a view that the view does not have (docs/RULES.md, Questions). A path may stand
@@ -117,7 +115,7 @@ impl<'a> Query for FilesWanted<'a> {
     ghost gives = { λ query definitions paths.
         words_of paths.items ≡ definitions.files (words_of query.words.now) query.cwd.now (pairs_of query.env_vars.now) query.view.now };
 
-    fn ask<C: HasRows + HasHazards>(
+    fn ask<C: CCompilerImpl>(
         self,
         alloc: Global,
         _compiler: &C,

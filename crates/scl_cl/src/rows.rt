@@ -7,44 +7,10 @@ ghost use Rattle.scl_cl.specs.Answers.{reading_by};
 ghost use Rattle.scl_cl.specs.OptionRows.{rows_by};
 ghost use Rattle.scl_cl.specs.Requests.{asked};
 
-use crate::ask::Query;
 use crate::compiler::Compiler;
-use crate::within::CommandLines;
-use scl_hazards::HasHazards;
-use scl_rows::{HasRows, Row};
+use scl_rows::Row;
 use scl_text::{Mem, View};
 use std::alloc::Global;
-
-/// What became of each option.
-#[derive(Drop)]
-struct OptionRows<'a> {
-    words: &'a [Vec<u8>],
-    cwd: &'a [u8],
-    env_vars: &'a [(Vec<u8>, Vec<u8>)],
-    view: &'a View,
-}
-
-impl<'a> Query for OptionRows<'a> {
-    ghost use Rattle.std.specs.Prelude.{◌≡◌, map};
-    ghost use Rattle.scl_rows.specs.Rows.{Tells, told};
-    ghost use Rattle.scl_text.specs.Commands.{pairs_of};
-    ghost use Rattle.scl_values.specs.Words.{words_of};
-
-    type Answer = Vec<Row>;
-
-    ghost gives = { λ query definitions rows.
-        (map told rows.items ≡ definitions.rows (words_of query.words.now) query.cwd.now (pairs_of query.env_vars.now) query.view.now)
-        × Tells (map told rows.items) (definitions.reading (words_of query.words.now) query.cwd.now (pairs_of query.env_vars.now) query.view.now) };
-
-    fn ask<C: HasRows + HasHazards>(
-        self,
-        alloc: Global,
-        compiler: &C,
-        _command_lines: CommandLines,
-    ) -> Mem<Vec<Row>> {
-        compiler.rows(alloc, self.words, self.cwd, self.env_vars, self.view)
-    }
-}
 
 impl Compiler {
     /// What became of each option of a command line, whether that is refused or not, a row each: those of its words in
@@ -62,12 +28,6 @@ impl Compiler {
         ensures rows { IfOk result (λ rows. map told rows.items ≡ rows_by self (asked self (words_of words.now) cwd.now (pairs_of env_vars.now) view.now)) }
         ensures tells { IfOk result (λ rows. Tells (map told rows.items) (reading_by self (asked self (words_of words.now) cwd.now (pairs_of env_vars.now) view.now))) }
     {
-        let query = OptionRows {
-            words,
-            cwd,
-            env_vars,
-            view,
-        };
-        self.ask(alloc, query)
+        self.read(alloc, words, cwd, env_vars, view)?.rows(alloc)
     }
 }

@@ -8,9 +8,7 @@ ghost use Rattle.scl_cl.specs.Answers.{runs_by, runs_with};
 use crate::ask::Query;
 use crate::compiler::Compiler;
 use crate::within::CommandLines;
-use scl_hazards::HasHazards;
-use scl_rows::HasRows;
-use scl_text::Mem;
+use scl_text::{CCompilerImpl, Mem};
 use scl_text::records::ParsedArguments;
 use std::alloc::Global;
 
@@ -32,7 +30,7 @@ impl<'a> Query for PreprocessRuns<'a> {
 
     ghost gives = { λ query definitions runs. runs_of runs.items ≡ definitions.runs query.may_dist query.rewrite_includes_only query.cache_mode (parsed_of query.parsed.now) };
 
-    fn ask<C: HasRows + HasHazards>(
+    fn ask<C: CCompilerImpl>(
         self,
         alloc: Global,
         compiler: &C,

@@ -10,11 +10,9 @@ ghost use Rattle.scl_cl.specs.Within.{has_at_most};
 use crate::ask::Query;
 use crate::compiler::Compiler;
 use crate::kept::Compilation;
-use scl_hazards::HasHazards;
 use scl_msvc::msvc;
-use scl_rows::HasRows;
 use scl_text::records::CompilerArguments;
-use scl_text::{ExpansionKind, Mem, TooManyWords, View, expand_at_most};
+use scl_text::{CCompilerImpl, ExpansionKind, Mem, TooManyWords, View, expand_at_most};
 use std::alloc::Global;
 
 /// The command lines of a compiler in which response files are put in place.
@@ -52,7 +50,7 @@ impl<'a> Query for HasAtMost<'a> {
     ghost gives = { λ query definitions within.
         within ≡ are_within query.most (definitions.command_lines (words_of query.words.now) query.cwd.now (pairs_of query.env_vars.now) query.view.now) };
 
-    fn ask<C: HasRows + HasHazards>(
+    fn ask<C: CCompilerImpl>(
         self,
         alloc: Global,
         _compiler: &C,

@@ -1,2 +1,2 @@
-pub mod InPlaceLemmas
+pub mod SameWords
 pub mod WordLemmas

@@ -6,6 +6,4 @@ pub mod Pieces
 pub mod Splitters
 pub mod WindowsWords
 -- What only contracts of private functions cite: how the code keeps what those above speak of.
-pub mod Openings
 pub mod Readers
-pub mod Gathering

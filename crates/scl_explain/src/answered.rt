@@ -97,7 +97,7 @@ pub fn answer_case<D: Disk>(
     let compiler = case.compiler;
     let answer = compiler.answer(alloc, &case.program, words, cwd, env_vars, &view)?;
     let runs = runs_for(alloc, case, &answer)?;
-    let hazards = compiler.hazards_of(alloc, &answer, words, cwd, env_vars, &view)?;
+    let hazards = compiler.hazards(alloc, words, cwd, env_vars, &view)?;
     Ok(Ok(Answered {
         answer,
         runs,

@@ -21,7 +21,7 @@ pub use compiler::CCompilerImpl;
 pub use judge::{Judge, judge_all, refusal_of};
 pub use judged_words::{cut_line, judge_cut, judge_words};
 pub use language::Language;
-pub use line::{Dangling, Line};
+pub use line::{Dangling, Line, word_count};
 pub use read_line::ReadLine;
 pub use records::{CommandError, CompilerArguments, ParsedArguments};
 pub use scl_files::{

@@ -56,7 +56,7 @@ impl<T: ReadArg> Model for Line<T> {
 }
 
 /// How many words the option was cut from.
-fn word_count<T: ArgumentValue>(option: &Argument<T>) -> usize
+pub fn word_count<T: ArgumentValue>(option: &Argument<T>) -> usize
     ensures { result ≡ length (spelled (seen T.kind_of T.word_of option.now)) }
 {
     match option {
