@@ -133,21 +133,21 @@ module _ {K : Type 0} (ways : Ways K) (l : LineRead K) (whole : length l.line.re
   abbrev judged : List Told
   judged = rows_judged ways l.words l.line.ats l.line.refusals l.line.options
 
-  abbrev end : List Told
-  end = row_end ways.origin l.line.dangling
+  abbrev last_row : List Told
+  last_row = row_end ways.origin l.line.dangling
 
   -- the first refusal of its rows is its own
   pub line-refused : first_refusal (line_rows ways l) ≡ line_refusal l.line
   line-refused =
-      first_refusal-append judged end
-      ∙ ap (λ v. option_or v (first_refusal end)) (refused-first ways l.line.refusals l.line.options l.words l.line.ats whole)
+      first_refusal-append judged last_row
+      ∙ ap (λ v. option_or v (first_refusal last_row)) (refused-first ways l.line.refusals l.line.options l.words l.line.ats whole)
       ∙ ap (option_or (first_some l.line.refusals)) (end-refused ways.origin l.line.dangling)
 
   -- where it is not refused, its rows make its lists
   pub line-listed : (there : Destination) → is_list there ≡ true → line_refusal l.line ≡ None → words_to there (line_rows ways l) ≡ listed ways there l.line.options
   line-listed there lists e =
       let both = option_or-none (first_some l.line.refusals) (option_map (λ d. argument_parse) l.line.dangling) e in
-      words_to-append there judged end
+      words_to-append there judged last_row
       ∙ ap (λ rows. words_to there judged ++ words_to there rows) (no-end ways.origin l.line.dangling both.1)
       ∙ append-nil (words_to there judged)
       ∙ words-judged ways there lists l.line.refusals l.line.options l.words l.line.ats whole both.0

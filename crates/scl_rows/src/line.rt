@@ -74,8 +74,8 @@ where
     for option in options {
         let count = word_count(option);
         let refusal = first_said(alloc, said)?;
-        let words = first_words(given, count);
-        rows.push(row_of(alloc, option, ways, words, first_at(left), refusal)?)?;
+        let own = first_words(given, count);
+        rows.push(row_of(alloc, option, ways, own, first_at(left), refusal)?)?;
         given = behind(given, count);
         left = behind(left, 1);
         said = behind(said, 1);
