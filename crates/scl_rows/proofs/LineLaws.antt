@@ -1,5 +1,5 @@
 -- The rows of a line: its first refusal, the words of its lists, and the words that they were cut from.
-use Rattle.std.proofs.Common.{◌≡◌, ℕ, suc, Bool, true, false, cond, List, [], ◌∷◌, ◌++◌, append_assoc, drop, filter, length, map, min, take, Option, None, Some, Vec, refl, sym, ap, subst, ◌∙◌, arith}
+use Rattle.std.proofs.Common.{◌≡◌, ℕ, suc, Bool, true, false, cond, List, [], ◌∷◌, ◌++◌, ◌+◌, ◌<◌, add-one, append_assoc, drop, drop-cons, filter, get_or, length, map, take, Option, None, Some, Vec, refl, sym, ap, subst, ◌∙◌, arith}
 use Rattle.std.proofs.Math.Seq.{drop-append_seam}
 use Rattle.std.proofs.lemmas.Grind.{flat_map-append}
 use Rattle.std.proofs.lemmas.List.{append-nil, drop-map, map-id, take-append-drop, take-map}
@@ -44,6 +44,21 @@ words_taken n words = sym (take-map (λ word. word.items) n words)
 
 pub words_dropped : (n : ℕ) (words : List (Vec ℕ Global)) → words_of (drop n words) ≡ drop n (words_of words)
 words_dropped n words = sym (drop-map (λ word. word.items) n words)
+
+pub options-at : {A B : Type 0} (see : A → B) (options : List A) (i : ℕ) (option : A) → i < length options → option ≡ get_or options i option → map see (drop i options) ≡ see option ∷ map see (drop (i + 1) options)
+options-at see options i option within is =
+    ap (map see) (drop-cons options i option within ∙ ap (λ first. first ∷ drop (suc i) options) (sym is) ∙ ap (λ n. option ∷ drop n options) (sym (add-one i)))
+
+-- one more row, of the options that a loop goes over
+pub judged-more : {K : Type 0} (ways : Ways K) (old new all : List Told) (row : Told) (words own next : List (List ℕ)) (count : ℕ) (ats left : List (Option ℕ)) (at : Option ℕ) (said after : List (Option Verdict)) (refusal : Option Verdict)
+    (o : Seen K) (os rest : List (Seen K)) → new ≡ old ++ row ∷ [] → row ≡ row_of ways own at refusal o → count ≡ length (spelled o) → own ≡ take count words → next ≡ drop count words → at ≡ first_at ats → left ≡ drop 1 ats
+    → refusal ≡ first_said said → after ≡ drop 1 said → os ≡ o ∷ rest → old ++ rows_judged ways words ats said os ≡ all → new ++ rows_judged ways next left after rest ≡ all
+judged-more ways old new all row words own next count ats left at said after refusal o os rest pushed is_row is_count is_own is_next is_at is_left is_refusal is_after is_os before =
+    let same : row ∷ rows_judged ways next left after rest ≡ rows_judged ways words ats said os = rw (is_os, is_row, is_own, is_next, is_at, is_left, is_refusal, is_after, is_count) refl in
+    ap (λ rows. rows ++ rows_judged ways next left after rest) pushed
+    ∙ append_assoc old (row ∷ []) (rows_judged ways next left after rest)
+    ∙ ap (λ rows. old ++ rows) same
+    ∙ before
 
 -- ---- lists
 
@@ -120,11 +135,11 @@ module _ {K : Type 0} (ways : Ways K) where
 
 -- ---- the rows of a line
 
-end-refused : (origin : Origin) (end : Option Dangled) → first_refusal (row_end origin end) ≡ option_map (λ d. argument_parse) end
+end-refused : {K : Type 0} (origin : Origin) (end : Option (Dangled K)) → first_refusal (row_end origin end) ≡ option_map (λ d. argument_parse) end
 end-refused origin None = refl
 end-refused origin (Some d) = refl
 
-no-end : (origin : Origin) (end : Option Dangled) → option_map (λ d. argument_parse) end ≡ None → row_end origin end ≡ []
+no-end : {K : Type 0} (origin : Origin) (end : Option (Dangled K)) → option_map (λ d. argument_parse) end ≡ None → row_end origin end ≡ []
 no-end origin None e = refl
 no-end origin (Some d) e = absurd (cc)
 

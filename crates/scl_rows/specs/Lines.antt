@@ -72,7 +72,7 @@ rows_judged ways words ats said (o ∷ os) =
     row_of ways (take count words) (first_at ats) (first_said said) o ∷ rows_judged ways (drop count words) (drop 1 ats) (drop 1 said) os
 
 -- the row of a last flag without its value
-abbrev pub row_dangling : Origin → Dangled → Told
+abbrev pub row_dangling : {K : Type 0} → Origin → Dangled K → Told
 row_dangling origin d = record {
   given = d.word ∷ [];
   flag = d.flag;
@@ -86,7 +86,7 @@ row_dangling origin d = record {
 }
 
 -- of an end, where it is such a flag
-abbrev pub row_end : Origin → Option Dangled → List Told
+abbrev pub row_end : {K : Type 0} → Origin → Option (Dangled K) → List Told
 row_end origin None = []
 row_end origin (Some d) = row_dangling origin d ∷ []
 

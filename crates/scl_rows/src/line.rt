@@ -21,7 +21,6 @@ use std::alloc::Global;
 use std::fmt::Debug;
 
 /// So many of the words, the first ones.
-#[tactic(auto, using(crate::proofs::LineLaws::words_taken))]
 fn first_words(words: &[Vec<u8>], count: usize) -> &[Vec<u8>]
     ensures { words_of result.now ≡ take count (words_of words.now) }
 {
@@ -55,7 +54,6 @@ fn first_said(alloc: Global, said: &[Option<Refusal>]) -> Mem<Option<Refusal>>
 }
 
 /// The rows of options that were cut from these words, with their indices, of which this is said.
-#[tactic(auto, using(crate::proofs::LineLaws::words_dropped))]
 fn rows_judged<T: ReadArg, W: Ways<T>>(
     alloc: Global,
     ways: &W,
