@@ -43,7 +43,8 @@ use Rattle.scl_gnu_reading.proofs.CheckLaws.{carried_plain, carried_inner_plain}
 use Rattle.scl_gnu.proofs.InnerLaws.{no_inner}
 use Rattle.scl_gnu.specs.OwnTables.{is_kind}
 use Rattle.scl_gnu.proofs.KeptLaws.{same-list}
-use Rattle.scl_gnu.proofs.ReadingLaws.{HasFound, is-read, object-found}
+use Rattle.scl_gnu.proofs.ReadingLaws.{HasFound, is-read}
+use Rattle.scl_gnu_reading.proofs.ObjectLaws.{object-found}
 
 abbrev NameNone : List (List ℕ) → Type 0
 NameNone words = Each NamesNoFile words

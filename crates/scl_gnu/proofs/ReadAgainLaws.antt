@@ -50,7 +50,8 @@ use Rattle.scl_gnu_reading.specs.Recordings.{is_clang, needs_target, added_commo
 use Rattle.scl_gnu_reading.proofs.CheckLaws.{inner_passes}
 use Rattle.scl_gnu.specs.OwnTables.{is_kind}
 use Rattle.scl_gnu.proofs.KeptLaws.{no-raws, compiles-alone, target-alone, is-list}
-use Rattle.scl_gnu.proofs.ReadingLaws.{HasFound, is-read, object-found}
+use Rattle.scl_gnu.proofs.ReadingLaws.{HasFound, is-read}
+use Rattle.scl_gnu_reading.proofs.ObjectLaws.{object-found}
 use Rattle.scl_gnu.proofs.OwnWordsLaws.{xclang, wrapped, OwnWords, AreInners, not-so, none-front, none-back, none-define, none-depfile, no_raw-define, no_raw-target, five}
 
 -- ---- the command of a record

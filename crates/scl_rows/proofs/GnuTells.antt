@@ -10,7 +10,7 @@ use Rattle.scl_args.specs.Options.{last_flag, last_text, list, side_of_flag, unl
 use Rattle.scl_files.specs.Expanded.{ExpandedWords, expanded_by}
 use Rattle.scl_files.specs.Views.{Viewed}
 use Rattle.scl_files.specs.declared.expand.ExpansionKind.TheVariants as expansions
-use Rattle.scl_gnu.proofs.ReadingLaws.{object-found}
+use Rattle.scl_gnu_reading.proofs.ObjectLaws.{object-found}
 use Rattle.scl_gnu_reading.specs.ClangRows.{clang_tables}
 use Rattle.scl_gnu_reading.specs.FixedTests.{Found, found}
 use Rattle.scl_gnu_reading.specs.Inners.{goes_inside_to, inner_place_of, inner_verdict, inner_words_at}
