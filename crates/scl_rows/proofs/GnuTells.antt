@@ -27,7 +27,6 @@ use Rattle.scl_gnu_reading.specs.declared.gcc.place.Place.{Place}
 use Rattle.scl_gnu_reading.specs.declared.gcc.place.Place.TheVariants as places
 use Rattle.scl_text.specs.Commands.{object_of}
 use Rattle.scl_text.specs.Lines.{line_refusal}
-use Rattle.scl_text.specs.ReadLines.{LineRead}
 use Rattle.scl_text.specs.Records.{Parsed, Verdict}
 use Rattle.scl_text.specs.declared.language.Language.{Language}
 use Rattle.scl_text.specs.declared.records.CCompilerKind.{CCompilerKind}
