@@ -4,6 +4,7 @@
 
 mod gnu_words;
 mod in_place;
+pub mod laws;
 mod otherwise;
 mod splitter;
 mod windows_words;
