@@ -1,2 +1,4 @@
+pub mod InPlaceLemmas
+pub mod OnceLaws
 pub mod SameWords
 pub mod WordLemmas

@@ -3,6 +3,8 @@
 #![tactic(auto)]
 
 mod gnu_words;
+mod in_place;
+pub mod laws;
 mod otherwise;
 mod splitter;
 mod windows_words;
