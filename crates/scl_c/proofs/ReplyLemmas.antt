@@ -7,19 +7,19 @@ use Rattle.scl_text.specs.Runs.{runs_of}
 use Rattle.scl_text.specs.declared.records.Cacheable.{Cacheable}
 use Rattle.scl_text.specs.declared.records.CompilerArguments.{CompilerArguments}
 use Rattle.scl_text.specs.declared.records.CompilerArguments.TheVariants as outcomes
-use Rattle.scl_cl.proofs.AgainLaws.{answers_again}
-use Rattle.scl_cl.specs.Answers.{Answer, answer_to, reading_by, environment_by, AnswerIsReadAgain}
-use Rattle.scl_cl.specs.Answers as answers
-use Rattle.scl_cl.specs.AnswersGiven.{answer_of, HasParts}
-use Rattle.scl_cl.specs.Compilers.{compiler_named}
-use Rattle.scl_cl.specs.Hazards.{hazards_by}
-use Rattle.scl_cl.specs.QuestionsGiven.{given}
-use Rattle.scl_cl.specs.Questions.{questions_of}
-use Rattle.scl_cl.specs.Requests.{asked}
-use Rattle.scl_cl.specs.Within.{has_at_most}
+use Rattle.scl_reader.proofs.AgainLaws.{answers_again}
+use Rattle.scl_reader.specs.Answers.{Answer, answer_to, reading_by, environment_by, AnswerIsReadAgain}
+use Rattle.scl_reader.specs.Answers as answers
+use Rattle.scl_reader.specs.AnswersGiven.{answer_of, HasParts}
+use Rattle.scl_reader.specs.Compilers.{compiler_named}
+use Rattle.scl_describe.specs.Hazards.{hazards_by}
+use Rattle.scl_reader.specs.QuestionsGiven.{given}
+use Rattle.scl_reader.specs.Questions.{questions_of}
+use Rattle.scl_reader.specs.CommandLines.{asked}
+use Rattle.scl_reader.specs.Within.{has_at_most}
 use Rattle.scl_files.specs.Views.{Viewed}
-use Rattle.scl_cl.specs.declared.compiler.Compiler.{Compiler}
-use Rattle.scl_cl.specs.declared.kept.Compilation.{Compilation}
+use Rattle.scl_reader.specs.declared.compiler.Compiler.{Compiler}
+use Rattle.scl_reader.specs.declared.kept.Compilation.{Compilation}
 use Rattle.scl_c.specs.declared.ask.Replied.{Replied}
 use Rattle.scl_c.specs.declared.shapes.Asked.{Asked}
 use Rattle.scl_c.specs.declared.shapes.Room.{Room}

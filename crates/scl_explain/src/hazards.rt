@@ -2,7 +2,7 @@
 ghost use Rattle.std.specs.Prelude.{◌≡◌, ◌++◌, OnOk, IfOk};
 ghost use Rattle.scl_explain.specs.Replies.{hazard_line, hazards_text};
 
-use scl_cl::Mem;
+use scl_reader::Mem;
 use scl_hazards::Hazard;
 use std::alloc::Global;
 

@@ -1,7 +1,7 @@
 //! A disk that notes which files were looked for.
 ghost use Rattle.std.specs.Prelude.{◌≡◌};
 
-use scl_cl::Mem;
+use scl_reader::Mem;
 use scl_load::Disk;
 use std::alloc::Global;
 use std::cell::Cell;

@@ -1,9 +1,9 @@
 //! How the program ends.
 ghost use Rattle.std.specs.Prelude.{◌≡◌};
-ghost use Rattle.scl_cl.specs.AnswersGiven.{answer_of};
+ghost use Rattle.scl_reader.specs.AnswersGiven.{answer_of};
 ghost use Rattle.scl_explain.specs.Endings.{ending_of, status_of};
 
-use scl_cl::{Compilation, CompilerArguments};
+use scl_reader::{Compilation, CompilerArguments};
 use scl_hazards::Hazard;
 
 /// How the program ends.

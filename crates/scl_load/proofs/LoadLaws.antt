@@ -1,12 +1,12 @@
 -- The rounds of a load.
 use Rattle.std.proofs.Common.{◌≡◌, ◌+◌, ◌<◌, ℕ, Bool, true, false, List, refl, sym, ap, subst, ◌∙◌}
 use Rattle.scl_files.specs.Views.{Viewed}
-use Rattle.scl_cl.specs.declared.compiler.Compiler.{Compiler}
-use Rattle.scl_cl.specs.Requests.{asked}
-use Rattle.scl_cl.specs.Answers.{answer_to}
-use Rattle.scl_cl.specs.Questions.{Questions, Extends, HasNoneOf, questions_of}
-use Rattle.scl_cl.specs.Within.{has_at_most}
-use Rattle.scl_cl.proofs.QuestionLaws.{are-decided}
+use Rattle.scl_reader.specs.declared.compiler.Compiler.{Compiler}
+use Rattle.scl_reader.specs.CommandLines.{asked}
+use Rattle.scl_reader.specs.Answers.{answer_to}
+use Rattle.scl_reader.specs.Questions.{Questions, Extends, HasNoneOf, questions_of}
+use Rattle.scl_reader.specs.Within.{has_at_most}
+use Rattle.scl_reader.proofs.QuestionLaws.{are-decided}
 use Rattle.scl_load.specs.Loads.{AreAllSame, AreRounds, none, more, HasNoneAsked, IsLoaded, IsLookedFor, IsTooLong, IsUnended, Load, first_view, load_of}
 use Rattle.scl_load.proofs.ExtendLaws.{extends-empty}
 

@@ -78,4 +78,11 @@ impl<T: Rules> SmallReading<T> {
     {
         &self.outcome
     }
+
+    /// What it says, and nothing else of it.
+    pub fn into_outcome(self) -> CompilerArguments<ParsedArguments>
+        ensures { outcome_of result ≡ self.outcome }
+    {
+        self.outcome
+    }
 }

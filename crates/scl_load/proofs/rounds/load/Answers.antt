@@ -1,6 +1,6 @@
 use Rattle.scl_values.specs.Words.{words_of}
 use Rattle.scl_text.specs.Commands.{pairs_of}
-use Rattle.scl_cl.specs.QuestionsGiven.{given}
+use Rattle.scl_reader.specs.QuestionsGiven.{given}
 use Rattle.scl_load.specs.Loads.{load_of}
 use Rattle.scl_load.proofs.LoadLaws.{no-round, next-round, same-answer}
 use Rattle.scl_load.proofs.rounds.load.Goals as goal

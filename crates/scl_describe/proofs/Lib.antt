@@ -1,0 +1,3 @@
+pub mod SettingLaws
+pub mod ExplainedLaws
+pub mod DescriptionLaws
