@@ -79,7 +79,12 @@ pub fn hazards_of(alloc: Global, reading: &Reading, line: &CommandLine<'_>) -> M
         Compiler::Clang => hazards_from(alloc, &Clang::new(false), line, parsed),
         Compiler::Clangxx => hazards_from(alloc, &Clang::new(true), line, parsed),
         Compiler::Cl => hazards_from(alloc, &Msvc::new(false, String::new(alloc)), line, parsed),
-        Compiler::ClangCl => hazards_from(alloc, &Msvc::new(true, String::new(alloc)), line, parsed),
+        Compiler::ClangCl => hazards_from(
+            alloc,
+            &Msvc::new(true, String::new(alloc)),
+            line,
+            parsed,
+        ),
         Compiler::Diab => hazards_from(alloc, &Diab::new(), line, parsed),
         Compiler::Tasking => hazards_from(alloc, &TaskingVX, line, parsed),
     }

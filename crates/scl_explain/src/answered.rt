@@ -18,9 +18,7 @@ use crate::logged::Logged;
 use scl_describe::{hazards_of, rows_of};
 use scl_hazards::Hazard;
 use scl_load::{Disk, LoadError, Loaded, load};
-use scl_reader::{
-    CommandLine, Compilation, CompilerArguments, MOST, Mem, Reading, View,
-};
+use scl_reader::{CommandLine, Compilation, CompilerArguments, MOST, Mem, Reading, View};
 use scl_rows::Row;
 use std::alloc::Global;
 

@@ -11,8 +11,8 @@ use crate::refusal::no_command_line;
 use crate::reply::{Form, Reply, unread};
 use crate::report::Report;
 use crate::status::Ending;
-use scl_reader::Mem;
 use scl_load::Disk;
+use scl_reader::Mem;
 use std::alloc::Global;
 use std::fmt::Display;
 

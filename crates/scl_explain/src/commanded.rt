@@ -11,9 +11,9 @@ use crate::refusal::no_command_line;
 use crate::reply::{Reply, unread};
 use crate::status::Ending;
 use crate::words::command_text;
-use scl_reader::{Compilation, CompilerArguments, Mem};
 use scl_hazards::Hazard;
 use scl_load::Disk;
+use scl_reader::{Compilation, CompilerArguments, Mem};
 use std::alloc::Global;
 use std::fmt::Display;
 

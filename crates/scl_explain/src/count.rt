@@ -5,10 +5,10 @@ ghost use Rattle.scl_explain.specs.Kinds.{kind_of};
 
 use crate::answered::Answered;
 use crate::entry_kind::EntryKind;
+use scl_hazards::Hazard;
 use scl_reader::{Compilation, CompilerArguments, Mem};
 use scl_text::path;
 use scl_text::records::Cacheable;
-use scl_hazards::Hazard;
 use std::alloc::Global;
 use std::collections::BTreeMap;
 

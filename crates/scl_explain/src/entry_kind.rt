@@ -3,9 +3,9 @@ ghost use Rattle.std.specs.Prelude.{◌≡◌};
 ghost use Rattle.scl_reader.specs.AnswersGiven.{answer_of};
 ghost use Rattle.scl_explain.specs.Kinds.{kind_of};
 
+use scl_hazards::Hazard as Named;
 use scl_reader::{Compilation, CompilerArguments};
 use scl_text::records::Cacheable;
-use scl_hazards::Hazard as Named;
 
 /// What an entry is.
 #[derive(Clone, Copy, PartialEq, Eq)]

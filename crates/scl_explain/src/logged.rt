@@ -1,8 +1,8 @@
 //! A disk that notes which files were looked for.
 ghost use Rattle.std.specs.Prelude.{◌≡◌};
 
-use scl_reader::Mem;
 use scl_load::Disk;
+use scl_reader::Mem;
 use std::alloc::Global;
 use std::cell::Cell;
 

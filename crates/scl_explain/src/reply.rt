@@ -7,8 +7,8 @@ use crate::answered::{Answered, answer_case};
 use crate::case::Case;
 use crate::report::Report;
 use crate::status::Ending;
-use scl_reader::Mem;
 use scl_load::{Disk, LoadError};
+use scl_reader::Mem;
 use std::alloc::Global;
 use std::fmt::Display;
 

@@ -1,5 +1,5 @@
 -- A command line of cl or clang-cl, read with the words of its environment.
-use Rattle.std.specs.Prelude.{◌≡◌, ℕ, ◌&&◌, Bool, true, List, ◌++◌, length, replicate, Option, None, Result, Ok, Err}
+use Rattle.std.specs.Prelude.{ℕ, ◌&&◌, Bool, true, List, ◌++◌, length, replicate, Option, None, Result, Ok, Err}
 use Rattle.scl_files.specs.Expanded.{ExpandedWords, expanded_by}
 use Rattle.scl_files.specs.Openings.{is_expanded_within}
 use Rattle.scl_files.specs.Sources.{indices}
@@ -7,7 +7,7 @@ use Rattle.scl_files.specs.Views.{Viewed}
 use Rattle.scl_files.specs.declared.expand.ExpansionKind.TheVariants as expansions
 use Rattle.scl_text.specs.Records.{Verdict}
 use Rattle.scl_msvc_reading.specs.Reads.{MsvcRead, are_inner_within, read_by, refused_by}
-use Rattle.scl_msvc.specs.Environment.{surrounded_reading, surroundings}
+use Rattle.scl_msvc.specs.Environment.{surroundings}
 
 -- the words of a command line between those before and behind it
 abbrev pub words_between : List (List ℕ) → (List (List ℕ) × List (List ℕ)) → List (List ℕ)
@@ -42,11 +42,3 @@ is_within_both most is_clang directory view words (Err broken) = true
 
 abbrev pub is_surrounded_within : ℕ → Bool → List ℕ → List (List ℕ × List ℕ) → Viewed → List (List ℕ) → Bool
 is_surrounded_within most is_clang directory pairs view words = is_within_both most is_clang directory view words (surroundings pairs)
-
--- ---- a law
-
--- a reading says what the words say
-abbrev pub ReadingsSay : Type 0
-ReadingsSay =
-    (is_clang : Bool) (directory : List ℕ) (pairs : List (List ℕ × List ℕ)) (view : Viewed) (words : List (List ℕ))
-    → (surrounded_read is_clang directory pairs view words).outcome ≡ surrounded_reading is_clang directory pairs view words

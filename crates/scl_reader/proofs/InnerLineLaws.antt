@@ -1,6 +1,6 @@
 -- Clang's inner command lines have at most so many words.
 use Rattle.std.proofs.Common.{◌≡◌, ℕ, ◌≤◌, suc, Bool, true, false, cond, List, [], ◌∷◌, length, map, filter, Option, None, Some, Ok, sym, subst, arith}
-use Rattle.std.proofs.lemmas.Bool.{and_parts, leb-true, le-leb}
+use Rattle.std.proofs.lemmas.Bool.{leb-true, le-leb}
 use Rattle.std.proofs.lemmas.List.{length-map}
 use Rattle.scl_values.specs.Cuts.{Cut, raw, with_value, clean, Cutting, whole, needs_value, ends_options, piece_of, is_dangling, last_piece, before, all_raw, cut}
 use Rattle.scl_values.specs.Row.{Row}
@@ -11,7 +11,8 @@ use Rattle.scl_args.specs.Empties.{refusing_empty}
 use Rattle.scl_args.specs.Options.{first_verdict, texts}
 use Rattle.scl_again.proofs.EmptyLaws.{judged-else}
 use Rattle.scl_again.proofs.OutcomeLaws.{judged-ok, unless-none}
-use Rattle.scl_files.specs.Within.{is_within, are_within}
+use Rattle.scl_files.specs.Expand.{expand}
+use Rattle.scl_files.specs.Within.{is_within}
 use Rattle.scl_files.specs.declared.expand.ExpansionKind.TheVariants as expansions
 use Rattle.scl_text.specs.Reasons.{argument_parse, empty_value}
 use Rattle.scl_gnu_reading.specs.ClangRows.{clang_tables}
@@ -19,10 +20,8 @@ use Rattle.scl_gnu_reading.specs.Kinds.{of}
 use Rattle.scl_gnu_reading.specs.Verdicts.{verdict}
 use Rattle.scl_gnu_reading.specs.declared.gcc.data.Kind.{Kind}
 use Rattle.scl_gnu_reading.specs.declared.gcc.data.Kind.TheVariants as kind
-use Rattle.scl_reader.specs.declared.compiler.Compiler.{Compiler}
-use Rattle.scl_reader.specs.declared.compiler.Compiler.TheVariants as compilers
 use Rattle.scl_reader.specs.CommandLines.{Request}
-use Rattle.scl_reader.specs.Within.{command_lines_by, expanded, clang_options, handed_on, is_clang_driver, ClangInnerIsWithin}
+use Rattle.scl_reader.specs.Within.{clang_options, handed_on, ClangInnerIsWithin}
 use Rattle.scl_reader.proofs.GnuQuestionLaws.{clang-apart, handed-none, none-named, stand}
 
 -- ---- options are no more than words
@@ -81,7 +80,7 @@ within-fewer most words others few within =
 
 module _ (most : ℕ) (request : Request) where
   abbrev words : List (List ℕ)
-  words = expanded expansions.Gnu request
+  words = expand expansions.Gnu request.directory request.view.files request.words
 
   abbrev options : List (Seen Kind)
   options = map shown (cut (owner_in clang_tables) true words).options
@@ -100,15 +99,5 @@ module _ (most : ℕ) (request : Request) where
       subst (λ os. is_within most (handed_on request os) ≡ true) is
       (subst (λ ws. is_within most ws ≡ true) (sym stands) (within-fewer most words handed few within))
 
-  by-compiler : (c : Compiler) → is_clang_driver c ≡ true → are_within most (command_lines_by c request) ≡ true → is_within most words ≡ true
-  by-compiler compilers.Gcc d w = absurd (cc)
-  by-compiler compilers.Gxx d w = absurd (cc)
-  by-compiler compilers.Clang d w = (and_parts (is_within most words) true w).0
-  by-compiler compilers.Clangxx d w = (and_parts (is_within most words) true w).0
-  by-compiler compilers.Cl d w = absurd (cc)
-  by-compiler compilers.ClangCl d w = absurd (cc)
-  by-compiler compilers.Diab d w = absurd (cc)
-  by-compiler compilers.Tasking d w = absurd (cc)
-
 pub clang-inner-within : ClangInnerIsWithin
-clang-inner-within most request options driver within e = judged-within most request (by-compiler most request request.compiler driver within) options e
+clang-inner-within most request options driver within e = judged-within most request within options e

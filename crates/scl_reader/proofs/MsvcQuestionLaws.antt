@@ -1,5 +1,5 @@
 -- Where the disk has none of what is asked of cl and clang-cl, it gives the same answer.
-use Rattle.std.proofs.Common.{◌≡◌, ℕ, Bool, true, false, List, [], ◌∷◌, ◌++◌, map, Option, None, Some, Result, Ok, Err, refl, ap, subst, ◌∙◌}
+use Rattle.std.proofs.Common.{◌≡◌, ℕ, Bool, true, false, List, [], ◌∷◌, ◌++◌, map, Option, None, Some, Result, Ok, Err, refl, ap, sym, subst, ◌∙◌}
 use Rattle.std.specs.Prelude.{codes, if◌then◌else◌}
 use Rattle.scl_args.specs.Empties.{refusing_empty}
 use Rattle.scl_args.specs.Options.{texts, ◌>>=◌}
@@ -28,15 +28,55 @@ use Rattle.scl_msvc_reading.specs.Readings.{inner_options, both_inner, recorded,
 use Rattle.scl_msvc_reading.specs.Recordings.{record_of, all_hashed}
 use Rattle.scl_msvc_reading.specs.Rows.{msvc_tables}
 use Rattle.scl_msvc_reading.specs.Verdicts.{verdict}
-use Rattle.scl_msvc.specs.Environment.{surrounded, surrounded_reading}
+use Rattle.scl_msvc.specs.Environment.{surrounded, surroundings, surrounded_reading}
 use Rattle.scl_msvc.specs.Building.{command, kept_unless, cacheable}
 use Rattle.scl_files.specs.Wanted.{wanted, HasNone}
 use Rattle.scl_files.proofs.WantedLaws.{wanted_decides}
 use Rattle.scl_reader.specs.Answers.{answer_with, answer_from}
-use Rattle.scl_msvc.specs.Within.{options_cut}
-use Rattle.scl_msvc.specs.Wanted.{inner_wanted, both_wanted, line_wanted, surrounded_wanted, files_wanted}
+use Rattle.scl_msvc.specs.ReadAgain.{options_cut}
+use Rattle.scl_msvc.specs.Reads.{read_by_both, surrounded_read}
+use Rattle.scl_msvc.proofs.EnvironmentLemmas.{surrounded_by_both, surrounded_stops}
+use Rattle.scl_msvc_reading.specs.Reads.{MsvcRead}
 use Rattle.scl_reader.specs.Questions.{Extends, if_none, hash_files, database_asked, database_in}
 use Rattle.scl_reader.proofs.GnuQuestionLaws.{NoneAsked, same-paths, bind-same}
+
+-- ---- the files that a command line asks for
+
+-- those that the inner command line behind the options of a kind asks for
+abbrev pub inner_wanted : Kind → List ℕ → Viewed → List (Seen Kind) → List (List ℕ)
+inner_wanted k directory view os = wanted expansions.Gnu directory view.files (texts (of (k ∷ [])) os)
+
+abbrev pub both_wanted : List ℕ → Viewed → List (Seen Kind) → List (List ℕ)
+both_wanted directory view os = inner_wanted kind.XClang directory view os ++ inner_wanted kind.Clang directory view os
+
+-- those that words ask for, and those that their inner command lines do
+abbrev pub line_wanted : Bool → List ℕ → Viewed → List (List ℕ) → List (List ℕ)
+line_wanted is_clang directory view all =
+    wanted expansions.Msvc directory view.files all ++ both_wanted directory view (options_cut is_clang (expand expansions.Msvc directory view.files all))
+
+-- none where the environment is broken
+abbrev pub surrounded_wanted : Bool → List ℕ → Viewed → Result (List (List ℕ)) Verdict → List (List ℕ)
+surrounded_wanted is_clang directory view (Ok all) = line_wanted is_clang directory view all
+surrounded_wanted is_clang directory view (Err broken) = []
+
+-- those that a command line asks for, with the words of its environment
+abbrev pub files_wanted : Bool → List ℕ → List (List ℕ × List ℕ) → Viewed → List (List ℕ) → List (List ℕ)
+files_wanted is_clang directory pairs view words = surrounded_wanted is_clang directory view (surrounded pairs words)
+
+abbrev lacked_in : MsvcRead → List (List ℕ)
+lacked_in r = r.outer.lacked ++ r.xclang.lacked ++ r.clang.lacked
+
+module _ (is_clang : Bool) (directory : List ℕ) (pairs : List (List ℕ × List ℕ)) (view : Viewed) (words : List (List ℕ)) where
+  lacked-by : (r : Result (List (List ℕ) × List (List ℕ)) Verdict) → surroundings pairs ≡ r
+      → lacked_in (read_by_both is_clang directory view words r) ≡ surrounded_wanted is_clang directory view (surrounded pairs words)
+  lacked-by (Ok both) e = ap (surrounded_wanted is_clang directory view) (sym (surrounded_by_both pairs words both.0 both.1 e))
+  lacked-by (Err broken) e = ap (surrounded_wanted is_clang directory view) (sym (surrounded_stops pairs words broken e))
+
+  -- a reading lacks them
+  pub lacked-wanted : lacked_in (surrounded_read is_clang directory pairs view words) ≡ files_wanted is_clang directory pairs view words
+  lacked-wanted = lacked-by (surroundings pairs) refl
+
+-- ---- the answer
 
 none-front : (disk : List File) (xs ys : List (List ℕ)) → HasNone disk (xs ++ ys) → HasNone disk xs
 none-front disk [] ys n = tt
@@ -126,3 +166,12 @@ module _ (is_clang : Bool) (directory : List ℕ) (disk view : Viewed) (extends 
       (λ all e. reading-same all (subst (λ r. HasNone disk.files (surrounded_wanted is_clang directory view r)) e n)
       (subst (λ r. NoneAsked directory disk view extends (hash_files (r >>= reading is_clang directory view))) e d)))
       ∙ answer-same (surrounded_reading is_clang directory pairs view words) x
+
+  pub msvc-reading-same : (pairs : List (List ℕ × List ℕ)) (words : List (List ℕ))
+      → HasNone disk.files (files_wanted is_clang directory pairs view words)
+      → NoneAsked directory disk view extends (hash_files (surrounded_reading is_clang directory pairs view words))
+      → surrounded_reading is_clang directory pairs disk words ≡ surrounded_reading is_clang directory pairs view words
+  msvc-reading-same pairs words n d =
+      bind-same (surrounded pairs words) (reading is_clang directory disk) (reading is_clang directory view)
+      (λ all e. reading-same all (subst (λ r. HasNone disk.files (surrounded_wanted is_clang directory view r)) e n)
+      (subst (λ r. NoneAsked directory disk view extends (hash_files (r >>= reading is_clang directory view))) e d))

@@ -1,9 +1,8 @@
--- What an answer that is no command says of its record: there is none; and what an answer asks by its record.
+-- What an answer that is no command says of its record: there is none.
 use Rattle.std.proofs.Common.{◌≡◌, ℕ, true, List, [], Option, None, Some, Result, Ok, Err, ◌∙◌, refl, ap, sym, subst}
 use Rattle.std.specs.Prelude.{codes, is_some}
 use Rattle.std.specs.Result.{result_ok}
 use Rattle.scl_files.specs.Views.{Viewed}
-use Rattle.scl_text.specs.Outputs.{path_at}
 use Rattle.scl_text.specs.Records.{Parsed, Verdict, parsed_of}
 use Rattle.scl_text.specs.declared.records.Cacheable.{Cacheable}
 use Rattle.scl_text.specs.declared.records.CompilerArguments.{CompilerArguments}
@@ -14,8 +13,6 @@ use Rattle.scl_reader.specs.CommandLines.{Request, asked}
 use Rattle.scl_reader.specs.Answers.{Answer, compiled, cannot_cache, not_compilation, answer_with, answer_from, answer_to, command_by, kept_by, reading_by}
 use Rattle.scl_reader.specs.AnswersGiven.{record_given, IsAnswerBy}
 use Rattle.scl_reader.specs.Definitions.{definitions_of}
-use Rattle.scl_reader.specs.Questions.{hash_files, database_in}
-use Rattle.scl_reader.specs.QuestionsGiven.{hash_files_given, database_given}
 use Rattle.scl_reader.proofs.AgainLaws.{have-commands}
 
 abbrev IsNone : Answer → Type 0
@@ -56,37 +53,3 @@ module _ (compiler : Compiler) (words : List (List ℕ)) (directory : List ℕ) 
   record_is_given (outcomes.Ok compilation) is = ap Some is.has_kept.1 ∙ sym (ap result_ok is.has_kept.2)
   record_is_given (outcomes.CannotCache reason text) is = none-read said (no-record-read (asked compiler words directory pairs view) (subst IsNone is.answer_is tt))
   record_is_given outcomes.NotCompilation is = none-read said (no-record-read (asked compiler words directory pairs view) (subst IsNone is.answer_is tt))
-
--- ---- what is asked by it
-
-abbrev files-of : Option Parsed → List (List ℕ)
-files-of (Some p) = p.extra_hash_files
-files-of None = []
-
-files-read : (r : Result Parsed Verdict) → hash_files r ≡ files-of (result_ok r)
-files-read (Ok p) = refl
-files-read (Err v) = refl
-
-files-given : (answer : CompilerArguments Compilation) → hash_files_given answer ≡ files-of (record_given answer)
-files-given (outcomes.Ok compilation) = refl
-files-given (outcomes.CannotCache reason text) = refl
-files-given outcomes.NotCompilation = refl
-
-pub hash_files_are_given : (said : Result Parsed Verdict) (answer : CompilerArguments Compilation) → record_given answer ≡ result_ok said → hash_files said ≡ hash_files_given answer
-hash_files_are_given said answer e = files-read said ∙ sym (files-given answer ∙ ap files-of e)
-
-abbrev database-of : Option Parsed → Option (List ℕ)
-database-of (Some p) = path_at p.outputs (codes "pdb")
-database-of None = None
-
-database-read : (r : Result Parsed Verdict) → database_in r ≡ database-of (result_ok r)
-database-read (Ok p) = refl
-database-read (Err v) = refl
-
-database-given : (answer : CompilerArguments Compilation) → database_given answer ≡ database-of (record_given answer)
-database-given (outcomes.Ok compilation) = refl
-database-given (outcomes.CannotCache reason text) = refl
-database-given outcomes.NotCompilation = refl
-
-pub database_is_given : (said : Result Parsed Verdict) (answer : CompilerArguments Compilation) → record_given answer ≡ result_ok said → database_in said ≡ database_given answer
-database_is_given said answer e = database-read said ∙ sym (database-given answer ∙ ap database-of e)

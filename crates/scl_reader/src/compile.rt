@@ -227,6 +227,14 @@ impl Reading {
             view,
         } = *line;
         let outcome = self.into_outcome();
-        answer_outcome(alloc, compiler, executable, outcome, directory, environment, view)
+        answer_outcome(
+            alloc,
+            compiler,
+            executable,
+            outcome,
+            directory,
+            environment,
+            view,
+        )
     }
 }

@@ -129,7 +129,7 @@ impl Compiler {
     /// profiles may lie; and the file that debug information may be added to (docs/RULES.md, Questions). A disk that has what
     /// the view has, and none of what is asked, gives the same answer (`laws::of_questions`). `TooManyWords` where
     /// `has_at_most` says that a command line has more than `most`. The outer error is the refusal of memory.
-    #[tactic(auto, using(crate::proofs::ReadLaws::is_read))]
+    #[tactic(auto, using(crate::proofs::ReadLaws::answer_read))]
     pub fn open_questions(
         self,
         alloc: Global,
@@ -156,7 +156,7 @@ impl Compiler {
 
     /// What `answer_within` answers, and what `open_questions` says of it: the command line is read once for both. It fails
     /// only for want of memory.
-    #[tactic(auto, using(crate::proofs::ReadLaws::is_read))]
+    #[tactic(auto, using(crate::proofs::ReadLaws::answer_read))]
     pub fn answer_with_questions(
         self,
         alloc: Global,

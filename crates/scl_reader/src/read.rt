@@ -24,9 +24,7 @@ use scl_msvc::msvc;
 use scl_small::{SmallReading, diab, tasking_vx};
 use scl_text::command::copy_words;
 use scl_text::records::CCompilerKind;
-use scl_text::{
-    Expanded, ExpansionKind, Mem, Sourced, TooManyWords, expand_line, standing_line,
-};
+use scl_text::{Expanded, ExpansionKind, Mem, Sourced, TooManyWords, expand_line, standing_line};
 use std::alloc::Global;
 
 /// How many words a command line may have, and how often it may open files, where nothing else is said.

@@ -121,15 +121,40 @@ impl Reading {
         let mut files = Vec::new(alloc);
         match self {
             Reading::Gnu(reading) => {
-                push_lacked(alloc, &mut files, ExpansionKind::Gnu, reading.outer().lacked())?;
+                push_lacked(
+                    alloc,
+                    &mut files,
+                    ExpansionKind::Gnu,
+                    reading.outer().lacked(),
+                )?;
             }
             Reading::Msvc(reading) => {
-                push_lacked(alloc, &mut files, ExpansionKind::Msvc, reading.outer().lacked())?;
-                push_lacked(alloc, &mut files, ExpansionKind::Gnu, reading.xclang().lacked())?;
-                push_lacked(alloc, &mut files, ExpansionKind::Gnu, reading.clang().lacked())?;
+                push_lacked(
+                    alloc,
+                    &mut files,
+                    ExpansionKind::Msvc,
+                    reading.outer().lacked(),
+                )?;
+                push_lacked(
+                    alloc,
+                    &mut files,
+                    ExpansionKind::Gnu,
+                    reading.xclang().lacked(),
+                )?;
+                push_lacked(
+                    alloc,
+                    &mut files,
+                    ExpansionKind::Gnu,
+                    reading.clang().lacked(),
+                )?;
             }
             Reading::Diab(reading) => {
-                push_lacked(alloc, &mut files, ExpansionKind::Diab, reading.outer().lacked())?;
+                push_lacked(
+                    alloc,
+                    &mut files,
+                    ExpansionKind::Diab,
+                    reading.outer().lacked(),
+                )?;
             }
             Reading::Tasking(_) => {}
         }

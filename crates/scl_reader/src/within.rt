@@ -17,7 +17,7 @@ use std::alloc::Global;
 impl Compiler {
     /// Whether each command line that is read of the words, the given one and the inner ones, has at most `most` words and
     /// openings of files where response files are put in place (docs/RULES.md, Expansion). It fails only for want of memory.
-    #[tactic(auto, using(crate::proofs::ReadLaws::is_read))]
+    #[tactic(auto, using(crate::proofs::ReadLaws::answer_read))]
     pub fn has_at_most(
         self,
         alloc: Global,
@@ -40,7 +40,7 @@ impl Compiler {
 
     /// What `answer` answers, where each command line that is read of the words has at most `most` words and openings of
     /// files; else `TooManyWords`, before any of them is refused (docs/RULES.md, Expansion). It fails only for want of memory.
-    #[tactic(auto, using(crate::proofs::ReadLaws::is_read))]
+    #[tactic(auto, using(crate::proofs::ReadLaws::answer_read))]
     pub fn answer_within(
         self,
         alloc: Global,

@@ -89,9 +89,7 @@ pub fn read_surrounded(
         MatchResult said (λ reading. (within ≡ true) × (reading ≡ surrounded_read is_clang cwd.now (pairs_of env_vars.now) view.now (words_of words.now))) (λ _. within ≡ false)) }
 {
     match surroundings(alloc, env_vars) {
-        Ok((front, back)) => {
-            read_between(alloc, words, front, back, cwd, is_clang, view, most)
-        }
+        Ok((front, back)) => { read_between(alloc, words, front, back, cwd, is_clang, view, most) }
         Err(Stop::Refused(broken)) => {
             let outcome = broken.into_answer();
             Ok(Ok(MsvcReading::refused(alloc, is_clang, outcome)))
