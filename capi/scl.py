@@ -167,8 +167,8 @@ def _record(it):
 
 def ask(compiler, words, directory=b"", environment=(), files=(), directories=(), existing=(), most_words=None, **wishes):
     """The answer to the words behind a program. Words, paths and names are bytes, environment and files pairs of bytes, and
-    most_words is the bound on them, None is 1,000,000, and the wishes are those of scl_request: is_multiarch, wants_runs, may_dist, rewrite_includes_only, cache_mode, wants_questions
-    and wants_hazards."""
+    most_words is the bound on them, None being 1,000,000. The wishes are those of scl_request: is_multiarch, wants_runs,
+    may_dist, rewrite_includes_only, cache_mode, wants_questions and wants_hazards."""
     kept = []
     request = Request(_bytes(compiler, kept), _bytes(directory, kept), _words(words, kept), _pairs(environment, kept), _pairs(files, kept),
                       _words(directories, kept), _words(existing, kept), 0 if most_words is None else most_words)
