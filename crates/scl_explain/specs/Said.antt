@@ -1,14 +1,12 @@
 -- What is said of a command line on a disk.
-use Rattle.std.specs.Prelude.{◌≡◌, ℕ, Bool, false, List, [], Option, None, Some, Err}
+use Rattle.std.specs.Prelude.{◌≡◌, ℕ, Bool, List, [], Err}
 use Rattle.scl_values.specs.Words.{words_of}
 use Rattle.scl_files.specs.Views.{Viewed}
 use Rattle.scl_text.specs.Commands.{pairs_of}
-use Rattle.scl_text.specs.Records.{Parsed}
 use Rattle.scl_hazards.specs.declared.hazard.Hazard.{Hazard}
 use Rattle.scl_reader.specs.CommandLines.{Request, asked}
-use Rattle.scl_reader.specs.Answers.{Answer, answer_to, runs_by}
+use Rattle.scl_reader.specs.Answers.{Answer, answer_to}
 use Rattle.scl_describe.specs.Hazards.{hazards_by}
-use Rattle.scl_reader.specs.declared.compiler.Compiler.{Compiler}
 use Rattle.scl_load.specs.Loads.{Load, IsDiskError, IsEnd}
 use Rattle.scl_reader.specs.Within.{default_most}
 use Rattle.scl_load.specs.declared.loader.LoadError.{LoadError}
@@ -23,12 +21,6 @@ use Rattle.scl_explain.specs.declared.status.Ending.TheVariants as ending
 -- what is asked about a command line in a view
 abbrev pub request_of : Case → Viewed → Request
 request_of case view = asked case.compiler (words_of case.words.items) case.cwd.items (pairs_of case.env_vars.items) view
-
--- the words of the preprocessor's runs for what was read, if a record was: for no distant compiler, with macros replaced, and for
--- no cache of such runs
-abbrev pub runs_for : Compiler → Option Parsed → List (List (List ℕ))
-runs_for compiler None = []
-runs_for compiler (Some parsed) = runs_by compiler false false false parsed
 
 -- in a view the answer is that on each disk of which this holds, and this is said of it and of the hazards there
 pub record IsSaid (holds : Viewed → Type 0) (multiarch : Bool) (case : Case) (says : Answer → List Hazard → Type 0) : Type 0 where

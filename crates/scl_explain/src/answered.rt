@@ -1,16 +1,15 @@
 //! What a command line is answered, with what its answer asks of a disk.
-ghost use Rattle.std.specs.Prelude.{◌≡◌, IfOk, IfErr, IsTrue, map};
-ghost use Rattle.std.specs.Result.{result_ok};
+ghost use Rattle.std.specs.Prelude.{◌≡◌, IfOk, IfErr, IsTrue, None, false, map};
 ghost use Rattle.scl_files.specs.Views.{Viewed};
 ghost use Rattle.scl_text.specs.Runs.{runs_of};
 ghost use Rattle.scl_reader.specs.Answers.{answer_to, reading_by};
-ghost use Rattle.scl_reader.specs.AnswersGiven.{answer_of, record_given};
+ghost use Rattle.scl_reader.specs.AnswersGiven.{answer_of};
 ghost use Rattle.scl_reader.specs.CommandLines.{asked_for, given_by};
-ghost use Rattle.scl_reader.specs.Reads.{compiler_of};
+ghost use Rattle.scl_reader.specs.Reads.{compiler_of, runs_for};
 ghost use Rattle.scl_describe.specs.Hazards.{hazards_by};
 ghost use Rattle.scl_describe.specs.OptionRows.{rows_by};
 ghost use Rattle.scl_rows.specs.Rows.{told};
-ghost use Rattle.scl_explain.specs.Said.{IsNotLoaded, request_of, runs_for};
+ghost use Rattle.scl_explain.specs.Said.{IsNotLoaded, request_of};
 ghost use Rattle.scl_load.specs.Loads.{IsDiskError};
 
 use crate::case::Case;
@@ -44,26 +43,6 @@ pub struct Answered {
     pub view: View,
 }
 
-/// The words of the preprocessor's runs for an answer.
-fn runs_for(
-    alloc: Global,
-    case: &Case,
-    answer: &CompilerArguments<Compilation>,
-) -> Mem<Vec<Vec<Vec<u8>>>>
-    ensures { IfOk result (λ runs. runs_of runs.items ≡ runs_for case.now.compiler (record_given answer.now)) }
-{
-    match answer {
-        CompilerArguments::Ok(compilation) => {
-            let parsed = &compilation.parsed;
-            case.compiler
-                .preprocess_runs(alloc, parsed, false, false, false)
-        }
-        CompilerArguments::CannotCache(_, _) | CompilerArguments::NotCompilation => {
-            Ok(Vec::new(alloc))
-        }
-    }
-}
-
 /// What became of each option, where that is wanted.
 fn rows_for(
     alloc: Global,
@@ -94,7 +73,9 @@ pub fn answer_case<D: Disk>(
     ensures answer { IfOk result (λ said. IfOk said (λ answered. (held : Viewed) → D.holds disk.now held → held.is_multiarch ≡ multiarch
         → answer_to (request_of case.now held) ≡ answer_of answered.answer)) }
     ensures loaded { IfOk result (λ said. IfOk said (λ answered. answer_to (request_of case.now answered.view) ≡ answer_of answered.answer)) }
-    ensures runs { IfOk result (λ said. IfOk said (λ answered. runs_of answered.runs.items ≡ runs_for case.now.compiler (result_ok (reading_by case.now.compiler (request_of case.now answered.view))))) }
+    ensures decided { IfOk result (λ said. IfOk said (λ answered. (held : Viewed) → D.holds disk.now held → held.is_multiarch ≡ multiarch
+        → reading_by case.now.compiler (request_of case.now held) ≡ reading_by case.now.compiler (request_of case.now answered.view))) }
+    ensures runs { IfOk result (λ said. IfOk said (λ answered. runs_of answered.runs.items ≡ runs_for None case.now.compiler false false false (reading_by case.now.compiler (request_of case.now answered.view)))) }
     ensures hazards { IfOk result (λ said. IfOk said (λ answered. answered.hazards.items ≡ hazards_by case.now.compiler (request_of case.now answered.view))) }
     ensures rows { IfOk result (λ said. IfOk said (λ answered. IsTrue wants_rows → map told answered.rows.items ≡ rows_by case.now.compiler (request_of case.now answered.view))) }
     ensures end { IfOk result (λ said. IfErr said (IsNotLoaded (D.holds disk.now) multiarch case.now)) }
@@ -110,8 +91,8 @@ pub fn answer_case<D: Disk>(
     let line = line.in_view(&view);
     let rows = rows_for(alloc, &reading, &line, wants_rows)?;
     let hazards = hazards_of(alloc, &reading, &line)?;
+    let runs = reading.runs(alloc, None, false, false, false)?;
     let answer = reading.into_answer(alloc, &case.program, &line)?;
-    let runs = runs_for(alloc, case, &answer)?;
     Ok(Ok(Answered {
         answer,
         runs,

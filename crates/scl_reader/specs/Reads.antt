@@ -1,5 +1,5 @@
 -- A command line of any compiler that is served, read, and what its reading says.
-use Rattle.std.specs.Prelude.{◌≡◌, ℕ, Bool, true, false, List, [], ◌∷◌, ◌++◌, length, map, Result, if◌then◌else◌}
+use Rattle.std.specs.Prelude.{◌≡◌, ℕ, Bool, true, false, List, [], ◌∷◌, ◌++◌, length, map, Option, Result, Ok, Err, if◌then◌else◌}
 use Rattle.scl_files.specs.Expanded.{ExpandedWords, expanded_by, standing}
 use Rattle.scl_files.specs.Sources.{indices}
 use Rattle.scl_files.specs.declared.expand.ExpansionKind.{ExpansionKind}
@@ -22,7 +22,7 @@ use Rattle.scl_text.specs.declared.records.CCompilerKind.{CCompilerKind}
 use Rattle.scl_text.specs.declared.records.CCompilerKind.TheVariants as kinds
 use Rattle.scl_values.specs.Row.{Row}
 use Rattle.scl_values.specs.Tables.{owner_in}
-use Rattle.scl_reader.specs.Answers.{reading_by}
+use Rattle.scl_reader.specs.Answers.{reading_by, runs_with}
 use Rattle.scl_reader.specs.CommandLines.{Given, Request, given_in}
 use Rattle.scl_reader.specs.declared.compiler.Compiler.{Compiler}
 use Rattle.scl_reader.specs.declared.compiler.Compiler.TheVariants as compilers
@@ -84,6 +84,14 @@ outcome_in (Gnu r) = r.outcome
 outcome_in (Msvc r) = r.outcome
 outcome_in (Diab r) = r.outcome
 outcome_in (Tasking r) = r.outcome
+
+-- the runs of the preprocessor for what was read, by a compiler whose version has this text, if it is known
+abbrev pub runs_for : Option (List ℕ) → Compiler → (may_dist rewrites cache_mode : Bool) → Result Parsed Verdict → List (List (List ℕ))
+runs_for version compiler may_dist rewrites cache_mode (Ok parsed) = runs_with version compiler may_dist rewrites cache_mode parsed
+runs_for version compiler may_dist rewrites cache_mode (Err verdict) = []
+
+abbrev pub runs_in : Option (List ℕ) → (may_dist rewrites cache_mode : Bool) → Reading → List (List (List ℕ))
+runs_in version may_dist rewrites cache_mode r = runs_for version (compiler_of r) may_dist rewrites cache_mode (outcome_in r)
 
 -- a response file that is lacked: whose it is, and its path
 pub record Lacked : Type 0 where

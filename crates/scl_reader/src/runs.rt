@@ -4,9 +4,11 @@ ghost use Rattle.std.specs.Option.{option_map};
 ghost use Rattle.scl_text.specs.Records.{parsed_of};
 ghost use Rattle.scl_text.specs.Runs.{runs_of};
 ghost use Rattle.scl_reader.specs.Answers.{runs_by, runs_with};
+ghost use Rattle.scl_reader.specs.Reads.{runs_in};
 
 use crate::ask::Query;
 use crate::compiler::Compiler;
+use crate::reading::Reading;
 use scl_text::records::ParsedArguments;
 use scl_text::{CCompilerImpl, Mem};
 use std::alloc::Global;
@@ -84,5 +86,32 @@ impl Compiler {
             cache_mode,
         };
         self.ask_with(alloc, query, version)
+    }
+}
+
+impl Reading {
+    /// The words of the runs of the preprocessor for its record, as `Compiler::preprocess_runs_with` gives them; none without a
+    /// record. It fails only for want of memory.
+    pub fn runs(
+        &self,
+        alloc: Global,
+        version: Option<String>,
+        may_dist: bool,
+        rewrite_includes_only: bool,
+        cache_mode: bool,
+    ) -> Mem<Vec<Vec<Vec<u8>>>>
+        ensures { IfOk result (λ runs. runs_of runs.items ≡ runs_in (option_map string_bytes version) may_dist rewrite_includes_only cache_mode self.now) }
+    {
+        match self.record() {
+            Some(parsed) => self.compiler().preprocess_runs_with(
+                alloc,
+                version,
+                parsed,
+                may_dist,
+                rewrite_includes_only,
+                cache_mode,
+            ),
+            None => Ok(Vec::new(alloc)),
+        }
     }
 }
