@@ -52,11 +52,11 @@ Stays None new pending pending' = Unit {0}
 Stays (Some r) None pending pending' = ⊥
 Stays (Some r) (Some r') pending pending' = pending ++ r ≡ pending' ++ r'
 
--- it lost a line
+-- it lost a line, with its LF if that has one
 abbrev pub LosesLine : (old new : Option (List ℕ)) → (pending pending' text : List ℕ) → Type 0
 LosesLine None new pending pending' text = Unit {0}
 LosesLine (Some r) None pending pending' text = ⊥
-LosesLine (Some r) (Some r') pending pending' text = lines_of (pending ++ r) ≡ text ∷ lines_of (pending' ++ r')
+LosesLine (Some r) (Some r') pending pending' text = (lines_of (pending ++ r) ≡ text ∷ lines_of (pending' ++ r')) × (length (pending' ++ r') < length (pending ++ r))
 
 -- it was nothing
 abbrev pub HadNone : Option (List ℕ) → List ℕ → Type 0
@@ -68,7 +68,7 @@ abbrev pub TakesLine : (old new : Option (List ℕ)) → (pending pending' : Lis
 TakesLine old new pending pending' before after (Ok (Some text)) = LosesLine old new pending pending' text.items × (after ≡ before)
 TakesLine old new pending pending' before after (Ok None) = HadNone old pending × IsAtEnd new × (after ≡ before)
 TakesLine old new pending pending' before after (Err Memory) = after ≡ before
-TakesLine old new pending pending' before after (Err Device) = (after ≡ one_more before) ⊎ (IfSome old (λ r. 2 ^ 40 ≤ length r) × (after ≡ before))
+TakesLine old new pending pending' before after (Err Device) = (after ≡ one_more before) ⊎ (IfSome old (λ r. 2 ^ 40 ≤ length (pending ++ r)) × (after ≡ before))
 
 -- More bytes were read, at least one; or there were none; or memory was refused; or the read failed.
 abbrev pub ReadsMore : (old new : Option (List ℕ)) → (pending pending' : List ℕ) → (before after : ℕ) → Result Bool ReadError → Type 0

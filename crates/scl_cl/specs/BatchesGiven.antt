@@ -1,5 +1,6 @@
 -- What of a batch the code gives.
-use Rattle.std.specs.Prelude.{◌≡◌, ◌<◌, ◌≤◌, ◌^◌, ◌⊎◌, ℕ, length, take, drop, List, [], ◌∷◌, ◌++◌, codes, Option, Some, None, IfSome, Result, Ok, Err, Vec}
+use Rattle.std.specs.Prelude.{◌≡◌, ◌<◌, ◌≤◌, ◌+◌, ◌^◌, ◌⊎◌, ℕ, true, length, take, drop, List, [], ◌∷◌, ◌++◌, codes, Option, Some, None, IfSome, Result, Ok, Err, Vec}
+use Rattle.std.specs.Str.{bytes_eq}
 use Rattle.std.specs.Io.KnownBytes.{Appends, IsAtEnd}
 use Rattle.std.specs.List.{flat_map, onto_first}
 use Rattle.std.specs.declared.alloc.Global.{Global}
@@ -64,7 +65,7 @@ abbrev pub TakesIn : (List ℕ → Result (List ℕ) ℕ → Type 0) → (text r
 TakesIn answers text request request' old new before after (Ok done) = (written : List ℕ) × Steps answers text request request' written × Appends old new written × (after ≡ before)
 TakesIn answers text request request' old new before after (Err Memory) = (new ≡ old) × (after ≡ before)
 TakesIn answers text request request' old new before after (Err Read) = ⊥
-TakesIn answers text request request' old new before after (Err Write) = (text ≡ codes "end") × IsToldPart (answers request) old new × (after ≡ one_more before)
+TakesIn answers text request request' old new before after (Err Write) = (bytes_eq text (codes "end") ≡ true) × IsToldPart (answers request) old new × (after ≡ one_more before)
 
 -- the end was met behind these lines of a request
 abbrev pub Ends : (List ℕ → Result (List ℕ) ℕ → Type 0) → (request written : List ℕ) → Type 0
@@ -74,7 +75,7 @@ abbrev pub TakesEnd : (List ℕ → Result (List ℕ) ℕ → Type 0) → (reque
 TakesEnd answers request old new before after (Ok done) = (written : List ℕ) × Ends answers request written × Appends old new written × (after ≡ before)
 TakesEnd answers request old new before after (Err Memory) = (new ≡ old) × (after ≡ before)
 TakesEnd answers request old new before after (Err Read) = ⊥
-TakesEnd answers request old new before after (Err Write) = (0 < length request) × IsToldPart (answers request) old new × (after ≡ one_more before)
+TakesEnd answers request old new before after (Err Write) = (¬ (request ≡ [])) × IsToldPart (answers request) old new × (after ≡ one_more before)
 
 -- ---- the whole batch
 
@@ -86,11 +87,18 @@ Owes answers (Some r0) None pending request written = ⊥
 Owes answers (Some r0) (Some r) pending request written = (so_far : List (List ℕ)) × (request ≡ flat_map line so_far)
     × (done : List (List (List ℕ))) × AreTold answers done written × (requests_of (lines_of r0) ≡ done ++ before_requests so_far (requests_of (lines_of (pending ++ r))))
 
+-- so many lines were taken of all bytes, each of them a byte at least
+abbrev pub Fits : (all now : Option (List ℕ)) → (pending : List ℕ) → ℕ → Type 0
+Fits None now pending lines = Unit {0}
+Fits (Some r0) None pending lines = ⊥
+Fits (Some r0) (Some r) pending lines = lines + length (pending ++ r) ≤ length r0
+
 -- all that a batch does, less what was read and answered
-pub record Served (answers : List ℕ → Result (List ℕ) ℕ → Type 0) (all now old new : Option (List ℕ)) (pending request : List ℕ) : Type 0 where
+pub record Served (answers : List ℕ → Result (List ℕ) ℕ → Type 0) (all now old new : Option (List ℕ)) (pending request : List ℕ) (lines : ℕ) : Type 0 where
   pub written : List ℕ
   pub appended : Appends old new written
   pub owes : Owes answers all now pending request written
+  pub fits : Fits all now pending lines
 
 -- All requests were answered; or memory was refused; or the reader failed; or the writer failed.
 abbrev pub BatchEnds : (List ℕ → Result (List ℕ) ℕ → Type 0) → (all now old new : Option (List ℕ)) → (read_before read_after write_before write_after : ℕ) → Result (Unit {0}) Stop → Type 0
