@@ -76,8 +76,8 @@ pub record IsLed (disk : Viewed) (load : Load) (readings : ℕ) (view : Viewed) 
 
 -- so goes a load on, on each disk of which this holds
 abbrev pub GoesOn : (Viewed → Type 0) → (before after : Viewed) → (leads leads' : List Lead) → (Viewed → Load → Type 0) → Type 0
-GoesOn holds before after leads leads' and = (disk : Viewed) (load : Load) (readings : ℕ) → holds disk → IsLed disk load readings before leads
-    → IsLed disk load readings after leads' × Extends after before × and disk load
+GoesOn holds before after leads leads' also = (disk : Viewed) (load : Load) (readings : ℕ) → holds disk → IsLed disk load readings before leads
+    → IsLed disk load readings after leads' × Extends after before × also disk load
 
 -- the next that the disk has and the view had not was found, or there is none; or the disk fails
 abbrev pub IsFoundNext : {E : Type 0} → (Viewed → Type 0) → (E → Type 0) → (leads leads' : all.Leads) → (before after : Viewed) → Result (Option code.Lead) E → Type 0

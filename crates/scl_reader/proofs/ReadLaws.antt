@@ -21,7 +21,7 @@ use Rattle.scl_reader.specs.declared.compiler.Compiler.TheVariants as compilers
 use Rattle.scl_reader.specs.declared.kept.Compilation.{Compilation}
 use Rattle.scl_reader.specs.declared.reading.Reading.{Reading}
 use Rattle.scl_reader.specs.Answers.{reading_by}
-use Rattle.scl_reader.specs.AnswersGiven.{AnswersOutcome, IsAnswerBy}
+use Rattle.scl_reader.specs.AnswersGiven.{AnswersReading, IsAnswerBy}
 use Rattle.scl_reader.specs.CommandLines.{Given, Request, asked_for, given_in}
 use Rattle.scl_reader.specs.Definitions.{definitions_of}
 use Rattle.scl_reader.specs.Reads.{IsReadBy, ReadingsSay, compiler_of, expanded, outcome_in, read_by, read_of}
@@ -51,8 +51,7 @@ readings-say request = record { compiler = by-compiler request.compiler (given_i
 
 module _ (request : Request) (executable : List ℕ) (answer : CompilerArguments Compilation) where
   abbrev Answers : Reading → Type 0
-  Answers reading = AnswersOutcome (λ compilation. compilation.command) (λ compilation. compilation.cacheable) (λ compilation parsed. parsed_of compilation.parsed ≡ parsed)
-      (definitions_of (compiler_of reading)) executable (outcome_in reading) request.directory request.environment request.view answer
+  Answers reading = AnswersReading (definitions_of (compiler_of reading)) executable (outcome_in reading) request.directory request.environment request.view answer
 
   abbrev IsAnswer : Compiler → Type 0
   IsAnswer compiler = IsAnswerBy (λ compilation. compilation.command) (λ compilation. compilation.cacheable) (λ compilation parsed. parsed_of compilation.parsed ≡ parsed) (definitions_of compiler)

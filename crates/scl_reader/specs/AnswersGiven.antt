@@ -54,6 +54,10 @@ AnswersOutcome command cacheable is_of definitions executable outcome cwd env_va
 abbrev pub answer_of : CompilerArguments Compilation → Answer
 answer_of = answer_by (λ compilation. compilation.command) (λ compilation. compilation.cacheable)
 
+-- it is the answer that these definitions give to each command line with this outcome
+abbrev pub AnswersReading : Definitions → List ℕ → Result Parsed Verdict → List ℕ → List (List ℕ × List ℕ) → Viewed → CompilerArguments Compilation → Type 0
+AnswersReading = AnswersOutcome (λ compilation. compilation.command) (λ compilation. compilation.cacheable) (λ compilation parsed. parsed_of compilation.parsed ≡ parsed)
+
 -- where there is a command, what was read is this reading, and the command has this program, environment and directory
 abbrev pub HasParts : Result Parsed Verdict → List ℕ → List (List ℕ × List ℕ) → List ℕ → CompilerArguments Compilation → Type 0
 HasParts reading executable env_vars cwd = IfKept (λ compilation.

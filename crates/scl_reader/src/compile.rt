@@ -7,7 +7,7 @@ ghost use Rattle.scl_values.specs.Words.{words_of};
 ghost use Rattle.scl_text.specs.Commands.{pairs_of, command_by};
 ghost use Rattle.scl_reader.specs.CommandLines.{asked};
 ghost use Rattle.scl_reader.specs.Answers.{Keeps, answer_to, answer_with, environment_by, reading_by, read_again_by};
-ghost use Rattle.scl_reader.specs.AnswersGiven.{answer_by, answer_of, command_answer, record_given, HasBuilt, HasKept, HasParts, HasCommand, IfCompiled, IsAnswerBy, AnswersOutcome};
+ghost use Rattle.scl_reader.specs.AnswersGiven.{answer_by, answer_of, command_answer, record_given, HasBuilt, HasKept, HasParts, HasCommand, IfCompiled, IsAnswerBy, AnswersOutcome, AnswersReading};
 ghost use Rattle.scl_reader.specs.Definitions.{definitions_of};
 ghost use Rattle.scl_reader.specs.Reads.{compiler_of, outcome_in};
 
@@ -216,8 +216,7 @@ impl Reading {
         executable: &[u8],
         line: &CommandLine<'_>,
     ) -> Mem<CompilerArguments<Compilation>>
-        ensures answer { IfOk result (λ answer. AnswersOutcome (λ compilation. compilation.command) (λ compilation. compilation.cacheable) (λ compilation parsed. parsed_of compilation.parsed ≡ parsed)
-            (definitions_of (compiler_of self)) executable.now (outcome_in self) line.now.directory.now (pairs_of line.now.environment.now) line.now.view.now answer) }
+        ensures { IfOk result (AnswersReading (definitions_of (compiler_of self)) executable.now (outcome_in self) line.now.directory.now (pairs_of line.now.environment.now) line.now.view.now) }
     {
         let compiler = self.compiler();
         let CommandLine {
