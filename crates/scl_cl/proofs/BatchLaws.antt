@@ -1,9 +1,9 @@
 -- Batches, read line by line.
-use Rattle.std.proofs.Common.{◌≡◌, ℕ, ◌+◌, ◌-◌, ◌<◌, ◌≤◌, ◌^◌, Bool, true, false, cond, List, [], ◌∷◌, ◌++◌, codes, length, take, drop, Option, Some, None, IfSome, Result, Ok, Err, refl, ap, sym, subst, ◌∙◌, append-nil, append_assoc, nat_eq, is_some, arith, inl, inr, take-append-drop}
+use Rattle.std.proofs.Common.{◌≡◌, ℕ, ◌+◌, ◌-◌, ◌<◌, ◌≤◌, ◌^◌, Bool, true, false, cond, List, [], ◌∷◌, ◌++◌, codes, length, take, drop, Option, Some, None, IfSome, Result, Ok, Err, refl, ap, sym, subst, ◌∙◌, append-nil, append_assoc, nat_eq, is_some, arith, inl, inr, length-drop, take-append-drop}
 use Rattle.std.specs.List.{flat_map, onto_first}
 use Rattle.std.specs.Str.{bytes_eq}
 use Rattle.std.specs.Io.KnownBytes.{Appends, Consumes, IsAtEnd}
-use Rattle.std.proofs.Math.Seq.{drop-append_seam, take-append_seam}
+use Rattle.std.proofs.Math.Seq.{drop-append_seam, take-append_seam, take-length}
 use Rattle.std.proofs.lemmas.Grind.{flat_map-append}
 use Rattle.std.proofs.lemmas.List.{length-append, length-take-le}
 use Rattle.scl_description.specs.Lines.{cut_at, with_first, line, lines_of}
@@ -14,8 +14,9 @@ use Rattle.std.specs.Prelude.{Vec}
 use Rattle.scl_devices.specs.Counts.{one_more}
 use Rattle.scl_cl.specs.declared.batch.Stop.{Stop}
 use Rattle.scl_cl.specs.declared.batch.Stop.TheVariants as stops
+use Rattle.scl_cl.specs.declared.transfer.ReadError.{ReadError}
 use Rattle.scl_cl.specs.declared.transfer.ReadError.TheVariants as read_errors
-use Rattle.scl_cl.specs.BatchesGiven.{before_requests, Steps, Ends, Fits, Owes, IsTold, IsToldPart, TakesIn, TakesEnd, Served, BatchEnds, LastOf}
+use Rattle.scl_cl.specs.BatchesGiven.{before_requests, Steps, Ends, Fits, Owes, IsTold, IsToldPart, TakesIn, TakesEnd, Served, BatchEnds, LastOf, StopsBy}
 
 -- ---- lines of what is left
 
@@ -59,27 +60,60 @@ cut-behind m (x ∷ xs) ys front rest n e =
     ] n
 
 -- what is cut at a mark
-first-is : (b : ℕ) (o : Option (List ℕ × List ℕ)) (front rest : List ℕ) → with_first b o ≡ parts front rest → (tail : List ℕ) × (o ≡ parts tail rest) × (front ≡ b ∷ tail)
-first-is b None front rest e = absurd (cc)
-first-is b (Some p) front rest e = (p.0, cc, cc)
+abbrev front-of : Option (List ℕ × List ℕ) → List ℕ
+front-of None = []
+front-of (Some p) = p.0
+
+abbrev rest-of : Option (List ℕ × List ℕ) → List ℕ
+rest-of None = []
+rest-of (Some p) = p.1
+
+some-parts : (o : Option (List ℕ × List ℕ)) (b : ℕ) (front rest : List ℕ) → with_first b o ≡ parts front rest → o ≡ parts (front-of o) rest
+some-parts None b front rest e = absurd (cc)
+some-parts (Some p) b front rest e = ap (λ r. parts p.0 r) (ap rest-of e)
+
+some-front : (o : Option (List ℕ × List ℕ)) (b : ℕ) (front rest : List ℕ) → with_first b o ≡ parts front rest → b ∷ front-of o ≡ front
+some-front None b front rest e = absurd (cc)
+some-front (Some p) b front rest e = ap front-of e
 
 cut-is : (m : ℕ) (xs front rest : List ℕ) → cut_at m xs ≡ parts front rest → (mark : ℕ) × (xs ≡ front ++ mark ∷ rest)
 cut-is m [] front rest e = absurd (cc)
 cut-is m (x ∷ xs) front rest e =
     elim (nat_eq x m) as (λ v. cond v (parts [] xs) (with_first x (cut_at m xs)) ≡ parts front rest → (mark : ℕ) × (x ∷ xs ≡ front ++ mark ∷ rest)) [
-      | true ↦ λ k. (x, cc)
+      | true ↦ λ k. (x, ap (λ r. x ∷ r) (ap rest-of k) ∙ ap (λ f. f ++ x ∷ rest) (ap front-of k))
       | false ↦ λ k.
-          let tail = first-is x (cut_at m xs) front rest k in
-          let more = cut-is m xs tail.0 rest tail.1 in
-          (more.0, ap (λ ys. x ∷ ys) more.1 ∙ ap (λ f. f ++ more.0 ∷ rest) (sym tail.2))
+          let more = cut-is m xs (front-of (cut_at m xs)) rest (some-parts (cut_at m xs) x front rest k) in
+          (more.0, ap (λ ys. x ∷ ys) more.1 ∙ ap (λ f. f ++ more.0 ∷ rest) (some-front (cut_at m xs) x front rest k))
     ] e
 
+-- what a slice to the end takes
+pub slice-all : (n : ℕ) (xs : List ℕ) → take (length xs - n) (drop n xs) ≡ drop n xs
+slice-all n xs = subst (λ k. take k (drop n xs) ≡ drop n xs) (length-drop n xs) (take-length (drop n xs))
+
 -- of bytes that end so, the end is what stands behind the others
+joined : (a b : List ℕ) (m : ℕ) (rest : List ℕ) → a ++ (b ++ m ∷ rest) ≡ (a ++ (b ++ m ∷ [])) ++ rest
+joined [] [] m rest = refl
+joined [] (x ∷ b) m rest = ap (λ t. x ∷ t) (joined [] b m rest)
+joined (x ∷ a) b m rest = ap (λ t. x ∷ t) (joined a b m rest)
+
 ends-so : (xs rest : List ℕ) → drop (length (xs ++ rest) - length rest) (xs ++ rest) ≡ rest
 ends-so xs rest =
     let long : length (xs ++ rest) ≡ length xs + length rest = length-append xs rest in
     let less : length (xs ++ rest) - length rest ≡ length xs = omega arith in
     rw less (drop-append_seam xs rest)
+
+ends-behind : (bytes a left b rest : List ℕ) (m : ℕ) → bytes ≡ a ++ left → left ≡ b ++ m ∷ rest → (drop (length bytes - length rest) bytes ≡ rest) × (length rest ≤ length bytes)
+ends-behind bytes a left b rest m e f =
+    let all : bytes ≡ (a ++ (b ++ m ∷ [])) ++ rest = e ∙ ap (λ xs. a ++ xs) f ∙ joined a b m rest in
+    let long : length ((a ++ (b ++ m ∷ [])) ++ rest) ≡ length (a ++ (b ++ m ∷ [])) + length rest = length-append (a ++ (b ++ m ∷ [])) rest in
+    let same : length bytes ≡ length ((a ++ (b ++ m ∷ [])) ++ rest) = ap length all in
+    (subst (λ bs. drop (length bs - length rest) bs ≡ rest) (sym all) (ends-so (a ++ (b ++ m ∷ [])) rest), omega arith)
+
+begins-so : (left b rest : List ℕ) (m : ℕ) → left ≡ b ++ m ∷ rest → (take (length b) left ≡ b) × (length b ≤ length left)
+begins-so left b rest m f =
+    let long : length (b ++ m ∷ rest) ≡ length b + length (m ∷ rest) = length-append b (m ∷ rest) in
+    let same : length left ≡ length (b ++ m ∷ rest) = ap length f in
+    (subst (λ xs. take (length b) xs ≡ b) (sym f) (take-append_seam b (m ∷ rest)), omega arith)
 
 -- the first line, where none ends in so many bytes
 module _ (bytes : List ℕ) (begin searched : ℕ) (within : searched ≤ length (drop begin bytes)) (none : cut_at 10 (take searched (drop begin bytes)) ≡ None) where
@@ -92,20 +126,29 @@ module _ (bytes : List ℕ) (begin searched : ℕ) (within : searched ≤ length
   pub first-lacks : cut_at 10 (drop searched left) ≡ None → cut_at 10 left ≡ None
   first-lacks n = subst (λ xs. cut_at 10 xs ≡ None) whole (cut_at-append 10 (take searched left) (drop searched left) none n)
 
+  first-cut : (front rest : List ℕ) → cut_at 10 (drop searched left) ≡ parts front rest → cut_at 10 left ≡ parts (take searched left ++ front) rest
+  first-cut front rest e = subst (λ xs. cut_at 10 xs ≡ parts (take searched left ++ front) rest) whole (cut-behind 10 (take searched left) (drop searched left) front rest none e)
+
+  first-long : (front : List ℕ) → length (take searched left ++ front) ≡ searched + length front
+  first-long front = length-append (take searched left) front ∙ ap (λ n. n + length front) (length-take-le searched left within)
+
+  pub first-fits : (front rest : List ℕ) → cut_at 10 (drop searched left) ≡ parts front rest → searched + length front ≤ length left
+  first-fits front rest e =
+      let is = cut-is 10 left (take searched left ++ front) rest (first-cut front rest e) in
+      subst (λ n. n ≤ length left) (first-long front) (begins-so left (take searched left ++ front) rest is.0 is.1).1
+
+  pub rest-fits : (front rest : List ℕ) → cut_at 10 (drop searched left) ≡ parts front rest → length rest ≤ length bytes
+  rest-fits front rest e =
+      let is = cut-is 10 left (take searched left ++ front) rest (first-cut front rest e) in
+      (ends-behind bytes (take begin bytes) left (take searched left ++ front) rest is.0 (sym (take-append-drop begin bytes)) is.1).1
+
   pub first-line : (front rest : List ℕ) → cut_at 10 (drop searched left) ≡ parts front rest
       → cut_at 10 left ≡ parts (take (searched + length front) left) (drop (length bytes - length rest) bytes)
   first-line front rest e =
-      let cut : cut_at 10 left ≡ parts (take searched left ++ front) rest = subst (λ xs. cut_at 10 xs ≡ parts (take searched left ++ front) rest) whole (cut-behind 10 (take searched left) (drop searched left) front rest none e) in
-      let is = cut-is 10 left (take searched left ++ front) rest cut in
-      let all : bytes ≡ ((take begin bytes ++ take searched left ++ front) ++ is.0 ∷ []) ++ rest =
-          sym (take-append-drop begin bytes) ∙ ap (λ xs. take begin bytes ++ xs) is.1
-          ∙ sym (append_assoc (take begin bytes) (take searched left ++ front) (is.0 ∷ rest)) ∙ sym (append_assoc (take begin bytes ++ take searched left ++ front) (is.0 ∷ []) rest) in
-      let ends : drop (length bytes - length rest) bytes ≡ rest = subst (λ bs. drop (length bs - length rest) bs ≡ rest) (sym all) (ends-so ((take begin bytes ++ take searched left ++ front) ++ is.0 ∷ []) rest) in
-      let short : length (take searched left) ≡ searched = length-take-le searched left within in
-      let two : length (take searched left ++ front) ≡ searched + length front = length-append (take searched left) front ∙ ap (λ n. n + length front) short in
-      let taken : take (searched + length front) left ≡ take searched left ++ front =
-          subst (λ n. take n left ≡ take searched left ++ front) two (subst (λ xs. take (length (take searched left ++ front)) xs ≡ take searched left ++ front) (sym is.1) (take-append_seam (take searched left ++ front) (is.0 ∷ rest))) in
-      cut ∙ rw (taken, ends) refl
+      let is = cut-is 10 left (take searched left ++ front) rest (first-cut front rest e) in
+      let ends = (ends-behind bytes (take begin bytes) left (take searched left ++ front) rest is.0 (sym (take-append-drop begin bytes)) is.1).0 in
+      let begins = subst (λ n. take n left ≡ take searched left ++ front) (first-long front) (begins-so left (take searched left ++ front) rest is.0 is.1).0 in
+      first-cut front rest e ∙ ap (λ f. parts f rest) (sym begins) ∙ ap (λ r. parts (take (searched + length front) left) r) (sym ends)
 
 pub stays-on : (a b c : Option (List ℕ)) (p q s : List ℕ) → Stays a b p q → Stays b c q s → Stays a c p s
 stays-on None b c p q s h k = tt
@@ -396,12 +439,33 @@ module _ (answers : List ℕ → Result (List ℕ) ℕ → Type 0) where
   first-owes None = ([], refl)
   first-owes (Some r0) = ([], refl, [], refl, refl)
 
-  first-fits : (all : Option (List ℕ)) → Fits all all [] 0
-  first-fits None = tt
-  first-fits (Some r0) = omega arith
+  fits-first : (all : Option (List ℕ)) → Fits all all [] 0
+  fits-first None = tt
+  fits-first (Some r0) = omega arith
 
   pub served-first : (all old : Option (List ℕ)) → Served answers all all old old [] [] 0
-  served-first all old = record { written = []; appended = appends-none old; owes = first-owes all; fits = first-fits all }
+  served-first all old = record { written = []; appended = appends-none old; owes = first-owes all; fits = fits-first all }
+
+-- ---- a batch that stops
+
+module _ (answers : List ℕ → Result (List ℕ) ℕ → Type 0) where
+  -- no line was taken
+  pub read-stops : (all now now' old mid : Option (List ℕ)) (pending pending' request : List ℕ) (lines rb rm ra wb wa : ℕ) (error : ReadError) (stop : Stop) → StopsBy error stop
+      → Served answers all now old mid pending request lines → rm ≡ rb → wa ≡ wb → TakesLine now now' pending pending' rm ra (Err error) → BatchEnds answers all now' old mid rb ra wb wa (Err stop)
+  read-stops all now now' old mid pending pending' request lines rb rm ra wb wa read_errors.Memory stop is served same wrote h =
+      subst (λ s. BatchEnds answers all now' old mid rb ra wb wa (Err s)) (sym is) (served-begun answers all now old mid mid pending request lines served refl, h ∙ same, wrote)
+  read-stops all now now' old mid pending pending' request lines rb rm ra wb wa read_errors.Device stop is served same wrote h =
+      subst (λ s. BatchEnds answers all now' old mid rb ra wb wa (Err s)) (sym is) (read-fails answers all now now' old mid pending pending' request lines rb rm ra wb wa served same wrote h)
+
+  -- the line that was taken ended a request that could not be answered
+  pub take-stops : (all now now' old mid new : Option (List ℕ)) (pending pending' text request request' : List ℕ) (lines rb ra wb wm wa : ℕ) (stop : Stop)
+      → Served answers all now old mid pending request lines → LosesLine now now' pending pending' text → ra ≡ rb → wm ≡ wb → TakesIn answers text request request' mid new wm wa (Err stop)
+      → BatchEnds answers all now' old new rb ra wb wa (Err stop)
+  take-stops all now now' old mid new pending pending' text request request' lines rb ra wb wm wa stops.Memory served loses read wrote h =
+      (served-begun answers all now old mid new pending request lines served h.0, read, h.1 ∙ wrote)
+  take-stops all now now' old mid new pending pending' text request request' lines rb ra wb wm wa stops.Read served loses read wrote h = absurd h
+  take-stops all now now' old mid new pending pending' text request request' lines rb ra wb wm wa stops.Write served loses read wrote h =
+      (served-broken answers all now now' old mid new pending pending' text request lines served loses h.0 h.1, read, h.2 ∙ ap one_more wrote)
 
 -- ---- reads for one line
 

@@ -225,9 +225,14 @@ fn serve_requests<S: Service, R: Read, W: Write>(
     let mut pending = Pending::new(alloc);
     let mut request = Vec::new(alloc);
     for _line in 0..u64::MAX {
-        match take_line(alloc, reader, &mut pending)? {
-            Some(text) => take_in(alloc, service, &text, &mut request, writer)?,
-            None => return take_end(alloc, service, request, writer),
+        let text = match take_line(alloc, reader, &mut pending) {
+            Ok(Some(text)) => text,
+            Ok(None) => return take_end(alloc, service, request, writer),
+            Err(error) => return Err(Stop::from(error)),
+        };
+        match take_in(alloc, service, &text, &mut request, writer) {
+            Ok(()) => {}
+            Err(stop) => return Err(stop),
         }
     }
     Err(Stop::Read)
