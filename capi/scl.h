@@ -41,7 +41,7 @@ enum scl_status {
 /* The request's text (docs/PROTOCOL.md, A request) is answered by the answer's text (An answer), as ccline does. *wanted is
  * the length of the text (SCL_OK, SCL_SHORT), or the number of the bad line (SCL_BAD), or 0. The text has no NUL behind it;
  * the rest of the room, and all of it where the status is not SCL_OK, is as it was. Words have no bound: where others write
- * the request, its files may name each other and give millions, so call scl_describe, or scl_ask with most_words. */
+ * the request, its files may name each other and give millions, so call scl_describe or scl_ask. */
 int32_t scl_run(const uint8_t *request, size_t request_len, uint8_t *room, size_t room_len, size_t *wanted);
 
 /* The same with a description of the answer (docs/PROTOCOL.md, A description), as describe writes it; the request may have
@@ -78,7 +78,8 @@ typedef struct scl_request {
     scl_pairs files;            /* response files; of two at one path the later one counts */
     scl_words directories;      /* paths that are directories */
     scl_words existing;         /* paths at which there is something */
-    size_t most_words;          /* that a command line may have, response files put in place: SIZE_MAX is no bound */
+    size_t most_words;          /* that a command line may have, response files put in place, and how often it may open files: */
+                                /*   0 is 1,000,000, SIZE_MAX is no bound */
     bool is_multiarch;          /* several architectures are allowed */
     bool wants_runs;            /* the runs of the preprocessor are told: */
     bool may_dist;              /*   for a distant compiler */
@@ -225,7 +226,7 @@ static inline scl_pairs scl_pairs_of(const scl_pair *at, size_t len) {
     return it;
 }
 
-/* A request of a compiler and words, with no directory, environment and files, no bound on words, and no wishes. */
+/* A request of a compiler and words, with no directory, environment and files, words bounded by 1,000,000, and no wishes. */
 static inline scl_request scl_request_of(const char *compiler, const scl_bytes *words, size_t len) {
     scl_request it;
     memset(&it, 0, sizeof it);
@@ -234,7 +235,7 @@ static inline scl_request scl_request_of(const char *compiler, const scl_bytes *
     it.words = scl_words_of(words, len);
     it.environment = it.files = scl_pairs_of(scl_no_pairs, 0);
     it.directories = it.existing = scl_words_of(scl_no_bytes, 0);
-    it.most_words = SIZE_MAX;
+    it.most_words = 0;
     return it;
 }
 

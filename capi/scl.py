@@ -167,11 +167,11 @@ def _record(it):
 
 def ask(compiler, words, directory=b"", environment=(), files=(), directories=(), existing=(), most_words=None, **wishes):
     """The answer to the words behind a program. Words, paths and names are bytes, environment and files pairs of bytes, and
-    the wishes are those of scl_request: is_multiarch, wants_runs, may_dist, rewrite_includes_only, cache_mode, wants_questions
-    and wants_hazards."""
+    most_words is the bound on them, None being 1,000,000. The wishes are those of scl_request: is_multiarch, wants_runs,
+    may_dist, rewrite_includes_only, cache_mode, wants_questions and wants_hazards."""
     kept = []
     request = Request(_bytes(compiler, kept), _bytes(directory, kept), _words(words, kept), _pairs(environment, kept), _pairs(files, kept),
-                      _words(directories, kept), _words(existing, kept), c.c_size_t(-1).value if most_words is None else most_words)
+                      _words(directories, kept), _words(existing, kept), 0 if most_words is None else most_words)
     for name, wish in wishes.items():
         if name not in WISHES:
             raise TypeError(f"no such wish: {name}")

@@ -7,19 +7,19 @@ use Rattle.scl_text.specs.Runs.{runs_of}
 use Rattle.scl_text.specs.declared.records.Cacheable.{Cacheable}
 use Rattle.scl_text.specs.declared.records.CompilerArguments.{CompilerArguments}
 use Rattle.scl_text.specs.declared.records.CompilerArguments.TheVariants as outcomes
-use Rattle.scl_cl.proofs.AgainLaws.{answers_again}
-use Rattle.scl_cl.specs.Answers.{Answer, answer_to, reading_by, environment_by, AnswerIsReadAgain}
-use Rattle.scl_cl.specs.Answers as answers
-use Rattle.scl_cl.specs.AnswersGiven.{answer_of, HasParts}
-use Rattle.scl_cl.specs.Compilers.{compiler_named}
-use Rattle.scl_cl.specs.Hazards.{hazards_by}
-use Rattle.scl_cl.specs.QuestionsGiven.{given}
-use Rattle.scl_cl.specs.Questions.{questions_of}
-use Rattle.scl_cl.specs.Requests.{asked}
-use Rattle.scl_cl.specs.Within.{has_at_most}
+use Rattle.scl_reader.proofs.AgainLaws.{answers_again}
+use Rattle.scl_reader.specs.Answers.{Answer, answer_to, reading_by, environment_by, AnswerIsReadAgain}
+use Rattle.scl_reader.specs.Answers as answers
+use Rattle.scl_reader.specs.AnswersGiven.{answer_of, HasParts}
+use Rattle.scl_reader.specs.Compilers.{compiler_named}
+use Rattle.scl_describe.specs.Hazards.{hazards_by}
+use Rattle.scl_reader.specs.QuestionsGiven.{given}
+use Rattle.scl_reader.specs.Questions.{questions_of}
+use Rattle.scl_reader.specs.CommandLines.{asked}
+use Rattle.scl_reader.specs.Within.{has_at_most}
 use Rattle.scl_files.specs.Views.{Viewed}
-use Rattle.scl_cl.specs.declared.compiler.Compiler.{Compiler}
-use Rattle.scl_cl.specs.declared.kept.Compilation.{Compilation}
+use Rattle.scl_reader.specs.declared.compiler.Compiler.{Compiler}
+use Rattle.scl_reader.specs.declared.kept.Compilation.{Compilation}
 use Rattle.scl_c.specs.declared.ask.Replied.{Replied}
 use Rattle.scl_c.specs.declared.shapes.Asked.{Asked}
 use Rattle.scl_c.specs.declared.shapes.Room.{Room}
@@ -56,7 +56,7 @@ pub record IsFrom (compiler : Compiler) (a : Asked) (r : Replied) (words : List 
   pub parts : HasParts (reading_by compiler (asked compiler words a.directory.now pairs view)) executable (environment_by compiler pairs) a.directory.now r.answer
   pub runs : runs_of r.runs.items ≡ runs_in compiler a (reply_of r.answer)
   pub questions : given r.questions ≡ (if a.wants_questions then questions_of (asked compiler words a.directory.now pairs view) else no_questions)
-  pub hazards : words_of r.hazards.items ≡ (if a.wants_hazards then map name_of (hazards_by compiler (asked compiler words a.directory.now pairs view)) else [])
+  pub hazards : words_of r.hazards.items ≡ (if a.wants_hazards then map name_of (hazards_by (asked compiler words a.directory.now pairs view)) else [])
 
 replied-here : (compiler : Compiler) (a : Asked) (r : Replied) → IsFrom compiler a r (texts_of a.words.now) (pairs_in a.environment.now) (viewed a) → IsReplied compiler a r
 replied-here compiler a r h = record {

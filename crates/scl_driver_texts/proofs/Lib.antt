@@ -1,4 +1,3 @@
-pub mod InPlaceLemmas
 pub mod OnceLaws
 pub mod SameWords
 pub mod WordLemmas

@@ -3,7 +3,6 @@
 #![tactic(auto)]
 
 mod gnu_words;
-mod in_place;
 pub mod laws;
 mod otherwise;
 mod splitter;

@@ -1,7 +1,7 @@
 -- The statuses that the program ends with.
 use Rattle.std.specs.Prelude.{ℕ, List, [], ◌∷◌}
 use Rattle.scl_hazards.specs.declared.hazard.Hazard.{Hazard}
-use Rattle.scl_cl.specs.Answers.{Answer, compiled, cannot_cache, not_compilation}
+use Rattle.scl_reader.specs.Answers.{Answer, compiled, cannot_cache, not_compilation}
 use Rattle.scl_explain.specs.declared.status.Ending.{Ending}
 use Rattle.scl_explain.specs.declared.status.Ending.TheVariants as ending
 

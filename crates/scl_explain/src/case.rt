@@ -2,11 +2,15 @@
 ghost use Rattle.std.specs.Prelude.{◌≡◌, ◌+◌, ◌<◌, ◌==◌, ◌++◌, IfOk, IfSome, MatchResult, OnOk, Some, length, position};
 ghost use Rattle.scl_values.specs.Words.{words_of};
 ghost use Rattle.scl_text.specs.Commands.{pairs_of};
+ghost use Rattle.scl_files.specs.Views.{Viewed};
+ghost use Rattle.scl_load.specs.Loads.{asked_on};
+ghost use Rattle.scl_explain.specs.Said.{request_of};
 ghost use Rattle.scl_explain.specs.Cases.{IsCase, IsDivided, IsNoCase, assigned, assigned_by, compiler_for};
 
 use crate::words::shown;
-use scl_cl::{Compiler, Mem};
+use scl_load::DiskLine;
 use scl_names::{compiler_of, program_at};
+use scl_reader::{Compiler, Mem};
 use scl_shell::quoted_command;
 use std::alloc::Global;
 use thiserror::Error;
@@ -24,6 +28,23 @@ pub struct Case {
     pub cwd: Vec<u8>,
     /// The variables of its environment that are known.
     pub env_vars: Vec<(Vec<u8>, Vec<u8>)>,
+}
+
+impl Case {
+    /// The command line on a disk; `multiarch` says whether several architectures are allowed.
+    pub(crate) fn on_disk(&self, multiarch: bool) -> DiskLine<'_>
+        ensures line { (view : Viewed) → asked_on result view ≡ request_of self.now view }
+        ensures compiler { result.compiler ≡ self.now.compiler }
+        ensures multiarch { result.multiarch ≡ multiarch }
+    {
+        DiskLine {
+            compiler: self.compiler,
+            words: &self.words,
+            directory: &self.cwd,
+            environment: &self.env_vars,
+            multiarch,
+        }
+    }
 }
 
 /// Why words are no command line of a compiler that is served.

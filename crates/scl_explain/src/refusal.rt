@@ -1,7 +1,7 @@
 //! Why a command line can't be cached, in a few words.
 use crate::answered::Answered;
 use crate::words::push_shown;
-use scl_cl::{CompilerArguments, Mem};
+use scl_reader::{CompilerArguments, Mem};
 use scl_reasons::sentence;
 use scl_text::reasons::UNEXPANDED_FILE;
 use std::alloc::Global;

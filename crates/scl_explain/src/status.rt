@@ -1,10 +1,10 @@
 //! How the program ends.
 ghost use Rattle.std.specs.Prelude.{◌≡◌};
-ghost use Rattle.scl_cl.specs.AnswersGiven.{answer_of};
+ghost use Rattle.scl_reader.specs.AnswersGiven.{answer_of};
 ghost use Rattle.scl_explain.specs.Endings.{ending_of, status_of};
 
-use scl_cl::{Compilation, CompilerArguments};
 use scl_hazards::Hazard;
+use scl_reader::{Compilation, CompilerArguments};
 
 /// How the program ends.
 #[derive(Debug, Clone, Copy, PartialEq, Eq)]

@@ -8,7 +8,7 @@ use Rattle.scl_values.specs.Each.{Each}
 use Rattle.scl_values.specs.Words.{words_of}
 use Rattle.scl_files.specs.Views.{Viewed, bytes_at, is_directory, exists}
 use Rattle.scl_files.specs.Wanted.{HasNone}
-use Rattle.scl_cl.specs.Questions.{Questions, Extends}
+use Rattle.scl_reader.specs.Questions.{Questions, Extends}
 use Rattle.scl_load.specs.declared.look.Sought.{Sought}
 use Rattle.scl_load.specs.declared.look.Sought.TheVariants as kinds
 use Rattle.scl_load.specs.Loads.{is_there, IsAbsent, AreAbsent, IsSame, AreSame, AreAllSame, HasNoneAsked, IsLookedFor}

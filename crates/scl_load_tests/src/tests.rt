@@ -1,6 +1,6 @@
 //! What is answered in the view that is loaded from a disk, and in the whole disk as a view.
 use scl_cl::{Request, View, answer_text, read_request};
-use scl_load::{Broken, LoadError, MemoryDisk, load};
+use scl_load::{Broken, DiskLine, LoadError, Loaded, MemoryDisk, load};
 use std::alloc::Global;
 use std::process::Abort;
 use std::test::Fail;
@@ -89,7 +89,7 @@ fn loaded(
     broken: Option<&str>,
     most: usize,
     rounds: u32,
-) -> Result<Result<View, LoadError<Broken>>, Fail> {
+) -> Result<Result<Loaded, LoadError<Broken>>, Fail> {
     let asked = asked_by(alloc, request)?;
     let broken = match broken {
         Some(path) => Some(Vec::from_slice(alloc, path.as_bytes())?),
@@ -99,26 +99,23 @@ fn loaded(
         view: asked.view,
         broken,
     };
-    Ok(load(
-        alloc,
-        &disk,
-        asked.compiler,
-        &asked.words,
-        &asked.directory,
-        &asked.environment,
-        false,
-        most,
-        rounds,
-    )?)
+    let line = DiskLine {
+        compiler: asked.compiler,
+        words: &asked.words,
+        directory: &asked.directory,
+        environment: &asked.environment,
+        multiarch: false,
+    };
+    Ok(load(alloc, &disk, &line, most, rounds)?)
 }
 
 /// Whether the answer from a disk that fails at a path is that of the whole disk.
 fn is_answered_alike(alloc: Global, request: &str, broken: Option<&str>) -> Result<bool, Fail> {
     let asked = asked_by(alloc, request)?;
     match loaded(alloc, request, broken, 100, 10)? {
-        Ok(view) => {
+        Ok(loaded) => {
             let whole = text_in(alloc, &asked, &asked.view)?;
-            Ok(text_in(alloc, &asked, &view)? == whole)
+            Ok(text_in(alloc, &asked, &loaded.view)? == whole)
         }
         Err(_) => Ok(false),
     }
@@ -162,8 +159,8 @@ fn a_file_that_is_loaded_changes_the_answer(rt: HostRuntime) -> Result<(), Fail>
     let nothing = text_in(rt.alloc(), &asked, &View::new(rt.alloc()))?;
     assert!(rt; nothing.ends_with(b"cacheable yes\n"));
     let load = loaded(rt.alloc(), request, None, 100, 10)?;
-    let view = load.ok().ok_or("a load that fails")?;
-    assert!(rt; text_in(rt.alloc(), &asked, &view)?.ends_with(b"cacheable no\n"));
+    let loaded = load.ok().ok_or("a load that fails")?;
+    assert!(rt; text_in(rt.alloc(), &asked, &loaded.view)?.ends_with(b"cacheable no\n"));
     Ok(())
 }
 

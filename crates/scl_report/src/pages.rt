@@ -17,17 +17,9 @@ impl Report for Pages {
         answered: &Answered,
         form: Form,
     ) -> Mem<String> {
-        let Case {
-            compiler,
-            program: _,
-            words,
-            cwd,
-            env_vars,
-        } = case;
-        let rows = compiler.rows(alloc, words, cwd, env_vars, &answered.view)?;
         match form {
-            Form::Text(paint) => explanation(alloc, case, answered, &rows, paint),
-            Form::Json => explanation_line(alloc, case, answered, &rows),
+            Form::Text(paint) => explanation(alloc, case, answered, &answered.rows, paint),
+            Form::Json => explanation_line(alloc, case, answered, &answered.rows),
         }
     }
 

@@ -76,4 +76,11 @@ impl<T: Rules> SmallReading<T> {
     {
         &self.outcome
     }
+
+    /// What it says, and nothing else of it.
+    pub fn into_outcome(self) -> CompilerArguments<ParsedArguments>
+        ensures { outcome_of result ≡ self.outcome }
+    {
+        self.outcome
+    }
 }

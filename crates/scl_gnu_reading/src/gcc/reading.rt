@@ -172,4 +172,11 @@ impl GnuReading {
     {
         &self.outcome
     }
+
+    /// What it says, and nothing else of it.
+    pub fn into_outcome(self) -> CompilerArguments<ParsedArguments>
+        ensures { outcome_of result ≡ self.outcome }
+    {
+        self.outcome
+    }
 }

@@ -270,4 +270,11 @@ impl MsvcReading {
     {
         &self.outcome
     }
+
+    /// What it says, and nothing else of it.
+    pub fn into_outcome(self) -> CompilerArguments<ParsedArguments>
+        ensures { outcome_of result ≡ self.outcome }
+    {
+        self.outcome
+    }
 }

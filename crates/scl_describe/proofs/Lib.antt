@@ -1,0 +1,4 @@
+pub mod SettingLaws
+pub mod ExplainedLaws
+pub mod DescriptionLaws
+pub mod RowLaws
