@@ -175,3 +175,14 @@ fn a_load_past_a_bound_says_which(rt: HostRuntime) -> Result<(), Fail> {
     assert!(rt; matches!(words, Err(LoadError::TooManyWords)));
     Ok(())
 }
+
+#[test]
+fn empty_files_that_double_are_opened_so_often_at_most(rt: HostRuntime) -> Result<(), Fail> {
+    let request =
+        "compiler gcc\ncwd /w\nword -c\nword x.c\nword @a\nfile /w/a\t@b\\x20@b\nfile /w/b\t@c\\x20@c\nfile /w/c\t\n";
+    let enough = loaded(rt.alloc(), request, None, 7, 10)?;
+    assert!(rt; enough.is_ok());
+    let openings = loaded(rt.alloc(), request, None, 6, 10)?;
+    assert!(rt; matches!(openings, Err(LoadError::TooManyWords)));
+    Ok(())
+}
