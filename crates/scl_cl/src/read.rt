@@ -58,12 +58,7 @@ fn push_none(ats: &mut Vec<Option<usize>>, count: usize) -> Mem<()> {
 }
 
 /// The given words between others, with the indices of the given ones.
-fn between(
-    alloc: Global,
-    front: &[Vec<u8>],
-    words: &[Vec<u8>],
-    back: &[Vec<u8>],
-) -> Mem<Sourced>
+fn between(alloc: Global, front: &[Vec<u8>], words: &[Vec<u8>], back: &[Vec<u8>]) -> Mem<Sourced>
     ensures words { IfOk result (λ all. words_of all.words.items ≡ words_of front.now ++ words_of words.now ++ words_of back.now) }
     ensures ats { IfOk result (λ all. all.ats.items ≡ ats_between (length (words_of front.now)) (length (words_of words.now)) (length (words_of back.now))) }
 {
@@ -93,17 +88,8 @@ fn read_gnu<S: SearchableArgInfo<gcc::ArgData>>(
     ensures { IfOk result (λ r. r ≡ gnu_read kind plusplus (S.tables arg_info.now) (asked Compiler.Gcc (words_of words.now) cwd.now [] view.now)) }
 {
     let (gnu, most) = (ExpansionKind::Gnu, usize::MAX);
-    let expanded = held(expand_line(
-        alloc,
-        gnu,
-        cwd,
-        given(alloc, words)?,
-        view,
-        most,
-    ))?;
-    held(GnuReading::read(
-        alloc, expanded, cwd, arg_info, plusplus, kind, view, most,
-    ))
+    let expanded = held(expand_line(alloc, gnu, cwd, given(alloc, words)?, view, most))?;
+    held(GnuReading::read(alloc, expanded, cwd, arg_info, plusplus, kind, view, most))
 }
 
 /// A command line of cl or clang-cl.
@@ -129,15 +115,7 @@ fn read_msvc(
     let mut environment = front;
     append_words(&mut environment, back)?;
     let expanded = held(expand_line(alloc, msvc, cwd, all, view, most))?;
-    held(MsvcReading::read(
-        alloc,
-        environment,
-        expanded,
-        cwd,
-        is_clang,
-        view,
-        most,
-    ))
+    held(MsvcReading::read(alloc, environment, expanded, cwd, is_clang, view, most))
 }
 
 impl Compiler {
@@ -155,7 +133,10 @@ impl Compiler {
         let most = usize::MAX;
         match self {
             Compiler::Gcc | Compiler::Gxx => {
-                let (tree, plusplus) = (FlagTree::build(alloc, &gcc::table())?, self == Compiler::Gxx);
+                let (tree, plusplus) = (
+                    FlagTree::build(alloc, &gcc::table())?,
+                    self == Compiler::Gxx,
+                );
                 let gcc = CCompilerKind::Gcc;
                 Ok(Reading::Gnu(read_gnu(alloc, words, cwd, view, &tree, plusplus, gcc)?))
             }
@@ -170,7 +151,14 @@ impl Compiler {
             }
             Compiler::Diab => {
                 let given = given(alloc, words)?;
-                let expanded = held(expand_line(alloc, ExpansionKind::Diab, cwd, given, view, most))?;
+                let expanded = held(expand_line(
+                    alloc,
+                    ExpansionKind::Diab,
+                    cwd,
+                    given,
+                    view,
+                    most,
+                ))?;
                 let tree = FlagTree::build(alloc, &diab::table())?;
                 Ok(Reading::Diab(SmallReading::read(alloc, expanded, &tree)?))
             }
@@ -197,11 +185,7 @@ impl Reading {
     }
 
     /// What the compiler is known to do otherwise with the built command, in this environment. It fails only for want of memory.
-    pub(crate) fn hazards(
-        &self,
-        alloc: Global,
-        env_vars: &[(Vec<u8>, Vec<u8>)],
-    ) -> Mem<Vec<Hazard>>
+    pub(crate) fn hazards(&self, alloc: Global, env_vars: &[(Vec<u8>, Vec<u8>)]) -> Mem<Vec<Hazard>>
         ensures { IfOk result (λ hazards. hazards.items ≡ hazards_in (pairs_of env_vars.now) self.now) }
     {
         match self {

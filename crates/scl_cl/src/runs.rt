@@ -8,8 +8,8 @@ ghost use Rattle.scl_cl.specs.Answers.{runs_by, runs_with};
 use crate::ask::Query;
 use crate::compiler::Compiler;
 use crate::within::CommandLines;
-use scl_text::{CCompilerImpl, Mem};
 use scl_text::records::ParsedArguments;
+use scl_text::{CCompilerImpl, Mem};
 use std::alloc::Global;
 
 /// The words of the runs of the preprocessor for a record.
