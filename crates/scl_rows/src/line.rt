@@ -142,14 +142,7 @@ where
 {
     let (words, line) = (line.words(), line.line());
     let options = line.options().as_slice();
-    let mut rows = rows_judged(
-        alloc,
-        ways,
-        options,
-        words,
-        line.ats(),
-        line.refusals(),
-    )?;
+    let mut rows = rows_judged(alloc, ways, options, words, line.ats(), line.refusals())?;
     push_end(alloc, &mut rows, ways.origin(), line.dangling())?;
     Ok(rows)
 }

@@ -18,15 +18,15 @@ loop-option-preserved g c =
     let i = c.loop-option.option-index in
     let row = c.in_ok-row_of.field-0 in
     judged-more ways (map told c.loop-option.rows.items) (map told c.push.new.self.items)
-        (rows_judged ways (words_of c.args.words.now) c.args.ats.now (verdicts_of c.args.refusals.now) (map see options)) (told row)
-        (words_of c.loop-option.given.now) (words_of c.first_words-own.result.now) (words_of c.behind-given.result.now) c.word_count-count.result
-        c.loop-option.left.now c.behind-left.result.now c.first_at.result
-        (verdicts_of c.loop-option.said.now) (verdicts_of c.behind-said.result.now) (option_map verdict_of c.in_ok-refusal.refusal)
-        (see c.option-item.result) (map see (drop i options)) (map see (drop (i + 1) options))
-        (ap (map told) c.in_ok-push.ensures.items ∙ map-append told c.loop-option.rows.items (row ∷ []))
-        c.in_ok-row_of.ensures c.word_count-count.ensures c.first_words-own.ensures
-        (ap words_of c.behind-given.ensures ∙ words_dropped c.word_count-count.result c.loop-option.given.now)
-        c.first_at.ensures c.behind-left.ensures c.in_ok-refusal.ensures
-        (ap verdicts_of c.behind-said.ensures ∙ sym (drop-map (option_map verdict_of) 1 c.loop-option.said.now))
-        (options-at see options i c.option-item.result c.loop-option-test.true c.option-item.is)
-        c.loop-option.invariant
+    (rows_judged ways (words_of c.args.words.now) c.args.ats.now (verdicts_of c.args.refusals.now) (map see options)) (told row)
+    (words_of c.loop-option.given.now) (words_of c.first_words-own.result.now) (words_of c.behind-given.result.now) c.word_count-count.result
+    c.loop-option.left.now c.behind-left.result.now c.first_at.result
+    (verdicts_of c.loop-option.said.now) (verdicts_of c.behind-said.result.now) (option_map verdict_of c.in_ok-refusal.refusal)
+    (see c.option-item.result) (map see (drop i options)) (map see (drop (i + 1) options))
+    (ap (map told) c.in_ok-push.ensures.items ∙ map-append told c.loop-option.rows.items (row ∷ []))
+    c.in_ok-row_of.ensures c.word_count-count.ensures c.first_words-own.ensures
+    (ap words_of c.behind-given.ensures ∙ words_dropped c.word_count-count.result c.loop-option.given.now)
+    c.first_at.ensures c.behind-left.ensures c.in_ok-refusal.ensures
+    (ap verdicts_of c.behind-said.ensures ∙ sym (drop-map (option_map verdict_of) 1 c.loop-option.said.now))
+    (options-at see options i c.option-item.result c.loop-option-test.true c.option-item.is)
+    c.loop-option.invariant
