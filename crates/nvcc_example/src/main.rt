@@ -89,9 +89,14 @@ fn build(
     gcc.generate_compile_commands(alloc, b"nvcc", record, b"/work", &[], view)
 }
 
-/// The words behind the name of the program.
+/// What is read as that messages have no colour, and stands in no command. nvcc has no option for colours, and without this word
+/// each command would have Gcc's.
+const NO_COLOUR: &[u8] = b"-fdiagnostics-color=never";
+
+/// The words after the name of the program, after the one that keeps colours away.
 fn given_words(rt: &HostRuntime) -> io::Result<Vec<Vec<u8>>> {
     let mut words = Vec::new(rt.alloc());
+    words.push(Vec::from_slice(rt.alloc(), NO_COLOUR)?)?;
     for word in env::args(rt)?.skip(1) {
         words.push(Vec::from_slice(rt.alloc(), word.as_bytes())?)?;
     }

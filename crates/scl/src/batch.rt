@@ -6,6 +6,7 @@ use crate::options::DatabaseArguments;
 use crate::progress::Progress;
 use scl_explain::{Counts, Ending};
 use scl_report::{Batch, Database, ending_of_counts};
+use scl_shell::shown_briefly;
 use std::fs;
 use std::io::{self, BufWriter, ErrorKind, Read, Write};
 
@@ -19,11 +20,12 @@ fn bytes_of(rt: &HostRuntime, path: &str) -> io::Result<Vec<u8>> {
 }
 
 /// A database's path, as messages name it.
-fn database_name(path: &str) -> &str {
+fn database_name(rt: &HostRuntime, path: &str) -> Result<String, Fault> {
+    let alloc = rt.alloc();
     match path {
-        "-" => "standard input",
-        "" => "''",
-        _ => path,
+        "-" => Ok(String::from_str(alloc, "standard input")?),
+        "" => Ok(String::from_str(alloc, "''")?),
+        _ => Ok(shown_briefly(alloc, path.as_bytes())?),
     }
 }
 
@@ -32,7 +34,7 @@ fn read_file(rt: &HostRuntime, path: &str) -> Result<Vec<u8>, Fault> {
         Ok(bytes) => Ok(bytes),
         Err(error) if error.kind() == ErrorKind::OutOfMemory => Err(Fault::Memory),
         Err(error) => {
-            let name = database_name(path);
+            let name = database_name(rt, path)?;
             Err(Fault::Input(format!(in rt.alloc(); "{name}: {error}")?))
         }
     }
@@ -80,7 +82,7 @@ pub fn database(rt: &HostRuntime, asked: &DatabaseArguments) -> Result<Ending, F
     let database = match Database::of_text(alloc, &bytes)? {
         Ok(database) => database,
         Err(error) => {
-            let name = database_name(path);
+            let name = database_name(rt, path)?;
             let line = format!(in alloc; "{name}: {error}")?;
             warn(rt, &line);
             return Ok(Ending::BadDatabase);

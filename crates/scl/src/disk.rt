@@ -1,11 +1,13 @@
 //! The system's files as a disk.
 use scl_cl::Mem;
-use scl_explain::shown;
 use scl_load::Disk;
+use scl_shell::shown_briefly;
 use std::alloc::{AllocError, Global};
-use std::io::{self, ErrorKind};
+use std::fs::{File, Metadata};
+use std::io::{self, ErrorKind, Read};
+use std::os::unix::fs::MetadataExt;
 use std::rt::Files;
-use std::{fs, str};
+use std::str;
 use thiserror::Error;
 
 /// The system's files.
@@ -36,7 +38,7 @@ fn is_absent(error: &io::Error) -> bool {
 
 fn not_read(alloc: Global, path: &[u8], reason: String) -> Mem<Unreadable> {
     Ok(Unreadable {
-        path: shown(alloc, path)?,
+        path: shown_briefly(alloc, path)?,
         reason,
     })
 }
@@ -50,13 +52,41 @@ fn failed(alloc: Global, path: &[u8], error: &io::Error) -> Mem<Unreadable> {
 enum Standing {
     Nothing,
     File,
+    /// A regular file without a byte.
+    Empty,
+    /// A file whose size the system does not tell, as those of `/proc` are.
+    Unsized,
     Directory,
     Other,
 }
 
+/// The most bytes of a response file that is read.
+const MOST_BYTES: u64 = 1 << 26;
+
+/// What a regular file of this kind is. No file of no size is opened, since reads of those of `/proc` may wait for ever.
+fn file_standing(rt: &HostRuntime, metadata: &Metadata) -> io::Result<Standing> {
+    if metadata.len() > 0 {
+        return Ok(Standing::File);
+    }
+    match rt.metadata("/proc") {
+        Ok(proc) if proc.dev() == metadata.dev() => Ok(Standing::Unsized),
+        Ok(_) => Ok(Standing::Empty),
+        Err(error) if is_absent(&error) => Ok(Standing::Empty),
+        Err(error) => Err(error),
+    }
+}
+
+/// All bytes of a file, or of a longer one some more than are read.
+fn read_bytes(rt: &HostRuntime, path: &str) -> io::Result<Vec<u8>> {
+    let mut bytes = Vec::new(rt.alloc());
+    let mut file = File::open(rt, path)?.take(MOST_BYTES + 1);
+    file.read_to_end(&mut bytes)?;
+    Ok(bytes)
+}
+
 fn standing_at(rt: &HostRuntime, path: &str) -> io::Result<Standing> {
     match rt.metadata(path) {
-        Ok(metadata) if metadata.is_file() => Ok(Standing::File),
+        Ok(metadata) if metadata.is_file() => file_standing(rt, &metadata),
         Ok(metadata) if metadata.is_dir() => Ok(Standing::Directory),
         Ok(_) => Ok(Standing::Other),
         Err(error) if is_absent(&error) => Ok(Standing::Nothing),
@@ -92,7 +122,11 @@ impl<'a> SystemDisk<'a> {
             Ok(text) => text,
             Err(error) => return Ok(Err(error)),
         };
-        match fs::read(self.rt, text) {
+        match read_bytes(self.rt, text) {
+            Ok(bytes) if bytes.len() as u64 > MOST_BYTES => {
+                let reason = format!(in alloc; "it has more than {MOST_BYTES} bytes")?;
+                Ok(Err(not_read(alloc, path, reason)?))
+            }
             Ok(bytes) => Ok(Ok(bytes)),
             Err(error) if error.kind() == ErrorKind::OutOfMemory => Err(AllocError),
             Err(error) => Ok(Err(failed(alloc, path, &error)?)),
@@ -113,7 +147,12 @@ impl<'a> Disk for SystemDisk<'a> {
                 Ok(bytes) => Ok(Ok(Some(bytes))),
                 Err(error) => Ok(Err(error)),
             },
+            Ok(Standing::Empty) => Ok(Ok(Some(Vec::new(alloc)))),
             Ok(Standing::Nothing | Standing::Directory) => Ok(Ok(None)),
+            Ok(Standing::Unsized) => {
+                let reason = String::from_str(alloc, "the system does not say how large it is")?;
+                Ok(Err(not_read(alloc, path, reason)?))
+            }
             Ok(Standing::Other) => {
                 let reason = String::from_str(alloc, "it is no regular file")?;
                 Ok(Err(not_read(alloc, path, reason)?))

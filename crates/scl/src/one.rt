@@ -5,8 +5,8 @@ use crate::fault::{Fault, warn};
 use crate::options::LineArguments;
 use scl_cl::path;
 use scl_explain::{
-    Case, CommandForm, Ending, Form, Paint, Reply, check as check_reply, command as command_reply,
-    explain as explain_reply,
+    Case, CommandForm, Ending, Form, Paint, Reply, WordForm, check as check_reply,
+    command as command_reply, explain as explain_reply,
 };
 use scl_report::{Pages, reasons_text};
 use std::alloc::Global;
@@ -79,19 +79,28 @@ pub fn explain(rt: &HostRuntime, asked: &LineArguments) -> Result<Ending, Fault>
     say(rt, &reply)
 }
 
+/// How the words of a command are written.
+fn word_form(rt: &HostRuntime, asked: &LineArguments) -> WordForm {
+    if asked.has_nuls {
+        WordForm::EndedByNul
+    } else if rt.stdout().is_terminal() {
+        WordForm::Shown
+    } else {
+        WordForm::Quoted
+    }
+}
+
 /// Writes the command to run in the place of a command line.
 pub fn command(rt: &HostRuntime, asked: &LineArguments) -> Result<Ending, Fault> {
     let Some(case) = case_of(rt, asked)? else {
         return Ok(Ending::Usage);
     };
     let disk = SystemDisk { rt };
-    let reply = command_reply(
-        rt.alloc(),
-        &disk,
-        &case,
-        asked.multiarch,
-        asked.command_form,
-    )?;
+    let form = CommandForm {
+        words: word_form(rt, asked),
+        is_strict: asked.is_strict,
+    };
+    let reply = command_reply(rt.alloc(), &disk, &case, asked.multiarch, form, &Pages)?;
     say(rt, &reply)
 }
 

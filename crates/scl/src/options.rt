@@ -4,7 +4,8 @@ use crate::texts;
 use clap::error::ErrorKind;
 use clap::{Arg, ArgAction, ArgMatches, Command, Error};
 use scl_cl::Compiler;
-use scl_explain::{CommandForm, Ending, EntryKind, shown};
+use scl_explain::{Ending, EntryKind};
+use scl_shell::shown;
 use std::alloc::{AllocError, Global};
 use std::str;
 
@@ -21,8 +22,10 @@ pub struct LineArguments {
     pub multiarch: bool,
     /// Whether machines read the answer.
     pub json: bool,
-    /// How a command is written.
-    pub command_form: CommandForm,
+    /// Whether a command is written with a NUL after each word.
+    pub has_nuls: bool,
+    /// Whether no command is written where a hazard is named.
+    pub is_strict: bool,
 }
 
 /// What is asked about a compile database.
@@ -259,10 +262,8 @@ fn asked_words(
         directory,
         multiarch: matches.get_flag("multiarch"),
         json: matches.get_flag("json"),
-        command_form: CommandForm {
-            has_nuls: matches.get_flag("nul"),
-            is_strict: matches.get_flag("strict"),
-        },
+        has_nuls: matches.get_flag("nul"),
+        is_strict: matches.get_flag("strict"),
     })
 }
 

@@ -27,15 +27,18 @@ pub const ABOUT_REASONS: &str =
 
 /// How the program ends, and which compiler a command line is of.
 pub const STATUSES: &str =
-    "Statuses: 0 answered; 2 wrong words; 3 out of memory; 4 a file cannot be read or the answer not be written; 5 the database is broken or has entries that are none (all others are answered); 10 cannot be cached; 11 compiles nothing; 12 a hazard.
+    "Statuses: 0 answered; 2 wrong words; 3 out of memory; 4 a file cannot be read or the answer not be written; 5 the database is broken or has entries that are none (all others are answered); 10 cannot be cached; 11 compiles nothing; 12 a hazard; 13 a word holds a NUL, so no process can be given the command; 14 there is a command, and its outcome may not be kept in the cache.
 
-Which compiler: by the file name of the first word that is neither a launcher (ccache, sccache, distcc, icecc, env) nor an assignment; without .exe and a version it ends in clang-cl, clang++, clang, g++, gcc, c++ or cc (alone or behind a -), or is cl, dcc or cctc. cc and c++ are gcc and g++ unless --compiler says otherwise.
+Which compiler: by the file name of the first word that is neither a launcher (ccache, sccache, distcc, icecc, env) nor an assignment (NAME=.., NAME of letters, digits and _); without .exe and a version it ends in clang-cl, clang++, clang, g++, gcc, c++ or cc (alone or behind a -), or is cl, dcc or cctc. cc and c++ are gcc and g++ unless --compiler says otherwise.
+
+A response file is read where it is a regular file whose size the system tells, and has 67108864 bytes at most.
 
 Example:
     scl explain gcc -c src/foo.c -O2 -Iinclude -MMD -o foo.o";
 
 /// How `explain` ends, and calls of it.
-pub const EXAMPLE_EXPLAIN: &str = "Ends with status 0 whatever the answer is.
+pub const EXAMPLE_EXPLAIN: &str =
+    "Ends with status 0 whatever the answer is. A word with a character that cannot be seen stands in $'..'.
 
 Example:
     scl explain gcc -c src/foo.c -O2 -Iinclude -MMD -o foo.o
@@ -43,9 +46,11 @@ Example:
 
 /// How `command` ends, and calls of it.
 pub const EXAMPLE_COMMAND: &str =
-    "Ends with status 10 where the outcome cannot be cached, and 11 where nothing is compiled; then no command is written. With --strict none is written where a hazard is named either, and the status is 12: run the command as given.
+    "Ends with status 10 where the outcome cannot be cached, 11 where nothing is compiled, and 13 where a word holds a NUL; then no command is written. With --strict none is written where a hazard is named either, and the status is 12: run the command as given. With status 14 the command is written: it may be run, and its outcome may not be kept in the cache.
 
-Words in front of the compiler are left out: run the command in the environment that they make, without CL and _CL_, whose words stand in a command of cl or clang-cl.
+The command is a line for any shell. On a terminal a word with a character that cannot be seen stands in $'..', which bash, zsh and ksh read; with -0 each word is written as it is.
+
+Words in front of the compiler are left out: run the command in the environment that they make, without CL and _CL_, whose words stand in a command of cl or clang-cl. A variable that such a word assigns has that value.
 
 Example:
     scl command gcc -c src/foo.c -o foo.o
@@ -54,7 +59,7 @@ Example:
 
 /// What `check` writes, how it ends, and calls of it.
 pub const EXAMPLE_CHECK: &str =
-    "Writes a line for each hazard, its name and what happens. Ends with status 12 where there is one, 0 where there is none, 10 where the outcome cannot be cached and 11 where nothing is compiled. Hazards are known of gcc, clang and clang-cl.
+    "Writes a line for each hazard, its name and what happens. Ends with status 12 where there is one, 0 where there is none, 10 where the outcome cannot be cached, 11 where nothing is compiled, 13 where a word holds a NUL, and 14 where no hazard is named and the outcome may not be kept in the cache. Hazards are known of gcc, clang and clang-cl.
 
 Example:
     scl check gcc -c src/foo.c -MD -MT one -MT two -o foo.o

@@ -1,9 +1,8 @@
 -- What is asked about a command line, from all of its words.
-use Rattle.std.specs.Prelude.{◌≡◌, ℕ, ◌+◌, ◌==◌, List, [], ◌∷◌, ◌++◌, Option, None, Some, position, slice_index_or, take, drop}
-use Rattle.std.specs.List.{flat_map}
+use Rattle.std.specs.Prelude.{◌≡◌, ℕ, ◌+◌, List, [], ◌∷◌, ◌++◌, Option, None, Some, slice_index_or, take, drop}
 use Rattle.scl_values.specs.Words.{words_of}
 use Rattle.scl_text.specs.Commands.{pairs_of}
-use Rattle.scl_names.specs.Launchers.{program_at}
+use Rattle.scl_names.specs.Launchers.{assignment_at, program_at}
 use Rattle.scl_names.specs.Names.{compiler_of}
 use Rattle.scl_reader.specs.declared.compiler.Compiler.{Compiler}
 use Rattle.scl_explain.specs.declared.case.Case.{Case}
@@ -21,13 +20,14 @@ abbrev pub assigned_at : List ℕ → Option ℕ → List (List ℕ × List ℕ)
 assigned_at word None = []
 assigned_at word (Some at) = (take at word, drop (at + 1) word) ∷ []
 
--- the variable that a word assigns, if it has a `=`: what stands before the first, and what stands behind it
+-- the variable that a word assigns, if it does: what stands before the first `=`, and what stands after it
 abbrev pub assigned_by : List ℕ → List (List ℕ × List ℕ)
-assigned_by word = assigned_at word (position (λ byte. byte == 61) word)
+assigned_by word = assigned_at word (assignment_at word)
 
--- the variables that words assign
+-- the variables that words assign, the last first
 abbrev pub assigned : List (List ℕ) → List (List ℕ × List ℕ)
-assigned words = flat_map assigned_by words
+assigned [] = []
+assigned (word ∷ words) = assigned words ++ assigned_by word
 
 -- words, divided into those before one, that one and those behind it
 pub record IsDivided (all : List (List ℕ)) (at : ℕ) (divided : Divided) : Type 0 where
@@ -35,8 +35,8 @@ pub record IsDivided (all : List (List ℕ)) (at : ℕ) (divided : Divided) : Ty
   pub program : divided.program.items ≡ slice_index_or all at []
   pub words : words_of divided.words.items ≡ drop (at + 1) all
 
--- the program is the first word that may be one, the words are those behind it, and the variables those that are given and
--- then those that words before it assign
+-- the program is the first word that may be one, the words are those behind it, and the variables those that words before it
+-- assign, the last first, and then those that are given: of several values of a variable the first counts
 pub record IsCase (all : List (List ℕ)) (named : Option Compiler) (cwd : List ℕ) (env_vars : List (List ℕ × List ℕ)) (case : Case) : Type 0 where
   pub at : ℕ
   pub program_at : program_at all ≡ Some at
@@ -44,7 +44,7 @@ pub record IsCase (all : List (List ℕ)) (named : Option Compiler) (cwd : List 
   pub words : words_of case.words.items ≡ drop (at + 1) all
   pub compiler : compiler_for named case.program.items ≡ Some case.compiler
   pub directory : case.cwd.items ≡ cwd
-  pub variables : pairs_of case.env_vars.items ≡ env_vars ++ assigned (take at all)
+  pub variables : pairs_of case.env_vars.items ≡ assigned (take at all) ++ env_vars
 
 -- no word may be a program, or no compiler is named and the program's name names none
 abbrev pub IsNoCase : List (List ℕ) → Option Compiler → CaseError → Type 0

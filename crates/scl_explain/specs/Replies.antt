@@ -5,6 +5,8 @@ use Rattle.scl_hazards.specs.declared.hazard.Hazard.{Hazard}
 use Rattle.scl_hazards.specs.Hazards.{told}
 use Rattle.scl_reader.specs.Answers.{Answer, compiled, cannot_cache, not_compilation}
 use Rattle.scl_explain.specs.CommandTexts.{command_text}
+use Rattle.scl_explain.specs.Nuls.{some_hold_nul}
+use Rattle.scl_explain.specs.declared.words.WordForm.{WordForm}
 use Rattle.scl_explain.specs.declared.reply.Form.{Form}
 use Rattle.scl_explain.specs.declared.reply.Form.TheVariants as form
 
@@ -24,9 +26,9 @@ IsChecked form.Json hazards text = Unit {0}
 abbrev pub barring : Bool → List Hazard → List Hazard
 barring is_strict hazards = if is_strict then hazards else []
 
--- the text of the command behind a program, where there is one and no hazard bars it
-abbrev pub command_written : Bool → List ℕ → Answer → List Hazard → List ℕ
-command_written has_nuls program (compiled words kept) [] = command_text has_nuls (program ∷ words)
-command_written has_nuls program (compiled words kept) (hazard ∷ hazards) = []
-command_written has_nuls program (cannot_cache reason beside) hazards = []
-command_written has_nuls program not_compilation hazards = []
+-- the text of the command for a program, where there is one, no hazard bars it, and a process can be given its words
+abbrev pub command_written : WordForm → List ℕ → Answer → List Hazard → List ℕ
+command_written form program (compiled words kept) [] = if some_hold_nul (program ∷ words) then [] else command_text form (program ∷ words)
+command_written form program (compiled words kept) (hazard ∷ hazards) = []
+command_written form program (cannot_cache reason beside) hazards = []
+command_written form program not_compilation hazards = []

@@ -51,10 +51,10 @@ pub record IsUnread {E : Type 0} (holds : Viewed → Type 0) (fails : E → Type
 
 -- a reply with the command to run, where there is one and no hazard bars it
 pub record IsCommanded (form : CommandForm) (case : Case) (reply : Reply) (answer : Answer) (hazards : List Hazard) : Type 0 where
-  pub ending : reply.ending ≡ ending_of answer (barring form.is_strict hazards)
-  pub output : reply.output.items ≡ command_written form.has_nuls case.program.items answer (barring form.is_strict hazards)
+  pub ending : reply.ending ≡ ending_of case.program.items answer (barring form.is_strict hazards)
+  pub output : reply.output.items ≡ command_written form.words case.program.items answer (barring form.is_strict hazards)
 
 -- a reply with the hazards
-pub record IsCheckedReply (form : Form) (reply : Reply) (answer : Answer) (hazards : List Hazard) : Type 0 where
-  pub ending : reply.ending ≡ ending_of answer hazards
+pub record IsCheckedReply (form : Form) (case : Case) (reply : Reply) (answer : Answer) (hazards : List Hazard) : Type 0 where
+  pub ending : reply.ending ≡ ending_of case.program.items answer hazards
   pub output : IsChecked form hazards reply.output.items

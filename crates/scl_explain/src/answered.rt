@@ -36,17 +36,18 @@ pub struct Answered {
     pub missing_files: Vec<Vec<u8>>,
     /// The hazards of the built command; none where there is none.
     pub hazards: Vec<Hazard>,
-    /// What became of each option; nothing where that is not wanted.
+    /// What became of each option; nothing where that is not wanted and something is compiled.
     pub rows: Vec<Row>,
     /// What the disk has of what is asked.
     pub view: View,
 }
 
-/// What became of each option, where that is wanted.
+/// What became of each option, where that is wanted or nothing is compiled.
 fn rows_for(alloc: Global, reading: &Reading, wants_rows: bool) -> Mem<Vec<Row>>
     ensures { IfOk result (λ rows. IsTrue wants_rows → map told rows.items ≡ rows_in reading.now) }
 {
-    if wants_rows {
+    let compiles_nothing = matches!(reading.outcome(), CompilerArguments::NotCompilation);
+    if wants_rows || compiles_nothing {
         rows_of(alloc, reading)
     } else {
         Ok(Vec::new(alloc))
@@ -54,7 +55,7 @@ fn rows_for(alloc: Global, reading: &Reading, wants_rows: bool) -> Mem<Vec<Row>>
 }
 
 /// The answer to a command line on a disk, which is asked for response files, directories and other paths; `multiarch` says
-/// whether several architectures are allowed, and `wants_rows` whether rows of options are wanted. A read that fails is `Disk`
+/// whether several architectures are allowed, and `wants_rows` whether rows of options are wanted of a line that compiles. A read that fails is `Disk`
 /// with its error; `TooManyWords` and `TooManyRounds` where response files give more than 1,000,000 words or are opened more
 /// often, or where 2^12 name each the next. The outer error is the refusal of memory.
 pub fn answer_case<D: Disk>(

@@ -1,5 +1,5 @@
 //! A command line that is asked about.
-ghost use Rattle.std.specs.Prelude.{◌≡◌, ◌+◌, ◌<◌, ◌==◌, ◌++◌, IfOk, IfSome, MatchResult, OnOk, Some, length, position};
+ghost use Rattle.std.specs.Prelude.{◌≡◌, ◌+◌, ◌<◌, ◌++◌, IfOk, MatchResult, OnOk, Some, length};
 ghost use Rattle.scl_values.specs.Words.{words_of};
 ghost use Rattle.scl_text.specs.Commands.{pairs_of};
 ghost use Rattle.scl_files.specs.Views.{Viewed};
@@ -7,11 +7,10 @@ ghost use Rattle.scl_load.specs.Loads.{asked_on};
 ghost use Rattle.scl_explain.specs.Said.{request_of};
 ghost use Rattle.scl_explain.specs.Cases.{IsCase, IsDivided, IsNoCase, assigned, assigned_by, compiler_for};
 
-use crate::words::shown;
 use scl_load::DiskLine;
-use scl_names::{compiler_of, program_at};
+use scl_names::{assignment_at, compiler_of, program_at};
 use scl_reader::{Compiler, Mem};
-use scl_shell::quoted_command;
+use scl_shell::{beginning, shown_command};
 use std::alloc::Global;
 use thiserror::Error;
 
@@ -81,36 +80,29 @@ fn divide(mut all: Vec<Vec<u8>>, at: usize) -> Mem<Divided>
     })
 }
 
-fn equals_at(word: &[u8]) -> Option<usize>
-    ensures at { result ≡ position (λ byte. byte == 61) word.now }
-    ensures within { IfSome result (λ at. at < length word.now) }
+/// Puts the variable that a word assigns, if it assigns one, before others.
+fn put_assigned(alloc: Global, env_vars: &mut Vec<(Vec<u8>, Vec<u8>)>, word: &[u8]) -> Mem<()>
+    ensures { OnOk result (pairs_of env_vars.new.items ≡ assigned_by word.now ++ pairs_of env_vars.old.items) }
 {
-    word.iter().position(|byte| *byte == b'=')
-}
-
-/// Puts the variable that a word assigns, if it assigns one, behind others.
-fn push_assigned(alloc: Global, env_vars: &mut Vec<(Vec<u8>, Vec<u8>)>, word: &[u8]) -> Mem<()>
-    ensures { OnOk result (pairs_of env_vars.new.items ≡ pairs_of env_vars.old.items ++ assigned_by word.now) }
-{
-    if let Some(at) = equals_at(word) {
+    if let Some(at) = assignment_at(word) {
         let key = Vec::from_slice(alloc, &word[..at])?;
         let value = Vec::from_slice(alloc, &word[at + 1..])?;
-        env_vars.push((key, value))?;
+        env_vars.insert(0, (key, value))?;
     }
     Ok(())
 }
 
-/// Variables, with those that words assign behind them.
+/// Variables, with those that words assign before them, the last first.
 fn with_assigned(
     alloc: Global,
     env_vars: Vec<(Vec<u8>, Vec<u8>)>,
     words: &[Vec<u8>],
 ) -> Mem<Vec<(Vec<u8>, Vec<u8>)>>
-    ensures { IfOk result (λ all. pairs_of all.items ≡ pairs_of env_vars.items ++ assigned (words_of words.now)) }
+    ensures { IfOk result (λ all. pairs_of all.items ≡ assigned (words_of words.now) ++ pairs_of env_vars.items) }
 {
     let mut all = env_vars;
     for word in words {
-        push_assigned(alloc, &mut all, word)?;
+        put_assigned(alloc, &mut all, word)?;
     }
     Ok(all)
 }
@@ -124,17 +116,16 @@ fn compiler_for(alloc: Global, named: Option<Compiler>, program: &[u8]) -> Mem<O
     }
 }
 
-/// A program, quoted for a shell, as a person reads it.
+/// A program's name, or the beginning of a long one, quoted for a shell.
 fn quoted(alloc: Global, program: &[u8]) -> Mem<String> {
-    let text = quoted_command(alloc, program, &[])?;
-    shown(alloc, &text)
+    shown_command(alloc, beginning(program), &[])
 }
 
 impl Case {
     /// The command line that these words are, the program's included: launchers and assignments before it are left out, and the
-    /// variables that are assigned come behind `env_vars`. It is `named`'s, where a compiler is named, and else that of the
-    /// compiler that the program's name names; `UnknownCompiler` where it names none, `NoProgram` where no word may be a program.
-    /// The outer error is the refusal of memory.
+    /// variables that are assigned come before `env_vars`, the last first, since of several values the first counts. It is
+    /// `named`'s, where a compiler is named, and else that of the compiler that the program's name names; `UnknownCompiler` where
+    /// it names none, `NoProgram` where no word may be a program. The outer error is the refusal of memory.
     #[tactic(auto, using(crate::proofs::CaseLemmas::program_inside))]
     pub fn of_words(
         alloc: Global,

@@ -7,7 +7,7 @@ ghost use Rattle.scl_explain.specs.Said.{IsCheckedReply, IsSaid, IsUnread};
 use crate::answered::{Answered, answer_case};
 use crate::case::Case;
 use crate::hazards::hazards_text;
-use crate::refusal::no_command_line;
+use crate::refusal::ending_line;
 use crate::reply::{Form, Reply, unread};
 use crate::report::Report;
 use crate::status::Ending;
@@ -33,9 +33,15 @@ fn check_bytes<R: Report>(
 }
 
 /// The line of standard error, for a person.
-fn error_line(alloc: Global, answered: &Answered, form: Form) -> Mem<Option<String>> {
+fn error_line<R: Report>(
+    alloc: Global,
+    case: &Case,
+    answered: &Answered,
+    form: Form,
+    report: &R,
+) -> Mem<Option<String>> {
     match form {
-        Form::Text(_) => no_command_line(alloc, answered),
+        Form::Text(_) => ending_line(alloc, case, answered, report),
         Form::Json => Ok(None),
     }
 }
@@ -47,17 +53,18 @@ fn check_reply<R: Report>(
     form: Form,
     report: &R,
 ) -> Mem<Reply>
-    ensures { IfOk result (λ reply. IsCheckedReply form reply (answer_of answered.now.answer) answered.now.hazards.items) }
+    ensures { IfOk result (λ reply. IsCheckedReply form case.now reply (answer_of answered.now.answer) answered.now.hazards.items) }
 {
     Ok(Reply {
         output: check_bytes(alloc, case, answered, form, report)?,
-        error: error_line(alloc, answered, form)?,
-        ending: Ending::of_answer(&answered.answer, &answered.hazards),
+        error: error_line(alloc, case, answered, form, report)?,
+        ending: Ending::of_answer(&case.program, &answered.answer, &answered.hazards),
     })
 }
 
-/// The hazards of a command line, a line each, or for machines as `report` writes them. It ends as a hazard where there is one,
-/// as the answer does where there is no command, and as a failed file where one can't be read. It fails only for want of memory.
+/// The hazards of a command line, a line each, or for machines as `report` writes them. It ends as the answer does where there
+/// is no command, by a word that holds a NUL where the command has one, as a hazard where there is one, by an outcome that may not
+/// be kept where that is so, and as a failed file where one can't be read. It fails only for want of memory.
 #[tactic(auto, using(crate::proofs::UnreadLaws::is_unread))]
 pub fn check<D: Disk, R: Report>(
     alloc: Global,
@@ -69,7 +76,7 @@ pub fn check<D: Disk, R: Report>(
 ) -> Mem<Reply>
 where
     D::Error: Display,
-    ensures { IfOk result (λ reply. IsUnread (D.holds disk.now) (D.fails disk.now) multiarch case.now reply ⊎ IsSaid (D.holds disk.now) multiarch case.now (IsCheckedReply form reply)) }
+    ensures { IfOk result (λ reply. IsUnread (D.holds disk.now) (D.fails disk.now) multiarch case.now reply ⊎ IsSaid (D.holds disk.now) multiarch case.now (IsCheckedReply form case.now reply)) }
 {
     match answer_case(alloc, disk, case, multiarch, false)? {
         Ok(answered) => check_reply(alloc, case, &answered, form, report),

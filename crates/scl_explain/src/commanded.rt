@@ -7,10 +7,12 @@ ghost use Rattle.scl_explain.specs.Said.{IsCommanded, IsSaid, IsUnread};
 use crate::answered::{Answered, answer_case};
 use crate::case::Case;
 use crate::hazards::hazards_line;
-use crate::refusal::no_command_line;
+use crate::nuls::some_hold_nul;
+use crate::refusal::ending_line;
 use crate::reply::{Reply, unread};
+use crate::report::Report;
 use crate::status::Ending;
-use crate::words::command_text;
+use crate::words::{WordForm, command_text};
 use scl_hazards::Hazard;
 use scl_load::Disk;
 use scl_reader::{Compilation, CompilerArguments, Mem};
@@ -20,8 +22,8 @@ use std::fmt::Display;
 /// How a command is written.
 #[derive(Clone, Copy)]
 pub struct CommandForm {
-    /// Whether each word has a NUL behind it, in place of quotes for a shell.
-    pub has_nuls: bool,
+    /// How its words are written.
+    pub words: WordForm,
     /// Whether none is written where a hazard is named.
     pub is_strict: bool,
 }
@@ -39,14 +41,18 @@ fn command_bytes(
     program: &[u8],
     answer: &CompilerArguments<Compilation>,
     barring: &[Hazard],
-    has_nuls: bool,
+    form: WordForm,
 ) -> Mem<Vec<u8>>
-    ensures { IfOk result (λ text. text.items ≡ command_written has_nuls program.now (answer_of answer.now) barring.now) }
+    ensures { IfOk result (λ text. text.items ≡ command_written form program.now (answer_of answer.now) barring.now) }
 {
     match answer {
         CompilerArguments::Ok(compilation) if barring.is_empty() => {
             let words = &compilation.command.arguments;
-            command_text(alloc, program, words, has_nuls)
+            if some_hold_nul(program, words) {
+                Ok(Vec::new(alloc))
+            } else {
+                command_text(alloc, program, words, form)
+            }
         }
         CompilerArguments::Ok(_)
         | CompilerArguments::CannotCache(_, _)
@@ -54,44 +60,60 @@ fn command_bytes(
     }
 }
 
-/// Why no command is written, if none is.
-fn error_line(alloc: Global, answered: &Answered, barring: &[Hazard]) -> Mem<Option<String>> {
-    match &answered.answer {
-        CompilerArguments::Ok(_) => hazards_line(alloc, barring),
-        CompilerArguments::CannotCache(_, _) | CompilerArguments::NotCompilation => {
-            no_command_line(alloc, answered)
-        }
+/// Why no command is written, if none is, or that its outcome may not be kept.
+fn error_line<R: Report>(
+    alloc: Global,
+    case: &Case,
+    answered: &Answered,
+    barring: &[Hazard],
+    report: &R,
+) -> Mem<Option<String>> {
+    if matches!(
+        Ending::of_answer(&case.program, &answered.answer, barring),
+        Ending::Hazard
+    ) {
+        hazards_line(alloc, barring)
+    } else {
+        ending_line(alloc, case, answered, report)
     }
 }
 
-fn command_reply(alloc: Global, case: &Case, answered: &Answered, form: CommandForm) -> Mem<Reply>
+fn command_reply<R: Report>(
+    alloc: Global,
+    case: &Case,
+    answered: &Answered,
+    form: CommandForm,
+    report: &R,
+) -> Mem<Reply>
     ensures { IfOk result (λ reply. IsCommanded form case.now reply (answer_of answered.now.answer) answered.now.hazards.items) }
 {
     let (answer, bars) = (&answered.answer, barring(answered, form.is_strict));
     Ok(Reply {
-        output: command_bytes(alloc, &case.program, answer, bars, form.has_nuls)?,
-        error: error_line(alloc, answered, bars)?,
-        ending: Ending::of_answer(answer, bars),
+        output: command_bytes(alloc, &case.program, answer, bars, form.words)?,
+        error: error_line(alloc, case, answered, bars, report)?,
+        ending: Ending::of_answer(&case.program, answer, bars),
     })
 }
 
-/// The command to run in the place of a command line, quoted for a shell or each word with a NUL behind it. Nothing is written
-/// where there is none, and of a strict form where a hazard is named; then it ends as such, and so says the line of standard
-/// error. It fails only for want of memory.
+/// The command to run in the place of a command line, quoted for a shell or each word with a NUL after it. Nothing is written
+/// where there is none, where a word of it holds a NUL, and of a strict form where a hazard is named; then it ends as such, and
+/// so says the line of standard error, with why `report` says that nothing is compiled. That its outcome may not be kept is said
+/// there too. It fails only for want of memory.
 #[tactic(auto, using(crate::proofs::UnreadLaws::is_unread))]
-pub fn command<D: Disk>(
+pub fn command<D: Disk, R: Report>(
     alloc: Global,
     disk: &D,
     case: &Case,
     multiarch: bool,
     form: CommandForm,
+    report: &R,
 ) -> Mem<Reply>
 where
     D::Error: Display,
     ensures { IfOk result (λ reply. IsUnread (D.holds disk.now) (D.fails disk.now) multiarch case.now reply ⊎ IsSaid (D.holds disk.now) multiarch case.now (IsCommanded form case.now reply)) }
 {
     match answer_case(alloc, disk, case, multiarch, false)? {
-        Ok(answered) => command_reply(alloc, case, &answered, form),
+        Ok(answered) => command_reply(alloc, case, &answered, form, report),
         Err(error) => unread(alloc, &error),
     }
 }

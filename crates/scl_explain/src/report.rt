@@ -16,6 +16,9 @@ pub trait Report {
         form: Form,
     ) -> Mem<String>;
 
+    /// That a command line compiles nothing, and why.
+    fn nothing(&self, alloc: Global, case: &Case, answered: &Answered) -> Mem<String>;
+
     /// The hazards of a command line, for machines.
     fn hazards(&self, alloc: Global, case: &Case, answered: &Answered) -> Mem<String>;
 }

@@ -1,10 +1,12 @@
 //! How the program ends.
-ghost use Rattle.std.specs.Prelude.{◌≡◌};
+ghost use Rattle.std.specs.Prelude.{◌≡◌, false, []};
 ghost use Rattle.scl_reader.specs.AnswersGiven.{answer_of};
-ghost use Rattle.scl_explain.specs.Endings.{ending_of, status_of};
+ghost use Rattle.scl_explain.specs.Endings.{ending_of, ending_of_command, status_of};
 
+use crate::nuls::some_hold_nul;
 use scl_hazards::Hazard;
 use scl_reader::{Compilation, CompilerArguments};
+use scl_text::records::Cacheable;
 
 /// How the program ends.
 #[derive(Debug, Clone, Copy, PartialEq, Eq)]
@@ -25,16 +27,47 @@ pub enum Ending {
     CompilesNothing,
     /// A hazard is named.
     Hazard,
+    /// A word of the command holds a NUL, so no process can be given it.
+    HoldsNul,
+    /// There is a command, and its outcome may not be kept in the cache.
+    NotKept,
 }
 
 impl Ending {
-    /// How an answer ends, of whose command these hazards are named.
-    pub(crate) fn of_answer(answer: &CompilerArguments<Compilation>, hazards: &[Hazard]) -> Ending
-        ensures { result ≡ ending_of (answer_of answer.now) hazards.now }
+    fn of_kept(cacheable: Cacheable) -> Ending
+        ensures { result ≡ ending_of_command false [] cacheable }
+    {
+        match cacheable {
+            Cacheable::No => Ending::NotKept,
+            Cacheable::Yes => Ending::Answered,
+        }
+    }
+
+    fn of_command(has_nul: bool, hazards: &[Hazard], cacheable: Cacheable) -> Ending
+        ensures { result ≡ ending_of_command has_nul hazards.now cacheable }
+    {
+        if has_nul {
+            Ending::HoldsNul
+        } else if hazards.is_empty() {
+            Ending::of_kept(cacheable)
+        } else {
+            Ending::Hazard
+        }
+    }
+
+    /// How an answer for a program ends, of whose command these hazards are named.
+    pub(crate) fn of_answer(
+        program: &[u8],
+        answer: &CompilerArguments<Compilation>,
+        hazards: &[Hazard],
+    ) -> Ending
+        ensures { result ≡ ending_of program.now (answer_of answer.now) hazards.now }
     {
         match answer {
-            CompilerArguments::Ok(_) if hazards.is_empty() => Ending::Answered,
-            CompilerArguments::Ok(_) => Ending::Hazard,
+            CompilerArguments::Ok(compilation) => {
+                let has_nul = some_hold_nul(program, &compilation.command.arguments);
+                Ending::of_command(has_nul, hazards, compilation.cacheable)
+            }
             CompilerArguments::CannotCache(_, _) => Ending::CannotCache,
             CompilerArguments::NotCompilation => Ending::CompilesNothing,
         }
@@ -53,6 +86,8 @@ impl Ending {
             Ending::CannotCache => 10,
             Ending::CompilesNothing => 11,
             Ending::Hazard => 12,
+            Ending::HoldsNul => 13,
+            Ending::NotKept => 14,
         }
     }
 }

@@ -1,12 +1,13 @@
-//! Words and bytes, written.
+//! The words of a command, written.
 ghost use Rattle.std.specs.Prelude.{◌≡◌, ◌++◌, [], ◌∷◌, OnOk, IfOk};
 ghost use Rattle.std.specs.List.{flat_map};
 ghost use Rattle.scl_values.specs.Words.{words_of};
 ghost use Rattle.scl_shell.specs.Quoted.{quoted_text};
+ghost use Rattle.scl_shell.specs.Shown.{shown_text};
 ghost use Rattle.scl_explain.specs.CommandTexts.{ended_by_nul, command_text};
 
 use scl_reader::Mem;
-use scl_shell::quoted_command;
+use scl_shell::{quoted_command, shown_command};
 use std::alloc::Global;
 
 fn push_ended_by_nul(text: &mut Vec<u8>, word: &[u8]) -> Mem<()>
@@ -36,39 +37,37 @@ fn quoted_line(alloc: Global, program: &[u8], words: &[Vec<u8>]) -> Mem<Vec<u8>>
     Ok(text)
 }
 
-/// The text of a command: a line that a shell reads back, or each word with a NUL behind it. It fails only for want of memory.
+fn shown_line(alloc: Global, program: &[u8], words: &[Vec<u8>]) -> Mem<Vec<u8>>
+    ensures { IfOk result (λ text. text.items ≡ shown_text (program.now ∷ words_of words.now) ++ 10 ∷ []) }
+{
+    let mut text = shown_command(alloc, program, words)?.into_bytes();
+    text.push(b'\n')?;
+    Ok(text)
+}
+
+/// How the words of a command are written.
+#[derive(Debug, Clone, Copy, PartialEq, Eq)]
+pub enum WordForm {
+    /// A line, quoted for any shell.
+    Quoted,
+    /// A line for a terminal, with no hidden character.
+    Shown,
+    /// Each word with a NUL after it.
+    EndedByNul,
+}
+
+/// The text of a command: a line that a shell reads back, or each word with a NUL after it. It fails only for want of memory.
 pub fn command_text(
     alloc: Global,
     program: &[u8],
     words: &[Vec<u8>],
-    has_nuls: bool,
+    form: WordForm,
 ) -> Mem<Vec<u8>>
-    ensures { IfOk result (λ text. text.items ≡ command_text has_nuls (program.now ∷ words_of words.now)) }
+    ensures { IfOk result (λ text. text.items ≡ command_text form (program.now ∷ words_of words.now)) }
 {
-    if has_nuls {
-        words_ended_by_nul(alloc, program, words)
-    } else {
-        quoted_line(alloc, program, words)
+    match form {
+        WordForm::Quoted => quoted_line(alloc, program, words),
+        WordForm::Shown => shown_line(alloc, program, words),
+        WordForm::EndedByNul => words_ended_by_nul(alloc, program, words),
     }
-}
-
-/// Puts bytes behind a text as a person reads them (`shown`). It fails only for want of memory.
-pub fn push_shown(alloc: Global, text: &mut String, bytes: &[u8]) -> Mem<()> {
-    let shown = String::from_utf8_lossy(alloc, bytes)?;
-    for c in shown.as_str().chars() {
-        if c.is_control() {
-            write!(text, "\\x{:02x}", u32::from(c))?;
-        } else {
-            text.push(c)?;
-        }
-    }
-    Ok(())
-}
-
-/// Bytes as a person reads them: what is no UTF-8 as its replacement, control characters as `\x` and their code. It fails only
-/// for want of memory.
-pub fn shown(alloc: Global, bytes: &[u8]) -> Mem<String> {
-    let mut text = String::new(alloc);
-    push_shown(alloc, &mut text, bytes)?;
-    Ok(text)
 }

@@ -43,7 +43,7 @@ fn file_name_of(path: &[u8]) -> &[u8]
     &path[behind_last(Mark::Separator, path)..]
 }
 
-fn is_digit(byte: u8) -> bool
+pub(crate) fn is_digit(byte: u8) -> bool
     ensures { result ≡ is_digit byte }
 {
     matches!(byte, b'0'..=b'9')

@@ -1,9 +1,10 @@
 //! The programs that run the compiler which a later word names.
-ghost use Rattle.std.specs.Prelude.{◌≡◌, IfOk, map};
+ghost use Rattle.std.specs.Prelude.{◌≡◌, ◌<◌, ◌==◌, IfOk, IfSome, length, map, position};
+ghost use Rattle.std.specs.List.{list_all};
 ghost use Rattle.scl_values.specs.Words.{words_of};
-ghost use Rattle.scl_names.specs.Launchers.{launchers, is_one_of, is_assignment, is_before_program, program_at};
+ghost use Rattle.scl_names.specs.Launchers.{launchers, is_one_of, is_in_name, is_name, assignment_at, is_assignment, is_before_program, program_at};
 
-use crate::file_name::stem_of;
+use crate::file_name::{is_digit, stem_of};
 use scl_reader::Mem;
 use std::alloc::Global;
 
@@ -33,10 +34,48 @@ fn is_called(stem: &[u8]) -> bool
     is_one_of(launchers(), stem)
 }
 
+fn is_in_name(byte: u8) -> bool
+    ensures { result ≡ is_in_name byte }
+{
+    matches!(byte, b'a'..=b'z' | b'A'..=b'Z' | b'0'..=b'9' | b'_')
+}
+
+fn all_in_name(text: &[u8]) -> bool
+    ensures { result ≡ list_all is_in_name text.now }
+{
+    text.iter().all(|byte| is_in_name(*byte))
+}
+
+fn is_name(text: &[u8]) -> bool
+    ensures { result ≡ is_name text.now }
+{
+    !text.is_empty() && !is_digit(text[0]) && all_in_name(text)
+}
+
+fn equals_at(word: &[u8]) -> Option<usize>
+    ensures at { result ≡ position (λ byte. byte == 61) word.now }
+    ensures within { IfSome result (λ at. at < length word.now) }
+{
+    word.iter().position(|byte| *byte == b'=')
+}
+
+/// Where the `=` of a word stands that assigns a variable: `NAME=..`, NAME of letters, digits and `_`, with no digit first.
+pub fn assignment_at(word: &[u8]) -> Option<usize>
+    ensures at { result ≡ assignment_at word.now }
+    ensures within { IfSome result (λ at. at < length word.now) }
+{
+    if let Some(at) = equals_at(word) {
+        if is_name(&word[..at]) {
+            return Some(at);
+        }
+    }
+    None
+}
+
 fn is_assignment(word: &[u8]) -> bool
     ensures { result ≡ is_assignment word.now }
 {
-    word.iter().any(|byte| *byte == b'=')
+    assignment_at(word).is_some()
 }
 
 fn is_before_program(alloc: Global, word: &[u8]) -> Mem<bool>
@@ -50,7 +89,8 @@ fn is_before_program(alloc: Global, word: &[u8]) -> Mem<bool>
 }
 
 /// The index of the word that is the program of a command line: the first that is no launcher (`ccache`, `sccache`, `distcc`,
-/// `icecc`, `env`, called as a compiler may be) and no assignment of a variable (with a `=`). It fails only for want of memory.
+/// `icecc`, `env`, called as a compiler may be) and no assignment of a variable
+/// (`assignment_at`). It fails only for want of memory.
 pub fn program_at(alloc: Global, words: &[Vec<u8>]) -> Mem<Option<usize>>
     ensures { IfOk result (λ at. at ≡ program_at (words_of words.now)) }
 {

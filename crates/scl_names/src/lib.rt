@@ -6,4 +6,4 @@ mod file_name;
 mod launchers;
 
 pub use compilers::compiler_of;
-pub use launchers::program_at;
+pub use launchers::{assignment_at, program_at};

@@ -54,7 +54,7 @@ impl Batch {
         if self.json {
             answer_line(alloc, entry, case, answered)
         } else {
-            entry_line(alloc, entry, file, answered)
+            entry_line(alloc, entry, file, case, answered)
         }
     }
 

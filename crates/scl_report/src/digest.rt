@@ -1,9 +1,12 @@
 //! What a database has, for a person.
-use crate::page::cached_text;
-use scl_cl::{CompilerArguments, Mem};
-use scl_explain::{Answered, Counts, Met, push_hazard_names, push_shown, refusal_text};
+use crate::nothing::nothing_text;
+use scl_cl::{Compilation, CompilerArguments, Mem};
+use scl_explain::{
+    Answered, Case, Counts, Met, cached_text, push_hazard_names, refusal_text, unrunnable_text,
+};
 use scl_hazards::{HAZARDS, Hazard};
 use scl_reasons::sentence;
+use scl_shell::shown_briefly;
 use std::alloc::Global;
 use std::collections::BTreeMap;
 
@@ -12,10 +15,11 @@ const MOST: usize = 20;
 
 const MOST_ENTRIES: usize = 4;
 
-fn push_place(text: &mut String, entry: u64, file: &str) -> Mem<()> {
+fn push_place(alloc: Global, text: &mut String, entry: u64, file: &str) -> Mem<()> {
     if file.is_empty() {
         write!(text, "entry {entry}")
     } else {
+        let file = shown_briefly(alloc, file.as_bytes())?;
         write!(text, "entry {entry}, {file}")
     }
 }
@@ -28,17 +32,17 @@ fn push_more(text: &mut String, count: usize) -> Mem<()> {
     Ok(())
 }
 
-fn push_met(text: &mut String, name: &str, met: &Met) -> Mem<()> {
+fn push_met(alloc: Global, text: &mut String, name: &str, met: &Met) -> Mem<()> {
     let times = met.times;
     write!(text, "  {times:>6}  {name} (")?;
-    push_place(text, met.entry, met.file.as_str())?;
+    push_place(alloc, text, met.entry, met.file.as_str())?;
     text.push_str(")\n")
 }
 
 /// The reasons for which entries are refused, with a sentence for people.
-fn push_reasons(text: &mut String, reasons: &BTreeMap<String, Met>) -> Mem<()> {
+fn push_reasons(alloc: Global, text: &mut String, reasons: &BTreeMap<String, Met>) -> Mem<()> {
     for (reason, met) in reasons.iter() {
-        push_met(text, reason.as_str(), met)?;
+        push_met(alloc, text, reason.as_str(), met)?;
         let sentence = sentence(reason.as_str());
         write!(text, "          {sentence}\n")?;
     }
@@ -46,12 +50,12 @@ fn push_reasons(text: &mut String, reasons: &BTreeMap<String, Met>) -> Mem<()> {
 }
 
 /// The hazards of entries, with what happens.
-fn push_hazards(text: &mut String, counts: &Counts) -> Mem<()> {
+fn push_hazards(alloc: Global, text: &mut String, counts: &Counts) -> Mem<()> {
     let hazardous = counts.hazardous;
     write!(text, "with a hazard: {hazardous}\n")?;
     for &hazard in HAZARDS {
         if let Some(met) = counts.hazards.get(hazard.name()) {
-            push_met(text, hazard.name(), met)?;
+            push_met(alloc, text, hazard.name(), met)?;
             let consequence = hazard.consequence();
             write!(text, "          {consequence}\n")?;
         }
@@ -85,7 +89,7 @@ fn push_entries(text: &mut String, entries: &[u64]) -> Mem<()> {
 
 fn push_output(alloc: Global, text: &mut String, path: &[u8], entries: &[u64]) -> Mem<()> {
     text.push_str("      ")?;
-    push_shown(alloc, text, path)?;
+    text.push_str(shown_briefly(alloc, path)?.as_str())?;
     text.push_str(": entries")?;
     push_entries(text, entries)?;
     text.push('\n')
@@ -117,9 +121,9 @@ fn push_missing(alloc: Global, text: &mut String, counts: &Counts) -> Mem<()> {
     for (path, met) in counts.missing.iter().take(MOST) {
         let times = met.times;
         write!(text, "  {times:>6}  ")?;
-        push_shown(alloc, text, path)?;
+        text.push_str(shown_briefly(alloc, path)?.as_str())?;
         text.push_str(" (")?;
-        push_place(text, met.entry, met.file.as_str())?;
+        push_place(alloc, text, met.entry, met.file.as_str())?;
         text.push_str(")\n")?;
     }
     push_more(text, counts.missing.len())
@@ -144,10 +148,10 @@ pub fn summary(alloc: Global, counts: &Counts) -> Mem<String> {
         let unkept = counts.unkept;
         write!(text, "may not be kept in the cache: {unkept}\n")?;
     }
-    push_hazards(&mut text, counts)?;
+    push_hazards(alloc, &mut text, counts)?;
     write!(text, "compile nothing: {none}\n")?;
     write!(text, "cannot be cached: {refused}\n")?;
-    push_reasons(&mut text, &counts.refused)?;
+    push_reasons(alloc, &mut text, &counts.refused)?;
     push_told(&mut text, "no command lines", &counts.broken)?;
     push_told(&mut text, "files that cannot be read", &counts.unread)?;
     push_shared_outputs(alloc, &mut text, counts)?;
@@ -164,14 +168,33 @@ fn push_named(text: &mut String, hazards: &[Hazard]) -> Mem<()> {
     Ok(())
 }
 
+/// Whether a command can be run, and its outcome be kept.
+fn push_compiled(
+    alloc: Global,
+    text: &mut String,
+    program: &[u8],
+    compilation: &Compilation,
+) -> Mem<()> {
+    match unrunnable_text(alloc, program, &compilation.command.arguments)? {
+        Some(why) => text.push_str(why.as_str()),
+        None => text.push_str(cached_text(compilation.cacheable)),
+    }
+}
+
 /// An entry and its outcome, in one line. It fails only for want of memory.
-pub fn entry_line(alloc: Global, entry: u64, file: &str, answered: &Answered) -> Mem<String> {
+pub fn entry_line(
+    alloc: Global,
+    entry: u64,
+    file: &str,
+    case: &Case,
+    answered: &Answered,
+) -> Mem<String> {
     let mut text = String::new(alloc);
-    push_place(&mut text, entry, file)?;
+    push_place(alloc, &mut text, entry, file)?;
     text.push_str(": ")?;
     match &answered.answer {
         CompilerArguments::Ok(compilation) => {
-            text.push_str(cached_text(compilation.cacheable))?;
+            push_compiled(alloc, &mut text, &case.program, compilation)?;
             push_named(&mut text, &answered.hazards)?;
         }
         CompilerArguments::CannotCache(reason, more) => {
@@ -179,7 +202,10 @@ pub fn entry_line(alloc: Global, entry: u64, file: &str, answered: &Answered) ->
             let refusal = refusal_text(alloc, reason, more.as_deref(), missing)?;
             text.push_str(refusal.as_str())?;
         }
-        CompilerArguments::NotCompilation => text.push_str("compiles nothing")?,
+        CompilerArguments::NotCompilation => {
+            let nothing = nothing_text(alloc, &answered.rows)?;
+            text.push_str(nothing.as_str())?;
+        }
     }
     text.push('\n')?;
     Ok(text)

@@ -27,6 +27,9 @@ pub enum EntryError {
     /// Its `command` has no words.
     #[error("its \"command\" is broken: {0}")]
     Shell(ShellError),
+    /// A word holds a NUL.
+    #[error("a word holds a NUL, so no process can be given it")]
+    Nul,
     /// Its words are no command line of a compiler that is served.
     #[error("{0}")]
     Case(CaseError),
@@ -94,6 +97,9 @@ pub fn case_of_entry(
         Ok(words) => words,
         Err(error) => return Ok(Err(error)),
     };
+    if words.iter().any(|word| word.contains(&0)) {
+        return Ok(Err(EntryError::Nul));
+    }
     let cwd = path::join(alloc, base, directory.as_bytes())?;
     match Case::of_words(alloc, words, named, cwd, env_vars)? {
         Ok(case) => Ok(Ok(case)),

@@ -1,13 +1,38 @@
 //! Answers as JSON: an object in one line, whose members are in the order of their names.
+use crate::nothing::why_nothing;
 use scl_cl::{Cacheable, Compilation, CompilerArguments, Mem};
-use scl_explain::{Answered, Case};
+use scl_explain::{Answered, Case, unrunnable_text};
 use scl_hazards::Hazard;
 use scl_reasons::sentence;
 use scl_rows::Row;
+use scl_shell::is_hidden;
 use scl_text::refusal::Refusal;
 use serde_json::{Map, Value, put};
 use std::alloc::Global;
 use std::str;
+
+/// Puts a character after a text of JSON by its number, or by its two surrogates.
+fn push_escape(text: &mut String, code: u32) -> Mem<()> {
+    if code < 0x1_0000 {
+        return write!(text, "\\u{code:04x}");
+    }
+    let rest = code - 0x1_0000;
+    let (high, low) = (0xd800 + rest / 1024 % 1024, 0xdc00 + rest % 1024);
+    write!(text, "\\u{high:04x}\\u{low:04x}")
+}
+
+/// A text of JSON, in which each character that a terminal obeys, or that hides or turns another, stands as `\u` and four digits.
+fn with_escapes(alloc: Global, json: &str) -> Mem<String> {
+    let mut text = String::new(alloc);
+    for c in json.chars() {
+        if is_hidden(c) {
+            push_escape(&mut text, u32::from(c))?;
+        } else {
+            text.push(c)?;
+        }
+    }
+    Ok(text)
+}
 
 /// The members of an object that is made.
 #[derive(Drop)]
@@ -54,7 +79,7 @@ impl Members {
 
     fn into_line(self) -> Mem<String> {
         let alloc = self.alloc;
-        let mut line = self.into_value().to_string(alloc)?;
+        let mut line = with_escapes(alloc, self.into_value().to_string(alloc)?.as_str())?;
         line.push('\n')?;
         Ok(line)
     }
@@ -167,7 +192,6 @@ fn put_compilation(members: &mut Members, compilation: &Compilation) -> Mem<()> 
     let alloc = members.alloc;
     let parsed = &compilation.parsed;
     let language = format!(in alloc; "{:?}", parsed.language)?;
-    members.put_flag("cacheable", compilation.cacheable == Cacheable::Yes)?;
     members.put_words("command", &compilation.command.arguments)?;
     members.put_words("hash_files", &parsed.extra_hash_files)?;
     members.put_bytes("input", &parsed.input)?;
@@ -175,11 +199,21 @@ fn put_compilation(members: &mut Members, compilation: &Compilation) -> Mem<()> 
     members.put("outputs", outputs_value(alloc, compilation)?)
 }
 
+/// Why no process can be given a command, where that is so.
+fn put_unrunnable(members: &mut Members, program: &[u8], compilation: &Compilation) -> Mem<()> {
+    match unrunnable_text(members.alloc, program, &compilation.command.arguments)? {
+        Some(text) => members.put_text("unrunnable", text.as_str()),
+        None => Ok(()),
+    }
+}
+
 /// How the answer ends: with hazards, or why there is no command.
-fn put_outcome(members: &mut Members, answered: &Answered) -> Mem<()> {
+fn put_outcome(members: &mut Members, case: &Case, answered: &Answered) -> Mem<()> {
     match &answered.answer {
-        CompilerArguments::Ok(_) => {
+        CompilerArguments::Ok(compilation) => {
             members.put_text("outcome", "ok")?;
+            members.put_flag("cacheable", compilation.cacheable == Cacheable::Yes)?;
+            put_unrunnable(members, &case.program, compilation)?;
             let hazards = hazards_value(members.alloc, &answered.hazards)?;
             members.put("hazards", hazards)
         }
@@ -192,7 +226,10 @@ fn put_outcome(members: &mut Members, answered: &Answered) -> Mem<()> {
                 None => Ok(()),
             }
         }
-        CompilerArguments::NotCompilation => members.put_text("outcome", "not-compilation"),
+        CompilerArguments::NotCompilation => {
+            members.put_text("outcome", "not-compilation")?;
+            members.put_text("reason", why_nothing(&answered.rows))
+        }
     }
 }
 
@@ -204,7 +241,7 @@ fn outcome_members(alloc: Global, case: &Case, answered: &Answered) -> Mem<Membe
     members.put_bytes("program", &case.program)?;
     members.put_words("missing_files", &answered.missing_files)?;
     members.put_words("response_files", &answered.response_files)?;
-    put_outcome(&mut members, answered)?;
+    put_outcome(&mut members, case, answered)?;
     Ok(members)
 }
 

@@ -6,6 +6,7 @@ mod database;
 mod digest;
 mod entry;
 mod json;
+mod nothing;
 mod options;
 mod page;
 mod pages;

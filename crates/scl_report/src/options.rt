@@ -1,9 +1,8 @@
 //! The table of a command line's options, for a person.
 use crate::table::Table;
 use scl_cl::Mem;
-use scl_explain::shown;
 use scl_rows::{Destination, Origin, Row};
-use scl_shell::quoted_words;
+use scl_shell::{shown, shown_words};
 use scl_text::refusal::Refusal;
 use std::alloc::Global;
 
@@ -47,8 +46,7 @@ fn words_text(alloc: Global, row: &Row) -> Mem<String> {
     } else {
         &row.given
     };
-    let quoted = quoted_words(alloc, words)?;
-    let words = shown(alloc, &quoted)?;
+    let words = shown_words(alloc, words)?;
     match row.origin {
         Origin::Given => Ok(words),
         Origin::Xclang => format!(in alloc; "-Xclang: {words}"),

@@ -1,12 +1,13 @@
 //! What a command line is, for a person.
+use crate::nothing::nothing_text;
 use crate::options::push_options;
 use crate::paint::{Codes, codes_of};
 use scl_cl::{Cacheable, Compilation, CompilerArguments, Mem};
-use scl_explain::{Answered, Case, Paint, push_shown, refusal_text, shown};
+use scl_explain::{Answered, Case, Paint, cached_text, refusal_text, unrunnable_text};
 use scl_hazards::Hazard;
 use scl_reasons::sentence;
 use scl_rows::Row;
-use scl_shell::quoted_command;
+use scl_shell::{shown, shown_command};
 use std::alloc::Global;
 
 /// A text that is written.
@@ -38,7 +39,7 @@ impl Page {
 
     fn path(&mut self, title: &str, path: &[u8], note: &str) -> Mem<()> {
         self.push_title(title)?;
-        push_shown(self.alloc, &mut self.text, path)?;
+        self.text.push_str(shown(self.alloc, path)?.as_str())?;
         self.text.push_str(note)?;
         self.text.push('\n')
     }
@@ -51,8 +52,7 @@ impl Page {
     }
 
     fn command(&mut self, title: &str, program: &[u8], words: &[Vec<u8>]) -> Mem<()> {
-        let quoted = quoted_command(self.alloc, program, words)?;
-        let text = String::from_utf8_lossy(self.alloc, &quoted)?;
+        let text = shown_command(self.alloc, program, words)?;
         self.line(title, text.as_str())
     }
 
@@ -62,32 +62,33 @@ impl Page {
     }
 }
 
-/// What becomes of the outcome of a compilation.
-pub(crate) fn cached_text(cacheable: Cacheable) -> &'static str {
-    match cacheable {
-        Cacheable::Yes => "can be cached",
-        Cacheable::No => "compiles, and may not be kept in the cache",
+/// Whether a command can be run, and its outcome be kept.
+fn push_compiled(page: &mut Page, program: &[u8], compilation: &Compilation) -> Mem<()> {
+    let (good, bad) = (page.codes.good, page.codes.bad);
+    if let Some(text) = unrunnable_text(page.alloc, program, &compilation.command.arguments)? {
+        return page.outcome(bad, text.as_str());
     }
+    let colour = match compilation.cacheable {
+        Cacheable::Yes => good,
+        Cacheable::No => bad,
+    };
+    page.outcome(colour, cached_text(compilation.cacheable))
 }
 
-fn push_outcome(page: &mut Page, answered: &Answered) -> Mem<()> {
-    let (good, bad) = (page.codes.good, page.codes.bad);
+fn push_outcome(page: &mut Page, case: &Case, answered: &Answered, rows: &[Row]) -> Mem<()> {
+    let bad = page.codes.bad;
     match &answered.answer {
-        CompilerArguments::Ok(compilation) => {
-            let cacheable = compilation.cacheable;
-            let colour = match cacheable {
-                Cacheable::Yes => good,
-                Cacheable::No => bad,
-            };
-            page.outcome(colour, cached_text(cacheable))
-        }
+        CompilerArguments::Ok(compilation) => push_compiled(page, &case.program, compilation),
         CompilerArguments::CannotCache(reason, more) => {
             let missing = &answered.missing_files;
             let text = refusal_text(page.alloc, reason, more.as_deref(), missing)?;
             page.outcome(bad, text.as_str())?;
             page.line("because", sentence(reason))
         }
-        CompilerArguments::NotCompilation => page.outcome(bad, "compiles nothing"),
+        CompilerArguments::NotCompilation => {
+            let text = nothing_text(page.alloc, rows)?;
+            page.outcome(bad, text.as_str())
+        }
     }
 }
 
@@ -177,7 +178,7 @@ pub fn explanation(
         codes: codes_of(paint),
         text: String::new(alloc),
     };
-    push_outcome(&mut page, answered)?;
+    push_outcome(&mut page, case, answered, rows)?;
     push_case(&mut page, case)?;
     push_files(&mut page, answered)?;
     push_rows(&mut page, rows)?;

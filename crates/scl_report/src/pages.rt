@@ -1,5 +1,6 @@
 //! The answers to one command line, written.
 use crate::json::{check_line, explanation_line};
+use crate::nothing::nothing_text;
 use crate::page::explanation;
 use scl_cl::Mem;
 use scl_explain::{Answered, Case, Form, Report};
@@ -21,6 +22,10 @@ impl Report for Pages {
             Form::Text(paint) => explanation(alloc, case, answered, &answered.rows, paint),
             Form::Json => explanation_line(alloc, case, answered, &answered.rows),
         }
+    }
+
+    fn nothing(&self, alloc: Global, case: &Case, answered: &Answered) -> Mem<String> {
+        nothing_text(alloc, &answered.rows)
     }
 
     fn hazards(&self, alloc: Global, case: &Case, answered: &Answered) -> Mem<String> {

@@ -1,2 +1,3 @@
 pub mod ShellLemmas
 pub mod ShellLaws
+pub mod ShownLaws

@@ -2,7 +2,8 @@
 use Rattle.std.proofs.Common.{◌≡◌, ℕ, ◌==◌, ◌||◌, ◌&&◌, Bool, true, false, not, cond, List, [], ◌∷◌, ◌++◌, length, Option, None, Some, Ok, Err, refl, sym, ap, subst, ◌∙◌, append_assoc, arith, inl, inr, ◌⊎◌}
 use Rattle.std.proofs.lemmas.List.{append-nil}
 use Rattle.std.proofs.lemmas.Bool.{eqb-true, cases_Bool}
-use Rattle.std.specs.List.{list_all, flat_map}
+use Rattle.std.specs.Prelude.{nat_eq}
+use Rattle.std.specs.List.{list_all, flat_map, starts_with}
 use Rattle.scl_shell.specs.Laws.{EachTextHasOneReading, BrokenTextsHaveNoWords, QuotedWordsAreReadBack}
 use Rattle.scl_shell.specs.ShellText.{with}
 use Rattle.scl_shell.specs.Quoted.{is_plain, is_bare, in_quotes, in_single_quotes, quoted, quoted_next, quoted_text}
@@ -75,7 +76,7 @@ read_single_quoted word rest = before-nil _ ∙ rw (append_assoc (flat_map in_qu
 read_quoted_as : (word rest : List ℕ) (bare : Bool) → is_bare word ≡ bare → read_from mode.Plain None (cond bare word (in_single_quotes word) ++ rest) ≡ read_from mode.Plain (Some word) rest
 read_quoted_as word rest false h = read_single_quoted word rest
 read_quoted_as [] rest true h = cc
-read_quoted_as (c ∷ word) rest true h = read_first c word rest (and_right (not (length (c ∷ word) == 0)) (list_all is_plain (c ∷ word)) h)
+read_quoted_as (c ∷ word) rest true h = read_first c word rest (and_right (not (length (c ∷ word) == 0) && not (starts_with nat_eq (c ∷ word) (61 ∷ []))) (list_all is_plain (c ∷ word)) h)
   where
     read_first : (d : ℕ) (w r : List ℕ) → list_all is_plain (d ∷ w) ≡ true → read_from mode.Plain None (d ∷ (w ++ r)) ≡ read_from mode.Plain (Some (d ∷ w)) r
     read_first d w r all =

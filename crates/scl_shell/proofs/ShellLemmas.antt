@@ -1,5 +1,5 @@
 -- Reading a text byte by byte gives the words of its pieces.
-use Rattle.std.proofs.Common.{◌≡◌, ◌≢◌, ℕ, ◌==◌, Bool, true, false, List, [], ◌∷◌, ◌++◌, Option, None, Some, Result, Ok, Err, refl, sym, ap, subst, ◌∙◌, ◌+◌, ◌≤◌, length, drop, append_assoc, arith, ◌⊎◌, inl, inr}
+use Rattle.std.proofs.Common.{◌≡◌, ◌≢◌, ℕ, ◌==◌, Bool, true, false, List, [], ◌∷◌, ◌++◌, Option, None, Some, Result, Ok, Err, refl, sym, ap, subst, ◌∙◌, ◌≤◌, length, drop, append_assoc, arith, ◌⊎◌, inl, inr}
 use Rattle.std.proofs.lemmas.List.{append-nil, drop_all}
 use Rattle.std.proofs.lemmas.Bool.{eqb-true, cases_Bool}
 use Rattle.scl_shell.specs.ShellText.{is_blank, is_special, HasNone, none, more, Inside, nothing, one, special, line_end, other, Piece, gap, stands, ArePieces, end, blank, plain, escaped, continued, single, double, with, kept, joined, AreWords, IsBroken, last_backslash, open_single, open_double, open_escape}

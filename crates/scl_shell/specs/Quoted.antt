@@ -1,9 +1,9 @@
 -- Words quoted for a shell.
-use Rattle.std.specs.Prelude.{ℕ, ◌==◌, ◌||◌, ◌&&◌, nat_le, Bool, not, cond, length, List, [], ◌∷◌, ◌++◌}
-use Rattle.std.specs.List.{list_all, flat_map}
+use Rattle.std.specs.Prelude.{ℕ, ◌==◌, ◌||◌, ◌&&◌, nat_le, nat_eq, Bool, not, cond, length, List, [], ◌∷◌, ◌++◌}
+use Rattle.std.specs.List.{list_all, flat_map, starts_with}
 use Rattle.scl_shell.specs.ShellText.{single_quote, backslash}
 
-abbrev between : ℕ → ℕ → ℕ → Bool
+abbrev pub between : ℕ → ℕ → ℕ → Bool
 between low c high = nat_le low c && nat_le c high
 
 -- letters, digits and `-_./=+,:@%`: bytes that stand for themselves wherever they stand in a shell's text
@@ -12,9 +12,9 @@ is_plain c =
     between 97 c 122 || between 65 c 90 || between 48 c 57
     || c == 45 || c == 95 || c == 46 || c == 47 || c == 61 || c == 43 || c == 44 || c == 58 || c == 64 || c == 37
 
--- a word that needs no quotes
+-- a word that needs no quotes; zsh expands one that begins with `=`
 abbrev pub is_bare : List ℕ → Bool
-is_bare word = not (length word == 0) && list_all is_plain word
+is_bare word = not (length word == 0) && not (starts_with nat_eq word (61 ∷ [])) && list_all is_plain word
 
 -- a byte inside single quotes: a single quote ends them, stands behind a backslash, and they open again
 abbrev pub in_quotes : ℕ → List ℕ

@@ -1,5 +1,5 @@
 //! What follows from the definitions of a shell's texts: each law is a clause of a function that does nothing.
-ghost use Rattle.scl_shell.specs.Laws.{EachTextHasOneReading, BrokenTextsHaveNoWords, QuotedWordsAreReadBack};
+ghost use Rattle.scl_shell.specs.Laws.{EachTextHasOneReading, BrokenTextsHaveNoWords, QuotedWordsAreReadBack, DollarQuotesAreReadBack, ShownIsVisible, ShownWordsAreVisible};
 
 /// Laws of a shell's texts:
 ///
@@ -15,4 +15,20 @@ pub fn of_texts()
 #[tactic(auto, using(crate::proofs::ShellLaws::shell_laws))]
 pub fn of_quoted_words()
     ensures { QuotedWordsAreReadBack }
+{}
+
+/// The law of `$'..'`: bash, zsh and ksh read the word back that stands there.
+#[tactic(auto, using(crate::proofs::ShownLaws::shown_laws))]
+pub fn of_dollar_quotes()
+    ensures { DollarQuotesAreReadBack }
+{}
+
+/// Laws of what is shown: it is UTF-8, and no character of it is hidden, whatever the bytes are:
+///
+/// - `bytes`: of `shown`;
+/// - `words`: of `shown_command`.
+#[tactic(auto, using(crate::proofs::ShownLaws::shown_laws))]
+pub fn of_shown_bytes()
+    ensures bytes { ShownIsVisible }
+    ensures words { ShownWordsAreVisible }
 {}

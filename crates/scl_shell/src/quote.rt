@@ -27,7 +27,7 @@ fn all_plain(word: &[u8]) -> bool
 fn is_bare(word: &[u8]) -> bool
     ensures { result ≡ is_bare word.now }
 {
-    !word.is_empty() && all_plain(word)
+    !word.is_empty() && !word.starts_with(b"=") && all_plain(word)
 }
 
 fn push_in_quotes(text: &mut Vec<u8>, byte: u8) -> Mem<()>

@@ -1,0 +1,203 @@
+//! Bytes as a person reads them, on a terminal too.
+ghost use Rattle.std.specs.Prelude.{◌≡◌, ◌++◌, ◌∷◌, OnOk, IfOk, not, take};
+ghost use Rattle.std.specs.List.{list_all, flat_map};
+ghost use Rattle.std.specs.Str.{chars};
+ghost use Rattle.std.specs.String.{string_bytes};
+ghost use Rattle.scl_values.specs.Words.{words_of};
+ghost use Rattle.scl_shell.specs.Shown.{is_hidden, is_visible, octal, escaped, shown, shown_briefly, in_dollar_quotes, dollar_quoted, shown_word, shown_next, shown_text};
+
+use crate::quote::push_quoted;
+use scl_values::Mem;
+use std::alloc::Global;
+use std::str;
+
+/// Whether a terminal obeys a character, or it turns or hides what stands beside it.
+pub fn is_hidden(c: char) -> bool
+    ensures { result ≡ is_hidden c }
+{
+    matches!(
+        c,
+        '\0'..='\u{1f}'
+            | '\u{7f}'..='\u{9f}'
+            | '\u{61c}'
+            | '\u{200b}'..='\u{200f}'
+            | '\u{2028}'..='\u{202e}'
+            | '\u{2060}'..='\u{206f}'
+            | '\u{feff}'
+            | '\u{fff9}'..='\u{fffb}'
+            | '\u{e0000}'..='\u{e007f}'
+    )
+}
+
+fn has_none_hidden(text: &str) -> bool
+    ensures { result ≡ list_all (λ c. not (is_hidden c)) (chars text.now) }
+{
+    text.chars().all(|c| !is_hidden(c))
+}
+
+/// Whether bytes are shown as they are: they are UTF-8 with no hidden character.
+#[tactic(auto, using(crate::proofs::ShownLaws::text_rules))]
+fn is_visible(bytes: &[u8]) -> bool
+    ensures { result ≡ is_visible bytes.now }
+{
+    match str::from_utf8(bytes) {
+        Ok(text) => has_none_hidden(text),
+        Err(_) => false,
+    }
+}
+
+fn push_octal(text: &mut Vec<u8>, byte: u8) -> Mem<()>
+    ensures { OnOk result (text.new.items ≡ text.old.items ++ octal byte) }
+{
+    text.push(b'\\')?;
+    text.push(b'0' + byte / 64 % 8)?;
+    text.push(b'0' + byte / 8 % 8)?;
+    text.push(b'0' + byte % 8)?;
+    Ok(())
+}
+
+fn push_escaped(text: &mut Vec<u8>, byte: u8) -> Mem<()>
+    ensures { OnOk result (text.new.items ≡ text.old.items ++ escaped byte) }
+{
+    if matches!(byte, b' '..=b'~') {
+        Ok(text.push(byte)?)
+    } else {
+        push_octal(text, byte)
+    }
+}
+
+fn push_all_escaped(text: &mut Vec<u8>, bytes: &[u8]) -> Mem<()>
+    ensures { OnOk result (text.new.items ≡ text.old.items ++ flat_map escaped bytes.now) }
+{
+    for byte in bytes {
+        push_escaped(text, *byte)?;
+    }
+    Ok(())
+}
+
+/// Puts bytes as a person reads them after a text.
+fn push_shown(text: &mut Vec<u8>, bytes: &[u8]) -> Mem<()>
+    ensures { OnOk result (text.new.items ≡ text.old.items ++ shown bytes.now) }
+{
+    if is_visible(bytes) {
+        text.extend_from_slice(bytes)
+    } else {
+        push_all_escaped(text, bytes)
+    }
+}
+
+/// Bytes as a person reads them: UTF-8 with no hidden character as it is; of any others each byte but space to `~` as a
+/// backslash and three octal digits. Hidden are control characters, marks of direction, and what has no width. The text has
+/// none (`laws::of_shown_bytes`).
+#[tactic(auto, using(crate::proofs::ShownLaws::shown_whole))]
+pub fn shown(alloc: Global, bytes: &[u8]) -> Mem<String>
+    ensures { IfOk result (λ text. string_bytes text ≡ shown bytes.now) }
+{
+    let mut text = Vec::new(alloc);
+    push_shown(&mut text, bytes)?;
+    String::from_utf8_lossy(alloc, &text)
+}
+
+/// The most bytes of one text that a message repeats.
+const MOST_REPEATED: usize = 200;
+
+/// The beginning of a text that a message repeats: 200 bytes at most.
+#[tactic(auto, using(std::proofs::lemmas::List::take_min))]
+pub fn beginning(bytes: &[u8]) -> &[u8]
+    ensures { result.now ≡ take 200 bytes.now }
+{
+    let count = MOST_REPEATED.min(bytes.len());
+    &bytes[..count]
+}
+
+fn push_shown_briefly(text: &mut Vec<u8>, bytes: &[u8]) -> Mem<()>
+    ensures { OnOk result (text.new.items ≡ text.old.items ++ shown_briefly bytes.now) }
+{
+    push_shown(text, beginning(bytes))?;
+    if bytes.len() > MOST_REPEATED {
+        text.extend_from_slice(b"..")?;
+    }
+    Ok(())
+}
+
+/// The same (`shown`) for a message, which repeats of a text 200 bytes at most: of a longer one these, and `..`.
+#[tactic(auto, using(crate::proofs::ShownLaws::shown_briefly_whole))]
+pub fn shown_briefly(alloc: Global, bytes: &[u8]) -> Mem<String>
+    ensures { IfOk result (λ text. string_bytes text ≡ shown_briefly bytes.now) }
+{
+    let mut text = Vec::new(alloc);
+    push_shown_briefly(&mut text, bytes)?;
+    String::from_utf8_lossy(alloc, &text)
+}
+
+fn push_in_dollar_quotes(text: &mut Vec<u8>, byte: u8) -> Mem<()>
+    ensures { OnOk result (text.new.items ≡ text.old.items ++ in_dollar_quotes byte) }
+{
+    if matches!(byte, b'\'' | b'\\') {
+        text.push(b'\\')?;
+        Ok(text.push(byte)?)
+    } else {
+        push_escaped(text, byte)
+    }
+}
+
+fn push_dollar_quoted(text: &mut Vec<u8>, word: &[u8]) -> Mem<()>
+    ensures { OnOk result (text.new.items ≡ text.old.items ++ dollar_quoted word.now) }
+{
+    text.push(b'$')?;
+    text.push(b'\'')?;
+    for byte in word {
+        push_in_dollar_quotes(text, *byte)?;
+    }
+    text.push(b'\'')?;
+    Ok(())
+}
+
+fn push_shown_word(text: &mut Vec<u8>, word: &[u8]) -> Mem<()>
+    ensures { OnOk result (text.new.items ≡ text.old.items ++ shown_word word.now) }
+{
+    if is_visible(word) {
+        push_quoted(text, word)
+    } else {
+        push_dollar_quoted(text, word)
+    }
+}
+
+/// Puts a space and a word after a text.
+fn push_shown_next(text: &mut Vec<u8>, word: &[u8]) -> Mem<()>
+    ensures { OnOk result (text.new.items ≡ text.old.items ++ shown_next word.now) }
+{
+    text.push(b' ')?;
+    push_shown_word(text, word)
+}
+
+fn shown_bytes(alloc: Global, program: &[u8], words: &[Vec<u8>]) -> Mem<Vec<u8>>
+    ensures { IfOk result (λ text. text.items ≡ shown_text (program.now ∷ words_of words.now)) }
+{
+    let mut text = Vec::new(alloc);
+    push_shown_word(&mut text, program)?;
+    for word in words {
+        push_shown_next(&mut text, word)?;
+    }
+    Ok(text)
+}
+
+/// A program and its words for a terminal, with a space between each two: quoted for any shell where a word can be seen, else
+/// in `$'..'`, which bash, zsh and ksh read back, and dash does not (`laws::of_dollar_quotes`). It fails only for want of memory.
+#[tactic(auto, using(crate::proofs::ShownLaws::shown_command_whole))]
+pub fn shown_command(alloc: Global, program: &[u8], words: &[Vec<u8>]) -> Mem<String>
+    ensures { IfOk result (λ text. string_bytes text ≡ shown_text (program.now ∷ words_of words.now)) }
+{
+    let text = shown_bytes(alloc, program, words)?;
+    String::from_utf8_lossy(alloc, &text)
+}
+
+/// Words for a terminal (`shown_command`). It fails only for want of memory.
+pub fn shown_words(alloc: Global, words: &[Vec<u8>]) -> Mem<String>
+    ensures { IfOk result (λ text. string_bytes text ≡ shown_text (words_of words.now)) }
+{
+    match words.split_first() {
+        Some((program, others)) => shown_command(alloc, program, others),
+        None => Ok(String::new(alloc)),
+    }
+}
