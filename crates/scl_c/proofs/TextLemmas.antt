@@ -1,6 +1,6 @@
 -- A text that answers a request is that of an answer that is read again.
 use Rattle.std.proofs.Common.{◌≡◌, ℕ, ℤ, pos, List, Ok, Some, refl, subst}
-use Rattle.scl_reader.proofs.AgainLaws.{text-answers-again}
+use Rattle.scl_cl.proofs.TextAgainLaws.{text-answers-again}
 use Rattle.scl_cl.specs.Program.{program_answer, IsTextReadAgain}
 use Rattle.scl_c.specs.Texts.{IsGiven, IsTextGiven, HoldsReadAgain}
 

@@ -91,7 +91,7 @@ fn read_in(
 /// The response files that its words name, and those that their words name, are looked for first, each once; then it is read,
 /// and what it asks besides is looked for, until nothing more is found. `TooManyRounds` where `rounds` files name each the
 /// next, or where so many readings found something; `TooManyWords` where a command line has more than `most` words or openings
-/// of files (`Compiler::has_at_most`). A read of the disk that fails is `Disk` with its error, and ends the load. The outer
+/// of files (`Compiler::answer_within`). A read of the disk that fails is `Disk` with its error, and ends the load. The outer
 /// error is the refusal of memory.
 pub fn load<D: Disk>(
     alloc: Global,

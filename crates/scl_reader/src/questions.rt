@@ -6,8 +6,6 @@ ghost use Rattle.scl_values.specs.Words.{words_of};
 ghost use Rattle.scl_text.specs.Commands.{pairs_of};
 ghost use Rattle.scl_text.specs.Records.{outcome_of};
 ghost use Rattle.scl_reader.specs.CommandLines.{asked, given_by};
-ghost use Rattle.scl_reader.specs.Answers.{answer_to, environment_by, reading_by, read_again_by};
-ghost use Rattle.scl_reader.specs.AnswersGiven.{answer_of, HasParts, IfCompiled};
 ghost use Rattle.scl_reader.specs.Reads.{lacked_of};
 ghost use Rattle.scl_reader.specs.Within.{has_at_most};
 ghost use Rattle.scl_reader.specs.Questions.{database_in, hash_files, no_directory, database_asked, questions_in, questions_of};
@@ -15,7 +13,6 @@ ghost use Rattle.scl_reader.specs.QuestionsGiven.{given};
 
 use crate::command_line::CommandLine;
 use crate::compiler::Compiler;
-use crate::kept::Compilation;
 use crate::reading::{LackedFile, Reading};
 use scl_text::outputs::output_path;
 use scl_text::path::join;
@@ -128,7 +125,7 @@ impl Compiler {
     /// those that words inside the files of the view name, and those of inner command lines; the directories in which
     /// profiles may lie; and the file that debug information may be added to (docs/RULES.md, Questions). A disk that has what
     /// the view has, and none of what is asked, gives the same answer (`laws::of_questions`). `TooManyWords` where
-    /// `has_at_most` says that a command line has more than `most`. The outer error is the refusal of memory.
+    /// `answer_within` says so. The outer error is the refusal of memory.
     #[tactic(auto, using(crate::proofs::ReadLaws::answer_read))]
     pub fn open_questions(
         self,
@@ -152,39 +149,5 @@ impl Compiler {
             Ok(reading) => Ok(Ok(reading.questions(alloc, &line)?)),
             Err(too_many) => Ok(Err(too_many)),
         }
-    }
-
-    /// What `answer_within` answers, and what `open_questions` says of it: the command line is read once for both. It fails
-    /// only for want of memory.
-    #[tactic(auto, using(crate::proofs::ReadLaws::answer_read))]
-    pub fn answer_with_questions(
-        self,
-        alloc: Global,
-        executable: &[u8],
-        words: &[Vec<u8>],
-        cwd: &[u8],
-        env_vars: &[(Vec<u8>, Vec<u8>)],
-        view: &View,
-        most: usize,
-    ) -> Mem<Result<(CompilerArguments<Compilation>, Questions), TooManyWords>>
-        ensures within { IfOk result (λ said. let request = asked self (words_of words.now) cwd.now (pairs_of env_vars.now) view.now in
-            MatchResult said (λ both. (has_at_most most request ≡ true) × (answer_of both.0 ≡ answer_to request) × (given both.1 ≡ questions_of request)) (λ _. has_at_most most request ≡ false)) }
-        ensures parts { IfOk result (λ said. IfOk said (λ both. HasParts (reading_by self (asked self (words_of words.now) cwd.now (pairs_of env_vars.now) view.now))
-            executable.now (environment_by self (pairs_of env_vars.now)) cwd.now both.0)) }
-        ensures read_again { IfOk result (λ said. IfOk said (λ both. IfCompiled (read_again_by self (asked self (words_of words.now) cwd.now (pairs_of env_vars.now) view.now)) both.0)) }
-    {
-        let line = CommandLine {
-            words,
-            directory: cwd,
-            environment: env_vars,
-            view,
-        };
-        let reading = match self.read(alloc, &line, most)? {
-            Ok(reading) => reading,
-            Err(too_many) => return Ok(Err(too_many)),
-        };
-        let questions = reading.questions(alloc, &line)?;
-        let answer = reading.into_answer(alloc, executable, &line)?;
-        Ok(Ok((answer, questions)))
     }
 }

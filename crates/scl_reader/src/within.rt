@@ -15,29 +15,6 @@ use scl_text::{Mem, TooManyWords, View};
 use std::alloc::Global;
 
 impl Compiler {
-    /// Whether each command line that is read of the words, the given one and the inner ones, has at most `most` words and
-    /// openings of files where response files are put in place (docs/RULES.md, Expansion). It fails only for want of memory.
-    #[tactic(auto, using(crate::proofs::ReadLaws::answer_read))]
-    pub fn has_at_most(
-        self,
-        alloc: Global,
-        words: &[Vec<u8>],
-        cwd: &[u8],
-        env_vars: &[(Vec<u8>, Vec<u8>)],
-        view: &View,
-        most: usize,
-    ) -> Mem<bool>
-        ensures { IfOk result (λ within. within ≡ has_at_most most (asked self (words_of words.now) cwd.now (pairs_of env_vars.now) view.now)) }
-    {
-        let line = CommandLine {
-            words,
-            directory: cwd,
-            environment: env_vars,
-            view,
-        };
-        Ok(self.read(alloc, &line, most)?.is_ok())
-    }
-
     /// What `answer` answers, where each command line that is read of the words has at most `most` words and openings of
     /// files; else `TooManyWords`, before any of them is refused (docs/RULES.md, Expansion). It fails only for want of memory.
     #[tactic(auto, using(crate::proofs::ReadLaws::answer_read))]
