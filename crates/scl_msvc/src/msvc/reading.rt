@@ -1,5 +1,5 @@
 //! A command line of cl or clang-cl, read with the words of its environment.
-ghost use Rattle.std.specs.Prelude.{◌≡◌, ◌++◌, true, false, length, IfOk, MatchResult, None, replicate};
+ghost use Rattle.std.specs.Prelude.{◌≡◌, ◌++◌, ℕ, true, false, List, length, IfOk, MatchResult, None, replicate};
 ghost use Rattle.scl_files.specs.Sources.{indices};
 ghost use Rattle.scl_text.specs.Commands.{pairs_of};
 ghost use Rattle.scl_values.specs.Words.{words_of};
@@ -24,9 +24,8 @@ fn ats_between(
 {
     let mut ats = vec![in alloc; None; front]?;
     ats.extend_from_slice(own)?;
-    for _i in 0..back {
-        ats.push(None)?;
-    }
+    let behind = vec![in alloc; None; back]?;
+    ats.extend_from_slice(&behind)?;
     Ok(ats)
 }
 
@@ -59,7 +58,7 @@ fn read_between(
     view: &View,
     most: usize,
 ) -> Mem<Result<MsvcReading, TooManyWords>>
-    ensures { IfOk result (λ said. let both = (words_of front.items, words_of back.items) in let within = is_read_within most is_clang cwd.now view.now (words_of words.now) both in
+    ensures { IfOk result (λ said. let both : List (List ℕ) × List (List ℕ) = (words_of front.items, words_of back.items) in let within = is_read_within most is_clang cwd.now view.now (words_of words.now) both in
         MatchResult said (λ reading. (within ≡ true) × (reading ≡ read_between is_clang cwd.now view.now (words_of words.now) both)) (λ _. within ≡ false)) }
 {
     let all = words_between(alloc, words, &front, &back)?;
