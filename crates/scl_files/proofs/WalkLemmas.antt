@@ -1,6 +1,6 @@
 -- Words so far and words that are left.
-use Rattle.std.proofs.Common.{◌≡◌, ℕ, suc, ◌+◌, ◌<◌, true, false, List, [], ◌∷◌, ◌++◌, length, get_or, take, Vec, sym, ap, subst, ◌∙◌, add-one, length-append, arith}
-use Rattle.std.proofs.lemmas.List.{append-nil, length-map, map-append}
+use Rattle.std.proofs.Common.{◌≡◌, ℕ, ◌+◌, ◌<◌, true, false, List, [], ◌∷◌, ◌++◌, length, get_or, take, Vec, sym, ap, subst, ◌∙◌, add-one}
+use Rattle.std.proofs.lemmas.List.{map-append}
 use Rattle.std.proofs.Math.Seq.{take-suc}
 use Rattle.std.specs.declared.alloc.Global.{Global}
 use Rattle.std.specs.Option.{is_some, option_to_list}
@@ -8,18 +8,6 @@ use Rattle.scl_values.specs.Words.{words_of}
 use Rattle.scl_files.specs.PathMaps.{value_at}
 use Rattle.scl_files.specs.Views.{File, bytes_at, is_among}
 use Rattle.scl_files.proofs.OnceLemmas.{Once, leads-known, leads-new, text-known, text-new}
-
--- one more word, where there are as many as are allowed already
-pub one_too_many : (most : ℕ) (ws : List (Vec ℕ Global)) (w : List ℕ) (rest all : List (List ℕ)) → length ws ≡ most → words_of ws ++ (w ∷ rest) ≡ all → most < length all
-one_too_many most ws w rest all full is =
-    let count : length (words_of ws) ≡ length ws = length-map ws (λ word. word.items) in
-    let both : length (words_of ws ++ (w ∷ rest)) ≡ length (words_of ws) + suc (length rest) = length-append (words_of ws) (w ∷ rest) in
-    let same : length (words_of ws ++ (w ∷ rest)) ≡ length all = ap length is in
-    omega arith
-
--- no word is left
-pub none_left : (ws rest all : List (List ℕ)) → rest ≡ [] → ws ++ rest ≡ all → ws ≡ all
-none_left ws rest all none is = sym (append-nil ws) ∙ ap (λ l. ws ++ l) (sym none) ∙ is
 
 -- one word more of those that a loop goes over
 pub taken_more : (words : List (Vec ℕ Global)) (i : ℕ) (word : Vec ℕ Global) → i < length words → word ≡ get_or words i word → words_of (take (i + 1) words) ≡ words_of (take i words) ++ word.items ∷ []
