@@ -1,6 +1,7 @@
 -- What contracts of public functions cite.
 pub mod GnuWords
 pub mod InPlace
+pub mod InPlaceLaws
 pub mod Otherwise
 pub mod Pieces
 pub mod Splitters

@@ -3,6 +3,7 @@
 #![tactic(auto)]
 
 mod gnu_words;
+pub mod laws;
 mod otherwise;
 mod splitter;
 mod windows_words;
