@@ -26,7 +26,7 @@ use Rattle.scl_c.specs.declared.shapes.Room.{Room}
 use Rattle.scl_c.specs.declared.shapes.Sizes.{Sizes}
 use Rattle.scl_c.specs.declared.shapes.Told.{Told}
 use Rattle.scl_c.specs.Replies.{compiled, reply_with, reply_of, runs_in, name_of, no_questions, IsReplied, Whole, whole, whole_to}
-use Rattle.scl_c.specs.Requests.{asked_of, viewed}
+use Rattle.scl_c.specs.Requests.{asked_of, bound_of, viewed}
 use Rattle.scl_c.specs.Shapes.{texts_of, pairs_in}
 use Rattle.scl_c.specs.Sizes.{AreSizes, Fits, IsShort}
 use Rattle.scl_c.specs.Told.{IsGiven, IsTold, IsTooMuch, IsWhole, OfCompiler, Tells}
@@ -50,7 +50,7 @@ reply-is outcomes.NotCompilation answer reading executable environment cwd is pa
 
 -- what is known of a reply to these words, pairs and view
 pub record IsFrom (compiler : Compiler) (a : Asked) (r : Replied) (words : List (List ℕ)) (pairs : List (List ℕ × List ℕ)) (view : Viewed) : Type 0 where
-  pub is_within : has_at_most a.most_words (asked compiler words a.directory.now pairs view) ≡ true
+  pub is_within : has_at_most (bound_of a) (asked compiler words a.directory.now pairs view) ≡ true
   pub answer_is : answer_of r.answer ≡ answer_to (asked compiler words a.directory.now pairs view)
   pub executable : List ℕ
   pub parts : HasParts (reading_by compiler (asked compiler words a.directory.now pairs view)) executable (environment_by compiler pairs) a.directory.now r.answer

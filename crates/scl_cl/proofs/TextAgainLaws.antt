@@ -11,7 +11,7 @@ text-again : (bytes text : List ℕ) (r : Result Request ℕ) → request_in (li
 text-again bytes text (Ok request) e is = record { request = request; request_is = e; text_is = sym (cc); read_again = answers_again request }
 text-again bytes text (Err n) e is = absurd (cc)
 
-answer-again : (bytes text : List ℕ) → program_answer bytes ≡ Ok text → IsTextReadAgain bytes text
+pub answer-again : (bytes text : List ℕ) → program_answer bytes ≡ Ok text → IsTextReadAgain bytes text
 answer-again bytes text is = text-again bytes text (request_in (lines_of bytes)) refl is
 
 -- where there are bytes, and the text of their answer is as it should be, a command in it is read again

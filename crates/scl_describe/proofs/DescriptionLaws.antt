@@ -1,5 +1,5 @@
 -- Descriptions: what the code gives is what is defined, and a record is read back from its description.
-use Rattle.std.proofs.Common.{◌≡◌, ℕ, true, cond, List, [], ◌∷◌, ◌++◌, map, codes, Option, None, Some, unwrap_or, refl, ap, sym, subst, ◌∙◌, append-nil, append_assoc}
+use Rattle.std.proofs.Common.{◌≡◌, ℕ, true, false, cond, List, [], ◌∷◌, ◌++◌, map, codes, Option, None, Some, unwrap_or, refl, ap, sym, subst, ◌∙◌, append-nil, append_assoc}
 use Rattle.std.specs.List.{flat_map}
 use Rattle.std.proofs.lemmas.Grind.{flat_map-append}
 use Rattle.scl_values.specs.Each.{Each}
@@ -79,9 +79,9 @@ entries-are s r found are =
     ∙ ap (all_entries outcome_is options_is (hazards_by r)) are.questions
 
 -- the text of an answer and the rows behind it are a description
-pub is-description : (s : Settings) (r : Request) (text : List ℕ) (found : Findings) → has_at_most s.bound r ≡ true → AreOf r found
+pub is_description : (s : Settings) (r : Request) (text : List ℕ) (found : Findings) → has_at_most s.bound r ≡ true → AreOf r found
     → text ≡ text_of (answer_of found.answer) ++ entries_text (entries_given (runs_for s r.compiler) found) → IsDescription s r text
-is-description s r text found within are is =
+is_description s r text found within are is =
     let kinds : List (List ℕ) = map kind_name found.rows.items in (
       kinds,
       is
@@ -89,6 +89,9 @@ is-description s r text found within are is =
           ∙ ap (λ es. text_of (answer_to r) ++ entries_text es) (entries-are s r found are)
           ∙ ap (λ b. cond b (text_of (answer_to r) ++ entries_text (answer_entries s r kinds)) (entries_text too_many_entries)) (sym within),
     )
+
+pub is_too_long : (s : Settings) (r : Request) (text : List ℕ) → has_at_most s.bound r ≡ false → text ≡ entries_text too_many_entries → IsDescription s r text
+is_too_long s r text within is = ([], is ∙ ap (λ b. cond b (text_of (answer_to r) ++ entries_text (answer_entries s r [])) (entries_text too_many_entries)) (sym within))
 
 -- ---- a record is read back
 

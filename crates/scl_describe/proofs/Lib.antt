@@ -2,3 +2,4 @@ pub mod SettingLaws
 pub mod ExplainedLaws
 pub mod DescriptionLaws
 pub mod RowLaws
+pub mod FindingLaws

@@ -21,6 +21,7 @@ use std::alloc::Global;
 use std::io::{Read, Write};
 
 /// What is described of a request that was read.
+#[tactic(auto, using(crate::proofs::FindingLaws::findings_are))]
 fn findings_of(alloc: Global, reading: Reading, line: &CommandLine<'_>) -> Mem<Findings>
     ensures { (request : Asked) → given_in request ≡ given_by line.now → read_of request ≡ reading → IfOk result (AreOf request) }
 {
@@ -37,6 +38,7 @@ fn findings_of(alloc: Global, reading: Reading, line: &CommandLine<'_>) -> Mem<F
 }
 
 /// The description of the answer to a request.
+#[tactic(auto, using(crate::proofs::DescriptionLaws::is_description, crate::proofs::DescriptionLaws::is_too_long))]
 fn request_description(alloc: Global, settings: &Settings, request: &Request) -> Mem<Vec<u8>>
     ensures { IfOk result (λ text. IsDescription (settings_by settings.now) (asked_by request.now) text.items) }
 {

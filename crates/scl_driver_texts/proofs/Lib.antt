@@ -1,3 +1,3 @@
-pub mod OnceLaws
 pub mod SameWords
+pub mod OnceLaws
 pub mod WordLemmas
