@@ -46,11 +46,12 @@ pub struct Answered {
 fn rows_for(alloc: Global, reading: &Reading, wants_rows: bool) -> Mem<Vec<Row>>
     ensures { IfOk result (λ rows. IsTrue wants_rows → map told rows.items ≡ rows_in reading.now) }
 {
-    let compiles_nothing = matches!(reading.outcome(), CompilerArguments::NotCompilation);
-    if wants_rows || compiles_nothing {
-        rows_of(alloc, reading)
-    } else {
-        Ok(Vec::new(alloc))
+    if wants_rows {
+        return rows_of(alloc, reading);
+    }
+    match reading.outcome() {
+        CompilerArguments::NotCompilation => rows_of(alloc, reading),
+        CompilerArguments::Ok(_) | CompilerArguments::CannotCache(_, _) => Ok(Vec::new(alloc)),
     }
 }
 
