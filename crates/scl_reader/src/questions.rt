@@ -149,7 +149,11 @@ impl Compiler {
             view,
         };
         match self.read(alloc, &line, most)? {
-            Ok(reading) => Ok(Ok(reading.questions(alloc, &line)?)),
+            Ok(reading) => {
+                let questions = reading.questions(alloc, &line);
+                drop(reading);
+                Ok(Ok(questions?))
+            }
             Err(too_many) => Ok(Err(too_many)),
         }
     }
@@ -183,8 +187,15 @@ impl Compiler {
             Ok(reading) => reading,
             Err(too_many) => return Ok(Err(too_many)),
         };
-        let questions = reading.questions(alloc, &line)?;
-        let answer = reading.into_answer(alloc, executable, &line)?;
-        Ok(Ok((answer, questions)))
+        match reading.questions(alloc, &line) {
+            Ok(questions) => {
+                let answer = reading.into_answer(alloc, executable, &line)?;
+                Ok(Ok((answer, questions)))
+            }
+            Err(refused) => {
+                drop(reading);
+                Err(refused)
+            }
+        }
     }
 }

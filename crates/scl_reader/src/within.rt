@@ -35,7 +35,13 @@ impl Compiler {
             environment: env_vars,
             view,
         };
-        Ok(self.read(alloc, &line, most)?.is_ok())
+        match self.read(alloc, &line, most)? {
+            Ok(reading) => {
+                drop(reading);
+                Ok(true)
+            }
+            Err(TooManyWords) => Ok(false),
+        }
     }
 
     /// What `answer` answers, where each command line that is read of the words has at most `most` words and openings of

@@ -6,7 +6,7 @@ use Rattle.scl_reader.specs.Answers.{reading_by}
 use Rattle.scl_reader.specs.AnswersGiven.{record_given}
 use Rattle.scl_reader.specs.CommandLines.{asked}
 use Rattle.scl_reader.proofs.RecordLaws.{record_is_given}
-use Rattle.scl_reader.proofs.compile.Compiler.answer.Goals as goal
+use Rattle.scl_reader.proofs.compiler.Compiler.answer.Goals as goal
 
 pub returns-clause-record : goal.returns-clause-record
 returns-clause-record c =
