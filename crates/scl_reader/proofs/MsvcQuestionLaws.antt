@@ -64,7 +64,7 @@ abbrev pub files_wanted : Bool → List ℕ → List (List ℕ × List ℕ) → 
 files_wanted is_clang directory pairs view words = surrounded_wanted is_clang directory view (surrounded pairs words)
 
 abbrev lacked_in : MsvcRead → List (List ℕ)
-lacked_in r = r.outer.lacked ++ r.xclang.lacked ++ r.clang.lacked
+lacked_in r = r.outer.lacked ++ (r.xclang.lacked ++ r.clang.lacked)
 
 module _ (is_clang : Bool) (directory : List ℕ) (pairs : List (List ℕ × List ℕ)) (view : Viewed) (words : List (List ℕ)) where
   lacked-by : (r : Result (List (List ℕ) × List (List ℕ)) Verdict) → surroundings pairs ≡ r

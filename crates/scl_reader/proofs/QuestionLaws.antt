@@ -1,5 +1,5 @@
 -- Where the disk has none of what is asked, what is read and the answer are the same, whatever the compiler.
-use Rattle.std.proofs.Common.{◌≡◌, ℕ, true, false, List, [], ◌∷◌, ◌++◌, map, refl, ap, sym, subst, ◌∙◌}
+use Rattle.std.proofs.Common.{◌≡◌, ℕ, true, false, List, [], ◌∷◌, ◌++◌, map, refl, ap, sym, subst, ◌∙◌, append_assoc}
 use Rattle.scl_values.specs.Each.{Each}
 use Rattle.scl_values.specs.Tables.{owner_in}
 use Rattle.scl_files.specs.declared.expand.ExpansionKind.{ExpansionKind}
@@ -36,10 +36,10 @@ paths-joined : (xs ys : List Lacked) → paths_in (xs ++ ys) ≡ paths_in xs ++ 
 paths-joined [] ys = refl
 paths-joined (x ∷ xs) ys = ap (λ others. x.path ∷ others) (paths-joined xs ys)
 
-three-named : (k l m : ExpansionKind) (xs ys zs : List (List ℕ)) → paths_in (named_by k xs ++ named_by l ys ++ named_by m zs) ≡ xs ++ ys ++ zs
+three-named : (k l m : ExpansionKind) (xs ys zs : List (List ℕ)) → paths_in (named_by k xs ++ named_by l ys ++ named_by m zs) ≡ xs ++ (ys ++ zs)
 three-named k l m xs ys zs =
-    paths-joined (named_by k xs) (named_by l ys ++ named_by m zs)
-    ∙ rw (paths-joined (named_by l ys) (named_by m zs), paths-named k xs, paths-named l ys, paths-named m zs) refl
+    paths-joined (named_by k xs ++ named_by l ys) (named_by m zs)
+    ∙ rw (paths-joined (named_by k xs) (named_by l ys), paths-named k xs, paths-named l ys, paths-named m zs) (append_assoc xs ys zs)
 
 -- the files that are asked of a compiler
 abbrev wanted_by : Compiler → Request → List (List ℕ)

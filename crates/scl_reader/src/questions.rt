@@ -146,7 +146,11 @@ impl Compiler {
             view,
         };
         match self.read(alloc, &line, most)? {
-            Ok(reading) => Ok(Ok(reading.questions(alloc, &line)?)),
+            Ok(reading) => {
+                let questions = reading.questions(alloc, &line);
+                drop(reading);
+                Ok(Ok(questions?))
+            }
             Err(too_many) => Ok(Err(too_many)),
         }
     }
