@@ -160,7 +160,6 @@ impl Compiler {
 
     /// What `answer_within` answers, and what `open_questions` says of it: the command line is read once for both. It fails
     /// only for want of memory.
-    #[tactic(auto, using(crate::proofs::ReadLaws::answer_read))]
     pub fn answer_with_questions(
         self,
         alloc: Global,
