@@ -37,6 +37,7 @@ use Rattle.scl_msvc.specs.ReadAgain.{options_cut}
 use Rattle.scl_msvc.specs.Reads.{read_by_both, surrounded_read}
 use Rattle.scl_msvc.proofs.EnvironmentLemmas.{surrounded_by_both, surrounded_stops}
 use Rattle.scl_msvc_reading.specs.Reads.{MsvcRead}
+use Rattle.scl_text.specs.Lines.{line_by}
 use Rattle.scl_reader.specs.Questions.{Extends, if_none, hash_files, database_asked, database_in}
 use Rattle.scl_reader.proofs.GnuQuestionLaws.{NoneAsked, same-paths, bind-same}
 
@@ -69,6 +70,7 @@ lacked_in r = r.outer.lacked ++ (r.xclang.lacked ++ r.clang.lacked)
 module _ (is_clang : Bool) (directory : List ℕ) (pairs : List (List ℕ × List ℕ)) (view : Viewed) (words : List (List ℕ)) where
   lacked-by : (r : Result (List (List ℕ) × List (List ℕ)) Verdict) → surroundings pairs ≡ r
       → lacked_in (read_by_both is_clang directory view words r) ≡ surrounded_wanted is_clang directory view (surrounded pairs words)
+  unfolding line_by expand
   lacked-by (Ok both) e = ap (surrounded_wanted is_clang directory view) (sym (surrounded_by_both pairs words both.0 both.1 e))
   lacked-by (Err broken) e = ap (surrounded_wanted is_clang directory view) (sym (surrounded_stops pairs words broken e))
 
