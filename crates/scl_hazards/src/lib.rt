@@ -1,4 +1,5 @@
-//! Hazards: command lines, as they were read, for which gcc, clang or clang-cl do something else with the built command than with the given one.
+//! Hazards: command lines, as they were read, for which gcc, clang or clang-cl do something else with the built command than with
+//! the given one.
 #![tactic(auto)]
 
 mod clang_cl;

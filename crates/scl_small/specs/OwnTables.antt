@@ -1,5 +1,5 @@
 -- Tables of one's own by which the commands of Diab and of TaskingVX are read again: what their rows keep, which computes.
-use Rattle.std.specs.Prelude.{ℕ, Bool, not, ◌&&◌, ◌||◌, List, [], ◌∷◌, codes, IsTrue}
+use Rattle.std.specs.Prelude.{Bool, not, ◌&&◌, ◌||◌, List, [], ◌∷◌, codes, IsTrue}
 use Rattle.std.specs.List.{list_all}
 use Rattle.scl_values.specs.Row.{Row, row, bare}
 use Rattle.scl_values.specs.Tables.{all_rows}
