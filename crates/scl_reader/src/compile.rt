@@ -11,16 +11,19 @@ ghost use Rattle.scl_reader.specs.AnswersGiven.{answer_by, answer_of, command_an
 ghost use Rattle.scl_reader.specs.Definitions.{definitions_of};
 ghost use Rattle.scl_reader.specs.Reads.{compiler_of, outcome_in};
 
-use crate::ask::Query;
 use crate::command_line::CommandLine;
 use crate::compiler::Compiler;
 use crate::kept::{BuiltCommand, Compilation, Kept};
 use crate::reading::Reading;
+use scl_gnu::clang::Clang;
+use scl_gnu::gcc::Gcc;
+use scl_msvc::msvc::Msvc;
+use scl_small::diab::Diab;
+use scl_small::tasking_vx::TaskingVX;
 use scl_text::command::copy_words;
 use scl_text::records::{CommandError, CompilerArguments, ParsedArguments};
 use scl_text::{CCompilerImpl, Mem, View};
 use std::alloc::{AllocError, Global};
-use std::marker::PhantomData;
 
 /// The answer of a record: what is kept of it.
 fn answer_record<C: CCompilerImpl, K: Kept>(
@@ -48,98 +51,89 @@ fn answer_record<C: CCompilerImpl, K: Kept>(
     }
 }
 
-/// What a command line, whose words are handed over, says.
-#[derive(Drop)]
-struct Parse<'a> {
-    words: Vec<Vec<u8>>,
-    cwd: &'a [u8],
-    env_vars: &'a [(Vec<u8>, Vec<u8>)],
-    view: &'a View,
-}
-
-impl<'a> Query for Parse<'a> {
-    ghost use Rattle.std.specs.Prelude.{◌≡◌};
-    ghost use Rattle.scl_values.specs.Words.{words_of};
-    ghost use Rattle.scl_text.specs.Commands.{pairs_of};
-    ghost use Rattle.scl_text.specs.Records.{outcome_of};
-
-    type Answer = CompilerArguments<ParsedArguments>;
-
-    ghost gives = { λ query definitions outcome.
-        outcome_of outcome ≡ definitions.reading (words_of query.words.items) query.cwd.now (pairs_of query.env_vars.now) query.view.now };
-
-    fn ask<C: CCompilerImpl>(
-        self,
-        alloc: Global,
-        compiler: &C,
-    ) -> Mem<CompilerArguments<ParsedArguments>> {
-        compiler.parse_arguments_owned(alloc, self.words, self.cwd, self.env_vars, self.view)
-    }
-}
-
-/// The answer of what a command line says, which is handed over.
-#[derive(Drop)]
-struct Answered<'a, K> {
-    executable: &'a [u8],
-    outcome: CompilerArguments<ParsedArguments>,
-    cwd: &'a [u8],
-    env_vars: &'a [(Vec<u8>, Vec<u8>)],
-    view: &'a View,
-    kept: PhantomData<K>,
-}
-
-impl<'a, K: Kept> Query for Answered<'a, K> {
-    ghost use Rattle.scl_text.specs.Commands.{pairs_of};
-    ghost use Rattle.scl_text.specs.Records.{outcome_of};
-    ghost use Rattle.scl_reader.specs.AnswersGiven.{AnswersOutcome};
-
-    type Answer = CompilerArguments<K>;
-
-    ghost gives = { λ query definitions. AnswersOutcome K.command K.cacheable K.is_of definitions query.executable.now
-        (outcome_of query.outcome) query.cwd.now (pairs_of query.env_vars.now) query.view.now };
-
-    fn ask<C: CCompilerImpl>(self, alloc: Global, compiler: &C) -> Mem<CompilerArguments<K>> {
-        let Answered {
-            executable,
-            outcome,
-            cwd,
-            env_vars,
-            view,
-            kept: _,
-        } = self;
-        match outcome {
-            CompilerArguments::Ok(parsed) => {
-                answer_record(alloc, compiler, executable, parsed, cwd, env_vars, view)
-            }
-            CompilerArguments::CannotCache(reason, text) => {
-                Ok(CompilerArguments::CannotCache(reason, text))
-            }
-            CompilerArguments::NotCompilation => Ok(CompilerArguments::NotCompilation),
-        }
-    }
-}
-
-/// The answer of what a command line says, which is handed over.
-fn answer_outcome<K: Kept>(
+/// The answer of this compiler to what a command line says, which is handed over.
+fn answer_outcome<C: CCompilerImpl, K: Kept>(
     alloc: Global,
-    compiler: Compiler,
+    compiler: &C,
     executable: &[u8],
     outcome: CompilerArguments<ParsedArguments>,
-    cwd: &[u8],
-    env_vars: &[(Vec<u8>, Vec<u8>)],
-    view: &View,
+    line: &CommandLine<'_>,
 ) -> Mem<CompilerArguments<K>>
-    ensures { IfOk result (AnswersOutcome K.command K.cacheable K.is_of (definitions_of compiler) executable.now (outcome_of outcome) cwd.now (pairs_of env_vars.now) view.now) }
+    ensures { IfOk result (AnswersOutcome K.command K.cacheable K.is_of (record {
+      reading = C.reading compiler.now;
+      command = command_by (C.command compiler.now);
+      environment = C.environment compiler.now;
+      cacheable = λ words directory environment view parsed. C.cacheable compiler.now parsed directory view;
+      is_read_again = C.is_read_again compiler.now;
+    }) executable.now (outcome_of outcome) line.now.directory.now (pairs_of line.now.environment.now) line.now.view.now) }
 {
-    let query = Answered {
-        executable,
-        outcome,
-        cwd,
-        env_vars,
-        view,
-        kept: PhantomData,
-    };
-    compiler.ask(alloc, query)
+    let (cwd, env_vars, view) = (line.directory, line.environment, line.view);
+    match outcome {
+        CompilerArguments::Ok(parsed) => {
+            answer_record(alloc, compiler, executable, parsed, cwd, env_vars, view)
+        }
+        CompilerArguments::CannotCache(reason, text) => {
+            Ok(CompilerArguments::CannotCache(reason, text))
+        }
+        CompilerArguments::NotCompilation => Ok(CompilerArguments::NotCompilation),
+    }
+}
+
+/// The answer of the compiler with this name, of which no version is known (docs/RULES.md, Compilers), to what a command line
+/// says, which is handed over.
+fn answer_by_name<K: Kept>(
+    alloc: Global,
+    name: Compiler,
+    program: &[u8],
+    said: CompilerArguments<ParsedArguments>,
+    line: &CommandLine<'_>,
+) -> Mem<CompilerArguments<K>>
+    ensures { IfOk result (AnswersOutcome K.command K.cacheable K.is_of (definitions_of name) program.now (outcome_of said) line.now.directory.now (pairs_of line.now.environment.now) line.now.view.now) }
+{
+    match name {
+        Compiler::Gcc => answer_outcome(alloc, &Gcc::new(false), program, said, line),
+        Compiler::Gxx => answer_outcome(alloc, &Gcc::new(true), program, said, line),
+        Compiler::Clang => answer_outcome(alloc, &Clang::new(false), program, said, line),
+        Compiler::Clangxx => answer_outcome(alloc, &Clang::new(true), program, said, line),
+        Compiler::Cl => {
+            let cl = Msvc::new(false, String::new(alloc));
+            answer_outcome(alloc, &cl, program, said, line)
+        }
+        Compiler::ClangCl => {
+            let cl = Msvc::new(true, String::new(alloc));
+            answer_outcome(alloc, &cl, program, said, line)
+        }
+        Compiler::Diab => answer_outcome(alloc, &Diab::new(), program, said, line),
+        Compiler::Tasking => answer_outcome(alloc, &TaskingVX, program, said, line),
+    }
+}
+
+/// What a command line, whose words are handed over, says to the compiler with this name.
+fn parse_by_name(
+    alloc: Global,
+    name: Compiler,
+    words: Vec<Vec<u8>>,
+    line: &CommandLine<'_>,
+) -> Mem<CompilerArguments<ParsedArguments>>
+    ensures { IfOk result (λ said. outcome_of said ≡ reading_by name (asked name (words_of words.items) line.now.directory.now (pairs_of line.now.environment.now) line.now.view.now)) }
+{
+    let (cwd, pairs, view) = (line.directory, line.environment, line.view);
+    match name {
+        Compiler::Gcc => Gcc::new(false).parse_arguments_owned(alloc, words, cwd, pairs, view),
+        Compiler::Gxx => Gcc::new(true).parse_arguments_owned(alloc, words, cwd, pairs, view),
+        Compiler::Clang => Clang::new(false).parse_arguments_owned(alloc, words, cwd, pairs, view),
+        Compiler::Clangxx => Clang::new(true).parse_arguments_owned(alloc, words, cwd, pairs, view),
+        Compiler::Cl => {
+            let cl = Msvc::new(false, String::new(alloc));
+            cl.parse_arguments_owned(alloc, words, cwd, pairs, view)
+        }
+        Compiler::ClangCl => {
+            let cl = Msvc::new(true, String::new(alloc));
+            cl.parse_arguments_owned(alloc, words, cwd, pairs, view)
+        }
+        Compiler::Diab => Diab::new().parse_arguments_owned(alloc, words, cwd, pairs, view),
+        Compiler::Tasking => TaskingVX.parse_arguments_owned(alloc, words, cwd, pairs, view),
+    }
 }
 
 /// What a command line, whose words are handed over, is answered.
@@ -154,14 +148,14 @@ fn compile_words<K: Kept>(
 ) -> Mem<CompilerArguments<K>>
     ensures { IfOk result (IsAnswerBy K.command K.cacheable K.is_of (definitions_of compiler) executable.now (words_of words.items) cwd.now (pairs_of env_vars.now) view.now) }
 {
-    let query = Parse {
-        words,
-        cwd,
-        env_vars,
+    let line = CommandLine {
+        words: &[],
+        directory: cwd,
+        environment: env_vars,
         view,
     };
-    let outcome = compiler.ask(alloc, query)?;
-    answer_outcome(alloc, compiler, executable, outcome, cwd, env_vars, view)
+    let said = parse_by_name(alloc, compiler, words, &line)?;
+    answer_by_name(alloc, compiler, executable, said, &line)
 }
 
 impl Compiler {
@@ -219,21 +213,6 @@ impl Reading {
         ensures { IfOk result (AnswersReading (definitions_of (compiler_of self)) executable.now (outcome_in self) line.now.directory.now (pairs_of line.now.environment.now) line.now.view.now) }
     {
         let compiler = self.compiler();
-        let CommandLine {
-            words: _,
-            directory,
-            environment,
-            view,
-        } = *line;
-        let outcome = self.into_outcome();
-        answer_outcome(
-            alloc,
-            compiler,
-            executable,
-            outcome,
-            directory,
-            environment,
-            view,
-        )
+        answer_by_name(alloc, compiler, executable, self.into_outcome(), line)
     }
 }

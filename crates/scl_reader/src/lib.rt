@@ -2,7 +2,6 @@
 //! (`Compiler::read`), and all that is said of it is a function of its reading: its record, its answer, what it asks of files.
 #![tactic(auto)]
 
-mod ask;
 mod command_line;
 mod compile;
 mod compiler;

@@ -1,44 +1,31 @@
 //! The runs of the preprocessor, of any compiler that is served.
-ghost use Rattle.std.specs.Prelude.{◌≡◌, IfOk, string_bytes};
+ghost use Rattle.std.specs.Prelude.{◌≡◌, IfOk, None, false, string_bytes};
 ghost use Rattle.std.specs.Option.{option_map};
 ghost use Rattle.scl_text.specs.Records.{parsed_of};
 ghost use Rattle.scl_text.specs.Runs.{runs_of};
 ghost use Rattle.scl_reader.specs.Answers.{runs_by, runs_with};
 ghost use Rattle.scl_reader.specs.Reads.{runs_in};
 
-use crate::ask::Query;
 use crate::compiler::Compiler;
 use crate::reading::Reading;
+use scl_gnu::clang::Clang;
+use scl_gnu::gcc::Gcc;
+use scl_msvc::msvc::Msvc;
+use scl_small::diab::Diab;
+use scl_small::tasking_vx::TaskingVX;
 use scl_text::records::ParsedArguments;
 use scl_text::{CCompilerImpl, Mem};
 use std::alloc::Global;
 
-/// The words of the runs of the preprocessor for a record.
-#[derive(Drop)]
-struct PreprocessRuns<'a> {
-    parsed: &'a ParsedArguments,
-    may_dist: bool,
-    rewrite_includes_only: bool,
-    cache_mode: bool,
-}
-
-impl<'a> Query for PreprocessRuns<'a> {
-    ghost use Rattle.std.specs.Prelude.{◌≡◌};
-    ghost use Rattle.scl_text.specs.Records.{parsed_of};
-    ghost use Rattle.scl_text.specs.Runs.{runs_of};
-
-    type Answer = Vec<Vec<Vec<u8>>>;
-
-    ghost gives = { λ query definitions runs. runs_of runs.items ≡ definitions.runs query.may_dist query.rewrite_includes_only query.cache_mode (parsed_of query.parsed.now) };
-
-    fn ask<C: CCompilerImpl>(self, alloc: Global, compiler: &C) -> Mem<Vec<Vec<Vec<u8>>>> {
-        compiler.preprocess_passes(
-            alloc,
-            self.parsed,
-            self.may_dist,
-            self.rewrite_includes_only,
-            self.cache_mode,
-        )
+/// Clang, whose version has this text, if it is known.
+fn clang(clangplusplus: bool, version: Option<String>) -> Clang
+    ensures { result ≡ record { clangplusplus = clangplusplus; is_appleclang = false; version = version; assembler_digest = None } }
+{
+    Clang {
+        clangplusplus,
+        is_appleclang: false,
+        version,
+        assembler_digest: None,
     }
 }
 
@@ -79,13 +66,35 @@ impl Compiler {
     ) -> Mem<Vec<Vec<Vec<u8>>>>
         ensures { IfOk result (λ runs. runs_of runs.items ≡ runs_with (option_map string_bytes version) self may_dist rewrite_includes_only cache_mode (parsed_of parsed.now)) }
     {
-        let query = PreprocessRuns {
-            parsed,
-            may_dist,
-            rewrite_includes_only,
-            cache_mode,
-        };
-        self.ask_with(alloc, query, version)
+        let (dist, rewrites) = (may_dist, rewrite_includes_only);
+        match self {
+            Compiler::Gcc => Gcc::new(false).preprocess_passes(
+                alloc, parsed, dist, rewrites, cache_mode,
+            ),
+            Compiler::Gxx => Gcc::new(true).preprocess_passes(
+                alloc, parsed, dist, rewrites, cache_mode,
+            ),
+            Compiler::Clang => {
+                clang(false, version).preprocess_passes(alloc, parsed, dist, rewrites, cache_mode)
+            }
+            Compiler::Clangxx => {
+                clang(true, version).preprocess_passes(alloc, parsed, dist, rewrites, cache_mode)
+            }
+            Compiler::Cl => {
+                let cl = Msvc::new(false, String::new(alloc));
+                cl.preprocess_passes(alloc, parsed, dist, rewrites, cache_mode)
+            }
+            Compiler::ClangCl => {
+                let cl = Msvc::new(true, String::new(alloc));
+                cl.preprocess_passes(alloc, parsed, dist, rewrites, cache_mode)
+            }
+            Compiler::Diab => Diab::new().preprocess_passes(
+                alloc, parsed, dist, rewrites, cache_mode,
+            ),
+            Compiler::Tasking => TaskingVX.preprocess_passes(
+                alloc, parsed, dist, rewrites, cache_mode,
+            ),
+        }
     }
 }
 
