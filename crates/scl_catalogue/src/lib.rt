@@ -1,4 +1,4 @@
-//! A catalogue of what is known of compilers: its text, a reader of it, and which of its entries a command line has.
+//! A catalogue of what is known of compilers: its form, and which of its entries a command line has.
 #![tactic(auto)]
 
 mod case;
