@@ -1,6 +1,6 @@
 -- Entries that are kept, as the form of a catalogue sees them.
 use Rattle.std.proofs.Common.{◌≡◌, ◌∙◌, Bor, ℕ, suc, ◌+◌, ◌<◌, Bool, true, false, cond, List, [], ◌∷◌, ◌++◌, length, map, filter, get_or, drop, drop-cons, add-one, append_assoc, refl, sym, ap}
-use Rattle.scl_catalogue.specs.Found.{Line_seen, found, is_there}
+use Rattle.scl_catalogue.specs.Found.{LineSeen, found, is_there}
 use Rattle.scl_catalogue.specs.Views.{catalogue_of, entry_of}
 use Rattle.scl_catalogue.specs.declared.catalogue.Catalogue.{Catalogue}
 use Rattle.scl_catalogue.specs.declared.entry.Entry.{Entry}
@@ -17,7 +17,7 @@ map-twice : {X Y Z : Type 0} (f : X → Y) (g : Y → Z) (xs : List X) → map (
 map-twice f g [] = refl
 map-twice f g (x ∷ xs) = ap (λ ys. g (f x) ∷ ys) (map-twice f g xs)
 
-pub kept_entries : (c : Catalogue) (l : Line_seen) (kept : List (Bor Entry)) → map (λ entry. entry.now) kept ≡ filter (λ entry. is_there l (entry_of entry)) c.entries.now → map (λ entry. entry_of entry.now) kept ≡ found (catalogue_of c) l
+pub kept_entries : (c : Catalogue) (l : LineSeen) (kept : List (Bor Entry)) → map (λ entry. entry.now) kept ≡ filter (λ entry. is_there l (entry_of entry)) c.entries.now → map (λ entry. entry_of entry.now) kept ≡ found (catalogue_of c) l
 kept_entries c l kept h =
     let now = λ (entry : Bor Entry). entry.now in
     map-twice now entry_of kept ∙ (ap (map entry_of) h ∙ filter-seen (is_there l) entry_of c.entries.now)

@@ -5,7 +5,7 @@ use Rattle.std.specs.List.{list_all, list_any, slice_get, starts_with}
 use Rattle.std.specs.Prelude.{nat_eq, nat_lt, slice_index, slice_set}
 use Rattle.std.specs.Str.{bytes_eq}
 use Rattle.scl_catalogue.specs.Form.{Demand, Group, Pattern, Text, Test, Relation, Any, Two, Before, Unfollowed, Last}
-use Rattle.scl_catalogue.specs.Found.{Option_seen, behind, compared, first_is, fits, in_group, is_last, is_met, is_of, is_unfollowed, name_by, one_fits, passes, relates, test_passes}
+use Rattle.scl_catalogue.specs.Found.{OptionSeen, behind, compared, first_is, fits, in_group, is_last, is_met, is_of, is_unfollowed, name_by, one_fits, passes, relates, test_passes}
 use Rattle.scl_catalogue.specs.Keyed.{added, added_as, all_added, first_group, is_keyed, is_keyed_as, is_numbered, key_by, may_be, may_fit, may_have, may_pass, may_pass_as, number}
 use Rattle.scl_catalogue.specs.declared.keys.Keys.{Keys}
 use Rattle.scl_catalogue.specs.declared.seen.Standing.{Standing}
@@ -62,12 +62,12 @@ keyed-kept k standing.Known standing.Known name kind other kind_of_other h =
     let r : (is_numbered k.flags name && is_numbered k.kinds kind) ≡ true = and-right k.has_known (is_numbered k.flags name && is_numbered k.kinds kind) h in
     both _ _ (set-kept k.flags (number other) (number name) (and-left (is_numbered k.flags name) (is_numbered k.kinds kind) r)) (set-kept k.kinds (number kind_of_other) (number kind) (and-right (is_numbered k.flags name) (is_numbered k.kinds kind) r))
 
-kept-all : (k : Keys) (o : Option_seen) (os : List Option_seen) → is_keyed k o ≡ true → is_keyed (all_added k os) o ≡ true
+kept-all : (k : Keys) (o : OptionSeen) (os : List OptionSeen) → is_keyed k o ≡ true → is_keyed (all_added k os) o ≡ true
 unfolding is_keyed
 kept-all k o [] h = h
 kept-all k o (p ∷ os) h = kept-all (added k p) o os (keyed-kept k o.standing p.standing o.name o.kind p.name p.kind h)
 
-pub all_keyed : (k : Keys) (os : List Option_seen) → list_all (is_keyed (all_added k os)) os ≡ true
+pub all_keyed : (k : Keys) (os : List OptionSeen) → list_all (is_keyed (all_added k os)) os ≡ true
 unfolding is_keyed
 all_keyed k [] = refl
 all_keyed k (o ∷ os) = both _ _ (kept-all (added k o) o os (keyed-there k o.standing o.name o.kind)) (all_keyed (added k o) os)
@@ -150,14 +150,14 @@ kind-by k standing.Known t name kind h i n =
     let r : (is_numbered k.flags name && is_numbered k.kinds kind) ≡ true = and-right k.has_known (is_numbered k.flags name && is_numbered k.kinds kind) h in
     both _ _ (and-left k.has_known (is_numbered k.flags name && is_numbered k.kinds kind) h) (have-number k.kinds t kind (and-right (is_numbered k.flags name) (is_numbered k.kinds kind) r) n)
 
-pass-by : (k : Keys) (c : Class) (t : Text) (o : Option_seen) → is_keyed_as k o.standing o.name o.kind ≡ true → is_of c o.standing ≡ true → passes t (name_by c o) ≡ true → may_pass_as k c t ≡ true
+pass-by : (k : Keys) (c : Class) (t : Text) (o : OptionSeen) → is_keyed_as k o.standing o.name o.kind ≡ true → is_of c o.standing ≡ true → passes t (name_by c o) ≡ true → may_pass_as k c t ≡ true
 pass-by k class.Option t o h i n = refl
 pass-by k class.Raw t o h i n = raw-by k o.standing o.name o.kind h i
 pass-by k class.Unknown t o h i n = unknown-by k o.standing t o.name o.kind h i n
 pass-by k class.Flag t o h i n = flag-by k o.standing t o.name o.kind h i n
 pass-by k class.Kind t o h i n = kind-by k o.standing t o.name o.kind h i n
 
-may-pass : (k : Keys) (o : Option_seen) (t : Test) → is_keyed k o ≡ true → test_passes t o ≡ true → may_pass k t ≡ true
+may-pass : (k : Keys) (o : OptionSeen) (t : Test) → is_keyed k o ≡ true → test_passes t o ≡ true → may_pass k t ≡ true
 unfolding is_keyed test_passes may_pass
 may-pass k o t h p =
     let r : (passes t.names (name_by t.class o) && list_all (is_met o) t.demands) ≡ true = and-right (is_of t.class o.standing) _ p in
@@ -168,7 +168,7 @@ not-in true may more h = let no : true ≡ false = sym (more refl) ∙ h in cc
 not-in false may more h = refl
 
 -- where no test may be passed by an option with these numbers, none of the options that have them is in the group
-pub none_in : (k : Keys) (g : Group) (os : List Option_seen) → list_all (is_keyed k) os ≡ true → list_any (may_pass k) g.tests ≡ false → list_any (in_group g) os ≡ false
+pub none_in : (k : Keys) (g : Group) (os : List OptionSeen) → list_all (is_keyed k) os ≡ true → list_any (may_pass k) g.tests ≡ false → list_any (in_group g) os ≡ false
 unfolding in_group
 none_in k g [] h none = refl
 none_in k g (o ∷ os) h none =
@@ -181,11 +181,11 @@ or-right : (a b : Bool) → (a || b) ≡ false → b ≡ false
 or-right true b h = let no : true ≡ false = h in cc
 or-right false b h = h
 
-pick : (b any : Bool) (os rest : List Option_seen) → (b || any) ≡ false → rest ≡ [] → cond b os rest ≡ []
+pick : (b any : Bool) (os rest : List OptionSeen) → (b || any) ≡ false → rest ≡ [] → cond b os rest ≡ []
 pick true any os rest h e = let no : true ≡ false = h in cc
 pick false any os rest h e = e
 
-behind-none : (p : Option_seen → Bool) (os : List Option_seen) → list_any p os ≡ false → behind p os ≡ []
+behind-none : (p : OptionSeen → Bool) (os : List OptionSeen) → list_any p os ≡ false → behind p os ≡ []
 behind-none p [] h = refl
 behind-none p (o ∷ os) h = pick (p o) (list_any p os) os (behind p os) h (behind-none p os (or-right (p o) (list_any p os) h))
 
@@ -193,16 +193,16 @@ step : (b x any r : Bool) → (b || any) ≡ false → r ≡ false → ((b && x)
 step true x any r h e = let no : true ≡ false = h in cc
 step false x any r h e = e
 
-unfollowed-none : (p q : Option_seen → Bool) (os : List Option_seen) → list_any p os ≡ false → is_unfollowed p q os ≡ false
+unfollowed-none : (p q : OptionSeen → Bool) (os : List OptionSeen) → list_any p os ≡ false → is_unfollowed p q os ≡ false
 unfollowed-none p q [] h = refl
 unfollowed-none p q (o ∷ os) h = step (p o) (not (first_is q os)) (list_any p os) (is_unfollowed p q os) h (unfollowed-none p q os (or-right (p o) (list_any p os) h))
 
-last-none : (p q : Option_seen → Bool) (os : List Option_seen) → list_any p os ≡ false → is_last p q os ≡ false
+last-none : (p q : OptionSeen → Bool) (os : List OptionSeen) → list_any p os ≡ false → is_last p q os ≡ false
 last-none p q [] h = refl
 last-none p q (o ∷ os) h = step (p o) (not (list_any (λ other. q other && not (p other)) os)) (list_any p os) (is_last p q os) h (last-none p q os (or-right (p o) (list_any p os) h))
 
 -- where no option is of the first group, no relation holds
-pub relates_none : (r : Relation) (os : List Option_seen) → list_any (in_group (first_group r)) os ≡ false → relates r os ≡ false
+pub relates_none : (r : Relation) (os : List OptionSeen) → list_any (in_group (first_group r)) os ≡ false → relates r os ≡ false
 relates_none (Any g) os e = e
 relates_none (Two g) os e = ap (list_any (in_group g)) (behind-none (in_group g) os e)
 relates_none (Before g h) os e = ap (list_any (in_group h)) (behind-none (in_group g) os e)

@@ -25,7 +25,7 @@ use Rattle.scl_catalogue.specs.declared.text.How.TheVariants as how
 -- ---- a command line as conditions see it
 
 -- an option: how it stands in the tables, its word or flag, the name of its kind, its value, and what else is told of it
-pub record Option_seen : Type 0 where
+pub record OptionSeen : Type 0 where
   pub standing : Standing
   pub name : List ℕ
   pub kind : List ℕ
@@ -33,12 +33,12 @@ pub record Option_seen : Type 0 where
   pub marks : Marks
 
 -- a line that has a record: who reads it, what is told of it, its options and inner options, and the words at each place
-pub record Line_seen : Type 0 where
+pub record LineSeen : Type 0 where
   pub compiler : Compiler
   pub version : Option Version
   pub facts : Facts
-  pub options : List Option_seen
-  pub inner : List Option_seen
+  pub options : List OptionSeen
+  pub inner : List OptionSeen
   pub words : List (List ℕ)
   pub files : List (List ℕ)
   pub environment : List (List ℕ)
@@ -95,7 +95,7 @@ is_of class.Kind standing.Unknown = false
 is_of class.Kind standing.Known = true
 
 -- the name by which a test of the class tells an option
-abbrev pub name_by : Class → Option_seen → List ℕ
+abbrev pub name_by : Class → OptionSeen → List ℕ
 name_by class.Option o = o.name
 name_by class.Raw o = o.name
 name_by class.Unknown o = o.name
@@ -105,44 +105,44 @@ name_by class.Kind o = o.kind
 abbrev pub is_comma : ℕ → Bool
 is_comma byte = byte == 44
 
-abbrev pub is_met : Option_seen → Demand → Bool
+abbrev pub is_met : OptionSeen → Demand → Bool
 is_met o (Marked m) = has_mark o.marks m
 is_met o (Value text) = passes text o.value
 is_met o (Part text) = list_any (passes text) (slice_split is_comma o.value)
 
-unfoldable pub test_passes : Test → Option_seen → Bool
+unfoldable pub test_passes : Test → OptionSeen → Bool
 test_passes t o = is_of t.class o.standing && (passes t.names (name_by t.class o) && list_all (is_met o) t.demands)
 
 -- it passes one of the tests
-unfoldable pub in_group : Group → Option_seen → Bool
+unfoldable pub in_group : Group → OptionSeen → Bool
 in_group g o = list_any (λ t. test_passes t o) g.tests
 
 -- ---- the order of options
 
 -- what stands after the first option that passes
-abbrev pub behind : (Option_seen → Bool) → List Option_seen → List Option_seen
+abbrev pub behind : (OptionSeen → Bool) → List OptionSeen → List OptionSeen
 behind p [] = []
 behind p (o ∷ os) = cond (p o) os (behind p os)
 
 -- an option that passes the first test stands before one that passes the second
-abbrev pub is_before : (Option_seen → Bool) → (Option_seen → Bool) → List Option_seen → Bool
+abbrev pub is_before : (OptionSeen → Bool) → (OptionSeen → Bool) → List OptionSeen → Bool
 is_before p q os = list_any q (behind p os)
 
-abbrev pub first_is : (Option_seen → Bool) → List Option_seen → Bool
+abbrev pub first_is : (OptionSeen → Bool) → List OptionSeen → Bool
 first_is p [] = false
 first_is p (o ∷ os) = p o
 
 -- an option that passes the first test stands last, or right before one that does not pass the second
-abbrev pub is_unfollowed : (Option_seen → Bool) → (Option_seen → Bool) → List Option_seen → Bool
+abbrev pub is_unfollowed : (OptionSeen → Bool) → (OptionSeen → Bool) → List OptionSeen → Bool
 is_unfollowed p q [] = false
 is_unfollowed p q (o ∷ os) = (p o && not (first_is q os)) || is_unfollowed p q os
 
 -- an option passes the first test, and each after it that passes the second passes the first too
-abbrev pub is_last : (Option_seen → Bool) → (Option_seen → Bool) → List Option_seen → Bool
+abbrev pub is_last : (OptionSeen → Bool) → (OptionSeen → Bool) → List OptionSeen → Bool
 is_last p q [] = false
 is_last p q (o ∷ os) = (p o && not (list_any (λ other. q other && not (p other)) os)) || is_last p q os
 
-abbrev pub relates : Relation → List Option_seen → Bool
+abbrev pub relates : Relation → List OptionSeen → Bool
 relates (Any g) os = list_any (in_group g) os
 relates (Two g) os = is_before (in_group g) (in_group g) os
 relates (Before g h) os = is_before (in_group g) (in_group h) os
@@ -165,7 +165,7 @@ abbrev pub one_or_none : Option (List ℕ) → List (List ℕ)
 one_or_none None = []
 one_or_none (Some word) = word ∷ []
 
-abbrev pub words_at : Place → Line_seen → List (List ℕ)
+abbrev pub words_at : Place → LineSeen → List (List ℕ)
 words_at place.Word l = l.words
 words_at place.File l = l.files
 words_at place.Environment l = l.environment
@@ -174,13 +174,13 @@ words_at place.Input l = l.input ∷ []
 words_at place.Extension l = one_or_none l.extension
 words_at place.Object l = l.object ∷ []
 
-abbrev pub is_so : Line_seen → Question → Bool
+abbrev pub is_so : LineSeen → Question → Bool
 is_so l (Is f) = has_fact l.facts f
 is_so l (At p text) = list_any (passes text) (words_at p l)
 is_so l (Given r) = relates r l.options
 is_so l (Inner r) = relates r l.inner
 
-abbrev pub condition_holds : Line_seen → Condition → Bool
+abbrev pub condition_holds : LineSeen → Condition → Bool
 condition_holds l c = cond c.is_denied (not (is_so l c.question)) (is_so l c.question)
 
 -- ---- entries
@@ -205,13 +205,13 @@ abbrev pub serves : Compiler → Option Version → Served → Bool
 serves compiler version s = compilers.ghosts.eq s.compiler compiler && is_version s version
 
 -- the compiler is served, and each condition holds
-abbrev pub case_holds : Line_seen → Case → Bool
+abbrev pub case_holds : LineSeen → Case → Bool
 case_holds l c = list_any (serves l.compiler l.version) c.served && list_all (condition_holds l) c.conditions
 
 -- one of the cases holds
-abbrev pub is_there : Line_seen → Entry → Bool
+abbrev pub is_there : LineSeen → Entry → Bool
 is_there l e = list_any (case_holds l) e.cases
 
 -- the entries that are there, in their order
-abbrev pub found : Catalogue → Line_seen → List Entry
+abbrev pub found : Catalogue → LineSeen → List Entry
 found c l = filter (is_there l) c.entries

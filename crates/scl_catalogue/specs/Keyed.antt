@@ -2,7 +2,7 @@
 use Rattle.std.specs.Prelude.{ℕ, ◌+◌, ◌*◌, ◌%◌, nat_lt, Bool, true, false, cond, ◌&&◌, List, [], ◌∷◌, length, Option, None, Some, unwrap_or, slice_get, slice_index, slice_set}
 use Rattle.std.specs.List.{list_any}
 use Rattle.scl_catalogue.specs.Form.{Pattern, Text, Test, Group, Relation, Any, Two, Before, Unfollowed, Last}
-use Rattle.scl_catalogue.specs.Found.{Option_seen}
+use Rattle.scl_catalogue.specs.Found.{OptionSeen}
 use Rattle.scl_catalogue.specs.declared.keys.Keys.{Keys}
 use Rattle.scl_catalogue.specs.declared.seen.Standing.{Standing}
 use Rattle.scl_catalogue.specs.declared.seen.Standing.TheVariants as standing
@@ -24,7 +24,7 @@ is_keyed_as k standing.Unknown name kind = k.has_unknown && is_numbered k.unknow
 is_keyed_as k standing.Known name kind = k.has_known && (is_numbered k.flags name && is_numbered k.kinds kind)
 
 -- the option's numbers are among these
-unfoldable pub is_keyed : Keys → Option_seen → Bool
+unfoldable pub is_keyed : Keys → OptionSeen → Bool
 is_keyed k o = is_keyed_as k o.standing o.name o.kind
 
 abbrev pub added_as : Keys → Standing → List ℕ → List ℕ → Keys
@@ -33,10 +33,10 @@ added_as k standing.Unknown name kind = record k { has_unknown = true; unknown =
 added_as k standing.Known name kind = record k { has_known = true; flags = slice_set k.flags (number name) true; kinds = slice_set k.kinds (number kind) true }
 
 -- the numbers, and those of the option
-abbrev pub added : Keys → Option_seen → Keys
+abbrev pub added : Keys → OptionSeen → Keys
 added k o = added_as k o.standing o.name o.kind
 
-abbrev pub all_added : Keys → List Option_seen → Keys
+abbrev pub all_added : Keys → List OptionSeen → Keys
 all_added k [] = k
 all_added k (o ∷ os) = all_added (added k o) os
 

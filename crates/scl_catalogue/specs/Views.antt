@@ -3,7 +3,7 @@ use Rattle.std.specs.Prelude.{ℕ, List, Option, map}
 use Rattle.std.specs.Option.{option_copied}
 use Rattle.scl_values.specs.Words.{words_of}
 use Rattle.scl_catalogue.specs.Form as form
-use Rattle.scl_catalogue.specs.Found.{Line_seen, Option_seen}
+use Rattle.scl_catalogue.specs.Found.{LineSeen, OptionSeen}
 use Rattle.scl_catalogue.specs.declared.case.Case.{Case}
 use Rattle.scl_catalogue.specs.declared.catalogue.Catalogue.{Catalogue}
 use Rattle.scl_catalogue.specs.declared.condition.Condition.{Condition}
@@ -70,10 +70,10 @@ entry_of e = record { tells = tells_of e.tells; name = e.name.now; says = e.says
 abbrev pub catalogue_of : Catalogue → form.Catalogue
 catalogue_of c = record { groups = map group_of c.groups.now; entries = map entry_of c.entries.now }
 
-abbrev pub seen_of : Seen → Option_seen
+abbrev pub seen_of : Seen → OptionSeen
 seen_of o = record { standing = o.standing; name = o.name.now; kind = o.kind.now; value = o.value.now; marks = o.marks }
 
-abbrev pub line_of : Line → Line_seen
+abbrev pub line_of : Line → LineSeen
 line_of l = record {
   compiler = l.compiler;
   version = l.version;
