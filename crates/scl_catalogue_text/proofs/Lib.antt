@@ -9,3 +9,4 @@ pub mod LineLemmas
 pub mod SplitLemmas
 pub mod TestLemmas
 pub mod TextLemmas
+pub mod WrongLemmas

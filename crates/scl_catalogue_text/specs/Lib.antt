@@ -7,3 +7,4 @@ pub mod Reading
 pub mod SaidViews
 pub mod Writable
 pub mod Written
+pub mod Wrong

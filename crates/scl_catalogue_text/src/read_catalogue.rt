@@ -1,11 +1,12 @@
 //! Reads the text of a catalogue (catalogue/README.md).
-ghost use Rattle.std.specs.Prelude.{◌≡◌, ◌+◌, ◌<◌, ◌^◌, length, map, None, IfOk, OnOk};
+ghost use Rattle.std.specs.Prelude.{◌≡◌, ◌+◌, ◌<◌, ◌^◌, length, map, None, IfErr, IfOk, OnOk};
 ghost use Rattle.std.specs.List.{list_any};
 ghost use Rattle.std.specs.Str.{bytes_eq};
 ghost use Rattle.scl_catalogue.specs.Views.{case_of, catalogue_of, entry_of, group_of, tells_of};
 ghost use Rattle.scl_catalogue_text.specs.Again.{GivesBack};
 ghost use Rattle.scl_catalogue_text.specs.Lines.{added, catalogue_so_far, closed, lines_read, read, with_line, NewCase, NewEntry, NewGroup, Says};
 ghost use Rattle.scl_catalogue_text.specs.Outcome.{IsBadLine, Reads, ReadsText};
+ghost use Rattle.scl_catalogue_text.specs.Wrong.{IsWrong};
 ghost use Rattle.scl_catalogue_text.specs.SaidViews.{open_of, said_of, so_far};
 
 use crate::cut::parts;
@@ -183,6 +184,7 @@ fn text_read<'a>(alloc: Global, arena: &'a Bump, text: &'a [u8]) -> Result<Catal
 pub fn read<'a>(alloc: Global, arena: &'a Bump, text: &'a [u8]) -> Result<Catalogue<'a>, ReadError>
     ensures reads { ReadsText catalogue_of result (read text.now) }
     ensures gives_back { GivesBack catalogue_of result text.now }
+    ensures wrong { IfErr result (IsWrong text.now) }
 {
     text_read(alloc, arena, text)
 }
