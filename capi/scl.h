@@ -33,7 +33,7 @@ enum scl_status {
     SCL_SHORT = 1,         /* the memory handed in is too short; how much is wanted is told */
     SCL_BAD = 2,           /* a line of the text is bad; scl_ask: no served compiler has the name */
     SCL_NO_MEMORY = 3,     /* memory was refused */
-    SCL_TOO_MANY_WORDS = 4 /* scl_ask: a command line has more words than were allowed */
+    SCL_TOO_MANY_WORDS = 4 /* scl_ask: a command line has more words, or opens files more often, than was allowed */
 };
 
 /* ---- texts */
@@ -41,11 +41,11 @@ enum scl_status {
 /* The request's text (docs/PROTOCOL.md, A request) is answered by the answer's text (An answer), as ccline does. *wanted is
  * the length of the text (SCL_OK, SCL_SHORT), or the number of the bad line (SCL_BAD), or 0. The text has no NUL behind it;
  * the rest of the room, and all of it where the status is not SCL_OK, is as it was. Words have no bound: where others write
- * the request, its files may name each other and give millions, so call scl_describe, or scl_ask with most_words. */
+ * the request, its files may name each other and give millions, so call scl_describe or scl_ask. */
 int32_t scl_run(const uint8_t *request, size_t request_len, uint8_t *room, size_t room_len, size_t *wanted);
 
 /* The same with a description of the answer (docs/PROTOCOL.md, A description), as describe writes it; the request may have
- * lines `setting`, and without one words are bounded by 1,000,000. */
+ * lines `setting`, and without one words, and openings of files, are bounded by 1,000,000. */
 int32_t scl_describe(const uint8_t *request, size_t request_len, uint8_t *room, size_t room_len, size_t *wanted);
 
 /* ---- structs */
@@ -78,7 +78,8 @@ typedef struct scl_request {
     scl_pairs files;            /* response files; of two at one path the later one counts */
     scl_words directories;      /* paths that are directories */
     scl_words existing;         /* paths at which there is something */
-    size_t most_words;          /* that a command line may have, response files put in place: SIZE_MAX is no bound */
+    size_t most_words;          /* that a command line may have, response files put in place, and how often it may open files: */
+                                /*   0 is 1,000,000, SIZE_MAX is no bound */
     bool is_multiarch;          /* several architectures are allowed */
     bool wants_runs;            /* the runs of the preprocessor are told: */
     bool may_dist;              /*   for a distant compiler */
@@ -225,7 +226,7 @@ static inline scl_pairs scl_pairs_of(const scl_pair *at, size_t len) {
     return it;
 }
 
-/* A request of a compiler and words, with no directory, environment and files, no bound on words, and no wishes. */
+/* A request of a compiler and words, with no directory, environment and files, the bound of 1,000,000, and no wishes. */
 static inline scl_request scl_request_of(const char *compiler, const scl_bytes *words, size_t len) {
     scl_request it;
     memset(&it, 0, sizeof it);
@@ -234,7 +235,21 @@ static inline scl_request scl_request_of(const char *compiler, const scl_bytes *
     it.words = scl_words_of(words, len);
     it.environment = it.files = scl_pairs_of(scl_no_pairs, 0);
     it.directories = it.existing = scl_words_of(scl_no_bytes, 0);
-    it.most_words = SIZE_MAX;
+    it.most_words = 0;
+    return it;
+}
+
+/* The request with something to point at where a length is 0, so that NULL may stand there: as in one that memset made, in which
+ * then at least the compiler is set. */
+static inline scl_request scl_valid_request(const scl_request *request) {
+    scl_request it = *request;
+    it.compiler = scl_bytes_of(it.compiler.at, it.compiler.len);
+    it.directory = scl_bytes_of(it.directory.at, it.directory.len);
+    it.words = scl_words_of(it.words.at, it.words.len);
+    it.environment = scl_pairs_of(it.environment.at, it.environment.len);
+    it.files = scl_pairs_of(it.files.at, it.files.len);
+    it.directories = scl_words_of(it.directories.at, it.directories.len);
+    it.existing = scl_words_of(it.existing.at, it.existing.len);
     return it;
 }
 
@@ -335,9 +350,10 @@ static inline scl_sizes scl_usual_sizes(const scl_request *request) {
 }
 
 /* Asks with memory of its own: once with what most answers take, and once more with what is wanted. Only where the status is
- * SCL_OK is there anything to free. SCL_SHORT is never answered. */
+ * SCL_OK is there anything to free. SCL_SHORT is never answered. What has the length 0 in the request may be NULL. */
 static inline int32_t scl_ask_new(const scl_request *request, scl_given *given) {
-    scl_sizes sizes = scl_usual_sizes(request), wanted = {0, 0, 0, 0, 0};
+    scl_request valid = scl_valid_request(request);
+    scl_sizes sizes = scl_usual_sizes(&valid), wanted = {0, 0, 0, 0, 0};
     for (;;) {
         size_t size = scl_room_size(&sizes);
         void *block = size ? malloc(size) : SCL_NULL;
@@ -345,7 +361,7 @@ static inline int32_t scl_ask_new(const scl_request *request, scl_given *given) 
         given->block = SCL_NULL;
         given->answer = scl_no_answer();
         if (!block) return SCL_NO_MEMORY;
-        status = scl_ask(request, scl_room_in(block, &sizes), &wanted, &given->answer);
+        status = scl_ask(&valid, scl_room_in(block, &sizes), &wanted, &given->answer);
         if (status == SCL_OK) {
             given->block = block;
             return status;

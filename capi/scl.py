@@ -24,7 +24,7 @@ WISHES = ["is_multiarch", "wants_runs", "may_dist", "rewrite_includes_only", "ca
 
 
 class TooManyWords(Exception):
-    """A command line has more words than were allowed."""
+    """A command line has more words, or opens files more often, than was allowed."""
 
 
 class UnknownCompiler(Exception):
@@ -165,13 +165,13 @@ def _record(it):
         lists=SimpleNamespace(**{name: _each(getattr(it.lists, name)) for name in LISTS}))
 
 
-def ask(compiler, words, directory=b"", environment=(), files=(), directories=(), existing=(), most_words=None, **wishes):
+def ask(compiler, words, directory=b"", environment=(), files=(), directories=(), existing=(), most_words=0, **wishes):
     """The answer to the words behind a program. Words, paths and names are bytes, environment and files pairs of bytes, and
-    the wishes are those of scl_request: is_multiarch, wants_runs, may_dist, rewrite_includes_only, cache_mode, wants_questions
-    and wants_hazards."""
+    most_words bounds them, and how often files are opened: 0 is 1,000,000. The wishes are those of scl_request: is_multiarch, wants_runs,
+    may_dist, rewrite_includes_only, cache_mode, wants_questions and wants_hazards."""
     kept = []
     request = Request(_bytes(compiler, kept), _bytes(directory, kept), _words(words, kept), _pairs(environment, kept), _pairs(files, kept),
-                      _words(directories, kept), _words(existing, kept), c.c_size_t(-1).value if most_words is None else most_words)
+                      _words(directories, kept), _words(existing, kept), most_words)
     for name, wish in wishes.items():
         if name not in WISHES:
             raise TypeError(f"no such wish: {name}")

@@ -98,7 +98,7 @@ fn command(compiler: &[u8], words: &[&[u8]]) -> Result<(Vec<String>, Vec<String>
         files: none,
         directories: none,
         existing: none,
-        most_words: usize::MAX,
+        most_words: 0,
         is_multiarch: false,
         wants_runs: false,
         may_dist: false,

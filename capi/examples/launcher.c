@@ -107,7 +107,6 @@ int main(int argc, char **argv) {
     request.files.at = files;
     request.directories.at = directories;
     request.existing.at = existing;
-    request.most_words = 1000000;
     request.wants_questions = request.wants_hazards = true;
     scl_given given;
     int32_t status;

@@ -1,5 +1,6 @@
-/* faults: refuses each request for memory of calls in turn, tries each room from 0 to what is wanted, and calls from
- * eight threads at once. Linked with --wrap=malloc, realloc and free. Prints a line for each; the status is 0 if all is well. */
+/* faults: refuses each request for memory of calls in turn, tries each room from 0 to what is wanted, asks a request of
+ * zeros, and calls from eight threads at once. Linked with --wrap=malloc, realloc and free. Prints a line for each; the
+ * status is 0 if all is well. */
 #include <pthread.h>
 #include <stdio.h>
 #include <string.h>
@@ -181,6 +182,32 @@ static int structs(void) {
     return 0;
 }
 
+/* A request that memset made is answered, and has the bound of a million words. */
+static int zeros(void) {
+    enum { MOST = 1000000 };
+    static scl_bytes words[MOST + 1];
+    scl_request request;
+    scl_given given;
+    for (size_t i = 0; i <= MOST; i++) words[i] = scl_text("a");
+    memset(&request, 0, sizeof request);
+    request.compiler = scl_text("gcc");
+    if (scl_ask_new(&request, &given) != SCL_OK || given.answer.outcome != SCL_NOT_COMPILATION) FAIL("a request of zeros is not answered");
+    scl_free(&given);
+    request.words.at = words;
+    for (int more = 0; more < 2; more++) {
+        request.words.len = MOST + (size_t)more;
+        int32_t status = scl_ask_new(&request, &given), wanted = more ? SCL_TOO_MANY_WORDS : SCL_OK;
+        if (status == SCL_OK) scl_free(&given);
+        if (status != wanted) FAIL("status %d for %zu words where most_words is 0", (int)status, request.words.len);
+    }
+    request.most_words = SIZE_MAX;
+    if (scl_ask_new(&request, &given) != SCL_OK) FAIL("too many words, where there is no bound");
+    scl_free(&given);
+    if (live) FAIL("a request of zeros leaks %ld blocks", live);
+    printf("a request of zeros, with %d words and one more\n", MOST);
+    return 0;
+}
+
 static void *many(void *whole) {
     uint8_t room[2048];
     char other[1 << 14], first[1 << 14];
@@ -215,5 +242,5 @@ int main(void) {
     static uint8_t whole[2048];
     size_t wanted = 0;
     if (call(scl_run, whole, sizeof whole, &wanted) != SCL_OK) FAIL("scl_run does not answer");
-    return texts("scl_run", scl_run) || texts("scl_describe", scl_describe) || new_texts("scl_describe", scl_describe) || structs() || threads(whole);
+    return texts("scl_run", scl_run) || texts("scl_describe", scl_describe) || new_texts("scl_describe", scl_describe) || structs() || zeros() || threads(whole);
 }

@@ -113,6 +113,11 @@ def errors():
     """What is no answer: each is told as itself. And a description is taken apart."""
     raises(scl.UnknownCompiler, scl.ask, b"rustc", [b"-c", b"a.c"])
     raises(scl.TooManyWords, scl.ask, b"gcc", [b"-c", b"@f"], files=[(b"f", b"a b c")], most_words=3)
+    # (the bound where none is given: a million words, and as many openings)
+    nothing = [(b"%d" % at, b"@%d @%d" % (at + 1, at + 1)) for at in range(19)]
+    scl.ask(b"gcc", [b"-c", b"@f"], files=[(b"f", b"a " * 999_999)])
+    raises(scl.TooManyWords, scl.ask, b"gcc", [b"-c", b"@f"], files=[(b"f", b"a " * 1_000_000)])
+    raises(scl.TooManyWords, scl.ask, b"gcc", [b"-c", b"a.c", b"@0"], files=[*nothing, (b"19", b"")])
     raises(scl.BadLine, scl.run, b"compiler gcc\nword \xff\n")
     raises(scl.BadLine, scl.run, b"word -c\n")
     if scl.rows(b"ok\na  \\x20\\x5cb\n") != [[b"ok"], [b"a", b"", b" \\b"]]:

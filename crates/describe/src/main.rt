@@ -1,7 +1,8 @@
 //! Describes the answer to the request on standard input (docs/RULES.md, The program).
 #![tactic(auto)]
 
-use scl_cl::{Counted, Descriptions, Outcome, describe, serve_each};
+use scl_cl::{Counted, Outcome, serve_each};
+use scl_describe::{Descriptions, describe};
 use std::env;
 use std::io::{self, ErrorKind};
 use std::process::ExitCode;

@@ -91,26 +91,8 @@ impl<T: ReadArg> Options<T> {
         list(alloc, &self.options, sides, test)
     }
 
-    /// The words of `list`; the options' memory is used again or given back as it goes. It fails only for want of memory.
-    pub fn into_list<S: Sides, P: Test<T>>(
-        self,
-        alloc: Global,
-        sides: &S,
-        test: &P,
-    ) -> Mem<Vec<Vec<u8>>>
-        ensures { IfOk result (λ words. words_of words.items ≡ list (S.side sides.now) (P.passes test.now) self) }
-    {
-        let mut words = Vec::new(alloc);
-        for option in ShrinkingIter::new(self.options) {
-            if test.passes(&option) {
-                push_whole(alloc, &mut words, option, sides)?;
-            }
-        }
-        Ok(words)
-    }
-
-    /// The words of two lists, as `into_list` gives them: those of the options that pass the first test, and those of the
-    /// options that pass the second. It fails only for want of memory.
+    /// The words of two lists, as `list` gives them: those of the options that pass the first test, and those of the options
+    /// that pass the second; the options' memory is used again or given back as it goes. It fails only for want of memory.
     pub fn into_two_lists<S: Sides, P: Test<T>>(
         self,
         alloc: Global,

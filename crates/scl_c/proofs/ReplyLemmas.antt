@@ -7,26 +7,29 @@ use Rattle.scl_text.specs.Runs.{runs_of}
 use Rattle.scl_text.specs.declared.records.Cacheable.{Cacheable}
 use Rattle.scl_text.specs.declared.records.CompilerArguments.{CompilerArguments}
 use Rattle.scl_text.specs.declared.records.CompilerArguments.TheVariants as outcomes
-use Rattle.scl_cl.proofs.AgainLaws.{answers_again}
-use Rattle.scl_cl.specs.Answers.{Answer, answer_to, reading_by, environment_by, AnswerIsReadAgain}
-use Rattle.scl_cl.specs.Answers as answers
-use Rattle.scl_cl.specs.AnswersGiven.{answer_of, HasParts}
-use Rattle.scl_cl.specs.Compilers.{compiler_named}
-use Rattle.scl_cl.specs.Hazards.{hazards_by}
-use Rattle.scl_cl.specs.QuestionsGiven.{given}
-use Rattle.scl_cl.specs.Questions.{questions_of}
-use Rattle.scl_cl.specs.Requests.{asked}
-use Rattle.scl_cl.specs.Within.{has_at_most}
+use Rattle.scl_reader.proofs.AgainLaws.{answers_again}
+use Rattle.scl_reader.specs.Answers.{Answer, answer_to, reading_by, environment_by, AnswerIsReadAgain}
+use Rattle.scl_reader.specs.Answers as answers
+use Rattle.scl_reader.specs.AnswersGiven.{answer_of, HasParts}
+use Rattle.scl_reader.specs.Compilers.{compiler_named}
+use Rattle.scl_reader.specs.Reads.{read_of}
+use Rattle.scl_reader.proofs.ReadLaws.{answer_of_read, IsOf}
+use Rattle.scl_describe.specs.Hazards.{hazards_by, hazards_in}
+use Rattle.scl_reader.specs.QuestionsGiven.{given}
+use Rattle.scl_reader.specs.Questions.{questions_in, questions_of}
+use Rattle.scl_reader.specs.CommandLines.{Request, asked, given_in}
+use Rattle.scl_reader.specs.Within.{has_at_most}
 use Rattle.scl_files.specs.Views.{Viewed}
-use Rattle.scl_cl.specs.declared.compiler.Compiler.{Compiler}
-use Rattle.scl_cl.specs.declared.kept.Compilation.{Compilation}
+use Rattle.scl_reader.specs.declared.compiler.Compiler.{Compiler}
+use Rattle.scl_reader.specs.declared.kept.Compilation.{Compilation}
+use Rattle.scl_reader.specs.declared.reading.Reading.{Reading}
 use Rattle.scl_c.specs.declared.ask.Replied.{Replied}
 use Rattle.scl_c.specs.declared.shapes.Asked.{Asked}
 use Rattle.scl_c.specs.declared.shapes.Room.{Room}
 use Rattle.scl_c.specs.declared.shapes.Sizes.{Sizes}
 use Rattle.scl_c.specs.declared.shapes.Told.{Told}
-use Rattle.scl_c.specs.Replies.{compiled, reply_with, reply_of, runs_in, name_of, no_questions, IsReplied, Whole, whole, whole_to}
-use Rattle.scl_c.specs.Requests.{asked_of, viewed}
+use Rattle.scl_c.specs.Replies.{compiled, reply_with, reply_of, runs_in, name_of, no_questions, IsReplied, IsRepliedBy, Whole, whole, whole_to}
+use Rattle.scl_c.specs.Requests.{asked_of, bound_of, viewed}
 use Rattle.scl_c.specs.Shapes.{texts_of, pairs_in}
 use Rattle.scl_c.specs.Sizes.{AreSizes, Fits, IsShort}
 use Rattle.scl_c.specs.Told.{IsGiven, IsTold, IsTooMuch, IsWhole, OfCompiler, Tells}
@@ -50,13 +53,35 @@ reply-is outcomes.NotCompilation answer reading executable environment cwd is pa
 
 -- what is known of a reply to these words, pairs and view
 pub record IsFrom (compiler : Compiler) (a : Asked) (r : Replied) (words : List (List ℕ)) (pairs : List (List ℕ × List ℕ)) (view : Viewed) : Type 0 where
-  pub is_within : has_at_most a.most_words (asked compiler words a.directory.now pairs view) ≡ true
+  pub is_within : has_at_most (bound_of a) (asked compiler words a.directory.now pairs view) ≡ true
   pub answer_is : answer_of r.answer ≡ answer_to (asked compiler words a.directory.now pairs view)
   pub executable : List ℕ
   pub parts : HasParts (reading_by compiler (asked compiler words a.directory.now pairs view)) executable (environment_by compiler pairs) a.directory.now r.answer
   pub runs : runs_of r.runs.items ≡ runs_in compiler a (reply_of r.answer)
   pub questions : given r.questions ≡ (if a.wants_questions then questions_of (asked compiler words a.directory.now pairs view) else no_questions)
-  pub hazards : words_of r.hazards.items ≡ (if a.wants_hazards then map name_of (hazards_by compiler (asked compiler words a.directory.now pairs view)) else [])
+  pub hazards : words_of r.hazards.items ≡ (if a.wants_hazards then map name_of (hazards_by (asked compiler words a.directory.now pairs view)) else [])
+
+-- the command line is within the bound, and this is its reading
+abbrev pub IsReadOf : Compiler → Asked → List (List ℕ) → List (List ℕ × List ℕ) → Viewed → Reading → Type 0
+IsReadOf compiler a words pairs view reading =
+    (has_at_most (bound_of a) (asked compiler words a.directory.now pairs view) ≡ true) × (reading ≡ read_of (asked compiler words a.directory.now pairs view))
+
+from-read : (compiler : Compiler) (a : Asked) (r : Replied) (words : List (List ℕ)) (pairs : List (List ℕ × List ℕ)) (view : Viewed) (reading : Reading) →
+    IsReadOf compiler a words pairs view reading → IsRepliedBy compiler a reading (given_in (asked compiler words a.directory.now pairs view)) r → IsFrom compiler a r words pairs view
+from-read compiler a r words pairs view reading read h =
+    let request : Request = asked compiler words a.directory.now pairs view in
+    let of : IsOf request [] r.answer = answer_of_read request [] r.answer reading read.1 h.answers in
+    let Asks : Reading → Type 0 = λ it. given r.questions ≡ (if a.wants_questions then questions_in (given_in request) it else no_questions) in
+    let Has : Reading → Type 0 = λ it. words_of r.hazards.items ≡ (if a.wants_hazards then map name_of (hazards_in pairs it) else []) in
+    record {
+      is_within = read.0;
+      answer_is = of.is;
+      executable = [];
+      parts = of.parts;
+      runs = h.runs;
+      questions = subst Asks read.1 h.questions;
+      hazards = subst Has read.1 h.hazards;
+    }
 
 replied-here : (compiler : Compiler) (a : Asked) (r : Replied) → IsFrom compiler a r (texts_of a.words.now) (pairs_in a.environment.now) (viewed a) → IsReplied compiler a r
 replied-here compiler a r h = record {
@@ -69,8 +94,10 @@ replied-here compiler a r h = record {
 
 -- a reply to the words, pairs and view that C asks about is one to C
 pub replied_is : (compiler : Compiler) (a : Asked) (r : Replied) (words : List (List ℕ)) (pairs : List (List ℕ × List ℕ)) (view : Viewed) →
-    words ≡ texts_of a.words.now → pairs ≡ pairs_in a.environment.now → view ≡ viewed a → IsFrom compiler a r words pairs view → IsReplied compiler a r
-replied_is compiler a r words pairs view words-are pairs-are view-is h =
+    (reading : Reading) → words ≡ texts_of a.words.now → pairs ≡ pairs_in a.environment.now → view ≡ viewed a →
+    IsReadOf compiler a words pairs view reading → IsRepliedBy compiler a reading (given_in (asked compiler words a.directory.now pairs view)) r → IsReplied compiler a r
+replied_is compiler a r words pairs view reading words-are pairs-are view-is read by =
+    let h : IsFrom compiler a r words pairs view = from-read compiler a r words pairs view reading read by in
     let P : List (List ℕ) → Type 0 = λ w. IsFrom compiler a r w pairs view in
     let Q : List (List ℕ × List ℕ) → Type 0 = λ p. IsFrom compiler a r (texts_of a.words.now) p view in
     let R : Viewed → Type 0 = λ v. IsFrom compiler a r (texts_of a.words.now) (pairs_in a.environment.now) v in

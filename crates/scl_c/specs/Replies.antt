@@ -10,17 +10,24 @@ use Rattle.scl_hazards.specs.declared.hazard.Hazard.{Hazard}
 use Rattle.scl_text.specs.declared.records.Cacheable.{Cacheable}
 use Rattle.scl_text.specs.declared.records.CompilerArguments.{CompilerArguments}
 use Rattle.scl_text.specs.declared.records.CompilerArguments.TheVariants as outcomes
-use Rattle.scl_cl.specs.Answers.{Answer, answer_to, reading_by, environment_by, runs_by}
-use Rattle.scl_cl.specs.Answers as answers
-use Rattle.scl_cl.specs.Hazards.{hazards_by}
-use Rattle.scl_cl.specs.Questions.{Questions, questions_of}
-use Rattle.scl_cl.specs.QuestionsGiven.{given}
-use Rattle.scl_cl.specs.Within.{has_at_most}
-use Rattle.scl_cl.specs.declared.compiler.Compiler.{Compiler}
-use Rattle.scl_cl.specs.declared.kept.Compilation.{Compilation}
+use Rattle.scl_reader.specs.Answers.{Answer, answer_to, reading_by, environment_by, runs_by}
+use Rattle.scl_reader.specs.Answers as answers
+use Rattle.scl_reader.specs.AnswersGiven.{AnswersReading}
+use Rattle.scl_reader.specs.CommandLines.{Given}
+use Rattle.scl_reader.specs.Definitions.{definitions_of}
+use Rattle.scl_reader.specs.Reads.{compiler_of, outcome_in}
+use Rattle.scl_describe.specs.Hazards.{hazards_by}
+use Rattle.scl_describe.specs.Hazards as reading_hazards
+use Rattle.scl_reader.specs.Questions.{Questions, questions_of}
+use Rattle.scl_reader.specs.Questions as reading_questions
+use Rattle.scl_reader.specs.QuestionsGiven.{given}
+use Rattle.scl_reader.specs.Within.{has_at_most}
+use Rattle.scl_reader.specs.declared.compiler.Compiler.{Compiler}
+use Rattle.scl_reader.specs.declared.kept.Compilation.{Compilation}
+use Rattle.scl_reader.specs.declared.reading.Reading.{Reading}
 use Rattle.scl_c.specs.declared.ask.Replied.{Replied}
 use Rattle.scl_c.specs.declared.shapes.Asked.{Asked}
-use Rattle.scl_c.specs.Requests.{asked_of}
+use Rattle.scl_c.specs.Requests.{asked_of, bound_of}
 use Rattle.scl_c.specs.Shapes.{pairs_in}
 
 -- a command with its environment and the record that it was made from; or a reason, with a text beside it or none; or neither
@@ -60,7 +67,7 @@ name_of hazard = (told hazard).name
 
 -- the names of the hazards of the command line, where they are wanted
 abbrev pub hazards_in : Compiler → Asked → List (List ℕ)
-hazards_in compiler a = if a.wants_hazards then map name_of (hazards_by compiler (asked_of compiler a)) else []
+hazards_in compiler a = if a.wants_hazards then map name_of (hazards_by (asked_of compiler a)) else []
 
 -- all that is told
 pub record Whole : Type 0 where
@@ -83,9 +90,16 @@ reply_of (outcomes.Ok compilation) =
 reply_of (outcomes.CannotCache reason text) = cannot_cache reason.now (option_map string_bytes text)
 reply_of outcomes.NotCompilation = not_compilation
 
+-- it is what a compiler replies, by the reading of a command line
+pub record IsRepliedBy (compiler : Compiler) (a : Asked) (reading : Reading) (line : Given) (r : Replied) : Type 0 where
+  pub answers : AnswersReading (definitions_of (compiler_of reading)) [] (outcome_in reading) line.directory line.environment line.view r.answer
+  pub runs : runs_of r.runs.items ≡ runs_in compiler a (reply_of r.answer)
+  pub questions : given r.questions ≡ (if a.wants_questions then reading_questions.questions_in line reading else no_questions)
+  pub hazards : words_of r.hazards.items ≡ (if a.wants_hazards then map name_of (reading_hazards.hazards_in line.environment reading) else [])
+
 -- it is what a compiler replies to what is asked, where no command line is longer than is allowed
 pub record IsReplied (compiler : Compiler) (a : Asked) (r : Replied) : Type 0 where
-  pub is_within : has_at_most a.most_words (asked_of compiler a) ≡ true
+  pub is_within : has_at_most (bound_of a) (asked_of compiler a) ≡ true
   pub reply : reply_of r.answer ≡ reply_to compiler a
   pub runs : runs_of r.runs.items ≡ runs_in compiler a (reply_of r.answer)
   pub questions : given r.questions ≡ questions_in compiler a

@@ -1,8 +1,10 @@
 -- The request that C asks.
-use Rattle.std.specs.Prelude.{[], map, reverse}
+use Rattle.std.specs.Prelude.{ℕ, ◌==◌, [], map, reverse, if◌then◌else◌}
 use Rattle.scl_files.specs.Views.{Viewed, File}
-use Rattle.scl_cl.specs.declared.compiler.Compiler.{Compiler}
-use Rattle.scl_cl.specs.Requests.{Request, asked, with_files}
+use Rattle.scl_reader.specs.declared.compiler.Compiler.{Compiler}
+use Rattle.scl_reader.specs.CommandLines.{Request, asked}
+use Rattle.scl_cl.specs.Requests.{with_files}
+use Rattle.scl_reader.specs.Within.{default_most}
 use Rattle.scl_c.specs.declared.shapes.Asked.{Asked}
 use Rattle.scl_c.specs.declared.shapes.Pair.{Pair}
 use Rattle.scl_c.specs.Shapes.{texts_of, pairs_in}
@@ -23,3 +25,7 @@ viewed a = record {
 -- what is asked of a compiler
 abbrev pub asked_of : Compiler → Asked → Request
 asked_of compiler a = asked compiler (texts_of a.words.now) a.directory.now (pairs_in a.environment.now) (viewed a)
+
+-- how many words a command line may have, and how often it may open files: 0 says nothing else
+abbrev pub bound_of : Asked → ℕ
+bound_of a = if a.most_words == 0 then default_most else a.most_words

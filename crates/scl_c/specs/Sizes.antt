@@ -2,7 +2,7 @@
 use Rattle.std.specs.Prelude.{◌≡◌, ◌+◌, ◌≤◌, ◌<◌, ◌⊎◌, ℕ, List, [], ◌∷◌, length, sum_by}
 use Rattle.std.specs.Option.{option_to_list}
 use Rattle.scl_text.specs.Records.{Artifact, Parsed}
-use Rattle.scl_cl.specs.Questions.{Questions}
+use Rattle.scl_reader.specs.Questions.{Questions}
 use Rattle.scl_c.specs.declared.shapes.Room.{Room}
 use Rattle.scl_c.specs.declared.shapes.Sizes.{Sizes}
 use Rattle.scl_c.specs.Replies.{Reply, compiled, cannot_cache, not_compilation, Whole}

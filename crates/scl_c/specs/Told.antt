@@ -7,11 +7,11 @@ use Rattle.scl_text.specs.declared.records.ColorMode.TheVariants as colors
 use Rattle.scl_text.specs.declared.records.Cacheable.{Cacheable}
 use Rattle.scl_text.specs.declared.records.Cacheable.TheVariants as cacheable
 use Rattle.scl_text.specs.Records.{Parsed, bare_record}
-use Rattle.scl_cl.specs.Answers.{AnswerIsReadAgain}
-use Rattle.scl_cl.specs.Compilers.{compiler_named}
-use Rattle.scl_cl.specs.Questions.{Questions}
-use Rattle.scl_cl.specs.Within.{has_at_most}
-use Rattle.scl_cl.specs.declared.compiler.Compiler.{Compiler}
+use Rattle.scl_reader.specs.Answers.{AnswerIsReadAgain}
+use Rattle.scl_reader.specs.Compilers.{compiler_named}
+use Rattle.scl_reader.specs.Questions.{Questions}
+use Rattle.scl_reader.specs.Within.{has_at_most}
+use Rattle.scl_reader.specs.declared.compiler.Compiler.{Compiler}
 use Rattle.scl_c.specs.declared.shapes.Asked.{Asked}
 use Rattle.scl_c.specs.declared.shapes.Lists.{Lists}
 use Rattle.scl_c.specs.declared.shapes.Questions as told
@@ -20,7 +20,7 @@ use Rattle.scl_c.specs.declared.shapes.Room.{Room}
 use Rattle.scl_c.specs.declared.shapes.Sizes.{Sizes}
 use Rattle.scl_c.specs.declared.shapes.Told.{Told}
 use Rattle.scl_c.specs.Replies.{Reply, compiled, cannot_cache, not_compilation, Whole, whole_to}
-use Rattle.scl_c.specs.Requests.{asked_of}
+use Rattle.scl_c.specs.Requests.{asked_of, bound_of}
 use Rattle.scl_c.specs.Shapes.{texts_of, pairs_in, artifacts_in, lists_of}
 use Rattle.scl_c.specs.Sizes.{AreSizes, Fits, IsShort}
 
@@ -117,7 +117,7 @@ pub record Tells (w : Whole) (t : Told) : Type 0 where
 
 -- no command line of the words is longer than was allowed, and what is told is so
 pub record IsWhole (compiler : Compiler) (a : Asked) (Holds : Whole → Type 0) : Type 0 where
-  pub is_within : has_at_most a.most_words (asked_of compiler a) ≡ true
+  pub is_within : has_at_most (bound_of a) (asked_of compiler a) ≡ true
   pub holds : Holds (whole_to compiler a)
 
 -- it is told, in the memory that it takes
@@ -160,4 +160,4 @@ pub record IsTold (a : Asked) (room : Room) (sizes : Sizes) (old new : Told) (st
   pub short : status ≡ pos 1 → OfCompiler a (λ compiler. IsWhole compiler a (IsTooMuch sizes room)) × (new ≡ old)
   pub unknown : status ≡ pos 2 → (compiler_named a.compiler.now ≡ None) × IsUntold sizes old new
   pub no_memory : status ≡ pos 3 → IsUntold sizes old new
-  pub too_many : status ≡ pos 4 → OfCompiler a (λ compiler. has_at_most a.most_words (asked_of compiler a) ≡ false) × IsUntold sizes old new
+  pub too_many : status ≡ pos 4 → OfCompiler a (λ compiler. has_at_most (bound_of a) (asked_of compiler a) ≡ false) × IsUntold sizes old new

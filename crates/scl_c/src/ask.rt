@@ -1,19 +1,16 @@
 //! What is asked, answered and told.
 ghost use Rattle.std.specs.Prelude.{◌≡◌, false, [], map, if◌then◌else◌, Some, IfOk, MatchResult};
-ghost use Rattle.std.specs.Result.{result_ok};
 ghost use Rattle.scl_values.specs.Words.{words_of};
 ghost use Rattle.scl_text.specs.Commands.{pairs_of};
 ghost use Rattle.scl_text.specs.Runs.{runs_of};
-ghost use Rattle.scl_cl.specs.Answers.{reading_by};
-ghost use Rattle.scl_cl.specs.AnswersGiven.{record_given};
-ghost use Rattle.scl_cl.specs.Compilers.{compiler_named};
-ghost use Rattle.scl_cl.specs.Hazards.{hazards_by};
-ghost use Rattle.scl_cl.specs.QuestionsGiven.{given};
-ghost use Rattle.scl_cl.specs.Requests.{asked as asking};
-ghost use Rattle.scl_cl.specs.Questions.{questions_of};
-ghost use Rattle.scl_cl.specs.Within.{has_at_most};
-ghost use Rattle.scl_c.specs.Replies.{name_of, no_questions, reply_of, runs_in, IsReplied};
-ghost use Rattle.scl_c.specs.Requests.{asked_of, viewed};
+ghost use Rattle.scl_reader.specs.CommandLines.{given_by};
+ghost use Rattle.scl_reader.specs.Compilers.{compiler_named};
+ghost use Rattle.scl_reader.specs.Questions.{questions_in};
+ghost use Rattle.scl_reader.specs.QuestionsGiven.{given};
+ghost use Rattle.scl_reader.specs.Within.{has_at_most};
+ghost use Rattle.scl_describe.specs.Hazards.{hazards_in};
+ghost use Rattle.scl_c.specs.Replies.{name_of, no_questions, reply_of, runs_in, IsReplied, IsRepliedBy};
+ghost use Rattle.scl_c.specs.Requests.{asked_of, bound_of, viewed};
 ghost use Rattle.scl_c.specs.Shapes.{texts_of, pairs_in};
 ghost use Rattle.scl_c.specs.Told.{AreNoSizes, IsTold};
 
@@ -23,8 +20,10 @@ use crate::sizes::sizes_of;
 use crate::status::{BAD, NO_MEMORY, TOLD, TOO_MANY_WORDS, TOO_SHORT};
 use crate::told::tell;
 use scl_cl::{
-    Compilation, Compiler, CompilerArguments, Hazard, Mem, Questions, TooManyWords, View,
+    CommandLine, Compilation, Compiler, CompilerArguments, MOST, Mem, Questions, Reading,
+    TooManyWords, View,
 };
+use scl_describe::{Hazard, hazards_of};
 use std::alloc::Global;
 
 /// What is asked, in the library's words.
@@ -85,13 +84,11 @@ fn runs_for(
 /// What the answer asks of files that were not handed in, where it is wanted.
 fn questions_for(
     alloc: Global,
-    compiler: Compiler,
     asked: &Asked<'_>,
-    line: &Line,
-    answer: &CompilerArguments<Compilation>,
+    line: &CommandLine<'_>,
+    reading: &Reading,
 ) -> Mem<Questions>
-    requires { record_given answer.now ≡ result_ok (reading_by compiler (asking compiler (words_of line.now.words.items) asked.now.directory.now (pairs_of line.now.environment.items) line.now.view)) }
-    ensures { IfOk result (λ questions. given questions ≡ (if asked.now.wants_questions then questions_of (asking compiler (words_of line.now.words.items) asked.now.directory.now (pairs_of line.now.environment.items) line.now.view) else no_questions)) }
+    ensures { IfOk result (λ questions. given questions ≡ (if asked.now.wants_questions then questions_in (given_by line.now) reading.now else no_questions)) }
 {
     if !asked.wants_questions {
         return Ok(Questions {
@@ -100,14 +97,7 @@ fn questions_for(
             existing: Vec::new(alloc),
         });
     }
-    compiler.questions_of(
-        alloc,
-        answer,
-        &line.words,
-        asked.directory,
-        &line.environment,
-        &line.view,
-    )
+    reading.questions(alloc, line)
 }
 
 /// The names of hazards.
@@ -124,65 +114,94 @@ fn names_of(alloc: Global, hazards: &[Hazard]) -> Mem<Vec<Vec<u8>>>
 /// The names of the hazards of the command line, where they are wanted.
 fn hazards_for(
     alloc: Global,
-    compiler: Compiler,
     asked: &Asked<'_>,
-    line: &Line,
-    answer: &CompilerArguments<Compilation>,
+    line: &CommandLine<'_>,
+    reading: &Reading,
 ) -> Mem<Vec<Vec<u8>>>
-    requires { record_given answer.now ≡ result_ok (reading_by compiler (asking compiler (words_of line.now.words.items) asked.now.directory.now (pairs_of line.now.environment.items) line.now.view)) }
-    ensures { IfOk result (λ names. words_of names.items ≡ (if asked.now.wants_hazards then map name_of (hazards_by compiler (asking compiler (words_of line.now.words.items) asked.now.directory.now (pairs_of line.now.environment.items) line.now.view)) else [])) }
+    ensures { IfOk result (λ names. words_of names.items ≡ (if asked.now.wants_hazards then map name_of (hazards_in (pairs_of line.now.environment.now) reading.now) else [])) }
 {
     if !asked.wants_hazards {
         return Ok(Vec::new(alloc));
     }
-    let hazards = compiler.hazards_of(
-        alloc,
-        answer,
-        &line.words,
-        asked.directory,
-        &line.environment,
-        &line.view,
-    )?;
+    let hazards = hazards_of(alloc, reading, line.environment)?;
     names_of(alloc, &hazards)
 }
 
-/// What a request is replied, or that a command line of its is too long.
+/// How many words a command line may have, and how often it may open files.
+fn bound(asked: &Asked<'_>) -> usize
+    ensures { result ≡ bound_of asked.now }
+{
+    if asked.most_words == 0 {
+        MOST
+    } else {
+        asked.most_words
+    }
+}
+
+/// What is told of a reading beside its answer: its questions, and the names of its hazards.
+fn told_beside(
+    alloc: Global,
+    asked: &Asked<'_>,
+    line: &CommandLine<'_>,
+    reading: &Reading,
+) -> Mem<(Questions, Vec<Vec<u8>>)>
+    ensures questions { IfOk result (λ told. given told.0 ≡ (if asked.now.wants_questions then questions_in (given_by line.now) reading.now else no_questions)) }
+    ensures hazards { IfOk result (λ told. words_of told.1.items ≡ (if asked.now.wants_hazards then map name_of (hazards_in (pairs_of line.now.environment.now) reading.now) else [])) }
+{
+    let questions = questions_for(alloc, asked, line, reading)?;
+    let hazards = hazards_for(alloc, asked, line, reading)?;
+    Ok((questions, hazards))
+}
+
+/// What is replied by the reading of a command line.
+fn reply_by(
+    alloc: Global,
+    compiler: Compiler,
+    asked: &Asked<'_>,
+    line: &CommandLine<'_>,
+    reading: Reading,
+) -> Mem<Replied>
+    ensures { IfOk result (IsRepliedBy compiler asked.now reading (given_by line.now)) }
+{
+    let (questions, hazards) = match told_beside(alloc, asked, line, &reading) {
+        Ok(told) => told,
+        Err(refused) => {
+            drop(reading);
+            return Err(refused);
+        }
+    };
+    let answer = reading.into_answer(alloc, b"", line)?;
+    let runs = runs_for(alloc, compiler, asked, &answer)?;
+    Ok(Replied {
+        answer,
+        runs,
+        questions,
+        hazards,
+    })
+}
+
+/// What a request is replied, or that a command line of its is too long; it is read once.
 fn answered(
     alloc: Global,
     compiler: Compiler,
     asked: &Asked<'_>,
 ) -> Mem<Result<Replied, TooManyWords>>
-    ensures { IfOk result (λ said. MatchResult said (IsReplied compiler asked.now) (λ _. has_at_most asked.now.most_words (asked_of compiler asked.now) ≡ false)) }
+    ensures { IfOk result (λ said. MatchResult said (IsReplied compiler asked.now) (λ _. has_at_most (bound_of asked.now) (asked_of compiler asked.now) ≡ false)) }
 {
-    let line = line_of(alloc, asked)?;
-    let is_within = compiler.has_at_most(
-        alloc,
-        &line.words,
-        asked.directory,
-        &line.environment,
-        &line.view,
-        asked.most_words,
-    )?;
-    if !is_within {
-        return Ok(Err(TooManyWords));
+    let given = line_of(alloc, asked)?;
+    let line = CommandLine {
+        words: &given.words,
+        directory: asked.directory,
+        environment: &given.environment,
+        view: &given.view,
+    };
+    match compiler.read(alloc, &line, bound(asked))? {
+        Ok(reading) => {
+            let replied = reply_by(alloc, compiler, asked, &line, reading)?;
+            Ok(Ok(replied))
+        }
+        Err(too_many) => Ok(Err(too_many)),
     }
-    let answer = compiler.answer(
-        alloc,
-        b"",
-        &line.words,
-        asked.directory,
-        &line.environment,
-        &line.view,
-    )?;
-    let runs = runs_for(alloc, compiler, asked, &answer)?;
-    let questions = questions_for(alloc, compiler, asked, &line, &answer)?;
-    let hazards = hazards_for(alloc, compiler, asked, &line, &answer)?;
-    Ok(Ok(Replied {
-        answer,
-        runs,
-        questions,
-        hazards,
-    }))
 }
 
 /// Tells what is replied, where the memory is long enough.

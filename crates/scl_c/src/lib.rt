@@ -11,12 +11,13 @@ mod text;
 mod told;
 
 ghost use Rattle.std.specs.Prelude.{◌≡◌, pos};
-ghost use Rattle.scl_cl.specs.Descriptions.{DescribesBytes};
+ghost use Rattle.scl_describe.specs.Descriptions.{DescribesBytes};
 ghost use Rattle.scl_cl.specs.Program.{program_answer};
 ghost use Rattle.scl_c.specs.Texts.{IsTextGiven, HoldsReadAgain};
 ghost use Rattle.scl_c.specs.Told.{IsTold};
 
-use scl_cl::{Commands, Descriptions};
+use scl_cl::Commands;
+use scl_describe::Descriptions;
 use shapes::{Asked, Room, Sizes, Told};
 use std::alloc::Global;
 

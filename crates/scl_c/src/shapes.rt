@@ -40,7 +40,8 @@ pub struct Asked<'a> {
     pub directories: &'a [Bytes<'a>],
     /// The paths at which there is something.
     pub existing: &'a [Bytes<'a>],
-    /// The most words that each command line may have, response files put in place.
+    /// The most words that each command line may have, response files put in place, and how often it may open files; 0 is
+    /// 1,000,000.
     pub most_words: usize,
     /// Whether several architectures are allowed.
     pub is_multiarch: bool,

@@ -5,7 +5,7 @@ ghost use Rattle.scl_values.specs.Words.{words_of};
 ghost use Rattle.scl_text.specs.Commands.{pairs_of};
 ghost use Rattle.scl_text.specs.Records.{artifacts, parsed_of};
 ghost use Rattle.scl_text.specs.Runs.{runs_of};
-ghost use Rattle.scl_cl.specs.QuestionsGiven.{given};
+ghost use Rattle.scl_reader.specs.QuestionsGiven.{given};
 ghost use Rattle.scl_text.specs.declared.records.CompilerArguments.TheVariants as outcomes;
 ghost use Rattle.scl_c.specs.Replies.{cannot_cache, reply_of, whole};
 ghost use Rattle.scl_c.specs.Told.{AreNoSizes};

@@ -5,7 +5,7 @@ ghost use Rattle.scl_values.specs.Words.{words_of};
 ghost use Rattle.scl_text.specs.Records.{artifacts, parsed_of};
 ghost use Rattle.scl_text.specs.Runs.{runs_of};
 ghost use Rattle.scl_text.specs.declared.records.CompilerArguments.TheVariants as outcomes;
-ghost use Rattle.scl_cl.specs.QuestionsGiven.{given};
+ghost use Rattle.scl_reader.specs.QuestionsGiven.{given};
 ghost use Rattle.scl_c.specs.Replies.{cannot_cache, not_compilation, reply_of, whole};
 ghost use Rattle.scl_c.specs.Sizes.{texts_size, lists_size, lists_length, lists_in, single_size, questions_lists, reply_bytes, reply_slots, reply_pairs, reply_outputs};
 ghost use Rattle.scl_c.specs.Told.{language_code, color_code, no_record, AreLists, AreQuestions, IsRecord, Tells, TellsReply};

@@ -1,13 +1,5 @@
-pub mod AgainLaws
-pub mod SettingLaws
 pub mod BatchLaws
 pub mod RequestLaws
 pub mod WrittenLaws
 pub mod BadLineLaws
-pub mod GnuQuestionLaws
-pub mod InnerLineLaws
-pub mod MsvcQuestionLaws
-pub mod QuestionLaws
-pub mod RecordLaws
-pub mod ExplainedLaws
-pub mod DescriptionLaws
+pub mod TextAgainLaws

@@ -8,11 +8,12 @@ use Rattle.scl_description.specs.Lines.{cut_at, line, lines_of}
 use Rattle.scl_cl.specs.Sayings.{Saying, said, keyword_text, keyword_named}
 use Rattle.scl_cl.specs.Sayings as sayings
 use Rattle.scl_cl.specs.Written.{CanBeWritten, AllCanBeWritten, written}
-use Rattle.scl_cl.specs.Answers.{compiled, text_of, cacheable_text, arg_line}
-use Rattle.scl_cl.specs.Compilers.{name_of, compiler_named}
+use Rattle.scl_cl.specs.AnswerTexts.{text_of, cacheable_text, arg_line}
+use Rattle.scl_reader.specs.Answers.{compiled}
+use Rattle.scl_reader.specs.Compilers.{name_of, compiler_named}
 use Rattle.scl_text.specs.declared.records.Cacheable.{Cacheable}
 use Rattle.scl_text.specs.declared.records.Cacheable.TheVariants as cacheable
-use Rattle.scl_cl.specs.declared.compiler.Compiler.{Compiler}
+use Rattle.scl_reader.specs.declared.compiler.Compiler.{Compiler}
 use Rattle.scl_cl.specs.declared.keyword.Keyword as keywords
 use Rattle.scl_description.proofs.CutLaws.{cut_at-append}
 use Rattle.scl_description.proofs.WrittenFieldLaws.{field-escaped, fields-written, lines-feed, no-feed, lines-line}

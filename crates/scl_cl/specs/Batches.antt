@@ -1,9 +1,9 @@
 -- Batches of requests: each is ended by a line `end`, and so is each answer.
-use Rattle.std.specs.Prelude.{◌≡◌, ℕ, Bool, true, false, List, [], ◌∷◌, ◌++◌, codes, Option, Some, None, Result, Ok, Err, Vec, if◌then◌else◌}
+use Rattle.std.specs.Prelude.{◌≡◌, ◌<◌, ◌≤◌, ◌^◌, ◌⊎◌, ℕ, Bool, true, false, List, [], ◌∷◌, ◌++◌, length, take, codes, Option, Some, None, IfSome, Result, Ok, Err, Vec, if◌then◌else◌}
 use Rattle.std.specs.Fmt.{decimal}
 use Rattle.std.specs.List.{flat_map, onto_first}
 use Rattle.std.specs.Str.{bytes_eq}
-use Rattle.std.specs.Io.KnownBytes.{IsAtEnd}
+use Rattle.std.specs.Io.KnownBytes.{Appends, Consumes, IsAtEnd}
 use Rattle.std.specs.declared.alloc.Global.{Global}
 use Rattle.scl_devices.specs.Counts.{one_more}
 use Rattle.scl_description.specs.Lines.{line, lines_of}
@@ -26,6 +26,24 @@ AreTold answers [] written = written ≡ []
 AreTold answers (lines ∷ requests) written =
     (said : Result (List ℕ) ℕ) × (rest : List ℕ) × answers (flat_map line lines) said × (written ≡ told said ++ rest) × AreTold answers requests rest
 
+-- ---- a batch that ends early
+
+-- the answers to a beginning of the requests of all bytes, if they are known, were written
+pub record AreToldBegun (answers : List ℕ → Result (List ℕ) ℕ → Type 0) (all old new : Option (List ℕ)) : Type 0 where
+  pub written : List ℕ
+  pub appended : Appends old new written
+  pub are_told : IfSome all (λ bytes. (done left : List (List (List ℕ))) × (requests_of (lines_of bytes) ≡ done ++ left) × AreTold answers done written)
+
+-- and behind them stands a beginning of the answer to the next, but not all of it
+pub record AreToldBroken (answers : List ℕ → Result (List ℕ) ℕ → Type 0) (all old new : Option (List ℕ)) : Type 0 where
+  pub written : List ℕ
+  pub said : Result (List ℕ) ℕ
+  pub count : ℕ
+  pub is_part : count < length (told said)
+  pub appended : Appends old new (written ++ take count (told said))
+  pub are_told : IfSome all (λ bytes. (done left : List (List (List ℕ))) × (next : List (List ℕ)) × (requests_of (lines_of bytes) ≡ done ++ next ∷ left)
+      × AreTold answers done written × answers (flat_map line next) said)
+
 -- ---- reading line by line
 
 -- what is left: the bytes that were read and belong to no line yet, and those of the reader, if they are known
@@ -34,27 +52,27 @@ Stays None new pending pending' = Unit {0}
 Stays (Some r) None pending pending' = ⊥
 Stays (Some r) (Some r') pending pending' = pending ++ r ≡ pending' ++ r'
 
--- it lost a line
+-- it lost a line, with its LF if that has one
 abbrev pub LosesLine : (old new : Option (List ℕ)) → (pending pending' text : List ℕ) → Type 0
 LosesLine None new pending pending' text = Unit {0}
 LosesLine (Some r) None pending pending' text = ⊥
-LosesLine (Some r) (Some r') pending pending' text = lines_of (pending ++ r) ≡ text ∷ lines_of (pending' ++ r')
+LosesLine (Some r) (Some r') pending pending' text = (lines_of (pending ++ r) ≡ text ∷ lines_of (pending' ++ r')) × (length (pending' ++ r') < length (pending ++ r))
 
 -- it was nothing
 abbrev pub HadNone : Option (List ℕ) → List ℕ → Type 0
 HadNone None pending = Unit {0}
 HadNone (Some r) pending = pending ++ r ≡ []
 
--- A line was taken; or there was none; or memory was refused; or a read failed, or the reads were too many.
+-- A line was taken; or there was none; or memory was refused; or a read failed, or the reader had too many bytes.
 abbrev pub TakesLine : (old new : Option (List ℕ)) → (pending pending' : List ℕ) → (before after : ℕ) → Result (Option (Vec ℕ Global)) ReadError → Type 0
 TakesLine old new pending pending' before after (Ok (Some text)) = LosesLine old new pending pending' text.items × (after ≡ before)
 TakesLine old new pending pending' before after (Ok None) = HadNone old pending × IsAtEnd new × (after ≡ before)
 TakesLine old new pending pending' before after (Err Memory) = after ≡ before
-TakesLine old new pending pending' before after (Err Device) = Unit {0}
+TakesLine old new pending pending' before after (Err Device) = (after ≡ one_more before) ⊎ (IfSome old (λ r. 2 ^ 40 ≤ length (pending ++ r)) × (after ≡ before))
 
 -- More bytes were read, at least one; or there were none; or memory was refused; or the read failed.
 abbrev pub ReadsMore : (old new : Option (List ℕ)) → (pending pending' : List ℕ) → (before after : ℕ) → Result Bool ReadError → Type 0
-ReadsMore old new pending pending' before after (Ok true) = Stays old new pending pending' × (after ≡ before)
+ReadsMore old new pending pending' before after (Ok true) = (bytes : List ℕ) × Consumes old new bytes × (pending' ≡ pending ++ bytes) × (0 < length bytes) × (after ≡ before)
 ReadsMore old new pending pending' before after (Ok false) = Stays old new pending pending' × (pending' ≡ pending) × IsAtEnd new × (after ≡ before)
 ReadsMore old new pending pending' before after (Err Memory) = after ≡ before
 ReadsMore old new pending pending' before after (Err Device) = after ≡ one_more before

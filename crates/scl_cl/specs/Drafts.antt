@@ -6,7 +6,8 @@ use Rattle.scl_text.specs.Commands.{pairs_of}
 use Rattle.scl_cl.specs.declared.draft.Draft.{Draft}
 use Rattle.scl_cl.specs.declared.request.Request as code
 use Rattle.scl_cl.specs.Sayings.{Saying}
-use Rattle.scl_cl.specs.Requests.{compiler_in, directory_in, word_in, variable_in, file_in, viewed_directory_in, path_in, is_multiarch, with_files, Gathered, Request}
+use Rattle.scl_reader.specs.CommandLines.{Request}
+use Rattle.scl_cl.specs.Requests.{compiler_in, directory_in, word_in, variable_in, file_in, viewed_directory_in, path_in, is_multiarch, with_files, Gathered}
 
 -- with one more line
 abbrev pub with_line : Gathered → Saying → Gathered

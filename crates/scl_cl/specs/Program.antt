@@ -1,8 +1,10 @@
 -- The answer to a request's bytes.
 use Rattle.std.specs.Prelude.{◌≡◌, ℕ, List, Result, Ok, Err}
 use Rattle.scl_description.specs.Lines.{lines_of}
-use Rattle.scl_cl.specs.Requests.{Request, request_in}
-use Rattle.scl_cl.specs.Answers.{answer_to, text_of, AnswerIsReadAgain}
+use Rattle.scl_reader.specs.CommandLines.{Request}
+use Rattle.scl_cl.specs.Requests.{request_in}
+use Rattle.scl_cl.specs.AnswerTexts.{text_of}
+use Rattle.scl_reader.specs.Answers.{answer_to, AnswerIsReadAgain}
 
 abbrev pub text_for : Result Request ℕ → Result (List ℕ) ℕ
 text_for (Ok request) = Ok (text_of (answer_to request))

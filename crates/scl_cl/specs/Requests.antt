@@ -3,22 +3,10 @@ use Rattle.std.specs.Prelude.{ℕ, ◌+◌, Bool, true, false, List, [], ◌∷�
 use Rattle.std.specs.List.{flat_map, filter_map, list_any}
 use Rattle.std.specs.Option.{option_to_list, ok_or}
 use Rattle.scl_files.specs.Views.{Viewed, File, put_file}
-use Rattle.scl_cl.specs.declared.compiler.Compiler.{Compiler}
+use Rattle.scl_reader.specs.CommandLines.{Request}
+use Rattle.scl_reader.specs.declared.compiler.Compiler.{Compiler}
 use Rattle.scl_cl.specs.Sayings.{Saying, said}
 use Rattle.scl_cl.specs.Sayings as sayings
-
--- what a request asks for
-pub record Request : Type 0 where
-  pub compiler : Compiler
-  pub directory : List ℕ
-  pub words : List (List ℕ)
-  pub environment : List (List ℕ × List ℕ)
-  pub view : Viewed
-
--- a compiler is asked for these words, in this directory, with this environment and view
-abbrev pub asked : Compiler → List (List ℕ) → List ℕ → List (List ℕ × List ℕ) → Viewed → Request
-asked compiler words directory environment view =
-    record { compiler = compiler; directory = directory; words = words; environment = environment; view = view }
 
 abbrev pub compiler_in : Saying → List Compiler
 compiler_in (sayings.Compiler compiler) = compiler ∷ []

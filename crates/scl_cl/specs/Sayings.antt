@@ -3,12 +3,12 @@ use Rattle.std.specs.Prelude.{ℕ, List, [], ◌∷◌, Option, Some, None, code
 use Rattle.std.specs.Option.{option_map}
 use Rattle.std.specs.Str.{bytes_eq}
 use Rattle.scl_files.specs.Characters.{space}
-use Rattle.scl_cl.specs.declared.compiler.Compiler as compilers
+use Rattle.scl_reader.specs.declared.compiler.Compiler as compilers
 use Rattle.scl_cl.specs.declared.keyword.Keyword.{Keyword}
 use Rattle.scl_cl.specs.declared.keyword.Keyword.TheVariants as keyword
 use Rattle.scl_description.specs.Lines.{cut_at}
 use Rattle.scl_description.specs.Fields.{field_of, two_fields}
-use Rattle.scl_cl.specs.Compilers.{compiler_named}
+use Rattle.scl_reader.specs.Compilers.{compiler_named}
 
 -- what a line says
 pub data Saying : Type 0 where

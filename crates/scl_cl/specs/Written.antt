@@ -3,17 +3,18 @@ use Rattle.std.specs.Prelude.{ℕ, ◌<◌, ◌≡◌, Bool, true, false, List, 
 use Rattle.std.specs.List.{flat_map, filter_map}
 use Rattle.scl_text.specs.declared.records.Cacheable.{Cacheable}
 use Rattle.scl_files.specs.Characters.{tab, line_feed}
-use Rattle.scl_cl.specs.declared.compiler.Compiler.{Compiler}
+use Rattle.scl_reader.specs.declared.compiler.Compiler.{Compiler}
 use Rattle.scl_description.specs.Lines.{cut_at, line, lines_of}
 use Rattle.scl_values.specs.Each.{Each}
 use Rattle.scl_values.specs.Escaped.{escaped}
 use Rattle.scl_description.specs.Fields.{AreBytes, AreAllBytes, ArePrintable, field_of}
-use Rattle.scl_cl.specs.Compilers.{name_of, compiler_named}
+use Rattle.scl_reader.specs.Compilers.{name_of, compiler_named}
 use Rattle.scl_cl.specs.declared.keyword.Keyword.{Keyword}
 use Rattle.scl_cl.specs.Sayings.{Saying, said, keyword_named}
 use Rattle.scl_cl.specs.Sayings as sayings
 use Rattle.scl_cl.specs.Requests.{gathered, breaks, first_broken}
-use Rattle.scl_cl.specs.Answers.{compiled, text_of, cacheable_text}
+use Rattle.scl_cl.specs.AnswerTexts.{text_of, cacheable_text}
+use Rattle.scl_reader.specs.Answers.{compiled}
 
 -- what is said can be written: its byte strings are bytes
 abbrev pub CanBeWritten : Saying → Type 0

@@ -2,11 +2,12 @@
 ghost use Rattle.std.specs.Prelude.{◌≡◌, ◌++◌, None, OnOk, IfOk};
 ghost use Rattle.std.specs.List.{flat_map};
 ghost use Rattle.scl_values.specs.Words.{words_of};
-ghost use Rattle.scl_cl.specs.Answers.{compiled, cannot_cache, arg_line, text_of};
-ghost use Rattle.scl_cl.specs.AnswersGiven.{answer_by, answer_of, command_answer};
+ghost use Rattle.scl_cl.specs.AnswerTexts.{arg_line, text_of};
+ghost use Rattle.scl_reader.specs.Answers.{compiled, cannot_cache};
+ghost use Rattle.scl_reader.specs.AnswersGiven.{answer_by, answer_of, command_answer};
 
-use crate::kept::{BuiltCommand, Compilation, Kept};
 use scl_description::push_field;
+use scl_reader::{BuiltCommand, Compilation, Kept};
 use scl_text::Mem;
 use scl_text::records::{Cacheable, CompilerArguments};
 use std::alloc::Global;

@@ -1,10 +1,10 @@
 //! Batches: requests that are answered one after the other, each ended by a line `end`, as each answer is.
-ghost use Rattle.std.specs.Prelude.{◌≡◌, ◌≢◌, ◌++◌, ℕ, List, IfOk, IfSome, OnOk};
+ghost use Rattle.std.specs.Prelude.{◌≡◌, ◌≢◌, ◌++◌, ◌≤◌, ◌^◌, ◌⊎◌, ℕ, [], List, None, IfOk, IfSome, OnOk, length, take};
 ghost use Rattle.std.specs.Io.KnownBytes.{Appends, IsAtEnd};
 ghost use Rattle.scl_devices.specs.Counts.{one_more};
-ghost use Rattle.scl_description.specs.Lines.{line, lines_of};
-ghost use Rattle.scl_cl.specs.Batches.{requests_of, told, AreTold, TakesLine};
-ghost use Rattle.scl_cl.specs.BatchesGiven.{said_by, LastOf, IsTold, TakesIn, TakesEnd, BatchEnds};
+ghost use Rattle.scl_description.specs.Lines.{cut_at, line, lines_of};
+ghost use Rattle.scl_cl.specs.Batches.{requests_of, told, AreTold, AreToldBegun, AreToldBroken, ReadsMore, TakesLine};
+ghost use Rattle.scl_cl.specs.BatchesGiven.{said_by, left_of, IsFirstLine, LastOf, IsTold, TakesIn, TakesEnd, BatchEnds};
 
 use crate::outcome::Outcome;
 use crate::service::Service;
@@ -51,32 +51,86 @@ impl From<ReadError> for Stop {
     }
 }
 
-/// Takes what is left as the last line, if there is anything.
-fn last_line(alloc: Global, pending: &mut Vec<u8>) -> Option<Vec<u8>>
-    ensures { LastOf pending.old.items pending.new.items result }
-{
-    if pending.is_empty() {
-        return None;
-    }
-    Some(mem::replace(pending, Vec::new(alloc)))
+/// Bytes that were read. Those before `begin` were taken, and the others belong to no line yet.
+#[derive(Drop)]
+struct Pending {
+    bytes: Vec<u8>,
+    begin: usize,
 }
 
-/// Takes the next line, less its LF, which the last may lack; none where no byte is left.
+impl Pending {
+    fn new(alloc: Global) -> Pending
+        ensures { left_of result ≡ [] }
+    {
+        Pending {
+            bytes: Vec::new(alloc),
+            begin: 0,
+        }
+    }
+
+    /// The bytes that belong to no line yet.
+    fn left(&self) -> &[u8]
+        ensures { result.now ≡ left_of self.now }
+    {
+        &self.bytes[self.begin.min(self.bytes.len())..]
+    }
+
+    /// Takes the first line, less its LF, if one ends; none does in so many bytes, which are not looked at again.
+    fn take(&mut self, alloc: Global, searched: usize) -> Mem<Option<Vec<u8>>>
+        requires within { searched ≤ length (left_of self.old) }
+        requires searched { cut_at 10 (take searched (left_of self.old)) ≡ None }
+        ensures { IfOk result (IsFirstLine (left_of self.old) (left_of self.new)) }
+    {
+        let left = self.left();
+        let Some((front, rest)) = cut_at(b'\n', &left[searched..]) else {
+            return Ok(None);
+        };
+        let line = Vec::from_slice(alloc, &left[..searched + front.len()])?;
+        self.begin = self.bytes.len() - rest.len();
+        Ok(Some(line))
+    }
+
+    /// Reads a block behind them, and lets go of what was taken; says whether there was anything.
+    fn read<R: Read>(&mut self, alloc: Global, reader: &mut Counted<R>) -> Result<bool, ReadError>
+        ensures { ReadsMore (R.remaining reader.old.device) (R.remaining reader.new.device) (left_of self.old) (left_of self.new) reader.old.failed reader.new.failed result }
+    {
+        if self.begin > 0 {
+            let left = Vec::from_slice(alloc, self.left())?;
+            self.bytes = left;
+            self.begin = 0;
+        }
+        read_block(alloc, reader, &mut self.bytes)
+    }
+
+    /// Takes them as the last line, if there are any.
+    fn take_last(&mut self, alloc: Global) -> Mem<Option<Vec<u8>>>
+        ensures { IfOk result (LastOf (left_of self.old) (left_of self.new)) }
+    {
+        if self.left().is_empty() {
+            return Ok(None);
+        }
+        let line = Vec::from_slice(alloc, self.left())?;
+        self.begin = self.bytes.len();
+        Ok(Some(line))
+    }
+}
+
+/// Takes the next line, less its LF, which the last may lack; none where no byte is left. Each byte is looked at once.
 fn take_line<R: Read>(
     alloc: Global,
     reader: &mut Counted<R>,
-    pending: &mut Vec<u8>,
+    pending: &mut Pending,
 ) -> Result<Option<Vec<u8>>, ReadError>
-    ensures { TakesLine (R.remaining reader.old.device) (R.remaining reader.new.device) pending.old.items pending.new.items reader.old.failed reader.new.failed result }
+    ensures { TakesLine (R.remaining reader.old.device) (R.remaining reader.new.device) (left_of pending.old) (left_of pending.new) reader.old.failed reader.new.failed result }
 {
+    let mut searched = 0;
     for _turn in 0..READS {
-        if let Some((line, rest)) = cut_at(b'\n', pending) {
-            let line = Vec::from_slice(alloc, line)?;
-            *pending = Vec::from_slice(alloc, rest)?;
+        if let Some(line) = pending.take(alloc, searched)? {
             return Ok(Some(line));
         }
-        if !read_block(alloc, reader, pending)? {
-            return Ok(last_line(alloc, pending));
+        searched = pending.left().len();
+        if !pending.read(alloc, reader)? {
+            return Ok(pending.take_last(alloc)?);
         }
     }
     Err(ReadError::Device)
@@ -168,12 +222,17 @@ fn serve_requests<S: Service, R: Read, W: Write>(
     ensures { BatchEnds (S.answers service.now) (R.remaining reader.old.device) (R.remaining reader.new.device) (W.contents writer.old.device) (W.contents writer.new.device)
         reader.old.failed reader.new.failed writer.old.failed writer.new.failed result }
 {
-    let mut pending = Vec::new(alloc);
+    let mut pending = Pending::new(alloc);
     let mut request = Vec::new(alloc);
     for _line in 0..u64::MAX {
-        match take_line(alloc, reader, &mut pending)? {
-            Some(text) => take_in(alloc, service, &text, &mut request, writer)?,
-            None => return take_end(alloc, service, request, writer),
+        let text = match take_line(alloc, reader, &mut pending) {
+            Ok(Some(text)) => text,
+            Ok(None) => return take_end(alloc, service, request, writer),
+            Err(error) => return Err(Stop::from(error)),
+        };
+        match take_in(alloc, service, &text, &mut request, writer) {
+            Ok(()) => {}
+            Err(stop) => return Err(stop),
         }
     }
     Err(Stop::Read)
@@ -181,7 +240,8 @@ fn serve_requests<S: Service, R: Read, W: Write>(
 
 /// Reads requests, each ended by a line `end`, which the last may lack, and answers each as soon as its end was read: by the
 /// service's text, or by a line `bad-line N`, and by a line `end` behind either (docs/RULES.md, Batches). It never ends with
-/// `BadLine`. Where it does not end with `Answered`, the requests that were read before are answered.
+/// `BadLine`. At every end the requests that were read before are answered, whole and in order; with `WriteFailed` a beginning
+/// of the answer to the next stands behind them.
 pub fn serve_each<S: Service, R: Read, W: Write>(
     alloc: Global,
     service: &S,
@@ -191,9 +251,17 @@ pub fn serve_each<S: Service, R: Read, W: Write>(
     // What is written are the answers to the requests, in order.
     ensures answered { result ≡ Outcome.Answered → IfSome (R.remaining reader.old.device) (λ bytes.
         (written : List ℕ) × AreTold (S.answers service.now) (requests_of (lines_of bytes)) written × Appends (W.contents writer.old.device) (W.contents writer.new.device) written) }
+    // Where a run ends early, they are those to a beginning of the requests.
+    ensures begun { result ≢ Outcome.WriteFailed → AreToldBegun (S.answers service.now) (R.remaining reader.old.device) (W.contents writer.old.device) (W.contents writer.new.device) }
+    // Where the writer failed, a beginning of the answer to the next one stands behind them, and not all of it.
+    ensures write_failed { result ≡ Outcome.WriteFailed → AreToldBroken (S.answers service.now) (R.remaining reader.old.device) (W.contents writer.old.device) (W.contents writer.new.device) }
     ensures at_end { result ≡ Outcome.Answered → IsAtEnd (R.remaining reader.new.device) }
     ensures goes_on { (n : ℕ) → result ≢ Outcome.BadLine n }
+    // The first read that fails ends the run, and is told; else the reader had too many bytes.
+    ensures read_failed { result ≡ Outcome.ReadFailed → (reader.new.failed ≡ one_more reader.old.failed)
+        ⊎ (IfSome (R.remaining reader.old.device) (λ bytes. 2 ^ 40 ≤ length bytes) × (reader.new.failed ≡ reader.old.failed)) }
     ensures reader_told { result ≢ Outcome.ReadFailed → reader.new.failed ≡ reader.old.failed }
+    // The first write that fails ends the run, and is told.
     ensures writer_failed { result ≡ Outcome.WriteFailed → writer.new.failed ≡ one_more writer.old.failed }
     ensures writer_told { result ≢ Outcome.WriteFailed → writer.new.failed ≡ writer.old.failed }
 {

@@ -5,9 +5,9 @@ ghost use Rattle.scl_cl.specs.Requests.{breaks, gathered, request_of};
 ghost use Rattle.scl_cl.specs.Drafts.{with_line, gathered_by, asked_by};
 ghost use Rattle.scl_cl.specs.LinesRead.{said_by};
 
-use crate::compiler::Compiler;
 use crate::request::Request;
 use crate::saying::Saying;
+use scl_reader::Compiler;
 use scl_text::{Mem, View};
 use std::alloc::Global;
 

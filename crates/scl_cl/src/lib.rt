@@ -1,49 +1,31 @@
-//! The answer to a command line of any compiler that is served (`Compiler::answer`): gcc, g++, clang, clang++, cl,
-//! clang-cl, diab and tasking. Above it the request's grammar, the answer's text, and the program over any reader
-//! and writer (`run`).
+//! Requests to a compiler that is served, as bytes: their grammar, the text of an answer, and the program over any reader and
+//! writer (`run`). What compilers answer is in `scl_reader`, and handed on here.
 #![tactic(auto)]
 
 mod answer;
-mod ask;
 mod batch;
-mod compile;
-mod compiler;
-mod described;
-mod descriptions;
 mod draft;
-mod hazards;
-mod kept;
 mod keyword;
 pub mod laws;
-mod option_lines;
 mod outcome;
 mod program;
-mod questions;
 mod request;
-mod rows;
-mod runs;
 mod saying;
 mod service;
-mod settings;
 mod transfer;
-mod within;
 
 pub use answer::{answer_text, command_text};
-pub use ask::Query;
 pub use batch::serve_each;
-pub use compiler::Compiler;
-pub use descriptions::{Descriptions, describe};
-pub use kept::{BuiltCommand, Compilation};
 pub use outcome::Outcome;
 pub use program::{Commands, run};
-pub use questions::Questions;
 pub use request::{Request, read_request};
 pub use scl_args as args;
 pub use scl_args::Counted;
 pub use scl_gnu::{clang, gcc};
-pub use scl_hazards::{Danger, HAZARDS, HasHazards, Hazard};
 pub use scl_msvc::msvc;
-pub use scl_rows::{Destination, HasRows, Origin, Row};
+pub use scl_reader::{
+    BuiltCommand, CommandLine, Compilation, Compiler, LackedFile, MOST, Questions, Reading,
+};
 pub use scl_small::{diab, tasking_vx};
 pub use scl_text as text;
 pub use scl_text::language::Language;
@@ -53,4 +35,3 @@ pub use scl_text::records::{
 };
 pub use scl_text::{CCompilerImpl, Mem, TooManyWords, View, path};
 pub use service::{Service, serve};
-pub use within::CommandLines;

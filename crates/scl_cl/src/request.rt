@@ -1,13 +1,14 @@
 //! A request, read from its bytes.
 ghost use Rattle.std.specs.Prelude.{◌≡◌, IfOk, MatchResult, Ok, Err};
 ghost use Rattle.scl_description.specs.Lines.{lines_of};
+ghost use Rattle.scl_reader.specs.CommandLines.{given_by, given_in};
 ghost use Rattle.scl_cl.specs.Requests.{request_in};
 ghost use Rattle.scl_cl.specs.Drafts.{asked_by};
 
-use crate::compiler::Compiler;
 use crate::draft::Draft;
 use crate::saying::read_line;
 use scl_description::next_line;
+use scl_reader::{CommandLine, Compiler};
 use scl_text::{Mem, View};
 use std::alloc::Global;
 
@@ -25,6 +26,20 @@ pub struct Request {
     pub environment: Vec<(Vec<u8>, Vec<u8>)>,
     /// The files that may be read, and what else is there.
     pub view: View,
+}
+
+impl Request {
+    /// Its command line.
+    pub fn line(&self) -> CommandLine<'_>
+        ensures { given_by result ≡ given_in (asked_by self.now) }
+    {
+        CommandLine {
+            words: &self.words,
+            directory: &self.directory,
+            environment: &self.environment,
+            view: &self.view,
+        }
+    }
 }
 
 /// The request that the bytes make, or the number of their bad line, counted from 1 (docs/RULES.md, Requests). The outer

@@ -4,9 +4,9 @@ ghost use Rattle.std.specs.Option.{option_map};
 ghost use Rattle.scl_cl.specs.Sayings.{said, said_with, said_alone};
 ghost use Rattle.scl_cl.specs.LinesRead.{said_by};
 
-use crate::compiler::Compiler;
 use crate::keyword::{Keyword, keyword_named};
 use scl_description::{cut_at, read_field, read_two_fields};
+use scl_reader::Compiler;
 use scl_text::Mem;
 use std::alloc::Global;
 

@@ -1,2 +1,3 @@
-pub mod InPlaceLemmas
+pub mod SameWords
+pub mod OnceLaws
 pub mod WordLemmas

@@ -1,14 +1,13 @@
-//! How the drivers of gcc, clang and clang-cl split the texts of response files, and which of those that are put in place
-//! they split otherwise than the rules.
+//! How the drivers of gcc, clang and clang-cl split the texts of response files, and which of these they split otherwise than
+//! the rules.
 #![tactic(auto)]
 
 mod gnu_words;
-mod in_place;
+pub mod laws;
 mod otherwise;
 mod splitter;
 mod windows_words;
 mod words;
 
-pub use in_place::texts_in_place;
 pub use otherwise::{is_split_otherwise, splits_otherwise};
 pub use splitter::{Splitter, split};

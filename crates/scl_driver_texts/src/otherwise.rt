@@ -4,10 +4,9 @@ ghost use Rattle.scl_values.specs.Words.{words_of};
 ghost use Rattle.scl_driver_texts.specs.Splitters.{are_same, is_otherwise};
 ghost use Rattle.scl_driver_texts.specs.Otherwise.{is_split_otherwise, splits_otherwise};
 
-use crate::in_place::texts_in_place;
 use crate::splitter::{Splitter, split};
 use scl_files::response_file::arguments;
-use scl_files::{ExpansionKind, Mem, View};
+use scl_files::{ExpansionKind, Mem};
 use std::alloc::Global;
 
 fn are_same(words: &[Vec<u8>], others: &[Vec<u8>]) -> bool
@@ -43,20 +42,17 @@ pub fn is_split_otherwise(
     }
 }
 
-/// Whether the driver splits one of the texts otherwise that the words put in place. The error is a refusal of memory.
+/// Whether the driver splits one of the texts of response files otherwise. The error is a refusal of memory.
 #[tactic(auto, unfolding(crate::specs::Otherwise::splits_otherwise))]
 pub fn splits_otherwise(
     alloc: Global,
     splitter: Splitter,
     kind: ExpansionKind,
-    words: &[Vec<u8>],
-    cwd: &[u8],
-    view: &View,
+    texts: &[Vec<u8>],
 ) -> Mem<bool>
-    ensures { IfOk result (λ it_does. it_does ≡ splits_otherwise splitter kind cwd.now view.now.files (words_of words.now)) }
+    ensures { IfOk result (λ it_does. it_does ≡ splits_otherwise splitter kind (words_of texts.now)) }
 {
-    let texts = texts_in_place(alloc, kind, words, cwd, view)?;
-    for text in &texts {
+    for text in texts {
         if is_split_otherwise(alloc, splitter, kind, text)? {
             return Ok(true);
         }

@@ -1,3 +1,5 @@
 pub mod CaseLemmas
+pub mod DiskLineLaws
 pub mod NulLaws
+pub mod ReadCaseLaws
 pub mod UnreadLaws

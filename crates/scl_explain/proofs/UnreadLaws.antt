@@ -2,7 +2,7 @@
 use Rattle.std.proofs.Common.{Bool}
 use Rattle.scl_files.specs.Views.{Viewed}
 use Rattle.scl_load.specs.Loads.{IsDiskError}
-use Rattle.scl_load.specs.declared.rounds.LoadError.{LoadError}
+use Rattle.scl_load.specs.declared.loader.LoadError.{LoadError}
 use Rattle.scl_explain.specs.Said.{IsFailure, IsNotLoaded, IsUnread}
 use Rattle.scl_explain.specs.declared.case.Case.{Case}
 use Rattle.scl_explain.specs.declared.reply.Reply.{Reply}

@@ -4,7 +4,7 @@ use Rattle.scl_values.specs.Words.{words_of}
 use Rattle.scl_text.specs.Commands.{pairs_of}
 use Rattle.scl_names.specs.Launchers.{assignment_at, program_at}
 use Rattle.scl_names.specs.Names.{compiler_of}
-use Rattle.scl_cl.specs.declared.compiler.Compiler.{Compiler}
+use Rattle.scl_reader.specs.declared.compiler.Compiler.{Compiler}
 use Rattle.scl_explain.specs.declared.case.Case.{Case}
 use Rattle.scl_explain.specs.declared.case.CaseError.{CaseError}
 use Rattle.scl_explain.specs.declared.case.CaseError.TheVariants as errors

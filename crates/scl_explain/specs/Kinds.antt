@@ -2,7 +2,7 @@
 use Rattle.std.specs.Prelude.{List, [], ◌∷◌}
 use Rattle.scl_hazards.specs.declared.hazard.Hazard.{Hazard}
 use Rattle.scl_text.specs.declared.records.Cacheable.TheVariants as cacheable
-use Rattle.scl_cl.specs.Answers.{Answer, compiled, cannot_cache, not_compilation}
+use Rattle.scl_reader.specs.Answers.{Answer, compiled, cannot_cache, not_compilation}
 use Rattle.scl_explain.specs.declared.entry_kind.EntryKind.{EntryKind}
 use Rattle.scl_explain.specs.declared.entry_kind.EntryKind.TheVariants as kinds
 

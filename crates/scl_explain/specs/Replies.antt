@@ -3,7 +3,7 @@ use Rattle.std.specs.Prelude.{◌≡◌, ℕ, Bool, List, [], ◌∷◌, ◌++�
 use Rattle.std.specs.List.{flat_map}
 use Rattle.scl_hazards.specs.declared.hazard.Hazard.{Hazard}
 use Rattle.scl_hazards.specs.Hazards.{told}
-use Rattle.scl_cl.specs.Answers.{Answer, compiled, cannot_cache, not_compilation}
+use Rattle.scl_reader.specs.Answers.{Answer, compiled, cannot_cache, not_compilation}
 use Rattle.scl_explain.specs.CommandTexts.{command_text}
 use Rattle.scl_explain.specs.Nuls.{some_hold_nul}
 use Rattle.scl_explain.specs.declared.words.WordForm.{WordForm}

@@ -1,16 +1,17 @@
 -- What is said of a command line on a disk.
-use Rattle.std.specs.Prelude.{◌≡◌, ℕ, Bool, false, List, [], Option, None, Some, Err}
+use Rattle.std.specs.Prelude.{◌≡◌, ◌||◌, ℕ, Bool, true, false, List, [], Result, Err, if◌then◌else◌}
 use Rattle.scl_values.specs.Words.{words_of}
 use Rattle.scl_files.specs.Views.{Viewed}
+use Rattle.scl_rows.specs.Rows.{Told}
 use Rattle.scl_text.specs.Commands.{pairs_of}
-use Rattle.scl_text.specs.Records.{Parsed}
+use Rattle.scl_text.specs.Records.{Parsed, Verdict, NotCompilation}
 use Rattle.scl_hazards.specs.declared.hazard.Hazard.{Hazard}
-use Rattle.scl_cl.specs.Requests.{Request, asked}
-use Rattle.scl_cl.specs.Answers.{Answer, answer_to, runs_by}
-use Rattle.scl_cl.specs.Hazards.{hazards_by}
-use Rattle.scl_cl.specs.declared.compiler.Compiler.{Compiler}
-use Rattle.scl_load.specs.Loads.{Load, IsDiskError, IsEnd, load_of}
-use Rattle.scl_load.specs.declared.rounds.LoadError.{LoadError}
+use Rattle.scl_reader.specs.CommandLines.{Request, asked}
+use Rattle.scl_reader.specs.Answers.{Answer, answer_to}
+use Rattle.scl_describe.specs.Hazards.{hazards_by}
+use Rattle.scl_load.specs.Loads.{Load, IsDiskError, IsEnd}
+use Rattle.scl_reader.specs.Within.{default_most}
+use Rattle.scl_load.specs.declared.loader.LoadError.{LoadError}
 use Rattle.scl_explain.specs.Endings.{ending_of}
 use Rattle.scl_explain.specs.Replies.{IsChecked, barring, command_written}
 use Rattle.scl_explain.specs.declared.case.Case.{Case}
@@ -23,21 +24,25 @@ use Rattle.scl_explain.specs.declared.status.Ending.TheVariants as ending
 abbrev pub request_of : Case → Viewed → Request
 request_of case view = asked case.compiler (words_of case.words.items) case.cwd.items (pairs_of case.env_vars.items) view
 
--- the words of the preprocessor's runs for what was read, if a record was: for no distant compiler, with macros replaced, and for
--- no cache of such runs
-abbrev pub runs_for : Compiler → Option Parsed → List (List (List ℕ))
-runs_for compiler None = []
-runs_for compiler (Some parsed) = runs_by compiler false false false parsed
+-- whether nothing is compiled, as a command line says
+abbrev pub compiles_nothing : Result Parsed Verdict → Bool
+compiles_nothing (Err NotCompilation) = true
+compiles_nothing _ = false
+
+-- rows of options are given where they are wanted, or nothing is compiled
+abbrev pub rows_given : Bool → Result Parsed Verdict → List Told → List Told
+rows_given wanted said rows = if wanted || compiles_nothing said then rows else []
 
 -- in a view the answer is that on each disk of which this holds, and this is said of it and of the hazards there
 pub record IsSaid (holds : Viewed → Type 0) (multiarch : Bool) (case : Case) (says : Answer → List Hazard → Type 0) : Type 0 where
   pub loaded : Viewed
   pub same_answer : (held : Viewed) → holds held → held.is_multiarch ≡ multiarch → answer_to (request_of case held) ≡ answer_to (request_of case loaded)
-  pub said : says (answer_to (request_of case loaded)) (hazards_by case.compiler (request_of case loaded))
+  pub said : says (answer_to (request_of case loaded)) (hazards_by (request_of case loaded))
 
--- what is loaded for a command line: it may have 2^20 words with its response files in place, and 2^12 files may name each the next
+-- what is loaded for a command line: it may have so many words, with its response files in place, and open files so often as where nothing else is said, and fewer than 2^12 files
+-- may name each the next
 abbrev pub load_for : Case → Bool → Load
-load_for case multiarch = load_of case.compiler (words_of case.words.items) case.cwd.items (pairs_of case.env_vars.items) multiarch 1048576 4096
+load_for case multiarch = record { asks = request_of case; is_multiarch = multiarch; most_words = default_most; most_rounds = 4096 }
 
 -- a load for a command line ends by this error, on each disk of which this holds
 abbrev pub IsNotLoaded : {E : Type 0} → (Viewed → Type 0) → Bool → Case → LoadError E → Type 0

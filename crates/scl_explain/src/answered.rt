@@ -1,25 +1,31 @@
 //! What a command line is answered, with what its answer asks of a disk.
-ghost use Rattle.std.specs.Prelude.{◌≡◌, IfOk, IfErr};
-ghost use Rattle.std.specs.Result.{result_ok};
+ghost use Rattle.std.specs.Prelude.{◌≡◌, ◌||◌, IfOk, IfErr, None, false, map};
 ghost use Rattle.scl_files.specs.Views.{Viewed};
+ghost use Rattle.scl_text.specs.Commands.{pairs_of};
+ghost use Rattle.scl_text.specs.Records.{outcome_of};
 ghost use Rattle.scl_text.specs.Runs.{runs_of};
-ghost use Rattle.scl_cl.specs.Answers.{answer_to, reading_by};
-ghost use Rattle.scl_cl.specs.AnswersGiven.{answer_of, record_given};
-ghost use Rattle.scl_cl.specs.Hazards.{hazards_by};
-ghost use Rattle.scl_explain.specs.Said.{IsNotLoaded, request_of, runs_for};
+ghost use Rattle.scl_reader.specs.Answers.{answer_to, reading_by};
+ghost use Rattle.scl_reader.specs.AnswersGiven.{answer_of};
+ghost use Rattle.scl_reader.specs.CommandLines.{given_by, given_in};
+ghost use Rattle.scl_reader.specs.Reads.{outcome_in, read_of, runs_for, runs_in};
+ghost use Rattle.scl_describe.specs.Hazards.{hazards_by, hazards_in};
+ghost use Rattle.scl_describe.specs.OptionRows.{rows_by, rows_in};
+ghost use Rattle.scl_rows.specs.Rows.{told};
+ghost use Rattle.scl_explain.specs.Said.{IsNotLoaded, compiles_nothing, request_of, rows_given};
 ghost use Rattle.scl_load.specs.Loads.{IsDiskError};
 
 use crate::case::Case;
 use crate::logged::Logged;
-use scl_cl::{Compilation, CompilerArguments, Mem, View};
+use scl_describe::{hazards_of, rows_of};
 use scl_hazards::Hazard;
-use scl_load::{Disk, LoadError, load};
+use scl_load::{Disk, DiskLine, LoadError, Loaded, load};
+use scl_reader::{
+    CommandLine, Compilation, CompilerArguments, MOST, Mem, ParsedArguments, Reading, View,
+};
+use scl_rows::Row;
 use std::alloc::Global;
 
-/// The most words that a command line may have, with its response files put in place.
-const MOST_WORDS: usize = 1 << 20;
-
-/// The most response files that may each name the next.
+/// How many response files may not name each the next.
 const MOST_ROUNDS: u32 = 1 << 12;
 
 /// What a command line is answered.
@@ -35,75 +41,168 @@ pub struct Answered {
     pub missing_files: Vec<Vec<u8>>,
     /// The hazards of the built command; none where there is none.
     pub hazards: Vec<Hazard>,
+    /// What became of each option; nothing where that is not wanted and something is compiled.
+    pub rows: Vec<Row>,
     /// What the disk has of what is asked.
     pub view: View,
 }
 
-/// The words of the preprocessor's runs for an answer.
-fn runs_for(
+/// Whether rows of options are given: where they are wanted, or nothing is compiled.
+fn gives_rows(wants_rows: bool, outcome: &CompilerArguments<ParsedArguments>) -> bool
+    ensures { result ≡ (wants_rows || compiles_nothing (outcome_of outcome.now)) }
+{
+    wants_rows || matches!(outcome, CompilerArguments::NotCompilation)
+}
+
+/// What became of each option, where that is wanted or nothing is compiled; else nothing.
+fn rows_for(alloc: Global, reading: &Reading, wants_rows: bool) -> Mem<Vec<Row>>
+    ensures { IfOk result (λ rows. map told rows.items ≡ rows_given wants_rows (outcome_in reading.now) (rows_in reading.now)) }
+{
+    if gives_rows(wants_rows, reading.outcome()) {
+        rows_of(alloc, reading)
+    } else {
+        Ok(Vec::new(alloc))
+    }
+}
+
+/// What is found of a reading, beside its answer.
+#[derive(Drop)]
+struct Found {
+    runs: Vec<Vec<Vec<u8>>>,
+    hazards: Vec<Hazard>,
+    rows: Vec<Row>,
+}
+
+/// What is found of a command line that was read in an environment.
+fn found_in(
+    alloc: Global,
+    reading: &Reading,
+    environment: &[(Vec<u8>, Vec<u8>)],
+    wants_rows: bool,
+) -> Mem<Found>
+    ensures runs { IfOk result (λ found. runs_of found.runs.items ≡ runs_in None false false false reading.now) }
+    ensures hazards { IfOk result (λ found. found.hazards.items ≡ hazards_in (pairs_of environment.now) reading.now) }
+    ensures rows { IfOk result (λ found. map told found.rows.items ≡ rows_given wants_rows (outcome_in reading.now) (rows_in reading.now)) }
+{
+    let rows = rows_for(alloc, reading, wants_rows)?;
+    let hazards = hazards_of(alloc, reading, environment)?;
+    let runs = reading.runs(alloc, None, false, false, false)?;
+    Ok(Found {
+        runs,
+        hazards,
+        rows,
+    })
+}
+
+/// The command line of a case in a view.
+fn line_in<'a>(case: &'a Case, view: &'a View) -> CommandLine<'a>
+    ensures { given_by result ≡ given_in (request_of case.now view.now) }
+{
+    CommandLine {
+        words: &case.words,
+        directory: &case.cwd,
+        environment: &case.env_vars,
+        view,
+    }
+}
+
+/// The answer of a reading, with what is found of it.
+#[tactic(auto, using(crate::proofs::ReadCaseLaws::read_rules))]
+fn answer_read(
     alloc: Global,
     case: &Case,
-    answer: &CompilerArguments<Compilation>,
-) -> Mem<Vec<Vec<Vec<u8>>>>
-    ensures { IfOk result (λ runs. runs_of runs.items ≡ runs_for case.now.compiler (record_given answer.now)) }
+    view: &View,
+    reading: Reading,
+    wants_rows: bool,
+) -> Mem<(CompilerArguments<Compilation>, Found)>
+    requires { reading ≡ read_of (request_of case.now view.now) }
+    ensures answer { IfOk result (λ both. answer_to (request_of case.now view.now) ≡ answer_of both.0) }
+    ensures runs { IfOk result (λ both. runs_of both.1.runs.items ≡ runs_for None case.now.compiler false false false (reading_by case.now.compiler (request_of case.now view.now))) }
+    ensures hazards { IfOk result (λ both. both.1.hazards.items ≡ hazards_by (request_of case.now view.now)) }
+    ensures rows { IfOk result (λ both. let request = request_of case.now view.now in
+        map told both.1.rows.items ≡ rows_given wants_rows (reading_by case.now.compiler request) (rows_by request)) }
 {
-    match answer {
-        CompilerArguments::Ok(compilation) => {
-            let parsed = &compilation.parsed;
-            case.compiler
-                .preprocess_runs(alloc, parsed, false, false, false)
-        }
-        CompilerArguments::CannotCache(_, _) | CompilerArguments::NotCompilation => {
-            Ok(Vec::new(alloc))
+    let line = line_in(case, view);
+    match found_in(alloc, &reading, line.environment, wants_rows) {
+        Ok(found) => Ok((reading.into_answer(alloc, &case.program, &line)?, found)),
+        Err(refused) => {
+            drop(reading);
+            Err(refused)
         }
     }
 }
 
+/// What is loaded for the command line of a case, with its reading.
+fn load_case<D: Disk>(
+    alloc: Global,
+    disk: &D,
+    case: &Case,
+    multiarch: bool,
+) -> Mem<Result<Loaded, LoadError<D::Error>>>
+    ensures answer { IfOk result (λ said. IfOk said (λ loaded. (held : Viewed) → D.holds disk.now held → held.is_multiarch ≡ multiarch
+        → answer_to (request_of case.now held) ≡ answer_to (request_of case.now loaded.view))) }
+    ensures decided { IfOk result (λ said. IfOk said (λ loaded. (held : Viewed) → D.holds disk.now held → held.is_multiarch ≡ multiarch
+        → reading_by case.now.compiler (request_of case.now held) ≡ outcome_in loaded.reading)) }
+    ensures reading { IfOk result (λ said. IfOk said (λ loaded. loaded.reading ≡ read_of (request_of case.now loaded.view))) }
+    ensures end { IfOk result (λ said. IfErr said (IsNotLoaded (D.holds disk.now) multiarch case.now)) }
+    ensures error { IfOk result (λ said. IfErr said (λ error. IsDiskError (D.fails disk.now) error)) }
+{
+    let line = DiskLine {
+        compiler: case.compiler,
+        words: &case.words,
+        directory: &case.cwd,
+        environment: &case.env_vars,
+        multiarch,
+    };
+    match load(alloc, disk, &line, MOST, MOST_ROUNDS)? {
+        Ok(loaded) => Ok(Ok(loaded)),
+        Err(error) => Ok(Err(error)),
+    }
+}
+
 /// The answer to a command line on a disk, which is asked for response files, directories and other paths; `multiarch` says
-/// whether several architectures are allowed. A read that fails is `Disk` with its error; `TooManyWords` and `TooManyRounds`
-/// where response files give more than 2^20 words, or more than 2^12 name each the next. The outer error is the refusal of
-/// memory.
+/// whether several architectures are allowed. Rows of options are given where `wants_rows` says so, and where nothing is
+/// compiled. A read that fails is `Disk` with its error; `TooManyWords` and `TooManyRounds` where response files give more
+/// than 1,000,000 words or are opened more often, or where 2^12 name each the next. The outer error is the refusal of memory.
+#[tactic(auto, using(crate::proofs::ReadCaseLaws::outcome_read))]
 pub fn answer_case<D: Disk>(
     alloc: Global,
     disk: &D,
     case: &Case,
     multiarch: bool,
+    wants_rows: bool,
 ) -> Mem<Result<Answered, LoadError<D::Error>>>
     ensures answer { IfOk result (λ said. IfOk said (λ answered. (held : Viewed) → D.holds disk.now held → held.is_multiarch ≡ multiarch
         → answer_to (request_of case.now held) ≡ answer_of answered.answer)) }
     ensures loaded { IfOk result (λ said. IfOk said (λ answered. answer_to (request_of case.now answered.view) ≡ answer_of answered.answer)) }
-    ensures runs { IfOk result (λ said. IfOk said (λ answered. runs_of answered.runs.items ≡ runs_for case.now.compiler (result_ok (reading_by case.now.compiler (request_of case.now answered.view))))) }
-    ensures hazards { IfOk result (λ said. IfOk said (λ answered. answered.hazards.items ≡ hazards_by case.now.compiler (request_of case.now answered.view))) }
+    ensures decided { IfOk result (λ said. IfOk said (λ answered. (held : Viewed) → D.holds disk.now held → held.is_multiarch ≡ multiarch
+        → reading_by case.now.compiler (request_of case.now held) ≡ reading_by case.now.compiler (request_of case.now answered.view))) }
+    ensures runs { IfOk result (λ said. IfOk said (λ answered. runs_of answered.runs.items ≡ runs_for None case.now.compiler false false false (reading_by case.now.compiler (request_of case.now answered.view)))) }
+    ensures hazards { IfOk result (λ said. IfOk said (λ answered. answered.hazards.items ≡ hazards_by (request_of case.now answered.view))) }
+    ensures rows { IfOk result (λ said. IfOk said (λ answered. let request = request_of case.now answered.view in
+        map told answered.rows.items ≡ rows_given wants_rows (reading_by case.now.compiler request) (rows_by request))) }
     ensures end { IfOk result (λ said. IfErr said (IsNotLoaded (D.holds disk.now) multiarch case.now)) }
     ensures error { IfOk result (λ said. IfErr said (λ error. IsDiskError (D.fails disk.now) error)) }
 {
     let logged = Logged::new(alloc, disk);
-    let (words, cwd, env_vars) = (&case.words, &case.cwd, &case.env_vars);
-    let view = match load(
-        alloc,
-        &logged,
-        case.compiler,
-        words,
-        cwd,
-        env_vars,
-        multiarch,
-        MOST_WORDS,
-        MOST_ROUNDS,
-    )? {
-        Ok(view) => view,
+    let Loaded { view, reading } = match load_case(alloc, &logged, case, multiarch)? {
+        Ok(loaded) => loaded,
         Err(error) => return Ok(Err(error)),
     };
     let log = logged.into_log();
-    let compiler = case.compiler;
-    let answer = compiler.answer(alloc, &case.program, words, cwd, env_vars, &view)?;
-    let runs = runs_for(alloc, case, &answer)?;
-    let hazards = compiler.hazards_of(alloc, &answer, words, cwd, env_vars, &view)?;
+    let (answer, found) = answer_read(alloc, case, &view, reading, wants_rows)?;
+    let Found {
+        runs,
+        hazards,
+        rows,
+    } = found;
     Ok(Ok(Answered {
         answer,
         runs,
         response_files: log.found,
         missing_files: log.missing,
         hazards,
+        rows,
         view,
     }))
 }

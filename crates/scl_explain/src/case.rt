@@ -4,8 +4,8 @@ ghost use Rattle.scl_values.specs.Words.{words_of};
 ghost use Rattle.scl_text.specs.Commands.{pairs_of};
 ghost use Rattle.scl_explain.specs.Cases.{IsCase, IsDivided, IsNoCase, assigned, assigned_by, compiler_for};
 
-use scl_cl::{Compiler, Mem};
 use scl_names::{assignment_at, compiler_of, program_at};
+use scl_reader::{Compiler, Mem};
 use scl_shell::{beginning, shown_command};
 use std::alloc::Global;
 use thiserror::Error;

@@ -1,6 +1,6 @@
 //! The hazards of a command line, alone.
 ghost use Rattle.std.specs.Prelude.{◌⊎◌, IfOk};
-ghost use Rattle.scl_cl.specs.AnswersGiven.{answer_of};
+ghost use Rattle.scl_reader.specs.AnswersGiven.{answer_of};
 ghost use Rattle.scl_explain.specs.Replies.{IsChecked};
 ghost use Rattle.scl_explain.specs.Said.{IsCheckedReply, IsSaid, IsUnread};
 
@@ -11,8 +11,8 @@ use crate::refusal::ending_line;
 use crate::reply::{Form, Reply, unread};
 use crate::report::Report;
 use crate::status::Ending;
-use scl_cl::Mem;
 use scl_load::Disk;
+use scl_reader::Mem;
 use std::alloc::Global;
 use std::fmt::Display;
 
@@ -78,7 +78,7 @@ where
     D::Error: Display,
     ensures { IfOk result (λ reply. IsUnread (D.holds disk.now) (D.fails disk.now) multiarch case.now reply ⊎ IsSaid (D.holds disk.now) multiarch case.now (IsCheckedReply form case.now reply)) }
 {
-    match answer_case(alloc, disk, case, multiarch)? {
+    match answer_case(alloc, disk, case, multiarch, false)? {
         Ok(answered) => check_reply(alloc, case, &answered, form, report),
         Err(error) => unread(alloc, &error),
     }

@@ -1,6 +1,6 @@
 //! The command to run in the place of a command line.
 ghost use Rattle.std.specs.Prelude.{◌≡◌, ◌⊎◌, IfOk};
-ghost use Rattle.scl_cl.specs.AnswersGiven.{answer_of};
+ghost use Rattle.scl_reader.specs.AnswersGiven.{answer_of};
 ghost use Rattle.scl_explain.specs.Replies.{barring, command_written};
 ghost use Rattle.scl_explain.specs.Said.{IsCommanded, IsSaid, IsUnread};
 
@@ -13,9 +13,9 @@ use crate::reply::{Reply, unread};
 use crate::report::Report;
 use crate::status::Ending;
 use crate::words::{WordForm, command_text};
-use scl_cl::{Compilation, CompilerArguments, Mem};
 use scl_hazards::Hazard;
 use scl_load::Disk;
+use scl_reader::{Compilation, CompilerArguments, Mem};
 use std::alloc::Global;
 use std::fmt::Display;
 
@@ -112,7 +112,7 @@ where
     D::Error: Display,
     ensures { IfOk result (λ reply. IsUnread (D.holds disk.now) (D.fails disk.now) multiarch case.now reply ⊎ IsSaid (D.holds disk.now) multiarch case.now (IsCommanded form case.now reply)) }
 {
-    match answer_case(alloc, disk, case, multiarch)? {
+    match answer_case(alloc, disk, case, multiarch, false)? {
         Ok(answered) => command_reply(alloc, case, &answered, form, report),
         Err(error) => unread(alloc, &error),
     }

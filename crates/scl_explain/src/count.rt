@@ -1,12 +1,14 @@
 //! What is counted over a database.
 ghost use Rattle.std.specs.Prelude.{◌≡◌, IfOk};
-ghost use Rattle.scl_cl.specs.AnswersGiven.{answer_of};
+ghost use Rattle.scl_reader.specs.AnswersGiven.{answer_of};
 ghost use Rattle.scl_explain.specs.Kinds.{kind_of};
 
 use crate::answered::Answered;
 use crate::entry_kind::EntryKind;
-use scl_cl::{Cacheable, Compilation, CompilerArguments, Mem, path};
 use scl_hazards::Hazard;
+use scl_reader::{Compilation, CompilerArguments, Mem};
+use scl_text::path;
+use scl_text::records::Cacheable;
 use std::alloc::Global;
 use std::collections::BTreeMap;
 

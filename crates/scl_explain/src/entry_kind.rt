@@ -1,10 +1,11 @@
 //! What an entry of a compile database is.
 ghost use Rattle.std.specs.Prelude.{◌≡◌};
-ghost use Rattle.scl_cl.specs.AnswersGiven.{answer_of};
+ghost use Rattle.scl_reader.specs.AnswersGiven.{answer_of};
 ghost use Rattle.scl_explain.specs.Kinds.{kind_of};
 
-use scl_cl::{Cacheable, Compilation, CompilerArguments};
 use scl_hazards::Hazard as Named;
+use scl_reader::{Compilation, CompilerArguments};
+use scl_text::records::Cacheable;
 
 /// What an entry is.
 #[derive(Clone, Copy, PartialEq, Eq)]

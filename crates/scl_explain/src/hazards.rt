@@ -2,8 +2,8 @@
 ghost use Rattle.std.specs.Prelude.{◌≡◌, ◌++◌, OnOk, IfOk};
 ghost use Rattle.scl_explain.specs.Replies.{hazard_line, hazards_text};
 
-use scl_cl::Mem;
 use scl_hazards::Hazard;
+use scl_reader::Mem;
 use std::alloc::Global;
 
 /// Puts the names of hazards behind a text. It fails only for want of memory.

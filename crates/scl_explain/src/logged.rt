@@ -1,16 +1,41 @@
 //! A disk that notes which files were looked for.
 ghost use Rattle.std.specs.Prelude.{◌≡◌};
 
-use scl_cl::Mem;
 use scl_load::Disk;
+use scl_reader::Mem;
 use std::alloc::Global;
 use std::cell::Cell;
+use std::collections::BTreeSet;
+
+/// Paths, each once, in the order in which they were noted.
+#[derive(Drop)]
+struct Noted {
+    paths: Vec<Vec<u8>>,
+    known: BTreeSet<Vec<u8>>,
+}
+
+impl Noted {
+    fn new(alloc: Global) -> Noted {
+        Noted {
+            paths: Vec::new(alloc),
+            known: BTreeSet::new(alloc),
+        }
+    }
+
+    /// With one more, if it was not noted.
+    fn with(mut self, alloc: Global, path: &[u8]) -> Mem<Noted> {
+        if self.known.insert(Vec::from_slice(alloc, path)?)? {
+            self.paths.push(Vec::from_slice(alloc, path)?)?;
+        }
+        Ok(self)
+    }
+}
 
 /// A disk that notes which files were looked for.
 pub(crate) struct Logged<'a, D> {
     disk: &'a D,
-    found: Cell<Vec<Vec<u8>>>,
-    missing: Cell<Vec<Vec<u8>>>,
+    found: Cell<Noted>,
+    missing: Cell<Noted>,
 }
 
 /// The files that were looked for, each once.
@@ -20,16 +45,9 @@ pub(crate) struct Log {
     pub(crate) missing: Vec<Vec<u8>>,
 }
 
-fn pushed(alloc: Global, mut paths: Vec<Vec<u8>>, path: &[u8]) -> Mem<Vec<Vec<u8>>> {
-    if !paths.iter().any(|known| known.as_slice() == path) {
-        paths.push(Vec::from_slice(alloc, path)?)?;
-    }
-    Ok(paths)
-}
-
-fn note(alloc: Global, list: &Cell<Vec<Vec<u8>>>, path: &[u8]) -> Mem<()> {
-    let paths = list.replace(Vec::new(alloc));
-    list.set(pushed(alloc, paths, path)?);
+fn note(alloc: Global, list: &Cell<Noted>, path: &[u8]) -> Mem<()> {
+    let noted = list.replace(Noted::new(alloc));
+    list.set(noted.with(alloc, path)?);
     Ok(())
 }
 
@@ -49,8 +67,8 @@ impl<'a, D> Logged<'a, D> {
     {
         Logged {
             disk,
-            found: Cell::new(Vec::new(alloc)),
-            missing: Cell::new(Vec::new(alloc)),
+            found: Cell::new(Noted::new(alloc)),
+            missing: Cell::new(Noted::new(alloc)),
         }
     }
 
@@ -61,8 +79,8 @@ impl<'a, D> Logged<'a, D> {
             missing,
         } = self;
         Log {
-            found: found.into_inner(),
-            missing: missing.into_inner(),
+            found: found.into_inner().paths,
+            missing: missing.into_inner().paths,
         }
     }
 }

@@ -4,7 +4,7 @@ ghost use Rattle.std.specs.Option.{is_some};
 ghost use Rattle.scl_values.specs.Words.{words_of};
 ghost use Rattle.scl_explain.specs.Nuls.{holds_nul, some_hold_nul};
 
-use scl_cl::Mem;
+use scl_reader::Mem;
 use scl_shell::shown_briefly;
 use std::alloc::Global;
 

@@ -3,10 +3,11 @@ use crate::answered::Answered;
 use crate::case::Case;
 use crate::nuls::unrunnable_text;
 use crate::report::Report;
-use scl_cl::{Cacheable, Compilation, CompilerArguments, Mem};
+use scl_reader::{Compilation, CompilerArguments, Mem};
 use scl_reasons::sentence;
 use scl_shell::shown_briefly;
 use scl_text::reasons::UNEXPANDED_FILE;
+use scl_text::records::Cacheable;
 use std::alloc::Global;
 
 /// Says of the first path that no file is there, and how many others there are.

@@ -7,8 +7,8 @@ use crate::answered::{Answered, answer_case};
 use crate::case::Case;
 use crate::report::Report;
 use crate::status::Ending;
-use scl_cl::Mem;
 use scl_load::{Disk, LoadError};
+use scl_reader::Mem;
 use std::alloc::Global;
 use std::fmt::Display;
 
@@ -81,7 +81,7 @@ where
     D::Error: Display,
     ensures { IfOk result (λ reply. IsUnread (D.holds disk.now) (D.fails disk.now) multiarch case.now reply ⊎ (reply.ending ≡ ending.Answered)) }
 {
-    match answer_case(alloc, disk, case, multiarch)? {
+    match answer_case(alloc, disk, case, multiarch, true)? {
         Ok(answered) => Ok(Reply {
             output: report
                 .explanation(alloc, case, &answered, form)?

@@ -2,7 +2,7 @@
 use crate::answered::Answered;
 use crate::case::Case;
 use crate::reply::Form;
-use scl_cl::Mem;
+use scl_reader::Mem;
 use std::alloc::Global;
 
 /// What writes answers. Each call fails only for want of memory.

@@ -1,11 +1,12 @@
 //! How the program ends.
 ghost use Rattle.std.specs.Prelude.{◌≡◌, false, []};
-ghost use Rattle.scl_cl.specs.AnswersGiven.{answer_of};
+ghost use Rattle.scl_reader.specs.AnswersGiven.{answer_of};
 ghost use Rattle.scl_explain.specs.Endings.{ending_of, ending_of_command, status_of};
 
 use crate::nuls::some_hold_nul;
-use scl_cl::{Cacheable, Compilation, CompilerArguments};
 use scl_hazards::Hazard;
+use scl_reader::{Compilation, CompilerArguments};
+use scl_text::records::Cacheable;
 
 /// How the program ends.
 #[derive(Debug, Clone, Copy, PartialEq, Eq)]

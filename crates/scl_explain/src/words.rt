@@ -6,7 +6,7 @@ ghost use Rattle.scl_shell.specs.Quoted.{quoted_text};
 ghost use Rattle.scl_shell.specs.Shown.{shown_text};
 ghost use Rattle.scl_explain.specs.CommandTexts.{ended_by_nul, command_text};
 
-use scl_cl::Mem;
+use scl_reader::Mem;
 use scl_shell::{quoted_command, shown_command};
 use std::alloc::Global;
 

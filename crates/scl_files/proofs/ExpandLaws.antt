@@ -45,11 +45,11 @@ hides-same kinds.Diab path = same_path-same path
 pub open_is_absent : OpenFilesAreAbsentInside
 open_is_absent kind path files = rw (bytes_at-inside kind path path files, hides-same kind path) refl
 
-unnamed : (kind : ExpansionKind) (directory word : List ℕ) → is_some (file_name_in kind word) ≡ false → named kind directory word ≡ None
+pub unnamed : (kind : ExpansionKind) (directory word : List ℕ) → is_some (file_name_in kind word) ≡ false → named kind directory word ≡ None
 unfolding named
 unnamed kind directory word h = elim (file_name_in kind word) as (λ o. is_some o ≡ false → option_map (join directory) o ≡ None) [ None ↦ λ _. refl | Some name ↦ λ e. absurd (false≢true (sym e)) ] h
 
-neither : (a b : Bool) → (a || b) ≡ false → (a ≡ false) × (b ≡ false)
+pub neither : (a b : Bool) → (a || b) ≡ false → (a ≡ false) × (b ≡ false)
 neither true b h = absurd (false≢true (sym h))
 neither false b h = (refl, h)
 

@@ -7,6 +7,7 @@ use Rattle.scl_files.specs.Views.{File}
 use Rattle.scl_values.specs.Words.{words_of}
 use Rattle.scl_files.specs.ResponseFiles.{hides, files_inside}
 use Rattle.scl_files.specs.Expand.{OpenFile, opened, in_place, expand}
+use Rattle.scl_files.specs.Openings.{opening, openings}
 use Rattle.scl_files.specs.declared.expand.ExpansionKind.{ExpansionKind}
 use Rattle.scl_files.specs.declared.expansion.WordsLeft.{WordsLeft}
 use Rattle.scl_files.specs.declared.expansion.Expansion.{Expansion}
@@ -42,6 +43,14 @@ left_open kind directory files (open_file ∷ open_files) = expand kind director
 abbrev pub left : ExpansionKind → List ℕ → List File → List OpenFile → List (List ℕ) → List (List ℕ)
 left kind directory files open_files words = left_open kind directory files open_files ++ expand kind directory files words
 
+-- the paths of the files that are still opened while these are open
+abbrev pub openings_open : ExpansionKind → List ℕ → List File → List OpenFile → List (List ℕ)
+openings_open kind directory files [] = []
+openings_open kind directory files (open_file ∷ open_files) = openings kind directory (closed kind files (open_file ∷ open_files)) open_file.words ++ openings_open kind directory files open_files
+
+abbrev pub openings_left : ExpansionKind → List ℕ → List File → List OpenFile → List (List ℕ) → List (List ℕ)
+openings_left kind directory files open_files words = openings_open kind directory files open_files ++ openings kind directory files words
+
 -- the sum of a number for each word
 abbrev pub total : (List ℕ → ℕ) → List (List ℕ) → ℕ
 total f [] = 0
@@ -73,6 +82,9 @@ open_files_of e = open_files (words_left e.inner) e.open_files
 abbrev pub left_of : Expansion → List (List ℕ)
 left_of e = left e.kind e.directory.now e.view.now.files (open_files_of e) (words_of e.words.now)
 
+abbrev pub openings_of : Expansion → List (List ℕ)
+openings_of e = openings_left e.kind e.directory.now e.view.now.files (open_files_of e) (words_of e.words.now)
+
 abbrev pub steps_of : Expansion → ℕ
 steps_of e = steps_left e.kind e.directory.now e.view.now.files (open_files_of e) (words_of e.words.now)
 
@@ -83,14 +95,18 @@ closed_of e = closed e.kind e.view.now.files (open_files_of e)
 abbrev pub left_before : Expansion → List ℕ → List (List ℕ)
 left_before e word = in_place word (λ file. expand e.kind e.directory.now (files_inside e.kind file.path (closed_of e)) file.words) (opened e.kind e.directory.now (closed_of e) word) ++ left_of e
 
+abbrev pub openings_before : Expansion → List ℕ → List (List ℕ)
+openings_before e word = opening (λ file. openings e.kind e.directory.now (files_inside e.kind file.path (closed_of e)) file.words) (opened e.kind e.directory.now (closed_of e) word) ++ openings_of e
+
 abbrev pub steps_before : Expansion → List ℕ → ℕ
 steps_before e word = cost (λ file. steps e.kind e.directory.now (files_inside e.kind file.path (closed_of e)) file.words) (opened e.kind e.directory.now (closed_of e) word) + steps_of e
 
--- a step gave the first of these words, or came nearer to it, or met their end
-abbrev pub StepsFrom : List (List ℕ) → ℕ → Step → Expansion → Type 0
-StepsFrom words n (step.Word w) t = (words ≡ w.items ∷ left_of t) × (steps_of t < n)
-StepsFrom words n step.Again t = (words ≡ left_of t) × (steps_of t < n)
-StepsFrom words n step.End t = words ≡ []
+-- a step gave the first of these words, or opened the first of these files, or came nearer to either, or met their end
+abbrev pub StepsFrom : List (List ℕ) → List (List ℕ) → ℕ → Step → Expansion → Type 0
+StepsFrom words paths n (step.Word w) t = (words ≡ w.items ∷ left_of t) × (paths ≡ openings_of t) × (steps_of t < n)
+StepsFrom words paths n (step.Opened path) t = (words ≡ left_of t) × (paths ≡ path.items ∷ openings_of t) × (steps_of t < n)
+StepsFrom words paths n step.Closed t = (words ≡ left_of t) × (paths ≡ openings_of t) × (steps_of t < n)
+StepsFrom words paths n step.End t = (words ≡ []) × (paths ≡ [])
 
 abbrev pub Steps : Expansion → Step → Expansion → Type 0
-Steps s r t = StepsFrom (left_of s) (steps_of s) r t
+Steps s r t = StepsFrom (left_of s) (openings_of s) (steps_of s) r t

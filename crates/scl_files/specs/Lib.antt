@@ -3,11 +3,14 @@ pub mod Characters
 pub mod Decoding
 pub mod DiabText
 pub mod Expand
+pub mod Expanded
 pub mod ExpansionLaws
 pub mod GnuText
 pub mod MsvcText
+pub mod Openings
 pub mod Paths
 pub mod ResponseFiles
+pub mod Sources
 pub mod Views
 pub mod Wanted
 pub mod Within
@@ -19,3 +22,4 @@ pub mod MsvcReader
 pub mod PathEntries
 pub mod PathMaps
 pub mod PathTrees
+pub mod Walks

@@ -1,5 +1,5 @@
 //! Words in which response files are put in place.
-ghost use Rattle.std.specs.Prelude.{◌≡◌, ◌<◌, ◌≤◌, length, is_some, IfOk, MatchResult};
+ghost use Rattle.std.specs.Prelude.{◌≡◌, is_some, IfOk};
 ghost use Rattle.std.specs.List.{list_any};
 ghost use Rattle.scl_files.specs.ResponseFiles.{file_name_in};
 ghost use Rattle.scl_values.specs.Words.{words_of};
@@ -49,7 +49,7 @@ fn names_file(kind: ExpansionKind, word: &[u8]) -> bool
 }
 
 /// Whether any of the words names a file.
-fn name_files(kind: ExpansionKind, words: &[Vec<u8>]) -> bool
+pub(crate) fn name_files(kind: ExpansionKind, words: &[Vec<u8>]) -> bool
     ensures { result ≡ list_any (λ word. is_some (file_name_in kind word)) (words_of words.now) }
 {
     for word in words {
@@ -80,27 +80,3 @@ pub fn expand_words(
 /// That an expansion gives more words than were asked for.
 #[derive(Debug, Clone, Copy, PartialEq, Eq)]
 pub struct TooManyWords;
-
-/// The words that `expand_all` gives, where they are `most` or fewer; else `TooManyWords`, as soon as one more came
-/// (docs/RULES.md, Expansion). The outer error is the refusal of memory.
-pub fn expand_at_most(
-    alloc: Global,
-    kind: ExpansionKind,
-    cwd: &[u8],
-    words: &[Vec<u8>],
-    view: &View,
-    most: usize,
-) -> Mem<Result<Vec<Vec<u8>>, TooManyWords>>
-    ensures { IfOk result (λ expanded. let all = expand kind cwd.now view.now.files (words_of words.now) in
-        MatchResult expanded (λ v. (words_of v.items ≡ all) × (length all ≤ most)) (λ _. most < length all)) }
-{
-    let mut all = Vec::new(alloc);
-    for word in Expand::new(alloc, kind, cwd, words, view) {
-        let word = word?;
-        if all.len() == most {
-            return Ok(Err(TooManyWords));
-        }
-        all.push(word)?;
-    }
-    Ok(Ok(all))
-}

@@ -59,7 +59,7 @@ impl Iterator for Expand<'_> {
         loop {
             match self.expansion.step() {
                 Ok(Step::Word(word)) => return Some(Ok(word)),
-                Ok(Step::Again) => {}
+                Ok(Step::Opened(_) | Step::Closed) => {}
                 Ok(Step::End) => {
                     self.ended = true;
                     return None;

@@ -42,16 +42,23 @@ pub(crate) struct Expansion<'a> {
     open_files: PathMap<WordsLeft>,
 }
 
+/// What a step came to.
 #[derive(Drop)]
 pub(crate) enum Step {
+    /// The next word.
     Word(Vec<u8>),
-    Again,
+    /// The next file that is opened, by its path.
+    Opened(Vec<u8>),
+    /// The file opened last was closed.
+    Closed,
+    /// No word is left.
     End,
 }
 
 impl<'a> Expansion<'a> {
-    ghost use Rattle.scl_files.specs.ExpansionState.{is_shut, opens, open_files_of, closed_of, left_of, left_before, steps_before, StepsFrom, Steps};
+    ghost use Rattle.scl_files.specs.ExpansionState.{is_shut, opens, open_files_of, closed_of, left_of, left_before, openings_of, openings_before, steps_before, StepsFrom, Steps};
     ghost use Rattle.scl_files.specs.Expand.{opened, expand};
+    ghost use Rattle.scl_files.specs.Openings.{openings};
     ghost use Rattle.scl_values.specs.Words.{words_of};
 
     pub(crate) fn new(
@@ -61,7 +68,8 @@ impl<'a> Expansion<'a> {
         words: &'a [Vec<u8>],
         view: &'a View,
     ) -> Expansion<'a>
-        ensures { left_of result ≡ expand kind directory.now view.now.files (words_of words.now) }
+        ensures words { left_of result ≡ expand kind directory.now view.now.files (words_of words.now) }
+        ensures openings { openings_of result ≡ openings kind directory.now view.now.files (words_of words.now) }
     {
         Expansion {
             alloc,
@@ -109,14 +117,15 @@ impl<'a> Expansion<'a> {
 
     /// Gives a word, or opens the file that it names.
     fn give(&mut self, word: Vec<u8>) -> Mem<Step>
-        ensures { IfOk result (λ step. StepsFrom (left_before self.old word.items) (steps_before self.old word.items) step self.new) }
+        ensures { IfOk result (λ step. StepsFrom (left_before self.old word.items) (openings_before self.old word.items) (steps_before self.old word.items) step self.new) }
     {
         match self.open(&word)? {
             None => Ok(Step::Word(word)),
             Some((path, words)) => {
+                let opened = Vec::from_slice(self.alloc, &path)?;
                 let around = replace(&mut self.inner, words);
                 self.open_files.add(path, around)?;
-                Ok(Step::Again)
+                Ok(Step::Opened(opened))
             }
         }
     }
@@ -148,6 +157,6 @@ impl<'a> Expansion<'a> {
             Some((_path, around)) => self.inner = around,
             None => unreachable!(),
         }
-        Ok(Step::Again)
+        Ok(Step::Closed)
     }
 }

@@ -8,21 +8,24 @@ mod expand_iterators;
 mod expansion;
 mod gnu_text;
 pub mod laws;
+mod line;
 mod msvc_text;
 pub mod path;
 mod path_map;
 pub mod response_file;
+mod sourced;
+mod texts;
 pub mod view;
 mod wanted;
 
 pub use decode::{from_local_codepage, read_text};
 pub use diab_text::split_diab;
 pub use expand::{
-    ExpandAtArgs, ExpansionKind, GnuExpand, MsvcExpand, TooManyWords, expand_all, expand_at_most,
-    expand_words,
+    ExpandAtArgs, ExpansionKind, GnuExpand, MsvcExpand, TooManyWords, expand_all, expand_words,
 };
 pub use gnu_text::split_gnu_response_file_args;
+pub use line::{Expanded, expand_line, standing_line};
 pub use msvc_text::{SplitMsvcResponseFileArgs, msvc_words};
 pub use scl_values::Mem;
+pub use sourced::{Sourced, behind, first_at};
 pub use view::View;
-pub use wanted::wanted_files;

@@ -2,9 +2,10 @@
 ghost use Rattle.std.specs.Prelude.{◌≡◌, ◌++◌, IfOk, OnOk};
 ghost use Rattle.std.specs.List.{flat_map};
 ghost use Rattle.scl_values.specs.Words.{words_of};
+ghost use Rattle.scl_files.specs.Expand.{expand};
 ghost use Rattle.scl_files.specs.Wanted.{lacked_by, wanted};
 
-use crate::expand::{ExpansionKind, expand_all};
+use crate::expand::ExpansionKind;
 use crate::response_file::named;
 use crate::view::View;
 use scl_values::Mem;
@@ -46,24 +47,24 @@ fn absent_files(
     Ok(paths)
 }
 
-/// The paths of the files that the expansion of the words would open and the view lacks, in order, and as often as they are
-/// asked for. Where the disk has none of them, the words are what they are in any view that has these files and others
-/// besides (`laws::of_wanted_files`). It fails only for want of memory.
+/// The paths of the files that the expansion of given words would open and the view lacks, in order, and as often as they are
+/// asked for (`laws::of_wanted_files`).
 #[tactic(auto, unfolding(crate::specs::Wanted::wanted))]
-pub fn wanted_files(
+pub(crate) fn lacked_files(
     alloc: Global,
     kind: ExpansionKind,
     directory: &[u8],
-    words: &[Vec<u8>],
+    given: &[Vec<u8>],
+    expanded: &[Vec<u8>],
     view: &View,
 ) -> Mem<Vec<Vec<u8>>>
-    ensures { IfOk result (λ paths. words_of paths.items ≡ wanted kind directory.now view.now.files (words_of words.now)) }
+    requires { words_of expanded.now ≡ expand kind directory.now view.now.files (words_of given.now) }
+    ensures { IfOk result (λ paths. words_of paths.items ≡ wanted kind directory.now view.now.files (words_of given.now)) }
 {
     match kind {
-        ExpansionKind::Msvc => absent_files(alloc, kind, directory, words, view),
+        ExpansionKind::Msvc => absent_files(alloc, kind, directory, given, view),
         ExpansionKind::Gnu | ExpansionKind::Diab => {
-            let words = expand_all(alloc, kind, directory, words, view)?;
-            absent_files(alloc, kind, directory, &words, view)
+            absent_files(alloc, kind, directory, expanded, view)
         }
     }
 }

@@ -1,8 +1,8 @@
 use Rattle.std.proofs.Common.{ℕ, true, List, [], ◌∷◌, map, refl}
 use Rattle.scl_values.specs.Each.{Each}
 use Rattle.scl_values.specs.Seen.{shown}
-use Rattle.scl_again.specs.Origins.{IsClear}
-use Rattle.scl_again.specs.Promises.{inner_of, IsFaithful}
+use Rattle.scl_args.specs.Origins.{IsClear}
+use Rattle.scl_args.specs.Promises.{inner_of, IsFaithful}
 use Rattle.scl_text.proofs.CompilerLaws.{command-kept}
 use Rattle.scl_files.specs.declared.expand.ExpansionKind.TheVariants as expansions
 use Rattle.scl_text.specs.declared.records.CCompilerKind.TheVariants as compilers

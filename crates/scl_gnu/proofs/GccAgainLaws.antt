@@ -6,12 +6,12 @@ use Rattle.scl_values.specs.Row.{Row, row, apart, joined, either}
 use Rattle.scl_values.specs.Seen.{shown}
 use Rattle.scl_values.specs.Tables.{owner_in, all_rows}
 use Rattle.scl_args.proofs.OwnerLaws.{owner_in-is}
-use Rattle.scl_again.specs.Checks.{is_changing, is_joining}
-use Rattle.scl_again.specs.Origins.{IsClear}
-use Rattle.scl_again.specs.Promises.{IsFaithful}
-use Rattle.scl_again.proofs.FreshLaws.{fresh-either}
-use Rattle.scl_again.proofs.OriginLaws.{has_row}
-use Rattle.scl_again.proofs.ReadsLaws.{reads-apart, reads-either_apart, reads-joined}
+use Rattle.scl_args.specs.Checks.{is_changing, is_joining}
+use Rattle.scl_args.specs.Origins.{IsClear}
+use Rattle.scl_args.specs.Promises.{IsFaithful}
+use Rattle.scl_args.proofs.FreshLaws.{fresh-either}
+use Rattle.scl_args.proofs.OriginLaws.{has_row}
+use Rattle.scl_args.proofs.ReadsLaws.{reads-apart, reads-either_apart, reads-joined}
 use Rattle.scl_text.proofs.CompilerLaws.{command-kept}
 use Rattle.scl_files.specs.declared.expand.ExpansionKind.TheVariants as expansions
 use Rattle.scl_text.specs.declared.records.CCompilerKind.TheVariants as compilers

@@ -5,8 +5,8 @@ use Rattle.scl_values.specs.Cuts.{cut}
 use Rattle.scl_values.specs.Each.{Each}
 use Rattle.scl_values.specs.Seen.{Seen, shown, text_of}
 use Rattle.scl_values.specs.Tables.{owner_in, all_rows}
-use Rattle.scl_again.proofs.FoundLaws.{IsFound, found}
-use Rattle.scl_again.proofs.OtherValueLaws.{flag-so}
+use Rattle.scl_args.proofs.FoundLaws.{IsFound, found}
+use Rattle.scl_args.proofs.OtherValueLaws.{flag-so}
 use Rattle.scl_files.specs.declared.expand.ExpansionKind.TheVariants as expansions
 use Rattle.scl_files.specs.Expand.{expand}
 use Rattle.scl_files.specs.Views.{Viewed}

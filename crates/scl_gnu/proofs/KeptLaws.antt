@@ -6,10 +6,10 @@ use Rattle.scl_args.specs.Options.{side_of_flag}
 use Rattle.scl_values.specs.Row.{Row}
 use Rattle.scl_values.specs.Seen.{Plain, shown}
 use Rattle.scl_args.specs.Wrapped.{wrapped_apart}
-use Rattle.scl_again.specs.Commands.{Inner, values_at, raw_words}
-use Rattle.scl_again.specs.Origins.{IsKept}
-use Rattle.scl_again.proofs.CommandLaws.{IsList}
-use Rattle.scl_again.proofs.RawLaws.{HasNoRaws}
+use Rattle.scl_args.specs.Commands.{Inner, values_at, raw_words}
+use Rattle.scl_args.specs.Origins.{IsKept}
+use Rattle.scl_args.proofs.CommandLaws.{IsList}
+use Rattle.scl_args.proofs.RawLaws.{HasNoRaws}
 use Rattle.std.specs.Prelude.{codes}
 use Rattle.scl_gnu_reading.specs.declared.gcc.data.Kind.{Kind}
 use Rattle.scl_gnu_reading.specs.declared.gcc.data.Kind.TheVariants as kind

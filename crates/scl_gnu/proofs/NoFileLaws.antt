@@ -7,9 +7,9 @@ use Rattle.scl_args.specs.Options.{last_flag, last_text, dash_words, side_of_fla
 use Rattle.scl_values.specs.Row.{Row}
 use Rattle.scl_values.specs.Seen.{Seen, shown, flag_of, text_of}
 use Rattle.scl_values.specs.Tables.{owner_in, all_rows}
-use Rattle.scl_again.specs.NoFiles.{NamesNoFile, GivesNoFile, NamesNoFileOfItsOwn, has_plain_flags}
-use Rattle.scl_again.specs.Promises.{HandedOn, inner_of, said_by}
-use Rattle.scl_again.proofs.NoFileLaws.{each-append, HasPlainFlag, flag-none, plain-found, passed, listed-none, one-none, apart-none, last-none}
+use Rattle.scl_args.specs.NoFiles.{NamesNoFile, GivesNoFile, NamesNoFileOfItsOwn, has_plain_flags}
+use Rattle.scl_args.specs.Promises.{HandedOn, inner_of, said_by}
+use Rattle.scl_args.proofs.NoFileLaws.{each-append, HasPlainFlag, flag-none, plain-found, passed, listed-none, one-none, apart-none, last-none}
 use Rattle.scl_files.specs.declared.expand.ExpansionKind.TheVariants as expansions
 use Rattle.scl_text.specs.declared.language.Language.{Language}
 use Rattle.scl_text.specs.declared.language.Language.TheVariants as languages
@@ -43,7 +43,8 @@ use Rattle.scl_gnu_reading.proofs.CheckLaws.{carried_plain, carried_inner_plain}
 use Rattle.scl_gnu.proofs.InnerLaws.{no_inner}
 use Rattle.scl_gnu.specs.OwnTables.{is_kind}
 use Rattle.scl_gnu.proofs.KeptLaws.{same-list}
-use Rattle.scl_gnu.proofs.ReadingLaws.{HasFound, is-read, object-found}
+use Rattle.scl_gnu.proofs.ReadingLaws.{HasFound, is-read}
+use Rattle.scl_gnu_reading.proofs.ObjectLaws.{object-found}
 
 abbrev NameNone : List (List ℕ) → Type 0
 NameNone words = Each NamesNoFile words

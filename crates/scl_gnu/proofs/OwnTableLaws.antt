@@ -10,15 +10,15 @@ use Rattle.scl_values.specs.Row.{Row, row, apart, joined, either}
 use Rattle.scl_values.specs.Seen.{shown}
 use Rattle.scl_values.specs.Tables.{owner_in, all_rows}
 use Rattle.scl_args.proofs.OwnerLaws.{owner_in-is}
-use Rattle.scl_again.specs.Checks.{PassChecks, is_changing, is_joining, has_no_kept, keeps_flags, joins_safely}
-use Rattle.scl_again.specs.Commands.{IsReadAgain}
-use Rattle.scl_again.specs.Origins.{IsClear}
-use Rattle.scl_again.specs.OwnWords.{is_one_of, is_owned}
-use Rattle.scl_again.specs.Promises.{inner_of, said_by}
-use Rattle.scl_again.proofs.FreshLaws.{fresh-either}
-use Rattle.scl_again.proofs.OriginLaws.{has_row}
-use Rattle.scl_again.proofs.OwnWordLaws.{one-of, one-of-two, unmarked, either-way}
-use Rattle.scl_again.proofs.ReadsLaws.{reads-apart, reads-joined}
+use Rattle.scl_args.specs.Checks.{PassChecks, is_changing, is_joining, has_no_kept, keeps_flags, joins_safely}
+use Rattle.scl_args.specs.Commands.{IsReadAgain}
+use Rattle.scl_args.specs.Origins.{IsClear}
+use Rattle.scl_args.specs.OwnWords.{is_one_of, is_owned}
+use Rattle.scl_args.specs.Promises.{inner_of, said_by}
+use Rattle.scl_args.proofs.FreshLaws.{fresh-either}
+use Rattle.scl_args.proofs.OriginLaws.{has_row}
+use Rattle.scl_args.proofs.OwnWordLaws.{one-of, one-of-two, unmarked, either-way}
+use Rattle.scl_args.proofs.ReadsLaws.{reads-apart, reads-joined}
 use Rattle.scl_text.proofs.CompilerLaws.{command-kept}
 use Rattle.scl_files.specs.Expand.{expand}
 use Rattle.scl_files.specs.Views.{Viewed}

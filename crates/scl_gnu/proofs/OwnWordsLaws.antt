@@ -11,13 +11,13 @@ use Rattle.scl_values.specs.Seen.{Seen, Plain}
 use Rattle.scl_values.specs.Seen as plain
 use Rattle.scl_values.specs.Tables.{owner_in, all_rows}
 use Rattle.scl_args.specs.Wrapped.{wrapped_apart}
-use Rattle.scl_again.specs.Checks.{PassChecks}
-use Rattle.scl_again.specs.OwnWords.{is_bare, may_stand_apart}
-use Rattle.scl_again.specs.Commands.{Inner, values_at, raw_words}
-use Rattle.scl_again.specs.Origins.{input_words}
-use Rattle.scl_again.specs.Reads.{Reads}
-use Rattle.scl_again.proofs.CommandLaws.{IsInner}
-use Rattle.scl_again.proofs.ValuesLaws.{HaveOwnFlags}
+use Rattle.scl_args.specs.Checks.{PassChecks}
+use Rattle.scl_args.specs.OwnWords.{is_bare, may_stand_apart}
+use Rattle.scl_args.specs.Commands.{Inner, values_at, raw_words}
+use Rattle.scl_args.specs.Origins.{input_words}
+use Rattle.scl_args.specs.Reads.{Reads}
+use Rattle.scl_args.proofs.CommandLaws.{IsInner}
+use Rattle.scl_args.proofs.ValuesLaws.{HaveOwnFlags}
 use Rattle.scl_text.specs.declared.records.ColorMode.{ColorMode}
 use Rattle.scl_text.specs.declared.records.ColorMode.TheVariants as colors
 use Rattle.scl_gnu_reading.specs.declared.gcc.data.Kind.{Kind}

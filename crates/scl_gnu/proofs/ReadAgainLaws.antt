@@ -11,18 +11,18 @@ use Rattle.scl_values.specs.Row.{Row}
 use Rattle.scl_values.specs.Seen.{Seen, Plain, shown, flag_of}
 use Rattle.scl_values.specs.Seen as plain
 use Rattle.scl_values.specs.Tables.{owner_in}
-use Rattle.scl_again.specs.Commands.{Inner, Said, carried, values_at, IsReadAgain}
-use Rattle.scl_again.specs.Commands as command
-use Rattle.scl_again.specs.Origins.{IsClear, AreClear, input_words}
-use Rattle.scl_again.specs.Promises.{HandedOn, inner_of, said_by}
-use Rattle.scl_again.specs.Reads.{read, cleanly, Reads}
-use Rattle.scl_again.proofs.CommandLaws.{list-again, command-again}
-use Rattle.scl_again.proofs.FoundLaws.{last-flag, flag-again}
-use Rattle.scl_again.proofs.InputLaws.{ends-input}
-use Rattle.scl_again.proofs.MarkLaws.{marked-dashes, raw-is_input}
-use Rattle.scl_again.proofs.OtherValueLaws.{other-value, flag-so}
-use Rattle.scl_again.proofs.ReadsLaws.{reads-append, reads-nil}
-use Rattle.scl_again.proofs.ValuesLaws.{each-map}
+use Rattle.scl_args.specs.Commands.{Inner, Said, carried, values_at, IsReadAgain}
+use Rattle.scl_args.specs.Commands as command
+use Rattle.scl_args.specs.Origins.{IsClear, AreClear, input_words}
+use Rattle.scl_args.specs.Promises.{HandedOn, inner_of, said_by}
+use Rattle.scl_args.specs.Reads.{read, cleanly, Reads}
+use Rattle.scl_args.proofs.CommandLaws.{list-again, command-again}
+use Rattle.scl_args.proofs.FoundLaws.{last-flag, flag-again}
+use Rattle.scl_args.proofs.InputLaws.{ends-input}
+use Rattle.scl_args.proofs.MarkLaws.{marked-dashes, raw-is_input}
+use Rattle.scl_args.proofs.OtherValueLaws.{other-value, flag-so}
+use Rattle.scl_args.proofs.ReadsLaws.{reads-append, reads-nil}
+use Rattle.scl_args.proofs.ValuesLaws.{each-map}
 use Rattle.scl_files.specs.declared.expand.ExpansionKind.TheVariants as expansions
 use Rattle.scl_text.specs.declared.language.Language.{Language}
 use Rattle.scl_text.specs.declared.records.CCompilerKind.{CCompilerKind}
@@ -50,7 +50,8 @@ use Rattle.scl_gnu_reading.specs.Recordings.{is_clang, needs_target, added_commo
 use Rattle.scl_gnu_reading.proofs.CheckLaws.{inner_passes}
 use Rattle.scl_gnu.specs.OwnTables.{is_kind}
 use Rattle.scl_gnu.proofs.KeptLaws.{no-raws, compiles-alone, target-alone, is-list}
-use Rattle.scl_gnu.proofs.ReadingLaws.{HasFound, is-read, object-found}
+use Rattle.scl_gnu.proofs.ReadingLaws.{HasFound, is-read}
+use Rattle.scl_gnu_reading.proofs.ObjectLaws.{object-found}
 use Rattle.scl_gnu.proofs.OwnWordsLaws.{xclang, wrapped, OwnWords, AreInners, not-so, none-front, none-back, none-define, none-depfile, no_raw-define, no_raw-target, five}
 
 -- ---- the command of a record

@@ -1,10 +1,6 @@
 -- What an outcome Ok says of the options of a command line.
-use Rattle.std.proofs.Common.{◌≡◌, ℕ, Bool, true, false, List, [], ◌∷◌, ◌++◌, map, Option, None, Some, Ok, refl, ap, ◌∙◌, cond}
-use Rattle.std.specs.Bool.{then_some}
-use Rattle.std.specs.List.{find}
-use Rattle.std.specs.Option.{option_map}
-use Rattle.std.specs.Prelude.{codes, ok_or, if◌then◌else◌}
-use Rattle.std.specs.Str.{bytes_eq}
+use Rattle.std.proofs.Common.{◌≡◌, ℕ, Bool, false, List, [], ◌∷◌, map, Some, Ok, ap, ◌∙◌}
+use Rattle.std.specs.Prelude.{ok_or}
 use Rattle.scl_values.specs.Cuts.{cut, is_dangling}
 use Rattle.scl_values.specs.Each.{Each}
 use Rattle.scl_args.specs.Empties.{refusing_empty}
@@ -12,19 +8,15 @@ use Rattle.scl_args.specs.Options.{last_flag, last_text, texts}
 use Rattle.scl_values.specs.Row.{Row}
 use Rattle.scl_values.specs.Seen.{Seen, shown}
 use Rattle.scl_values.specs.Tables.{owner_in}
-use Rattle.scl_again.specs.Origins.{IsClear}
-use Rattle.scl_again.proofs.EmptyLaws.{judged-clear}
-use Rattle.scl_again.proofs.OutcomeLaws.{bind-ok, ok_or-ok, judged-ok}
+use Rattle.scl_args.specs.Origins.{IsClear}
+use Rattle.scl_args.proofs.EmptyLaws.{judged-clear}
+use Rattle.scl_args.proofs.OutcomeLaws.{bind-ok, ok_or-ok, judged-ok}
 use Rattle.scl_files.specs.declared.expand.ExpansionKind.TheVariants as expansions
 use Rattle.scl_text.specs.declared.records.CCompilerKind.{CCompilerKind}
-use Rattle.scl_text.specs.Commands.{object_of}
 use Rattle.scl_files.specs.Expand.{expand}
-use Rattle.scl_files.specs.Paths.{with_extension}
-use Rattle.scl_text.specs.Languages.{needs_c_preprocessing}
 use Rattle.scl_text.specs.JudgedWords.{judged_words, options_of}
-use Rattle.scl_text.specs.Outputs.{output_at, path_at}
 use Rattle.scl_text.specs.Reasons.{argument_parse, empty_value, invalid_input_file, unknown_source_language}
-use Rattle.scl_text.specs.Records.{Artifact, Parsed, NotCompilation}
+use Rattle.scl_text.specs.Records.{Parsed, NotCompilation}
 use Rattle.scl_text.specs.Refusals.{the_input}
 use Rattle.scl_files.specs.Views.{Viewed}
 use Rattle.scl_gnu_reading.specs.declared.gcc.data.Kind.{Kind}
@@ -99,47 +91,3 @@ module _ (compiler : CCompilerKind) (plusplus : Bool) (tables : List (List (Row 
         clear = judged-clear tables (is_clang compiler) (expand expansions.Gnu directory view.files words) empty_value (verdict view.is_multiarch) argument_parse a.0 a.1;
         inner_clear = judged-clear clang_tables false (expand expansions.Gnu directory view.files handed) empty_value inner_verdict argument_parse b.0 b.1;
       }
-
--- ---- the object of a record
-
-path-behind : (xs ys : List Artifact) (name : List ℕ) → path_at xs name ≡ None → path_at (xs ++ ys) name ≡ path_at ys name
-path-behind [] ys name e = refl
-path-behind (a ∷ xs) ys name e = elim (bytes_eq name a.name) as (λ b. option_map (λ o. o.path) (cond b (Some a) (find (λ o. bytes_eq name o.name) xs)) ≡ None
-    → option_map (λ o. o.path) (cond b (Some a) (find (λ o. bytes_eq name o.name) (xs ++ ys))) ≡ path_at ys name) [
-      | true ↦ λ n. absurd (cc)
-      | false ↦ λ n. path-behind xs ys name n
-    ] e
-
-module _ (name : List ℕ) where
-  no-path : (other : List ℕ) (optional : Bool) (path : Option (List ℕ)) → bytes_eq name other ≡ false → path_at (output_at other optional path) name ≡ None
-  no-path other optional None e = refl
-  no-path other optional (Some path) e = rw e refl
-
-  no-path-behind : (xs : List Artifact) (other : List ℕ) (optional : Bool) (path : Option (List ℕ)) → bytes_eq name other ≡ false → path_at xs name ≡ None → path_at (xs ++ output_at other optional path) name ≡ None
-  no-path-behind xs other optional path e none = path-behind xs (output_at other optional path) name none ∙ no-path other optional path e
-
-module _ (depfile diagnostics dwo gcno module_path : Option (List ℕ)) (object : List ℕ) where
-  abbrev two : List Artifact
-  two = output_at (codes "d") false depfile ++ output_at (codes "dia") false diagnostics
-
-  abbrev three : List Artifact
-  three = two ++ output_at (codes "dwo") true dwo
-
-  abbrev four : List Artifact
-  four = three ++ output_at (codes "gcno") false gcno
-
-  none-before : path_at (four ++ output_at (codes "module") false module_path) (codes "obj") ≡ None
-  none-before =
-      no-path-behind (codes "obj") four (codes "module") false module_path refl
-      (no-path-behind (codes "obj") three (codes "gcno") false gcno refl
-      (no-path-behind (codes "obj") two (codes "dwo") true dwo refl
-      (no-path-behind (codes "obj") (output_at (codes "d") false depfile) (codes "dia") false diagnostics refl (no-path (codes "obj") (codes "d") false depfile refl))))
-
-  object-is : path_at (four ++ output_at (codes "module") false module_path ++ output_at (codes "obj") false (Some object)) (codes "obj") ≡ Some object
-  object-is = path-behind (four ++ output_at (codes "module") false module_path) (output_at (codes "obj") false (Some object)) (codes "obj") none-before
-
-pub object-found : (compiler : CCompilerKind) (directory : List ℕ) (view : Viewed) (os inside : List (Seen Kind)) (f : Found) → object_of (record_of compiler directory view os inside f) ≡ Some f.object
-object-found compiler directory view os inside f =
-    object-is (if needs_c_preprocessing f.language then last_text (of (kind.DepArgumentPath ∷ [])) os else None) (last_text (of (kind.SerializeDiagnostics ∷ [])) os)
-    (then_some (any (kind.SplitDwarf ∷ []) os) (with_extension f.object (codes "dwo")))
-    (then_some (any (kind.Coverage ∷ kind.TestCoverage ∷ []) os) (with_extension f.object (codes "gcno"))) f.module_path f.object

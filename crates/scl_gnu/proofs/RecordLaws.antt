@@ -13,7 +13,8 @@ use Rattle.scl_gnu_reading.specs.ClangRows.{clang_tables}
 use Rattle.scl_gnu_reading.specs.GccRows.{gcc_rows}
 use Rattle.scl_gnu_reading.specs.Recordings.{is_clang}
 use Rattle.scl_gnu.specs.ReadAgain.{inner_options_of, RecordsHaveObjects, GccLinesHaveNoEmpty, ClangLinesHaveNoEmpty}
-use Rattle.scl_gnu.proofs.ReadingLaws.{is-read, object-found}
+use Rattle.scl_gnu.proofs.ReadingLaws.{is-read}
+use Rattle.scl_gnu_reading.proofs.ObjectLaws.{object-found}
 
 pub have-objects : (compiler : CCompilerKind) (tables : List (List (Row Kind))) → RecordsHaveObjects compiler tables
 have-objects compiler tables plusplus directory view words p e =

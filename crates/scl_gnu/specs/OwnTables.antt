@@ -6,10 +6,10 @@ use Rattle.scl_values.specs.Row.{Row, row, apart, joined, either}
 use Rattle.scl_values.specs.Seen.{shown}
 use Rattle.scl_values.specs.Tables.{all_rows}
 use Rattle.scl_args.specs.Options.{side_of_flag}
-use Rattle.scl_again.specs.Checks.{is_changing, is_joining, keeps_flags, joins_safely, has_no_kept}
-use Rattle.scl_again.specs.Commands.{IsReadAgain}
-use Rattle.scl_again.specs.OwnWords.{OwnWord, apart_or_either, is_owned, is_bare, may_stand_apart}
-use Rattle.scl_again.specs.Promises.{said_by}
+use Rattle.scl_args.specs.Checks.{is_changing, is_joining, keeps_flags, joins_safely, has_no_kept}
+use Rattle.scl_args.specs.Commands.{IsReadAgain}
+use Rattle.scl_args.specs.OwnWords.{OwnWord, apart_or_either, is_owned, is_bare, may_stand_apart}
+use Rattle.scl_args.specs.Promises.{said_by}
 use Rattle.scl_files.specs.Views.{Viewed}
 use Rattle.scl_text.specs.Commands.{command_by, object_of}
 use Rattle.scl_text.specs.Compilers.{IfCommand}

@@ -5,9 +5,9 @@ use Rattle.scl_args.specs.Options.{last_flag, last_text, texts}
 use Rattle.scl_values.specs.Row.{Row}
 use Rattle.scl_values.specs.Seen.{Seen, Plain, shown}
 use Rattle.scl_values.specs.Seen as plain
-use Rattle.scl_again.specs.Commands.{CommandList, Parts}
-use Rattle.scl_again.specs.Origins.{input_words}
-use Rattle.scl_again.specs.Promises.{HandedOn, Line, HasNoEmpty, IsFaithful}
+use Rattle.scl_args.specs.Commands.{CommandList, Parts}
+use Rattle.scl_args.specs.Origins.{input_words}
+use Rattle.scl_args.specs.Promises.{HandedOn, Line, HasNoEmpty, IsFaithful}
 use Rattle.scl_files.specs.declared.expand.ExpansionKind.TheVariants as expansions
 use Rattle.scl_text.specs.declared.language.Language.{Language}
 use Rattle.scl_text.specs.declared.records.CCompilerKind.{CCompilerKind}

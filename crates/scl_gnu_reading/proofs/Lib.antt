@@ -1,3 +1,5 @@
 pub mod CheckLaws
 pub mod InnerLemmas
+pub mod ObjectLaws
 pub mod OutputLaws
+pub mod ReadLaws

@@ -9,5 +9,6 @@ pub mod Inners
 pub mod Kinds
 pub mod Places
 pub mod Readings
+pub mod Reads
 pub mod Recordings
 pub mod Verdicts

@@ -2,11 +2,12 @@
 ghost use Rattle.std.specs.Prelude.{◌≡◌, ◌∷◌, [], true, codes};
 ghost use Rattle.scl_values.specs.Tables.{all_rows};
 ghost use Rattle.scl_args.specs.Options.{side_of_flag};
-ghost use Rattle.scl_again.specs.Checks.{PassChecks, has_no_kept};
-ghost use Rattle.scl_again.specs.NoFiles.{has_plain_flags};
+ghost use Rattle.scl_args.specs.Checks.{PassChecks, has_no_kept};
+ghost use Rattle.scl_args.specs.NoFiles.{has_plain_flags};
 ghost use Rattle.scl_gnu_reading.specs.Again.{carried, carried_inner};
 ghost use Rattle.scl_gnu_reading.specs.ClangRows.{clang_tables};
 ghost use Rattle.scl_gnu_reading.specs.GccRows.{gcc_rows};
+ghost use Rattle.scl_gnu_reading.specs.Reads.{ReadingsSay};
 ghost use Rattle.scl_gnu_reading.specs.declared.gcc.data.Kind.{Kind};
 ghost use Rattle.scl_gnu_reading.specs.declared.gcc.place.Place.{Place};
 ghost use Rattle.scl_gnu_reading.specs.declared.gcc.hash_files.HashRole.{HashRole};
@@ -36,4 +37,10 @@ pub fn of_tables()
     ensures no_list_carries_xclang { has_no_kept carried (codes "-Xclang") (all_rows clang_tables) ≡ true }
     ensures carried_flags_name_no_file { has_plain_flags carried (all_rows clang_tables) ≡ true }
     ensures carried_inner_flags_name_no_file { has_plain_flags carried_inner (all_rows clang_tables) ≡ true }
+{}
+
+/// The law of readings (docs/RULES.md, Gcc): what a reading of words says is what the words say, whichever given words brought
+/// them.
+pub fn of_readings()
+    ensures readings_say { ReadingsSay }
 {}

@@ -1,34 +1,30 @@
 -- The hazards of gcc's and clang's command lines.
-use Rattle.std.specs.Prelude.{ℕ, Bool, false, List, [], ◌∷◌, ◌++◌, map, Option, None, Some, unwrap_or}
-use Rattle.scl_args.specs.Options.{texts}
-use Rattle.scl_driver_texts.specs.InPlace.{texts_in_place}
+use Rattle.std.specs.Prelude.{Bool, false, cond, List, [], ◌++◌, Result, Ok, Err, unwrap_or}
 use Rattle.scl_driver_texts.specs.Otherwise.{splits_otherwise}
 use Rattle.scl_driver_texts.specs.declared.splitter.Splitter.{Splitter}
 use Rattle.scl_driver_texts.specs.declared.splitter.Splitter.TheVariants as splitters
-use Rattle.scl_files.specs.Expand.{expand}
-use Rattle.scl_files.specs.Views.{Viewed}
 use Rattle.scl_files.specs.declared.expand.ExpansionKind.TheVariants as expansions
-use Rattle.scl_gnu_reading.specs.ClangRows.{clang_tables}
-use Rattle.scl_gnu_reading.specs.Kinds.{of}
+use Rattle.scl_gnu_reading.specs.Reads.{GnuRead}
+use Rattle.scl_gnu_reading.specs.Recordings.{is_clang}
 use Rattle.scl_gnu_reading.specs.declared.gcc.data.Kind.{Kind}
-use Rattle.scl_gnu_reading.specs.declared.gcc.data.Kind.TheVariants as kind
 use Rattle.scl_text.specs.Commands.{object_of}
-use Rattle.scl_text.specs.JudgedWords.{options_of}
-use Rattle.scl_text.specs.Records.{Parsed}
-use Rattle.scl_values.specs.Row.{Row}
-use Rattle.scl_values.specs.Seen.{Seen, shown}
+use Rattle.scl_text.specs.Records.{Parsed, Verdict}
+use Rattle.scl_text.specs.declared.records.CCompilerKind.{CCompilerKind}
 use Rattle.scl_hazards.specs.GnuRows.{text_rows, split_dwarf_rows, recorded_rows, output_rows, language_rows, word_rows, order_rows, dependency_rows, diagnostic_rows}
 use Rattle.scl_hazards.specs.Lines.{Lined}
 use Rattle.scl_hazards.specs.Rows.{found}
 use Rattle.scl_hazards.specs.declared.driver.Driver.{Driver}
 use Rattle.scl_hazards.specs.declared.driver.Driver.TheVariants as drivers
-use Rattle.scl_hazards.specs.contracts.driver.DriverPartialEq.TheImpl as drivers_equal
 use Rattle.scl_hazards.specs.declared.hazard.Hazard.{Hazard}
 
--- of a command line that has a record, if it has one
-abbrev pub of_record : (Parsed → List Hazard) → Option Parsed → List Hazard
-of_record hazards (Some p) = hazards p
-of_record hazards None = []
+-- of a command line that has a record
+abbrev pub of_record : (Parsed → List Hazard) → Result Parsed Verdict → List Hazard
+of_record hazards (Ok p) = hazards p
+of_record hazards (Err said) = []
+
+-- the driver that a compiler is
+abbrev pub driver_of : CCompilerKind → Driver
+driver_of compiler = cond (is_clang compiler) drivers.Clang drivers.Gcc
 
 -- how the driver splits texts
 abbrev pub splitter_of : Driver → Splitter
@@ -36,42 +32,22 @@ splitter_of drivers.Gcc = splitters.Libiberty
 splitter_of drivers.Clang = splitters.LlvmGnu
 splitter_of drivers.ClangCl = splitters.LlvmWindows
 
--- clang alone ends its options at --
-abbrev pub ends_at_dashes : Driver → Bool
-ends_at_dashes driver = drivers_equal.ghosts.eq driver drivers.Clang
-
--- the options of words, nothing judged, with -- as the end of options or without
-unfoldable pub options_cut : List (List (Row Kind)) → Bool → List ℕ → Viewed → List (List ℕ) → List (Seen Kind)
-options_cut tables dashes directory view words = map shown (options_of expansions.Gnu tables dashes directory view words)
-
--- those of a driver's words
-abbrev pub options_by : Driver → List (List (Row Kind)) → List ℕ → Viewed → List (List ℕ) → List (Seen Kind)
-options_by driver tables directory view words = options_cut tables (ends_at_dashes driver) directory view words
-
--- the words that options hand on
-abbrev pub inner_words : List (Seen Kind) → List (List ℕ)
-inner_words os = texts (of (kind.XClang ∷ [])) os
-
--- the options of inner words, nothing judged
-abbrev pub inner_by : List ℕ → Viewed → List (List ℕ) → List (Seen Kind)
-inner_by directory view words = options_cut clang_tables false directory view words
-
 -- the command line, with its record
-abbrev pub gnu_line : Driver → (is_apple is_plusplus : Bool) → List (List (Row Kind)) → List ℕ → Viewed → List (List ℕ) → Parsed → Lined Kind
-gnu_line driver is_apple is_plusplus tables directory view words p =
+abbrev pub gnu_line : (is_apple : Bool) → GnuRead → Parsed → Lined Kind
+gnu_line is_apple r p =
     record {
-      driver = driver;
-      is_plusplus = is_plusplus;
+      driver = driver_of r.compiler;
+      is_plusplus = r.plusplus;
       is_apple = is_apple;
-      words = expand expansions.Gnu directory view.files words;
-      options = options_by driver tables directory view words;
-      inner_words = inner_words (options_by driver tables directory view words);
-      inner = inner_by directory view (inner_words (options_by driver tables directory view words));
+      words = r.outer.words;
+      options = r.outer.line.options;
+      inner_words = r.handed;
+      inner = r.inner.line.options;
       input = p.input;
       language = p.language;
       object = unwrap_or (object_of p) [];
-      texts = texts_in_place expansions.Gnu directory view.files words;
-      splits_otherwise = splits_otherwise (splitter_of driver) expansions.Gnu directory view.files words;
+      texts = r.outer.texts;
+      splits_otherwise = splits_otherwise (splitter_of (driver_of r.compiler)) expansions.Gnu r.outer.texts;
       environment = [];
       splits_environment = false;
     }
@@ -89,7 +65,6 @@ in_order_and_messages l = found order_rows l ++ (found dependency_rows l ++ foun
 unfoldable pub gnu_found : Lined Kind → List Hazard
 gnu_found l = in_texts_and_records l ++ (in_outputs_and_words l ++ in_order_and_messages l)
 
--- the hazards of words that have this record, if they have one
-unfoldable pub gnu_hazards : Driver → (is_apple is_plusplus : Bool) → List (List (Row Kind)) → List ℕ → Viewed → List (List ℕ) → Option Parsed → List Hazard
-gnu_hazards driver is_apple is_plusplus tables directory view words record_read =
-    of_record (λ p. gnu_found (gnu_line driver is_apple is_plusplus tables directory view words p)) record_read
+-- the hazards of a reading, if it has a record
+unfoldable pub gnu_hazards : (is_apple : Bool) → GnuRead → List Hazard
+gnu_hazards is_apple r = of_record (λ p. gnu_found (gnu_line is_apple r p)) r.outcome

@@ -1,5 +1,5 @@
 -- The hazards of gcc and clang, and the cases in which each is there.
-use Rattle.std.specs.Prelude.{List, [], ◌∷◌, ◌++◌, codes}
+use Rattle.std.specs.Prelude.{List, [], ◌∷◌, codes}
 use Rattle.scl_driver_flags.specs.declared.data.Kind.TheVariants as meanings
 use Rattle.scl_driver_flags.specs.declared.own_flags.OwnFlags.TheVariants as own_flags
 use Rattle.scl_gnu_reading.specs.declared.gcc.data.Kind.{Kind}

@@ -1,16 +1,9 @@
 //! The hazards of gcc's and clang's command lines.
-ghost use Rattle.std.specs.Prelude.{◌≡◌, ◌++◌, false, IfOk, IsTrue, OnOk, map, unwrap_or, []};
-ghost use Rattle.std.specs.Option.{option_copied, option_map};
-ghost use Rattle.scl_driver_texts.specs.InPlace.{texts_in_place};
-ghost use Rattle.scl_driver_texts.specs.Otherwise.{splits_otherwise};
-ghost use Rattle.scl_files.specs.Expand.{expand};
-ghost use Rattle.scl_gnu_reading.specs.Data.{holds_value, kind_of, word_of};
+ghost use Rattle.std.specs.Prelude.{◌≡◌, ◌++◌, IfOk, OnOk, unwrap_or, []};
+ghost use Rattle.scl_gnu_reading.specs.Data.{kind_of, word_of};
 ghost use Rattle.scl_text.specs.Commands.{object_of};
 ghost use Rattle.scl_text.specs.Records.{parsed_of};
-ghost use Rattle.scl_values.specs.Seen.{seen};
-ghost use Rattle.scl_values.specs.Tables.{tables_hold_values};
-ghost use Rattle.scl_values.specs.Words.{words_of};
-ghost use Rattle.scl_hazards.specs.GnuHazards.{gnu_found, gnu_hazards, gnu_line, in_order_and_messages, in_outputs_and_words, in_texts_and_records, inner_by, inner_words, options_by, options_cut, splitter_of};
+ghost use Rattle.scl_hazards.specs.GnuHazards.{driver_of, gnu_found, gnu_hazards, gnu_line, in_order_and_messages, in_outputs_and_words, in_texts_and_records, splitter_of};
 ghost use Rattle.scl_hazards.specs.Lines.{line_of};
 
 use crate::driver::Driver;
@@ -19,13 +12,12 @@ use crate::hazard::Hazard;
 use crate::line::Line;
 use crate::row::push_found;
 use crate::test::Kinded;
-use scl_args::{Argument, Mem, OfKinds, SearchableArgInfo, texts};
-use scl_driver_texts::{Splitter, splits_otherwise, texts_in_place};
-use scl_gnu_reading::clang::trees;
-use scl_gnu_reading::gcc::{ArgData, Kind, Place, place_of};
-use scl_text::command::copy_words;
+use scl_args::{Argument, Mem};
+use scl_driver_texts::{Splitter, splits_otherwise};
+use scl_gnu_reading::gcc::{ArgData, GnuReading, Kind, Place, place_of};
 use scl_text::outputs::output_path;
-use scl_text::{ExpansionKind, ParsedArguments, View, cut_line, expand_all};
+use scl_text::records::{CCompilerKind, CompilerArguments};
+use scl_text::{ExpansionKind, ParsedArguments};
 use std::alloc::Global;
 
 impl Kinded for ArgData {
@@ -55,100 +47,15 @@ fn splitter_of(driver: Driver) -> Splitter
     }
 }
 
-/// The options of words that are handed over, nothing judged.
-#[tactic(auto, unfolding(crate::specs::GnuHazards::options_cut))]
-fn options_owned<S: SearchableArgInfo<ArgData> + Drop>(
-    alloc: Global,
-    arg_info: S,
-    words: Vec<Vec<u8>>,
-    cwd: &[u8],
-    dashes: bool,
-    view: &View,
-) -> Mem<Vec<Argument<ArgData>>>
-    requires { IsTrue (tables_hold_values holds_value (S.tables arg_info)) }
-    ensures { IfOk result (λ options. map (seen kind_of word_of) options.items ≡ options_cut (S.tables arg_info) dashes cwd.now view.now (words_of words.items)) }
+/// The driver that a compiler is.
+fn driver_of(compiler: CCompilerKind) -> Driver
+    ensures { result ≡ driver_of compiler }
 {
-    let gnu = ExpansionKind::Gnu;
-    let line = cut_line(alloc, gnu, words, cwd, arg_info, dashes, view)?;
-    Ok(line.options)
-}
-
-/// The options of words, nothing judged.
-fn options_by<S: SearchableArgInfo<ArgData> + Drop>(
-    alloc: Global,
-    driver: Driver,
-    arg_info: S,
-    words: &[Vec<u8>],
-    cwd: &[u8],
-    view: &View,
-) -> Mem<Vec<Argument<ArgData>>>
-    requires { IsTrue (tables_hold_values holds_value (S.tables arg_info)) }
-    ensures { IfOk result (λ options. map (seen kind_of word_of) options.items ≡ options_by driver (S.tables arg_info) cwd.now view.now (words_of words.now)) }
-{
-    let words = copy_words(alloc, words)?;
-    let dashes = driver == Driver::Clang;
-    options_owned(alloc, arg_info, words, cwd, dashes, view)
-}
-
-/// The words that options hand on.
-fn inner_words(alloc: Global, options: &[Argument<ArgData>]) -> Mem<Vec<Vec<u8>>>
-    ensures { IfOk result (λ words. words_of words.items ≡ inner_words (map (seen kind_of word_of) options.now)) }
-{
-    texts(alloc, options, &OfKinds(&[Kind::XClang]))
-}
-
-/// The options of inner words, nothing judged.
-pub(crate) fn inner_by(
-    alloc: Global,
-    words: &[Vec<u8>],
-    cwd: &[u8],
-    view: &View,
-) -> Mem<Vec<Argument<ArgData>>>
-    ensures { IfOk result (λ inner. map (seen kind_of word_of) inner.items ≡ inner_by cwd.now view.now (words_of words.now)) }
-{
-    let words = copy_words(alloc, words)?;
-    options_owned(alloc, trees(alloc)?, words, cwd, false, view)
-}
-
-/// A command line, cut, and with the texts that were put in place.
-#[derive(Drop)]
-struct CutLine {
-    words: Vec<Vec<u8>>,
-    options: Vec<Argument<ArgData>>,
-    inner_words: Vec<Vec<u8>>,
-    inner: Vec<Argument<ArgData>>,
-    texts: Vec<Vec<u8>>,
-    splits_otherwise: bool,
-}
-
-fn cut<S: SearchableArgInfo<ArgData> + Drop>(
-    alloc: Global,
-    driver: Driver,
-    arg_info: S,
-    words: &[Vec<u8>],
-    cwd: &[u8],
-    view: &View,
-) -> Mem<CutLine>
-    requires { IsTrue (tables_hold_values holds_value (S.tables arg_info)) }
-    ensures words { IfOk result (λ cut. words_of cut.words.items ≡ expand ExpansionKind.Gnu cwd.now view.now.files (words_of words.now)) }
-    ensures options { IfOk result (λ cut. map (seen kind_of word_of) cut.options.items ≡ options_by driver (S.tables arg_info) cwd.now view.now (words_of words.now)) }
-    ensures inner_words { IfOk result (λ cut. words_of cut.inner_words.items ≡ inner_words (options_by driver (S.tables arg_info) cwd.now view.now (words_of words.now))) }
-    ensures inner { IfOk result (λ cut. map (seen kind_of word_of) cut.inner.items ≡ inner_by cwd.now view.now (inner_words (options_by driver (S.tables arg_info) cwd.now view.now (words_of words.now)))) }
-    ensures texts { IfOk result (λ cut. words_of cut.texts.items ≡ texts_in_place ExpansionKind.Gnu cwd.now view.now.files (words_of words.now)) }
-    ensures split { IfOk result (λ cut. cut.splits_otherwise ≡ splits_otherwise (splitter_of driver) ExpansionKind.Gnu cwd.now view.now.files (words_of words.now)) }
-{
-    let gnu = ExpansionKind::Gnu;
-    let options = options_by(alloc, driver, arg_info, words, cwd, view)?;
-    let inner_words = inner_words(alloc, &options)?;
-    let inner = inner_by(alloc, &inner_words, cwd, view)?;
-    Ok(CutLine {
-        words: expand_all(alloc, gnu, cwd, words, view)?,
-        options,
-        inner_words,
-        inner,
-        texts: texts_in_place(alloc, gnu, words, cwd, view)?,
-        splits_otherwise: splits_otherwise(alloc, splitter_of(driver), gnu, words, cwd, view)?,
-    })
+    if compiler == CCompilerKind::Clang {
+        Driver::Clang
+    } else {
+        Driver::Gcc
+    }
 }
 
 /// The path of the record's object, empty where it has none.
@@ -197,63 +104,47 @@ fn gnu_found(alloc: Global, line: &Line<'_, ArgData>) -> Mem<Vec<Hazard>>
     Ok(hazards)
 }
 
-/// What the compiler is, beside its tables.
-#[derive(Clone, Copy)]
-pub(crate) struct GnuCompiler {
-    pub(crate) driver: Driver,
-    pub(crate) is_apple: bool,
-    pub(crate) is_plusplus: bool,
-}
-
 /// The hazards of a command line that has this record.
-fn hazards_with<S: SearchableArgInfo<ArgData> + Drop>(
+fn hazards_with(
     alloc: Global,
-    compiler: GnuCompiler,
-    arg_info: S,
-    words: &[Vec<u8>],
-    cwd: &[u8],
-    view: &View,
+    reading: &GnuReading,
+    is_apple: bool,
     parsed: &ParsedArguments,
 ) -> Mem<Vec<Hazard>>
-    requires { IsTrue (tables_hold_values holds_value (S.tables arg_info)) }
-    ensures { IfOk result (λ hazards. hazards.items ≡ gnu_found (gnu_line compiler.driver compiler.is_apple compiler.is_plusplus (S.tables arg_info) cwd.now view.now (words_of words.now) (parsed_of parsed.now))) }
+    ensures { IfOk result (λ hazards. hazards.items ≡ gnu_found (gnu_line is_apple reading.now (parsed_of parsed.now))) }
 {
-    let cut = cut(alloc, compiler.driver, arg_info, words, cwd, view)?;
+    let driver = driver_of(reading.kind());
+    let (outer, gnu) = (reading.outer(), ExpansionKind::Gnu);
+    let texts = outer.texts();
     let line = Line {
-        driver: compiler.driver,
-        is_plusplus: compiler.is_plusplus,
-        is_apple: compiler.is_apple,
-        words: &cut.words,
-        options: &cut.options,
-        inner_words: &cut.inner_words,
-        inner: &cut.inner,
+        driver,
+        is_plusplus: reading.plusplus(),
+        is_apple,
+        words: outer.words(),
+        options: outer.line().options().as_slice(),
+        inner_words: reading.handed(),
+        inner: reading.inner().line().options().as_slice(),
         input: &parsed.input,
         language: parsed.language,
         object: object_of(parsed),
-        texts: &cut.texts,
-        splits_otherwise: cut.splits_otherwise,
+        texts,
+        splits_otherwise: splits_otherwise(alloc, splitter_of(driver), gnu, texts)?,
         environment: &[],
         splits_environment: false,
     };
     gnu_found(alloc, &line)
 }
 
-/// The hazards of a command line that has this record, if it has one.
+/// The hazards of a command line of gcc or clang, Apple's or not: exactly those of which a case of the tables is there, in the
+/// order of the tables; none where it has no record (docs/RULES.md, Hazards). It fails only for want of memory.
 #[tactic(auto, unfolding(crate::specs::GnuHazards::gnu_hazards))]
-pub(crate) fn gnu_hazards<S: SearchableArgInfo<ArgData> + Drop>(
-    alloc: Global,
-    compiler: GnuCompiler,
-    arg_info: S,
-    words: &[Vec<u8>],
-    cwd: &[u8],
-    view: &View,
-    parsed: Option<&ParsedArguments>,
-) -> Mem<Vec<Hazard>>
-    requires { IsTrue (tables_hold_values holds_value (S.tables arg_info)) }
-    ensures { IfOk result (λ hazards. hazards.items ≡ gnu_hazards compiler.driver compiler.is_apple compiler.is_plusplus (S.tables arg_info) cwd.now view.now (words_of words.now) (option_map parsed_of (option_copied parsed.entry))) }
+pub fn gnu_hazards(alloc: Global, reading: &GnuReading, is_apple: bool) -> Mem<Vec<Hazard>>
+    ensures { IfOk result (λ hazards. hazards.items ≡ gnu_hazards is_apple reading.now) }
 {
-    match parsed {
-        Some(parsed) => hazards_with(alloc, compiler, arg_info, words, cwd, view, parsed),
-        None => Ok(Vec::new(alloc)),
+    match reading.outcome() {
+        CompilerArguments::Ok(parsed) => hazards_with(alloc, reading, is_apple, parsed),
+        CompilerArguments::CannotCache(_, _) | CompilerArguments::NotCompilation => {
+            Ok(Vec::new(alloc))
+        }
     }
 }

@@ -1,9 +1,9 @@
-//! Hazards: command lines for which gcc, clang or clang-cl do something else with the built command than with the given one.
+//! Hazards: command lines, as they were read, for which gcc, clang or clang-cl do something else with the built command than with
+//! the given one.
 #![tactic(auto)]
 
 mod clang_cl;
 mod clang_cl_rows;
-mod compilers;
 mod condition;
 mod delimiter;
 mod driver;
@@ -18,6 +18,7 @@ mod row;
 mod test;
 mod text;
 
-pub use compilers::HasHazards;
+pub use clang_cl::msvc_hazards;
 pub use driver::Driver;
+pub use gnu::gnu_hazards;
 pub use hazard::{Danger, HAZARDS, Hazard};

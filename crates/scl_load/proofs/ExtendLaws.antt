@@ -5,7 +5,7 @@ use Rattle.scl_files.specs.Paths.{same_path}
 use Rattle.scl_files.specs.Views.{File, Viewed, bytes_at, put_file, is_among, is_directory, exists}
 use Rattle.scl_files.proofs.SamePath.{same_path-right, same_path-same}
 use Rattle.scl_files.proofs.ViewLemmas.{bytes_at-put}
-use Rattle.scl_cl.specs.Questions.{Extends}
+use Rattle.scl_reader.specs.Questions.{Extends}
 
 -- ---- paths with the same components
 

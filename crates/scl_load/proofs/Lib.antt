@@ -1,3 +1,4 @@
 pub mod ExtendLaws
+pub mod LeadLaws
 pub mod LoadLaws
 pub mod LookLaws

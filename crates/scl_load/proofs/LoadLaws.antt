@@ -1,59 +1,148 @@
--- The rounds of a load.
-use Rattle.std.proofs.Common.{◌≡◌, ◌+◌, ◌<◌, ℕ, Bool, true, false, List, refl, sym, ap, subst, ◌∙◌}
+-- A load goes on, and how it ends.
+use Rattle.std.proofs.Common.{◌≡◌, ◌+◌, ◌<◌, ◌++◌, ℕ, true, false, List, Option, None, Some, Ok, Err, inl, Contains, map, refl, sym, ap, subst, ◌∙◌}
 use Rattle.scl_files.specs.Views.{Viewed}
-use Rattle.scl_cl.specs.declared.compiler.Compiler.{Compiler}
-use Rattle.scl_cl.specs.Requests.{asked}
-use Rattle.scl_cl.specs.Answers.{answer_to}
-use Rattle.scl_cl.specs.Questions.{Questions, Extends, HasNoneOf, questions_of}
-use Rattle.scl_cl.specs.Within.{has_at_most}
-use Rattle.scl_cl.proofs.QuestionLaws.{are-decided}
-use Rattle.scl_load.specs.Loads.{AreAllSame, AreRounds, none, more, HasNoneAsked, IsLoaded, IsLookedFor, IsTooLong, IsUnended, Load, first_view, load_of}
+use Rattle.scl_files.specs.declared.expand.ExpansionKind.{ExpansionKind}
+use Rattle.scl_values.specs.Each.{Each}
+use Rattle.scl_values.specs.Words.{words_of}
+use Rattle.scl_reader.specs.Answers.{answer_to, reading_by}
+use Rattle.scl_reader.specs.Compilers.{expansion_of}
+use Rattle.scl_reader.specs.Questions.{Questions, Extends, HasNoneOf, questions_of}
+use Rattle.scl_reader.specs.Reads.{files_lacked, outcome_in, read_of}
+use Rattle.scl_reader.specs.Within.{has_at_most}
+use Rattle.scl_reader.specs.declared.reading.Reading.{Reading}
+use Rattle.scl_reader.proofs.QuestionLaws.{are-decided, readings-decided}
+use Rattle.scl_reader.proofs.ReadLaws.{readings-say}
+use Rattle.scl_load.specs.Leads.{AreFollowed, IsLead, IsLed, IsReadOnce, Lead, file_leads, first_leads, leads_found, leads_given, leads_of}
+use Rattle.scl_load.specs.Loads.{AreAllSame, AreLooks, HasNoneAsked, IsDiskError, IsEnd, IsGiven, IsLoaded, IsLookedFor, IsTooLong, IsUnended, Load, asked_all, asked_file, asked_on, first_view, given, load_of, none}
+use Rattle.scl_load.specs.declared.leads.Leads as all
+use Rattle.scl_load.specs.declared.loader.DiskLine.{DiskLine}
+use Rattle.scl_load.specs.declared.loader.LoadError.{LoadError}
+use Rattle.scl_load.specs.declared.loader.LoadError.TheVariants as errors
 use Rattle.scl_load.proofs.ExtendLaws.{extends-empty}
+use Rattle.scl_load.proofs.LeadLaws.{each-both, each-flat, each-given, each-in, each-inside, each-mapped, each-so, leads-kept}
 
 module _ (holds : Viewed → Type 0) (load : Load) where
-  -- so many rounds made the view of what each disk of which this holds has
-  abbrev pub IsUnderWay : ℕ → Viewed → Type 0
-  IsUnderWay rounds view = (held : Viewed) → holds held → held.is_multiarch ≡ load.is_multiarch → Extends held view × AreRounds held load rounds view
+  -- on each disk of which this holds, so many readings found something, the view was made, and these are left to be looked for
+  abbrev pub IsUnderWay : ℕ → Viewed → List Lead → Type 0
+  IsUnderWay readings view leads = (held : Viewed) → holds held → held.is_multiarch ≡ load.is_multiarch → IsLed held load readings view leads
 
-  pub no-round : IsUnderWay 0 (first_view load.is_multiarch)
-  no-round held h m = (extends-empty held load.is_multiarch m, none)
-
-  pub next-round : (rounds : ℕ) (before after : Viewed) (q : Questions) → IsUnderWay rounds before → has_at_most load.most_words (load.asks before) ≡ true → q ≡ questions_of (load.asks before)
-      → IsLookedFor holds (HasNoneAsked q) (AreAllSame q) before after true → IsUnderWay (rounds + 1) after
-  next-round rounds before after q way within is looked held h m =
-      let here = way held h m in
-      let look = subst (λ asked. IsLookedFor holds (HasNoneAsked asked) (AreAllSame asked) before after true) is looked held h here.0 in
-      (look.extends, more rounds before after here.1 within look)
-
-  pub last-round : (rounds : ℕ) (before after : Viewed) (q : Questions) → rounds < load.most_rounds → IsUnderWay rounds before → has_at_most load.most_words (load.asks before) ≡ true
-      → q ≡ questions_of (load.asks before) → IsLookedFor holds (HasNoneAsked q) (AreAllSame q) before after false
+  pub last-reading : (readings : ℕ) (before after : Viewed) (leads : List Lead) (q : Questions) → readings < load.most_rounds → IsUnderWay readings before leads
+      → has_at_most load.most_words (load.asks before) ≡ true → q ≡ questions_of (load.asks before) → IsLookedFor holds (HasNoneAsked q) (AreAllSame q) before after false
       → (held : Viewed) → holds held → held.is_multiarch ≡ load.is_multiarch → IsLoaded held load after
-  last-round rounds before after q allowed way within is looked held h m =
+  last-reading readings before after leads q allowed way within is looked held h m =
       let here = way held h m in
-      let found = (looked held h here.0).none_found refl in
+      let found = (looked.1 held h here.extends).none_found refl in
       subst (λ view. IsLoaded held load view) (sym found.0) (record {
-        is_made = record { rounds = rounds; are_rounds = here.1; are_allowed = allowed };
+        is_made = record { readings = readings; are_looks = here.are_looks; are_allowed = allowed };
         is_within = within;
         has_none = subst (HasNoneOf held) is found.1;
       })
 
-  pub too-long : (rounds : ℕ) (view : Viewed) → rounds < load.most_rounds → IsUnderWay rounds view → has_at_most load.most_words (load.asks view) ≡ false
+  pub too-long : (readings : ℕ) (view : Viewed) (leads : List Lead) → readings < load.most_rounds → IsUnderWay readings view leads → has_at_most load.most_words (load.asks view) ≡ false
       → (held : Viewed) → holds held → held.is_multiarch ≡ load.is_multiarch → IsTooLong held load
-  too-long rounds view allowed way longer held h m = record {
+  too-long readings view leads allowed way longer held h m = record {
     view = view;
-    is_made = record { rounds = rounds; are_rounds = (way held h m).1; are_allowed = allowed };
+    is_made = record { readings = readings; are_looks = (way held h m).are_looks; are_allowed = allowed };
     is_longer = longer;
   }
 
-  pub unended : (view : Viewed) → IsUnderWay load.most_rounds view → (held : Viewed) → holds held → held.is_multiarch ≡ load.is_multiarch → IsUnended held load
-  unended view way held h m = record { view = view; are_rounds = (way held h m).1 }
+  pub unended : (view : Viewed) (leads : List Lead) → IsUnderWay load.most_rounds view leads → (held : Viewed) → holds held → held.is_multiarch ≡ load.is_multiarch → IsUnended held load
+  unended view leads way held h m = record { view = view; are_looks = (way held h m).are_looks }
 
-pub same-answer : (holds : Viewed → Type 0) (compiler : Compiler) (words : List (List ℕ)) (directory : List ℕ) (pairs : List (List ℕ × List ℕ)) (multiarch : Bool) (most most_rounds rounds : ℕ)
-    (before after : Viewed) (q : Questions) → IsUnderWay holds (load_of compiler words directory pairs multiarch most most_rounds) rounds before
-    → q ≡ questions_of (asked compiler words directory pairs before) → IsLookedFor holds (HasNoneAsked q) (AreAllSame q) before after false
-    → (held : Viewed) → holds held → held.is_multiarch ≡ multiarch → answer_to (asked compiler words directory pairs held) ≡ answer_to (asked compiler words directory pairs after)
-same-answer holds compiler words directory pairs multiarch most most_rounds rounds before after q way is looked held h m =
-    let here = way held h m in
-    let found = (looked held h here.0).none_found refl in
-    are-decided (asked compiler words directory pairs before) held here.0 (subst (HasNoneOf held) is found.1)
-    ∙ ap (λ view. answer_to (asked compiler words directory pairs view)) (sym found.0)
+-- where the disk has none of what a reading asks, it decides the record and the answer
+module _ (holds : Viewed → Type 0) (line : DiskLine) (most most_rounds readings : ℕ) (before after : Viewed) (leads : List Lead) (q : Questions)
+    (way : IsUnderWay holds (load_of line most most_rounds) readings before leads) (is : q ≡ questions_of (asked_on line before))
+    (looked : IsLookedFor holds (HasNoneAsked q) (AreAllSame q) before after false) where
+  pub same-answer : (held : Viewed) → holds held → held.is_multiarch ≡ line.multiarch → answer_to (asked_on line held) ≡ answer_to (asked_on line after)
+  same-answer held h m =
+      let here = way held h m in
+      let found = (looked.1 held h here.extends).none_found refl in
+      are-decided (asked_on line before) held here.extends (subst (HasNoneOf held) is found.1) ∙ ap (λ view. answer_to (asked_on line view)) (sym found.0)
+
+  pub same-record : (reading : Reading) → reading ≡ read_of (asked_on line before)
+      → (held : Viewed) → holds held → held.is_multiarch ≡ line.multiarch → reading_by line.compiler (asked_on line held) ≡ outcome_in reading
+  same-record reading e held h m =
+      let here = way held h m in
+      let found = (looked.1 held h here.extends).none_found refl in
+      readings-decided (asked_on line before) held here.extends (subst (HasNoneOf held) is found.1)
+      ∙ sym ((readings-say (asked_on line before)).outcome) ∙ ap outcome_in (sym e)
+
+-- ---- a load goes on
+
+module _ (disk : Viewed) (line : DiskLine) (most most_rounds : ℕ) where
+  abbrev load : Load
+  load = load_of line most most_rounds
+
+  given-leads : (o : Option ExpansionKind) → expansion_of line.compiler ≡ o
+      → Each (IsLead disk load (first_view line.multiarch)) (leads_given o line.directory.now (words_of line.words.now))
+  given-leads None e = tt
+  given-leads (Some kind) e = each-given disk load (first_view line.multiarch) kind line.directory.now (words_of line.words.now) (λ path has.
+      let is : IsGiven load path = (kind, e, has) in record { is_chain = given path is; is_named = inl is })
+
+  pub led-first : disk.is_multiarch ≡ line.multiarch → IsLed disk load 0 (first_view line.multiarch) (first_leads line)
+  led-first m = record {
+    are_looks = none;
+    extends = extends-empty disk line.multiarch m;
+    are_leads = given-leads (expansion_of line.compiler) refl;
+  }
+
+  -- what files name that a reading lacked and that were found
+  found-leads : (readings : ℕ) (before after : Viewed) → AreLooks disk load readings before → Extends disk after
+      → Each (IsLead disk load after) (leads_found (read_of (asked_on line before)) after line.directory.now (readings + 1))
+  found-leads readings before after looks extends =
+      let lacked = files_lacked (read_of (asked_on line before)) in
+      let paths = map (λ file. file.path) lacked in
+      each-flat (IsLead disk load after) (file_leads after line.directory.now (readings + 1)) lacked
+      (each-so (λ file. Contains paths file.path) (λ file. Each (IsLead disk load after) (file_leads after line.directory.now (readings + 1) file)) lacked
+      (λ file has. each-inside disk load after line.directory.now (λ _. refl) extends file.kind file.path readings (asked_file readings before file.path looks has))
+      (each-mapped (Contains paths) (λ file. file.path) lacked (each-in (Contains paths) paths (λ path has. has))))
+
+  pub led-more : (readings : ℕ) (before after : Viewed) (leads more : List Lead) (holds : Viewed → Type 0) → holds disk → IsLed disk load readings before leads
+      → has_at_most most (asked_on line before) ≡ true
+      → IsLookedFor holds (HasNoneAsked (questions_of (asked_on line before))) (AreAllSame (questions_of (asked_on line before))) before after true
+      → more ≡ leads ++ leads_found (read_of (asked_on line before)) after line.directory.now (readings + 1)
+      → IsLed disk load (readings + 1) after more
+  led-more readings before after leads more holds h led within looked is =
+      let look = looked.1 disk h led.extends in record {
+        are_looks = asked_all readings before after led.are_looks within look;
+        extends = look.extends;
+        are_leads = subst (Each (IsLead disk load after)) (sym is)
+            (each-both (IsLead disk load after) leads _ (leads-kept load line.directory.now (λ _. refl) before after look.keeps disk leads led.are_leads)
+            (found-leads readings before after led.are_looks look.extends));
+      }
+
+module _ {E : Type 0} (holds : Viewed → Type 0) (fails : E → Type 0) (line : DiskLine) (most most_rounds readings : ℕ) (before after : Viewed) (leads more : all.Leads)
+    (way : IsUnderWay holds (load_of line most most_rounds) readings before (leads_of leads)) where
+  pub followed : {R : Type 0} (r : R) → AreFollowed {R = R} {E = E} holds fails line.directory.now most_rounds leads more before after (Ok r)
+      → IsUnderWay holds (load_of line most most_rounds) readings after (leads_of more)
+  followed r on held h m = on held (load_of line most most_rounds) readings h (λ _. refl) (way held h m)
+
+  pub not-followed : (R : Type 0) (error : LoadError E) → AreFollowed {R = R} {E = E} holds fails line.directory.now most_rounds leads more before after (Err error)
+      → (held : Viewed) → holds held → held.is_multiarch ≡ line.multiarch → IsEnd held (load_of line most most_rounds) (Err error)
+  not-followed R (errors.Disk error) f held h m = tt
+  not-followed R errors.TooManyWords f held h m = absurd f
+  not-followed R errors.TooManyRounds f held h m = inl (f held (load_of line most most_rounds) readings h (λ _. refl) refl (way held h m))
+
+  pub read-more : (depth : ℕ) → depth ≡ readings + 1 → IsReadOnce holds fails line most depth leads more before after (Ok None)
+      → IsUnderWay holds (load_of line most most_rounds) (readings + 1) after (leads_of more)
+  read-more depth deeper once held h m = led-more held line most most_rounds readings before after (leads_of leads) (leads_of more) holds h (way held h m) once.0 once.1
+      (once.2 ∙ ap (λ d. leads_of leads ++ leads_found (read_of (asked_on line before)) after line.directory.now d) deeper)
+
+  pub not-read : (depth : ℕ) (error : LoadError E) → readings < most_rounds → IsReadOnce holds fails line most depth leads more before after (Err error)
+      → (held : Viewed) → holds held → held.is_multiarch ≡ line.multiarch → IsEnd held (load_of line most most_rounds) (Err error)
+  not-read depth (errors.Disk error) allowed once held h m = tt
+  not-read depth errors.TooManyWords allowed once held h m = too-long holds (load_of line most most_rounds) readings before (leads_of leads) allowed way once held h m
+  not-read depth errors.TooManyRounds allowed once held h m = absurd once
+
+module _ {E : Type 0} (holds : Viewed → Type 0) (fails : E → Type 0) where
+  pub followed-fails : (R : Type 0) (directory : List ℕ) (rounds : ℕ) (leads more : all.Leads) (before after : Viewed) (error : LoadError E)
+      → AreFollowed {R = R} {E = E} holds fails directory rounds leads more before after (Err error) → IsDiskError fails error
+  followed-fails R directory rounds leads more before after (errors.Disk error) f = f
+  followed-fails R directory rounds leads more before after errors.TooManyWords f = tt
+  followed-fails R directory rounds leads more before after errors.TooManyRounds f = tt
+
+  pub read-fails : (line : DiskLine) (most depth : ℕ) (leads more : all.Leads) (before after : Viewed) (error : LoadError E)
+      → IsReadOnce holds fails line most depth leads more before after (Err error) → IsDiskError fails error
+  read-fails line most depth leads more before after (errors.Disk error) f = f
+  read-fails line most depth leads more before after errors.TooManyWords f = tt
+  read-fails line most depth leads more before after errors.TooManyRounds f = tt

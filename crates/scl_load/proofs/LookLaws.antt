@@ -8,7 +8,7 @@ use Rattle.scl_values.specs.Each.{Each}
 use Rattle.scl_values.specs.Words.{words_of}
 use Rattle.scl_files.specs.Views.{Viewed, bytes_at, is_directory, exists}
 use Rattle.scl_files.specs.Wanted.{HasNone}
-use Rattle.scl_cl.specs.Questions.{Questions, Extends}
+use Rattle.scl_reader.specs.Questions.{Questions, Extends}
 use Rattle.scl_load.specs.declared.look.Sought.{Sought}
 use Rattle.scl_load.specs.declared.look.Sought.TheVariants as kinds
 use Rattle.scl_load.specs.Loads.{is_there, IsAbsent, AreAbsent, IsSame, AreSame, AreAllSame, HasNoneAsked, IsLookedFor}
@@ -61,36 +61,45 @@ not-absent sought path disk e k = false≢true (sym k ∙ e)
 module _ (holds : Viewed → Type 0) (sought : Sought) (path : List ℕ) (view : Viewed) where
   -- the view had it
   pub found-before : is_there sought path view ≡ true → IsLookedFor holds (IsAbsent sought path) (IsSame sought path) view view true
-  found-before e disk h extends = record {
-    extends = extends;
-    keeps = extends-same view;
-    same = same-there sought path disk view extends e;
-    none_found = λ k. absurd (cc);
-    some_found = λ _. not-absent sought path disk (there-too sought path disk view extends e);
-  }
+  found-before e = (
+    λ _. refl,
+    λ disk h extends. record {
+      extends = extends;
+      keeps = extends-same view;
+      same = same-there sought path disk view extends e;
+      none_found = λ k. absurd (cc);
+      some_found = λ _. not-absent sought path disk (there-too sought path disk view extends e);
+    },
+  )
 
   -- neither the view nor the disk has it
   pub found-none : is_there sought path view ≡ false → ((disk : Viewed) → holds disk → is_there sought path disk ≡ false)
       → IsLookedFor holds (IsAbsent sought path) (IsSame sought path) view view false
-  found-none e none disk h extends = record {
-    extends = extends;
-    keeps = extends-same view;
-    same = same-absent sought path disk view (none disk h) e;
-    none_found = λ _. (refl, none disk h);
-    some_found = λ k. absurd (cc);
-  }
+  found-none e none = (
+    λ _. refl,
+    λ disk h extends. record {
+      extends = extends;
+      keeps = extends-same view;
+      same = same-absent sought path disk view (none disk h) e;
+      none_found = λ _. (refl, none disk h);
+      some_found = λ k. absurd (cc);
+    },
+  )
 
   -- it was put into the view
   pub found-new : (after : Viewed) → is_there sought path after ≡ true
       → ((disk : Viewed) → holds disk → Extends disk view → Extends disk after × Extends after view) → IsLookedFor holds (IsAbsent sought path) (IsSame sought path) view after true
-  found-new after e extended disk h extends =
-      let here = extended disk h extends in record {
-        extends = here.0;
-        keeps = here.1;
-        same = same-there sought path disk after here.0 e;
-        none_found = λ k. absurd (cc);
-        some_found = λ _. not-absent sought path disk (there-too sought path disk after here.0 e);
-      }
+  found-new after e extended = (
+    λ k. absurd (cc),
+    λ disk h extends.
+        let here = extended disk h extends in record {
+          extends = here.0;
+          keeps = here.1;
+          same = same-there sought path disk after here.0 e;
+          none_found = λ k. absurd (cc);
+          some_found = λ _. not-absent sought path disk (there-too sought path disk after here.0 e);
+        },
+  )
 
 -- ---- what is the same stays so
 
@@ -125,32 +134,38 @@ module _ (holds first second : Viewed → Type 0) (one_same other_same : Viewed 
   pub in-turn : ((disk : Viewed) → Extends disk after → Extends after middle → one_same disk middle → one_same disk after)
       → IsLookedFor holds first one_same before middle f → IsLookedFor holds second other_same middle after g
       → IsLookedFor holds (λ disk. first disk × second disk) (λ disk view. one_same disk view × other_same disk view) before after (f || g)
-  in-turn kept one two disk h extends =
-      let x = one disk h extends in
-      let y = two disk h x.extends in record {
-        extends = y.extends;
-        keeps = extends-behind after middle before y.keeps x.keeps;
-        same = (kept disk y.extends y.keeps x.same, y.same);
-        none_found = λ k.
-            let both = both-false f g k in
-            let here = x.none_found both.0 in
-            let there = y.none_found both.1 in
-            (there.0 ∙ here.0, (here.1, there.1));
-        some_found = not-both f g x.some_found y.some_found;
-      }
+  in-turn kept one two = (
+    λ k. let both = both-false f g k in two.0 both.1 ∙ one.0 both.0,
+    λ disk h extends.
+        let x = one.1 disk h extends in
+        let y = two.1 disk h x.extends in record {
+          extends = y.extends;
+          keeps = extends-behind after middle before y.keeps x.keeps;
+          same = (kept disk y.extends y.keeps x.same, y.same);
+          none_found = λ k.
+              let both = both-false f g k in
+              let here = x.none_found both.0 in
+              let there = y.none_found both.1 in
+              (there.0 ∙ here.0, (here.1, there.1));
+          some_found = not-both f g x.some_found y.some_found;
+        },
+  )
 
 -- said otherwise
 module _ (holds one other : Viewed → Type 0) (one_same other_same : Viewed → Viewed → Type 0) (before after : Viewed) (found : Bool) where
   pub said-otherwise : ((disk : Viewed) → one disk → other disk) → ((disk : Viewed) → other disk → one disk) → ((disk : Viewed) → one_same disk after → other_same disk after)
       → IsLookedFor holds one one_same before after found → IsLookedFor holds other other_same before after found
-  said-otherwise to back same looked disk h extends =
-      let x = looked disk h extends in record {
-        extends = x.extends;
-        keeps = x.keeps;
-        same = same disk x.same;
-        none_found = λ k. let here = x.none_found k in (here.0, to disk here.1);
-        some_found = λ k n. x.some_found k (back disk n);
-      }
+  said-otherwise to back same looked = (
+    looked.0,
+    λ disk h extends.
+        let x = looked.1 disk h extends in record {
+          extends = x.extends;
+          keeps = x.keeps;
+          same = same disk x.same;
+          none_found = λ k. let here = x.none_found k in (here.0, to disk here.1);
+          some_found = λ k n. x.some_found k (back disk n);
+        },
+  )
 
 -- ---- the paths of a list
 

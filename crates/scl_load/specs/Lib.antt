@@ -1,2 +1,4 @@
 pub mod Loads
+pub mod LoadsGiven
+pub mod Leads
 pub mod MemoryDisks

@@ -1,13 +1,19 @@
 -- What a look for paths on a disk finds, and how a load ends.
-use Rattle.std.specs.Prelude.{◌≡◌, ◌+◌, ◌<◌, ℕ, Bool, true, false, List, is_some, Result, Ok, Err}
+use Rattle.std.specs.Prelude.{◌≡◌, ◌+◌, ◌<◌, ◌≤◌, ◌⊎◌, ℕ, Bool, true, false, List, Some, is_some, Result, Ok, Err}
+use Rattle.std.specs.List.{Contains, filter_map}
+use Rattle.scl_values.specs.Words.{words_of}
 use Rattle.scl_values.specs.Each.{Each}
+use Rattle.scl_files.specs.ResponseFiles.{arguments, named}
 use Rattle.scl_files.specs.Views.{Viewed, empty_view, bytes_at, exists, is_directory}
-use Rattle.scl_cl.specs.declared.compiler.Compiler.{Compiler}
-use Rattle.scl_cl.specs.Questions.{Questions, Extends, HasNoneOf, questions_of}
-use Rattle.scl_cl.specs.Requests.{Request, asked}
-use Rattle.scl_cl.specs.Within.{has_at_most}
-use Rattle.scl_load.specs.declared.rounds.LoadError.{LoadError}
-use Rattle.scl_load.specs.declared.rounds.LoadError.TheVariants as errors
+use Rattle.scl_files.specs.declared.expand.ExpansionKind.{ExpansionKind}
+use Rattle.scl_text.specs.Commands.{pairs_of}
+use Rattle.scl_reader.specs.Compilers.{expansion_of}
+use Rattle.scl_reader.specs.Questions.{Questions, Extends, HasNoneOf, questions_of}
+use Rattle.scl_reader.specs.CommandLines.{Request, asked}
+use Rattle.scl_reader.specs.Within.{has_at_most}
+use Rattle.scl_load.specs.declared.loader.DiskLine.{DiskLine}
+use Rattle.scl_load.specs.declared.loader.LoadError.{LoadError}
+use Rattle.scl_load.specs.declared.loader.LoadError.TheVariants as errors
 use Rattle.scl_load.specs.declared.look.Sought.{Sought}
 use Rattle.scl_load.specs.declared.look.Sought.TheVariants as kinds
 
@@ -43,9 +49,9 @@ pub record IsLook (has_none : Viewed → Type 0) (are_same : Viewed → Viewed �
   pub none_found : found ≡ false → (after ≡ before) × has_none disk
   pub some_found : found ≡ true → ¬ has_none disk
 
--- so it is on each disk of which this holds
+-- so it is on each disk of which this holds; where nothing was found the view is as it was, whatever holds
 abbrev pub IsLookedFor : (Viewed → Type 0) → (Viewed → Type 0) → (Viewed → Viewed → Type 0) → Viewed → Viewed → Bool → Type 0
-IsLookedFor holds has_none are_same before after found = (disk : Viewed) → holds disk → Extends disk before → IsLook has_none are_same disk before after found
+IsLookedFor holds has_none are_same before after found = (found ≡ false → after ≡ before) × ((disk : Viewed) → holds disk → Extends disk before → IsLook has_none are_same disk before after found)
 
 -- of all that is asked
 abbrev pub AreAllSame : Questions → Viewed → Viewed → Type 0
@@ -54,35 +60,61 @@ AreAllSame q disk view = AreSame kinds.File q.files disk view × AreSame kinds.D
 abbrev pub HasNoneAsked : Questions → Viewed → Type 0
 HasNoneAsked q disk = HasNoneOf disk q
 
--- ---- rounds
+-- ---- loads
 
--- what is loaded: what is asked of a view, and whether it says that several architectures are allowed; how many words a command line may have, and how many
--- rounds there may be
+-- a command line on a disk, asked of a view
+abbrev pub asked_on : DiskLine → Viewed → Request
+asked_on line view = asked line.compiler (words_of line.words.now) line.directory.now (pairs_of line.environment.now) view
+
+-- what is loaded: what is asked of a view, and whether it says that several architectures are allowed; how many words a command line may have, and how often it may open
+-- files; and how many rounds there may be
 pub record Load : Type 0 where
   pub asks : Viewed → Request
   pub is_multiarch : Bool
   pub most_words : ℕ
   pub most_rounds : ℕ
 
-abbrev pub load_of : Compiler → List (List ℕ) → List ℕ → List (List ℕ × List ℕ) → Bool → ℕ → ℕ → Load
-load_of compiler words directory environment multiarch most rounds =
-    record { asks = λ view. asked compiler words directory environment view; is_multiarch = multiarch; most_words = most; most_rounds = rounds }
+abbrev pub load_of : DiskLine → ℕ → ℕ → Load
+load_of line most rounds = record { asks = asked_on line; is_multiarch = line.multiarch; most_words = most; most_rounds = rounds }
 
 abbrev pub first_view : Bool → Viewed
 first_view multiarch = record empty_view { is_multiarch = multiarch }
 
--- so many rounds make the view from nothing: in each no command line is too long, all that is asked is looked for, and some of it is found
-pub data AreRounds (disk : Viewed) (load : Load) : ℕ → Viewed → Type 0 where
-  none : AreRounds disk load 0 (first_view load.is_multiarch)
-  more : (n : ℕ) (before after : Viewed) → AreRounds disk load n before → has_at_most load.most_words (load.asks before) ≡ true
-      → IsLook (HasNoneAsked (questions_of (load.asks before))) (AreAllSame (questions_of (load.asks before))) disk before after true
-      → AreRounds disk load (n + 1) after
+-- the paths of the response files that words name
+abbrev pub paths_named : ExpansionKind → List ℕ → List (List ℕ) → List (List ℕ)
+paths_named kind directory words = filter_map (named kind directory) words
 
--- fewer rounds than are allowed make the view
+-- given words name the path of a response file
+abbrev pub IsGiven : Load → List ℕ → Type 0
+IsGiven load path = let r = load.asks (first_view load.is_multiarch) in
+    (kind : ExpansionKind) × (expansion_of r.compiler ≡ Some kind) × Contains (paths_named kind r.directory r.words) path
+
+-- words inside a file of the view name it
+abbrev pub IsInside : Load → Viewed → List ℕ → List ℕ → Type 0
+IsInside load view file path = (kind : ExpansionKind) × (bytes : List ℕ) × (words : List (List ℕ)) × (bytes_at file view.files ≡ Some bytes) × (arguments kind bytes ≡ Some words)
+    × Contains (paths_named kind (load.asks view).directory words) path
+
+-- looks make the view from nothing: each is for a response file that given words name, or words inside a file that was found; or it is for all that a reading asks in which no
+-- command line is too long, and finds some of that, which so many did
+pub data AreLooks (disk : Viewed) (load : Load) : ℕ → Viewed → Type 0 where
+  none : AreLooks disk load 0 (first_view load.is_multiarch)
+  file : (n : ℕ) (before after : Viewed) (path : List ℕ) (found : Bool) → AreLooks disk load n before → IsGiven load path ⊎ ((from : List ℕ) × IsInside load before from path)
+      → IsLook (IsAbsent kinds.File path) (IsSame kinds.File path) disk before after found → AreLooks disk load n after
+  asked_all : (n : ℕ) (before after : Viewed) → AreLooks disk load n before → has_at_most load.most_words (load.asks before) ≡ true
+      → IsLook (HasNoneAsked (questions_of (load.asks before))) (AreAllSame (questions_of (load.asks before))) disk before after true
+      → AreLooks disk load (n + 1) after
+
+-- so many response files of the disk name each the next, and the last this path: the first is given, or asked by a reading after as many that found something
+pub data IsChain (disk : Viewed) (load : Load) : ℕ → List ℕ → Type 0 where
+  given : (path : List ℕ) → IsGiven load path → IsChain disk load 0 path
+  asked_file : (n : ℕ) (view : Viewed) (path : List ℕ) → AreLooks disk load n view → Contains (questions_of (load.asks view)).files path → IsChain disk load n path
+  inside : (n : ℕ) (from path : List ℕ) → IsChain disk load n from → IsInside load disk from path → IsChain disk load (n + 1) path
+
+-- fewer readings than rounds that are allowed found something, and made the view
 pub record IsMade (disk : Viewed) (load : Load) (view : Viewed) : Type 0 where
-  pub rounds : ℕ
-  pub are_rounds : AreRounds disk load rounds view
-  pub are_allowed : rounds < load.most_rounds
+  pub readings : ℕ
+  pub are_looks : AreLooks disk load readings view
+  pub are_allowed : readings < load.most_rounds
 
 -- it is made, no command line is too long, and the disk has none of what is asked
 pub record IsLoaded (disk : Viewed) (load : Load) (view : Viewed) : Type 0 where
@@ -96,16 +128,24 @@ pub record IsTooLong (disk : Viewed) (load : Load) : Type 0 where
   pub is_made : IsMade disk load view
   pub is_longer : has_at_most load.most_words (load.asks view) ≡ false
 
--- each of the rounds that are allowed found something
+-- a file of the disk is the last of as many as rounds are allowed that name each the next
+pub record IsDeep (disk : Viewed) (load : Load) : Type 0 where
+  pub depth : ℕ
+  pub path : List ℕ
+  pub is_chain : IsChain disk load depth path
+  pub is_there : is_there kinds.File path disk ≡ true
+  pub is_deep : load.most_rounds ≤ depth + 1
+
+-- as many readings as rounds are allowed found something
 pub record IsUnended (disk : Viewed) (load : Load) : Type 0 where
   pub view : Viewed
-  pub are_rounds : AreRounds disk load load.most_rounds view
+  pub are_looks : AreLooks disk load load.most_rounds view
 
 -- how a load ends, but for reads that fail
 abbrev pub IsEnd : {E : Type 0} → Viewed → Load → Result Viewed (LoadError E) → Type 0
 IsEnd disk load (Ok view) = IsLoaded disk load view
 IsEnd disk load (Err errors.TooManyWords) = IsTooLong disk load
-IsEnd disk load (Err errors.TooManyRounds) = IsUnended disk load
+IsEnd disk load (Err errors.TooManyRounds) = IsDeep disk load ⊎ IsUnended disk load
 IsEnd disk load (Err (errors.Disk error)) = Unit {0}
 
 -- an error of a load that is of the disk is one that the disk gives

@@ -1,11 +1,12 @@
-//! Views of what an answer asks of a disk, loaded round by round.
+//! Views of what an answer asks of a disk, loaded.
 #![tactic(auto)]
 
 mod disk;
+mod leads;
+mod loader;
 mod look;
 mod memory;
-mod rounds;
 
 pub use disk::Disk;
+pub use loader::{DiskLine, LoadError, Loaded, load};
 pub use memory::{Broken, MemoryDisk};
-pub use rounds::{LoadError, load};

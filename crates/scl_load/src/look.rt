@@ -1,11 +1,11 @@
 //! What is asked is looked for on a disk, and what is found is put into a view.
 ghost use Rattle.std.specs.Prelude.{◌≡◌, ◌||◌, IfOk, IfErr};
 ghost use Rattle.scl_values.specs.Words.{words_of};
-ghost use Rattle.scl_cl.specs.QuestionsGiven.{given};
+ghost use Rattle.scl_reader.specs.QuestionsGiven.{given};
 ghost use Rattle.scl_load.specs.Loads.{IsLookedFor, IsAbsent, AreAbsent, IsSame, AreSame, AreAllSame, HasNoneAsked};
 
 use crate::disk::Disk;
-use scl_cl::{Mem, Questions, View};
+use scl_reader::{Mem, Questions, View};
 use std::alloc::Global;
 
 /// What is looked for at a path.
@@ -23,7 +23,7 @@ fn copied(alloc: Global, path: &[u8]) -> Mem<Vec<u8>>
 }
 
 /// Looks for a file; whether the view has it.
-fn look_for_file<D: Disk>(
+pub(crate) fn look_for_file<D: Disk>(
     alloc: Global,
     disk: &D,
     view: &mut View,

@@ -1,6 +1,6 @@
 //! What is answered in the view that is loaded from a disk, and in the whole disk as a view.
 use scl_cl::{Request, View, answer_text, read_request};
-use scl_load::{Broken, LoadError, MemoryDisk, load};
+use scl_load::{Broken, DiskLine, LoadError, Loaded, MemoryDisk, load};
 use std::alloc::Global;
 use std::process::Abort;
 use std::test::Fail;
@@ -99,17 +99,20 @@ fn loaded(
         view: asked.view,
         broken,
     };
-    Ok(load(
-        alloc,
-        &disk,
-        asked.compiler,
-        &asked.words,
-        &asked.directory,
-        &asked.environment,
-        false,
-        most,
-        rounds,
-    )?)
+    let line = DiskLine {
+        compiler: asked.compiler,
+        words: &asked.words,
+        directory: &asked.directory,
+        environment: &asked.environment,
+        multiarch: false,
+    };
+    match load(alloc, &disk, &line, most, rounds)? {
+        Ok(Loaded { view, reading }) => {
+            drop(reading);
+            Ok(Ok(view))
+        }
+        Err(error) => Ok(Err(error)),
+    }
 }
 
 /// Whether the answer from a disk that fails at a path is that of the whole disk.
@@ -176,5 +179,16 @@ fn a_load_past_a_bound_says_which(rt: HostRuntime) -> Result<(), Fail> {
     assert!(rt; enough.is_ok());
     let words = loaded(rt.alloc(), request, None, 2, 4)?;
     assert!(rt; matches!(words, Err(LoadError::TooManyWords)));
+    Ok(())
+}
+
+#[test]
+fn empty_files_that_double_are_opened_so_often_at_most(rt: HostRuntime) -> Result<(), Fail> {
+    let request =
+        "compiler gcc\ncwd /w\nword -c\nword x.c\nword @a\nfile /w/a\t@b\\x20@b\nfile /w/b\t@c\\x20@c\nfile /w/c\t\n";
+    let enough = loaded(rt.alloc(), request, None, 7, 10)?;
+    assert!(rt; enough.is_ok());
+    let openings = loaded(rt.alloc(), request, None, 6, 10)?;
+    assert!(rt; matches!(openings, Err(LoadError::TooManyWords)));
     Ok(())
 }

@@ -1,5 +1,5 @@
 -- Compilers that are equal by the derived `==` hold the same.
-use Rattle.std.proofs.Common.{◌≡◌, ℕ, true, false, Bool, ◌&&◌, List, Option, None, Some, String, Global, refl, ap}
+use Rattle.std.proofs.Common.{◌≡◌, true, false, Bool, ◌&&◌, Option, None, Some, String, Global, refl, ap}
 use mathlib.Core.Bool.{beq}
 use Rattle.std.specs.Prelude.{string_bytes}
 use Rattle.std.specs.Option.{option_eq, option_map}

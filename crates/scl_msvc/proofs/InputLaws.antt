@@ -10,14 +10,14 @@ use Rattle.scl_values.specs.Seen.{Seen, Raw, Unknown, Known, shown, text_of}
 use Rattle.scl_values.specs.Seen as plain
 use Rattle.scl_values.specs.Tables.{owner_in, all_rows}
 use Rattle.scl_args.proofs.OwnerLaws.{owner_in-is}
-use Rattle.scl_again.specs.Origins.{input_words}
-use Rattle.scl_again.specs.Reads.{read, cleanly, Reads}
-use Rattle.scl_again.proofs.FilterLaws.{filter-same, any-none, has-last, last-text}
-use Rattle.scl_again.proofs.FreshLaws.{own-joined, own-either}
-use Rattle.scl_again.proofs.InputLaws.{ends-input}
-use Rattle.scl_again.proofs.MarkLaws.{raw_input, raw-is_input, marked-dashes, known-first}
-use Rattle.scl_again.proofs.OriginLaws.{has_row}
-use Rattle.scl_again.proofs.ReadsLaws.{reads-nil, reads-last}
+use Rattle.scl_args.specs.Origins.{input_words}
+use Rattle.scl_args.specs.Reads.{read, cleanly, Reads}
+use Rattle.scl_args.proofs.FilterLaws.{filter-same, any-none, has-last, last-text}
+use Rattle.scl_args.proofs.FreshLaws.{own-joined, own-either}
+use Rattle.scl_args.proofs.InputLaws.{ends-input}
+use Rattle.scl_args.proofs.MarkLaws.{raw_input, raw-is_input, marked-dashes, known-first}
+use Rattle.scl_args.proofs.OriginLaws.{has_row}
+use Rattle.scl_args.proofs.ReadsLaws.{reads-nil, reads-last}
 use Rattle.scl_text.specs.declared.language.Language.{Language}
 use Rattle.scl_text.specs.declared.language.Language.TheVariants as languages
 use Rattle.scl_msvc_reading.specs.declared.msvc.data.Kind.{Kind}

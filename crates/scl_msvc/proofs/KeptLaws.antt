@@ -6,11 +6,11 @@ use Rattle.std.specs.Str.{bytes_eq}
 use Rattle.scl_values.specs.Cuts.{Cut, raw, unknown, flag, with_value}
 use Rattle.scl_values.specs.Seen.{shown}
 use Rattle.scl_args.specs.Wrapped.{wrapped_apart, wrapped_joined}
-use Rattle.scl_again.specs.Commands.{Inner}
-use Rattle.scl_again.specs.Origins.{IsKept}
-use Rattle.scl_again.specs.Promises.{inner_of}
-use Rattle.scl_again.proofs.CommandLaws.{IsList}
-use Rattle.scl_again.proofs.RawLaws.{HasNoRaws}
+use Rattle.scl_args.specs.Commands.{Inner}
+use Rattle.scl_args.specs.Origins.{IsKept}
+use Rattle.scl_args.specs.Promises.{inner_of}
+use Rattle.scl_args.proofs.CommandLaws.{IsList}
+use Rattle.scl_args.proofs.RawLaws.{HasNoRaws}
 use Rattle.scl_gnu_reading.specs.declared.gcc.data.Kind as gnu
 use Rattle.scl_gnu_reading.specs.ClangRows.{clang_tables}
 use Rattle.scl_msvc_reading.specs.contracts.msvc.data.KindPartialEq.TheImpl as kinds

@@ -7,5 +7,6 @@ pub mod NoFileLaws
 pub mod OneInputLaws
 pub mod PromiseLaws
 pub mod ReadAgainLaws
+pub mod ReadLaws
 pub mod ReadingLaws
 pub mod RecordLaws

@@ -7,9 +7,9 @@ use Rattle.scl_args.specs.Options.{dash_words, texts}
 use Rattle.scl_args.specs.Options as listed
 use Rattle.scl_values.specs.Seen.{Seen, shown, flag_of}
 use Rattle.scl_values.specs.Tables.{owner_in, all_rows}
-use Rattle.scl_again.specs.NoFiles.{NamesNoFile, GivesNoFile, NamesNoFileOfItsOwn, has_plain_flags}
-use Rattle.scl_again.specs.Promises.{said_by}
-use Rattle.scl_again.proofs.NoFileLaws.{each-append, HasPlainFlag, flag-none, plain-found, listed-none, one-none, apart-none, joined-none, last-none}
+use Rattle.scl_args.specs.NoFiles.{NamesNoFile, GivesNoFile, NamesNoFileOfItsOwn, has_plain_flags}
+use Rattle.scl_args.specs.Promises.{said_by}
+use Rattle.scl_args.proofs.NoFileLaws.{each-append, HasPlainFlag, flag-none, plain-found, listed-none, one-none, apart-none, joined-none, last-none}
 use Rattle.scl_files.specs.declared.expand.ExpansionKind.TheVariants as expansions
 use Rattle.scl_text.specs.declared.language.Language.{Language}
 use Rattle.scl_text.specs.declared.language.Language.TheVariants as languages

@@ -8,9 +8,9 @@ use Rattle.scl_args.specs.Options.{texts}
 use Rattle.scl_values.specs.Seen.{Seen, Raw, Unknown, Known, Plain, plain, plain_seen, shown, text_of}
 use Rattle.scl_values.specs.Seen as plain
 use Rattle.scl_values.specs.Tables.{owner_in}
-use Rattle.scl_again.specs.Promises.{said_by}
-use Rattle.scl_again.proofs.FilterLaws.{any-none, has-last}
-use Rattle.scl_again.proofs.NoneLaws.{HasNone, own-alone}
+use Rattle.scl_args.specs.Promises.{said_by}
+use Rattle.scl_args.proofs.FilterLaws.{any-none, has-last}
+use Rattle.scl_args.proofs.NoneLaws.{HasNone, own-alone}
 use Rattle.scl_text.specs.declared.language.Language.{Language}
 use Rattle.scl_text.specs.declared.language.Language.TheVariants as languages
 use Rattle.scl_text.specs.Commands.{object_of}

@@ -1,7 +1,7 @@
 use Rattle.std.proofs.Common.{◌≡◌, List, ℕ, Result, Ok, Err, refl, sym, ap, ◌∙◌}
 use Rattle.std.specs.Prelude.{IfOk}
 use Rattle.scl_args.specs.Options.{◌>>=◌}
-use Rattle.scl_again.specs.Promises.{IsFaithful}
+use Rattle.scl_args.specs.Promises.{IsFaithful}
 use Rattle.scl_text.proofs.CompilerLaws.{command-kept}
 use Rattle.scl_text.specs.Records.{Parsed}
 use Rattle.scl_gnu_reading.specs.ClangRows.{clang_tables}

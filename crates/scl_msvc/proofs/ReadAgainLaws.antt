@@ -11,16 +11,16 @@ use Rattle.scl_values.specs.Seen.{Seen, Plain, shown}
 use Rattle.scl_values.specs.Seen as plain
 use Rattle.scl_values.specs.Tables.{owner_in, all_rows}
 use Rattle.scl_args.specs.Wrapped.{wrapped_apart, wrapped_joined}
-use Rattle.scl_again.specs.Commands.{Said, carried, values_at, IsReadAgain}
-use Rattle.scl_again.specs.Commands as command
-use Rattle.scl_again.specs.Origins.{IsClear, AreClear}
-use Rattle.scl_again.specs.Promises.{Line, said_by}
-use Rattle.scl_again.specs.Reads.{Reads}
-use Rattle.scl_again.proofs.CommandLaws.{IsInner, list-again, command-again}
-use Rattle.scl_again.specs.OwnWords.{is_bare}
-use Rattle.scl_again.proofs.FoundLaws.{last-flag, flag-again}
-use Rattle.scl_again.proofs.ReadsLaws.{reads-append, reads-apart, reads-nil}
-use Rattle.scl_again.proofs.ValuesLaws.{HaveOwnFlags}
+use Rattle.scl_args.specs.Commands.{Said, carried, values_at, IsReadAgain}
+use Rattle.scl_args.specs.Commands as command
+use Rattle.scl_args.specs.Origins.{IsClear, AreClear}
+use Rattle.scl_args.specs.Promises.{Line, said_by}
+use Rattle.scl_args.specs.Reads.{Reads}
+use Rattle.scl_args.proofs.CommandLaws.{IsInner, list-again, command-again}
+use Rattle.scl_args.specs.OwnWords.{is_bare}
+use Rattle.scl_args.proofs.FoundLaws.{last-flag, flag-again}
+use Rattle.scl_args.proofs.ReadsLaws.{reads-append, reads-apart, reads-nil}
+use Rattle.scl_args.proofs.ValuesLaws.{HaveOwnFlags}
 use Rattle.scl_files.specs.declared.expand.ExpansionKind.TheVariants as expansions
 use Rattle.scl_text.specs.declared.language.Language.{Language}
 use Rattle.scl_text.specs.declared.language.Language.TheVariants as languages

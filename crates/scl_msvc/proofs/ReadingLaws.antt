@@ -8,10 +8,10 @@ use Rattle.scl_args.specs.Empties.{refusing_empty}
 use Rattle.scl_args.specs.Options.{last_flag, last_text, texts}
 use Rattle.scl_values.specs.Seen.{Seen, Raw, Unknown, Known, shown}
 use Rattle.scl_values.specs.Tables.{owner_in}
-use Rattle.scl_again.specs.Origins.{IsClear}
-use Rattle.scl_again.proofs.EmptyLaws.{judged-clear, judged-else}
-use Rattle.scl_again.proofs.FilterLaws.{has-last}
-use Rattle.scl_again.proofs.OutcomeLaws.{bind-ok, ok_or-ok, unless-ok, unless-none, judged-ok, judged-none}
+use Rattle.scl_args.specs.Origins.{IsClear}
+use Rattle.scl_args.proofs.EmptyLaws.{judged-clear, judged-else}
+use Rattle.scl_args.proofs.FilterLaws.{has-last}
+use Rattle.scl_args.proofs.OutcomeLaws.{bind-ok, ok_or-ok, unless-ok, unless-none, judged-ok, judged-none}
 use Rattle.scl_files.specs.declared.expand.ExpansionKind.TheVariants as expansions
 use Rattle.scl_text.specs.declared.language.Language.{Language}
 use Rattle.scl_text.specs.declared.language.Language.TheVariants as languages

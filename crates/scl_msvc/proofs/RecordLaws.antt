@@ -3,7 +3,7 @@ use Rattle.std.proofs.Common.{◌≡◌, Some, sym, ap, ◌∙◌}
 use Rattle.std.specs.Prelude.{map, is_some}
 use Rattle.scl_values.specs.Seen.{shown}
 use Rattle.scl_args.specs.Options.{◌>>=◌}
-use Rattle.scl_again.proofs.OutcomeLaws.{bind-ok}
+use Rattle.scl_args.proofs.OutcomeLaws.{bind-ok}
 use Rattle.scl_text.specs.Commands.{object_of}
 use Rattle.scl_msvc_reading.specs.declared.msvc.data.Kind.TheVariants as kind
 use Rattle.scl_msvc.specs.Environment.{surrounded}

@@ -5,5 +5,4 @@ pub mod ListsOf
 pub mod Preprocess
 pub mod Promises
 pub mod ReadAgain
-pub mod Wanted
-pub mod Within
+pub mod Reads

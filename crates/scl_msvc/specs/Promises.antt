@@ -2,7 +2,7 @@
 use Rattle.std.specs.Prelude.{◌≡◌, ℕ, Bool, true, List, [], ◌∷◌, map, codes, Ok, IfOk, IfSome, is_some}
 use Rattle.scl_values.specs.Cuts.{Cut}
 use Rattle.scl_values.specs.Seen.{shown}
-use Rattle.scl_again.specs.Promises.{HandedOn, Line, HasNoEmpty, IsFaithful}
+use Rattle.scl_args.specs.Promises.{HandedOn, Line, HasNoEmpty, IsFaithful}
 use Rattle.scl_text.specs.Commands.{object_of}
 use Rattle.scl_text.specs.Compilers.{IfCommand}
 use Rattle.scl_text.specs.Records.{Parsed}

@@ -1,10 +1,11 @@
 -- Commands of Msvc that are read again: what they are made of, and what a command line says.
 use Rattle.std.specs.Prelude.{◌≡◌, ℕ, Bool, true, false, List, [], ◌∷◌, ◌++◌, map, codes}
-use Rattle.scl_values.specs.Cuts.{Cut}
+use Rattle.scl_values.specs.Cuts.{Cut, cut}
 use Rattle.scl_args.specs.Options.{dash_words, texts}
-use Rattle.scl_values.specs.Seen.{Seen, Plain}
+use Rattle.scl_values.specs.Seen.{Seen, Plain, shown}
 use Rattle.scl_values.specs.Seen as plain
-use Rattle.scl_again.specs.Commands.{CommandList, Parts}
+use Rattle.scl_values.specs.Tables.{owner_in}
+use Rattle.scl_args.specs.Commands.{CommandList, Parts}
 use Rattle.scl_files.specs.declared.expand.ExpansionKind.TheVariants as expansions
 use Rattle.scl_text.specs.declared.language.Language.{Language}
 use Rattle.scl_text.specs.declared.language.Language.TheVariants as languages
@@ -21,7 +22,6 @@ use Rattle.scl_msvc_reading.specs.Inners.{goes_inside_to}
 use Rattle.scl_msvc_reading.specs.Kinds.{of, is_input}
 use Rattle.scl_msvc_reading.specs.Places.{goes_to}
 use Rattle.scl_msvc_reading.specs.Rows.{msvc_tables}
-use Rattle.scl_msvc.specs.Within.{options_cut}
 
 -- ---- what a command is made of
 
@@ -59,6 +59,10 @@ parts p object = record {
   lists = list_of places.Preprocessor ∷ list_of places.Dependency ∷ list_of places.Unhashed ∷ list_of places.Common ∷ [];
   back = mark_option p.double_dash_input ++ input_option p.msvc_explicit_language p.language p.input ∷ [];
 }
+
+-- the options of words in which response files are put in place
+abbrev pub options_cut : Bool → List (List ℕ) → List (Seen Kind)
+options_cut is_clang words = map shown (cut (owner_in msvc_tables) is_clang words).options
 
 -- the words, cut again, have one input, the record's, raw or as the value of the flag of its language
 abbrev pub HasOneInput : Bool → Parsed → List (List ℕ) → Type 0

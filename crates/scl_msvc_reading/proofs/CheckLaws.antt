@@ -2,8 +2,8 @@ use Rattle.std.proofs.Common.{◌≡◌, true, [], ◌∷◌, refl}
 use Rattle.std.specs.Prelude.{codes}
 use Rattle.scl_args.specs.Options as listed
 use Rattle.scl_values.specs.Tables.{all_rows}
-use Rattle.scl_again.specs.NoFiles.{has_plain_flags}
-use Rattle.scl_again.specs.Checks.{PassChecks, JoinSafely, has_no_kept}
+use Rattle.scl_args.specs.NoFiles.{has_plain_flags}
+use Rattle.scl_args.specs.Checks.{PassChecks, JoinSafely, has_no_kept}
 use Rattle.scl_gnu_reading.specs.ClangRows.{clang_rows, clang_tables}
 use Rattle.scl_gnu_reading.specs.GccRows.{gcc_rows}
 use Rattle.scl_msvc_reading.specs.Again.{carried, carried_inner}

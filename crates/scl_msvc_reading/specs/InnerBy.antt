@@ -3,4 +3,4 @@ use Rattle.scl_msvc_reading.specs.declared.msvc.inner.options.InnerOptions.{Inne
 use Rattle.scl_msvc_reading.specs.Inners.{BothInner}
 
 abbrev pub inner_of : InnerOptions → BothInner
-inner_of o = record { xclang = o.xclang; clang = o.clang }
+inner_of o = record { xclang = o.xclang.now; clang = o.clang.now }

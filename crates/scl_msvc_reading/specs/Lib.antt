@@ -6,7 +6,9 @@ pub mod InnerBy
 pub mod Inners
 pub mod Kinds
 pub mod Places
+pub mod ReadBy
 pub mod Readings
+pub mod Reads
 pub mod Recordings
 pub mod Rows
 pub mod Verdicts

@@ -10,6 +10,7 @@ mod judge;
 mod outputs;
 mod parse;
 mod place;
+mod reading;
 mod record;
 
 pub use args::{ARGS, SLASH_ARGS, slash_table, table, trees};
@@ -18,3 +19,4 @@ pub use inner::{ByInnerVerdict, inner_place_of};
 pub use judge::ByVerdict;
 pub use parse::{parse_arguments, parse_arguments_by, parse_arguments_owned};
 pub use place::{ExternalIncludesApart, Place, place_of};
+pub use reading::MsvcReading;

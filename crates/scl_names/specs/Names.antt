@@ -2,8 +2,8 @@
 use Rattle.std.specs.Prelude.{ℕ, ◌-◌, ◌==◌, ◌||◌, ◌&&◌, nat_eq, Bool, List, [], ◌∷◌, length, take, codes, Option, find}
 use Rattle.std.specs.List.{ends_with}
 use Rattle.std.specs.Option.{option_map}
-use Rattle.scl_cl.specs.declared.compiler.Compiler.{Compiler}
-use Rattle.scl_cl.specs.declared.compiler.Compiler.TheVariants.{Gcc, Gxx, Clang, Clangxx, Cl, ClangCl, Diab, Tasking}
+use Rattle.scl_reader.specs.declared.compiler.Compiler.{Compiler}
+use Rattle.scl_reader.specs.declared.compiler.Compiler.TheVariants.{Gcc, Gxx, Clang, Clangxx, Cl, ClangCl, Diab, Tasking}
 use Rattle.scl_names.specs.FileNames.{stem_of}
 use Rattle.scl_names.specs.declared.compilers.Name.{Name}
 use Rattle.scl_names.specs.declared.compilers.Standing.{Standing}

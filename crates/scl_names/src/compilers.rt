@@ -3,7 +3,7 @@ ghost use Rattle.std.specs.Prelude.{◌≡◌, IfOk, map};
 ghost use Rattle.scl_names.specs.Names.{entry_of, names, is_open, stands, fits, compiler_named, compiler_of};
 
 use crate::file_name::stem_of;
-use scl_cl::{Compiler, Mem};
+use scl_reader::{Compiler, Mem};
 use std::alloc::Global;
 
 /// Where a name may stand.

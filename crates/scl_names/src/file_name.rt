@@ -3,7 +3,7 @@ ghost use Rattle.std.specs.Prelude.{◌≡◌, ◌+◌, ◌||◌, ◌==◌, IfOk
 ghost use Rattle.std.specs.List.{suffix_len, list_all, list_any, ends_with};
 ghost use Rattle.scl_names.specs.FileNames.{is_at, is_digit, is_version, file_name_of, without_exe, without_version, stem_of};
 
-use scl_cl::Mem;
+use scl_reader::Mem;
 use std::alloc::Global;
 
 /// What parts of a name stand between.

@@ -5,7 +5,7 @@ ghost use Rattle.scl_values.specs.Words.{words_of};
 ghost use Rattle.scl_names.specs.Launchers.{launchers, is_one_of, is_in_name, is_name, assignment_at, is_assignment, is_before_program, program_at};
 
 use crate::file_name::{is_digit, stem_of};
-use scl_cl::Mem;
+use scl_reader::Mem;
 use std::alloc::Global;
 
 /// The programs that run the compiler which a later word names.

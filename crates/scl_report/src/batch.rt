@@ -79,7 +79,7 @@ impl Batch {
     where
         D::Error: Display,
     {
-        match answer_case(alloc, disk, case, self.multiarch)? {
+        match answer_case(alloc, disk, case, self.multiarch, false)? {
             Ok(answered) => {
                 let kind = counts.count(alloc, entry, file, &answered)?;
                 if self.is_written(kind) {

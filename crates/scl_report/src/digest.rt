@@ -1,5 +1,5 @@
 //! What a database has, for a person.
-use crate::nothing::{nothing_text, rows_of};
+use crate::nothing::nothing_text;
 use scl_cl::{Compilation, CompilerArguments, Mem};
 use scl_explain::{
     Answered, Case, Counts, Met, cached_text, push_hazard_names, refusal_text, unrunnable_text,
@@ -203,7 +203,7 @@ pub fn entry_line(
             text.push_str(refusal.as_str())?;
         }
         CompilerArguments::NotCompilation => {
-            let nothing = nothing_text(alloc, &rows_of(alloc, case, answered)?)?;
+            let nothing = nothing_text(alloc, &answered.rows)?;
             text.push_str(nothing.as_str())?;
         }
     }

@@ -1,5 +1,5 @@
 //! Answers as JSON: an object in one line, whose members are in the order of their names.
-use crate::nothing::{rows_of, why_nothing};
+use crate::nothing::why_nothing;
 use scl_cl::{Cacheable, Compilation, CompilerArguments, Mem};
 use scl_explain::{Answered, Case, unrunnable_text};
 use scl_hazards::Hazard;
@@ -227,9 +227,8 @@ fn put_outcome(members: &mut Members, case: &Case, answered: &Answered) -> Mem<(
             }
         }
         CompilerArguments::NotCompilation => {
-            let rows = rows_of(members.alloc, case, answered)?;
             members.put_text("outcome", "not-compilation")?;
-            members.put_text("reason", why_nothing(&rows))
+            members.put_text("reason", why_nothing(&answered.rows))
         }
     }
 }

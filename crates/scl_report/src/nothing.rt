@@ -1,21 +1,8 @@
 //! Why a command line compiles nothing.
 use scl_cl::Mem;
-use scl_explain::{Answered, Case};
 use scl_rows::Row;
 use scl_text::refusal::Refusal;
 use std::alloc::Global;
-
-/// What became of each option of a command line.
-pub(crate) fn rows_of(alloc: Global, case: &Case, answered: &Answered) -> Mem<Vec<Row>> {
-    let Case {
-        compiler,
-        program: _,
-        words,
-        cwd,
-        env_vars,
-    } = case;
-    compiler.rows(alloc, words, cwd, env_vars, &answered.view)
-}
 
 /// Whether the option is `-S`, which asks for assembly, and which the tables of most compilers have not.
 fn asks_for_assembly(row: &Row) -> bool {

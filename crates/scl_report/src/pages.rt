@@ -1,6 +1,6 @@
 //! The answers to one command line, written.
 use crate::json::{check_line, explanation_line};
-use crate::nothing::{nothing_text, rows_of};
+use crate::nothing::nothing_text;
 use crate::page::explanation;
 use scl_cl::Mem;
 use scl_explain::{Answered, Case, Form, Report};
@@ -18,15 +18,14 @@ impl Report for Pages {
         answered: &Answered,
         form: Form,
     ) -> Mem<String> {
-        let rows = rows_of(alloc, case, answered)?;
         match form {
-            Form::Text(paint) => explanation(alloc, case, answered, &rows, paint),
-            Form::Json => explanation_line(alloc, case, answered, &rows),
+            Form::Text(paint) => explanation(alloc, case, answered, &answered.rows, paint),
+            Form::Json => explanation_line(alloc, case, answered, &answered.rows),
         }
     }
 
     fn nothing(&self, alloc: Global, case: &Case, answered: &Answered) -> Mem<String> {
-        nothing_text(alloc, &rows_of(alloc, case, answered)?)
+        nothing_text(alloc, &answered.rows)
     }
 
     fn hazards(&self, alloc: Global, case: &Case, answered: &Answered) -> Mem<String> {

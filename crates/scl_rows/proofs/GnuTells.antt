@@ -1,21 +1,23 @@
--- What the rows of a command line of Gcc or Clang tell of its outcome.
-use Rattle.std.proofs.Common.{◌≡◌, ℕ, Bool, true, false, cond, List, [], ◌∷◌, ◌++◌, length, map, Option, None, Some, Result, Ok, Err, refl, sym, ap, subst, ◌∙◌}
+-- What the rows of a command line of Gcc or Clang tell of its outcome, and the words that they were cut from.
+use Rattle.std.proofs.Common.{◌≡◌, ℕ, Bool, true, false, cond, List, [], ◌∷◌, ◌++◌, Option, None, Some, Result, Ok, Err, refl, sym, ap, subst, ◌∙◌}
 use Rattle.std.proofs.lemmas.List.{append-nil}
 use Rattle.std.specs.List.{flat_map}
 use Rattle.std.specs.Option.{option_or}
 use Rattle.std.specs.Prelude.{IfOk, is_some}
 use Rattle.std.specs.Str.{bytes_eq}
-use Rattle.scl_again.proofs.OutcomeLaws.{option_or-none}
-use Rattle.scl_args.specs.Options.{last_flag, last_text, list, side_of_flag, texts, unless, ◌>>=◌}
-use Rattle.scl_files.specs.Expand.{expand}
+use Rattle.scl_args.proofs.OutcomeLaws.{option_or-none}
+use Rattle.scl_args.specs.Options.{last_flag, last_text, list, side_of_flag, unless, ◌>>=◌}
+use Rattle.scl_files.specs.Expanded.{ExpandedWords, expanded_by}
 use Rattle.scl_files.specs.Views.{Viewed}
 use Rattle.scl_files.specs.declared.expand.ExpansionKind.TheVariants as expansions
+use Rattle.scl_gnu_reading.proofs.ObjectLaws.{object-found}
 use Rattle.scl_gnu_reading.specs.ClangRows.{clang_tables}
 use Rattle.scl_gnu_reading.specs.FixedTests.{Found, found}
 use Rattle.scl_gnu_reading.specs.Inners.{goes_inside_to, inner_place_of, inner_verdict, inner_words_at}
 use Rattle.scl_gnu_reading.specs.Kinds.{any, of}
 use Rattle.scl_gnu_reading.specs.Places.{goes_to, place_of, words_at}
-use Rattle.scl_gnu_reading.specs.Readings.{read, reading, recorded}
+use Rattle.scl_gnu_reading.specs.Readings.{recorded}
+use Rattle.scl_gnu_reading.specs.Reads.{GnuRead, handed_ats, handed_words, read_by}
 use Rattle.scl_gnu_reading.specs.Recordings.{added_common, added_dependency, all_words_at, is_clang, needs_target, record_of}
 use Rattle.scl_gnu_reading.specs.Verdicts.{verdict}
 use Rattle.scl_gnu_reading.specs.contracts.gcc.place.PlacePartialEq.TheImpl as place_equality
@@ -23,23 +25,24 @@ use Rattle.scl_gnu_reading.specs.declared.gcc.data.Kind.{Kind}
 use Rattle.scl_gnu_reading.specs.declared.gcc.data.Kind.TheVariants as kind
 use Rattle.scl_gnu_reading.specs.declared.gcc.place.Place.{Place}
 use Rattle.scl_gnu_reading.specs.declared.gcc.place.Place.TheVariants as places
-use Rattle.scl_text.specs.JudgedWords.{options_of}
+use Rattle.scl_text.specs.Commands.{object_of}
+use Rattle.scl_text.specs.Lines.{line_refusal}
 use Rattle.scl_text.specs.Records.{Parsed, Verdict}
+use Rattle.scl_text.specs.declared.language.Language.{Language}
 use Rattle.scl_text.specs.declared.records.CCompilerKind.{CCompilerKind}
-use Rattle.scl_values.specs.Cuts.{cut, mark}
+use Rattle.scl_values.specs.Cuts.{mark}
 use Rattle.scl_values.specs.Row.{Row}
-use Rattle.scl_values.specs.Seen.{Seen, Raw, Unknown, Known, shown}
+use Rattle.scl_values.specs.Seen.{Seen, Raw, Unknown, Known}
 use Rattle.scl_values.specs.Tables.{owner_in}
-use Rattle.scl_rows.specs.GnuRows.{destination_at, gnu_rows, inner_goes, inner_ways, option_rows, outer_goes, outer_ways, raw_goes, rows_added, rows_split, rows_target, rows_tested, rows_unless, unlisted, unlisted_kind}
-use Rattle.scl_rows.specs.Lines.{rows_expanded}
-use Rattle.scl_rows.specs.Rows.{Told, Tells, HasLists, first_refusal, handed, is_list, words_to}
-use Rattle.scl_rows.specs.Sources.{ats_cut, ats_expanded, ats_passing, indices}
+use Rattle.scl_rows.specs.GnuRows.{destination_at, gnu_rows, inner_goes, inner_ways, outer_goes, outer_ways, raw_goes, rows_added, rows_for, rows_recorded, rows_split, rows_target, unlisted, unlisted_kind}
+use Rattle.scl_rows.specs.Lines.{line_rows}
+use Rattle.scl_rows.specs.Rows.{Told, Tells, HasLists, first_refusal, handed, is_list, words_given, words_to}
 use Rattle.scl_rows.specs.contracts.destination.DestinationPartialEq.TheImpl.{ghosts}
 use Rattle.scl_rows.specs.declared.destination.Destination.{Destination}
 use Rattle.scl_rows.specs.declared.destination.Destination.TheVariants as destinations
 use Rattle.scl_rows.specs.declared.origin.Origin.TheVariants as origins
-use Rattle.scl_rows.proofs.LineLaws.{given-words, judged-told, list-same, other-list, words-told}
-use Rattle.scl_rows.proofs.TellLaws.{first_refusal-append, or-none, tells, unless-bind, unless-or, words_to-append}
+use Rattle.scl_rows.proofs.LineLaws.{given-words, line-given, line-listed, line-refused, list-same, listed, other-list, read-whole}
+use Rattle.scl_rows.proofs.TellLaws.{first_refusal-append, or-none, tells, unless-bind, unless-or, words_given-append, words_to-append}
 
 -- ---- destinations and places
 
@@ -80,12 +83,12 @@ same-place places.Dependency _ other l n = refl
 same-place places.Nowhere a other l n = absurd (cc)
 same-place places.Refused a other l n = absurd (cc)
 
-outer-listed : (place : Place) → is_list (there_is place) ≡ true → (os : List (Seen Kind)) → flat_map (handed origins.Given) (list side_of_flag (λ o. ghosts.eq (outer_goes o) (there_is place)) os) ≡ words_at place os
+outer-listed : (place : Place) → is_list (there_is place) ≡ true → (os : List (Seen Kind)) → listed outer_ways (there_is place) os ≡ words_at place os
 outer-listed place l os =
     given-words (list side_of_flag (λ o. ghosts.eq (outer_goes o) (there_is place)) os)
     ∙ list-same (λ o. ghosts.eq (outer_goes o) (there_is place)) (goes_to place) (λ o. same-place place (place_of o) (unlisted o) l (no-list o)) side_of_flag os
 
-inner-listed : (place : Place) → is_list (there_is place) ≡ true → (os : List (Seen Kind)) → flat_map (handed origins.Xclang) (list side_of_flag (λ o. ghosts.eq (inner_goes o) (there_is place)) os) ≡ inner_words_at place os
+inner-listed : (place : Place) → is_list (there_is place) ≡ true → (os : List (Seen Kind)) → listed inner_ways (there_is place) os ≡ inner_words_at place os
 inner-listed place l os =
     ap (flat_map (handed origins.Xclang))
     (list-same (λ o. ghosts.eq (inner_goes o) (there_is place)) (goes_inside_to place) (λ o. same-place place (inner_place_of o) destinations.Ignored l refl) side_of_flag os)
@@ -107,18 +110,44 @@ none-both is_needed has_path flag target object is_split =
     ∙ ap (λ v. option_or v (first_refusal (rows_split is_split object))) (none-target is_needed has_path flag target object)
     ∙ none-split is_split object
 
-none-added : (os : List (Seen Kind)) (f : Found) → first_refusal (rows_added os f) ≡ None
-none-added os f =
-    none-both (needs_target f.language os) (is_some (last_text (of (kind.DepArgumentPath ∷ [])) os)) (last_flag (of (kind.DepTarget ∷ [])) os) (last_text (of (kind.DepTarget ∷ [])) os) f.object
+none-added : (os : List (Seen Kind)) (language : Language) (object : List ℕ) → first_refusal (rows_added os language object) ≡ None
+none-added os language object =
+    none-both (needs_target language os) (is_some (last_text (of (kind.DepArgumentPath ∷ [])) os)) (last_flag (of (kind.DepTarget ∷ [])) os) (last_text (of (kind.DepTarget ∷ [])) os) object
     (any (kind.SplitDwarf ∷ []) os)
 
-none-tested : (tested : Result Found Verdict) (os : List (Seen Kind)) → first_refusal (rows_tested tested os) ≡ None
-none-tested (Ok f) os = none-added os f
-none-tested (Err v) os = refl
+none-for : (os : List (Seen Kind)) (language : Language) (object : Option (List ℕ)) → first_refusal (rows_for os language object) ≡ None
+none-for os language None = refl
+none-for os language (Some object) = none-added os language object
 
-none-unless : (v : Option Verdict) (tested : Result Found Verdict) (os : List (Seen Kind)) → first_refusal (rows_unless v (rows_tested tested os)) ≡ None
-none-unless None tested os = none-tested tested os
-none-unless (Some x) tested os = refl
+none-recorded : (os : List (Seen Kind)) (said : Result Parsed Verdict) → first_refusal (rows_recorded os said) ≡ None
+none-recorded os (Ok p) = none-for os p.language (object_of p)
+none-recorded os (Err v) = refl
+
+target-given : (is_needed has_path : Bool) (flag target : Option (List ℕ)) (object : List ℕ) → words_given (rows_target is_needed has_path flag target object) ≡ []
+target-given true true flag target object = refl
+target-given true false flag target object = refl
+target-given false has_path flag target object = refl
+
+split-given : (is_split : Bool) (object : List ℕ) → words_given (rows_split is_split object) ≡ []
+split-given true object = refl
+split-given false object = refl
+
+both-given : (is_needed has_path : Bool) (flag target : Option (List ℕ)) (object : List ℕ) (is_split : Bool) → words_given (rows_target is_needed has_path flag target object ++ rows_split is_split object) ≡ []
+both-given is_needed has_path flag target object is_split =
+    words_given-append (rows_target is_needed has_path flag target object) (rows_split is_split object)
+    ∙ ap (λ ws. ws ++ words_given (rows_split is_split object)) (target-given is_needed has_path flag target object)
+    ∙ split-given is_split object
+
+for-given : (os : List (Seen Kind)) (language : Language) (object : Option (List ℕ)) → words_given (rows_for os language object) ≡ []
+for-given os language None = refl
+for-given os language (Some object) =
+    both-given (needs_target language os) (is_some (last_text (of (kind.DepArgumentPath ∷ [])) os)) (last_flag (of (kind.DepTarget ∷ [])) os) (last_text (of (kind.DepTarget ∷ [])) os) object
+    (any (kind.SplitDwarf ∷ []) os)
+
+-- added rows were cut from no words
+recorded-given : (os : List (Seen Kind)) (said : Result Parsed Verdict) → words_given (rows_recorded os said) ≡ []
+recorded-given os (Ok p) = for-given os p.language (object_of p)
+recorded-given os (Err v) = refl
 
 to-dependency : (is_needed has_path : Bool) (flag target : Option (List ℕ)) (object : List ℕ) → words_to destinations.Dependency (rows_target is_needed has_path flag target object) ≡ added_dependency is_needed has_path flag target object
 to-dependency true true flag target object = refl
@@ -175,80 +204,82 @@ module _ (is_needed has_path : Bool) (flag target : Option (List ℕ)) (object :
   told-by places.Nowhere l = absurd (cc)
   told-by places.Refused l = absurd (cc)
 
-abbrev added_at : Place → List (Seen Kind) → Found → List (List ℕ)
-added_at place os f =
-    added_by (needs_target f.language os) (is_some (last_text (of (kind.DepArgumentPath ∷ [])) os)) (last_flag (of (kind.DepTarget ∷ [])) os) (last_text (of (kind.DepTarget ∷ [])) os) f.object
+abbrev added_at : Place → List (Seen Kind) → Language → List ℕ → List (List ℕ)
+added_at place os language object =
+    added_by (needs_target language os) (is_some (last_text (of (kind.DepArgumentPath ∷ [])) os)) (last_flag (of (kind.DepTarget ∷ [])) os) (last_text (of (kind.DepTarget ∷ [])) os) object
     (any (kind.SplitDwarf ∷ []) os) place
 
-added-told : (place : Place) → is_list (there_is place) ≡ true → (os : List (Seen Kind)) (f : Found) → words_to (there_is place) (rows_added os f) ≡ added_at place os f
-added-told place l os f =
-    told-by (needs_target f.language os) (is_some (last_text (of (kind.DepArgumentPath ∷ [])) os)) (last_flag (of (kind.DepTarget ∷ [])) os) (last_text (of (kind.DepTarget ∷ [])) os) f.object
+added-told : (place : Place) → is_list (there_is place) ≡ true → (os : List (Seen Kind)) (language : Language) (object : List ℕ) → words_to (there_is place) (rows_added os language object) ≡ added_at place os language object
+added-told place l os language object =
+    told-by (needs_target language os) (is_some (last_text (of (kind.DepArgumentPath ∷ [])) os)) (last_flag (of (kind.DepTarget ∷ [])) os) (last_text (of (kind.DepTarget ∷ [])) os) object
     (any (kind.SplitDwarf ∷ []) os) place l
 
 -- ---- a command line
 
-module _ (compiler : CCompilerKind) (plusplus : Bool) (tables : List (List (Row Kind))) (directory : List ℕ) (view : Viewed) (words : List (List ℕ)) where
-  abbrev os : List (Seen Kind)
-  os = map shown (options_of expansions.Gnu tables (is_clang compiler) directory view words)
+module _ (compiler : CCompilerKind) (plusplus : Bool) (tables : List (List (Row Kind))) (directory : List ℕ) (view : Viewed) (e : ExpandedWords) where
+  abbrev r : GnuRead
+  r = read_by compiler plusplus tables directory view e
 
-  abbrev inner_words : List (List ℕ)
-  inner_words = expand expansions.Gnu directory view.files (texts (of (kind.XClang ∷ [])) os)
+  abbrev os : List (Seen Kind)
+  os = r.outer.line.options
 
   abbrev inner : List (Seen Kind)
-  inner = map shown (cut (owner_in clang_tables) false inner_words).options
+  inner = r.inner.line.options
 
-  abbrev given : List (Option ℕ)
-  given = indices (length words)
-
-  abbrev ats : List (Option ℕ)
-  ats = ats_expanded expansions.Gnu directory view.files words given
-
-  abbrev inner_ats : List (Option ℕ)
-  inner_ats = ats_expanded expansions.Gnu directory view.files (texts (of (kind.XClang ∷ [])) os) (ats_passing (of (kind.XClang ∷ [])) os (ats_cut os ats))
+  abbrev inner_words : ExpandedWords
+  inner_words = expanded_by expansions.Gnu directory view.files (handed_words r.outer.line) (handed_ats r.outer.line)
 
   abbrev outer_rows : List Told
-  outer_rows = rows_expanded expansions.Gnu outer_ways (verdict view.is_multiarch) tables (is_clang compiler) directory view words given
+  outer_rows = line_rows outer_ways r.outer
 
   abbrev inner_rows : List Told
-  inner_rows =
-      rows_expanded expansions.Gnu inner_ways inner_verdict clang_tables false directory view (texts (of (kind.XClang ∷ [])) os) (ats_passing (of (kind.XClang ∷ [])) os (ats_cut os ats))
+  inner_rows = line_rows inner_ways r.inner
 
   abbrev rows : List Told
-  rows = option_rows (is_clang compiler) tables directory view words
+  rows = outer_rows ++ inner_rows
 
   abbrev test_and_record : Result Parsed Verdict
   test_and_record = recorded compiler plusplus directory view os inner
 
-  read-told : read compiler plusplus directory view os ≡ unless (first_refusal inner_rows) test_and_record
-  read-told =
-      ap (λ r. r >>= recorded compiler plusplus directory view os) (judged-told inner_ways inner_verdict (owner_in clang_tables) false inner_words inner_ats)
-      ∙ unless-bind (first_refusal inner_rows) (Ok inner) (recorded compiler plusplus directory view os)
+  outer-refused : first_refusal outer_rows ≡ line_refusal r.outer.line
+  outer-refused = line-refused outer_ways r.outer (read-whole (verdict view.is_multiarch) (owner_in tables) (is_clang compiler) e)
 
-  reading-told : reading compiler plusplus tables directory view words ≡ unless (first_refusal rows) test_and_record
-  reading-told =
-      ap (λ r. r >>= read compiler plusplus directory view) (judged-told outer_ways (verdict view.is_multiarch) (owner_in tables) (is_clang compiler) (expand expansions.Gnu directory view.files words) ats)
-      ∙ unless-bind (first_refusal outer_rows) (Ok os) (read compiler plusplus directory view)
-      ∙ ap (unless (first_refusal outer_rows)) read-told
-      ∙ sym (unless-or (first_refusal outer_rows) (first_refusal inner_rows) test_and_record)
-      ∙ ap (λ v. unless v test_and_record) (sym (first_refusal-append outer_rows inner_rows))
+  inner-refused : first_refusal inner_rows ≡ line_refusal r.inner.line
+  inner-refused = line-refused inner_ways r.inner (read-whole inner_verdict (owner_in clang_tables) false inner_words)
+
+  -- the first refusal of its rows is that of the first line that is refused
+  both-refused : first_refusal rows ≡ option_or (line_refusal r.outer.line) (line_refusal r.inner.line)
+  both-refused =
+      first_refusal-append outer_rows inner_rows
+      ∙ ap (λ v. option_or v (first_refusal inner_rows)) outer-refused
+      ∙ ap (option_or (line_refusal r.outer.line)) inner-refused
+
+  outcome-told : r.outcome ≡ unless (first_refusal rows) test_and_record
+  outcome-told =
+      unless-bind (line_refusal r.outer.line) (Ok os) (λ os. unless (line_refusal r.inner.line) (Ok inner) >>= recorded compiler plusplus directory view os)
+      ∙ ap (unless (line_refusal r.outer.line)) (unless-bind (line_refusal r.inner.line) (Ok inner) (recorded compiler plusplus directory view os))
+      ∙ sym (unless-or (line_refusal r.outer.line) (line_refusal r.inner.line) test_and_record)
+      ∙ ap (λ v. unless v test_and_record) (sym both-refused)
 
   -- of a line of which no row is refused
   module _ (none : first_refusal rows ≡ None) where
+    none-in : (line_refusal r.outer.line ≡ None) × (line_refusal r.inner.line ≡ None)
+    none-in = option_or-none (line_refusal r.outer.line) (line_refusal r.inner.line) (sym both-refused ∙ none)
+
     options-told : (place : Place) → is_list (there_is place) ≡ true → words_to (there_is place) rows ≡ all_words_at place os inner
     options-told place l =
-        let both = option_or-none (first_refusal outer_rows) (first_refusal inner_rows) (sym (first_refusal-append outer_rows inner_rows) ∙ none) in
         words_to-append (there_is place) outer_rows inner_rows
         ∙ ap (λ ws. ws ++ words_to (there_is place) inner_rows)
-        (words-told outer_ways (verdict view.is_multiarch) (owner_in tables) (is_clang compiler) (expand expansions.Gnu directory view.files words) ats (there_is place) l both.0 ∙ outer-listed place l os)
-        ∙ ap (λ ws. words_at place os ++ ws) (words-told inner_ways inner_verdict (owner_in clang_tables) false inner_words inner_ats (there_is place) l both.1 ∙ inner-listed place l inner)
+        (line-listed outer_ways r.outer (read-whole (verdict view.is_multiarch) (owner_in tables) (is_clang compiler) e) (there_is place) l none-in.0 ∙ outer-listed place l os)
+        ∙ ap (λ ws. words_at place os ++ ws) (line-listed inner_ways r.inner (read-whole inner_verdict (owner_in clang_tables) false inner_words) (there_is place) l none-in.1 ∙ inner-listed place l inner)
 
-    all-told : (place : Place) → is_list (there_is place) ≡ true → (f : Found) → words_to (there_is place) (rows ++ rows_added os f) ≡ all_words_at place os inner ++ added_at place os f
+    all-told : (place : Place) → is_list (there_is place) ≡ true → (f : Found) → words_to (there_is place) (rows ++ rows_added os f.language f.object) ≡ all_words_at place os inner ++ added_at place os f.language f.object
     all-told place l f =
-        words_to-append (there_is place) rows (rows_added os f)
-        ∙ ap (λ ws. ws ++ words_to (there_is place) (rows_added os f)) (options-told place l)
-        ∙ ap (λ ws. all_words_at place os inner ++ ws) (added-told place l os f)
+        words_to-append (there_is place) rows (rows_added os f.language f.object)
+        ∙ ap (λ ws. ws ++ words_to (there_is place) (rows_added os f.language f.object)) (options-told place l)
+        ∙ ap (λ ws. all_words_at place os inner ++ ws) (added-told place l os f.language f.object)
 
-    lists-of : (f : Found) → HasLists (rows ++ rows_added os f) (record_of compiler directory view os inner f)
+    lists-of : (f : Found) → HasLists (rows ++ rows_added os f.language f.object) (record_of compiler directory view os inner f)
     lists-of f destinations.Dependency = all-told places.Dependency refl f
     lists-of f destinations.Preprocessor = all-told places.Preprocessor refl f ∙ append-nil (all_words_at places.Preprocessor os inner)
     lists-of f destinations.Common = all-told places.Common refl f
@@ -256,32 +287,35 @@ module _ (compiler : CCompilerKind) (plusplus : Bool) (tables : List (List (Row 
     lists-of f destinations.Unhashed = all-told places.Unhashed refl f ∙ append-nil (all_words_at places.Unhashed os inner)
     lists-of f _ = tt
 
-    lists-tested : (tested : Result Found Verdict) → IfOk (tested >>= (λ f. Ok (record_of compiler directory view os inner f))) (HasLists (rows ++ rows_tested tested os))
-    lists-tested (Ok f) = lists-of f
+    lists-tested : (tested : Result Found Verdict) →
+        let said = tested >>= (λ f. Ok (record_of compiler directory view os inner f)) in
+        IfOk said (HasLists (rows ++ rows_recorded os said))
+    lists-tested (Ok f) =
+        let p = record_of compiler directory view os inner f in
+        subst (λ added. HasLists (rows ++ added) p) (ap (rows_for os f.language) (sym (object-found compiler directory view os inner f))) (lists-of f)
     lists-tested (Err v) = tt
 
-    lists-told : IfOk test_and_record (HasLists (gnu_rows compiler plusplus tables directory view words))
+    lists-told : IfOk test_and_record (HasLists (gnu_rows r))
     lists-told =
-        subst (λ v. IfOk test_and_record (HasLists (rows ++ rows_unless v (rows_tested (found plusplus os) os)))) (sym none) (lists-tested (found plusplus os))
+        subst (λ said. IfOk test_and_record (HasLists (rows ++ rows_recorded os said))) (ap (λ v. unless v test_and_record) (sym none) ∙ sym outcome-told) (lists-tested (found plusplus os))
 
-  same-refusal : first_refusal (gnu_rows compiler plusplus tables directory view words) ≡ first_refusal rows
+  same-refusal : first_refusal (gnu_rows r) ≡ first_refusal rows
   same-refusal =
-      first_refusal-append rows (rows_unless (first_refusal rows) (rows_tested (found plusplus os) os))
-      ∙ ap (option_or (first_refusal rows)) (none-unless (first_refusal rows) (found plusplus os) os)
+      first_refusal-append rows (rows_recorded os r.outcome)
+      ∙ ap (option_or (first_refusal rows)) (none-recorded os r.outcome)
       ∙ or-none (first_refusal rows)
 
-  pub gnu-tells : Tells (gnu_rows compiler plusplus tables directory view words) (reading compiler plusplus tables directory view words)
+  pub gnu-tells : Tells (gnu_rows r) r.outcome
   gnu-tells =
-      tells (gnu_rows compiler plusplus tables directory view words) (reading compiler plusplus tables directory view words) test_and_record
-      (reading-told ∙ ap (λ v. unless v test_and_record) (sym same-refusal))
+      tells (gnu_rows r) r.outcome test_and_record
+      (outcome-told ∙ ap (λ v. unless v test_and_record) (sym same-refusal))
       (λ none. lists-told (sym same-refusal ∙ none))
 
--- ---- rows that are added or not
-
-pub unless_refused : (v : Option Verdict) (rows : List Told) → is_some v ≡ true → rows_unless v rows ≡ []
-unless_refused None rows e = absurd (cc)
-unless_refused (Some x) rows e = refl
-
-pub unless_none : (v : Option Verdict) (rows : List Told) → is_some v ≡ false → rows_unless v rows ≡ rows
-unless_none None rows e = refl
-unless_none (Some x) rows e = absurd (cc)
+  pub gnu-given : words_given (gnu_rows r) ≡ r.outer.words ++ r.inner.words
+  gnu-given =
+      words_given-append rows (rows_recorded os r.outcome)
+      ∙ ap (λ ws. words_given rows ++ ws) (recorded-given os r.outcome)
+      ∙ append-nil (words_given rows)
+      ∙ words_given-append outer_rows inner_rows
+      ∙ ap (λ ws. ws ++ words_given inner_rows) (line-given outer_ways (verdict view.is_multiarch) tables (is_clang compiler) e)
+      ∙ ap (λ ws. r.outer.words ++ ws) (line-given inner_ways inner_verdict clang_tables false inner_words)

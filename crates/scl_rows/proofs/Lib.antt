@@ -2,5 +2,4 @@ pub mod GnuTells
 pub mod LineLaws
 pub mod MsvcTells
 pub mod SmallTells
-pub mod SourceLaws
 pub mod TellLaws

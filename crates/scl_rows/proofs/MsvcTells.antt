@@ -1,23 +1,21 @@
--- What the rows of a command line of cl or clang-cl tell of its outcome.
-use Rattle.std.proofs.Common.{◌≡◌, ℕ, Bool, true, false, List, [], ◌∷◌, ◌++◌, length, map, Option, None, Result, Ok, Err, refl, sym, ap, subst, ◌∙◌}
+-- What the rows of a command line of cl or clang-cl tell of its outcome, and the words that they were cut from.
+use Rattle.std.proofs.Common.{◌≡◌, ℕ, Bool, true, false, List, [], ◌++◌, append_assoc, None, Result, Ok, Err, refl, sym, ap, ◌∙◌}
 use Rattle.std.specs.List.{flat_map}
 use Rattle.std.specs.Option.{option_or}
 use Rattle.std.specs.Prelude.{IfOk}
-use Rattle.scl_again.proofs.OutcomeLaws.{option_or-none}
-use Rattle.scl_args.specs.Options.{list, side_of_flag, texts, unless, ◌>>=◌}
-use Rattle.scl_files.specs.Expand.{expand}
+use Rattle.scl_args.proofs.OutcomeLaws.{option_or-none}
+use Rattle.scl_args.specs.Options.{list, side_of_flag, unless, ◌>>=◌}
+use Rattle.scl_files.specs.Expanded.{ExpandedWords, expanded_by}
 use Rattle.scl_files.specs.Views.{Viewed}
 use Rattle.scl_files.specs.declared.expand.ExpansionKind.TheVariants as expansions
 use Rattle.scl_gnu_reading.specs.ClangRows.{clang_tables}
 use Rattle.scl_gnu_reading.specs.declared.gcc.data.Kind as gnu
-use Rattle.scl_msvc.specs.Environment.{surrounded_reading, surroundings}
-use Rattle.scl_msvc.proofs.EnvironmentLemmas.{surrounded_by_both, surrounded_stops}
 use Rattle.scl_msvc_reading.specs.FixedTests.{Found, found}
 use Rattle.scl_msvc_reading.specs.Inners.{BothInner, goes_inside_to, inner_list, inner_place_of, inner_verdict}
-use Rattle.scl_msvc_reading.specs.Kinds.{of}
 use Rattle.scl_msvc_reading.specs.Places as outer
 use Rattle.scl_msvc_reading.specs.Places.{goes_to, place_of, words_at}
-use Rattle.scl_msvc_reading.specs.Readings.{both_inner, inner_options, read, reading, recorded}
+use Rattle.scl_msvc_reading.specs.Readings.{recorded}
+use Rattle.scl_msvc_reading.specs.Reads.{MsvcRead, handed_ats, handed_words, only_clang, only_xclang, read_by}
 use Rattle.scl_msvc_reading.specs.Recordings.{all_words_at, record_of}
 use Rattle.scl_msvc_reading.specs.Rows.{msvc_tables}
 use Rattle.scl_msvc_reading.specs.Verdicts.{verdict}
@@ -26,23 +24,21 @@ use Rattle.scl_msvc_reading.specs.declared.msvc.data.Kind.{Kind}
 use Rattle.scl_msvc_reading.specs.declared.msvc.data.Kind.TheVariants as kind
 use Rattle.scl_msvc_reading.specs.declared.msvc.place.Place.{Place}
 use Rattle.scl_msvc_reading.specs.declared.msvc.place.Place.TheVariants as places
-use Rattle.scl_text.specs.JudgedWords.{options_of}
+use Rattle.scl_text.specs.Lines.{line_refusal}
 use Rattle.scl_text.specs.Records.{Parsed, Verdict}
-use Rattle.scl_values.specs.Cuts.{cut}
-use Rattle.scl_values.specs.Seen.{Seen, Raw, Unknown, Known, shown}
+use Rattle.scl_values.specs.Seen.{Seen, Raw, Unknown, Known}
 use Rattle.scl_values.specs.Tables.{owner_in}
-use Rattle.scl_rows.specs.Lines.{rows_expanded}
-use Rattle.scl_rows.specs.MsvcRows.{ats_between, destination_at, inner_goes, inner_rows, inner_ways, line_rows, msvc_rows, outer_goes, outer_ways, rows_between, unlisted, unlisted_kind}
-use Rattle.scl_rows.specs.Rows.{Told, Tells, HasLists, first_refusal, handed, is_list, words_to}
-use Rattle.scl_rows.specs.Sources.{ats_cut, ats_expanded, ats_passing}
+use Rattle.scl_rows.specs.Lines.{line_rows}
+use Rattle.scl_rows.specs.MsvcRows.{destination_at, inner_goes, inner_ways, msvc_rows, outer_goes, outer_ways, unlisted, unlisted_kind}
+use Rattle.scl_rows.specs.Rows.{Told, Tells, HasLists, first_refusal, handed, is_list, words_given, words_to}
 use Rattle.scl_rows.specs.contracts.destination.DestinationPartialEq.TheImpl.{ghosts}
 use Rattle.scl_rows.specs.declared.destination.Destination.{Destination}
 use Rattle.scl_rows.specs.declared.destination.Destination.TheVariants as destinations
 use Rattle.scl_rows.specs.declared.origin.Origin.{Origin}
 use Rattle.scl_rows.specs.declared.origin.Origin.TheVariants as origins
 use Rattle.scl_rows.proofs.GnuTells.{raw-unlisted}
-use Rattle.scl_rows.proofs.LineLaws.{given-words, judged-told, list-same, listed, none-listed, other-list, words-told}
-use Rattle.scl_rows.proofs.TellLaws.{first_refusal-append, tells, unless-bind, unless-or, words_to-append}
+use Rattle.scl_rows.proofs.LineLaws.{given-words, line-given, line-listed, line-refused, list-same, listed, none-listed, other-list, read-whole}
+use Rattle.scl_rows.proofs.TellLaws.{first_refusal-append, tells, unless-bind, unless-or, words_given-append, words_to-append}
 
 -- ---- destinations and places
 
@@ -95,110 +91,101 @@ no-arch _ other n = refl
 
 -- ---- a command line
 
-module _ (is_clang : Bool) (directory : List ℕ) (view : Viewed) (words : List (List ℕ)) (given : List (Option ℕ)) where
+module _ (is_clang : Bool) (directory : List ℕ) (view : Viewed) (environment : List (List ℕ)) (e : ExpandedWords) where
+  abbrev r : MsvcRead
+  r = read_by is_clang directory view environment e
+
   abbrev os : List (Seen Kind)
-  os = map shown (options_of expansions.Msvc msvc_tables is_clang directory view words)
-
-  abbrev ats : List (Option ℕ)
-  ats = ats_expanded expansions.Msvc directory view.files words given
-
-  abbrev outer_rows : List Told
-  outer_rows = rows_expanded expansions.Msvc outer_ways (verdict is_clang) msvc_tables is_clang directory view words given
-
-  abbrev rows_of : Origin → Kind → List Told
-  rows_of origin k = inner_rows origin k directory view os (ats_cut os ats)
-
-  abbrev inner_words : Kind → List (List ℕ)
-  inner_words k = expand expansions.Gnu directory view.files (texts (of (k ∷ [])) os)
-
-  abbrev inner_ats : Kind → List (Option ℕ)
-  inner_ats k = ats_expanded expansions.Gnu directory view.files (texts (of (k ∷ [])) os) (ats_passing (of (k ∷ [])) os (ats_cut os ats))
-
-  abbrev inner_of : Kind → List (Seen gnu.Kind)
-  inner_of k = map shown (cut (owner_in clang_tables) false (inner_words k)).options
+  os = r.outer.line.options
 
   abbrev inner : BothInner
-  inner = record { xclang = inner_of kind.XClang; clang = inner_of kind.Clang }
+  inner = record { xclang = r.xclang.line.options; clang = r.clang.line.options }
+
+  -- the words that the options of these kinds hand on
+  abbrev words_behind : List Kind → ExpandedWords
+  words_behind kinds = expanded_by expansions.Gnu directory view.files (handed_words kinds r.outer.line) (handed_ats kinds r.outer.line)
+
+  abbrev outer_rows : List Told
+  outer_rows = line_rows outer_ways r.outer
 
   abbrev xclang_rows : List Told
-  xclang_rows = rows_of origins.Xclang kind.XClang
+  xclang_rows = line_rows (inner_ways origins.Xclang) r.xclang
 
   abbrev clang_rows : List Told
-  clang_rows = rows_of origins.ClangColon kind.Clang
-
-  abbrev rows : List Told
-  rows = line_rows is_clang directory view words given
+  clang_rows = line_rows (inner_ways origins.ClangColon) r.clang
 
   abbrev test_and_record : Result Parsed Verdict
   test_and_record = recorded is_clang directory view os inner
 
-  inner-told : (origin : Origin) (k : Kind) → inner_options k directory view os ≡ unless (first_refusal (rows_of origin k)) (Ok (inner_of k))
-  inner-told origin k = judged-told (inner_ways origin) inner_verdict (owner_in clang_tables) false (inner_words k) (inner_ats k)
+  outer-refused : first_refusal outer_rows ≡ line_refusal r.outer.line
+  outer-refused = line-refused outer_ways r.outer (read-whole (verdict is_clang) (owner_in msvc_tables) is_clang e)
 
-  clang-told : (xclang : List (Seen gnu.Kind)) → (inner_options kind.Clang directory view os >>= (λ clang. let both : BothInner = record { xclang = xclang; clang = clang } in Ok both))
-      ≡ unless (first_refusal clang_rows) (let both : BothInner = record { xclang = xclang; clang = inner_of kind.Clang } in Ok both)
-  clang-told xclang =
-      ap (λ r. r >>= (λ clang. let both : BothInner = record { xclang = xclang; clang = clang } in Ok both)) (inner-told origins.ClangColon kind.Clang)
-      ∙ unless-bind (first_refusal clang_rows) (Ok (inner_of kind.Clang)) (λ clang. let both : BothInner = record { xclang = xclang; clang = clang } in Ok both)
+  xclang-refused : first_refusal xclang_rows ≡ line_refusal r.xclang.line
+  xclang-refused = line-refused (inner_ways origins.Xclang) r.xclang (read-whole inner_verdict (owner_in clang_tables) false (words_behind only_xclang))
 
-  both-told : both_inner directory view os ≡ unless (first_refusal xclang_rows) (unless (first_refusal clang_rows) (Ok inner))
-  both-told =
-      ap (λ r. r >>= (λ xclang. inner_options kind.Clang directory view os >>= (λ clang. let both : BothInner = record { xclang = xclang; clang = clang } in Ok both))) (inner-told origins.Xclang kind.XClang)
-      ∙ unless-bind (first_refusal xclang_rows) (Ok (inner_of kind.XClang)) (λ xclang. inner_options kind.Clang directory view os >>= (λ clang. let both : BothInner = record { xclang = xclang; clang = clang } in Ok both))
-      ∙ ap (unless (first_refusal xclang_rows)) (clang-told (inner_of kind.XClang))
+  clang-refused : first_refusal clang_rows ≡ line_refusal r.clang.line
+  clang-refused = line-refused (inner_ways origins.ClangColon) r.clang (read-whole inner_verdict (owner_in clang_tables) false (words_behind only_clang))
 
-  read-told : read is_clang directory view os ≡ unless (first_refusal xclang_rows) (unless (first_refusal clang_rows) test_and_record)
-  read-told =
-      ap (λ r. r >>= recorded is_clang directory view os) both-told
-      ∙ unless-bind (first_refusal xclang_rows) (unless (first_refusal clang_rows) (Ok inner)) (recorded is_clang directory view os)
-      ∙ ap (unless (first_refusal xclang_rows)) (unless-bind (first_refusal clang_rows) (Ok inner) (recorded is_clang directory view os))
+  -- the first refusal of its rows is that of the first line that is refused
+  all-refused : first_refusal (msvc_rows r) ≡ option_or (option_or (line_refusal r.outer.line) (line_refusal r.xclang.line)) (line_refusal r.clang.line)
+  all-refused =
+      first_refusal-append (outer_rows ++ xclang_rows) clang_rows
+      ∙ ap (λ v. option_or v (first_refusal clang_rows)) (
+      first_refusal-append outer_rows xclang_rows
+      ∙ ap (λ v. option_or v (first_refusal xclang_rows)) outer-refused
+      ∙ ap (option_or (line_refusal r.outer.line)) xclang-refused)
+      ∙ ap (option_or (option_or (line_refusal r.outer.line) (line_refusal r.xclang.line))) clang-refused
 
-  reading-told : reading is_clang directory view words ≡ unless (first_refusal rows) test_and_record
-  reading-told =
-      ap (λ r. r >>= read is_clang directory view) (judged-told outer_ways (verdict is_clang) (owner_in msvc_tables) is_clang (expand expansions.Msvc directory view.files words) ats)
-      ∙ unless-bind (first_refusal outer_rows) (Ok os) (read is_clang directory view)
-      ∙ ap (unless (first_refusal outer_rows)) read-told
-      ∙ ap (unless (first_refusal outer_rows)) (sym (unless-or (first_refusal xclang_rows) (first_refusal clang_rows) test_and_record))
-      ∙ sym (unless-or (first_refusal outer_rows) (option_or (first_refusal xclang_rows) (first_refusal clang_rows)) test_and_record)
-      ∙ ap (λ v. unless (option_or (first_refusal outer_rows) v) test_and_record) (sym (first_refusal-append xclang_rows clang_rows))
-      ∙ ap (λ v. unless v test_and_record) (sym (first_refusal-append outer_rows (xclang_rows ++ clang_rows)))
+  outcome-told : r.outcome ≡ unless (first_refusal (msvc_rows r)) test_and_record
+  outcome-told =
+      let record_both : List (Seen Kind) → List (Seen gnu.Kind) → List (Seen gnu.Kind) → Result Parsed Verdict = λ os xs cs. recorded is_clang directory view os (record { xclang = xs; clang = cs }) in
+      unless-bind (line_refusal r.outer.line) (Ok os)
+      (λ os. unless (line_refusal r.xclang.line) (Ok r.xclang.line.options) >>= (λ xs. unless (line_refusal r.clang.line) (Ok r.clang.line.options) >>= record_both os xs))
+      ∙ ap (unless (line_refusal r.outer.line)) (
+      unless-bind (line_refusal r.xclang.line) (Ok r.xclang.line.options) (λ xs. unless (line_refusal r.clang.line) (Ok r.clang.line.options) >>= record_both os xs)
+      ∙ ap (unless (line_refusal r.xclang.line)) (unless-bind (line_refusal r.clang.line) (Ok r.clang.line.options) (record_both os r.xclang.line.options)))
+      ∙ sym (unless-or (line_refusal r.outer.line) (line_refusal r.xclang.line) (unless (line_refusal r.clang.line) test_and_record))
+      ∙ sym (unless-or (option_or (line_refusal r.outer.line) (line_refusal r.xclang.line)) (line_refusal r.clang.line) test_and_record)
+      ∙ ap (λ v. unless v test_and_record) (sym all-refused)
 
   -- of a line of which no row is refused
-  module _ (none : first_refusal rows ≡ None) where
-    none-outer : (first_refusal outer_rows ≡ None) × (first_refusal (xclang_rows ++ clang_rows) ≡ None)
-    none-outer = option_or-none (first_refusal outer_rows) (first_refusal (xclang_rows ++ clang_rows)) (sym (first_refusal-append outer_rows (xclang_rows ++ clang_rows)) ∙ none)
+  module _ (none : first_refusal (msvc_rows r) ≡ None) where
+    none-but_clang : (option_or (line_refusal r.outer.line) (line_refusal r.xclang.line) ≡ None) × (line_refusal r.clang.line ≡ None)
+    none-but_clang = option_or-none (option_or (line_refusal r.outer.line) (line_refusal r.xclang.line)) (line_refusal r.clang.line) (sym all-refused ∙ none)
 
-    none-inner : (first_refusal xclang_rows ≡ None) × (first_refusal clang_rows ≡ None)
-    none-inner = option_or-none (first_refusal xclang_rows) (first_refusal clang_rows) (sym (first_refusal-append xclang_rows clang_rows) ∙ none-outer.1)
+    none-in : (line_refusal r.outer.line ≡ None) × (line_refusal r.xclang.line ≡ None)
+    none-in = option_or-none (line_refusal r.outer.line) (line_refusal r.xclang.line) none-but_clang.0
 
-    parts-told : (there : Destination) → is_list there ≡ true →
-        words_to there rows ≡ listed outer_ways there os ++ (listed (inner_ways origins.Xclang) there (inner_of kind.XClang) ++ listed (inner_ways origins.ClangColon) there (inner_of kind.Clang))
+    parts-told : (there : Destination) → is_list there ≡ true → words_to there (msvc_rows r)
+        ≡ (listed outer_ways there os ++ listed (inner_ways origins.Xclang) there inner.xclang) ++ listed (inner_ways origins.ClangColon) there inner.clang
     parts-told there l =
-        words_to-append there outer_rows (xclang_rows ++ clang_rows)
-        ∙ ap (λ ws. ws ++ words_to there (xclang_rows ++ clang_rows)) (words-told outer_ways (verdict is_clang) (owner_in msvc_tables) is_clang (expand expansions.Msvc directory view.files words) ats there l none-outer.0)
-        ∙ ap (λ ws. listed outer_ways there os ++ ws) (
-        words_to-append there xclang_rows clang_rows
-        ∙ ap (λ ws. ws ++ words_to there clang_rows) (words-told (inner_ways origins.Xclang) inner_verdict (owner_in clang_tables) false (inner_words kind.XClang) (inner_ats kind.XClang) there l none-inner.0)
-        ∙ ap (λ ws. listed (inner_ways origins.Xclang) there (inner_of kind.XClang) ++ ws)
-        (words-told (inner_ways origins.ClangColon) inner_verdict (owner_in clang_tables) false (inner_words kind.Clang) (inner_ats kind.Clang) there l none-inner.1))
+        words_to-append there (outer_rows ++ xclang_rows) clang_rows
+        ∙ ap (λ ws. ws ++ words_to there clang_rows) (
+        words_to-append there outer_rows xclang_rows
+        ∙ ap (λ ws. ws ++ words_to there xclang_rows) (line-listed outer_ways r.outer (read-whole (verdict is_clang) (owner_in msvc_tables) is_clang e) there l none-in.0)
+        ∙ ap (λ ws. listed outer_ways there os ++ ws)
+        (line-listed (inner_ways origins.Xclang) r.xclang (read-whole inner_verdict (owner_in clang_tables) false (words_behind only_xclang)) there l none-in.1))
+        ∙ ap (λ ws. (listed outer_ways there os ++ listed (inner_ways origins.Xclang) there inner.xclang) ++ ws)
+        (line-listed (inner_ways origins.ClangColon) r.clang (read-whole inner_verdict (owner_in clang_tables) false (words_behind only_clang)) there l none-but_clang.1)
 
-    all-told : (place : Place) → is_list (there_is place) ≡ true → words_to (there_is place) rows ≡ all_words_at place os inner
+    all-told : (place : Place) → is_list (there_is place) ≡ true → words_to (there_is place) (msvc_rows r) ≡ all_words_at place os inner
     all-told place l =
         parts-told (there_is place) l
-        ∙ ap (λ ws. ws ++ (listed (inner_ways origins.Xclang) (there_is place) (inner_of kind.XClang) ++ listed (inner_ways origins.ClangColon) (there_is place) (inner_of kind.Clang))) (outer-listed place l os)
-        ∙ ap (λ ws. words_at place os ++ (ws ++ listed (inner_ways origins.ClangColon) (there_is place) (inner_of kind.Clang))) (inner-listed origins.Xclang place l (inner_of kind.XClang))
-        ∙ ap (λ ws. words_at place os ++ (flat_map (handed origins.Xclang) (inner_list place (inner_of kind.XClang)) ++ ws)) (inner-listed origins.ClangColon place l (inner_of kind.Clang))
+        ∙ append_assoc (listed outer_ways (there_is place) os) (listed (inner_ways origins.Xclang) (there_is place) inner.xclang) (listed (inner_ways origins.ClangColon) (there_is place) inner.clang)
+        ∙ ap (λ ws. ws ++ (listed (inner_ways origins.Xclang) (there_is place) inner.xclang ++ listed (inner_ways origins.ClangColon) (there_is place) inner.clang)) (outer-listed place l os)
+        ∙ ap (λ ws. words_at place os ++ (ws ++ listed (inner_ways origins.ClangColon) (there_is place) inner.clang)) (inner-listed origins.Xclang place l inner.xclang)
+        ∙ ap (λ ws. words_at place os ++ (flat_map (handed origins.Xclang) (inner_list place inner.xclang) ++ ws)) (inner-listed origins.ClangColon place l inner.clang)
 
-    no-architecture : words_to destinations.Architecture rows ≡ []
+    no-architecture : words_to destinations.Architecture (msvc_rows r) ≡ []
     no-architecture =
         parts-told destinations.Architecture refl
         ∙ rw (
           none-listed outer_ways destinations.Architecture (λ o. no-arch (place_of o) (unlisted o) (no-list o)) os,
-          none-listed (inner_ways origins.Xclang) destinations.Architecture (λ o. no-arch (inner_place_of o) destinations.Ignored refl) (inner_of kind.XClang),
-          none-listed (inner_ways origins.ClangColon) destinations.Architecture (λ o. no-arch (inner_place_of o) destinations.Ignored refl) (inner_of kind.Clang),
+          none-listed (inner_ways origins.Xclang) destinations.Architecture (λ o. no-arch (inner_place_of o) destinations.Ignored refl) inner.xclang,
+          none-listed (inner_ways origins.ClangColon) destinations.Architecture (λ o. no-arch (inner_place_of o) destinations.Ignored refl) inner.clang,
         ) refl
 
-    lists-of : (f : Found) → HasLists rows (record_of directory view os inner f)
+    lists-of : (f : Found) → HasLists (msvc_rows r) (record_of directory view os inner f)
     lists-of f destinations.Dependency = all-told places.Dependency refl
     lists-of f destinations.Preprocessor = all-told places.Preprocessor refl
     lists-of f destinations.Common = all-told places.Common refl
@@ -206,21 +193,18 @@ module _ (is_clang : Bool) (directory : List ℕ) (view : Viewed) (words : List 
     lists-of f destinations.Unhashed = all-told places.Unhashed refl
     lists-of f _ = tt
 
-    lists-tested : (tested : Result Found Verdict) → IfOk (tested >>= (λ f. Ok (record_of directory view os inner f))) (HasLists rows)
+    lists-tested : (tested : Result Found Verdict) → IfOk (tested >>= (λ f. Ok (record_of directory view os inner f))) (HasLists (msvc_rows r))
     lists-tested (Ok f) = lists-of f
     lists-tested (Err v) = tt
 
-  line-tells : Tells rows (reading is_clang directory view words)
-  line-tells = tells rows (reading is_clang directory view words) test_and_record reading-told (λ none. lists-tested none (found is_clang os))
+  pub msvc-tells : Tells (msvc_rows r) r.outcome
+  msvc-tells = tells (msvc_rows r) r.outcome test_and_record outcome-told (λ none. lists-tested none (found is_clang os))
 
--- ---- with the words that the environment gives
-
-module _ (is_clang : Bool) (directory : List ℕ) (pairs : List (List ℕ × List ℕ)) (view : Viewed) (words : List (List ℕ)) where
-  between-tells : (said : Result (List (List ℕ) × List (List ℕ)) Verdict) → surroundings pairs ≡ said → Tells (rows_between is_clang directory view words said) (surrounded_reading is_clang directory pairs view words)
-  between-tells (Ok both) e =
-      subst (λ r. Tells (rows_between is_clang directory view words (Ok both)) (r >>= reading is_clang directory view)) (sym (surrounded_by_both pairs words both.0 both.1 e))
-      (line-tells is_clang directory view (both.0 ++ words ++ both.1) (ats_between (length both.0) (length words) (length both.1)))
-  between-tells (Err v) e = subst (λ r. Tells [] (r >>= reading is_clang directory view)) (sym (surrounded_stops pairs words v e)) (record { refused = tt; lists = tt })
-
-  pub msvc-tells : Tells (msvc_rows is_clang directory pairs view words) (surrounded_reading is_clang directory pairs view words)
-  msvc-tells = between-tells (surroundings pairs) refl
+  pub msvc-given : words_given (msvc_rows r) ≡ r.outer.words ++ r.xclang.words ++ r.clang.words
+  msvc-given =
+      words_given-append (outer_rows ++ xclang_rows) clang_rows
+      ∙ ap (λ ws. ws ++ words_given clang_rows) (
+      words_given-append outer_rows xclang_rows
+      ∙ ap (λ ws. ws ++ words_given xclang_rows) (line-given outer_ways (verdict is_clang) msvc_tables is_clang e)
+      ∙ ap (λ ws. r.outer.words ++ ws) (line-given (inner_ways origins.Xclang) inner_verdict clang_tables false (words_behind only_xclang)))
+      ∙ ap (λ ws. (r.outer.words ++ r.xclang.words) ++ ws) (line-given (inner_ways origins.ClangColon) inner_verdict clang_tables false (words_behind only_clang))

@@ -1,18 +1,15 @@
--- What rows tell: refusals and lists of joined rows, and what ties rows to an outcome.
-use Rattle.std.proofs.Common.{◌≡◌, List, [], ◌∷◌, ◌++◌, filter, map, Option, None, Some, Result, Ok, Err, Vec, refl, sym, ap, subst, ◌∙◌}
+-- What rows tell: refusals, lists and words of joined rows, and what ties rows to an outcome.
+use Rattle.std.proofs.Common.{◌≡◌, List, [], ◌∷◌, ◌++◌, filter, Option, None, Some, Result, Err, refl, sym, ap, subst, ◌∙◌}
 use Rattle.std.proofs.lemmas.Grind.{flat_map-append}
 use Rattle.std.proofs.lemmas.List.Elements.{filter-append}
 use Rattle.std.specs.List.{flat_map}
 use Rattle.std.specs.Option.{option_or}
 use Rattle.std.specs.Prelude.{IfOk, IfSome}
-use Rattle.std.specs.declared.alloc.AllocError.{AllocError}
-use Rattle.std.specs.declared.alloc.Global.{Global}
 use Rattle.scl_args.specs.Options.{unless, ◌>>=◌}
 use Rattle.scl_text.specs.Records.{Parsed, Verdict}
-use Rattle.scl_rows.specs.Rows.{Told, Tells, HasLists, first_refusal, told, words_to}
+use Rattle.scl_rows.specs.Rows.{Told, Tells, HasLists, first_refusal, words_given, words_to}
 use Rattle.scl_rows.specs.contracts.destination.DestinationPartialEq.TheImpl.{ghosts}
 use Rattle.scl_rows.specs.declared.destination.Destination.{Destination}
-use Rattle.scl_rows.specs.declared.row.Row.{Row}
 
 -- ---- options that there may be, and steps that stop
 
@@ -43,6 +40,9 @@ words_to-append there xs ys =
     ap (flat_map (λ row. row.printed)) (filter-append (λ row. ghosts.eq row.destination there) xs ys)
     ∙ flat_map-append (λ row. row.printed) (filter (λ row. ghosts.eq row.destination there) xs) (filter (λ row. ghosts.eq row.destination there) ys)
 
+pub words_given-append : (xs ys : List Told) → words_given (xs ++ ys) ≡ words_given xs ++ words_given ys
+words_given-append xs ys = flat_map-append (λ row. row.given) xs ys
+
 -- ---- rows and an outcome
 
 refused-by : (v : Option Verdict) (outcome tested : Result Parsed Verdict) → outcome ≡ unless v tested → IfSome v (λ verdict. outcome ≡ Err verdict)
@@ -58,10 +58,3 @@ tells rows outcome tested e h = record {
   refused = refused-by (first_refusal rows) outcome tested e;
   lists = lists-by (first_refusal rows) outcome tested (HasLists rows) e h;
 }
-
--- ---- rows of the program
-
-pub tells-given : (rows : Result (Vec Row Global) AllocError) (said : List Told) (outcome : Result Parsed Verdict) → IfOk rows (λ given. map told given.items ≡ said) → Tells said outcome
-    → IfOk rows (λ given. Tells (map told given.items) outcome)
-tells-given (Ok given) said outcome e t = subst (λ told_rows. Tells told_rows outcome) (sym e) t
-tells-given (Err e) said outcome h t = tt

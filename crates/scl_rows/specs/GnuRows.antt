@@ -1,30 +1,28 @@
 -- The rows of the command lines of Gcc and Clang.
-use Rattle.std.specs.Prelude.{ℕ, Bool, true, false, List, [], ◌∷◌, ◌++◌, length, map, Option, None, Some, Result, Ok, Err, codes, is_some, unwrap_or, if◌then◌else◌}
+use Rattle.std.specs.Prelude.{◌≡◌, ℕ, Bool, true, false, List, [], ◌∷◌, ◌++◌, Option, None, Some, Result, Ok, Err, codes, is_some, unwrap_or, if◌then◌else◌}
 use Rattle.std.specs.Str.{bytes_eq}
-use Rattle.scl_args.specs.Options.{last_flag, last_text, side_of_flag, texts}
+use Rattle.scl_args.specs.Options.{last_flag, last_text, side_of_flag}
+use Rattle.scl_files.specs.Expanded.{ExpandedWords}
 use Rattle.scl_files.specs.Paths.{with_extension}
 use Rattle.scl_files.specs.Views.{Viewed}
-use Rattle.scl_files.specs.declared.expand.ExpansionKind.TheVariants as expansions
-use Rattle.scl_gnu_reading.specs.ClangRows.{clang_tables}
-use Rattle.scl_gnu_reading.specs.FixedTests.{Found, found}
-use Rattle.scl_gnu_reading.specs.Inners.{inner_place_of, inner_verdict}
+use Rattle.scl_gnu_reading.specs.Inners.{inner_place_of}
 use Rattle.scl_gnu_reading.specs.Kinds.{any, of}
 use Rattle.scl_gnu_reading.specs.Places.{place_of}
-use Rattle.scl_gnu_reading.specs.Recordings.{is_clang, needs_target}
-use Rattle.scl_gnu_reading.specs.Verdicts.{verdict}
+use Rattle.scl_gnu_reading.specs.Reads.{GnuRead, read_by}
+use Rattle.scl_gnu_reading.specs.Recordings.{needs_target}
 use Rattle.scl_gnu_reading.specs.declared.gcc.data.Kind.{Kind}
 use Rattle.scl_gnu_reading.specs.declared.gcc.data.Kind.TheVariants as kind
 use Rattle.scl_gnu_reading.specs.declared.gcc.place.Place.{Place}
 use Rattle.scl_gnu_reading.specs.declared.gcc.place.Place.TheVariants as places
-use Rattle.scl_text.specs.JudgedWords.{options_of}
-use Rattle.scl_text.specs.Records.{Verdict}
+use Rattle.scl_text.specs.Commands.{object_of}
+use Rattle.scl_text.specs.Records.{Parsed, Verdict}
+use Rattle.scl_text.specs.declared.language.Language.{Language}
 use Rattle.scl_text.specs.declared.records.CCompilerKind.{CCompilerKind}
 use Rattle.scl_values.specs.Cuts.{mark}
 use Rattle.scl_values.specs.Row.{Row}
-use Rattle.scl_values.specs.Seen.{Seen, Raw, Unknown, Known, shown}
-use Rattle.scl_rows.specs.Lines.{Ways, rows_expanded}
-use Rattle.scl_rows.specs.Rows.{Told, first_refusal}
-use Rattle.scl_rows.specs.Sources.{ats_cut, ats_expanded, ats_passing, indices}
+use Rattle.scl_values.specs.Seen.{Seen, Raw, Unknown, Known}
+use Rattle.scl_rows.specs.Lines.{Ways, line_rows}
+use Rattle.scl_rows.specs.Rows.{Told, Tells, words_given}
 use Rattle.scl_rows.specs.declared.destination.Destination.{Destination}
 use Rattle.scl_rows.specs.declared.destination.Destination.TheVariants as destinations
 use Rattle.scl_rows.specs.declared.origin.Origin.TheVariants as origins
@@ -108,37 +106,40 @@ abbrev pub rows_split : Bool → List ℕ → List Told
 rows_split true object = row_joined (codes "-D_gsplit_dwarf_path=") (with_extension object (codes "dwo")) ∷ []
 rows_split false object = []
 
--- those of a compilation that the tests found
-abbrev pub rows_added : List (Seen Kind) → Found → List Told
-rows_added os f =
-    rows_target (needs_target f.language os) (is_some (last_text (of (kind.DepArgumentPath ∷ [])) os))
-    (last_flag (of (kind.DepTarget ∷ [])) os) (last_text (of (kind.DepTarget ∷ [])) os) f.object
-    ++ rows_split (any (kind.SplitDwarf ∷ []) os) f.object
+-- those of a compilation of an input in the language to the object
+abbrev pub rows_added : List (Seen Kind) → Language → List ℕ → List Told
+rows_added os language object =
+    rows_target (needs_target language os) (is_some (last_text (of (kind.DepArgumentPath ∷ [])) os))
+    (last_flag (of (kind.DepTarget ∷ [])) os) (last_text (of (kind.DepTarget ∷ [])) os) object
+    ++ rows_split (any (kind.SplitDwarf ∷ []) os) object
 
--- those of options, where the tests find a compilation
-abbrev pub rows_tested : Result Found Verdict → List (Seen Kind) → List Told
-rows_tested (Ok f) os = rows_added os f
-rows_tested (Err said) os = []
+abbrev pub rows_for : List (Seen Kind) → Language → Option (List ℕ) → List Told
+rows_for os language None = []
+rows_for os language (Some object) = rows_added os language object
 
--- and where nothing is said against them
-abbrev pub rows_unless : Option Verdict → List Told → List Told
-rows_unless None rows = rows
-rows_unless (Some said) rows = []
+-- those of options that say this, where that is a record
+abbrev pub rows_recorded : List (Seen Kind) → Result Parsed Verdict → List Told
+rows_recorded os (Ok p) = rows_for os p.language (object_of p)
+rows_recorded os (Err said) = []
 
 -- ---- all rows
 
--- the rows of the given line, then those of the inner one
-abbrev pub option_rows : Bool → List (List (Row Kind)) → List ℕ → Viewed → List (List ℕ) → List Told
-option_rows dashes tables directory view words =
-    let os = map shown (options_of expansions.Gnu tables dashes directory view words) in
-    let given = indices (length words) in
-    let ats = ats_cut os (ats_expanded expansions.Gnu directory view.files words given) in
-    rows_expanded expansions.Gnu outer_ways (verdict view.is_multiarch) tables dashes directory view words given
-    ++ rows_expanded expansions.Gnu inner_ways inner_verdict clang_tables false directory view (texts (of (kind.XClang ∷ [])) os) (ats_passing (of (kind.XClang ∷ [])) os ats)
+-- the rows of a reading: of the given line, of the inner one, and the added ones
+abbrev pub gnu_rows : GnuRead → List Told
+gnu_rows r = line_rows outer_ways r.outer ++ line_rows inner_ways r.inner ++ rows_recorded r.outer.line.options r.outcome
 
--- those, and then the added ones
-abbrev pub gnu_rows : CCompilerKind → Bool → List (List (Row Kind)) → List ℕ → Viewed → List (List ℕ) → List Told
-gnu_rows compiler plusplus tables directory view words =
-    let os = map shown (options_of expansions.Gnu tables (is_clang compiler) directory view words) in
-    let rows = option_rows (is_clang compiler) tables directory view words in
-    rows ++ rows_unless (first_refusal rows) (rows_tested (found plusplus os) os)
+-- ---- laws
+
+-- the rows of a reading tell what it says
+abbrev pub GnuRowsTell : Type 0
+GnuRowsTell =
+    (compiler : CCompilerKind) (plusplus : Bool) (tables : List (List (Row Kind))) (directory : List ℕ) (view : Viewed) (e : ExpandedWords) →
+    let r = read_by compiler plusplus tables directory view e in
+    Tells (gnu_rows r) r.outcome
+
+-- the words that they were cut from are those of the given line, and then those of the inner one
+abbrev pub GnuRowsShareWords : Type 0
+GnuRowsShareWords =
+    (compiler : CCompilerKind) (plusplus : Bool) (tables : List (List (Row Kind))) (directory : List ℕ) (view : Viewed) (e : ExpandedWords) →
+    let r = read_by compiler plusplus tables directory view e in
+    words_given (gnu_rows r) ≡ r.outer.words ++ r.inner.words

@@ -4,4 +4,3 @@ pub mod MsvcRows
 pub mod Names
 pub mod Rows
 pub mod SmallRows
-pub mod Sources

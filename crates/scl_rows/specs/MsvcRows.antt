@@ -1,28 +1,21 @@
 -- The rows of the command lines of Msvc's cl and of clang-cl.
-use Rattle.std.specs.Prelude.{ℕ, Bool, false, List, [], ◌∷◌, ◌++◌, length, map, replicate, Option, None, Result, Ok, Err}
-use Rattle.scl_args.specs.Options.{side_of_flag, texts}
+use Rattle.std.specs.Prelude.{◌≡◌, ℕ, Bool, List, ◌++◌}
+use Rattle.scl_args.specs.Options.{side_of_flag}
+use Rattle.scl_files.specs.Expanded.{ExpandedWords}
 use Rattle.scl_files.specs.Views.{Viewed}
-use Rattle.scl_files.specs.declared.expand.ExpansionKind.TheVariants as expansions
-use Rattle.scl_gnu_reading.specs.ClangRows.{clang_tables}
 use Rattle.scl_gnu_reading.specs.declared.gcc.data.Kind as gnu
-use Rattle.scl_msvc.specs.Environment.{surroundings}
-use Rattle.scl_msvc_reading.specs.Inners.{inner_place_of, inner_verdict}
-use Rattle.scl_msvc_reading.specs.Kinds.{of}
+use Rattle.scl_msvc_reading.specs.Inners.{inner_place_of}
 use Rattle.scl_msvc_reading.specs.Places as outer
 use Rattle.scl_msvc_reading.specs.Places.{place_of}
-use Rattle.scl_msvc_reading.specs.Rows.{msvc_tables}
-use Rattle.scl_msvc_reading.specs.Verdicts.{verdict}
+use Rattle.scl_msvc_reading.specs.Reads.{MsvcRead, read_by}
 use Rattle.scl_msvc_reading.specs.declared.msvc.data.Kind.{Kind}
 use Rattle.scl_msvc_reading.specs.declared.msvc.data.Kind.TheVariants as kind
 use Rattle.scl_msvc_reading.specs.declared.msvc.place.Place.{Place}
 use Rattle.scl_msvc_reading.specs.declared.msvc.place.Place.TheVariants as places
-use Rattle.scl_text.specs.JudgedWords.{options_of}
-use Rattle.scl_text.specs.Records.{Verdict}
-use Rattle.scl_values.specs.Seen.{Seen, Raw, Unknown, Known, shown}
+use Rattle.scl_values.specs.Seen.{Seen, Raw, Unknown, Known}
 use Rattle.scl_rows.specs.GnuRows.{raw_goes}
-use Rattle.scl_rows.specs.Lines.{Ways, rows_expanded}
-use Rattle.scl_rows.specs.Rows.{Told}
-use Rattle.scl_rows.specs.Sources.{ats_cut, ats_expanded, ats_passing, indices}
+use Rattle.scl_rows.specs.Lines.{Ways, line_rows}
+use Rattle.scl_rows.specs.Rows.{Told, Tells, words_given}
 use Rattle.scl_rows.specs.declared.destination.Destination.{Destination}
 use Rattle.scl_rows.specs.declared.destination.Destination.TheVariants as destinations
 use Rattle.scl_rows.specs.declared.origin.Origin.{Origin}
@@ -66,27 +59,22 @@ outer_ways = record { goes = outer_goes; side = outer.side_of_flag; origin = ori
 abbrev pub inner_ways : Origin → Ways gnu.Kind
 inner_ways origin = record { goes = inner_goes; side = side_of_flag; origin = origin }
 
--- the rows of the inner line whose words are the values of the options of a kind
-abbrev pub inner_rows : Origin → Kind → List ℕ → Viewed → List (Seen Kind) → List (Option ℕ) → List Told
-inner_rows origin k directory view os ats =
-    rows_expanded expansions.Gnu (inner_ways origin) inner_verdict clang_tables false directory view (texts (of (k ∷ [])) os) (ats_passing (of (k ∷ [])) os ats)
+-- the rows of a reading: of the given line, of that behind `-Xclang`, and of that behind `-clang:`
+abbrev pub msvc_rows : MsvcRead → List Told
+msvc_rows r = line_rows outer_ways r.outer ++ line_rows (inner_ways origins.Xclang) r.xclang ++ line_rows (inner_ways origins.ClangColon) r.clang
 
--- the rows of words that come from these given ones, then those of the inner line behind `-Xclang`, then those of that behind `-clang:`
-abbrev pub line_rows : Bool → List ℕ → Viewed → List (List ℕ) → List (Option ℕ) → List Told
-line_rows is_clang directory view words given =
-    let os = map shown (options_of expansions.Msvc msvc_tables is_clang directory view words) in
-    let ats = ats_cut os (ats_expanded expansions.Msvc directory view.files words given) in
-    rows_expanded expansions.Msvc outer_ways (verdict is_clang) msvc_tables is_clang directory view words given
-    ++ (inner_rows origins.Xclang kind.XClang directory view os ats ++ inner_rows origins.ClangColon kind.Clang directory view os ats)
+-- ---- laws
 
--- the indices of so many given words, between others that none of them brought
-abbrev pub ats_between : (front given back : ℕ) → List (Option ℕ)
-ats_between front given back = replicate front None ++ indices given ++ replicate back None
+-- the rows of a reading tell what it says
+abbrev pub MsvcRowsTell : Type 0
+MsvcRowsTell =
+    (is_clang : Bool) (directory : List ℕ) (view : Viewed) (environment : List (List ℕ)) (e : ExpandedWords) →
+    let r = read_by is_clang directory view environment e in
+    Tells (msvc_rows r) r.outcome
 
--- the rows of words between those that the environment gives; none where it is refused
-abbrev pub rows_between : Bool → List ℕ → Viewed → List (List ℕ) → Result (List (List ℕ) × List (List ℕ)) Verdict → List Told
-rows_between is_clang directory view words (Ok both) = line_rows is_clang directory view (both.0 ++ words ++ both.1) (ats_between (length both.0) (length words) (length both.1))
-rows_between is_clang directory view words (Err said) = []
-
-abbrev pub msvc_rows : Bool → List ℕ → List (List ℕ × List ℕ) → Viewed → List (List ℕ) → List Told
-msvc_rows is_clang directory pairs view words = rows_between is_clang directory view words (surroundings pairs)
+-- the words that they were cut from are those of the given line, and then those of the inner ones
+abbrev pub MsvcRowsShareWords : Type 0
+MsvcRowsShareWords =
+    (is_clang : Bool) (directory : List ℕ) (view : Viewed) (environment : List (List ℕ)) (e : ExpandedWords) →
+    let r = read_by is_clang directory view environment e in
+    words_given (msvc_rows r) ≡ r.outer.words ++ r.xclang.words ++ r.clang.words

@@ -1,22 +1,23 @@
 //! The rows that the rules add to those of options.
 ghost use Rattle.std.specs.Prelude.{◌≡◌, ◌∷◌, [], IfOk, OnOk, ◌++◌, is_some, map};
 ghost use Rattle.scl_args.specs.Options.{last_flag, last_text};
-ghost use Rattle.scl_gnu_reading.specs.FixedTests.{found};
-ghost use Rattle.scl_gnu_reading.specs.FoundBy.{found_of};
-ghost use Rattle.scl_gnu_reading.specs.Kinds.{any, of};
+ghost use Rattle.scl_gnu_reading.specs.Kinds.{of};
+ghost use Rattle.scl_text.specs.Records.{outcome_of, parsed_of};
 ghost use Rattle.scl_values.specs.Words.{words_of};
-ghost use Rattle.scl_rows.specs.GnuRows.{row_added, row_apart, row_joined, rows_added, rows_depfile, rows_split, rows_target, rows_tested, rows_unless};
-ghost use Rattle.scl_rows.specs.Rows.{first_refusal, told};
+ghost use Rattle.scl_rows.specs.GnuRows.{row_added, row_apart, row_joined, rows_added, rows_depfile, rows_recorded, rows_split, rows_target};
+ghost use Rattle.scl_rows.specs.Rows.{told};
 
 use crate::destination::Destination;
 use crate::origin::Origin;
-use crate::row::{Row, append_rows, is_any_refused, kind_name};
+use crate::row::{Row, append_rows, kind_name};
 use scl_args::{Mem, OfKinds, Options};
-use scl_gnu_reading::gcc::{ArgData, Finding, Kind, apply_fixed_tests, needs_target};
-use scl_text::Stop;
+use scl_gnu_reading::gcc::{ArgData, Kind, needs_target};
+use scl_text::language::Language;
+use scl_text::outputs::output_path;
 use scl_text::path::with_extension;
+use scl_text::records::{CompilerArguments, ParsedArguments};
 use scl_values::join_word;
-use std::alloc::{AllocError, Global};
+use std::alloc::Global;
 
 /// An added row of a flag with its value, as these words.
 fn row_added(
@@ -105,44 +106,35 @@ fn split_rows(alloc: Global, is_split: bool, object: &[u8]) -> Mem<Vec<Row>>
     Ok(rows)
 }
 
-/// The rows that are added to a compilation that the tests found.
-fn rows_added(alloc: Global, options: &Options<ArgData>, found: &Finding) -> Mem<Vec<Row>>
-    ensures { IfOk result (λ rows. map told rows.items ≡ rows_added options.now (found_of found.now)) }
+/// The rows that are added to a compilation of an input in the language to the object.
+fn rows_added(
+    alloc: Global,
+    options: &Options<ArgData>,
+    language: Language,
+    object: &[u8],
+) -> Mem<Vec<Row>>
+    ensures { IfOk result (λ rows. map told rows.items ≡ rows_added options.now language object.now) }
 {
-    let is_needed = needs_target(found.language, options);
-    let mut rows = target_rows(alloc, options, is_needed, &found.object)?;
+    let is_needed = needs_target(language, options);
+    let mut rows = target_rows(alloc, options, is_needed, object)?;
     let is_split = options.any(&OfKinds(&[Kind::SplitDwarf]));
-    append_rows(&mut rows, split_rows(alloc, is_split, &found.object)?)?;
+    append_rows(&mut rows, split_rows(alloc, is_split, object)?)?;
     Ok(rows)
 }
 
-/// The rows that are added to options; none where the tests find no compilation.
-fn rows_tested(alloc: Global, options: &Options<ArgData>, plusplus: bool) -> Mem<Vec<Row>>
-    ensures { IfOk result (λ rows. map told rows.items ≡ rows_tested (found plusplus options.now) options.now) }
-{
-    match apply_fixed_tests(alloc, options, plusplus) {
-        Ok(found) => rows_added(alloc, options, &found),
-        Err(Stop::Refused(refusal)) => {
-            drop(refusal);
-            Ok(Vec::new(alloc))
-        }
-        Err(Stop::Memory) => Err(AllocError),
-    }
-}
-
-/// The rows that are added to options, which have these rows; none where one of these is refused, and where the tests find no
-/// compilation.
-#[tactic(auto, using(crate::proofs::GnuTells::unless_none, crate::proofs::GnuTells::unless_refused))]
-pub(crate) fn rows_unless(
+/// The rows that are added to options that say this; none where that is no record.
+pub(crate) fn rows_recorded(
     alloc: Global,
-    rows: &[Row],
     options: &Options<ArgData>,
-    plusplus: bool,
+    outcome: &CompilerArguments<ParsedArguments>,
 ) -> Mem<Vec<Row>>
-    ensures { IfOk result (λ added. map told added.items ≡ rows_unless (first_refusal (map told rows.now)) (rows_tested (found plusplus options.now) options.now)) }
+    ensures { IfOk result (λ rows. map told rows.items ≡ rows_recorded options.now (outcome_of outcome.now)) }
 {
-    if is_any_refused(rows) {
+    let CompilerArguments::Ok(parsed) = outcome else {
         return Ok(Vec::new(alloc));
+    };
+    match output_path(&parsed.outputs, "obj") {
+        Some(object) => rows_added(alloc, options, parsed.language, object),
+        None => Ok(Vec::new(alloc)),
     }
-    Ok(rows_tested(alloc, options, plusplus)?)
 }

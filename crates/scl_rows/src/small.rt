@@ -1,18 +1,15 @@
 //! The rows of the command lines of Diab and TaskingVX.
-ghost use Rattle.std.specs.Prelude.{◌≡◌, IfOk, IsTrue, map};
-ghost use Rattle.scl_values.specs.Tables.{owner_in, tables_hold_values};
-ghost use Rattle.scl_values.specs.Words.{words_of};
+ghost use Rattle.std.specs.Prelude.{◌≡◌, IfOk, map};
 ghost use Rattle.scl_rows.specs.Rows.{told};
 ghost use Rattle.scl_rows.specs.SmallRows.{destination_at, small_rows};
 
 use crate::destination::Destination;
-use crate::line::line_rows;
+use crate::line::push_line;
 use crate::origin::Origin;
 use crate::row::Row;
-use crate::source::Sourced;
 use crate::ways::Ways;
-use scl_args::{Argument, Mem, NormalizedDisposition, SearchableArgInfo, ShortFlagsJoined, Sides};
-use scl_small::{ByRules, Place, Placed, Rules, place_of};
+use scl_args::{Argument, Mem, NormalizedDisposition, ShortFlagsJoined, Sides};
+use scl_small::{Place, Placed, Rules, SmallReading, place_of};
 use std::alloc::Global;
 use std::fmt::Debug;
 
@@ -65,17 +62,14 @@ impl<T: Placed> Ways<T> for ByPlace {
     }
 }
 
-/// The rows of words without response files, which given ones brought.
-pub(crate) fn small_rows<T: Rules, S: SearchableArgInfo<T> + Drop>(
-    alloc: Global,
-    line: Sourced,
-    arg_info: S,
-) -> Mem<Vec<Row>>
+/// The rows of a command line of Diab or TaskingVX, those of its options (docs/RULES.md, Rows of options). It fails only for want
+/// of memory.
+pub fn small_rows<T: Rules>(alloc: Global, reading: &SmallReading<T>) -> Mem<Vec<Row>>
 where
     T::Kind: Debug,
-    requires { IsTrue (tables_hold_values T.holds_value (S.tables arg_info)) }
-    ensures { IfOk result (λ rows. map told rows.items ≡ small_rows T.place T.verdict (owner_in (S.tables arg_info)) (words_of line.words.items) line.ats.items) }
+    ensures { IfOk result (λ rows. map told rows.items ≡ small_rows T.place reading.now) }
 {
-    let told = line_rows(alloc, line, arg_info, false, &ByRules, &ByPlace)?;
-    Ok(told.rows)
+    let mut rows = Vec::new(alloc);
+    push_line(alloc, &mut rows, reading.outer(), &ByPlace)?;
+    Ok(rows)
 }

@@ -6,6 +6,6 @@ mod quote;
 mod split;
 mod visible;
 
-pub use quote::{push_quoted, quoted_command, quoted_words};
+pub use quote::{push_quoted, quoted_command};
 pub use split::{ShellError, shell_words};
 pub use visible::{beginning, is_hidden, shown, shown_briefly, shown_command, shown_words};

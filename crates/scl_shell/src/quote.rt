@@ -71,7 +71,8 @@ fn push_next(text: &mut Vec<u8>, word: &[u8]) -> Mem<()>
     push_quoted(text, word)
 }
 
-/// A program and its words, quoted for a shell, with a space between each two. It fails only for want of memory.
+/// A program and its words, quoted for a shell, with a space between each two: what `shell_words` makes of the text are these
+/// words (`laws::of_quoted_words`). It fails only for want of memory.
 pub fn quoted_command(alloc: Global, program: &[u8], words: &[Vec<u8>]) -> Mem<Vec<u8>>
     ensures { IfOk result (λ text. text.items ≡ quoted_text (program.now ∷ words_of words.now)) }
 {
@@ -81,15 +82,4 @@ pub fn quoted_command(alloc: Global, program: &[u8], words: &[Vec<u8>]) -> Mem<V
         push_next(&mut text, word)?;
     }
     Ok(text)
-}
-
-/// Words quoted for a shell, with a space between each two: what `shell_words` makes of the text are these words
-/// (`laws::of_quoted_words`). It fails only for want of memory.
-pub fn quoted_words(alloc: Global, words: &[Vec<u8>]) -> Mem<Vec<u8>>
-    ensures { IfOk result (λ text. text.items ≡ quoted_text (words_of words.now)) }
-{
-    match words.split_first() {
-        Some((program, others)) => quoted_command(alloc, program, others),
-        None => Ok(Vec::new(alloc)),
-    }
 }

@@ -8,11 +8,11 @@ use Rattle.scl_values.specs.Row.{Row}
 use Rattle.scl_values.specs.Seen.{Seen, Raw, Unknown, Known, shown}
 use Rattle.scl_values.specs.Seen as plain
 use Rattle.scl_values.specs.Tables.{owner_in, all_rows}
-use Rattle.scl_again.specs.Checks.{PassChecks}
-use Rattle.scl_again.specs.Reads.{Reads}
-use Rattle.scl_again.specs.OwnWords.{apart_or_either, is_owned}
-use Rattle.scl_again.proofs.FoundLaws.{last-flag, flag-again}
-use Rattle.scl_again.proofs.OutcomeLaws.{bind-ok, ok_or-ok}
+use Rattle.scl_args.specs.Checks.{PassChecks}
+use Rattle.scl_args.specs.Reads.{Reads}
+use Rattle.scl_args.specs.OwnWords.{apart_or_either, is_owned}
+use Rattle.scl_args.proofs.FoundLaws.{last-flag, flag-again}
+use Rattle.scl_args.proofs.OutcomeLaws.{bind-ok, ok_or-ok}
 use Rattle.scl_text.specs.Records.{NotCompilation}
 use Rattle.scl_files.specs.Expand.{expand}
 use Rattle.scl_files.specs.Views.{File}

@@ -8,10 +8,10 @@ use Rattle.scl_values.specs.Row.{Row, row, apart, either}
 use Rattle.scl_values.specs.Seen as plain
 use Rattle.scl_values.specs.Tables.{owner_in, all_rows}
 use Rattle.scl_args.specs.Options.{side_of_flag}
-use Rattle.scl_again.specs.Checks.{PassChecks, is_changing, is_joining, keeps_flags, joins_safely}
-use Rattle.scl_again.specs.OwnWords.{OwnWord, apart_or_either, is_owned}
-use Rattle.scl_again.specs.Reads.{Reads}
-use Rattle.scl_again.proofs.OwnWordLaws.{one-of-two, either-way}
+use Rattle.scl_args.specs.Checks.{PassChecks, is_changing, is_joining, keeps_flags, joins_safely}
+use Rattle.scl_args.specs.OwnWords.{OwnWord, apart_or_either, is_owned}
+use Rattle.scl_args.specs.Reads.{Reads}
+use Rattle.scl_args.proofs.OwnWordLaws.{one-of-two, either-way}
 use Rattle.scl_small.specs.OwnTables.{keep_words}
 use Rattle.scl_small.specs.ReadAgain.{every_kind}
 

@@ -10,17 +10,17 @@ use Rattle.scl_values.specs.Row.{Row}
 use Rattle.scl_values.specs.Seen.{Seen, Raw, Unknown, Known, shown, plain_seen}
 use Rattle.scl_values.specs.Seen as plain
 use Rattle.scl_values.specs.Tables.{owner_in}
-use Rattle.scl_again.specs.Checks.{PassChecks}
-use Rattle.scl_again.specs.Commands.{Said, carried, IsReadAgain}
-use Rattle.scl_again.specs.Origins.{IsClear, IsKept, AreClear}
-use Rattle.scl_again.specs.Reads.{Reads}
-use Rattle.scl_again.proofs.CommandLaws.{IsList, command-again}
-use Rattle.scl_again.proofs.FoundLaws.{one-text, raw-again}
-use Rattle.scl_again.proofs.ListLaws.{listed-again}
-use Rattle.scl_again.proofs.EmptyLaws.{judged-clear}
-use Rattle.scl_again.proofs.OutcomeLaws.{bind-ok, judged-ok}
-use Rattle.scl_again.proofs.ReadsLaws.{reads-append}
-use Rattle.scl_again.specs.Promises.{HasNoEmpty, said_by}
+use Rattle.scl_args.specs.Checks.{PassChecks}
+use Rattle.scl_args.specs.Commands.{Said, carried, IsReadAgain}
+use Rattle.scl_args.specs.Origins.{IsClear, IsKept, AreClear}
+use Rattle.scl_args.specs.Reads.{Reads}
+use Rattle.scl_args.proofs.CommandLaws.{IsList, command-again}
+use Rattle.scl_args.proofs.FoundLaws.{one-text, raw-again}
+use Rattle.scl_args.proofs.ListLaws.{listed-again}
+use Rattle.scl_args.proofs.EmptyLaws.{judged-clear}
+use Rattle.scl_args.proofs.OutcomeLaws.{bind-ok, judged-ok}
+use Rattle.scl_args.proofs.ReadsLaws.{reads-append}
+use Rattle.scl_args.specs.Promises.{HasNoEmpty, said_by}
 use Rattle.scl_text.proofs.CompilerLaws.{command-kept}
 use Rattle.scl_text.specs.Compilers.{IfCommand}
 use Rattle.scl_text.specs.Languages.{language_of_file_name}

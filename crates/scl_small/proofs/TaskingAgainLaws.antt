@@ -7,12 +7,12 @@ use Rattle.scl_values.specs.Row.{Row, row, bare}
 use Rattle.scl_values.specs.Seen.{shown}
 use Rattle.scl_values.specs.Seen as plain
 use Rattle.scl_values.specs.Tables.{owner_in}
-use Rattle.scl_again.specs.Checks.{PassChecks}
-use Rattle.scl_again.specs.Reads.{Reads}
-use Rattle.scl_again.proofs.OutcomeLaws.{bind-ok}
-use Rattle.scl_again.specs.OwnWords.{apart_or_either, is_owned}
-use Rattle.scl_again.proofs.OwnWordLaws.{one-of}
-use Rattle.scl_again.proofs.ReadsLaws.{reads-flag}
+use Rattle.scl_args.specs.Checks.{PassChecks}
+use Rattle.scl_args.specs.Reads.{Reads}
+use Rattle.scl_args.proofs.OutcomeLaws.{bind-ok}
+use Rattle.scl_args.specs.OwnWords.{apart_or_either, is_owned}
+use Rattle.scl_args.proofs.OwnWordLaws.{one-of}
+use Rattle.scl_args.proofs.ReadsLaws.{reads-flag}
 use Rattle.scl_text.specs.Records.{NotCompilation}
 use Rattle.scl_text.specs.Compilers.{IfCommand}
 use Rattle.scl_small.specs.Command.{command}

@@ -7,6 +7,7 @@ pub mod Places
 pub mod OwnTables
 pub mod ReadAgain
 pub mod Readings
+pub mod Reads
 pub mod TaskingAgain
 pub mod TaskingReading
 pub mod TaskingTable

@@ -1,11 +1,11 @@
 -- Tables of one's own by which the commands of Diab and of TaskingVX are read again: what their rows keep, which computes.
-use Rattle.std.specs.Prelude.{ℕ, Bool, not, ◌&&◌, ◌||◌, List, [], ◌∷◌, codes, IsTrue}
+use Rattle.std.specs.Prelude.{Bool, not, ◌&&◌, ◌||◌, List, [], ◌∷◌, codes, IsTrue}
 use Rattle.std.specs.List.{list_all}
 use Rattle.scl_values.specs.Row.{Row, row, bare}
 use Rattle.scl_values.specs.Tables.{all_rows}
 use Rattle.scl_args.specs.Options.{side_of_flag}
-use Rattle.scl_again.specs.Checks.{is_changing, is_joining, keeps_flags, joins_safely}
-use Rattle.scl_again.specs.OwnWords.{OwnWord, apart_or_either, is_owned, is_bare}
+use Rattle.scl_args.specs.Checks.{is_changing, is_joining, keeps_flags, joins_safely}
+use Rattle.scl_args.specs.OwnWords.{OwnWord, apart_or_either, is_owned, is_bare}
 use Rattle.scl_small.specs.ReadAgain.{every_kind, CommandsAreReadAgain}
 use Rattle.scl_small.specs.DiabReading as diab
 use Rattle.scl_small.specs.TaskingReading as tasking

@@ -4,8 +4,8 @@ use Rattle.scl_values.specs.Cuts.{cut}
 use Rattle.scl_values.specs.Row.{Row}
 use Rattle.scl_values.specs.Seen as plain
 use Rattle.scl_values.specs.Tables.{owner_in}
-use Rattle.scl_again.specs.Commands.{CommandList, Parts, IsReadAgain}
-use Rattle.scl_again.specs.Promises.{Line, HasNoEmpty, said_by}
+use Rattle.scl_args.specs.Commands.{CommandList, Parts, IsReadAgain}
+use Rattle.scl_args.specs.Promises.{Line, HasNoEmpty, said_by}
 use Rattle.scl_text.specs.Commands.{object_of}
 use Rattle.scl_text.specs.Records.{Parsed, Verdict}
 use Rattle.scl_small.specs.Command.{command_words}

@@ -6,7 +6,7 @@ ghost use Rattle.scl_small.specs.Readings.{tested_by, the_only_input};
 
 use crate::judge::Rules;
 use crate::place::Place;
-use crate::record::record_of;
+use crate::record::{record_beside, record_of};
 use scl_args::Options;
 use scl_text::Stop;
 use scl_text::language::Language;
@@ -40,4 +40,20 @@ pub(crate) fn read_options<T: Rules>(
     let language = Language::from_file_name(&input);
     let language = language.ok_or(cannot_cache(UNKNOWN_SOURCE_LANGUAGE))?;
     Ok(record_of(alloc, options, T::compile_flag(flag), input, language)?)
+}
+
+/// The same, beside the options.
+pub(crate) fn read_beside<T: Rules>(
+    alloc: Global,
+    options: &Options<T>,
+) -> Result<ParsedArguments, Stop>
+    ensures { Gives parsed_of result (tested_by T.place T.compile_flag_for options.now) }
+{
+    let flag = options
+        .last_flag(&Place::CompileFlag)
+        .ok_or(Refusal::NotCompilation)?;
+    let input = input_of(alloc, options.texts(alloc, &Place::Input)?)?;
+    let language = Language::from_file_name(&input);
+    let language = language.ok_or(cannot_cache(UNKNOWN_SOURCE_LANGUAGE))?;
+    Ok(record_beside(alloc, options, T::compile_flag(flag), input, language)?)
 }

@@ -1,9 +1,10 @@
 //! What follows for the tables and commands of Diab and TaskingVX: each law is a clause of a function that does nothing.
 ghost use Rattle.std.specs.Prelude.{◌≡◌, ◌∷◌, [], true};
 ghost use Rattle.scl_args.specs.Options.{side_of_flag};
-ghost use Rattle.scl_again.specs.Checks.{PassChecks};
+ghost use Rattle.scl_args.specs.Checks.{PassChecks};
 ghost use Rattle.scl_small.specs.OwnTables.{OwnDiabCommandsAreReadAgain, OwnTaskingCommandsAreReadAgain};
 ghost use Rattle.scl_small.specs.ReadAgain.{every_kind, CommandsAreReadAgain, RecordsHaveObjects, LinesHaveNoEmpty};
+ghost use Rattle.scl_small.specs.Reads.{ReadingsSay};
 ghost use Rattle.scl_small.specs.DiabTable as diab_table;
 ghost use Rattle.scl_small.specs.DiabReading as diab;
 ghost use Rattle.scl_small.specs.TaskingTable as tasking_table;
@@ -50,4 +51,9 @@ pub fn of_commands()
 pub fn of_own_tables()
     ensures own_diab_commands_are_read_again { OwnDiabCommandsAreReadAgain }
     ensures own_tasking_commands_are_read_again { OwnTaskingCommandsAreReadAgain }
+{}
+
+/// The law of readings (docs/RULES.md, Diab and TaskingVX): what a reading says is what its words say.
+pub fn of_readings<K>()
+    ensures readings_say { ReadingsSay K }
 {}

@@ -9,8 +9,10 @@ pub mod laws;
 mod parse;
 mod place;
 mod preprocess;
+mod reading;
 mod record;
 pub mod tasking_vx;
 
 pub use judge::{ByRules, Rules};
 pub use place::{Place, Placed, place_of};
+pub use reading::SmallReading;

@@ -74,3 +74,30 @@ pub(crate) fn record_of<T: Placed>(
         ..ParsedArguments::bare(alloc, input, language, flag)
     })
 }
+
+/// The same, beside the options.
+pub(crate) fn record_beside<T: Placed>(
+    alloc: Global,
+    options: &Options<T>,
+    flag: &str,
+    input: Vec<u8>,
+    language: Language,
+) -> Mem<ParsedArguments>
+    ensures { IfOk result (λ parsed. parsed_of parsed ≡ record_of T.place options.now flag.now input.items language) }
+{
+    let object = object_path(alloc, options.last_text(&Place::Output), &input)?;
+    let depfile = dependency_path(alloc, options.last_text(&Place::DepFile), &input)?;
+    let outputs = outputs_of(alloc, object)?;
+    let dependency_args = options.list(alloc, &ShortFlagsJoined, &Place::Dependency)?;
+    let preprocessor_args = options.list(alloc, &ShortFlagsJoined, &Place::Preprocessor)?;
+    let common_args = options.list(alloc, &ShortFlagsJoined, &Place::Common)?;
+    let flag = Vec::from_slice(alloc, flag.as_bytes())?;
+    Ok(ParsedArguments {
+        depfile,
+        outputs,
+        dependency_args,
+        preprocessor_args,
+        common_args,
+        ..ParsedArguments::bare(alloc, input, language, flag)
+    })
+}

@@ -1,12 +1,12 @@
 -- Nodes that are checked lead to the rows.
-use Rattle.std.proofs.Common.{◌≡◌, ◌≢◌, ℕ, zero, suc, ◌+◌, ◌-◌, ◌<◌, ◌≤◌, Bool, true, false, cond, nat_lt, ◌==◌, ◌&&◌, List, [], ◌∷◌, length, map, slice_index, slice_index_or, ◌⊎◌, inl, inr, refl, sym, ap, subst, ◌∙◌, arith}
+use Rattle.std.proofs.Common.{◌≡◌, ◌≢◌, ℕ, zero, suc, ◌+◌, ◌-◌, ◌<◌, ◌≤◌, Bool, true, false, cond, nat_lt, ◌==◌, ◌&&◌, List, [], length, map, slice_index, slice_index_or, inl, inr, refl, sym, ap, subst, ◌∙◌, arith}
 use Rattle.std.proofs.lemmas.Bool.{and_parts}
 use Rattle.std.proofs.lemmas.Bool.Decides.{nat_tests}
 use Rattle.std.proofs.lemmas.List.{get_or-map, get_or_default, length-map}
 use Rattle.scl_tables.specs.declared.nodes.Node.{Node}
 use Rattle.scl_values.specs.Row.{Row}
-use Rattle.scl_tables.specs.Trees.{Group, group_of, whole, no_node, RiseIn, IsBelow, AreChildren, IsNode, IsTree, Lies, Leads, Lead}
-use Rattle.scl_tables.specs.Checked.{all_from, node_at, goes_on, is_child, follows, have_rows, are_children, owns_row, is_node, is_root, is_tree_of, is_tree}
+use Rattle.scl_tables.specs.Trees.{Group, group_of, no_node, RiseIn, IsBelow, AreChildren, IsNode, IsTree, Lies, Leads, Lead}
+use Rattle.scl_tables.specs.Checked.{all_from, node_at, goes_on, is_child, follows, have_rows, are_children, owns_row, is_node, is_root, is_tree}
 
 less : (a b : ℕ) → nat_lt a b ≡ true → a < b
 less a b h = grind (arith, nat_tests)

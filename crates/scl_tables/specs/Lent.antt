@@ -1,5 +1,5 @@
 -- The nodes of a tree that are lent to it, or its own.
-use Rattle.std.specs.Prelude.{◌≡◌, List, Result, Ok, Err}
+use Rattle.std.specs.Prelude.{◌≡◌, List, Result, Ok}
 use Rattle.scl_tables.specs.declared.nodes.Node.{Node}
 use Rattle.scl_tables.specs.declared.nodes.Nodes.{Nodes}
 use Rattle.scl_tables.specs.declared.nodes.Nodes.TheVariants.{Lent, Built}

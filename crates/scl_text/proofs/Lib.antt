@@ -2,6 +2,7 @@ pub mod ArchLemmas
 pub mod CompilerLaws
 pub mod EqualityLaws
 pub mod FirstVerdictLaws
+pub mod LineLaws
 pub mod NoFileLaws
 pub mod OutputLaws
 pub mod OutputLemmas

@@ -3,7 +3,9 @@ pub mod Compilers
 pub mod FirstVerdicts
 pub mod JudgedWords
 pub mod Languages
+pub mod Lines
 pub mod Outputs
+pub mod ReadLines
 pub mod Reasons
 pub mod Records
 pub mod Refusals

@@ -6,6 +6,7 @@ ghost use Rattle.scl_text.specs.Refusals.{verdict_of, without_text, answer_of, t
 ghost use Rattle.scl_text.specs.Stops.{Gives};
 ghost use Rattle.scl_values.specs.Words.{words_of};
 
+use crate::command::copy_text;
 use crate::reasons::{ARGUMENT_PARSE, MULTIPLE_INPUT_FILES, NO_INPUT_FILE, UNEXPECTED_END};
 use crate::records::{CompilerArguments, ParsedArguments};
 use crate::stop::Stop;
@@ -31,6 +32,18 @@ impl Refusal {
         match self {
             Refusal::CannotCache(reason, text) => CompilerArguments::CannotCache(reason, text),
             Refusal::NotCompilation => CompilerArguments::NotCompilation,
+        }
+    }
+
+    /// A copy of it. It fails only if memory runs out.
+    pub fn copy(&self, alloc: Global) -> Mem<Refusal>
+        ensures { IfOk result (λ copy. verdict_of copy ≡ verdict_of self.now) }
+    {
+        match self {
+            Refusal::CannotCache(reason, text) => {
+                Ok(Refusal::CannotCache(*reason, copy_text(alloc, text)?))
+            }
+            Refusal::NotCompilation => Ok(Refusal::NotCompilation),
         }
     }
 

@@ -101,6 +101,62 @@ fn suppresses_rewritten_includes(kind: CCompilerKind, options: &Options<ArgData>
         && has_extensions(options.last_text(&OfKinds(&[Kind::Standard])))
 }
 
+/// The two long lists as `long_lists` gives them, beside the options.
+fn copied_lists(
+    alloc: Global,
+    options: &Options<ArgData>,
+    inner: &Options<ArgData>,
+    object: &[u8],
+) -> Mem<(Vec<Vec<u8>>, Vec<Vec<u8>>)>
+    ensures preprocessor { IfOk result (λ lists. words_of lists.0.items ≡ all_words_at Place.Preprocessor options.now inner.now) }
+    ensures common { IfOk result (λ lists. words_of lists.1.items
+        ≡ all_words_at Place.Common options.now inner.now ++ added_common (any (Kind.SplitDwarf ∷ []) options.now) object.now) }
+{
+    let preprocessor = all_words_at(alloc, options, inner, Place::Preprocessor)?;
+    let mut common = all_words_at(alloc, options, inner, Place::Common)?;
+    let is_split = options.any(&OfKinds(&[Kind::SplitDwarf]));
+    add_split_dwarf(alloc, &mut common, is_split, object)?;
+    Ok((preprocessor, common))
+}
+
+/// The record of the compilation that the tests found, but for its input and its two long lists.
+fn short_record(
+    alloc: Global,
+    options: &Options<ArgData>,
+    inner: &Options<ArgData>,
+    found: &Finding,
+    kind: CCompilerKind,
+    cwd: &[u8],
+    view: &View,
+) -> Mem<ParsedArguments>
+    ensures { IfOk result (λ parsed. let f = found_of found.now in record (parsed_of parsed) {
+      input = f.input;
+      preprocessor_args = all_words_at Place.Preprocessor options.now inner.now;
+      common_args = all_words_at Place.Common options.now inner.now ++ added_common (any (Kind.SplitDwarf ∷ []) options.now) f.object;
+    } ≡ record_of kind cwd.now view.now options.now inner.now f) }
+{
+    let outputs = outputs_of(alloc, options, found)?;
+    let dependency_args = dependency_words(alloc, options, inner, found)?;
+    let profile = OfKinds(&[Kind::Coverage, Kind::TestCoverage, Kind::ProfileGenerate]);
+    let compile_flag = Vec::from_slice(alloc, found.compile_flag.as_bytes())?;
+    Ok(ParsedArguments {
+        double_dash_input: options.is_behind_dashes(&Inputs),
+        outputs,
+        dependency_args,
+        arch_args: all_words_at(alloc, options, inner, Place::Arch)?,
+        unhashed_args: all_words_at(alloc, options, inner, Place::Unhashed)?,
+        extra_hash_files: hash_paths(alloc, options, inner, cwd, view)?,
+        uses_external_assembler: external_assembler(options).unwrap_or(
+            kind != CCompilerKind::Clang,
+        ),
+        profile_generate: options.any(&profile),
+        color_mode: color_mode(options).unwrap_or(ColorMode::Auto),
+        suppress_rewrite_includes_only: suppresses_rewritten_includes(kind, options),
+        too_hard_for_preprocessor_cache_mode: copy_path(alloc, hiding_flag(options))?,
+        ..ParsedArguments::bare(alloc, Vec::new(alloc), found.language, compile_flag)
+    })
+}
+
 /// The record of the compilation that the tests found.
 pub(crate) fn record_of(
     alloc: Global,
@@ -113,28 +169,32 @@ pub(crate) fn record_of(
 ) -> Mem<ParsedArguments>
     ensures { IfOk result (λ parsed. parsed_of parsed ≡ record_of kind cwd.now view.now options inner.now (found_of found)) }
 {
-    let outputs = outputs_of(alloc, &options, &found)?;
-    let dependency_args = dependency_words(alloc, &options, inner, &found)?;
-    let profile = OfKinds(&[Kind::Coverage, Kind::TestCoverage, Kind::ProfileGenerate]);
-    let compile_flag = Vec::from_slice(alloc, found.compile_flag.as_bytes())?;
-    let parsed = ParsedArguments {
-        double_dash_input: options.is_behind_dashes(&Inputs),
-        outputs,
-        dependency_args,
-        arch_args: all_words_at(alloc, &options, inner, Place::Arch)?,
-        unhashed_args: all_words_at(alloc, &options, inner, Place::Unhashed)?,
-        extra_hash_files: hash_paths(alloc, &options, inner, cwd, view)?,
-        uses_external_assembler: external_assembler(&options).unwrap_or(
-            kind != CCompilerKind::Clang,
-        ),
-        profile_generate: options.any(&profile),
-        color_mode: color_mode(&options).unwrap_or(ColorMode::Auto),
-        suppress_rewrite_includes_only: suppresses_rewritten_includes(kind, &options),
-        too_hard_for_preprocessor_cache_mode: copy_path(alloc, hiding_flag(&options))?,
-        ..ParsedArguments::bare(alloc, found.input, found.language, compile_flag)
-    };
+    let parsed = short_record(alloc, &options, inner, &found, kind, cwd, view)?;
     let (preprocessor_args, common_args) = long_lists(alloc, options, inner, &found.object)?;
     Ok(ParsedArguments {
+        input: found.input,
+        preprocessor_args,
+        common_args,
+        ..parsed
+    })
+}
+
+/// The same, beside the options.
+pub(crate) fn record_beside(
+    alloc: Global,
+    options: &Options<ArgData>,
+    inner: &Options<ArgData>,
+    found: Finding,
+    kind: CCompilerKind,
+    cwd: &[u8],
+    view: &View,
+) -> Mem<ParsedArguments>
+    ensures { IfOk result (λ parsed. parsed_of parsed ≡ record_of kind cwd.now view.now options.now inner.now (found_of found)) }
+{
+    let parsed = short_record(alloc, options, inner, &found, kind, cwd, view)?;
+    let (preprocessor_args, common_args) = copied_lists(alloc, options, inner, &found.object)?;
+    Ok(ParsedArguments {
+        input: found.input,
         preprocessor_args,
         common_args,
         ..parsed

@@ -30,7 +30,7 @@ impl NamesHashed for ArgData {
 pub(crate) fn hash_paths(
     alloc: Global,
     options: &Options<ArgData>,
-    inner: &InnerOptions,
+    inner: &InnerOptions<'_>,
     cwd: &[u8],
     view: &View,
 ) -> Mem<Vec<Vec<u8>>>
@@ -38,7 +38,7 @@ pub(crate) fn hash_paths(
 {
     let mut paths = Vec::new(alloc);
     push_hashed(alloc, &mut paths, options, cwd, view)?;
-    push_hashed(alloc, &mut paths, &inner.xclang, cwd, view)?;
-    push_hashed(alloc, &mut paths, &inner.clang, cwd, view)?;
+    push_hashed(alloc, &mut paths, inner.xclang, cwd, view)?;
+    push_hashed(alloc, &mut paths, inner.clang, cwd, view)?;
     Ok(paths)
 }

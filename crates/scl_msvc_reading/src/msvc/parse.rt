@@ -9,7 +9,7 @@ ghost use Rattle.scl_msvc_reading.specs.Rows.{msvc_tables};
 use super::args::trees;
 use super::data::ArgData;
 use super::fixed_tests::apply_fixed_tests;
-use super::inner::both_inner;
+use super::inner::{InnerOptions, both_inner};
 use super::judge::ByVerdict;
 use super::record::record_of;
 use scl_args::{Mem, Options, SearchableArgInfo};
@@ -30,7 +30,11 @@ fn read_options(
 ) -> Result<ParsedArguments, Stop>
     ensures { Gives parsed_of result (read is_clang cwd.now view.now options) }
 {
-    let inner = both_inner(alloc, &options, cwd, view)?;
+    let (xclang, clang) = both_inner(alloc, &options, cwd, view)?;
+    let inner = InnerOptions {
+        xclang: &xclang,
+        clang: &clang,
+    };
     let found = apply_fixed_tests(alloc, &options, is_clang)?;
     Ok(record_of(alloc, options, &inner, found, cwd, view)?)
 }

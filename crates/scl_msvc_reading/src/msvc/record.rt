@@ -24,7 +24,7 @@ use std::alloc::Global;
 fn all_words_at(
     alloc: Global,
     options: &Options<ArgData>,
-    inner: &InnerOptions,
+    inner: &InnerOptions<'_>,
     there: Place,
 ) -> Mem<Vec<Vec<u8>>>
     ensures { IfOk result (λ words. words_of words.items ≡ all_words_at there options.now (inner_of inner.now)) }
@@ -38,7 +38,7 @@ fn all_words_at(
 fn long_lists(
     alloc: Global,
     options: Options<ArgData>,
-    inner: &InnerOptions,
+    inner: &InnerOptions<'_>,
 ) -> Mem<(Vec<Vec<u8>>, Vec<Vec<u8>>)>
     ensures preprocessor { IfOk result (λ lists. words_of lists.0.items ≡ all_words_at Place.Preprocessor options (inner_of inner.now)) }
     ensures common { IfOk result (λ lists. words_of lists.1.items ≡ all_words_at Place.Common options (inner_of inner.now)) }
@@ -55,41 +55,82 @@ fn long_lists(
 }
 
 /// Whether the program will write a profile of its runs; inner options alone ask for it.
-fn writes_profile(inner: &InnerOptions) -> bool
+fn writes_profile(inner: &InnerOptions<'_>) -> bool
     ensures { result ≡ writes_profile (inner_of inner.now) }
 {
     let profile = OfKinds(&[gcc::Kind::ProfileGenerate]);
     inner.xclang.any(&profile) || inner.clang.any(&profile)
 }
 
+/// The record of the compilation that the tests found, but for its input and its two long lists.
+fn short_record(
+    alloc: Global,
+    options: &Options<ArgData>,
+    inner: &InnerOptions<'_>,
+    found: &Finding,
+    cwd: &[u8],
+    view: &View,
+) -> Mem<ParsedArguments>
+    ensures { IfOk result (λ parsed. let f = found_of found.now in record (parsed_of parsed) {
+      input = f.input;
+      preprocessor_args = all_words_at Place.Preprocessor options.now (inner_of inner.now);
+      common_args = all_words_at Place.Common options.now (inner_of inner.now);
+    } ≡ record_of cwd.now view.now options.now (inner_of inner.now) f) }
+{
+    let outputs = outputs_of(alloc, options, found)?;
+    let depfile = options.last_text(&OfKinds(&[Kind::DepFile]));
+    let flag = Vec::from_slice(alloc, found.compile_flag.as_bytes())?;
+    Ok(ParsedArguments {
+        double_dash_input: options.is_behind_dashes(&Inputs),
+        depfile: copy_path(alloc, depfile)?,
+        outputs,
+        dependency_args: all_words_at(alloc, options, inner, Place::Dependency)?,
+        unhashed_args: all_words_at(alloc, options, inner, Place::Unhashed)?,
+        extra_hash_files: hash_paths(alloc, options, inner, cwd, view)?,
+        msvc_show_includes: options.any(&OfKinds(&[Kind::ShowIncludes])),
+        msvc_explicit_language: has_explicit_language(options),
+        profile_generate: writes_profile(inner),
+        ..ParsedArguments::bare(alloc, Vec::new(alloc), found.language, flag)
+    })
+}
+
 /// The record of the compilation that the tests found.
 pub(crate) fn record_of(
     alloc: Global,
     options: Options<ArgData>,
-    inner: &InnerOptions,
+    inner: &InnerOptions<'_>,
     found: Finding,
     cwd: &[u8],
     view: &View,
 ) -> Mem<ParsedArguments>
     ensures { IfOk result (λ parsed. parsed_of parsed ≡ record_of cwd.now view.now options (inner_of inner.now) (found_of found)) }
 {
-    let outputs = outputs_of(alloc, &options, &found)?;
-    let depfile = options.last_text(&OfKinds(&[Kind::DepFile]));
-    let flag = Vec::from_slice(alloc, found.compile_flag.as_bytes())?;
-    let parsed = ParsedArguments {
-        double_dash_input: options.is_behind_dashes(&Inputs),
-        depfile: copy_path(alloc, depfile)?,
-        outputs,
-        dependency_args: all_words_at(alloc, &options, inner, Place::Dependency)?,
-        unhashed_args: all_words_at(alloc, &options, inner, Place::Unhashed)?,
-        extra_hash_files: hash_paths(alloc, &options, inner, cwd, view)?,
-        msvc_show_includes: options.any(&OfKinds(&[Kind::ShowIncludes])),
-        msvc_explicit_language: has_explicit_language(&options),
-        profile_generate: writes_profile(inner),
-        ..ParsedArguments::bare(alloc, found.input, found.language, flag)
-    };
+    let parsed = short_record(alloc, &options, inner, &found, cwd, view)?;
     let (preprocessor_args, common_args) = long_lists(alloc, options, inner)?;
     Ok(ParsedArguments {
+        input: found.input,
+        preprocessor_args,
+        common_args,
+        ..parsed
+    })
+}
+
+/// The same, beside the options.
+pub(crate) fn record_beside(
+    alloc: Global,
+    options: &Options<ArgData>,
+    inner: &InnerOptions<'_>,
+    found: Finding,
+    cwd: &[u8],
+    view: &View,
+) -> Mem<ParsedArguments>
+    ensures { IfOk result (λ parsed. parsed_of parsed ≡ record_of cwd.now view.now options.now (inner_of inner.now) (found_of found)) }
+{
+    let parsed = short_record(alloc, options, inner, &found, cwd, view)?;
+    let preprocessor_args = all_words_at(alloc, options, inner, Place::Preprocessor)?;
+    let common_args = all_words_at(alloc, options, inner, Place::Common)?;
+    Ok(ParsedArguments {
+        input: found.input,
         preprocessor_args,
         common_args,
         ..parsed

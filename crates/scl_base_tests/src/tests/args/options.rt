@@ -31,12 +31,8 @@ fn filters_give_what_passes(rt: HostRuntime) -> Result<(), Fail> {
             &words
         )
     );
-    assert!(rt;
-        gives(
-            &options.into_list(rt.alloc(), &ShortFlagsJoined, &valued),
-            &words
-        )
-    );
+    let (firsts, seconds) = options.into_two_lists(rt.alloc(), &ShortFlagsJoined, &valued, &none)?;
+    assert!(rt; gives(&Ok(firsts), &words) && gives(&Ok(seconds), &[]));
     Ok(())
 }
 

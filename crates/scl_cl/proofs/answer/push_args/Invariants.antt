@@ -1,7 +1,7 @@
 use Rattle.std.proofs.Common.{◌≡◌, ◌++◌, take}
 use Rattle.std.specs.List.{flat_map}
 use Rattle.scl_values.specs.Words.{words_of}
-use Rattle.scl_cl.specs.Answers.{arg_line}
+use Rattle.scl_cl.specs.AnswerTexts.{arg_line}
 use Rattle.scl_cl.proofs.answer.push_args.Given as goal
 
 abbrev pub invariant-loop-word : goal.invariant-loop-word

@@ -1,12 +1,5 @@
 use Rattle.scl_cl.proofs.WrittenLaws.{answer-lines}
-use Rattle.scl_cl.proofs.AgainLaws.{answers_again, have-commands}
 use Rattle.scl_cl.proofs.laws.of_answers.Goals as goal
 
-pub returns-clause-answer_has_lines : goal.returns-clause-answer_has_lines
-returns-clause-answer_has_lines c = answer-lines
-
-pub returns-clause-answers_are_read_again : goal.returns-clause-answers_are_read_again
-returns-clause-answers_are_read_again c = answers_again
-
-pub returns-clause-records_have_commands : goal.returns-clause-records_have_commands
-returns-clause-records_have_commands c = have-commands
+pub returns : goal.returns
+returns c = record { answer_has_lines = answer-lines }

@@ -1,5 +1,5 @@
 use Rattle.std.proofs.Common.{rules}
-use Rattle.scl_cl.proofs.AgainLaws.{text-answers-again}
+use Rattle.scl_cl.proofs.TextAgainLaws.{text-answers-again}
 use Rattle.scl_cl.proofs.program.run.Goals as goal
 
 pub returns-clause-answered : goal.returns-clause-answered

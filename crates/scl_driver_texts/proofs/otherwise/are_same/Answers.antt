@@ -1,5 +1,5 @@
 use Rattle.std.proofs.Common.{◌∙◌}
-use Rattle.scl_driver_texts.proofs.InPlaceLemmas.{pointwise-words}
+use Rattle.scl_driver_texts.proofs.SameWords.{pointwise-words}
 use Rattle.scl_driver_texts.proofs.otherwise.are_same.Goals as goal
 
 pub returns : goal.returns

@@ -1,4 +1,4 @@
-use Rattle.scl_cl.specs.QuestionsGiven.{given}
+use Rattle.scl_reader.specs.QuestionsGiven.{given}
 use Rattle.scl_load.proofs.LookLaws.{all-asked}
 use Rattle.scl_load.proofs.look.look_for_all.Goals as goal
 

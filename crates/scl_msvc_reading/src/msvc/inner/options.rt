@@ -1,6 +1,5 @@
 //! The options of the inner command lines.
 ghost use Rattle.scl_text.specs.Stops.{Gives};
-ghost use Rattle.scl_msvc_reading.specs.InnerBy.{inner_of};
 ghost use Rattle.scl_msvc_reading.specs.Readings.{inner_options, both_inner};
 
 use super::judge::ByInnerVerdict;
@@ -12,10 +11,10 @@ use scl_text::view::View;
 use std::alloc::Global;
 
 /// The options of the two inner command lines.
-#[derive(Drop)]
-pub(crate) struct InnerOptions {
-    pub(crate) xclang: Options<gcc::ArgData>,
-    pub(crate) clang: Options<gcc::ArgData>,
+#[derive(Clone, Copy)]
+pub(crate) struct InnerOptions<'a> {
+    pub(crate) xclang: &'a Options<gcc::ArgData>,
+    pub(crate) clang: &'a Options<gcc::ArgData>,
 }
 
 /// The options of an inner command line, whose words are the values of the options of a kind.
@@ -38,10 +37,10 @@ pub(crate) fn both_inner(
     options: &Options<ArgData>,
     cwd: &[u8],
     view: &View,
-) -> Result<InnerOptions, Stop>
-    ensures { Gives inner_of result (both_inner cwd.now view.now options.now) }
+) -> Result<(Options<gcc::ArgData>, Options<gcc::ArgData>), Stop>
+    ensures { Gives (λ both. record { xclang = both.0; clang = both.1 }) result (both_inner cwd.now view.now options.now) }
 {
     let xclang = inner_options(alloc, options, Kind::XClang, cwd, view)?;
     let clang = inner_options(alloc, options, Kind::Clang, cwd, view)?;
-    Ok(InnerOptions { xclang, clang })
+    Ok((xclang, clang))
 }

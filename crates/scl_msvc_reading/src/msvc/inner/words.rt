@@ -47,11 +47,11 @@ fn push_joined_to_clang(alloc: Global, words: &mut Vec<Vec<u8>>, inner: Vec<Vec<
 pub(crate) fn push_inner(
     alloc: Global,
     words: &mut Vec<Vec<u8>>,
-    inner: &InnerOptions,
+    inner: &InnerOptions<'_>,
     there: Place,
 ) -> Mem<()>
     ensures { OnOk result (words_of words.new.items ≡ words_of words.old.items ++ inner_words_at there (inner_of inner.now)) }
 {
-    push_behind_xclang(alloc, words, inner_list(alloc, &inner.xclang, there)?)?;
-    push_joined_to_clang(alloc, words, inner_list(alloc, &inner.clang, there)?)
+    push_behind_xclang(alloc, words, inner_list(alloc, inner.xclang, there)?)?;
+    push_joined_to_clang(alloc, words, inner_list(alloc, inner.clang, there)?)
 }

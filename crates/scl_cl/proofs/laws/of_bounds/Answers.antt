@@ -1,5 +1,0 @@
-use Rattle.scl_cl.proofs.InnerLineLaws.{clang-inner-within}
-use Rattle.scl_cl.proofs.laws.of_bounds.Goals as goal
-
-pub returns : goal.returns
-returns c = record { clang_inner_is_within = clang-inner-within }

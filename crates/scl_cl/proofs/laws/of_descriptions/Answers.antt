@@ -1,5 +1,0 @@
-use Rattle.scl_cl.proofs.DescriptionLaws.{descriptions-back}
-use Rattle.scl_cl.proofs.laws.of_descriptions.Goals as goal
-
-pub returns : goal.returns
-returns c = record { descriptions_read_back = descriptions-back }

@@ -1,0 +1,151 @@
+-- Descriptions: what the code gives is what is defined, and a record is read back from its description.
+use Rattle.std.proofs.Common.{◌≡◌, ℕ, true, false, cond, List, [], ◌∷◌, ◌++◌, map, codes, Option, None, Some, unwrap_or, refl, ap, sym, subst, ◌∙◌, append-nil, append_assoc}
+use Rattle.std.specs.List.{flat_map}
+use Rattle.std.proofs.lemmas.Grind.{flat_map-append}
+use Rattle.scl_values.specs.Each.{Each}
+use Rattle.scl_values.specs.Escaped.{escaped}
+use Rattle.scl_text.specs.Records.{Parsed, parsed_of}
+use Rattle.scl_text.specs.declared.records.Cacheable.{Cacheable}
+use Rattle.scl_text.specs.declared.records.Cacheable.TheVariants as cacheable
+use Rattle.scl_text.specs.declared.records.CompilerArguments.{CompilerArguments}
+use Rattle.scl_text.specs.declared.records.CompilerArguments.TheVariants as outcomes
+use Rattle.scl_description.specs.Laws.{IsBeside}
+use Rattle.scl_description.specs.Lines.{line}
+use Rattle.scl_description.specs.Rows.{Entry, IsRow, lone, row_text, rows_text, rows_of, row_entry, entry, entry_text, entries_text}
+use Rattle.scl_description.specs.Records.{record_entries, record_in}
+use Rattle.scl_description.proofs.RecordLaws.{description-back-among}
+use Rattle.scl_hazards.specs.declared.hazard.Hazard.{Hazard}
+use Rattle.scl_rows.specs.Rows.{refused_at, told, unless_owned}
+use Rattle.scl_rows.specs.declared.row.Row.{Row}
+use Rattle.scl_describe.specs.declared.described.Findings.{Findings}
+use Rattle.scl_reader.specs.declared.kept.Compilation.{Compilation}
+use Rattle.scl_describe.specs.OptionLines.{fields_given, kind_name, option_fields, option_rests, options_entry, options_given}
+use Rattle.scl_describe.specs.OptionRows.{rows_by}
+use Rattle.scl_describe.specs.Hazards.{hazards_by}
+use Rattle.scl_reader.specs.QuestionsGiven.{given}
+use Rattle.scl_reader.specs.CommandLines.{Request}
+use Rattle.scl_cl.specs.AnswerTexts.{arg_line, text_of}
+use Rattle.scl_reader.specs.Answers.{compiled, answer_to, reading_by, environment_by}
+use Rattle.scl_reader.specs.AnswersGiven.{answer_of, HasParts}
+use Rattle.scl_reader.specs.Questions.{Questions, questions_of}
+use Rattle.scl_describe.specs.Settings.{Settings}
+use Rattle.scl_reader.specs.Within.{has_at_most}
+use Rattle.scl_describe.specs.Descriptions.{version_entry, runs_entry, pair_fields, environment_entry, hazards_entry, compiled_entries, runs_for, outcome_entries, question_entries, answer_entries, description, IsDescription, too_many_entries, command_entries, DescriptionsReadBack}
+use Rattle.scl_describe.specs.DescriptionsGiven.{AreOf, entries_given, outcome_given}
+
+pub behind_text : (start whole all rows : List ℕ) → whole ≡ start ++ rows → start ≡ all → whole ≡ all ++ rows
+behind_text start whole all rows h k = h ∙ ap (λ t. t ++ rows) k
+
+-- ---- what the code gives
+
+outcome-is : (s : Settings) (r : Request) (executable cwd : List ℕ) (answer : CompilerArguments Compilation) → answer_of answer ≡ answer_to r
+    → HasParts (reading_by r.compiler r) executable (environment_by r.compiler r.environment) cwd answer
+    → outcome_given (runs_for s r.compiler) (refused_at (rows_by r)) answer ≡ outcome_entries s r (answer_to r) (reading_by r.compiler r)
+outcome-is s r executable cwd (outcomes.Ok compilation) e parts =
+    ap (λ env. compiled_entries (runs_for s r.compiler (parsed_of compilation.parsed)) env (parsed_of compilation.parsed)) parts.1.env_vars_are
+    ∙ ap (λ said. outcome_entries s r (answer_of (outcomes.Ok compilation)) said) (sym parts.0)
+    ∙ ap (λ a. outcome_entries s r a (reading_by r.compiler r)) e
+outcome-is s r executable cwd (outcomes.CannotCache reason text) e parts = ap (λ a. outcome_entries s r a (reading_by r.compiler r)) e
+outcome-is s r executable cwd outcomes.NotCompilation e parts = ap (λ a. outcome_entries s r a (reading_by r.compiler r)) e
+
+-- what is told of a kind's name is its name
+name-is : (flag : Option (List ℕ)) (name : List ℕ) → unwrap_or (unless_owned flag name) name ≡ name
+name-is None name = refl
+name-is (Some f) name = refl
+
+options-are : (rows : List Row) → map fields_given rows ≡ option_rests (map kind_name rows) (map told rows)
+options-are [] = refl
+options-are (row ∷ rows) =
+    ap (λ kind. option_fields kind (told row) ∷ map fields_given rows) (sym (name-is (told row).flag (kind_name row)))
+    ∙ ap (λ rests. option_fields (unwrap_or (told row).kind (kind_name row)) (told row) ∷ rests) (options-are rows)
+
+abbrev all_entries : List Entry → Entry → List Hazard → Questions → List Entry
+all_entries outcome options hazards asks = version_entry ∷ [] ++ outcome ++ (options ∷ hazards_entry hazards ∷ question_entries asks)
+
+entries-are : (s : Settings) (r : Request) (found : Findings) → AreOf r found
+    → entries_given (runs_for s r.compiler) found ≡ answer_entries s r (map kind_name found.rows.items)
+entries-are s r found are =
+    let runs : Parsed → List (List (List ℕ)) = runs_for s r.compiler in
+    let kinds : List (List ℕ) = map kind_name found.rows.items in
+    let outcome : outcome_given runs (refused_at (map told found.rows.items)) found.answer ≡ outcome_entries s r (answer_to r) (reading_by r.compiler r) =
+    ap (λ rows. outcome_given runs (refused_at rows) found.answer) are.rows ∙ outcome-is s r [] r.directory found.answer are.answer are.parts in
+    let options : options_given found.rows.items ≡ options_entry kinds (rows_by r) =
+    ap (entry (codes "option")) (options-are found.rows.items) ∙ ap (options_entry kinds) are.rows in
+    let outcome_is : List Entry = outcome_entries s r (answer_to r) (reading_by r.compiler r) in
+    let options_is : Entry = options_entry kinds (rows_by r) in
+    ap (λ es. all_entries es (options_given found.rows.items) found.hazards.items (given found.questions)) outcome
+    ∙ ap (λ e. all_entries outcome_is e found.hazards.items (given found.questions)) options
+    ∙ ap (λ hazards. all_entries outcome_is options_is hazards (given found.questions)) are.hazards
+    ∙ ap (all_entries outcome_is options_is (hazards_by r)) are.questions
+
+-- the text of an answer and the rows behind it are a description
+pub is-description : (s : Settings) (r : Request) (text : List ℕ) (found : Findings) → has_at_most s.bound r ≡ true → AreOf r found
+    → text ≡ text_of (answer_of found.answer) ++ entries_text (entries_given (runs_for s r.compiler) found) → IsDescription s r text
+is-description s r text found within are is =
+    let kinds : List (List ℕ) = map kind_name found.rows.items in (
+      kinds,
+      is
+          ∙ ap (λ a. text_of a ++ entries_text (entries_given (runs_for s r.compiler) found)) are.answer
+          ∙ ap (λ es. text_of (answer_to r) ++ entries_text es) (entries-are s r found are)
+          ∙ ap (λ b. cond b (text_of (answer_to r) ++ entries_text (answer_entries s r kinds)) (entries_text too_many_entries)) (sym within),
+    )
+
+pub too-long : (s : Settings) (r : Request) (text : List ℕ) → has_at_most s.bound r ≡ false → text ≡ entries_text too_many_entries → IsDescription s r text
+too-long s r text within is = ([], is ∙ ap (λ b. cond b (text_of (answer_to r) ++ entries_text (answer_entries s r [])) (entries_text too_many_entries)) (sym within))
+
+-- ---- a record is read back
+
+arg-row : (word : List ℕ) → line (row_text (codes "arg" ∷ lone word)) ≡ arg_line word
+arg-row word = ap (λ w. codes "arg " ++ (w ++ 10 ∷ [])) (append-nil (escaped word))
+
+args-rows : (words : List (List ℕ)) → rows_text (map (λ rest. codes "arg" ∷ rest) (map lone words)) ≡ flat_map arg_line words
+args-rows [] = refl
+args-rows (word ∷ words) =
+    ap (λ t. t ++ rows_text (map (λ rest. codes "arg" ∷ rest) (map lone words))) (arg-row word) ∙ ap (λ t. arg_line word ++ t) (args-rows words)
+
+command-rows : (words : List (List ℕ)) (kept : Cacheable) → text_of (compiled words kept) ≡ entries_text (command_entries words kept)
+unfolding entry_text
+command-rows words cacheable.Yes =
+    append_assoc (line (codes "ok")) (flat_map arg_line words) (line (codes "cacheable yes")) ∙ ap (λ t. line (codes "ok") ++ (t ++ line (codes "cacheable yes"))) (sym (args-rows words))
+command-rows words cacheable.No =
+    append_assoc (line (codes "ok")) (flat_map arg_line words) (line (codes "cacheable no")) ∙ ap (λ t. line (codes "ok") ++ (t ++ line (codes "cacheable no"))) (sym (args-rows words))
+
+command-beside : (words : List (List ℕ)) (kept : Cacheable) → Each IsBeside (command_entries words kept ++ version_entry ∷ [])
+command-beside words cacheable.Yes = (refl, (refl, (refl, (refl, tt))))
+command-beside words cacheable.No = (refl, (refl, (refl, (refl, tt))))
+
+-- the rows before a record's, the record's, and those behind
+abbrev in_order : (before after : List Entry) → Parsed → List Entry
+in_order before after p = before ++ record_entries p ++ after
+
+pub descriptions-back : DescriptionsReadBack
+descriptions-back s r kinds words kept p within compiles reads are =
+    let after : List Entry = runs_entry (runs_for s r.compiler p) ∷ environment_entry (environment_by r.compiler r.environment) ∷ [] in
+    let asks : List Entry = options_entry kinds (rows_by r) ∷ hazards_entry (hazards_by r) ∷ question_entries (questions_of r) in
+    let before : List Entry = command_entries words kept ++ version_entry ∷ [] in
+    let outcome : outcome_entries s r (answer_to r) (reading_by r.compiler r) ≡ record_entries p ++ after =
+    ap (λ a. outcome_entries s r a (reading_by r.compiler r)) compiles ∙ ap (outcome_entries s r (compiled words kept)) reads in
+    let entries : command_entries words kept ++ answer_entries s r kinds ≡ in_order before (after ++ asks) p =
+    ap (λ es. command_entries words kept ++ (version_entry ∷ [] ++ es ++ asks)) outcome
+    ∙ ap (λ es. command_entries words kept ++ (version_entry ∷ es)) (append_assoc (record_entries p) after asks)
+    ∙ sym (append_assoc (command_entries words kept) (version_entry ∷ []) (record_entries p ++ (after ++ asks)))
+    ∙ sym (append_assoc before (record_entries p) (after ++ asks)) in
+    let text : description s r kinds ≡ entries_text (in_order before (after ++ asks) p) =
+    ap (λ b. cond b (text_of (answer_to r) ++ entries_text (answer_entries s r kinds)) (entries_text too_many_entries)) within
+    ∙ ap (λ a. text_of a ++ entries_text (answer_entries s r kinds)) compiles
+    ∙ ap (λ t. t ++ entries_text (answer_entries s r kinds)) (command-rows words kept)
+    ∙ sym (flat_map-append entry_text (command_entries words kept) (answer_entries s r kinds))
+    ∙ ap entries_text entries in
+    ap record_in text
+    ∙ description-back-among before (after ++ asks) p (command-beside words kept) (refl, (refl, (refl, (refl, (refl, (refl, (refl, tt))))))) (subst (λ es. Each IsRow (rows_of es)) entries are)
+
+-- ---- one more row
+
+pub environment-more : (pairs : List (List ℕ × List ℕ)) (pair : List ℕ × List ℕ)
+    → entry_text (environment_entry (pairs ++ pair ∷ [])) ≡ entry_text (environment_entry pairs) ++ entry_text (row_entry (codes "environment") (pair_fields pair))
+unfolding entry_text
+environment-more [] pair = refl
+environment-more (p ∷ pairs) pair =
+    let first : List ℕ = line (row_text (codes "environment" ∷ pair_fields p)) in
+    ap (λ t. first ++ t) (environment-more pairs pair)
+    ∙ sym (append_assoc first (rows_text (map (λ rest. codes "environment" ∷ rest) (map pair_fields pairs))) (rows_text ((codes "environment" ∷ pair_fields pair) ∷ [])))

@@ -1,0 +1,5 @@
+pub mod SettingLaws
+pub mod ExplainedLaws
+pub mod DescriptionLaws
+pub mod RowLaws
+pub mod FindingLaws

@@ -1,0 +1,132 @@
+-- The description of the answer to a request: the answer's lines, and behind them rows of what was read.
+use Rattle.std.specs.Prelude.{◌≡◌, ℕ, true, List, [], ◌∷◌, ◌++◌, map, codes, Option, Result, Ok, Err, unwrap_or, if◌then◌else◌}
+use Rattle.scl_values.specs.Each.{Each}
+use Rattle.scl_text.specs.declared.records.Cacheable.{Cacheable}
+use Rattle.scl_text.specs.declared.records.Cacheable.TheVariants as cacheable
+use Rattle.scl_text.specs.Records.{Parsed, Verdict}
+use Rattle.scl_reasons.specs.Explanations.{text_for}
+use Rattle.scl_reasons.specs.Table.{other, table}
+use Rattle.scl_hazards.specs.Hazards as hazards
+use Rattle.scl_hazards.specs.declared.hazard.Hazard.{Hazard}
+use Rattle.scl_rows.specs.Rows.{refused_at}
+use Rattle.scl_description.specs.Lines.{lines_of}
+use Rattle.scl_description.specs.Rows.{Entry, entry, row_entry, words_entry, maybe_entry, lone_entry, lone, IsRow, rows_of, entries_text}
+use Rattle.scl_description.specs.Records.{record_entries, record_in}
+use Rattle.scl_reader.specs.declared.compiler.Compiler.{Compiler}
+use Rattle.scl_reader.specs.CommandLines.{Request}
+use Rattle.scl_cl.specs.Requests.{request_in}
+use Rattle.scl_cl.specs.AnswerTexts.{text_of}
+use Rattle.scl_reader.specs.Answers.{Answer, compiled, cannot_cache, not_compilation, answer_to, reading_by, runs_with, environment_by}
+use Rattle.scl_describe.specs.OptionLines.{index_entry, options_entry}
+use Rattle.scl_describe.specs.OptionRows.{rows_by}
+use Rattle.scl_describe.specs.Hazards.{hazards_by}
+use Rattle.scl_reader.specs.Questions.{Questions, questions_of}
+use Rattle.scl_describe.specs.Settings.{Settings, settings_in, request_lines}
+use Rattle.scl_reader.specs.Within.{has_at_most}
+
+-- the version of these rows
+abbrev pub version_entry : Entry
+version_entry = row_entry (codes "version") (lone (codes "1"))
+
+-- ---- where there is a command
+
+abbrev pub pair_fields : (List ℕ × List ℕ) → List (List ℕ)
+pair_fields pair = pair.0 ∷ pair.1 ∷ []
+
+-- the words of each run of the preprocessor
+abbrev pub runs_entry : List (List (List ℕ)) → Entry
+runs_entry runs = entry (codes "run") runs
+
+abbrev pub environment_entry : List (List ℕ × List ℕ) → Entry
+environment_entry pairs = entry (codes "environment") (map pair_fields pairs)
+
+-- the record, the runs of the preprocessor, and the environment of the command
+abbrev pub compiled_entries : (runs : List (List (List ℕ))) → (environment : List (List ℕ × List ℕ)) → Parsed → List Entry
+compiled_entries runs environment p = record_entries p ++ (runs_entry runs ∷ environment_entry environment ∷ [])
+
+-- ---- where there is none
+
+-- the sentence for people of a reason
+abbrev pub sentence_of : List ℕ → List ℕ
+sentence_of reason = unwrap_or (text_for reason table) other
+
+-- the reason, the text beside it if there is one, the index of the given word that is refused, if one is, and the reason's sentence
+abbrev pub refused_entries : (reason : List ℕ) → (because : Option (List ℕ)) → (at : Option ℕ) → List Entry
+refused_entries reason because at =
+    row_entry (codes "reason") (lone reason) ∷ maybe_entry (codes "because") because ∷ index_entry (codes "at") at ∷ row_entry (codes "sentence") (lone (sentence_of reason)) ∷ []
+
+-- the index of the given word by which nothing is compiled, if one says so
+abbrev pub undone_entries : Option ℕ → List Entry
+undone_entries at = index_entry (codes "at") at ∷ []
+
+-- ---- what a real compiler may do otherwise
+
+-- the names of hazards
+abbrev pub hazards_entry : List Hazard → Entry
+hazards_entry found = words_entry (codes "hazard") (map (λ hazard. (hazards.told hazard).name) found)
+
+-- ---- what the answer asks of the view
+
+abbrev pub kind_fields : List ℕ → List ℕ → List (List ℕ)
+kind_fields kind path = kind ∷ path ∷ []
+
+abbrev pub wants_entry : List ℕ → List (List ℕ) → Entry
+wants_entry kind paths = entry (codes "wants") (map (kind_fields kind) paths)
+
+abbrev pub question_entries : Questions → List Entry
+question_entries q = wants_entry (codes "file") q.files ∷ wants_entry (codes "dir") q.directories ∷ wants_entry (codes "exists") q.existing ∷ []
+
+-- ---- all of it
+
+abbrev pub runs_for : Settings → Compiler → Parsed → List (List (List ℕ))
+runs_for s compiler p = runs_with s.version compiler s.may_dist s.rewrite_includes_only s.cache_mode p
+
+abbrev pub outcome_entries : Settings → Request → Answer → Result Parsed Verdict → List Entry
+outcome_entries s request (compiled words kept) (Ok p) = compiled_entries (runs_for s request.compiler p) (environment_by request.compiler request.environment) p
+outcome_entries s request (compiled words kept) (Err v) = []
+outcome_entries s request (cannot_cache reason beside) r = refused_entries reason beside (refused_at (rows_by request))
+outcome_entries s request not_compilation r = undone_entries (refused_at (rows_by request))
+
+-- the rows behind the answer's lines, with the names of the kinds of flags
+abbrev pub answer_entries : Settings → Request → List (List ℕ) → List Entry
+answer_entries s request kinds =
+    version_entry ∷ []
+    ++ outcome_entries s request (answer_to request) (reading_by request.compiler request)
+    ++ (options_entry kinds (rows_by request) ∷ hazards_entry (hazards_by request) ∷ question_entries (questions_of request))
+
+-- where a command line has more words than the bound
+abbrev pub too_many_entries : List Entry
+too_many_entries = lone_entry (codes "too-many-words") ∷ version_entry ∷ []
+
+abbrev pub description : Settings → Request → List (List ℕ) → List ℕ
+description s request kinds =
+    if has_at_most s.bound request then text_of (answer_to request) ++ entries_text (answer_entries s request kinds) else entries_text too_many_entries
+
+-- the text describes the answer to the request; which names the kinds of flags have is not said
+abbrev pub IsDescription : Settings → Request → List ℕ → Type 0
+IsDescription s request text = (kinds : List (List ℕ)) × (text ≡ description s request kinds)
+
+-- what a description of the request may be, or the number of its bad line
+abbrev pub IsDescriptionOf : Settings → Result Request ℕ → Result (List ℕ) ℕ → Type 0
+IsDescriptionOf s (Ok request) (Ok text) = IsDescription s request text
+IsDescriptionOf s (Err n) (Err m) = n ≡ m
+IsDescriptionOf s (Ok request) (Err m) = ⊥
+IsDescriptionOf s (Err n) (Ok text) = ⊥
+
+-- what may be answered to the bytes of a description's request: their settings and the request of their other lines
+abbrev pub DescribesBytes : List ℕ → Result (List ℕ) ℕ → Type 0
+DescribesBytes bytes said = IsDescriptionOf (settings_in (lines_of bytes)) (request_in (request_lines (lines_of bytes))) said
+
+-- ---- a law
+
+-- the lines of a command's answer, as rows
+abbrev pub command_entries : List (List ℕ) → Cacheable → List Entry
+command_entries words cacheable.Yes = lone_entry (codes "ok") ∷ words_entry (codes "arg") words ∷ row_entry (codes "cacheable") (lone (codes "yes")) ∷ []
+command_entries words cacheable.No = lone_entry (codes "ok") ∷ words_entry (codes "arg") words ∷ row_entry (codes "cacheable") (lone (codes "no")) ∷ []
+
+-- A description of a command gives the record that was read.
+abbrev pub DescriptionsReadBack : Type 0
+DescriptionsReadBack = (s : Settings) (request : Request) (kinds words : List (List ℕ)) (kept : Cacheable) (p : Parsed)
+    → has_at_most s.bound request ≡ true → answer_to request ≡ compiled words kept → reading_by request.compiler request ≡ Ok p
+    → Each IsRow (rows_of (command_entries words kept ++ answer_entries s request kinds))
+    → record_in (description s request kinds) ≡ p

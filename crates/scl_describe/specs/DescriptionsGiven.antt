@@ -1,0 +1,54 @@
+-- What of an answer that the code gives is described.
+use Rattle.std.specs.Prelude.{◌≡◌, ℕ, List, [], ◌∷◌, ◌++◌, map, Option, string_bytes}
+use Rattle.std.specs.Option.{option_map}
+use Rattle.scl_rows.specs.Rows.{refused_at, told}
+use Rattle.scl_text.specs.Commands.{pairs_of}
+use Rattle.scl_text.specs.Records.{parsed_of, Parsed}
+use Rattle.scl_text.specs.declared.records.CompilerArguments.{CompilerArguments}
+use Rattle.scl_text.specs.declared.records.CompilerArguments.TheVariants as outcomes
+use Rattle.scl_description.specs.Rows.{Entry}
+use Rattle.scl_reader.specs.declared.kept.Compilation.{Compilation}
+use Rattle.scl_describe.specs.declared.described.Findings.{Findings}
+use Rattle.scl_reader.specs.Answers.{answer_to, environment_by, reading_by}
+use Rattle.scl_reader.specs.AnswersGiven.{answer_of, AnswersReading, HasParts}
+use Rattle.scl_reader.specs.Definitions.{definitions_of}
+use Rattle.scl_reader.specs.Reads.{compiler_of, outcome_in}
+use Rattle.scl_reader.specs.declared.reading.Reading.{Reading}
+use Rattle.scl_describe.specs.Hazards.{hazards_by, hazards_in}
+use Rattle.scl_describe.specs.OptionLines.{options_given}
+use Rattle.scl_describe.specs.OptionRows.{rows_by, rows_in}
+use Rattle.scl_reader.specs.Questions.{questions_in, questions_of}
+use Rattle.scl_reader.specs.QuestionsGiven.{given}
+use Rattle.scl_reader.specs.CommandLines.{Given, Request}
+use Rattle.scl_describe.specs.Descriptions.{compiled_entries, hazards_entry, question_entries, refused_entries, undone_entries, version_entry}
+
+-- the rows of a compilation, with runs of the preprocessor for its record
+abbrev pub compilation_entries : (Parsed → List (List (List ℕ))) → Compilation → List Entry
+compilation_entries runs compilation = compiled_entries (runs (parsed_of compilation.parsed)) (pairs_of compilation.command.env_vars.items) (parsed_of compilation.parsed)
+
+abbrev pub outcome_given : (Parsed → List (List (List ℕ))) → Option ℕ → CompilerArguments Compilation → List Entry
+outcome_given runs at (outcomes.Ok compilation) = compilation_entries runs compilation
+outcome_given runs at (outcomes.CannotCache reason text) = refused_entries reason.now (option_map string_bytes text) at
+outcome_given runs at outcomes.NotCompilation = undone_entries at
+
+-- the rows behind the answer's lines
+abbrev pub entries_given : (Parsed → List (List (List ℕ))) → Findings → List Entry
+entries_given runs found =
+    version_entry ∷ []
+    ++ outcome_given runs (refused_at (map told found.rows.items)) found.answer
+    ++ (options_given found.rows.items ∷ hazards_entry found.hazards.items ∷ question_entries (given found.questions))
+
+-- these are the findings of a request whose program has the empty name
+pub record AreOf (request : Request) (found : Findings) : Type 0 where
+  pub answer : answer_of found.answer ≡ answer_to request
+  pub parts : HasParts (reading_by request.compiler request) [] (environment_by request.compiler request.environment) request.directory found.answer
+  pub rows : map told found.rows.items ≡ rows_by request
+  pub hazards : found.hazards.items ≡ hazards_by request
+  pub questions : given found.questions ≡ questions_of request
+
+-- these are the findings of a reading of a line whose program has the empty name
+pub record AreFound (reading : Reading) (line : Given) (found : Findings) : Type 0 where
+  pub answer : AnswersReading (definitions_of (compiler_of reading)) [] (outcome_in reading) line.directory line.environment line.view found.answer
+  pub rows : map told found.rows.items ≡ rows_in reading
+  pub hazards : found.hazards.items ≡ hazards_in line.environment reading
+  pub questions : given found.questions ≡ questions_in line reading

@@ -1,0 +1,97 @@
+-- What a description is asked beside its request, and the lines that say it.
+use Rattle.std.specs.Prelude.{ℕ, ◌+◌, ◌-◌, ◌*◌, ◌^◌, ◌&&◌, Bool, true, false, List, [], ◌∷◌, map, fold, codes, Option, Some, None, nat_le, nat_lt, is_some, if◌then◌else◌, option_and_then}
+use Rattle.std.specs.List.{filter_map}
+use Rattle.std.specs.Option.{option_map, option_to_list}
+use Rattle.std.specs.Str.{bytes_eq}
+use Rattle.scl_files.specs.Characters.{space}
+use Rattle.scl_files.specs.Decoding.{utf8_text}
+use Rattle.scl_description.specs.Fields.{field_of}
+use Rattle.scl_description.specs.Lines.{cut_at}
+use Rattle.scl_reader.specs.Within.{default_most}
+
+-- whether the runs of the preprocessor are for a distant compiler, leave macros in place, and are kept in a cache; the text of Clang's version, if it is known; and how many words a command line may have, and how often it may open files
+pub record Settings : Type 0 where
+  pub may_dist : Bool
+  pub rewrite_includes_only : Bool
+  pub cache_mode : Bool
+  pub version : Option (List ℕ)
+  pub bound : ℕ
+
+-- where no line says otherwise
+abbrev pub no_settings : Settings
+no_settings = record { may_dist = false; rewrite_includes_only = false; cache_mode = false; version = None; bound = default_most }
+
+pub data Setting : Type 0 where
+  MayDist : Setting
+  RewriteIncludesOnly : Setting
+  CacheMode : Setting
+  Version : (text : List ℕ) → Setting
+  Bound : (words : ℕ) → Setting
+
+abbrev pub with_setting : Settings → Setting → Settings
+with_setting s MayDist = record s { may_dist = true }
+with_setting s RewriteIncludesOnly = record s { rewrite_includes_only = true }
+with_setting s CacheMode = record s { cache_mode = true }
+with_setting s (Version text) = record s { version = Some text }
+with_setting s (Bound words) = record s { bound = words }
+
+-- ---- lines
+
+-- a number and one more decimal digit, below 2^64
+abbrev pub with_digit : ℕ → ℕ → Option ℕ
+with_digit n digit = if nat_le 0x30 digit && nat_le digit 0x39 && nat_lt (10 * n + (digit - 0x30)) (2 ^ 64) then Some (10 * n + (digit - 0x30)) else None
+
+abbrev pub number_from : Option ℕ → List ℕ → Option ℕ
+number_from n digits = fold (λ number digit. option_and_then (λ m. with_digit m digit) number) n digits
+
+-- the number below 2^64 that decimal digits write
+abbrev pub number_of : List ℕ → Option ℕ
+number_of [] = None
+number_of (digit ∷ digits) = number_from (Some 0) (digit ∷ digits)
+
+-- the setting of this name
+abbrev pub setting_alone : List ℕ → Option Setting
+setting_alone name =
+    if bytes_eq name (codes "may-dist") then Some MayDist
+    else (if bytes_eq name (codes "rewrite-includes-only") then Some RewriteIncludesOnly
+    else (if bytes_eq name (codes "cache-mode") then Some CacheMode else None))
+
+-- the text in UTF-8 that a field stands for, if it stands for one
+abbrev pub field_text : List ℕ → Option (List ℕ)
+field_text field = option_and_then utf8_text (field_of field)
+
+-- the setting of this name and value
+abbrev pub setting_with : List ℕ → List ℕ → Option Setting
+setting_with name value =
+    if bytes_eq name (codes "bound") then option_map Bound (number_of value)
+    else (if bytes_eq name (codes "version") then option_map Version (field_text value) else None)
+
+abbrev pub setting_in : List ℕ → Option (List ℕ × List ℕ) → Option Setting
+setting_in text None = setting_alone text
+setting_in text (Some parts) = setting_with parts.0 parts.1
+
+abbrev pub setting_behind : Option (List ℕ × List ℕ) → Option Setting
+setting_behind None = None
+setting_behind (Some parts) = if bytes_eq parts.0 (codes "setting") then setting_in parts.1 (cut_at space parts.1) else None
+
+-- the setting that a line says, if it says one
+abbrev pub setting_of : List ℕ → Option Setting
+setting_of line = setting_behind (cut_at space line)
+
+abbrev pub settings_from : Settings → List (List ℕ) → Settings
+settings_from s lines = fold with_setting s (filter_map setting_of lines)
+
+-- with what a line says
+abbrev pub with_line : Settings → List ℕ → Settings
+with_line s line = fold with_setting s (option_to_list (setting_of line))
+
+-- the settings of lines; of several of one name the last counts
+abbrev pub settings_in : List (List ℕ) → Settings
+settings_in lines = settings_from no_settings lines
+
+-- a line that says a setting is blank to the request
+abbrev pub blanked : List ℕ → List ℕ
+blanked line = if is_some (setting_of line) then [] else line
+
+abbrev pub request_lines : List (List ℕ) → List (List ℕ)
+request_lines lines = map blanked lines

@@ -1,0 +1,216 @@
+//! The text of a description: the answer's lines, and behind them rows of what was read.
+ghost use Rattle.std.specs.Prelude.{◌≡◌, ◌++◌, codes, map, IfOk, OnOk};
+ghost use Rattle.std.specs.Option.{option_copied};
+ghost use Rattle.scl_values.specs.Words.{words_of};
+ghost use Rattle.scl_text.specs.Commands.{pairs_of};
+ghost use Rattle.scl_rows.specs.Rows.{refused_at, told};
+ghost use Rattle.scl_text.specs.Records.{parsed_of};
+ghost use Rattle.scl_text.specs.Runs.{runs_of};
+ghost use Rattle.scl_description.specs.Rows.{entry_text, entries_text, row_entry};
+ghost use Rattle.scl_cl.specs.AnswerTexts.{text_of};
+ghost use Rattle.scl_reader.specs.AnswersGiven.{answer_of};
+ghost use Rattle.scl_reader.specs.QuestionsGiven.{given};
+ghost use Rattle.scl_describe.specs.SettingsRead.{settings_by};
+ghost use Rattle.scl_describe.specs.Descriptions.{runs_entry, pair_fields, environment_entry, hazards_entry, wants_entry, question_entries, refused_entries, runs_for, too_many_entries, undone_entries, version_entry};
+ghost use Rattle.scl_describe.specs.DescriptionsGiven.{compilation_entries, entries_given, outcome_given};
+
+use crate::option_lines::{push_index, push_options};
+use crate::settings::Settings;
+use scl_cl::answer_text;
+use scl_description::{push_maybe, push_record, push_row, push_row_of, push_word, push_yes};
+use scl_hazards::Hazard;
+use scl_reader::{Compilation, Compiler, Questions};
+use scl_reasons::sentence;
+use scl_rows::{Row, refused_at};
+use scl_text::Mem;
+use scl_text::command::copy_text;
+use scl_text::records::{CompilerArguments, ParsedArguments};
+use std::alloc::Global;
+
+/// What is described of a request.
+#[derive(Drop)]
+pub(crate) struct Findings {
+    pub(crate) answer: CompilerArguments<Compilation>,
+    pub(crate) rows: Vec<Row>,
+    pub(crate) hazards: Vec<Hazard>,
+    pub(crate) questions: Questions,
+}
+
+/// Appends a row for each run of the preprocessor.
+#[tactic(auto, unfolding(scl_description::specs::Rows::entry_text))]
+fn push_runs(text: &mut Vec<u8>, runs: &[Vec<Vec<u8>>]) -> Mem<()>
+    ensures { OnOk result (text.new.items ≡ text.old.items ++ entry_text (runs_entry (runs_of runs.now))) }
+{
+    for run in runs {
+        push_row_of(text, "run", run)?;
+    }
+    Ok(())
+}
+
+/// Appends the row of a key and its value.
+fn push_variable(text: &mut Vec<u8>, pair: &(Vec<u8>, Vec<u8>)) -> Mem<()>
+    ensures { OnOk result (text.new.items ≡ text.old.items ++ entry_text (row_entry (codes "environment") (pair_fields (pair.now.0.items, pair.now.1.items)))) }
+{
+    let (key, value) = pair;
+    push_row(text, "environment", &[key.as_slice(), value.as_slice()])
+}
+
+/// Appends a row for each key and value.
+#[tactic(auto, unfolding(scl_description::specs::Rows::entry_text))]
+fn push_environment(text: &mut Vec<u8>, pairs: &[(Vec<u8>, Vec<u8>)]) -> Mem<()>
+    ensures { OnOk result (text.new.items ≡ text.old.items ++ entry_text (environment_entry (pairs_of pairs.now))) }
+{
+    for pair in pairs {
+        push_variable(text, pair)?;
+    }
+    Ok(())
+}
+
+/// Appends a row for each path that is asked for.
+#[tactic(auto, unfolding(scl_description::specs::Rows::entry_text))]
+fn push_wants(text: &mut Vec<u8>, kind: &str, paths: &[Vec<u8>]) -> Mem<()>
+    ensures { OnOk result (text.new.items ≡ text.old.items ++ entry_text (wants_entry kind.now (words_of paths.now))) }
+{
+    for path in paths {
+        push_row(text, "wants", &[kind.as_bytes(), path.as_slice()])?;
+    }
+    Ok(())
+}
+
+/// Appends the rows of what the answer asks of the view.
+fn push_questions(text: &mut Vec<u8>, questions: &Questions) -> Mem<()>
+    ensures { OnOk result (text.new.items ≡ text.old.items ++ entries_text (question_entries (given questions.now))) }
+{
+    push_wants(text, "file", &questions.files)?;
+    push_wants(text, "dir", &questions.directories)?;
+    push_wants(text, "exists", &questions.existing)?;
+    Ok(())
+}
+
+/// The words of the runs of the preprocessor that settings ask for.
+fn settings_runs(
+    alloc: Global,
+    compiler: Compiler,
+    settings: &Settings,
+    parsed: &ParsedArguments,
+) -> Mem<Vec<Vec<Vec<u8>>>>
+    ensures { IfOk result (λ runs. runs_of runs.items ≡ runs_for (settings_by settings.now) compiler (parsed_of parsed.now)) }
+{
+    compiler.preprocess_runs_with(
+        alloc,
+        copy_text(alloc, &settings.version)?,
+        parsed,
+        settings.may_dist,
+        settings.rewrite_includes_only,
+        settings.cache_mode,
+    )
+}
+
+/// Appends the rows of a command line that has a command.
+fn push_compilation(
+    alloc: Global,
+    text: &mut Vec<u8>,
+    compiler: Compiler,
+    settings: &Settings,
+    compilation: &Compilation,
+) -> Mem<()>
+    ensures { OnOk result (text.new.items ≡ text.old.items ++ entries_text (compilation_entries (runs_for (settings_by settings.now) compiler) compilation.now)) }
+{
+    push_record(text, &compilation.parsed)?;
+    let runs = settings_runs(alloc, compiler, settings, &compilation.parsed)?;
+    push_runs(text, &runs)?;
+    push_environment(text, &compilation.command.env_vars)?;
+    Ok(())
+}
+
+/// Appends the row of the given word by which a command line compiles nothing.
+fn push_undone(alloc: Global, text: &mut Vec<u8>, at: Option<usize>) -> Mem<()>
+    ensures { OnOk result (text.new.items ≡ text.old.items ++ entries_text (undone_entries at)) }
+{
+    push_index(alloc, text, "at", at)
+}
+
+/// Appends the rows of a reason, and of the given word that is refused.
+fn push_refusal(
+    alloc: Global,
+    text: &mut Vec<u8>,
+    reason: &str,
+    because: Option<&str>,
+    at: Option<usize>,
+) -> Mem<()>
+    ensures { OnOk result (text.new.items ≡ text.old.items ++ entries_text (refused_entries reason.now (option_copied because.entry) at)) }
+{
+    push_word(text, "reason", reason.as_bytes())?;
+    push_maybe(text, "because", because.map(str::as_bytes))?;
+    push_index(alloc, text, "at", at)?;
+    push_word(text, "sentence", sentence(reason).as_bytes())?;
+    Ok(())
+}
+
+/// Appends the rows of what was read, or of why nothing was.
+fn push_outcome(
+    alloc: Global,
+    text: &mut Vec<u8>,
+    compiler: Compiler,
+    settings: &Settings,
+    findings: &Findings,
+) -> Mem<()>
+    ensures { OnOk result (text.new.items ≡ text.old.items ++ entries_text (outcome_given (runs_for (settings_by settings.now) compiler) (refused_at (map told findings.now.rows.items)) findings.now.answer)) }
+{
+    let at = refused_at(&findings.rows);
+    match &findings.answer {
+        CompilerArguments::Ok(compilation) => {
+            push_compilation(alloc, text, compiler, settings, compilation)
+        }
+        CompilerArguments::CannotCache(reason, because) => {
+            push_refusal(alloc, text, reason, because.as_deref(), at)
+        }
+        CompilerArguments::NotCompilation => push_undone(alloc, text, at),
+    }
+}
+
+/// Appends a row for each hazard.
+#[tactic(auto, unfolding(scl_description::specs::Rows::entry_text))]
+fn push_hazards(text: &mut Vec<u8>, hazards: &[Hazard]) -> Mem<()>
+    ensures { OnOk result (text.new.items ≡ text.old.items ++ entry_text (hazards_entry hazards.now)) }
+{
+    for hazard in hazards {
+        push_word(text, "hazard", hazard.name().as_bytes())?;
+    }
+    Ok(())
+}
+
+/// Appends the row of the rows' version.
+fn push_version(text: &mut Vec<u8>) -> Mem<()>
+    ensures { OnOk result (text.new.items ≡ text.old.items ++ entry_text version_entry) }
+{
+    push_word(text, "version", b"1")
+}
+
+/// The text of an answer and the rows behind it.
+pub(crate) fn description_text(
+    alloc: Global,
+    compiler: Compiler,
+    settings: &Settings,
+    findings: &Findings,
+) -> Mem<Vec<u8>>
+    ensures { IfOk result (λ text. text.items ≡ text_of (answer_of findings.now.answer) ++ entries_text (entries_given (runs_for (settings_by settings.now) compiler) findings.now)) }
+{
+    let mut text = answer_text(alloc, &findings.answer)?;
+    push_version(&mut text)?;
+    push_outcome(alloc, &mut text, compiler, settings, findings)?;
+    push_options(alloc, &mut text, &findings.rows)?;
+    push_hazards(&mut text, &findings.hazards)?;
+    push_questions(&mut text, &findings.questions)?;
+    Ok(text)
+}
+
+/// The text where a command line has too many words.
+pub(crate) fn too_many_words(alloc: Global) -> Mem<Vec<u8>>
+    ensures { IfOk result (λ text. text.items ≡ entries_text too_many_entries) }
+{
+    let mut text = Vec::new(alloc);
+    push_yes(&mut text, "too-many-words", true)?;
+    push_version(&mut text)?;
+    Ok(text)
+}

@@ -1,0 +1,44 @@
+//! What is described of a command line that was read: what became of its options, and its hazards.
+ghost use Rattle.std.specs.Prelude.{◌≡◌, IfOk, map};
+ghost use Rattle.scl_rows.specs.Rows.{told};
+ghost use Rattle.scl_text.specs.Commands.{pairs_of};
+ghost use Rattle.scl_describe.specs.Hazards.{hazards_in};
+ghost use Rattle.scl_describe.specs.OptionRows.{rows_in};
+
+use scl_hazards::{Hazard, gnu_hazards, msvc_hazards};
+use scl_reader::Reading;
+use scl_rows::{Row, gnu_rows, msvc_rows, small_rows};
+use scl_text::Mem;
+use std::alloc::Global;
+
+/// What became of each option of a command line that was read, whether that is refused or not, a row each: those of its words
+/// in order, those of inner command lines, and those that the rules add to a compilation. Where a row is refused, so is the
+/// command line, as the first such row says; where it is read, the rows make the lists of its record; and the words that they
+/// were cut from are those of the line (`laws::of_rows`; docs/RULES.md, Rows of options). It fails only for want of memory.
+pub fn rows_of(alloc: Global, reading: &Reading) -> Mem<Vec<Row>>
+    ensures { IfOk result (λ rows. map told rows.items ≡ rows_in reading.now) }
+{
+    match reading {
+        Reading::Gnu(reading) => gnu_rows(alloc, reading),
+        Reading::Msvc(reading) => msvc_rows(alloc, reading),
+        Reading::Diab(reading) => small_rows(alloc, reading),
+        Reading::Tasking(reading) => small_rows(alloc, reading),
+    }
+}
+
+/// The hazards of a command line that was read in this environment: what gcc, clang or clang-cl is known to do otherwise with
+/// the built command than with the given one; none where there is no command, and none of Diab and TaskingVX, of which nothing
+/// is known (docs/RULES.md, Hazards). It fails only for want of memory.
+pub fn hazards_of(
+    alloc: Global,
+    reading: &Reading,
+    environment: &[(Vec<u8>, Vec<u8>)],
+) -> Mem<Vec<Hazard>>
+    ensures { IfOk result (λ found. found.items ≡ hazards_in (pairs_of environment.now) reading.now) }
+{
+    match reading {
+        Reading::Gnu(reading) => gnu_hazards(alloc, reading, false),
+        Reading::Msvc(reading) => msvc_hazards(alloc, reading, environment),
+        Reading::Diab(_) | Reading::Tasking(_) => Ok(Vec::new(alloc)),
+    }
+}

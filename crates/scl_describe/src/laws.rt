@@ -1,0 +1,39 @@
+//! Laws of the definitions of descriptions, each a clause of a function that does nothing.
+ghost use Rattle.scl_values.specs.Tables.{all_rows};
+ghost use Rattle.scl_gnu_reading.specs.ClangRows.{clang_tables};
+ghost use Rattle.scl_msvc_reading.specs.Places as msvc;
+ghost use Rattle.scl_msvc_reading.specs.Rows.{msvc_tables};
+ghost use Rattle.scl_small.specs.DiabReading as diab;
+ghost use Rattle.scl_small.specs.DiabTable as diab_table;
+ghost use Rattle.scl_small.specs.TaskingReading as tasking;
+ghost use Rattle.scl_small.specs.TaskingTable as tasking_table;
+ghost use Rattle.scl_describe.specs.Descriptions.{DescriptionsReadBack};
+ghost use Rattle.scl_describe.specs.OptionRows.{RowsShareWords, RowsTell};
+ghost use Rattle.scl_describe.specs.Explained.{AreExplained, is_refused_somewhere, is_refused_by_msvc, is_refused_by_small};
+
+/// Laws of reasons (docs/RULES.md, Sentences): each flag of a kind that a compiler's table refuses, as the driver's option or
+/// handed on, has a sentence for people (`scl_reasons`).
+pub fn of_reasons()
+    ensures gcc_and_clang { AreExplained is_refused_somewhere (all_rows clang_tables) }
+    ensures cl { AreExplained (λ kind. is_refused_by_msvc (msvc.place kind)) (all_rows msvc_tables) }
+    ensures diab { AreExplained (λ kind. is_refused_by_small (diab.place kind)) diab_table.rows }
+    ensures tasking { AreExplained (λ kind. is_refused_by_small (tasking.place kind)) tasking_table.rows }
+{}
+
+/// Laws of the rows of requests (docs/RULES.md, Rows of options):
+///
+/// - `rows_tell`: where a row is refused, so is the request, as the first such row says; where it is read, the rows make the
+///   lists of its record;
+/// - `rows_share_words`: the words that rows were cut from, in order, are those of the given line and of the inner ones,
+///   response files put in place, each once, as they stood.
+pub fn of_rows()
+    ensures rows_tell { RowsTell }
+    ensures rows_share_words { RowsShareWords }
+{}
+
+/// Laws of descriptions (docs/RULES.md, Descriptions):
+///
+/// - `descriptions_read_back`: the description of a command, its answer's lines among them, gives the record that was read.
+pub fn of_descriptions()
+    ensures descriptions_read_back { DescriptionsReadBack }
+{}

@@ -1,0 +1,14 @@
+//! Descriptions: an answer's lines, and behind them rows of what was read.
+#![tactic(auto)]
+
+mod described;
+mod descriptions;
+mod found;
+pub mod laws;
+mod option_lines;
+mod settings;
+
+pub use descriptions::{Descriptions, describe};
+pub use found::{hazards_of, rows_of};
+pub use scl_hazards::{Danger, HAZARDS, Hazard};
+pub use scl_rows::{Destination, Origin, Row};

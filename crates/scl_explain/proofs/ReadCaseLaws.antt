@@ -1,0 +1,45 @@
+-- What is said of a case, by the reading of its command line.
+use Rattle.std.proofs.Common.{◌≡◌, ℕ, Bool, List, Option, ap, subst, sym, ◌∙◌}
+use Rattle.scl_describe.specs.Hazards.{hazards_by, hazards_in}
+use Rattle.scl_describe.specs.OptionRows.{rows_by, rows_in}
+use Rattle.scl_files.specs.Views.{Viewed}
+use Rattle.scl_hazards.specs.declared.hazard.Hazard.{Hazard}
+use Rattle.scl_reader.proofs.ReadLaws.{IsOf, answer_of_read, readings-say}
+use Rattle.scl_reader.specs.Answers.{answer_to, reading_by}
+use Rattle.scl_reader.specs.AnswersGiven.{AnswersReading, answer_of}
+use Rattle.scl_reader.specs.CommandLines.{Given, Request, given_in}
+use Rattle.scl_reader.specs.Definitions.{definitions_of}
+use Rattle.scl_reader.specs.Reads.{compiler_of, outcome_in, read_of, runs_for, runs_in}
+use Rattle.scl_reader.specs.declared.kept.Compilation.{Compilation}
+use Rattle.scl_reader.specs.declared.reading.Reading.{Reading}
+use Rattle.scl_rows.specs.Rows.{Told}
+use Rattle.scl_text.specs.declared.records.CompilerArguments.{CompilerArguments}
+use Rattle.scl_explain.specs.Said.{request_of, rows_given}
+use Rattle.scl_explain.specs.declared.case.Case.{Case}
+
+module _ (case : Case) (view : Viewed) (reading : Reading) (read : reading ≡ read_of (request_of case view)) where
+  pub outcome_read : outcome_in reading ≡ reading_by case.compiler (request_of case view)
+  outcome_read = ap outcome_in read ∙ (readings-say (request_of case view)).outcome
+
+  pub answer_given : (executable : List ℕ) (given : Given) (answer : CompilerArguments Compilation) → given ≡ given_in (request_of case view)
+      → AnswersReading (definitions_of (compiler_of reading)) executable (outcome_in reading) given.directory given.environment given.view answer
+      → answer_to (request_of case view) ≡ answer_of answer
+  answer_given executable given answer e h =
+      let at : Given → Type 0 = λ g. AnswersReading (definitions_of (compiler_of reading)) executable (outcome_in reading) g.directory g.environment g.view answer in
+      let of : IsOf (request_of case view) executable answer = answer_of_read (request_of case view) executable answer reading read (subst at e h) in
+      sym of.is
+
+  pub runs_read : (version : Option (List ℕ)) (may_dist rewrites cache_mode : Bool) (runs : List (List (List ℕ))) → runs ≡ runs_in version may_dist rewrites cache_mode reading
+      → runs ≡ runs_for version case.compiler may_dist rewrites cache_mode (reading_by case.compiler (request_of case view))
+  runs_read version may_dist rewrites cache_mode runs h =
+      let compiler : compiler_of reading ≡ case.compiler = ap compiler_of read ∙ (readings-say (request_of case view)).compiler in
+      h ∙ ap (λ c. runs_for version c may_dist rewrites cache_mode (outcome_in reading)) compiler ∙ ap (λ said. runs_for version case.compiler may_dist rewrites cache_mode said) outcome_read
+
+  pub hazards_read : (hazards : List Hazard) (given : Given) → given ≡ given_in (request_of case view) → hazards ≡ hazards_in given.environment reading → hazards ≡ hazards_by (request_of case view)
+  hazards_read hazards given e h = h ∙ ap (λ g. hazards_in g.environment reading) e ∙ ap (λ r. hazards_in (request_of case view).environment r) read
+
+  pub rows_read : (wanted : Bool) (rows : List Told) → rows ≡ rows_given wanted (outcome_in reading) (rows_in reading)
+      → rows ≡ rows_given wanted (reading_by case.compiler (request_of case view)) (rows_by (request_of case view))
+  rows_read wanted rows h = h ∙ ap (λ said. rows_given wanted said (rows_in reading)) outcome_read ∙ ap (λ r. rows_given wanted (reading_by case.compiler (request_of case view)) (rows_in r)) read
+
+pub ruleset read_rules = (answer_given, runs_read, hazards_read, rows_read)

@@ -1,0 +1,49 @@
+//! An inner command line, read.
+ghost use Rattle.std.specs.Prelude.{◌≡◌, false, IfOk};
+ghost use Rattle.scl_files.specs.Expanded.{expanded_of};
+ghost use Rattle.scl_values.specs.Tables.{owner_in};
+ghost use Rattle.scl_values.specs.Words.{words_of};
+ghost use Rattle.scl_text.specs.ReadLines.{line_read};
+ghost use Rattle.scl_gnu_reading.specs.ClangRows.{clang_tables};
+ghost use Rattle.scl_gnu_reading.specs.Reads.{IsInnerRead};
+
+use crate::clang;
+use crate::gcc::data::ArgData;
+use scl_args::Mem;
+use scl_text::view::View;
+use scl_text::{Expanded, ExpansionKind, Judge, ReadLine, Sourced, TooManyWords, expand_line};
+use std::alloc::Global;
+
+/// The line of words in which response files were put in place.
+fn cut_inner<J: Judge<ArgData>>(
+    alloc: Global,
+    judge: &J,
+    expanded: Expanded,
+) -> Mem<ReadLine<ArgData>>
+    ensures { IfOk result (λ line. line ≡ line_read (J.verdict judge.now) (owner_in clang_tables) false (expanded_of expanded)) }
+{
+    let trees = clang::trees(alloc)?;
+    ReadLine::read(alloc, &trees, false, judge, expanded)
+}
+
+/// The inner command line of words that are handed on, with response files put in place, cut by Clang's tables, in which `--`
+/// ends no options, and judged (docs/RULES.md, Inner command lines); `TooManyWords` where it has more than `most` words or
+/// openings of files. The outer error is the refusal of memory.
+pub fn read_inner_line<J: Judge<ArgData>>(
+    alloc: Global,
+    judge: &J,
+    handed: Sourced,
+    cwd: &[u8],
+    view: &View,
+    most: usize,
+) -> Mem<Result<ReadLine<ArgData>, TooManyWords>>
+    ensures { IfOk result (λ said. IsInnerRead (J.verdict judge.now) most cwd.now view.now (words_of handed.words.items) handed.ats.items said) }
+{
+    match expand_line(alloc, ExpansionKind::Gnu, cwd, handed, view, most)? {
+        Ok(expanded) => {
+            let line = cut_inner(alloc, judge, expanded)?;
+            Ok(Ok(line))
+        }
+        Err(too_many) => Ok(Err(too_many)),
+    }
+}

@@ -1,0 +1,250 @@
+//! Response files that words name, followed from one to the next on a disk.
+ghost use Rattle.std.specs.Prelude.{◌≡◌, ◌++◌, ◌+◌, ◌≤◌, IfOk, MatchOption, OnOk};
+ghost use Rattle.std.specs.List.{flat_map};
+ghost use Rattle.scl_files.specs.ResponseFiles.{arguments};
+ghost use Rattle.scl_files.specs.Views.{bytes_at};
+ghost use Rattle.scl_reader.specs.Reads.{lacked_of};
+ghost use Rattle.scl_values.specs.Words.{words_of};
+ghost use Rattle.scl_load.specs.Leads.{AreFollowed, IsFoundNext, file_leads, first_leads, lead_at, leads_named, leads_in, leads_inside, leads_from, leads_found, leads_of};
+
+use crate::disk::Disk;
+use crate::loader::{DiskLine, LoadError};
+use crate::look::look_for_file;
+use scl_files::expand::ExpansionKind;
+use scl_files::response_file::{arguments, named};
+use scl_reader::{LackedFile, Mem, Reading, View};
+use std::alloc::Global;
+use std::collections::VecDeque;
+
+/// A response file that words name: whose it is, its path, and how many files name each the next before it.
+#[derive(Drop)]
+struct Lead {
+    kind: ExpansionKind,
+    path: Vec<u8>,
+    depth: u32,
+}
+
+/// Response files that words name and that are to be looked for, in order.
+#[derive(Drop)]
+pub(crate) struct Leads {
+    ahead: VecDeque<Lead>,
+}
+
+/// One more than a depth, where it is below `rounds`.
+fn next_depth(depth: u32, rounds: u32) -> Option<u32>
+    ensures { MatchOption result (rounds ≤ depth + 1) (λ next. next ≡ depth + 1) }
+{
+    if depth < rounds && rounds - depth > 1 {
+        Some(depth + 1)
+    } else {
+        None
+    }
+}
+
+impl Leads {
+    /// Those that the given words of a command line name.
+    pub(crate) fn given(alloc: Global, line: &DiskLine<'_>) -> Mem<Leads>
+        ensures { IfOk result (λ leads. leads_of leads ≡ first_leads line.now) }
+    {
+        let mut leads = Leads {
+            ahead: VecDeque::new(alloc),
+        };
+        match line.compiler.expansion() {
+            Some(kind) => {
+                leads.push_named(alloc, kind, line.directory, line.words, 0)?;
+                Ok(leads)
+            }
+            None => Ok(leads),
+        }
+    }
+
+    /// Puts that which a word names behind the others.
+    fn push_word(
+        &mut self,
+        alloc: Global,
+        kind: ExpansionKind,
+        cwd: &[u8],
+        word: &[u8],
+        depth: u32,
+    ) -> Mem<()>
+        ensures { OnOk result (leads_of self.new ≡ leads_of self.old ++ lead_at kind cwd.now depth word.now) }
+    {
+        if let Some(path) = named(alloc, kind, cwd, word)? {
+            self.ahead.push_back(Lead { kind, path, depth })?;
+        }
+        Ok(())
+    }
+
+    /// Puts those that words name behind the others.
+    fn push_named(
+        &mut self,
+        alloc: Global,
+        kind: ExpansionKind,
+        cwd: &[u8],
+        words: &[Vec<u8>],
+        depth: u32,
+    ) -> Mem<()>
+        ensures { OnOk result (leads_of self.new ≡ leads_of self.old ++ leads_named kind cwd.now (words_of words.now) depth) }
+    {
+        for word in words {
+            self.push_word(alloc, kind, cwd, word, depth)?;
+        }
+        Ok(())
+    }
+
+    /// Puts those that the words in a text name behind the others.
+    fn push_text(
+        &mut self,
+        alloc: Global,
+        kind: ExpansionKind,
+        bytes: &[u8],
+        cwd: &[u8],
+        depth: u32,
+    ) -> Mem<()>
+        ensures { OnOk result (leads_of self.new ≡ leads_of self.old ++ leads_in kind cwd.now (arguments kind bytes.now) depth) }
+    {
+        match arguments(alloc, kind, bytes)? {
+            Some(words) => self.push_named(alloc, kind, cwd, &words, depth),
+            None => Ok(()),
+        }
+    }
+
+    /// Puts those that the words of a file name behind the others. Those of Msvc's name none.
+    fn push_inside(
+        &mut self,
+        alloc: Global,
+        kind: ExpansionKind,
+        bytes: &[u8],
+        cwd: &[u8],
+        depth: u32,
+    ) -> Mem<()>
+        ensures { OnOk result (leads_of self.new ≡ leads_of self.old ++ leads_inside kind cwd.now bytes.now depth) }
+    {
+        match kind {
+            ExpansionKind::Gnu => self.push_text(alloc, ExpansionKind::Gnu, bytes, cwd, depth),
+            ExpansionKind::Msvc => Ok(()),
+            ExpansionKind::Diab => self.push_text(alloc, ExpansionKind::Diab, bytes, cwd, depth),
+        }
+    }
+
+    /// Puts those that a file names behind the others, if the view has it.
+    fn push_file(
+        &mut self,
+        alloc: Global,
+        kind: ExpansionKind,
+        path: &[u8],
+        view: &View,
+        cwd: &[u8],
+        depth: u32,
+    ) -> Mem<()>
+        ensures { OnOk result (leads_of self.new ≡ leads_of self.old ++ leads_from kind cwd.now (bytes_at path.now view.now.files) depth) }
+    {
+        match view.file(path) {
+            Some(bytes) => self.push_inside(alloc, kind, bytes, cwd, depth),
+            None => Ok(()),
+        }
+    }
+
+    /// Puts those that files name behind the others, of the files that the view has.
+    fn push_files(
+        &mut self,
+        alloc: Global,
+        files: &[LackedFile],
+        view: &View,
+        cwd: &[u8],
+        depth: u32,
+    ) -> Mem<()>
+        ensures { OnOk result (leads_of self.new ≡ leads_of self.old ++ flat_map (file_leads view.now cwd.now depth) (lacked_of files.now)) }
+    {
+        for file in files {
+            self.push_file(alloc, file.kind, &file.path, view, cwd, depth)?;
+        }
+        Ok(())
+    }
+
+    /// Puts those that the files name which a reading lacked and the view has now behind the others.
+    pub(crate) fn push_found(
+        &mut self,
+        alloc: Global,
+        reading: &Reading,
+        view: &View,
+        cwd: &[u8],
+        depth: u32,
+    ) -> Mem<()>
+        ensures { OnOk result (leads_of self.new ≡ leads_of self.old ++ leads_found reading.now view.now cwd.now depth) }
+    {
+        let files = reading.files_lacked(alloc)?;
+        self.push_files(alloc, &files, view, cwd, depth)
+    }
+
+    /// The next that the disk has and the view had not, which it has now; those before are let go.
+    fn find<D: Disk>(
+        &mut self,
+        alloc: Global,
+        disk: &D,
+        view: &mut View,
+    ) -> Mem<Result<Option<Lead>, D::Error>>
+        ensures { IfOk result (IsFoundNext (D.holds disk.now) (D.fails disk.now) self.old self.new view.old view.new) }
+    {
+        while let Some(lead) = self.ahead.pop_front() {
+            if view.file(&lead.path).is_some() {
+                continue;
+            }
+            match look_for_file(alloc, disk, view, &lead.path)? {
+                Ok(true) => return Ok(Ok(Some(lead))),
+                Ok(false) => {}
+                Err(error) => return Ok(Err(error)),
+            }
+        }
+        Ok(Ok(None))
+    }
+
+    /// Looks for the next that the disk has and the view had not, and puts those that its words name behind the others;
+    /// whether there was one. `TooManyRounds` where it is the last of `rounds` that name each the next.
+    fn step<D: Disk>(
+        &mut self,
+        alloc: Global,
+        disk: &D,
+        view: &mut View,
+        cwd: &[u8],
+        rounds: u32,
+    ) -> Mem<Result<bool, LoadError<D::Error>>>
+        ensures { IfOk result (AreFollowed (D.holds disk.now) (D.fails disk.now) cwd.now rounds self.old self.new view.old view.new) }
+    {
+        let lead = match self.find(alloc, disk, view)? {
+            Ok(Some(lead)) => lead,
+            Ok(None) => return Ok(Ok(false)),
+            Err(error) => return Ok(Err(LoadError::Disk(error))),
+        };
+        match next_depth(lead.depth, rounds) {
+            Some(depth) => {
+                self.push_file(alloc, lead.kind, &lead.path, view, cwd, depth)?;
+                Ok(Ok(true))
+            }
+            None => Ok(Err(LoadError::TooManyRounds)),
+        }
+    }
+
+    /// Looks for them, and for those that the words of found ones name, until none is left, or `most` were found: then a
+    /// command line is too long. `TooManyRounds` where `rounds` of them name each the next, `Disk` where a read fails.
+    pub(crate) fn follow<D: Disk>(
+        &mut self,
+        alloc: Global,
+        disk: &D,
+        view: &mut View,
+        cwd: &[u8],
+        most: usize,
+        rounds: u32,
+    ) -> Mem<Result<(), LoadError<D::Error>>>
+        ensures { IfOk result (AreFollowed (D.holds disk.now) (D.fails disk.now) cwd.now rounds self.old self.new view.old view.new) }
+    {
+        for _found in 0..most {
+            match self.step(alloc, disk, view, cwd, rounds)? {
+                Ok(true) => {}
+                Ok(false) => return Ok(Ok(())),
+                Err(error) => return Ok(Err(error)),
+            }
+        }
+        Ok(Ok(()))
+    }
+}

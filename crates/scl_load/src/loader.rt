@@ -1,0 +1,166 @@
+//! What an answer asks of a disk, loaded.
+ghost use Rattle.std.specs.Prelude.{◌≡◌, IfOk, IfErr, MatchResult, true, false};
+ghost use Rattle.scl_files.specs.Views.{Viewed};
+ghost use Rattle.scl_reader.specs.Answers.{answer_to, reading_by};
+ghost use Rattle.scl_reader.specs.CommandLines.{asked_for, given_by};
+ghost use Rattle.scl_reader.specs.Questions.{questions_of};
+ghost use Rattle.scl_reader.specs.QuestionsGiven.{given};
+ghost use Rattle.scl_reader.specs.Reads.{outcome_in, read_of};
+ghost use Rattle.scl_reader.specs.Within.{has_at_most};
+ghost use Rattle.scl_load.specs.Leads.{IsReadOnce};
+ghost use Rattle.scl_load.specs.Loads.{IsDiskError, IsEnd, asked_on, load_of};
+ghost use Rattle.scl_load.specs.LoadsGiven.{view_of};
+
+use crate::disk::Disk;
+use crate::leads::Leads;
+use crate::look::look_for_all;
+use scl_reader::{CommandLine, Compiler, Mem, Questions, Reading, TooManyWords, View};
+use std::alloc::Global;
+
+/// Why a load gives no view.
+#[derive(Debug, PartialEq, Eq, Drop)]
+pub enum LoadError<E> {
+    /// A read of the disk failed.
+    Disk(E),
+    /// A command line has more words or openings of files than were allowed, with the response files that were loaded put in
+    /// place.
+    TooManyWords,
+    /// As many response files as rounds were allowed name each the next, or each of so many readings found something, so there
+    /// may be more.
+    TooManyRounds,
+}
+
+/// A command line whose files are on a disk.
+#[derive(Clone, Copy)]
+pub struct DiskLine<'a> {
+    /// The compiler that reads it.
+    pub compiler: Compiler,
+    /// The words behind the program.
+    pub words: &'a [Vec<u8>],
+    /// The path of the directory in which they are read.
+    pub directory: &'a [u8],
+    /// The keys and values of the environment, in order.
+    pub environment: &'a [(Vec<u8>, Vec<u8>)],
+    /// Whether several architectures are allowed.
+    pub multiarch: bool,
+}
+
+/// What was loaded, and the command line, read with it.
+#[derive(Drop)]
+pub struct Loaded {
+    /// What the disk has of what is asked.
+    pub view: View,
+    /// What was read.
+    pub reading: Reading,
+}
+
+impl<'a> DiskLine<'a> {
+    /// The command line in a view.
+    pub fn in_view(&self, view: &'a View) -> CommandLine<'a>
+        ensures { asked_for self.now.compiler (given_by result) ≡ asked_on self.now view.now }
+    {
+        CommandLine {
+            words: self.words,
+            directory: self.directory,
+            environment: self.environment,
+            view,
+        }
+    }
+}
+
+/// The command line, read in a view, and what it asks of it.
+fn read_in(
+    alloc: Global,
+    line: &DiskLine<'_>,
+    view: &View,
+    most: usize,
+) -> Mem<Result<(Reading, Questions), TooManyWords>>
+    ensures { IfOk result (λ said. let request = asked_on line.now view.now in
+        MatchResult said (λ both. (has_at_most most request ≡ true) × (both.0 ≡ read_of request) × (given both.1 ≡ questions_of request)) (λ _. has_at_most most request ≡ false)) }
+{
+    let given = line.in_view(view);
+    match line.compiler.read(alloc, &given, most)? {
+        Ok(reading) => match reading.questions(alloc, &given) {
+            Ok(questions) => Ok(Ok((reading, questions))),
+            Err(refused) => {
+                drop(reading);
+                Err(refused)
+            }
+        },
+        Err(too_many) => Ok(Err(too_many)),
+    }
+}
+
+/// The command line is read in a view, and what it asks of it is looked for: the reading, where nothing was found. Where
+/// something was, what the files name that it lacked stands behind the leads, at this depth.
+fn read_once<D: Disk>(
+    alloc: Global,
+    disk: &D,
+    line: &DiskLine<'_>,
+    view: &mut View,
+    leads: &mut Leads,
+    most: usize,
+    depth: u32,
+) -> Mem<Result<Option<Reading>, LoadError<D::Error>>>
+    ensures { IfOk result (IsReadOnce (D.holds disk.now) (D.fails disk.now) line.now most depth leads.old leads.new view.old view.new) }
+{
+    let (reading, questions) = match read_in(alloc, line, view, most)? {
+        Ok(both) => both,
+        Err(TooManyWords) => return Ok(Err(LoadError::TooManyWords)),
+    };
+    match look_for_all(alloc, disk, view, &questions) {
+        Ok(Ok(false)) => Ok(Ok(Some(reading))),
+        Ok(Ok(true)) => {
+            let pushed = leads.push_found(alloc, &reading, view, line.directory, depth);
+            drop(reading);
+            pushed?;
+            Ok(Ok(None))
+        }
+        Ok(Err(error)) => {
+            drop(reading);
+            Ok(Err(LoadError::Disk(error)))
+        }
+        Err(refused) => {
+            drop(reading);
+            Err(refused)
+        }
+    }
+}
+
+/// The view of what the answer to a command line asks of the disk, and the command line read with it (docs/RULES.md, Loading).
+/// The response files that its words name, and those that their words name, are looked for first, each once; then it is read,
+/// and what it asks besides is looked for, until nothing more is found. `TooManyRounds` where `rounds` files name each the
+/// next, or where so many readings found something; `TooManyWords` where a command line has more than `most` words or openings
+/// of files (`Compiler::answer_within`). A read of the disk that fails is `Disk` with its error, and ends the load. The outer
+/// error is the refusal of memory.
+pub fn load<D: Disk>(
+    alloc: Global,
+    disk: &D,
+    line: &DiskLine<'_>,
+    most: usize,
+    rounds: u32,
+) -> Mem<Result<Loaded, LoadError<D::Error>>>
+    ensures answer { IfOk result (λ said. IfOk said (λ loaded. (held : Viewed) → D.holds disk.now held → held.is_multiarch ≡ line.now.multiarch
+        → answer_to (asked_on line.now held) ≡ answer_to (asked_on line.now loaded.view))) }
+    ensures decided { IfOk result (λ said. IfOk said (λ loaded. (held : Viewed) → D.holds disk.now held → held.is_multiarch ≡ line.now.multiarch
+        → reading_by line.now.compiler (asked_on line.now held) ≡ outcome_in loaded.reading)) }
+    ensures reading { IfOk result (λ said. IfOk said (λ loaded. loaded.reading ≡ read_of (asked_on line.now loaded.view))) }
+    ensures end { IfOk result (λ said. (held : Viewed) → D.holds disk.now held → held.is_multiarch ≡ line.now.multiarch
+        → IsEnd held (load_of line.now most rounds) (view_of said)) }
+    ensures error { IfOk result (λ said. IfErr said (λ error. IsDiskError (D.fails disk.now) error)) }
+{
+    let mut view = View::new(alloc);
+    view.set_multiarch(line.multiarch);
+    let mut leads = Leads::given(alloc, line)?;
+    for round in 0..rounds {
+        if let Err(error) = leads.follow(alloc, disk, &mut view, line.directory, most, rounds)? {
+            return Ok(Err(error));
+        }
+        match read_once(alloc, disk, line, &mut view, &mut leads, most, round + 1)? {
+            Ok(Some(reading)) => return Ok(Ok(Loaded { view, reading })),
+            Ok(None) => {}
+            Err(error) => return Ok(Err(error)),
+        }
+    }
+    Ok(Err(LoadError::TooManyRounds))
+}

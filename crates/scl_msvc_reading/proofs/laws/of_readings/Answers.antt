@@ -1,0 +1,5 @@
+use Rattle.scl_msvc_reading.proofs.ReadLaws.{outcome_read}
+use Rattle.scl_msvc_reading.proofs.laws.of_readings.Goals as goal
+
+pub returns : goal.returns
+returns c = record { readings_say = outcome_read }

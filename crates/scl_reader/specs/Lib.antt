@@ -1,0 +1,9 @@
+pub mod Compilers
+pub mod CommandLines
+pub mod Answers
+pub mod Definitions
+pub mod AnswersGiven
+pub mod Reads
+pub mod Within
+pub mod Questions
+pub mod QuestionsGiven

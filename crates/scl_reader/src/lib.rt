@@ -1,0 +1,24 @@
+//! A command line of any compiler that is served, gcc, g++, clang, clang++, cl, clang-cl, diab or tasking, is read once
+//! (`Compiler::read`), and all that is said of it is a function of its reading: its record, its answer, what it asks of files.
+#![tactic(auto)]
+
+mod ask;
+mod command_line;
+mod compile;
+mod compiler;
+mod kept;
+pub mod laws;
+mod questions;
+mod read;
+mod reading;
+mod runs;
+mod within;
+
+pub use command_line::CommandLine;
+pub use compiler::Compiler;
+pub use kept::{BuiltCommand, Compilation, Kept};
+pub use questions::Questions;
+pub use read::MOST;
+pub use reading::{LackedFile, Reading};
+pub use scl_text::records::{CompilerArguments, ParsedArguments};
+pub use scl_text::{Mem, TooManyWords, View};

@@ -1,0 +1,157 @@
+//! What an answer asks of a view that the view does not have.
+ghost use Rattle.std.specs.Prelude.{◌≡◌, ◌++◌, [], true, false, map, IfOk, MatchResult, OnOk};
+ghost use Rattle.std.specs.List.{flat_map};
+ghost use Rattle.std.specs.Option.{option_copied};
+ghost use Rattle.scl_values.specs.Words.{words_of};
+ghost use Rattle.scl_text.specs.Commands.{pairs_of};
+ghost use Rattle.scl_text.specs.Records.{outcome_of};
+ghost use Rattle.scl_reader.specs.CommandLines.{asked, given_by};
+ghost use Rattle.scl_reader.specs.Reads.{lacked_of};
+ghost use Rattle.scl_reader.specs.Within.{has_at_most};
+ghost use Rattle.scl_reader.specs.Questions.{database_in, hash_files, no_directory, database_asked, questions_in, questions_of};
+ghost use Rattle.scl_reader.specs.QuestionsGiven.{given};
+
+use crate::command_line::CommandLine;
+use crate::compiler::Compiler;
+use crate::reading::{LackedFile, Reading};
+use scl_text::outputs::output_path;
+use scl_text::path::join;
+use scl_text::records::{CompilerArguments, ParsedArguments};
+use scl_text::{Mem, TooManyWords, View};
+use std::alloc::Global;
+
+/// What the answer to a command line asks of a view that the view does not have (docs/RULES.md, Questions). A path may stand
+/// more than once.
+#[derive(Debug, PartialEq, Eq, Drop)]
+pub struct Questions {
+    /// The paths at which there may be response files.
+    pub files: Vec<Vec<u8>>,
+    /// The paths at which there may be directories.
+    pub directories: Vec<Vec<u8>>,
+    /// The paths at which there may be anything.
+    pub existing: Vec<Vec<u8>>,
+}
+
+/// Puts a path behind others, where it is no directory of the view.
+fn push_directory(alloc: Global, paths: &mut Vec<Vec<u8>>, path: &[u8], view: &View) -> Mem<()>
+    ensures { OnOk result (words_of paths.new.items ≡ words_of paths.old.items ++ no_directory view.now path.now) }
+{
+    if !view.is_dir(path) {
+        paths.push(Vec::from_slice(alloc, path)?)?;
+    }
+    Ok(())
+}
+
+/// Those of the paths that are no directories of the view.
+fn absent_directories(alloc: Global, hashed: &[Vec<u8>], view: &View) -> Mem<Vec<Vec<u8>>>
+    ensures { IfOk result (λ paths. words_of paths.items ≡ flat_map (no_directory view.now) (words_of hashed.now)) }
+{
+    let mut paths = Vec::new(alloc);
+    for path in hashed {
+        push_directory(alloc, &mut paths, path, view)?;
+    }
+    Ok(paths)
+}
+
+/// The path of a file for debug information, if there is one and the view has nothing there.
+fn absent_database(
+    alloc: Global,
+    database: Option<&[u8]>,
+    cwd: &[u8],
+    view: &View,
+) -> Mem<Vec<Vec<u8>>>
+    ensures { IfOk result (λ paths. words_of paths.items ≡ database_asked cwd.now view.now (option_copied database.entry)) }
+{
+    let mut paths = Vec::new(alloc);
+    if let Some(database) = database {
+        let path = join(alloc, cwd, database)?;
+        if !view.exists(&path) {
+            paths.push(path)?;
+        }
+    }
+    Ok(paths)
+}
+
+/// The files on which an outcome depends.
+fn hash_files_of(outcome: &CompilerArguments<ParsedArguments>) -> &[Vec<u8>]
+    ensures { words_of result.now ≡ hash_files (outcome_of outcome.now) }
+{
+    match outcome {
+        CompilerArguments::Ok(parsed) => &parsed.extra_hash_files,
+        CompilerArguments::CannotCache(_, _) | CompilerArguments::NotCompilation => &[],
+    }
+}
+
+/// The path of the file for debug information.
+fn database_of(outcome: &CompilerArguments<ParsedArguments>) -> Option<&[u8]>
+    ensures { option_copied result ≡ database_in (outcome_of outcome.now) }
+{
+    match outcome {
+        CompilerArguments::Ok(parsed) => output_path(&parsed.outputs, "pdb"),
+        CompilerArguments::CannotCache(_, _) | CompilerArguments::NotCompilation => None,
+    }
+}
+
+/// The paths of files.
+fn paths_of(alloc: Global, files: Vec<LackedFile>) -> Mem<Vec<Vec<u8>>>
+    ensures { IfOk result (λ paths. words_of paths.items ≡ map (λ file. file.path) (lacked_of files.items)) }
+{
+    let mut paths = Vec::new(alloc);
+    for file in files {
+        paths.push(file.path)?;
+    }
+    Ok(paths)
+}
+
+impl Reading {
+    /// What the answer to this command line asks of its view that the view does not have, as `Compiler::open_questions` says
+    /// it. It fails only for want of memory.
+    pub fn questions(&self, alloc: Global, line: &CommandLine<'_>) -> Mem<Questions>
+        ensures { IfOk result (λ questions. given questions ≡ questions_in (given_by line.now) self.now) }
+    {
+        let files = self.files_lacked(alloc)?;
+        let (outcome, view) = (self.outcome(), line.view);
+        let database = database_of(outcome);
+        Ok(Questions {
+            files: paths_of(alloc, files)?,
+            directories: absent_directories(alloc, hash_files_of(outcome), view)?,
+            existing: absent_database(alloc, database, line.directory, view)?,
+        })
+    }
+}
+
+impl Compiler {
+    /// What the answer to a command line asks of a view that the view does not have: the response files that its words name,
+    /// those that words inside the files of the view name, and those of inner command lines; the directories in which
+    /// profiles may lie; and the file that debug information may be added to (docs/RULES.md, Questions). A disk that has what
+    /// the view has, and none of what is asked, gives the same answer (`laws::of_questions`). `TooManyWords` where
+    /// `answer_within` says so. The outer error is the refusal of memory.
+    #[tactic(auto, using(crate::proofs::ReadLaws::answer_read))]
+    pub fn open_questions(
+        self,
+        alloc: Global,
+        words: &[Vec<u8>],
+        cwd: &[u8],
+        env_vars: &[(Vec<u8>, Vec<u8>)],
+        view: &View,
+        most: usize,
+    ) -> Mem<Result<Questions, TooManyWords>>
+        ensures { IfOk result (λ said. let request = asked self (words_of words.now) cwd.now (pairs_of env_vars.now) view.now in
+            MatchResult said (λ questions. (has_at_most most request ≡ true) × (given questions ≡ questions_of request)) (λ _. has_at_most most request ≡ false)) }
+    {
+        let line = CommandLine {
+            words,
+            directory: cwd,
+            environment: env_vars,
+            view,
+        };
+        match self.read(alloc, &line, most)? {
+            Ok(reading) => {
+                let questions = reading.questions(alloc, &line);
+                drop(reading);
+                Ok(Ok(questions?))
+            }
+            Err(too_many) => Ok(Err(too_many)),
+        }
+    }
+}

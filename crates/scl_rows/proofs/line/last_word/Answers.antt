@@ -1,6 +1,0 @@
-use Rattle.std.proofs.Common.{◌∙◌}
-use Rattle.scl_rows.proofs.SourceLaws.{last-word}
-use Rattle.scl_rows.proofs.line.last_word.Goals as goal
-
-pub returns-in-Some : goal.returns-in-Some
-returns-in-Some c = c.deref.ensures.value ∙ last-word c.args.words.now c.in-Some.word.now c.in-Some.ensures.value
