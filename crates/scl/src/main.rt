@@ -6,6 +6,8 @@ mod arguments;
 mod batch;
 mod disk;
 mod fault;
+mod file;
+mod known;
 mod one;
 mod options;
 mod progress;
@@ -19,13 +21,10 @@ use std::process::ExitCode;
 
 fn run(rt: &HostRuntime) -> Result<Ending, Fault> {
     let arguments = raw_arguments(rt)?;
-    match read_options(rt, &arguments)? {
-        Wanted::Done(ending) => Ok(ending),
-        Wanted::Explain(asked) => one::explain(rt, &asked),
-        Wanted::Command(asked) => one::command(rt, &asked),
-        Wanted::Check(asked) => one::check(rt, &asked),
-        Wanted::Database(asked) => batch::database(rt, &asked),
-        Wanted::Reasons => one::reasons(rt),
+    let options = read_options(rt, &arguments)?;
+    match &options.wanted {
+        Wanted::Done(ending) => Ok(*ending),
+        wanted => known::answer_by(rt, &options.known, wanted),
     }
 }
 

@@ -27,7 +27,7 @@ pub const ABOUT_REASONS: &str =
 
 /// How the program ends, and which compiler a command line is of.
 pub const STATUSES: &str =
-    "Statuses: 0 answered; 2 wrong words; 3 out of memory; 4 a file cannot be read or the answer not be written; 5 the database is broken or has entries that are none (all others are answered); 10 cannot be cached; 11 compiles nothing; 12 a hazard; 13 a word holds a NUL, so no process can be given the command; 14 there is a command, and its outcome may not be kept in the cache.
+    "Statuses: 0 answered; 2 wrong words, or a line of the catalogue is wrong; 3 out of memory; 4 a file cannot be read or the answer not be written; 5 the database is broken or has entries that are none (all others are answered); 10 cannot be cached; 11 compiles nothing; 12 a hazard; 13 a word holds a NUL, so no process can be given the command; 14 there is a command, and its outcome may not be kept in the cache.
 
 Which compiler: by the file name of the first word that is neither a launcher (ccache, sccache, distcc, icecc, env) nor an assignment (NAME=.., NAME of letters, digits and _); without .exe and a version it ends in clang-cl, clang++, clang, g++, gcc, c++ or cc (alone or behind a -), or is cl, dcc or cctc. cc and c++ are gcc and g++ unless --compiler says otherwise.
 

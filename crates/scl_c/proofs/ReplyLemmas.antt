@@ -15,6 +15,7 @@ use Rattle.scl_reader.specs.Compilers.{compiler_named}
 use Rattle.scl_reader.specs.Reads.{read_of}
 use Rattle.scl_reader.proofs.ReadLaws.{answer_of_read, IsOf}
 use Rattle.scl_describe.specs.Hazards.{hazards_by, hazards_in}
+use Rattle.scl_hazards.specs.Hazards.{Known}
 use Rattle.scl_reader.specs.QuestionsGiven.{given}
 use Rattle.scl_reader.specs.Questions.{questions_in, questions_of}
 use Rattle.scl_reader.specs.CommandLines.{Request, asked, given_in}
@@ -52,27 +53,27 @@ reply-is outcomes.NotCompilation answer reading executable environment cwd is pa
     let P : Answer → Type 0 = λ it. reply_of outcomes.NotCompilation ≡ reply_with it reading environment in subst P is refl
 
 -- what is known of a reply to these words, pairs and view
-pub record IsFrom (compiler : Compiler) (a : Asked) (r : Replied) (words : List (List ℕ)) (pairs : List (List ℕ × List ℕ)) (view : Viewed) : Type 0 where
+pub record IsFrom (known : Known) (compiler : Compiler) (a : Asked) (r : Replied) (words : List (List ℕ)) (pairs : List (List ℕ × List ℕ)) (view : Viewed) : Type 0 where
   pub is_within : has_at_most (bound_of a) (asked compiler words a.directory.now pairs view) ≡ true
   pub answer_is : answer_of r.answer ≡ answer_to (asked compiler words a.directory.now pairs view)
   pub executable : List ℕ
   pub parts : HasParts (reading_by compiler (asked compiler words a.directory.now pairs view)) executable (environment_by compiler pairs) a.directory.now r.answer
   pub runs : runs_of r.runs.items ≡ runs_in compiler a (reply_of r.answer)
   pub questions : given r.questions ≡ (if a.wants_questions then questions_of (asked compiler words a.directory.now pairs view) else no_questions)
-  pub hazards : words_of r.hazards.items ≡ (if a.wants_hazards then map name_of (hazards_by (asked compiler words a.directory.now pairs view)) else [])
+  pub hazards : words_of r.hazards.items ≡ (if a.wants_hazards then map name_of (hazards_by known (asked compiler words a.directory.now pairs view)) else [])
 
 -- the command line is within the bound, and this is its reading
 abbrev pub IsReadOf : Compiler → Asked → List (List ℕ) → List (List ℕ × List ℕ) → Viewed → Reading → Type 0
 IsReadOf compiler a words pairs view reading =
     (has_at_most (bound_of a) (asked compiler words a.directory.now pairs view) ≡ true) × (reading ≡ read_of (asked compiler words a.directory.now pairs view))
 
-from-read : (compiler : Compiler) (a : Asked) (r : Replied) (words : List (List ℕ)) (pairs : List (List ℕ × List ℕ)) (view : Viewed) (reading : Reading) →
-    IsReadOf compiler a words pairs view reading → IsRepliedBy compiler a reading (given_in (asked compiler words a.directory.now pairs view)) r → IsFrom compiler a r words pairs view
-from-read compiler a r words pairs view reading read h =
+from-read : (known : Known) (compiler : Compiler) (a : Asked) (r : Replied) (words : List (List ℕ)) (pairs : List (List ℕ × List ℕ)) (view : Viewed) (reading : Reading) →
+    IsReadOf compiler a words pairs view reading → IsRepliedBy known compiler a reading (given_in (asked compiler words a.directory.now pairs view)) r → IsFrom known compiler a r words pairs view
+from-read known compiler a r words pairs view reading read h =
     let request : Request = asked compiler words a.directory.now pairs view in
     let of : IsOf request [] r.answer = answer_of_read request [] r.answer reading read.1 h.answers in
     let Asks : Reading → Type 0 = λ it. given r.questions ≡ (if a.wants_questions then questions_in (given_in request) it else no_questions) in
-    let Has : Reading → Type 0 = λ it. words_of r.hazards.items ≡ (if a.wants_hazards then map name_of (hazards_in pairs it) else []) in
+    let Has : Reading → Type 0 = λ it. words_of r.hazards.items ≡ (if a.wants_hazards then map name_of (hazards_in known pairs it) else []) in
     record {
       is_within = read.0;
       answer_is = of.is;
@@ -83,8 +84,8 @@ from-read compiler a r words pairs view reading read h =
       hazards = subst Has read.1 h.hazards;
     }
 
-replied-here : (compiler : Compiler) (a : Asked) (r : Replied) → IsFrom compiler a r (texts_of a.words.now) (pairs_in a.environment.now) (viewed a) → IsReplied compiler a r
-replied-here compiler a r h = record {
+replied-here : (known : Known) (compiler : Compiler) (a : Asked) (r : Replied) → IsFrom known compiler a r (texts_of a.words.now) (pairs_in a.environment.now) (viewed a) → IsReplied known compiler a r
+replied-here known compiler a r h = record {
   is_within = h.is_within;
   reply = reply-is r.answer (answer_to (asked_of compiler a)) (reading_by compiler (asked_of compiler a)) h.executable (environment_by compiler (pairs_in a.environment.now)) a.directory.now h.answer_is h.parts;
   runs = h.runs;
@@ -93,21 +94,21 @@ replied-here compiler a r h = record {
 }
 
 -- a reply to the words, pairs and view that C asks about is one to C
-pub replied_is : (compiler : Compiler) (a : Asked) (r : Replied) (words : List (List ℕ)) (pairs : List (List ℕ × List ℕ)) (view : Viewed) →
+pub replied_is : (known : Known) (compiler : Compiler) (a : Asked) (r : Replied) (words : List (List ℕ)) (pairs : List (List ℕ × List ℕ)) (view : Viewed) →
     (reading : Reading) → words ≡ texts_of a.words.now → pairs ≡ pairs_in a.environment.now → view ≡ viewed a →
-    IsReadOf compiler a words pairs view reading → IsRepliedBy compiler a reading (given_in (asked compiler words a.directory.now pairs view)) r → IsReplied compiler a r
-replied_is compiler a r words pairs view reading words-are pairs-are view-is read by =
-    let h : IsFrom compiler a r words pairs view = from-read compiler a r words pairs view reading read by in
-    let P : List (List ℕ) → Type 0 = λ w. IsFrom compiler a r w pairs view in
-    let Q : List (List ℕ × List ℕ) → Type 0 = λ p. IsFrom compiler a r (texts_of a.words.now) p view in
-    let R : Viewed → Type 0 = λ v. IsFrom compiler a r (texts_of a.words.now) (pairs_in a.environment.now) v in
-    replied-here compiler a r (subst R view-is (subst Q pairs-are (subst P words-are h)))
+    IsReadOf compiler a words pairs view reading → IsRepliedBy known compiler a reading (given_in (asked compiler words a.directory.now pairs view)) r → IsReplied known compiler a r
+replied_is known compiler a r words pairs view reading words-are pairs-are view-is read by =
+    let h : IsFrom known compiler a r words pairs view = from-read known compiler a r words pairs view reading read by in
+    let P : List (List ℕ) → Type 0 = λ w. IsFrom known compiler a r w pairs view in
+    let Q : List (List ℕ × List ℕ) → Type 0 = λ p. IsFrom known compiler a r (texts_of a.words.now) p view in
+    let R : Viewed → Type 0 = λ v. IsFrom known compiler a r (texts_of a.words.now) (pairs_in a.environment.now) v in
+    replied-here known compiler a r (subst R view-is (subst Q pairs-are (subst P words-are h)))
 
 abbrev whole_of : Replied → Whole
 whole_of r = whole (reply_of r.answer) (runs_of r.runs.items) (given r.questions) (words_of r.hazards.items)
 
-whole-is : (compiler : Compiler) (a : Asked) (r : Replied) → IsReplied compiler a r → whole_of r ≡ whole_to compiler a
-whole-is compiler a r h =
+whole-is : (known : Known) (compiler : Compiler) (a : Asked) (r : Replied) → IsReplied known compiler a r → whole_of r ≡ whole_to known compiler a
+whole-is known compiler a r h =
     let same = h.reply in
     let runs = h.runs in
     let questions = h.questions in
@@ -115,24 +116,24 @@ whole-is compiler a r h =
     (cc)
 
 -- what is told is told of what the definitions have
-pub whole_told : (compiler : Compiler) (a : Asked) (r : Replied) (sizes : Sizes) (room : Room) (t : Told) → compiler_named a.compiler.now ≡ Some compiler → IsReplied compiler a r →
-    AreSizes (whole_of r) sizes → Fits sizes room → Tells (whole_of r) t → OfCompiler a (λ it. IsWhole it a (IsGiven sizes room t))
-whole_told compiler a r sizes room t named replied are fits tells =
+pub whole_told : (known : Known) (compiler : Compiler) (a : Asked) (r : Replied) (sizes : Sizes) (room : Room) (t : Told) → compiler_named a.compiler.now ≡ Some compiler → IsReplied known compiler a r →
+    AreSizes (whole_of r) sizes → Fits sizes room → Tells (whole_of r) t → OfCompiler a (λ it. IsWhole known it a (IsGiven sizes room t))
+whole_told known compiler a r sizes room t named replied are fits tells =
     let Given : Whole → Type 0 = λ w. IsGiven sizes room t w in
-    let Of : Option Compiler → Type 0 = λ o. IfSome o (λ it. IsWhole it a (IsGiven sizes room t)) in
+    let Of : Option Compiler → Type 0 = λ o. IfSome o (λ it. IsWhole known it a (IsGiven sizes room t)) in
     subst Of (sym named) (record {
       is_within = replied.is_within;
-      holds = subst Given (whole-is compiler a r replied) (record { sizes_are = are; fits = fits; tells = tells });
+      holds = subst Given (whole-is known compiler a r replied) (record { sizes_are = are; fits = fits; tells = tells });
     })
 
-pub whole_short : (compiler : Compiler) (a : Asked) (r : Replied) (sizes : Sizes) (room : Room) → compiler_named a.compiler.now ≡ Some compiler → IsReplied compiler a r →
-    AreSizes (whole_of r) sizes → IsShort sizes room → OfCompiler a (λ it. IsWhole it a (IsTooMuch sizes room))
-whole_short compiler a r sizes room named replied are short =
+pub whole_short : (known : Known) (compiler : Compiler) (a : Asked) (r : Replied) (sizes : Sizes) (room : Room) → compiler_named a.compiler.now ≡ Some compiler → IsReplied known compiler a r →
+    AreSizes (whole_of r) sizes → IsShort sizes room → OfCompiler a (λ it. IsWhole known it a (IsTooMuch sizes room))
+whole_short known compiler a r sizes room named replied are short =
     let Given : Whole → Type 0 = λ w. IsTooMuch sizes room w in
-    let Of : Option Compiler → Type 0 = λ o. IfSome o (λ it. IsWhole it a (IsTooMuch sizes room)) in
+    let Of : Option Compiler → Type 0 = λ o. IfSome o (λ it. IsWhole known it a (IsTooMuch sizes room)) in
     subst Of (sym named) (record {
       is_within = replied.is_within;
-      holds = subst Given (whole-is compiler a r replied) (record { sizes_are = are; is_short = short });
+      holds = subst Given (whole-is known compiler a r replied) (record { sizes_are = are; is_short = short });
     })
 
 pub read_again : (compiler : Compiler) (a : Asked) → compiler_named a.compiler.now ≡ Some compiler → OfCompiler a (λ it. AnswerIsReadAgain (asked_of it a))
@@ -141,11 +142,11 @@ read_again compiler a named =
     subst Of (sym named) (answers_again (asked_of compiler a))
 
 -- what a call gives where all is told
-pub told_whole : (compiler : Compiler) (a : Asked) (r : Replied) (sizes : Sizes) (room : Room) (old t : Told) → compiler_named a.compiler.now ≡ Some compiler → IsReplied compiler a r →
-    AreSizes (whole_of r) sizes → Fits sizes room → Tells (whole_of r) t → IsTold a room sizes old t (pos 0)
-told_whole compiler a r sizes room old t named replied are fits tells = record {
+pub told_whole : (known : Known) (compiler : Compiler) (a : Asked) (r : Replied) (sizes : Sizes) (room : Room) (old t : Told) → compiler_named a.compiler.now ≡ Some compiler → IsReplied known compiler a r →
+    AreSizes (whole_of r) sizes → Fits sizes room → Tells (whole_of r) t → IsTold known a room sizes old t (pos 0)
+told_whole known compiler a r sizes room old t named replied are fits tells = record {
   known = inl refl;
-  told = λ _. whole_told compiler a r sizes room t named replied are fits tells;
+  told = λ _. whole_told known compiler a r sizes room t named replied are fits tells;
   read_again = λ _. read_again compiler a named;
   short = search rules;
   unknown = search rules;

@@ -5,8 +5,7 @@ use Rattle.scl_values.specs.Words.{words_of}
 use Rattle.scl_text.specs.Commands.{pairs_of}
 use Rattle.scl_text.specs.Runs.{runs_of}
 use Rattle.scl_text.specs.Records.{Parsed, Verdict, parsed_of}
-use Rattle.scl_hazards.specs.Hazards.{told}
-use Rattle.scl_hazards.specs.declared.hazard.Hazard.{Hazard}
+use Rattle.scl_hazards.specs.Hazards.{Hazard, Known}
 use Rattle.scl_text.specs.declared.records.Cacheable.{Cacheable}
 use Rattle.scl_text.specs.declared.records.CompilerArguments.{CompilerArguments}
 use Rattle.scl_text.specs.declared.records.CompilerArguments.TheVariants as outcomes
@@ -63,11 +62,11 @@ abbrev pub questions_in : Compiler → Asked → Questions
 questions_in compiler a = if a.wants_questions then questions_of (asked_of compiler a) else no_questions
 
 abbrev pub name_of : Hazard → List ℕ
-name_of hazard = (told hazard).name
+name_of hazard = hazard.name
 
--- the names of the hazards of the command line, where they are wanted
-abbrev pub hazards_in : Compiler → Asked → List (List ℕ)
-hazards_in compiler a = if a.wants_hazards then map name_of (hazards_by (asked_of compiler a)) else []
+-- the names of the hazards of the command line that are known, where they are wanted
+abbrev pub hazards_in : Known → Compiler → Asked → List (List ℕ)
+hazards_in known compiler a = if a.wants_hazards then map name_of (hazards_by known (asked_of compiler a)) else []
 
 -- all that is told
 pub record Whole : Type 0 where
@@ -79,8 +78,8 @@ pub record Whole : Type 0 where
 abbrev pub whole : Reply → List (List (List ℕ)) → Questions → List (List ℕ) → Whole
 whole reply runs questions hazards = record { reply = reply; runs = runs; questions = questions; hazards = hazards }
 
-abbrev pub whole_to : Compiler → Asked → Whole
-whole_to compiler a = whole (reply_to compiler a) (runs_in compiler a (reply_to compiler a)) (questions_in compiler a) (hazards_in compiler a)
+abbrev pub whole_to : Known → Compiler → Asked → Whole
+whole_to known compiler a = whole (reply_to compiler a) (runs_in compiler a (reply_to compiler a)) (questions_in compiler a) (hazards_in known compiler a)
 
 -- ---- of an answer that the code gives
 
@@ -91,16 +90,16 @@ reply_of (outcomes.CannotCache reason text) = cannot_cache reason.now (option_ma
 reply_of outcomes.NotCompilation = not_compilation
 
 -- it is what a compiler replies, by the reading of a command line
-pub record IsRepliedBy (compiler : Compiler) (a : Asked) (reading : Reading) (line : Given) (r : Replied) : Type 0 where
+pub record IsRepliedBy (known : Known) (compiler : Compiler) (a : Asked) (reading : Reading) (line : Given) (r : Replied) : Type 0 where
   pub answers : AnswersReading (definitions_of (compiler_of reading)) [] (outcome_in reading) line.directory line.environment line.view r.answer
   pub runs : runs_of r.runs.items ≡ runs_in compiler a (reply_of r.answer)
   pub questions : given r.questions ≡ (if a.wants_questions then reading_questions.questions_in line reading else no_questions)
-  pub hazards : words_of r.hazards.items ≡ (if a.wants_hazards then map name_of (reading_hazards.hazards_in line.environment reading) else [])
+  pub hazards : words_of r.hazards.items ≡ (if a.wants_hazards then map name_of (reading_hazards.hazards_in known line.environment reading) else [])
 
 -- it is what a compiler replies to what is asked, where no command line is longer than is allowed
-pub record IsReplied (compiler : Compiler) (a : Asked) (r : Replied) : Type 0 where
+pub record IsReplied (known : Known) (compiler : Compiler) (a : Asked) (r : Replied) : Type 0 where
   pub is_within : has_at_most (bound_of a) (asked_of compiler a) ≡ true
   pub reply : reply_of r.answer ≡ reply_to compiler a
   pub runs : runs_of r.runs.items ≡ runs_in compiler a (reply_of r.answer)
   pub questions : given r.questions ≡ questions_in compiler a
-  pub hazards : words_of r.hazards.items ≡ hazards_in compiler a
+  pub hazards : words_of r.hazards.items ≡ hazards_in known compiler a

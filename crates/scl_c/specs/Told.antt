@@ -7,6 +7,7 @@ use Rattle.scl_text.specs.declared.records.ColorMode.TheVariants as colors
 use Rattle.scl_text.specs.declared.records.Cacheable.{Cacheable}
 use Rattle.scl_text.specs.declared.records.Cacheable.TheVariants as cacheable
 use Rattle.scl_text.specs.Records.{Parsed, bare_record}
+use Rattle.scl_hazards.specs.Hazards.{Known}
 use Rattle.scl_reader.specs.Answers.{AnswerIsReadAgain}
 use Rattle.scl_reader.specs.Compilers.{compiler_named}
 use Rattle.scl_reader.specs.Questions.{Questions}
@@ -116,9 +117,9 @@ pub record Tells (w : Whole) (t : Told) : Type 0 where
   pub hazards : texts_of t.hazards.now ≡ w.hazards
 
 -- no command line of the words is longer than was allowed, and what is told is so
-pub record IsWhole (compiler : Compiler) (a : Asked) (Holds : Whole → Type 0) : Type 0 where
+pub record IsWhole (known : Known) (compiler : Compiler) (a : Asked) (Holds : Whole → Type 0) : Type 0 where
   pub is_within : has_at_most (bound_of a) (asked_of compiler a) ≡ true
-  pub holds : Holds (whole_to compiler a)
+  pub holds : Holds (whole_to known compiler a)
 
 -- it is told, in the memory that it takes
 pub record IsGiven (sizes : Sizes) (room : Room) (t : Told) (w : Whole) : Type 0 where
@@ -152,12 +153,12 @@ pub record IsUntold (sizes : Sizes) (old new : Told) : Type 0 where
   pub is_kept : new ≡ old
   pub are_none : AreNoSizes sizes
 
--- what a call gives, by its status
-pub record IsTold (a : Asked) (room : Room) (sizes : Sizes) (old new : Told) (status : ℤ) : Type 0 where
+-- what a call gives, by its status and by what is known of compilers
+pub record IsTold (knows : Known) (a : Asked) (room : Room) (sizes : Sizes) (old new : Told) (status : ℤ) : Type 0 where
   pub known : IsStatus status
-  pub told : status ≡ pos 0 → OfCompiler a (λ compiler. IsWhole compiler a (IsGiven sizes room new))
+  pub told : status ≡ pos 0 → OfCompiler a (λ compiler. IsWhole knows compiler a (IsGiven sizes room new))
   pub read_again : status ≡ pos 0 → OfCompiler a (λ compiler. AnswerIsReadAgain (asked_of compiler a))
-  pub short : status ≡ pos 1 → OfCompiler a (λ compiler. IsWhole compiler a (IsTooMuch sizes room)) × (new ≡ old)
+  pub short : status ≡ pos 1 → OfCompiler a (λ compiler. IsWhole knows compiler a (IsTooMuch sizes room)) × (new ≡ old)
   pub unknown : status ≡ pos 2 → (compiler_named a.compiler.now ≡ None) × IsUntold sizes old new
   pub no_memory : status ≡ pos 3 → IsUntold sizes old new
   pub too_many : status ≡ pos 4 → OfCompiler a (λ compiler. has_at_most (bound_of a) (asked_of compiler a) ≡ false) × IsUntold sizes old new

@@ -23,7 +23,7 @@ use scl_cl::{
     CommandLine, Compilation, Compiler, CompilerArguments, MOST, Mem, Questions, Reading,
     TooManyWords, View,
 };
-use scl_describe::{Hazard, hazards_of};
+use scl_describe::{Hazard, Known, hazards_of};
 use std::alloc::Global;
 
 /// What is asked, in the library's words.
@@ -101,12 +101,12 @@ fn questions_for(
 }
 
 /// The names of hazards.
-fn names_of(alloc: Global, hazards: &[Hazard]) -> Mem<Vec<Vec<u8>>>
+fn names_of(alloc: Global, hazards: &[Hazard<'_>]) -> Mem<Vec<Vec<u8>>>
     ensures { IfOk result (λ names. words_of names.items ≡ map name_of hazards.now) }
 {
     let mut names = Vec::with_capacity(alloc, hazards.len())?;
     for hazard in hazards {
-        names.push(Vec::from_slice(alloc, hazard.name().as_bytes())?)?;
+        names.push(Vec::from_slice(alloc, hazard.name())?)?;
     }
     Ok(names)
 }
@@ -114,16 +114,17 @@ fn names_of(alloc: Global, hazards: &[Hazard]) -> Mem<Vec<Vec<u8>>>
 /// The names of the hazards of the command line, where they are wanted.
 fn hazards_for(
     alloc: Global,
+    known: &Known<'_>,
     asked: &Asked<'_>,
     line: &CommandLine<'_>,
     reading: &Reading,
 ) -> Mem<Vec<Vec<u8>>>
-    ensures { IfOk result (λ names. words_of names.items ≡ (if asked.now.wants_hazards then map name_of (hazards_in (pairs_of line.now.environment.now) reading.now) else [])) }
+    ensures { IfOk result (λ names. words_of names.items ≡ (if asked.now.wants_hazards then map name_of (hazards_in known.now (pairs_of line.now.environment.now) reading.now) else [])) }
 {
     if !asked.wants_hazards {
         return Ok(Vec::new(alloc));
     }
-    let hazards = hazards_of(alloc, reading, line.environment)?;
+    let hazards = hazards_of(alloc, known, reading, line.environment)?;
     names_of(alloc, &hazards)
 }
 
@@ -141,29 +142,31 @@ fn bound(asked: &Asked<'_>) -> usize
 /// What is told of a reading beside its answer: its questions, and the names of its hazards.
 fn told_beside(
     alloc: Global,
+    known: &Known<'_>,
     asked: &Asked<'_>,
     line: &CommandLine<'_>,
     reading: &Reading,
 ) -> Mem<(Questions, Vec<Vec<u8>>)>
     ensures questions { IfOk result (λ told. given told.0 ≡ (if asked.now.wants_questions then questions_in (given_by line.now) reading.now else no_questions)) }
-    ensures hazards { IfOk result (λ told. words_of told.1.items ≡ (if asked.now.wants_hazards then map name_of (hazards_in (pairs_of line.now.environment.now) reading.now) else [])) }
+    ensures hazards { IfOk result (λ told. words_of told.1.items ≡ (if asked.now.wants_hazards then map name_of (hazards_in known.now (pairs_of line.now.environment.now) reading.now) else [])) }
 {
     let questions = questions_for(alloc, asked, line, reading)?;
-    let hazards = hazards_for(alloc, asked, line, reading)?;
+    let hazards = hazards_for(alloc, known, asked, line, reading)?;
     Ok((questions, hazards))
 }
 
 /// What is replied by the reading of a command line.
 fn reply_by(
     alloc: Global,
+    known: &Known<'_>,
     compiler: Compiler,
     asked: &Asked<'_>,
     line: &CommandLine<'_>,
     reading: Reading,
 ) -> Mem<Replied>
-    ensures { IfOk result (IsRepliedBy compiler asked.now reading (given_by line.now)) }
+    ensures { IfOk result (IsRepliedBy known.now compiler asked.now reading (given_by line.now)) }
 {
-    let (questions, hazards) = match told_beside(alloc, asked, line, &reading) {
+    let (questions, hazards) = match told_beside(alloc, known, asked, line, &reading) {
         Ok(told) => told,
         Err(refused) => {
             drop(reading);
@@ -183,10 +186,11 @@ fn reply_by(
 /// What a request is replied, or that a command line of its is too long; it is read once.
 fn answered(
     alloc: Global,
+    known: &Known<'_>,
     compiler: Compiler,
     asked: &Asked<'_>,
 ) -> Mem<Result<Replied, TooManyWords>>
-    ensures { IfOk result (λ said. MatchResult said (IsReplied compiler asked.now) (λ _. has_at_most (bound_of asked.now) (asked_of compiler asked.now) ≡ false)) }
+    ensures { IfOk result (λ said. MatchResult said (IsReplied known.now compiler asked.now) (λ _. has_at_most (bound_of asked.now) (asked_of compiler asked.now) ≡ false)) }
 {
     let given = line_of(alloc, asked)?;
     let line = CommandLine {
@@ -197,7 +201,7 @@ fn answered(
     };
     match compiler.read(alloc, &line, bound(asked))? {
         Ok(reading) => {
-            let replied = reply_by(alloc, compiler, asked, &line, reading)?;
+            let replied = reply_by(alloc, known, compiler, asked, &line, reading)?;
             Ok(Ok(replied))
         }
         Err(too_many) => Ok(Err(too_many)),
@@ -207,6 +211,7 @@ fn answered(
 /// Tells what is replied, where the memory is long enough.
 #[tactic(auto, using(crate::proofs::ReplyLemmas::whole_short, crate::proofs::ReplyLemmas::read_again))]
 fn tell_in<'a>(
+    known: &Known<'_>,
     compiler: Compiler,
     asked: &Asked<'_>,
     replied: &Replied,
@@ -215,10 +220,11 @@ fn tell_in<'a>(
     told: &mut Told<'a>,
 ) -> i32
     requires named { compiler_named asked.now.compiler.now ≡ Some compiler }
-    requires replied { IsReplied compiler asked.now replied.now }
+    requires replied { IsReplied known.now compiler asked.now replied.now }
     requires untold { AreNoSizes wanted.old }
-    ensures { IsTold asked.now room.entry wanted.new told.old told.new result }
+    ensures { IsTold known.now asked.now room.entry wanted.new told.old told.new result }
 {
+    let _known = known;
     let Ok(sizes) = sizes_of(
         &replied.answer,
         &replied.runs,
@@ -244,20 +250,21 @@ fn tell_in<'a>(
 /// Answers what is asked.
 pub(crate) fn ask<'a>(
     alloc: Global,
+    known: &Known<'_>,
     asked: &Asked<'_>,
     room: Room<'a>,
     wanted: &mut Sizes,
     told: &mut Told<'a>,
 ) -> i32
-    ensures { IsTold asked.now room.entry wanted.new told.old told.new result }
+    ensures { IsTold known.now asked.now room.entry wanted.new told.old told.new result }
 {
     *wanted = Sizes::none();
     let Some(compiler) = Compiler::named(asked.compiler) else {
         return BAD;
     };
-    match answered(alloc, compiler, asked) {
+    match answered(alloc, known, compiler, asked) {
         Err(_) => NO_MEMORY,
         Ok(Err(TooManyWords)) => TOO_MANY_WORDS,
-        Ok(Ok(replied)) => tell_in(compiler, asked, &replied, room, wanted, told),
+        Ok(Ok(replied)) => tell_in(known, compiler, asked, &replied, room, wanted, told),
     }
 }

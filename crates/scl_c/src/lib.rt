@@ -15,10 +15,14 @@ ghost use Rattle.scl_describe.specs.Descriptions.{DescribesBytes};
 ghost use Rattle.scl_cl.specs.Program.{program_answer};
 ghost use Rattle.scl_c.specs.Texts.{IsTextGiven, HoldsReadAgain};
 ghost use Rattle.scl_c.specs.Told.{IsTold};
+ghost use Rattle.scl_catalogue.specs.Form.{Catalogue as Knowledge};
+ghost use Rattle.scl_hazards.specs.Hazards.{Known as Knows};
 
-use scl_cl::Commands;
-use scl_describe::Descriptions;
+use scl_catalogue_default::built_in_entries;
+use scl_cl::{Commands, Mem};
+use scl_describe::{Catalogue, Descriptions, Entry, Known};
 use shapes::{Asked, Room, Sizes, Told};
+use status::NO_MEMORY;
 use std::alloc::Global;
 
 /// Answers the request whose text is in memory by the text of its answer, as `ccline` does (docs/RULES.md, Requests and
@@ -34,7 +38,7 @@ pub extern "C" fn scl_run(alloc: Global, request: &[u8], room: &mut [u8], wanted
 }
 
 /// Answers the request whose text is in memory by a description of its answer, as `describe` does (docs/RULES.md,
-/// Descriptions). The statuses, `wanted` and `room` are as those of `scl_run`.
+/// Descriptions), with the hazards that the built-in catalogue knows. The statuses, `wanted` and `room` are as those of `scl_run`.
 #[unsafe(no_mangle)]
 pub extern "C" fn scl_describe(
     alloc: Global,
@@ -42,9 +46,26 @@ pub extern "C" fn scl_describe(
     room: &mut [u8],
     wanted: &mut usize,
 ) -> i32
-    ensures { IsTextGiven (DescribesBytes request.now) room.old room.new wanted.new result }
+    ensures { (catalogue : Knowledge) × IsTextGiven (DescribesBytes catalogue request.now) room.old room.new wanted.new result }
 {
-    text::respond(alloc, &Descriptions, request, room, wanted)
+    let Ok(entries) = built_in_entries(alloc) else {
+        *wanted = 0;
+        return NO_MEMORY;
+    };
+    let catalogue = Catalogue {
+        groups: &[],
+        entries: &entries,
+    };
+    text::respond(alloc, &Descriptions { catalogue }, request, room, wanted)
+}
+
+/// The entries of the built-in catalogue, where hazards are wanted.
+fn entries_for(alloc: Global, asked: &Asked<'_>) -> Mem<Vec<Entry<'static>>> {
+    if asked.wants_hazards {
+        built_in_entries(alloc)
+    } else {
+        Ok(Vec::new(alloc))
+    }
 }
 
 /// Answers what is asked, and tells it in `told`, whose texts, words, pairs, outputs and runs are put into `room`, each text
@@ -59,7 +80,16 @@ pub extern "C" fn scl_ask<'a>(
     wanted: &mut Sizes,
     told: &mut Told<'a>,
 ) -> i32
-    ensures { IsTold asked.now room.entry wanted.new told.old told.new result }
+    ensures { (known : Knows) × IsTold known asked.now room.entry wanted.new told.old told.new result }
 {
-    ask::ask(alloc, asked, room, wanted, told)
+    let Ok(entries) = entries_for(alloc, asked) else {
+        *wanted = Sizes::none();
+        return NO_MEMORY;
+    };
+    let catalogue = Catalogue {
+        groups: &[],
+        entries: &entries,
+    };
+    let known = Known::new(&catalogue, None);
+    ask::ask(alloc, &known, asked, room, wanted, told)
 }

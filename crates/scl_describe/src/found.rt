@@ -5,7 +5,7 @@ ghost use Rattle.scl_text.specs.Commands.{pairs_of};
 ghost use Rattle.scl_describe.specs.Hazards.{hazards_in};
 ghost use Rattle.scl_describe.specs.OptionRows.{rows_in};
 
-use scl_hazards::{Hazard, gnu_hazards, msvc_hazards};
+use scl_hazards::{Hazard, Known, gnu_hazards, msvc_hazards};
 use scl_reader::Reading;
 use scl_rows::{Row, gnu_rows, msvc_rows, small_rows};
 use scl_text::Mem;
@@ -29,16 +29,17 @@ pub fn rows_of(alloc: Global, reading: &Reading) -> Mem<Vec<Row>>
 /// The hazards of a command line that was read in this environment: what gcc, clang or clang-cl is known to do otherwise with
 /// the built command than with the given one; none where there is no command, and none of Diab and TaskingVX, of which nothing
 /// is known (docs/RULES.md, Hazards). It fails only for want of memory.
-pub fn hazards_of(
+pub fn hazards_of<'a>(
     alloc: Global,
+    known: &Known<'a>,
     reading: &Reading,
     environment: &[(Vec<u8>, Vec<u8>)],
-) -> Mem<Vec<Hazard>>
-    ensures { IfOk result (λ found. found.items ≡ hazards_in (pairs_of environment.now) reading.now) }
+) -> Mem<Vec<Hazard<'a>>>
+    ensures { IfOk result (λ found. found.items ≡ hazards_in known.now (pairs_of environment.now) reading.now) }
 {
     match reading {
-        Reading::Gnu(reading) => gnu_hazards(alloc, reading, false),
-        Reading::Msvc(reading) => msvc_hazards(alloc, reading, environment),
+        Reading::Gnu(reading) => gnu_hazards(alloc, known, reading, false),
+        Reading::Msvc(reading) => msvc_hazards(alloc, known, reading, environment),
         Reading::Diab(_) | Reading::Tasking(_) => Ok(Vec::new(alloc)),
     }
 }

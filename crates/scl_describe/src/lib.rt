@@ -10,5 +10,5 @@ mod settings;
 
 pub use descriptions::{Descriptions, describe};
 pub use found::{hazards_of, rows_of};
-pub use scl_hazards::{Danger, HAZARDS, Hazard};
+pub use scl_hazards::{Catalogue, Danger, Entry, Hazard, Known, Version, danger_name};
 pub use scl_rows::{Destination, Origin, Row};

@@ -3,7 +3,7 @@ use Rattle.std.proofs.Common.{◌≡◌, ℕ, Bool, List, Option, ap, subst, sym
 use Rattle.scl_describe.specs.Hazards.{hazards_by, hazards_in}
 use Rattle.scl_describe.specs.OptionRows.{rows_by, rows_in}
 use Rattle.scl_files.specs.Views.{Viewed}
-use Rattle.scl_hazards.specs.declared.hazard.Hazard.{Hazard}
+use Rattle.scl_hazards.specs.Hazards.{Hazard, Known}
 use Rattle.scl_reader.proofs.ReadLaws.{IsOf, answer_of_read, readings-say}
 use Rattle.scl_reader.specs.Answers.{answer_to, reading_by}
 use Rattle.scl_reader.specs.AnswersGiven.{AnswersReading, answer_of}
@@ -35,8 +35,9 @@ module _ (case : Case) (view : Viewed) (reading : Reading) (read : reading ≡ r
       let compiler : compiler_of reading ≡ case.compiler = ap compiler_of read ∙ (readings-say (request_of case view)).compiler in
       h ∙ ap (λ c. runs_for version c may_dist rewrites cache_mode (outcome_in reading)) compiler ∙ ap (λ said. runs_for version case.compiler may_dist rewrites cache_mode said) outcome_read
 
-  pub hazards_read : (hazards : List Hazard) (given : Given) → given ≡ given_in (request_of case view) → hazards ≡ hazards_in given.environment reading → hazards ≡ hazards_by (request_of case view)
-  hazards_read hazards given e h = h ∙ ap (λ g. hazards_in g.environment reading) e ∙ ap (λ r. hazards_in (request_of case view).environment r) read
+  pub hazards_read : (known : Known) (hazards : List Hazard) (given : Given) → given ≡ given_in (request_of case view) → hazards ≡ hazards_in known given.environment reading
+      → hazards ≡ hazards_by known (request_of case view)
+  hazards_read known hazards given e h = h ∙ ap (λ g. hazards_in known g.environment reading) e ∙ ap (λ r. hazards_in known (request_of case view).environment r) read
 
   pub rows_read : (wanted : Bool) (rows : List Told) → rows ≡ rows_given wanted (outcome_in reading) (rows_in reading)
       → rows ≡ rows_given wanted (reading_by case.compiler (request_of case view)) (rows_by (request_of case view))

@@ -1,8 +1,7 @@
 -- What the program writes of a command line, by its answer and the hazards of its command.
 use Rattle.std.specs.Prelude.{◌≡◌, ℕ, Bool, List, [], ◌∷◌, ◌++◌, codes, if◌then◌else◌}
 use Rattle.std.specs.List.{flat_map}
-use Rattle.scl_hazards.specs.declared.hazard.Hazard.{Hazard}
-use Rattle.scl_hazards.specs.Hazards.{told}
+use Rattle.scl_hazards.specs.Hazards.{Hazard}
 use Rattle.scl_reader.specs.Answers.{Answer, compiled, cannot_cache, not_compilation}
 use Rattle.scl_explain.specs.CommandTexts.{command_text}
 use Rattle.scl_explain.specs.Nuls.{some_hold_nul}
@@ -12,7 +11,7 @@ use Rattle.scl_explain.specs.declared.reply.Form.TheVariants as form
 
 -- the line of a hazard: its name, and what happens
 abbrev pub hazard_line : Hazard → List ℕ
-hazard_line hazard = (told hazard).name ++ codes ": " ++ (told hazard).consequence ++ 10 ∷ []
+hazard_line hazard = hazard.name ++ codes ": " ++ hazard.consequence ++ 10 ∷ []
 
 abbrev pub hazards_text : List Hazard → List ℕ
 hazards_text hazards = flat_map hazard_line hazards

@@ -5,7 +5,7 @@ use Rattle.scl_files.specs.Views.{Viewed}
 use Rattle.scl_rows.specs.Rows.{Told}
 use Rattle.scl_text.specs.Commands.{pairs_of}
 use Rattle.scl_text.specs.Records.{Parsed, Verdict, NotCompilation}
-use Rattle.scl_hazards.specs.declared.hazard.Hazard.{Hazard}
+use Rattle.scl_hazards.specs.Hazards.{Hazard, Known}
 use Rattle.scl_reader.specs.CommandLines.{Request, asked}
 use Rattle.scl_reader.specs.Answers.{Answer, answer_to}
 use Rattle.scl_describe.specs.Hazards.{hazards_by}
@@ -33,11 +33,11 @@ compiles_nothing _ = false
 abbrev pub rows_given : Bool → Result Parsed Verdict → List Told → List Told
 rows_given wanted said rows = if wanted || compiles_nothing said then rows else []
 
--- in a view the answer is that on each disk of which this holds, and this is said of it and of the hazards there
-pub record IsSaid (holds : Viewed → Type 0) (multiarch : Bool) (case : Case) (says : Answer → List Hazard → Type 0) : Type 0 where
+-- in a view the answer is that on each disk of which this holds, and this is said of it and of the hazards that are known there
+pub record IsSaid (known : Known) (holds : Viewed → Type 0) (multiarch : Bool) (case : Case) (says : Answer → List Hazard → Type 0) : Type 0 where
   pub loaded : Viewed
   pub same_answer : (held : Viewed) → holds held → held.is_multiarch ≡ multiarch → answer_to (request_of case held) ≡ answer_to (request_of case loaded)
-  pub said : says (answer_to (request_of case loaded)) (hazards_by (request_of case loaded))
+  pub said : says (answer_to (request_of case loaded)) (hazards_by known (request_of case loaded))
 
 -- what is loaded for a command line: it may have so many words, with its response files in place, and open files so often as where nothing else is said, and fewer than 2^12 files
 -- may name each the next

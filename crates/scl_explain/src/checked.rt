@@ -11,6 +11,7 @@ use crate::refusal::ending_line;
 use crate::reply::{Form, Reply, unread};
 use crate::report::Report;
 use crate::status::Ending;
+use scl_hazards::Known;
 use scl_load::Disk;
 use scl_reader::Mem;
 use std::alloc::Global;
@@ -20,7 +21,7 @@ use std::fmt::Display;
 fn check_bytes<R: Report>(
     alloc: Global,
     case: &Case,
-    answered: &Answered,
+    answered: &Answered<'_>,
     form: Form,
     report: &R,
 ) -> Mem<Vec<u8>>
@@ -36,7 +37,7 @@ fn check_bytes<R: Report>(
 fn error_line<R: Report>(
     alloc: Global,
     case: &Case,
-    answered: &Answered,
+    answered: &Answered<'_>,
     form: Form,
     report: &R,
 ) -> Mem<Option<String>> {
@@ -49,7 +50,7 @@ fn error_line<R: Report>(
 fn check_reply<R: Report>(
     alloc: Global,
     case: &Case,
-    answered: &Answered,
+    answered: &Answered<'_>,
     form: Form,
     report: &R,
 ) -> Mem<Reply>
@@ -69,6 +70,7 @@ fn check_reply<R: Report>(
 pub fn check<D: Disk, R: Report>(
     alloc: Global,
     disk: &D,
+    known: &Known<'_>,
     case: &Case,
     multiarch: bool,
     form: Form,
@@ -76,9 +78,9 @@ pub fn check<D: Disk, R: Report>(
 ) -> Mem<Reply>
 where
     D::Error: Display,
-    ensures { IfOk result (λ reply. IsUnread (D.holds disk.now) (D.fails disk.now) multiarch case.now reply ⊎ IsSaid (D.holds disk.now) multiarch case.now (IsCheckedReply form case.now reply)) }
+    ensures { IfOk result (λ reply. IsUnread (D.holds disk.now) (D.fails disk.now) multiarch case.now reply ⊎ IsSaid known.now (D.holds disk.now) multiarch case.now (IsCheckedReply form case.now reply)) }
 {
-    match answer_case(alloc, disk, case, multiarch, false)? {
+    match answer_case(alloc, disk, known, case, multiarch, false)? {
         Ok(answered) => check_reply(alloc, case, &answered, form, report),
         Err(error) => unread(alloc, &error),
     }

@@ -13,7 +13,7 @@ use crate::reply::{Reply, unread};
 use crate::report::Report;
 use crate::status::Ending;
 use crate::words::{WordForm, command_text};
-use scl_hazards::Hazard;
+use scl_hazards::{Hazard, Known};
 use scl_load::Disk;
 use scl_reader::{Compilation, CompilerArguments, Mem};
 use std::alloc::Global;
@@ -29,7 +29,7 @@ pub struct CommandForm {
 }
 
 /// The hazards for which no command is written.
-fn barring(answered: &Answered, is_strict: bool) -> &[Hazard]
+fn barring<'b, 'a>(answered: &'b Answered<'a>, is_strict: bool) -> &'b [Hazard<'a>]
     ensures { result.now ≡ barring is_strict answered.now.hazards.items }
 {
     if is_strict { &answered.hazards } else { &[] }
@@ -40,7 +40,7 @@ fn command_bytes(
     alloc: Global,
     program: &[u8],
     answer: &CompilerArguments<Compilation>,
-    barring: &[Hazard],
+    barring: &[Hazard<'_>],
     form: WordForm,
 ) -> Mem<Vec<u8>>
     ensures { IfOk result (λ text. text.items ≡ command_written form program.now (answer_of answer.now) barring.now) }
@@ -64,8 +64,8 @@ fn command_bytes(
 fn error_line<R: Report>(
     alloc: Global,
     case: &Case,
-    answered: &Answered,
-    barring: &[Hazard],
+    answered: &Answered<'_>,
+    barring: &[Hazard<'_>],
     report: &R,
 ) -> Mem<Option<String>> {
     if matches!(
@@ -81,7 +81,7 @@ fn error_line<R: Report>(
 fn command_reply<R: Report>(
     alloc: Global,
     case: &Case,
-    answered: &Answered,
+    answered: &Answered<'_>,
     form: CommandForm,
     report: &R,
 ) -> Mem<Reply>
@@ -103,6 +103,7 @@ fn command_reply<R: Report>(
 pub fn command<D: Disk, R: Report>(
     alloc: Global,
     disk: &D,
+    known: &Known<'_>,
     case: &Case,
     multiarch: bool,
     form: CommandForm,
@@ -110,9 +111,9 @@ pub fn command<D: Disk, R: Report>(
 ) -> Mem<Reply>
 where
     D::Error: Display,
-    ensures { IfOk result (λ reply. IsUnread (D.holds disk.now) (D.fails disk.now) multiarch case.now reply ⊎ IsSaid (D.holds disk.now) multiarch case.now (IsCommanded form case.now reply)) }
+    ensures { IfOk result (λ reply. IsUnread (D.holds disk.now) (D.fails disk.now) multiarch case.now reply ⊎ IsSaid known.now (D.holds disk.now) multiarch case.now (IsCommanded form case.now reply)) }
 {
-    match answer_case(alloc, disk, case, multiarch, false)? {
+    match answer_case(alloc, disk, known, case, multiarch, false)? {
         Ok(answered) => command_reply(alloc, case, &answered, form, report),
         Err(error) => unread(alloc, &error),
     }

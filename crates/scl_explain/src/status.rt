@@ -43,7 +43,7 @@ impl Ending {
         }
     }
 
-    fn of_command(has_nul: bool, hazards: &[Hazard], cacheable: Cacheable) -> Ending
+    fn of_command(has_nul: bool, hazards: &[Hazard<'_>], cacheable: Cacheable) -> Ending
         ensures { result ≡ ending_of_command has_nul hazards.now cacheable }
     {
         if has_nul {
@@ -59,7 +59,7 @@ impl Ending {
     pub(crate) fn of_answer(
         program: &[u8],
         answer: &CompilerArguments<Compilation>,
-        hazards: &[Hazard],
+        hazards: &[Hazard<'_>],
     ) -> Ending
         ensures { result ≡ ending_of program.now (answer_of answer.now) hazards.now }
     {

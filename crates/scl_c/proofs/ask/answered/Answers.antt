@@ -16,7 +16,7 @@ returns-in-Ok c =
     let view : Viewed = c.in_ok-given.given.view in
     let request : Request = asked c.args.compiler words c.args.asked.now.directory.now pairs view in
     let read : (has_at_most c.bound.result request ≡ true) × (c.in-Ok.reading ≡ read_of request) = rw (c.in-Ok.is, c.deref.ensures.value, c.deref-2.ensures.value) at c.in_ok-reading.ensures in
-    let replied : IsRepliedBy c.args.compiler c.args.asked.now c.in-Ok.reading (given_in request) c.in_ok-replied-in-Ok.replied =
+    let replied : IsRepliedBy c.args.known.now c.args.compiler c.args.asked.now c.in-Ok.reading (given_in request) c.in_ok-replied-in-Ok.replied =
     rw (c.deref.ensures.value, c.deref-2.ensures.value) at c.in_ok-replied-in-Ok.ensures in
-    replied_is c.args.compiler c.args.asked.now c.in_ok-replied-in-Ok.replied words pairs view c.in-Ok.reading c.in_ok-given.ensures.0 c.in_ok-given.ensures.1 c.in_ok-given.ensures.2
+    replied_is c.args.known.now c.args.compiler c.args.asked.now c.in_ok-replied-in-Ok.replied words pairs view c.in-Ok.reading c.in_ok-given.ensures.0 c.in_ok-given.ensures.1 c.in_ok-given.ensures.2
     (subst (λ most. has_at_most most request ≡ true) c.bound.ensures read.0, read.1) replied

@@ -1,0 +1,48 @@
+//! What is known of a compiler.
+ghost use Rattle.std.specs.Prelude.{◌≡◌};
+ghost use Rattle.scl_catalogue.specs.Views.{catalogue_of};
+
+use scl_catalogue::{Catalogue, Version};
+use std::marker::Model;
+
+/// What is known of the compiler that is run: a catalogue, and which version of those that it speaks of is meant.
+#[derive(Debug, Drop)]
+pub struct Known<'a> {
+    catalogue: Catalogue<'a>,
+    version: Option<Version>,
+}
+
+impl<'a> Model for Known<'a> {
+    ghost use Rattle.scl_catalogue.specs.Views.{catalogue_of};
+    ghost use Rattle.scl_hazards.specs.Hazards.{Known};
+
+    ghost Value = { Known };
+
+    ghost view = { λ k. record { catalogue = catalogue_of k.catalogue; version = k.version } };
+}
+
+impl<'a> Known<'a> {
+    /// What a catalogue knows of a compiler of this version; where none is told, each case of the catalogue is meant.
+    pub fn new(catalogue: &Catalogue<'a>, version: Option<Version>) -> Known<'a>
+        ensures { result ≡ record { catalogue = catalogue_of catalogue.now; version = version } }
+    {
+        Known {
+            catalogue: *catalogue,
+            version,
+        }
+    }
+
+    /// The catalogue.
+    pub fn catalogue(&self) -> &Catalogue<'a>
+        ensures { catalogue_of result.now ≡ self.now.catalogue }
+    {
+        &self.catalogue
+    }
+
+    /// The version that is meant, where one is told.
+    pub(crate) fn version(&self) -> Option<Version>
+        ensures { result ≡ self.now.version }
+    {
+        self.version
+    }
+}
