@@ -22,7 +22,7 @@ use Rattle.scl_load.proofs.ExtendLaws.{extends-empty}
 use Rattle.scl_load.proofs.LeadLaws.{each-both, each-flat, each-given, each-in, each-inside, each-mapped, each-so, leads-kept}
 
 module _ (holds : Viewed → Type 0) (load : Load) where
-  -- on each disk of which this holds, so many readings found something, the view was made, and these are left to be looked for
+  -- on each disk of which this holds: n readings found something, the view was made, and these are left to look for
   abbrev pub IsUnderWay : ℕ → Viewed → List Lead → Type 0
   IsUnderWay readings view leads = (held : Viewed) → holds held → held.is_multiarch ≡ load.is_multiarch → IsLed held load readings view leads
 
@@ -49,7 +49,7 @@ module _ (holds : Viewed → Type 0) (load : Load) where
   pub unended : (view : Viewed) (leads : List Lead) → IsUnderWay load.most_rounds view leads → (held : Viewed) → holds held → held.is_multiarch ≡ load.is_multiarch → IsUnended held load
   unended view leads way held h m = record { view = view; are_looks = (way held h m).are_looks }
 
--- where the disk has none of what a reading asks, it decides the record and the answer
+-- if the disk has none of what a reading asks, the reading decides the record and the answer
 module _ (holds : Viewed → Type 0) (line : DiskLine) (most most_rounds readings : ℕ) (before after : Viewed) (leads : List Lead) (q : Questions)
     (way : IsUnderWay holds (load_of line most most_rounds) readings before leads) (is : q ≡ questions_of (asked_on line before))
     (looked : IsLookedFor holds (HasNoneAsked q) (AreAllSame q) before after false) where
@@ -86,7 +86,7 @@ module _ (disk : Viewed) (line : DiskLine) (most most_rounds : ℕ) where
     are_leads = given-leads (expansion_of line.compiler) refl;
   }
 
-  -- what files name that a reading lacked and that were found
+  -- what is named by the files that a reading lacked and that were found
   found-leads : (readings : ℕ) (before after : Viewed) → AreLooks disk load readings before → Extends disk after
       → Each (IsLead disk load after) (leads_found (read_of (asked_on line before)) after line.directory.now (readings + 1))
   found-leads readings before after looks extends =
