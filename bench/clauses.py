@@ -19,7 +19,7 @@ An entry is
   - what a library re-exports of another, by its public path
 
 `by` names the definitions in specs/ that an entry cites, and the ghost members are cited by their names. Names of std are
-left out. docs/CONTRACTS.md says what each call is for.
+left out. bench/doc prints a call with what its comment says, and with the definitions.
 """
 WIDTH = 116
 USE = re.compile(r"ghost use Rattle\.(.+)")

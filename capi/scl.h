@@ -1,22 +1,28 @@
 /* scl.h: what a compiler's command line asks for, and the command to run in its place. Link libscl.a (or -lscl).
  *
+ * The library has four calls, over texts alone. What is new in a later one is a row of an answer, or a setting of a request: no
+ * call changes. All else in this header is C that is compiled into the client: it writes a request's text, and fills structs
+ * from an answer's rows. So the structs are the client's own, and a client runs with each library of its protocol.
+ *
+ * - Rows that this header does not know are passed over. Where they are `key` or `keep`, or a row that it knows has more than it
+ *   knows, nothing may be kept: has_unknown is true, and is_cacheable false.
+ * - SCL_NEWER tells that one side does not know what the other says: the library a line `setting`, or this header the answer,
+ *   as of another protocol. Then run the given words, and keep nothing.
+ *
  * A call reads what it is handed and writes into memory that it is handed. It keeps nothing between calls, opens no file,
  * starts no process, and takes memory from malloc while it runs and gives it back.
  *
- * What is proved of the three calls (crates/scl_c) is proved of callers that keep these premises, which nothing checks:
+ * What is proved of the four calls (crates/scl_c) is proved of callers that keep these premises, which nothing checks:
  *
- * - Each pointer with a length points at so many values, also where the length is 0: then anywhere, but not NULL.
- * - What a call reads holds valid values: a bool is false or true, a pointer as above. So do the slots, pairs, outputs and
- *   runs of the room, and *answer, before the call: the call may read what it writes over.
- * - What a call writes overlaps nothing that it reads, and nothing else that it writes; no other thread touches it
- *   meanwhile. What *answer points to stands in the room, so the room must live, unchanged, as long as it is read.
+ * - Each pointer with a length points at so many bytes. With the length 0 it may be anything but NULL; NULL, of which nothing is
+ *   proved, does no harm either, and is as good as an empty text.
+ * - `wanted` points at a size_t. What a call writes overlaps nothing that it reads, and nothing else that it writes; no other
+ *   thread touches it meanwhile.
  * - malloc, realloc and free are of one allocator, and a block is aligned to each power of two up to 16 that divides its size.
  * - No call is made from a signal handler, or in a forked child of a process with threads.
  *
- * Calls may be made from any thread, and from several at once.
- *
- * Compile with the scl.h of the library that is linked: no struct says its version. The tables of flags are the written ones
- * (docs/FLAGS.md); tables of one's own are for callers in Rattle. */
+ * Calls may be made from any thread, and from several at once. The tables of flags are the written ones (docs/FLAGS.md);
+ * tables of one's own are for callers in Rattle. */
 #ifndef SCL_H
 #define SCL_H
 #include <stdbool.h>
@@ -28,15 +34,23 @@
 extern "C" {
 #endif
 
+/* The protocol of this header (docs/PROTOCOL.md); the libraries of a protocol have the name libscl.so.PROTOCOL. */
+#define SCL_PROTOCOL 1
+
 enum scl_status {
-    SCL_OK = 0,            /* told */
-    SCL_SHORT = 1,         /* the memory handed in is too short; how much is wanted is told */
-    SCL_BAD = 2,           /* a line of the text is bad; scl_ask: no served compiler has the name */
-    SCL_NO_MEMORY = 3,     /* memory was refused */
-    SCL_TOO_MANY_WORDS = 4 /* scl_ask: a command line has more words, or opens files more often, than was allowed */
+    SCL_OK = 0,             /* told */
+    SCL_SHORT = 1,          /* the memory handed in is too short; how much is wanted is told */
+    SCL_BAD = 2,            /* a line of the text is bad; scl_ask: no served compiler has the name */
+    SCL_NO_MEMORY = 3,      /* memory was refused */
+    SCL_TOO_MANY_WORDS = 4, /* scl_ask: a command line has more words, or opens files more often, than was allowed */
+    SCL_NEWER = 5,          /* a line `setting` is bad: it is not known here; scl_ask: or the answer is not known here */
+    SCL_BAD_CATALOGUE = 6   /* a line of the catalogue is wrong */
 };
 
-/* ---- texts */
+/* ---- the calls */
+
+/* The protocol of the library. */
+uint32_t scl_version(void);
 
 /* The request's text (docs/PROTOCOL.md, A request) is answered by the answer's text (An answer), as ccline does. *wanted is
  * the length of the text (SCL_OK, SCL_SHORT), or the number of the bad line (SCL_BAD), or 0. The text has no NUL behind it;
@@ -45,10 +59,16 @@ enum scl_status {
 int32_t scl_run(const uint8_t *request, size_t request_len, uint8_t *room, size_t room_len, size_t *wanted);
 
 /* The same with a description of the answer (docs/PROTOCOL.md, A description), as describe writes it; the request may have
- * lines `setting`, and without one words, and openings of files, are bounded by 1,000,000. */
+ * lines `setting`, and without one words, and openings of files, are bounded by 1,000,000. SCL_NEWER: the bad line is one of a
+ * setting, and *wanted its number. */
 int32_t scl_describe(const uint8_t *request, size_t request_len, uint8_t *room, size_t room_len, size_t *wanted);
 
-/* ---- structs */
+/* The same with the hazards of a catalogue whose text is handed in (catalogue/README.md). SCL_BAD_CATALOGUE: *wanted is the
+ * number of its first wrong line, and the request was not read. */
+int32_t scl_describe_with(const uint8_t *catalogue, size_t catalogue_len, const uint8_t *request, size_t request_len, uint8_t *room,
+                          size_t room_len, size_t *wanted);
+
+/* ---- structs: in C, and nothing is proved of what follows */
 
 typedef struct scl_bytes {
     const uint8_t *at;
@@ -70,6 +90,7 @@ typedef struct scl_pairs {
     size_t len;
 } scl_pairs;
 
+/* What is asked. All but the compiler may be zeros, as memset makes them: NULL with the length 0 is empty. */
 typedef struct scl_request {
     scl_bytes compiler;         /* gcc, g++, clang, clang++, cl, clang-cl, diab, tasking */
     scl_bytes directory;        /* the path of the directory in which the words are read */
@@ -87,6 +108,10 @@ typedef struct scl_request {
     bool cache_mode;            /*   for a cache of preprocessor runs */
     bool wants_questions;       /* it is told what the answer asks of files that were not handed in */
     bool wants_hazards;         /* the hazards of the command line are told */
+    bool wants_options;         /* it is told what became of each option */
+    scl_bytes version;          /* the text of the compiler's version, in UTF-8 (docs/PROTOCOL.md, `setting version`) */
+    scl_bytes catalogue;        /* the text of the catalogue of hazards; empty: the built-in one */
+    scl_words settings;         /* more lines `setting`: what stands behind that word, as `bound 10` */
 } scl_request;
 
 enum scl_outcome { SCL_COMPILED = 0, SCL_CANNOT_CACHE = 1, SCL_NOT_COMPILATION = 2 };
@@ -157,9 +182,14 @@ typedef struct scl_answer {
     scl_questions questions;
     scl_words hazards; /* SCL_COMPILED: names of what the compiler is known to do otherwise with the command than with the
                           given words (docs/LIMITS.md); where there is one, run the given words */
+    bool has_unknown;   /* the answer says more than this header knows of what decides whether an outcome is kept */
+    bool has_at;
+    size_t at;          /* where has_at: the index of the word that is refused, or by which nothing is compiled */
+    scl_bytes sentence; /* SCL_CANNOT_CACHE: what the reason means */
+    scl_runs options;   /* the fields of each row `option` */
 } scl_answer;
 
-/* The memory for an answer: its texts, its words, its pairs, its outputs and its runs. */
+/* The memory for an answer: its texts, its words, its pairs, its outputs, and its runs and options. */
 typedef struct scl_room {
     uint8_t *bytes;
     size_t bytes_len;
@@ -178,19 +208,14 @@ typedef struct scl_sizes {
     size_t bytes, slots, pairs, outputs, runs;
 } scl_sizes;
 
-/* Answers the request. SCL_OK: *answer tells it, and its pointers point into the room. SCL_SHORT: a part of the room is
- * shorter than *wanted says. *wanted is exact with both, and zeros with every other status. Where the status is not SCL_OK,
- * *answer is as it was. */
-int32_t scl_ask(const scl_request *request, scl_room room, scl_sizes *wanted, scl_answer *answer);
-
-/* ---- conveniences, in C: nothing is proved of what follows */
-
 /* (C++ has warnings for casts and for a null pointer written as in C) */
 #ifdef __cplusplus
 #define SCL_CAST(type, value) reinterpret_cast<type>(value)
+#define SCL_TO(type, value) static_cast<type>(value)
 #define SCL_NULL nullptr
 #else
 #define SCL_CAST(type, value) ((type)(value))
+#define SCL_TO(type, value) ((type)(value))
 #define SCL_NULL NULL
 #endif
 
@@ -205,7 +230,7 @@ static const scl_words scl_no_runs[1] = {{scl_no_bytes, 0}};
 
 static inline scl_bytes scl_bytes_of(const void *at, size_t len) {
     scl_bytes it;
-    it.at = len ? SCL_CAST(const uint8_t *, at) : SCL_NOTHING;
+    it.at = len ? SCL_TO(const uint8_t *, at) : SCL_NOTHING;
     it.len = len;
     return it;
 }
@@ -226,21 +251,36 @@ static inline scl_pairs scl_pairs_of(const scl_pair *at, size_t len) {
     return it;
 }
 
+static inline scl_runs scl_runs_of(const scl_words *at, size_t len) {
+    scl_runs it;
+    it.at = len ? at : scl_no_runs;
+    it.len = len;
+    return it;
+}
+
+#ifdef __cplusplus
+} /* extern "C" */
+#endif
+#include "scl_rows.h"
+#ifdef __cplusplus
+extern "C" {
+#endif
+
+/* ---- what a client calls */
+
 /* A request of a compiler and words, with no directory, environment and files, the bound of 1,000,000, and no wishes. */
 static inline scl_request scl_request_of(const char *compiler, const scl_bytes *words, size_t len) {
     scl_request it;
     memset(&it, 0, sizeof it);
     it.compiler = scl_text(compiler);
-    it.directory = scl_no_bytes[0];
+    it.directory = it.version = it.catalogue = scl_no_bytes[0];
     it.words = scl_words_of(words, len);
     it.environment = it.files = scl_pairs_of(scl_no_pairs, 0);
-    it.directories = it.existing = scl_words_of(scl_no_bytes, 0);
-    it.most_words = 0;
+    it.directories = it.existing = it.settings = scl_words_of(scl_no_bytes, 0);
     return it;
 }
 
-/* The request with something to point at where a length is 0, so that NULL may stand there: as in one that memset made, in which
- * then at least the compiler is set. */
+/* The request with something to point at where a length is 0. */
 static inline scl_request scl_valid_request(const scl_request *request) {
     scl_request it = *request;
     it.compiler = scl_bytes_of(it.compiler.at, it.compiler.len);
@@ -253,66 +293,19 @@ static inline scl_request scl_valid_request(const scl_request *request) {
     return it;
 }
 
-/* An answer before it is told. */
-static inline scl_answer scl_no_answer(void) {
-    scl_answer it;
-    memset(&it, 0, sizeof it);
-    it.reason = it.text = scl_no_bytes[0];
-    it.command = scl_words_of(scl_no_bytes, 0);
-    it.environment = scl_pairs_of(scl_no_pairs, 0);
-    it.record.input = it.record.compilation_flag = it.record.depfile = it.record.too_hard = scl_no_bytes[0];
-    it.record.outputs.at = scl_no_outputs;
-    it.record.lists.dependency = it.record.lists.preprocessor = it.record.lists.common = it.record.lists.arch = it.command;
-    it.record.lists.unhashed = it.record.lists.dist_files = it.record.lists.hash_files = it.command;
-    it.runs.at = scl_no_runs;
-    it.questions.files = it.questions.directories = it.questions.existing = it.hazards = it.command;
-    return it;
-}
-
-/* The bytes of one block for a room of these sizes; 0 where no size_t holds them. */
-static inline size_t scl_room_size(const scl_sizes *sizes) {
-    size_t one = sizeof(scl_bytes) + sizeof(scl_pair) + sizeof(scl_output) + sizeof(scl_words) + 1, most = SIZE_MAX / one;
-    if (sizes->bytes >= most || sizes->slots >= most || sizes->pairs >= most || sizes->outputs >= most || sizes->runs >= most)
-        return 0;
-    return sizes->slots * sizeof(scl_bytes) + sizes->pairs * sizeof(scl_pair) + sizes->outputs * sizeof(scl_output) +
-           sizes->runs * sizeof(scl_words) + sizes->bytes + 1;
-}
-
-/* A room of these sizes in such a block, which is aligned as malloc aligns; its values are valid. */
-static inline scl_room scl_room_in(void *block, const scl_sizes *sizes) {
-    scl_room it;
-    size_t i;
-    it.slots = SCL_CAST(scl_bytes *, block);
-    it.pairs = SCL_CAST(scl_pair *, SCL_CAST(void *, it.slots + sizes->slots));
-    it.outputs = SCL_CAST(scl_output *, SCL_CAST(void *, it.pairs + sizes->pairs));
-    it.runs = SCL_CAST(scl_words *, SCL_CAST(void *, it.outputs + sizes->outputs));
-    it.bytes = SCL_CAST(uint8_t *, it.runs + sizes->runs);
-    it.bytes_len = sizes->bytes;
-    it.slots_len = sizes->slots;
-    it.pairs_len = sizes->pairs;
-    it.outputs_len = sizes->outputs;
-    it.runs_len = sizes->runs;
-    for (i = 0; i < it.slots_len; i++) it.slots[i] = scl_no_bytes[0];
-    for (i = 0; i < it.pairs_len; i++) it.pairs[i] = scl_no_pairs[0];
-    for (i = 0; i < it.outputs_len; i++) it.outputs[i] = scl_no_outputs[0];
-    for (i = 0; i < it.runs_len; i++) it.runs[i] = scl_no_runs[0];
-    return it;
-}
-
 /* scl_run or scl_describe. */
 typedef int32_t scl_respond(const uint8_t *request, size_t request_len, uint8_t *room, size_t room_len, size_t *wanted);
 
-/* Answers a request's text with memory of its own, as: scl_text_new(scl_describe, request, strlen(request), &text, &wanted).
- * Only where the status is SCL_OK is there a text, with a NUL behind it, which free gives back. SCL_SHORT is never answered. */
-static inline int32_t scl_text_new(scl_respond *respond, const void *request, size_t request_len, char **text, size_t *wanted) {
-    size_t size = 4096;
-    scl_bytes given = scl_bytes_of(request, request_len);
+/* Answers a request's text with memory of its own: by scl_describe_with, if there is a catalogue. */
+static inline int32_t scl_respond_new(scl_respond *respond, scl_bytes catalogue, scl_bytes request, char **text, size_t *wanted) {
+    size_t size = 4096 + (request.len < SIZE_MAX / 16 ? 8 * request.len : 0);
     for (;;) {
-        char *block = SCL_CAST(char *, malloc(size + 1));
+        char *block = SCL_TO(char *, malloc(size + 1));
         int32_t status;
         *wanted = 0;
         if (!block) return SCL_NO_MEMORY;
-        status = respond(given.at, given.len, SCL_CAST(uint8_t *, block), size, wanted);
+        status = catalogue.len ? scl_describe_with(catalogue.at, catalogue.len, request.at, request.len, SCL_CAST(uint8_t *, block), size, wanted)
+                               : respond(request.at, request.len, SCL_CAST(uint8_t *, block), size, wanted);
         if (status == SCL_OK) {
             block[*wanted] = 0;
             *text = block;
@@ -324,15 +317,70 @@ static inline int32_t scl_text_new(scl_respond *respond, const void *request, si
     }
 }
 
-/* An answer with its memory in one block, which scl_free gives back. */
-typedef struct scl_given {
-    scl_answer answer;
-    void *block;
-} scl_given;
+/* Answers a request's text with memory of its own, as: scl_text_new(scl_describe, request, strlen(request), &text, &wanted).
+ * Only where the status is SCL_OK is there a text, with a NUL behind it, which free gives back. SCL_SHORT is never answered. */
+static inline int32_t scl_text_new(scl_respond *respond, const void *request, size_t request_len, char **text, size_t *wanted) {
+    return scl_respond_new(respond, scl_no_bytes[0], scl_bytes_of(request, request_len), text, wanted);
+}
 
-static inline void scl_free(scl_given *given) {
-    free(given->block);
-    given->block = SCL_NULL;
+/* The description of the answer to a request, with memory of its own, as scl_text_new gives it. */
+static inline int32_t scl_description_new(const scl_request *request, char **text, size_t *wanted) {
+    scl_writer to = {SCL_NULL, 0, 0, false};
+    int32_t status = SCL_NO_MEMORY;
+    *wanted = 0;
+    scl_put_request(&to, request);
+    if (!to.has_failed) status = scl_respond_new(scl_describe, request->catalogue, scl_bytes_of(to.at, to.len), text, wanted);
+    free(to.at);
+    /* (the first line names the compiler; each other one is right, or not known) */
+    return status == SCL_BAD && *wanted != 1 ? SCL_NEWER : status;
+}
+
+/* Answers the request. SCL_OK: *answer tells it, and its pointers point into the room, which must live, unchanged, as long as it
+ * is read, or at what is empty. SCL_SHORT: a part of the room is shorter than *wanted says, and is as it was. *wanted is exact
+ * with both, and zeros with every other status. Where the status is not SCL_OK, *answer is as it was. */
+static inline int32_t scl_ask(const scl_request *request, scl_room room, scl_sizes *wanted, scl_answer *answer) {
+    scl_taking taking;
+    char *text = SCL_NULL;
+    size_t len;
+    int32_t status = scl_description_new(request, &text, &len);
+    memset(wanted, 0, sizeof *wanted);
+    if (status != SCL_OK) return status;
+    status = scl_count(&taking, request, scl_bytes_of(text, len));
+    if (status == SCL_OK) {
+        *wanted = taking.sizes;
+        if (wanted->bytes > room.bytes_len || wanted->slots > room.slots_len || wanted->pairs > room.pairs_len || wanted->outputs > room.outputs_len ||
+            wanted->runs > room.runs_len)
+            status = SCL_SHORT;
+        else
+            scl_tell(&taking, room, answer);
+    }
+    free(text);
+    return status;
+}
+
+/* The bytes of one block for a room of these sizes; 0 where no size_t holds them. */
+static inline size_t scl_room_size(const scl_sizes *sizes) {
+    size_t one = sizeof(scl_bytes) + sizeof(scl_pair) + sizeof(scl_output) + sizeof(scl_words) + 1, most = SIZE_MAX / one;
+    if (sizes->bytes >= most || sizes->slots >= most || sizes->pairs >= most || sizes->outputs >= most || sizes->runs >= most)
+        return 0;
+    return sizes->slots * sizeof(scl_bytes) + sizes->pairs * sizeof(scl_pair) + sizes->outputs * sizeof(scl_output) +
+           sizes->runs * sizeof(scl_words) + sizes->bytes + 1;
+}
+
+/* A room of these sizes in such a block, which is aligned as malloc aligns. */
+static inline scl_room scl_room_in(void *block, const scl_sizes *sizes) {
+    scl_room it;
+    it.slots = SCL_TO(scl_bytes *, block);
+    it.pairs = SCL_CAST(scl_pair *, it.slots + sizes->slots);
+    it.outputs = SCL_CAST(scl_output *, it.pairs + sizes->pairs);
+    it.runs = SCL_CAST(scl_words *, it.outputs + sizes->outputs);
+    it.bytes = SCL_CAST(uint8_t *, it.runs + sizes->runs);
+    it.bytes_len = sizes->bytes;
+    it.slots_len = sizes->slots;
+    it.pairs_len = sizes->pairs;
+    it.outputs_len = sizes->outputs;
+    it.runs_len = sizes->runs;
+    return it;
 }
 
 /* What most answers to the request take. */
@@ -349,27 +397,35 @@ static inline scl_sizes scl_usual_sizes(const scl_request *request) {
     return it;
 }
 
-/* Asks with memory of its own: once with what most answers take, and once more with what is wanted. Only where the status is
- * SCL_OK is there anything to free. SCL_SHORT is never answered. What has the length 0 in the request may be NULL. */
+/* An answer with its memory in one block, which scl_free gives back. */
+typedef struct scl_given {
+    scl_answer answer;
+    void *block;
+} scl_given;
+
+static inline void scl_free(scl_given *given) {
+    free(given->block);
+    given->block = SCL_NULL;
+}
+
+/* Asks with memory of its own. Only where the status is SCL_OK is there anything to free. SCL_SHORT is never answered. */
 static inline int32_t scl_ask_new(const scl_request *request, scl_given *given) {
-    scl_request valid = scl_valid_request(request);
-    scl_sizes sizes = scl_usual_sizes(&valid), wanted = {0, 0, 0, 0, 0};
-    for (;;) {
-        size_t size = scl_room_size(&sizes);
-        void *block = size ? malloc(size) : SCL_NULL;
-        int32_t status;
-        given->block = SCL_NULL;
-        given->answer = scl_no_answer();
-        if (!block) return SCL_NO_MEMORY;
-        status = scl_ask(&valid, scl_room_in(block, &sizes), &wanted, &given->answer);
-        if (status == SCL_OK) {
-            given->block = block;
-            return status;
-        }
-        free(block);
-        if (status != SCL_SHORT) return status;
-        sizes = wanted;
+    scl_taking taking;
+    char *text = SCL_NULL;
+    size_t len;
+    int32_t status = scl_description_new(request, &text, &len);
+    given->block = SCL_NULL;
+    given->answer = scl_no_answer();
+    if (status != SCL_OK) return status;
+    status = scl_count(&taking, request, scl_bytes_of(text, len));
+    if (status == SCL_OK) {
+        size_t size = scl_room_size(&taking.sizes);
+        given->block = size ? malloc(size) : SCL_NULL;
+        if (given->block) scl_tell(&taking, scl_room_in(given->block, &taking.sizes), &given->answer);
+        else status = SCL_NO_MEMORY;
     }
+    free(text);
+    return status;
 }
 
 #ifdef __cplusplus

@@ -1,26 +1,36 @@
 """What a compiler's command line asks for, and the command to run in its place: run(text) and describe(text) answer a
 request's text, rows(text) takes a description apart, and ask(..) answers words, pairs and files as bytes. All but rows
-call libscl.so (or the file that SCL_LIBRARY names).
+call libscl.so.1 (or the file that SCL_LIBRARY names).
 
     >>> scl.ask(b"gcc", [b"-c", b"a.c"]).command
     [b'-x', b'c', b'-c', b'-o', b'a.o', b'-fdiagnostics-color=always', b'a.c']
 
-They answer as the proved library does; this file, which copies in and out, is proved by nothing."""
+They answer as the proved library does; this file, which writes requests and reads rows, is proved by nothing. Rows that it does
+not know are passed over; where they may say that nothing is kept, is_cacheable is False."""
 import ctypes as c
 import os
 import re
 from types import SimpleNamespace
 
-OK, SHORT, BAD, NO_MEMORY, TOO_MANY_WORDS = range(5)
+PROTOCOL = 1
+OK, SHORT, BAD, NO_MEMORY, TOO_MANY_WORDS, NEWER, BAD_CATALOGUE = range(7)
 COMPILED, CANNOT_CACHE, NOT_COMPILATION = range(3)
-LANGUAGES = ("Assembler AssemblerToPreprocess C CHeader GenericHeader Cxx CxxHeader CxxModule ObjectiveC ObjectiveCHeader ObjectiveCxx "
-             "ObjectiveCxxHeader Cuda Rust Hip").split()
-COLORS = ["off", "on", "auto"]
-LISTS = ["dependency", "preprocessor", "common", "arch", "unhashed", "dist_files", "hash_files"]
-FLAGS = ["double_dash_input", "uses_external_assembler", "show_includes", "explicit_language", "profile_generate",
-         "suppress_rewrite_includes_only", "has_depfile", "has_too_hard"]
-QUESTIONS = ["files", "directories", "existing"]
-WISHES = ["is_multiarch", "wants_runs", "may_dist", "rewrite_includes_only", "cache_mode", "wants_questions", "wants_hazards"]
+OUTCOMES = {b"ok": COMPILED, b"cannot-cache": CANNOT_CACHE, b"not-compilation": NOT_COMPILATION}
+# Rows, and the members that they fill: of a list a word more, of a text, and of a switch.
+LISTS = {"dependency": "dependency", "preprocessor": "preprocessor", "common": "common", "arch": "arch", "unhashed": "unhashed",
+         "dist": "dist_files", "hash": "hash_files"}
+TEXTS = {"input": "input", "compilation-flag": "compilation_flag", "depfile": "depfile", "too-hard": "too_hard"}
+SWITCHES = {"double-dash-input": "double_dash_input", "external-assembler": "uses_external_assembler", "show-includes": "show_includes",
+            "explicit-language": "explicit_language", "profile-generate": "profile_generate",
+            "no-rewrite-includes-only": "suppress_rewrite_includes_only"}
+QUESTIONS = {"file": "files", "dir": "directories", "exists": "existing"}
+# How many fields a row has at most that says what may be kept.
+MOST_FIELDS = {"hazard": 1, "key": -1, "keep": -1, "cacheable": 1, "output": 3, "environment": 2, "language": 1, "color": 1, **dict.fromkeys([*LISTS, *TEXTS, "arg"], 1),
+               **dict.fromkeys(SWITCHES, 0)}
+# Wishes, and the lines of a request that say them.
+SETTINGS = {"is_multiarch": b"multiarch", "may_dist": b"setting may-dist", "rewrite_includes_only": b"setting rewrite-includes-only",
+            "cache_mode": b"setting cache-mode"}
+WISHES = [*SETTINGS, "wants_runs", "wants_questions", "wants_hazards", "wants_options"]
 
 
 class TooManyWords(Exception):
@@ -31,6 +41,10 @@ class UnknownCompiler(Exception):
     """No served compiler has the name."""
 
 
+class Newer(Exception):
+    """The library does not know a line `setting`, or this file the answer: run the given words, and keep nothing."""
+
+
 class BadLine(Exception):
     """A line of a request breaks a rule; `number` counts from 1."""
 
@@ -39,52 +53,25 @@ class BadLine(Exception):
         self.number = number
 
 
-def _struct(name, *fields):
-    return type(name, (c.Structure,), {"_fields_": fields})
+class BadCatalogue(BadLine):
+    """A line of a catalogue is wrong; `number` is that of the first, from 1."""
 
 
-def _list(of):
-    return _struct("List", ("at", c.POINTER(of)), ("len", c.c_size_t))
+_lib = c.CDLL(os.environ.get("SCL_LIBRARY", f"libscl.so.{PROTOCOL}"))
+_ROOM = [c.c_char_p, c.c_size_t, c.POINTER(c.c_char), c.c_size_t, c.POINTER(c.c_size_t)]
+for _call, _types in ((_lib.scl_run, _ROOM), (_lib.scl_describe, _ROOM), (_lib.scl_describe_with, [c.c_char_p, c.c_size_t, *_ROOM])):
+    _call.argtypes, _call.restype = _types, c.c_int32
+if _lib.scl_version() != PROTOCOL:
+    raise ImportError(f"scl.py is of protocol {PROTOCOL}, and the library of {_lib.scl_version()}")
 
 
-Bytes = _struct("Bytes", ("at", c.c_void_p), ("len", c.c_size_t))
-Pair = _struct("Pair", ("key", Bytes), ("value", Bytes))
-Words, Pairs = _list(Bytes), _list(Pair)
-Output = _struct("Output", ("name", Bytes), ("path", Bytes), ("is_optional", c.c_bool))
-Request = _struct("Request", ("compiler", Bytes), ("directory", Bytes), ("words", Words), ("environment", Pairs), ("files", Pairs),
-                  ("directories", Words), ("existing", Words), ("most_words", c.c_size_t), *[(it, c.c_bool) for it in WISHES])
-Record = _struct("Record", ("language", c.c_uint32), ("color", c.c_uint32), *[(it, c.c_bool) for it in FLAGS],
-                 *[(it, Bytes) for it in ("input", "compilation_flag", "depfile", "too_hard")], ("outputs", _list(Output)),
-                 ("lists", _struct("Lists", *[(it, Words) for it in LISTS])))
-Answer = _struct("Answer", ("outcome", c.c_uint32), ("is_cacheable", c.c_bool), ("has_text", c.c_bool), ("reason", Bytes), ("text", Bytes),
-                 ("command", Words), ("environment", Pairs), ("record", Record), ("runs", _list(Words)),
-                 ("questions", _struct("Questions", *[(it, Words) for it in QUESTIONS])), ("hazards", Words))
-PARTS = [("bytes", c.c_uint8), ("slots", Bytes), ("pairs", Pair), ("outputs", Output), ("runs", Words)]
-Room = _struct("Room", *[field for name, of in PARTS for field in ((name, c.POINTER(of)), (f"{name}_len", c.c_size_t))])
-Sizes = _struct("Sizes", *[(name, c.c_size_t) for name, _ in PARTS])
-
-try:
-    _lib = c.CDLL(os.environ.get("SCL_LIBRARY", "libscl.so"))
-except OSError as error:
-    raise ImportError(f"{error}; SCL_LIBRARY names the libscl.so that make -C capi builds") from None
-_lib.scl_run.restype = _lib.scl_describe.restype = _lib.scl_ask.restype = c.c_int32
-_lib.scl_run.argtypes = _lib.scl_describe.argtypes = [c.c_char_p, c.c_size_t, c.c_char_p, c.c_size_t, c.POINTER(c.c_size_t)]
-_lib.scl_ask.argtypes = [c.POINTER(Request), Room, c.POINTER(Sizes), c.POINTER(Answer)]
-
-_NOTHING = c.create_string_buffer(1)
-_EMPTY = Bytes(c.addressof(_NOTHING), 0)
-_NO_WORDS = Words((Bytes * 1)(_EMPTY), 0)
-_VALID = {"bytes": 0, "slots": _EMPTY, "pairs": Pair(_EMPTY, _EMPTY), "outputs": Output(_EMPTY, _EMPTY, False), "runs": _NO_WORDS}
-
-
-def _respond(call, request):
-    room, wanted = c.create_string_buffer(1024), c.c_size_t()
-    while (status := call(request, len(request), room, len(room), c.byref(wanted))) == SHORT:
+def _respond(call, request, *before):
+    size, wanted = 4096 + 8 * len(request), c.c_size_t()
+    room = c.create_string_buffer(size)
+    while (status := call(*before, request, len(request), room, len(room), c.byref(wanted))) == SHORT:
         room = c.create_string_buffer(wanted.value)
-    if status == BAD:
-        raise BadLine(wanted.value)
-    if status:
-        raise MemoryError
+    if status != OK:
+        raise {BAD: BadLine(wanted.value), NEWER: Newer(f"line {wanted.value}"), BAD_CATALOGUE: BadCatalogue(wanted.value)}.get(status) or MemoryError
     return room.raw[: wanted.value]
 
 
@@ -93,9 +80,17 @@ def run(request):
     return _respond(_lib.scl_run, request)
 
 
-def describe(request):
-    """The text of the description of the answer to a request's text, both as bytes."""
-    return _respond(_lib.scl_describe, request)
+def describe(request, catalogue=None):
+    """The text of the description of the answer to a request's text, both as bytes; with the hazards of a catalogue's text, if there is
+    one."""
+    return _respond(_lib.scl_describe, request) if catalogue is None else _respond(_lib.scl_describe_with, request, catalogue, len(catalogue))
+
+
+def field(it):
+    """Bytes as they stand in a request or a row."""
+    if not isinstance(it, bytes):
+        raise TypeError(f"wanted are bytes, not {it!r}")
+    return re.sub(rb"[^!-\[\]-~]", lambda byte: b"\\x%02x" % ord(byte[0]), it)
 
 
 def rows(description):
@@ -103,89 +98,63 @@ def rows(description):
     return [[re.sub(rb"\\x(..)", lambda it: bytes.fromhex(it[1].decode()), field) for field in line.split(b" ")] for line in description.split(b"\n")[:-1]]
 
 
-def _bytes(it, kept):
-    if not isinstance(it, bytes):
-        raise TypeError(f"wanted are bytes, not {it!r}")
-    held = c.create_string_buffer(it, len(it) + 1)
-    kept.append(held)
-    return Bytes(c.addressof(held), len(it))
+def request(compiler, words, directory=b"", environment=(), files=(), directories=(), existing=(), most_words=0, version=b"", settings=(), **wishes):
+    """The text of a request."""
+    lines = [b"compiler " + field(compiler), b"cwd " + field(directory)]
+    lines += [b"%s %s" % (name, field(it)) for name, them in ((b"word", words), (b"dir", directories), (b"exists", existing)) for it in them]
+    lines += [b"%s %s\t%s" % (name, field(key), field(value)) for name, them in ((b"env", environment), (b"file", files)) for key, value in them]
+    lines += [line for name, line in SETTINGS.items() if wishes.get(name)]
+    lines += [b"setting bound %d" % most_words] * bool(most_words) + [b"setting version " + field(version)] * bool(version)
+    lines += [b"setting " + it for it in settings]
+    return b"\n".join(lines) + b"\n"
 
 
-def _array(kind, of, items, empty):
-    return kind((of * max(len(items), 1))(*(items or [empty])), len(items))
+def _first(of, name, otherwise=None):
+    return of[name][0][0] if name in of else otherwise
 
 
-def _words(items, kept):
-    return _array(Words, Bytes, [_bytes(it, kept) for it in items], _EMPTY)
+def _words(of, name):
+    return [fields[0] for fields in of.get(name, [])]
 
 
-def _pairs(items, kept):
-    return _array(Pairs, Pair, [Pair(_bytes(key, kept), _bytes(value, kept)) for key, value in items], _VALID["pairs"])
-
-
-def _room(sizes, kept):
-    room = Room()
-    for name, of in PARTS:
-        length = getattr(sizes, name)
-        # (one more, so that there is something to point at)
-        array = c.create_string_buffer(length + 1) if name == "bytes" else (of * (length + 1))(*[_VALID[name]] * (length + 1))
-        kept.append(array)
-        setattr(room, name, c.cast(array, c.POINTER(of)))
-        setattr(room, f"{name}_len", length)
-    return room
-
-
-def _blank():
-    answer = Answer()
-    for struct in (answer, answer.record, answer.record.lists, answer.questions):
-        for name, of in struct._fields_:
-            if of is Bytes:
-                setattr(struct, name, _EMPTY)
-            elif of is Words:
-                setattr(struct, name, _NO_WORDS)
-    answer.environment = Pairs((Pair * 1)(_VALID["pairs"]), 0)
-    answer.record.outputs.at, answer.runs.at = (Output * 1)(_VALID["outputs"]), (Words * 1)(_NO_WORDS)
-    return answer
-
-
-def _get(it):
-    return c.string_at(it.at, it.len)
-
-
-def _each(them, get=_get):
-    return [get(them.at[at]) for at in range(them.len)]
-
-
-def _record(it):
-    said = {name: getattr(it, name) for name in FLAGS if not name.startswith("has_")}
+def _record(of):
     return SimpleNamespace(
-        **said, language=LANGUAGES[it.language], color=COLORS[it.color], input=_get(it.input), compilation_flag=_get(it.compilation_flag),
-        depfile=_get(it.depfile) if it.has_depfile else None, too_hard=_get(it.too_hard) if it.has_too_hard else None,
-        outputs=_each(it.outputs, lambda of: (_get(of.name), _get(of.path), of.is_optional)),
-        lists=SimpleNamespace(**{name: _each(getattr(it.lists, name)) for name in LISTS}))
+        language=_first(of, "language").decode(), color=_first(of, "color").decode(), **{member: _first(of, row) for row, member in TEXTS.items()},
+        **{member: row in of for row, member in SWITCHES.items()},
+        outputs=[(name, path, bool(rest)) for name, path, *rest in of.get("output", [])],
+        lists=SimpleNamespace(**{member: _words(of, row) for row, member in LISTS.items()}))
 
 
-def ask(compiler, words, directory=b"", environment=(), files=(), directories=(), existing=(), most_words=0, **wishes):
-    """The answer to the words behind a program. Words, paths and names are bytes, environment and files pairs of bytes, and
-    most_words bounds them, and how often files are opened: 0 is 1,000,000. The wishes are those of scl_request: is_multiarch, wants_runs,
-    may_dist, rewrite_includes_only, cache_mode, wants_questions and wants_hazards."""
-    kept = []
-    request = Request(_bytes(compiler, kept), _bytes(directory, kept), _words(words, kept), _pairs(environment, kept), _pairs(files, kept),
-                      _words(directories, kept), _words(existing, kept), most_words)
-    for name, wish in wishes.items():
-        if name not in WISHES:
-            raise TypeError(f"no such wish: {name}")
-        setattr(request, name, wish)
-    sizes, status = Sizes(2048, 96, len(environment), 4, 0), SHORT
-    while status == SHORT:
-        answer, held = _blank(), []
-        status = _lib.scl_ask(c.byref(request), _room(sizes, held), c.byref(sizes), c.byref(answer))
-    if status:
-        raise {BAD: UnknownCompiler(compiler), NO_MEMORY: MemoryError(), TOO_MANY_WORDS: TooManyWords()}[status]
-    asked = SimpleNamespace(**{name: _each(getattr(answer.questions, name)) for name in QUESTIONS})
-    if answer.outcome != COMPILED:
-        return SimpleNamespace(outcome=answer.outcome, reason=_get(answer.reason), text=_get(answer.text) if answer.has_text else None, questions=asked)
+def _answer(outcome, of, wishes):
+    wanted = {row: of.get(row, []) if wishes.get(f"wants_{row}s") else [] for row in ("run", "hazard", "option")}
+    asked = {row: [it[1] for it in of.get("wants", []) if it[0] == row.encode()] if wishes.get("wants_questions") else [] for row in QUESTIONS}
+    shared = {"outcome": outcome, "at": int(_first(of, "at")) if "at" in of else None, "options": wanted["option"],
+              "questions": SimpleNamespace(**{member: asked[row] for row, member in QUESTIONS.items()})}
+    if outcome != COMPILED:
+        return SimpleNamespace(**shared, reason=_first(of, "reason", b""), text=_first(of, "because"), sentence=_first(of, "sentence", b""))
+    has_unknown = any(len(fields) > MOST_FIELDS.get(name, len(fields)) for name, them in of.items() for fields in them)
     return SimpleNamespace(
-        outcome=COMPILED, command=_each(answer.command), is_cacheable=answer.is_cacheable,
-        environment=_each(answer.environment, lambda pair: (_get(pair.key), _get(pair.value))), record=_record(answer.record),
-        runs=_each(answer.runs, _each), questions=asked, hazards=[it.decode() for it in _each(answer.hazards)])
+        **shared, command=_words(of, "arg"), is_cacheable=_first(of, "cacheable") == b"yes" and not has_unknown, has_unknown=has_unknown,
+        environment=[tuple(pair) for pair in of.get("environment", [])], record=_record(of), runs=wanted["run"], hazards=[it[0].decode() for it in wanted["hazard"]])
+
+
+def ask(compiler, words, *given, catalogue=None, **named):
+    """The answer to the words behind a program; request says what else may be given. Words, paths and names are bytes, environment
+    and files pairs of bytes, and most_words bounds words, and how often files are opened: 0 is 1,000,000. Wishes are those of
+    scl_request: is_multiarch, wants_runs, may_dist, rewrite_includes_only, cache_mode, wants_questions, wants_hazards and
+    wants_options. A catalogue is the text of one in the place of the built-in one."""
+    try:
+        text = describe(request(compiler, words, *given, **named), catalogue)
+    except BadCatalogue:
+        raise
+    except BadLine as bad:
+        raise UnknownCompiler(compiler) if bad.number == 1 else Newer(f"line {bad.number}") from None
+    (first, *_), *others = rows(text)
+    of = {}
+    for name, *fields in others:
+        of.setdefault(name.decode(errors="replace"), []).append(fields)
+    if first == b"too-many-words":
+        raise TooManyWords
+    if first not in OUTCOMES or _first(of, "version") != b"%d" % PROTOCOL:
+        raise Newer("the answer")
+    return _answer(OUTCOMES[first], of, named)

@@ -2,16 +2,19 @@
 """Tries hazards with the compilers of this machine: runs command lines as they are given and as `describe` builds them, in
 fresh folders of one name, and compares every file that they write, and standard output.
 
-usage: examples/limits.py DESCRIBE [ROW ..]            tries rows of docs/LIMITS.md, all without rows
-       examples/limits.py DESCRIBE --random N [SEED]   tries N random command lines
+usage: examples/limits.py DESCRIBE [--compiler NAME] [ROW ..]            tries rows of docs/LIMITS.md, all without rows
+       examples/limits.py DESCRIBE [--compiler NAME] --random N [SEED]   tries N random command lines
 
 DESCRIBE is the path of the program `describe`. It needs gcc 12 and clang 14; for clang-cl, where there is none of this name,
 it calls clang --driver-mode=cl. What is no difference: the time in an object of clang-cl.
 
+NAME is another compiler, as gcc-11 or clang-19: it alone is tried, also for C++ and, of clang, as clang-cl, and `describe` is told
+its version. A row then says what was seen with gcc 12 and clang 14; commands that come out the same have not to be named.
+
 Of a row it says whether each command differs as the row says, and whether `describe` names the row's hazard. Of random lines it
 counts those that differ, and those of them without a hazard; those that come out the same, and those of them with one. It
-prints both kinds. Lines that neither command compiles are passed over. A hazard of messages alone counts as none there, since
-messages are not compared.
+prints both kinds. Lines that neither command compiles are passed over. A hazard counts as none there if it is of messages alone, or
+does not compare the built command with the given one.
 
 Status 0: all is as the page says, and no random line differs without a hazard; 1: not so; 64: called wrongly, or
 a compiler is not there.
@@ -55,12 +58,13 @@ int main(void) { return sizeof(text); }
 
 # What stands in the folder of each run, beside the files of the row.
 FILES = {
-    **dict.fromkeys([".c", "a.c", "a.cc", "a.cu", "a.hip", "b.c", "sub/a.c", "@y.c", "sub/@w.c", "\u00e9.c"], SOURCE),
+    **dict.fromkeys([".c", "a.c", "a.b.c", "a.cc", "a.cu", "a.hip", "b.c", "sub/a.c", "@y.c", "sub/@w.c", "\u00e9.c"], SOURCE),
     **dict.fromkeys(["a.h", "a.hh", "a.hp", "a.HPP", "a.h++", "a.tcc"], "#ifndef B\n#define A_FIRST 1\n#endif\n"),
     **dict.fromkeys(["a.S", "a.sx", "c.s"], "#define ONE 1\n.globl x\nx: .long ONE\n"),
     **dict.fromkeys(["x.c"], "#ifdef X\nint x;\n#endif\n"),
     **dict.fromkeys(["r.c", "r.cc", "r.m", "sub/r.c"], RICH),
     "a.cppm": "export module a;\n",
+    "a.rs": "",
     "b.h": "#define B 1\n",
     "p.h": "static int p(void) { return 1; }\n",
     "in/q.h": "#define Q 1\n",
@@ -80,11 +84,18 @@ FILES = {
 # What random lines are of.
 COMPILERS = ["gcc", "g++", "clang", "clang++", "clang-cl"]
 
-# The words that a compiler is called by.
+# The words that a compiler is called by, and the versions that `describe` is told.
 PROGRAMS = {"clang-cl": [["clang-cl"], ["clang-cl-14"], ["clang", "--driver-mode=cl"]]}
+VERSIONS = {}
 
 # How the names of objects end.
 OBJECTS = (".o", ".obj", ".s", ".gch", ".pcm", ".ast")
+
+# When each file of a folder was changed.
+TIME = 1_000_000_000
+
+# What is said where a compiler takes neither command, as one of another version may.
+NEITHER = "neither compiles"
 
 # What an object of clang-cl begins with; its time follows, in four bytes.
 OBJECT_MARK = b"\x64\x86"
@@ -113,10 +124,12 @@ class Row:
 
 @dataclass
 class Answer:
-    """What `describe` says of a line: the built words, if there are any, and its hazards."""
+    """What `describe` says of a line: the built words, if there are any, its hazards, outputs and runs of the preprocessor."""
 
     words: list
     hazards: list
+    outputs: list
+    runs: list
 
 
 @dataclass
@@ -176,19 +189,29 @@ def unescaped(text):
     return text.encode().decode("unicode_escape").encode("latin-1")
 
 
+def headers_beside(line):
+    """The precompiled headers that the command before makes beside a file that the line names."""
+    made = line.before[-1] if line.before else ""
+    return [made for word in line.words if made in (f"{word}.gch", f"{word}.pch")]
+
+
 def request_of(line, words, folder):
     lines = [f"compiler {line.compiler}", f"cwd {escaped(folder.encode())}"]
     for name, data in line.files.items():
         lines.append(f"file {escaped(os.path.join(folder, name).encode())}\t{escaped(data)}")
     lines += [f"env {name}\t{escaped(value)}" for name, value in line.environment.items()]
+    lines += [f"exists {escaped(os.path.join(folder, made).encode())}" for made in headers_beside(line)]
+    lines += [f"setting version {VERSIONS[line.compiler]}"] if line.compiler in VERSIONS else []
     lines += [f"word {escaped(os.fsencode(word))}" for word in words]
     return "\n".join([*lines, "end", ""])
 
 
 def answer_of(text):
     rows = [line.partition(" ") for line in text.splitlines()]
-    words = [unescaped(rest) for keyword, _, rest in rows if keyword == "arg"]
-    return Answer(words if rows and rows[0][0] == "ok" else None, [rest for keyword, _, rest in rows if keyword == "hazard"])
+    told = {name: [rest for keyword, _, rest in rows if keyword == name] for name in ("arg", "hazard", "output", "run")}
+    words = [unescaped(rest) for rest in told["arg"]] if rows and rows[0][0] == "ok" else None
+    outputs = [unescaped(rest.split(" ")[1]).decode(errors="replace") for rest in told["output"]]
+    return Answer(words, told["hazard"], outputs, [[unescaped(word) for word in rest.split(" ")] for rest in told["run"]])
 
 
 def answers_to(program, asked, folder):
@@ -220,6 +243,8 @@ def fill(folder, files):
         os.makedirs(os.path.dirname(path), exist_ok=True)
         with open(path, "wb") as file:
             file.write(data if isinstance(data, bytes) else data.encode())
+        # (precompiled headers of clang hold the times of files)
+        os.utime(path, (TIME, TIME))
 
 
 def contents(folder):
@@ -267,6 +292,8 @@ def file_seen(name, given, built):
 
 def seen(given, built):
     """What the built command does otherwise, as the page says it."""
+    if given.status != 0 and built.status != 0:
+        return NEITHER
     if (given.status == 0) != (built.status == 0):
         return "stops" if given.status == 0 else "compiles"
     gone, come = sorted(given.made.keys() - built.made.keys()), sorted(built.made.keys() - given.made.keys())
@@ -279,10 +306,38 @@ def seen(given, built):
     return ", ".join(found) or "the same files"
 
 
+def given_of(line, folder):
+    """What the given commands of a line do."""
+    return run(line, [line.before, line.words] if line.before else [line.words], folder, line.environment)
+
+
 def tried(line, answers, folder):
     """What the given and the built commands of a line do."""
-    commands = [line.before, line.words] if line.before else [line.words]
-    return run(line, commands, folder, line.environment), run(line, [answer.words for answer in answers], folder, {})
+    return given_of(line, folder), run(line, [answer.words for answer in answers], folder, {})
+
+
+def seen_built(line, answers, folder):
+    """What the built commands of a line do otherwise than the given ones."""
+    return seen(*tried(line, answers, folder))
+
+
+def seen_outputs(line, answers, folder):
+    """Which outputs of the record the given command does not write, and what it writes in their place."""
+    made, outputs = given_of(line, folder).made, answers[-1].outputs
+    lacking = [name or "no name" for name in outputs if name not in made]
+    others = [name for name in made if name not in outputs] if lacking else []
+    return f"{', '.join(lacking)} \u2192 {', '.join(sorted(others)) or 'nothing'}" if lacking else "the same files"
+
+
+def seen_run(line, answers, folder):
+    """What the run of the preprocessor writes otherwise into a file that the given command writes too."""
+    given, other = given_of(line, folder), run(line, answers[-1].runs[:1], folder, line.environment)
+    found = [it for name in sorted(given.made.keys() & other.made.keys() - {"stdout"}) for it in file_seen(name, given, other)]
+    return ", ".join(found) or "the same files"
+
+
+# With what the given command is compared under a hazard; else with the built one.
+COMPARED = {"output-elsewhere": seen_outputs, "output-is-no-file": seen_outputs, "dependency-names-of-input": seen_run}
 
 
 # ---- rows
@@ -292,9 +347,12 @@ def faults_of(row, line, answers, folder):
     """What is not as the row says."""
     if any(answer.words is None for answer in answers):
         return ["no command is built"]
-    differs = seen(*tried(line, answers, folder))
-    faults = [] if differs == row.said.replace("messages", "the same files") else [f"seen: {differs}; the row says: {row.said}"]
+    differs = COMPARED.get(row.hazard, seen_built)(line, answers, folder)
+    wanted = row.said.replace("messages", "the same files")
     names = answers[-1].hazards
+    if VERSIONS and (differs == NEITHER or differs == "the same files" and row.hazard not in names):
+        return []
+    faults = [] if differs == wanted else [f"seen: {differs}; the row says: {row.said}"]
     return faults if row.hazard in names else [*faults, f"named: {' '.join(names) or 'nothing'}"]
 
 
@@ -365,7 +423,8 @@ def groups_of(text):
 
 def random_line(chance):
     """A line of the input, `-c` and one to eight groups of words, one in eight of these known to hazards."""
-    compiler = chance.choice(["gcc", "gcc", "gcc", "g++", "clang", "clang", "clang", "clang++", "clang-cl", "clang-cl"])
+    weighted = ["gcc", "gcc", "gcc", "g++", "clang", "clang", "clang", "clang++", "clang-cl", "clang-cl"]
+    compiler = chance.choice([it for it in weighted if it in COMPILERS])
     family = "clang-cl" if compiler == "clang-cl" else "gnu"
     own = {"g++": "gcc", "clang++": "clang", "clang-cl": ""}.get(compiler, compiler)
     usual, known = groups_of(USUAL[family]), [*groups_of(KNOWN[family]), *groups_of(KNOWN.get(own, ""))]
@@ -387,10 +446,10 @@ def random_tries(program, chance, count, folder):
 
 
 def try_random(program, rows, count, seed, folder):
-    of_messages = {row.hazard for row in rows if row.said == "messages"}
+    of_others = {*COMPARED, *(row.hazard for row in rows if row.said == "messages")}
     differing = unnamed = flagged = 0
     for line, answer, differs in random_tries(program, random.Random(seed), count, folder):
-        is_other, has_name = differs != "the same files", bool(set(answer.hazards) - of_messages)
+        is_other, has_name = differs != "the same files", bool(set(answer.hazards) - of_others)
         differing += is_other
         unnamed += is_other and not has_name
         flagged += has_name and not is_other
@@ -406,8 +465,32 @@ def called_wrongly(told=None):
     return 64
 
 
+def take_compiler(name):
+    """Sets that this compiler is tried in the place of its kind, in each of its drivers, and no other."""
+    kind = next((it for it in ("clang", "gcc") if name.startswith(it)), None)
+    if kind is None or not shutil.which(name):
+        return False
+    version = subprocess.run([name, "-dumpfullversion", "-dumpversion"] if kind == "gcc" else [name, "-dumpversion"], stdout=subprocess.PIPE, text=True)
+    drivers = {kind: [name], {"gcc": "g++", "clang": "clang++"}[kind]: [name.replace("gcc", "g++").replace("clang", "clang++")]}
+    PROGRAMS.update({it: [words] for it, words in drivers.items()})
+    PROGRAMS["clang-cl"] = [[name, "--driver-mode=cl"]]
+    COMPILERS[:] = [it for it in COMPILERS if it in drivers or it == "clang-cl" and kind == "clang"]
+    VERSIONS.update(dict.fromkeys(COMPILERS, ".".join(version.stdout.split(".")[:2])))
+    return True
+
+
+def chosen_rows(rows, numbers):
+    """The rows of these numbers, or all, with the command lines of compilers that are tried."""
+    kept = [Row(it.number, it.hazard, [line for line in it.lines if line.compiler in COMPILERS], it.said) for it in rows]
+    return [row for row in kept if row.lines and (not numbers or row.number in numbers)]
+
+
 def main():
     arguments = sys.argv[1:]
+    if arguments[1:2] == ["--compiler"]:
+        if not take_compiler("".join(arguments[2:3])):
+            return called_wrongly(f"{''.join(arguments[2:3])}: no gcc or clang of this name")
+        del arguments[1:3]
     is_random = arguments[1:2] == ["--random"]
     numbers = arguments[2:] if is_random else arguments[1:]
     if not arguments or arguments[0].startswith("-") or not all(map(str.isdigit, numbers)) or is_random and len(numbers) not in (1, 2):
@@ -425,7 +508,7 @@ def main():
         absent = set() if is_random else set(numbers) - {row.number for row in rows}
         if absent:
             return called_wrongly(f"docs/LIMITS.md has no row {min(absent)}")
-        chosen = [row for row in rows if is_random or not numbers or row.number in numbers]
+        chosen = chosen_rows(rows, [] if is_random else numbers)
         lacking = lacking_of(COMPILERS if is_random else {line.compiler for row in chosen for line in row.lines})
         if lacking:
             return called_wrongly(f"not there: {', '.join(lacking)}")

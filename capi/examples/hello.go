@@ -1,8 +1,9 @@
-// go run hello.go, with CGO_CFLAGS=-I.. and CGO_LDFLAGS=../build/libscl.a: the command of a line, what became of its options,
-// and its hazards, by the rows of a description (docs/PROTOCOL.md).
+// go run hello.go, where pkg-config finds scl: the command of a line, what became of its options, and its hazards, by the rows of a
+// description (docs/PROTOCOL.md).
 package main
 
 /*
+#cgo pkg-config: scl
 #include "scl.h"
 */
 import "C"
@@ -26,7 +27,7 @@ func Describe(request []byte) ([]string, error) {
 			return strings.SplitAfter(string(room[:wanted]), "\n"), nil
 		case C.SCL_SHORT:
 			room = make([]byte, wanted)
-		case C.SCL_BAD:
+		case C.SCL_BAD, C.SCL_NEWER:
 			return nil, fmt.Errorf("bad line %d", wanted)
 		default:
 			return nil, fmt.Errorf("out of memory")

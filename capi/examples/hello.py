@@ -1,5 +1,5 @@
-"""python3 hello.py COMPILER WORD..: the command to run in the place of the words, what it makes, and its hazards. It wants scl.py on
-PYTHONPATH, and libscl.so where the loader finds it (or SCL_LIBRARY)."""
+"""python3 hello.py COMPILER WORD..: the command to run in the place of the words, what it makes, and its hazards. It wants PYTHONPATH to
+name the folder of scl.py, as /usr/local/share/scl, and libscl.so.1 where the loader finds it (or SCL_LIBRARY)."""
 import os
 import sys
 

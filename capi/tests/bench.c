@@ -1,5 +1,5 @@
 /* bench ROUNDS: microseconds of processor time a call takes: the least of five times so many, for a command of gcc of
- * twenty words, by text and by struct, with and without the runs and the questions. */
+ * twenty words, by text and by struct, with and without what can be left out. */
 #define _POSIX_C_SOURCE 200809L
 #include <stdio.h>
 #include <time.h>
@@ -62,12 +62,7 @@ int main(int argc, char **argv) {
     measure("scl_run", by_text, rounds);
     measure("scl_describe", by_rows, rounds);
     measure("scl_ask_new", by_struct, rounds);
-    request.wants_runs = true;
-    measure("scl_ask_new, with runs", by_struct, rounds);
-    request.wants_questions = true;
-    measure("scl_ask_new, and with questions", by_struct, rounds);
-    request.wants_runs = request.wants_questions = false;
-    request.wants_hazards = true;
-    measure("scl_ask_new, with hazards", by_struct, rounds);
+    request.wants_runs = request.wants_questions = request.wants_hazards = request.wants_options = true;
+    measure("scl_ask_new, with all", by_struct, rounds);
     return 0;
 }

@@ -1,5 +1,5 @@
-/* faults: refuses each request for memory of calls in turn, tries each room from 0 to what is wanted, asks a request of
- * zeros, and calls from eight threads at once. Linked with --wrap=malloc, realloc and free. Prints a line for each; the
+/* faults: refuses each request for memory of calls in turn, tries each room from 0 to what is wanted, asks requests of zeros
+ * and of no memory, hands in a wrong catalogue, and calls from eight threads at once. Linked with --wrap=malloc, realloc and free. Prints a line for each; the
  * status is 0 if all is well. */
 #include <pthread.h>
 #include <stdio.h>
@@ -37,6 +37,8 @@ void __wrap_free(void *p) {
 static const char text[] = "compiler clang\ncwd /w\nword -c\nword a.c\nword -MD\nword -Xclang\nword -fno-pch-timestamp\nword @r\n"
                            "word -arch\nword arm64\nmultiarch\nenv A\tB\nfile /w/r\t-DQ\\x20-O1\nexists /w/z.pdb\n";
 
+static const char catalogue[] = "hazard of-one-line object\n    clang: input a.c\n";
+
 static int32_t call(scl_respond *by, uint8_t *room, size_t len, size_t *wanted) { return by((const uint8_t *)text, sizeof text - 1, room, len, wanted); }
 
 static int is_filled(const void *at, size_t len) {
@@ -72,6 +74,29 @@ static int texts(const char *name, scl_respond *by) {
     }
     printf("%s: %d refusals and %zu rooms\n", name, refused, length + 1);
     return 0;
+}
+
+/* By a catalogue of one hazard, which the request has. */
+static int32_t by_catalogue(const uint8_t *request, size_t request_len, uint8_t *room, size_t room_len, size_t *wanted) {
+    return scl_describe_with((const uint8_t *)catalogue, sizeof catalogue - 1, request, request_len, room, room_len, wanted);
+}
+
+/* A wrong line is told by its number, before the request is read; and NULL with the length 0 is an empty text. */
+static int catalogues(void) {
+    static const char wrong[] = "# one\n\nhazard\n";
+    uint8_t room[4096];
+    size_t wanted = 0;
+    if (by_catalogue((const uint8_t *)text, sizeof text - 1, room, sizeof room, &wanted) || !strstr((char *)room, "hazard of-one-line\n")) FAIL("the catalogue's hazard is not told");
+    memset(room, 0xAA, sizeof room);
+    if (scl_describe_with((const uint8_t *)wrong, sizeof wrong - 1, (const uint8_t *)"?", 1, room, sizeof room, &wanted) != SCL_BAD_CATALOGUE || wanted != 3)
+        FAIL("a wrong line has the number %zu", wanted);
+    if (!is_filled(room, sizeof room)) FAIL("a wrong catalogue is answered");
+    if (scl_describe_with(NULL, 0, NULL, 0, NULL, 0, &wanted) != SCL_BAD || wanted != 1) FAIL("line %zu of no request is bad", wanted);
+    if (scl_describe(NULL, 0, NULL, 0, &wanted) != SCL_BAD || wanted != 1 || scl_run(NULL, 0, NULL, 0, &wanted) != SCL_BAD || wanted != 1) FAIL("no request is answered");
+    if (scl_describe((const uint8_t *)text, sizeof text - 1, NULL, 0, &wanted) != SCL_SHORT || !wanted) FAIL("no room is not too short");
+    if (scl_version() != SCL_PROTOCOL) FAIL("the library is of protocol %u", (unsigned)scl_version());
+    printf("a catalogue, a wrong one, and no memory at all\n");
+    return live != 0;
 }
 
 /* The same with memory of its own. */
@@ -242,5 +267,5 @@ int main(void) {
     static uint8_t whole[2048];
     size_t wanted = 0;
     if (call(scl_run, whole, sizeof whole, &wanted) != SCL_OK) FAIL("scl_run does not answer");
-    return texts("scl_run", scl_run) || texts("scl_describe", scl_describe) || new_texts("scl_describe", scl_describe) || structs() || zeros() || threads(whole);
+    return texts("scl_run", scl_run) || texts("scl_describe", scl_describe) || texts("scl_describe_with", by_catalogue) || catalogues() || new_texts("scl_describe", scl_describe) || structs() || zeros() || threads(whole);
 }

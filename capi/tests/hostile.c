@@ -1,5 +1,5 @@
 /* hostile N SEED: N random hostile requests, in this process: words cut and put together of flags, paths, NULs and random
- * bytes, and files that name each other. All calls answer them; every status but those of the header, a text that is not
+ * bytes, files that name each other, and catalogues of right and wrong lines. All calls answer them; every status but those of the header, a text that is not
  * NUL terminated, or an answer that points elsewhere than into its memory ends it with status 1. */
 #include <stdio.h>
 #include "scl.h"
@@ -20,6 +20,9 @@ static const char *const pieces[] = {"-c", "-o", "-x", "c++", "a.c", "b.cc", "a.
                                      "-fprofile-use=", "-E", "-S", "-isystem", "\\", "\"", "'", " ", "=", ",", "\n", "\xff\xfe", "a\\b", "-include",
                                      "-fmodules", "-Xpreprocessor", "-Wa,", "-O2", "-Wall", "-D@", "-fdiagnostics-color=", "never", "-emit-pch"};
 static const char *const names[] = {"gcc", "g++", "clang", "clang++", "cl", "clang-cl", "diab", "tasking", "rustc", ""};
+
+static const char *const lines[] = {"# a\n", "group A: raw * | flag -I & value *\n", "hazard h object\n", "hazard i messages\n", "    says So it is.\n",
+                                    "    gcc, clang: any A ; not input *\n", "    gcc since 12: any raw *\n", "    clang-cl: language c*\n", "    gcc: unfollowed A > raw *\n"};
 
 static uint8_t heap[1 << 16];
 static size_t used;
@@ -61,6 +64,18 @@ static size_t request_text(const scl_request *r, uint8_t *to) {
     return len;
 }
 
+static size_t catalogue_text(uint8_t *to) {
+    size_t len = 0, count = below(8);
+    while (count--) {
+        const char *line = lines[below(sizeof lines / sizeof *lines)];
+        memcpy(to + len, line, strlen(line));
+        len += strlen(line);
+    }
+    /* (now and then a byte is turned) */
+    if (len && !below(3)) to[below(len)] = (uint8_t)next();
+    return len;
+}
+
 static int is_text(scl_bytes text) { return text.at[text.len] == 0; }
 
 static int are_texts(scl_words words) {
@@ -79,9 +94,9 @@ static int is_sound(const scl_answer *a) {
 }
 
 int main(int argc, char **argv) {
-    unsigned long count = argc > 1 ? strtoul(argv[1], 0, 10) : 100000, statuses[2][5] = {{0}};
+    unsigned long count = argc > 1 ? strtoul(argv[1], 0, 10) : 100000, statuses[2][8] = {{0}};
     state = (argc > 2 ? strtoull(argv[2], 0, 10) : 1) * 0x9E3779B97F4A7C15u + 1;
-    static uint8_t text[1 << 19], room[1 << 16];
+    static uint8_t text[1 << 19], room[1 << 16], catalogue[1 << 10];
     for (unsigned long i = 0; i < count; i++) {
         scl_bytes words[16];
         scl_pair files[3], variables[2];
@@ -108,21 +123,22 @@ int main(int argc, char **argv) {
         request.wants_hazards = below(2);
         scl_given given;
         int32_t status = scl_ask_new(&request, &given);
-        if (status < 0 || status > SCL_TOO_MANY_WORDS || status == SCL_SHORT || status == SCL_NO_MEMORY || (status == SCL_OK && !is_sound(&given.answer))) {
+        if (status < 0 || (status > SCL_TOO_MANY_WORDS && status != SCL_NEWER) || status == SCL_SHORT || status == SCL_NO_MEMORY || (status == SCL_OK && !is_sound(&given.answer))) {
             printf("hostile: request %lu is answered with status %d\n", i, (int)status);
             return 1;
         }
         if (status == SCL_OK) scl_free(&given);
         statuses[0][status]++;
-        size_t wanted, size = request_text(&request, text);
-        status = (below(2) ? scl_run : scl_describe)(text, size, room, below(4) ? sizeof room : below(256), &wanted);
-        if (status < 0 || status > SCL_BAD) {
+        size_t wanted, size = request_text(&request, text), len_of_catalogue = catalogue_text(catalogue), room_len = below(4) ? sizeof room : below(256), which = below(3);
+        if (which < 2) status = (which ? scl_run : scl_describe)(text, size, room, room_len, &wanted);
+        else status = scl_describe_with(catalogue, len_of_catalogue, text, size, room, room_len, &wanted);
+        if (status < 0 || (status > SCL_BAD && (status != SCL_BAD_CATALOGUE || which < 2))) {
             printf("hostile: the text of request %lu is answered with status %d\n", i, (int)status);
             return 1;
         }
         statuses[1][status]++;
     }
-    printf("%lu hostile requests: scl_ask told %lu, knew no compiler for %lu, met too many words in %lu; texts were told %lu times, too long for the room %lu times, and had a bad line %lu times\n", count,
-           statuses[0][SCL_OK], statuses[0][SCL_BAD], statuses[0][SCL_TOO_MANY_WORDS], statuses[1][SCL_OK], statuses[1][SCL_SHORT], statuses[1][SCL_BAD]);
+    printf("%lu hostile requests: scl_ask told %lu, knew no compiler for %lu, met too many words in %lu; texts were told %lu times, too long for the room %lu times, had a bad line %lu times, and a wrong catalogue %lu times\n", count,
+           statuses[0][SCL_OK], statuses[0][SCL_BAD], statuses[0][SCL_TOO_MANY_WORDS], statuses[1][SCL_OK], statuses[1][SCL_SHORT], statuses[1][SCL_BAD], statuses[1][SCL_BAD_CATALOGUE]);
     return 0;
 }

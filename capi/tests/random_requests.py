@@ -1,7 +1,7 @@
-"""random_requests.py PATH_OF_CCLINE PATH_OF_DESCRIBE N SEED: N random requests, each answered by scl.run, scl.ask and
-scl.describe, and by the programs ccline and describe. The texts must be the same byte for byte, and so must be what
-scl.ask tells and the rows of describe. It wants scl.py on PYTHONPATH and SCL_LIBRARY. Prints how many were answered how;
-the status is 1 where two answers differ."""
+"""random_requests.py CCLINE DESCRIBE TOLD N SEED: N random requests, with files, an environment and settings. What the programs
+ccline and describe answer must be, byte for byte, what scl.run and scl.describe give; what the structs of scl.h (by TOLD, of
+told.c) and scl.ask tell must be the rows of describe. It wants scl.py on PYTHONPATH and SCL_LIBRARY. Prints how many were answered
+how; the status is 1 where two answers differ."""
 import random
 import subprocess
 import sys
@@ -14,28 +14,21 @@ WORDS = [b"-c", b"-o", b"a.o", b"a.c", b"b.cc", b"-O2", b"-MD", b"-MF", b"x.d", 
          b"-g", b"-Wall", b"-E", b"-arch", b"arm64", b"-fPIC", b"-include", b"p.h", b"-Xclang", b"-fmodules", b"-Wp,-MD,y.d", b"-S",
          b"--coverage", b"-gsplit-dwarf", b"/c", b"/Foq.obj", b"/Zi", b"/Fdz.pdb", b"/FS", b"--", b"-", b"", b"\xff\x00\n", b"-isystem",
          b"-fprofile-generate", b"-Xpreprocessor", b"-MT", b"t", b"-MMD", b"-fdebug-prefix-map=a=b", b"-fprofile-use=p", b"-clang:-MD"]
-FILES = [(b"/w/r", b"-DQ -O1")]
-
-
-def escaped(word):
-    return "".join(chr(byte) if 0x21 <= byte <= 0x7E and byte != 0x5C else "\\x%02x" % byte for byte in word)
-
-
-def text_of(answer):
-    if answer.outcome == scl.NOT_COMPILATION:
-        return b"not-compilation\n"
-    if answer.outcome == scl.CANNOT_CACHE:
-        return b"cannot-cache %s\n" % answer.reason
-    lines = ["ok", *[f"arg {escaped(it)}" for it in answer.command], f"cacheable {'yes' if answer.is_cacheable else 'no'}", ""]
-    return "\n".join(lines).encode()
+FILES = [(b"/w/r", b"-DQ -O1"), (b"/w/s", b"@r '-DS=a b' -MT\n"), (b"/w/b", b"\xff\xfe\x00")]
+VARIABLES = [(b"CL", b"/DZ"), (b"_CL_", b"/O2 \xff"), (b"LANG", b"C"), (b"A B", b"")]
+VERSIONS = [b"14.0.6", b"12", b"9.3", b"clang version 15.0.7", b"\xce\xbb"]
 
 
 def request_of(chance):
+    """What is asked, as scl.request takes it."""
     name = chance.choice(COMPILERS)
     words = [b"/c" if name.endswith(b"cl") else b"-c"] * (chance.random() < 0.8) + [b"a.c"] * (chance.random() < 0.7)
     words += chance.choices(WORDS, k=chance.randrange(8))
     chance.shuffle(words)
-    return name, words, chance.random() < 0.3
+    named = {"environment": chance.sample(VARIABLES, chance.randrange(3)), "files": chance.sample(FILES, chance.randrange(4)),
+             "existing": [b"/w/z.pdb"] * (chance.random() < 0.5), "directories": [b"/w/p"] * (chance.random() < 0.5),
+             "version": chance.choice(VERSIONS) if chance.random() < 0.5 else b"", "most_words": chance.choice([0, 0, 0, 1000, 4])}
+    return name, words, {**named, **{it: chance.random() < 0.3 for it in scl.SETTINGS}}
 
 
 def rows_in(text):
@@ -46,19 +39,12 @@ def rows_in(text):
     return rows
 
 
-LISTS = {"dependency": "dependency", "preprocessor": "preprocessor", "common": "common", "arch": "arch", "unhashed": "unhashed",
-         "dist": "dist_files", "hash": "hash_files"}
-SWITCHES = {"double-dash-input": "double_dash_input", "external-assembler": "uses_external_assembler", "show-includes": "show_includes",
-            "explicit-language": "explicit_language", "profile-generate": "profile_generate", "no-rewrite-includes-only": "suppress_rewrite_includes_only"}
-
-
 def record_rows(record):
     """The rows of a record, by what scl.ask tells."""
-    rows = {name: [[word] for word in getattr(record.lists, of)] for name, of in LISTS.items()}
-    rows.update({name: [[]] if getattr(record, of) else [] for name, of in SWITCHES.items()})
-    rows.update({name: [] if word is None else [[word]] for name, word in (("depfile", record.depfile), ("too-hard", record.too_hard))})
+    rows = {name: [[word] for word in getattr(record.lists, of)] for name, of in scl.LISTS.items()}
+    rows.update({name: [[]] if getattr(record, of) else [] for name, of in scl.SWITCHES.items()})
+    rows.update({name: [] if getattr(record, of) is None else [[getattr(record, of)]] for name, of in scl.TEXTS.items()})
     rows["output"] = [[name, path] + [b"optional"] * is_optional for name, path, is_optional in record.outputs]
-    rows["input"], rows["compilation-flag"] = [[record.input]], [[record.compilation_flag]]
     rows["language"], rows["color"] = [[record.language.encode()]], [[record.color.encode()]]
     return rows
 
@@ -67,45 +53,72 @@ def rows_of(answer):
     """What the rows of a description must be, by what scl.ask tells."""
     rows = record_rows(answer.record) if answer.outcome == scl.COMPILED else {}
     if answer.outcome == scl.COMPILED:
-        rows["run"], rows["environment"] = answer.runs, [list(pair) for pair in answer.environment]
-        rows["hazard"] = [[name.encode()] for name in answer.hazards]
+        rows.update({"run": answer.runs, "environment": [list(pair) for pair in answer.environment], "hazard": [[it.encode()] for it in answer.hazards],
+                     "arg": [[it] for it in answer.command], "cacheable": [[b"yes" if answer.is_cacheable else b"no"]]})
     if answer.outcome == scl.CANNOT_CACHE:
-        rows["reason"], rows["because"] = [[answer.reason]], [] if answer.text is None else [[answer.text]]
+        rows.update({"reason": [[answer.reason]], "because": [] if answer.text is None else [[answer.text]], "sentence": [[answer.sentence]]})
     kinds = {"file": answer.questions.files, "dir": answer.questions.directories, "exists": answer.questions.existing}
     rows["wants"] = [[kind.encode(), path] for kind, paths in kinds.items() for path in paths]
-    return rows
+    return {**rows, "option": answer.options, "at": [] if answer.at is None else [[b"%d" % answer.at]]}
 
 
-def main(ccline, describe, count, seed):
+def differs(request, name, told, said):
+    sys.exit(f"random_requests: {name} differs: {request!r}: {told!r}, {said!r}")
+
+
+def check_ask(name, words, named, said):
+    """scl.ask tells the rows of describe; gives how it is answered."""
+    try:
+        answer = scl.ask(name, words, b"/w", **named, wants_runs=True, wants_questions=True, wants_hazards=True, wants_options=True)
+    except scl.TooManyWords:
+        if "too-many-words" not in said:
+            differs(named, "too-many-words", True, said)
+        return "of too many words"
+    for row, told in rows_of(answer).items():
+        if told != said.get(row, []):
+            differs((name, words, named), row, told, said.get(row))
+    return ("compiled", "cannot cache", "no compilation")[answer.outcome]
+
+
+def check_told(request, told, said):
+    """The structs tell the rows of describe, all but the version's and the line that says why nothing is cached."""
+    told, said = rows_in(told), {name: of for name, of in said.items() if name not in ("version", "cannot-cache")}
+    if said.pop("too-many-words", None):
+        said = {"status": [[b"4"]]}
+    if told != said:
+        differs(request, "told", told, said)
+
+
+def answers(program, requests):
+    """What a program answers to many requests, each ended by a line `end`."""
+    ran = subprocess.run(program, input=b"".join(it + b"end\n" for it in requests), stdout=subprocess.PIPE, check=True).stdout
+    return [it + b"\n" for it in ran.split(b"\nend\n")[:-1]]
+
+
+def main(ccline, describe, told, count, seed):
     chance, kinds, hazards = random.Random(seed), Counter(), 0
-    for _ in range(count):
-        name, words, is_multiarch = request_of(chance)
-        lines = [f"compiler {name.decode()}", "cwd /w", *[f"word {escaped(it)}" for it in words], "file /w/r\t-DQ\\x20-O1", "env CL\t/DZ", "exists /w/z.pdb"]
-        request = ("\n".join(lines + ["multiarch"] * is_multiarch) + "\n").encode()
-        answer = scl.ask(name, words, b"/w", environment=[(b"CL", b"/DZ")], files=FILES, existing=[b"/w/z.pdb"], is_multiarch=is_multiarch,
-                         wants_runs=True, wants_questions=True, wants_hazards=True)
-        ran = subprocess.run([ccline], input=request, stdout=subprocess.PIPE, check=True).stdout
-        texts = {"ccline": ran, "scl_run": scl.run(request), "scl_ask": text_of(answer)}
-        if len(set(texts.values())) > 1:
-            sys.exit(f"random_requests: answers differ: {request!r}: {texts!r}")
-        said = subprocess.run([describe], input=request, stdout=subprocess.PIPE, check=True).stdout
+    asked = [request_of(chance) for _ in range(count)]
+    requests = [scl.request(name, words, b"/w", **named) for name, words, named in asked]
+    for (name, words, named), request, said, structs in zip(asked, requests, answers([describe, "--batch"], requests), answers([told], requests), strict=True):
+        plain = b"".join(it for it in request.splitlines(keepends=True) if not it.startswith(b"setting "))
+        ran = subprocess.run([ccline], input=plain, stdout=subprocess.PIPE, check=True).stdout
+        if scl.run(plain) != ran:
+            differs(plain, "scl_run", scl.run(plain), ran)
         if scl.describe(request) != said:
-            sys.exit(f"random_requests: descriptions differ: {request!r}: {scl.describe(request)!r}, {said!r}")
-        told, rows = rows_of(answer), rows_in(said)
-        for name, of in told.items():
-            if of != rows.get(name, []):
-                sys.exit(f"random_requests: {name} differs: {request!r}: {of!r}, {rows.get(name)!r}")
-        kinds[("compiled", "cannot cache", "no compilation")[answer.outcome]] += 1
-        hazards += len(told.get("hazard", []))
+            differs(request, "scl_describe", scl.describe(request), said)
+        rows = rows_in(said)
+        kinds[check_ask(name, words, named, rows)] += 1
+        check_told(request, structs, rows)
+        hazards += len(rows.get("hazard", []))
     counts = ", ".join(f"{number} {kind}" for kind, number in sorted(kinds.items()))
-    print(f"{count} random requests: the calls, ccline and describe agree: {counts}; {hazards} hazards")
+    print(f"{count} random requests: the calls, the structs, ccline and describe agree: {counts}; {hazards} hazards")
 
 
 def raises(error, call, *given, **named):
     try:
         call(*given, **named)
-    except error:
-        return
+    except error as it:
+        return it
     sys.exit(f"random_requests: {call.__name__}{given} does not raise {error.__name__}")
 
 
@@ -120,10 +133,16 @@ def errors():
     raises(scl.TooManyWords, scl.ask, b"gcc", [b"-c", b"a.c", b"@0"], files=[*nothing, (b"19", b"")])
     raises(scl.BadLine, scl.run, b"compiler gcc\nword \xff\n")
     raises(scl.BadLine, scl.run, b"word -c\n")
+    raises(scl.Newer, scl.ask, b"gcc", [b"-c", b"a.c"], settings=[b"what-none-knows"])
+    raises(scl.Newer, scl.describe, b"compiler gcc\nsetting what-none-knows 1\n")
+    if raises(scl.BadCatalogue, scl.ask, b"gcc", [b"-c", b"a.c"], catalogue=b"# one\n\nwhat is this\n").number != 3:
+        sys.exit("random_requests: a catalogue's wrong line has another number")
+    if scl.ask(b"gcc", [b"-c", b"a.c", b"-MD", b"-MT", b"x", b"-MT", b"y"], catalogue=b"# none\n", wants_hazards=True).hazards:
+        sys.exit("random_requests: an empty catalogue knows hazards")
     if scl.rows(b"ok\na  \\x20\\x5cb\n") != [[b"ok"], [b"a", b"", b" \\b"]]:
         sys.exit("random_requests: rows are taken apart otherwise")
 
 
 if __name__ == "__main__":
     errors()
-    main(sys.argv[1], sys.argv[2], int(sys.argv[3]), int(sys.argv[4]))
+    main(*sys.argv[1:4], int(sys.argv[4]), int(sys.argv[5]))

@@ -1,24 +1,29 @@
 //! Describes the answer to the request on standard input (docs/RULES.md, The program).
 #![tactic(auto)]
 
+use bumpalo::Bump;
+use scl_catalogue_default::built_in_entries;
+use scl_catalogue_text::{ReadError, read};
 use scl_cl::{Counted, Outcome, serve_each};
-use scl_describe::{Descriptions, describe};
-use std::env;
+use scl_describe::{Catalogue, Descriptions, Entry, describe};
 use std::io::{self, ErrorKind};
 use std::process::ExitCode;
+use std::{env, fs};
 
 /// What `--help` prints.
 const HELP: &str = "\
 Describes what a compiler's command line means: the command to run in its place, what it reads and writes, and why.
 
-usage: describe            one request on standard input, its description on standard output
-       describe --batch    many requests, each ended by a line `end`; so is each description
+usage: describe [--catalogue FILE]            one request on standard input, its description on standard output
+       describe [--catalogue FILE] --batch    many requests, each ended by a line `end`; so is each description
        describe --help | --version
+
+Hazards are those of the catalogue FILE (catalogue/README.md), or of the built-in one.
 
 example: printf 'compiler gcc\\nword -c\\nword a.c\\n' | describe
 
 statuses: 0 answered, 2 a bad line (its number is on standard error), 3 out of memory, 4 reading or writing failed,
-          64 called with other words
+          64 called with other words, 65 a line of the catalogue is wrong (its number is on standard error)
 ";
 
 /// What the program is asked to do.
@@ -30,19 +35,41 @@ enum Call {
     Version,
 }
 
-/// What the words behind the program's name ask; none where they ask nothing that it does.
-fn call_of(rt: &HostRuntime) -> io::Result<Option<Call>> {
-    let mut words = env::args(rt)?.skip(1);
-    let call = match words.next() {
+/// What the program is asked to do, and the path of the catalogue that is handed in.
+#[derive(Drop)]
+struct Asked {
+    call: Call,
+    catalogue: Option<String>,
+}
+
+/// What a word asks, if it asks something that the program does; with a catalogue that is a description.
+fn call_named(word: Option<&str>, has_catalogue: bool) -> Option<Call> {
+    match word {
         None => Some(Call::One),
-        Some(word) => match word.as_str() {
-            "--batch" => Some(Call::Batch),
-            "--help" => Some(Call::Help),
-            "--version" => Some(Call::Version),
-            _ => None,
-        },
-    };
-    Ok(if words.next().is_none() { call } else { None })
+        Some("--batch") => Some(Call::Batch),
+        Some("--help") if !has_catalogue => Some(Call::Help),
+        Some("--version") if !has_catalogue => Some(Call::Version),
+        Some(_) => None,
+    }
+}
+
+/// What the words behind the program's name ask; none where they ask nothing that it does.
+fn asked_of(rt: &HostRuntime) -> io::Result<Option<Asked>> {
+    let mut words = env::args(rt)?.skip(1);
+    let mut word = words.next();
+    let mut catalogue = None;
+    if matches!(&word, Some(first) if first.as_str() == "--catalogue") {
+        let Some(path) = words.next() else {
+            return Ok(None);
+        };
+        catalogue = Some(path);
+        word = words.next();
+    }
+    let call = call_named(word.as_deref(), catalogue.is_some());
+    match call {
+        Some(call) if words.next().is_none() => Ok(Some(Asked { call, catalogue })),
+        Some(_) | None => Ok(None),
+    }
 }
 
 /// Tells a failure on standard error, and gives the status. Where standard error takes nothing, the status alone tells.
@@ -53,16 +80,79 @@ fn tell(rt: &HostRuntime, outcome: Outcome) -> u8 {
     outcome.status()
 }
 
-/// Describes what standard input asks, and gives the status.
-fn describe_input(rt: &HostRuntime, is_batch: bool) -> u8 {
+/// Describes what standard input asks, with the hazards of a catalogue, and gives the status.
+fn describe_by(rt: &HostRuntime, catalogue: &Catalogue<'_>, is_batch: bool) -> u8 {
     let mut reader = Counted::new(rt.stdin());
     let mut writer = Counted::new(rt.stdout());
     let outcome = if is_batch {
-        serve_each(rt.alloc(), &Descriptions, &mut reader, &mut writer)
+        serve_each(
+            rt.alloc(),
+            &Descriptions {
+                catalogue: *catalogue,
+            },
+            &mut reader,
+            &mut writer,
+        )
     } else {
-        describe(rt.alloc(), &mut reader, &mut writer)
+        describe(rt.alloc(), catalogue, &mut reader, &mut writer)
     };
     tell(rt, outcome)
+}
+
+/// The catalogue of entries that are built in, which name no group.
+fn catalogue_of<'a>(entries: &'a [Entry<'static>]) -> Catalogue<'a> {
+    Catalogue {
+        groups: &[],
+        entries,
+    }
+}
+
+/// Describes by entries that are built in, and gives the status.
+fn describe_by_entries(rt: &HostRuntime, entries: &[Entry<'static>], is_batch: bool) -> u8 {
+    let catalogue = catalogue_of(entries);
+    describe_by(rt, &catalogue, is_batch)
+}
+
+/// Describes by the built-in catalogue, and gives the status.
+fn describe_by_built_in(rt: &HostRuntime, is_batch: bool) -> u8 {
+    match built_in_entries(rt.alloc()) {
+        Ok(entries) => describe_by_entries(rt, &entries, is_batch),
+        Err(_) => tell(rt, Outcome::OutOfMemory),
+    }
+}
+
+/// Tells that a file can't be read, and gives the status.
+fn refuse_file(rt: &HostRuntime, path: &str, error: &io::Error) -> u8 {
+    if error.kind() == ErrorKind::OutOfMemory {
+        return tell(rt, Outcome::OutOfMemory);
+    }
+    let _ = eprintln!(rt; "describe: {path}: {error}");
+    Outcome::ReadFailed.status()
+}
+
+/// Describes by the catalogue of a file, or tells its first wrong line, and gives the status.
+fn describe_by_file(rt: &HostRuntime, path: &str, is_batch: bool) -> u8 {
+    let text = match fs::read(rt, path) {
+        Ok(text) => text,
+        Err(error) => return refuse_file(rt, path, &error),
+    };
+    let arena = Bump::new(rt.alloc());
+    match read(rt.alloc(), &arena, &text) {
+        Ok(catalogue) => describe_by(rt, &catalogue, is_batch),
+        Err(ReadError::BadLine(bad)) => {
+            let _ = eprintln!(rt; "describe: {path}:{}: {}", bad.line, bad.mistake);
+            65
+        }
+        Err(ReadError::Memory) => tell(rt, Outcome::OutOfMemory),
+    }
+}
+
+/// Describes what standard input asks, and gives the status.
+fn describe_input(rt: &HostRuntime, catalogue: Option<&str>, is_batch: bool) -> u8 {
+    match catalogue {
+        Some(path) => describe_by_file(rt, path, is_batch),
+        None => describe_by_built_in(rt, is_batch),
+    }
 }
 
 /// Says that it was called with other words, and gives the status.
@@ -81,11 +171,13 @@ fn write_text(rt: &HostRuntime, text: &str) -> u8 {
 }
 
 fn main(rt: HostRuntime) -> ExitCode {
-    ExitCode::from(match call_of(&rt) {
-        Ok(Some(Call::One)) => describe_input(&rt, false),
-        Ok(Some(Call::Batch)) => describe_input(&rt, true),
-        Ok(Some(Call::Help)) => write_text(&rt, HELP),
-        Ok(Some(Call::Version)) => write_text(&rt, "describe 1\n"),
+    ExitCode::from(match asked_of(&rt) {
+        Ok(Some(asked)) => match asked.call {
+            Call::One => describe_input(&rt, asked.catalogue.as_deref(), false),
+            Call::Batch => describe_input(&rt, asked.catalogue.as_deref(), true),
+            Call::Help => write_text(&rt, HELP),
+            Call::Version => write_text(&rt, "describe 1\n"),
+        },
         Err(error) if error.kind() == ErrorKind::OutOfMemory => tell(&rt, Outcome::OutOfMemory),
         Ok(None) | Err(_) => refuse_words(&rt),
     })

@@ -2,47 +2,17 @@
 use crate::arguments::{variables, working_directory};
 use crate::disk::SystemDisk;
 use crate::fault::{Fault, warn};
+use crate::file::{name_of, read_file};
 use crate::options::DatabaseArguments;
 use crate::progress::Progress;
+use scl_describe::About;
 use scl_explain::{Counts, Ending};
 use scl_report::{Batch, Database, ending_of_counts};
-use scl_shell::shown_briefly;
-use std::fs;
-use std::io::{self, BufWriter, ErrorKind, Read, Write};
-
-fn bytes_of(rt: &HostRuntime, path: &str) -> io::Result<Vec<u8>> {
-    if path == "-" {
-        let mut bytes = Vec::new(rt.alloc());
-        rt.stdin().read_to_end(&mut bytes)?;
-        return Ok(bytes);
-    }
-    fs::read(rt, path)
-}
-
-/// A database's path, as messages name it.
-fn database_name(rt: &HostRuntime, path: &str) -> Result<String, Fault> {
-    let alloc = rt.alloc();
-    match path {
-        "-" => Ok(String::from_str(alloc, "standard input")?),
-        "" => Ok(String::from_str(alloc, "''")?),
-        _ => Ok(shown_briefly(alloc, path.as_bytes())?),
-    }
-}
-
-fn read_file(rt: &HostRuntime, path: &str) -> Result<Vec<u8>, Fault> {
-    match bytes_of(rt, path) {
-        Ok(bytes) => Ok(bytes),
-        Err(error) if error.kind() == ErrorKind::OutOfMemory => Err(Fault::Memory),
-        Err(error) => {
-            let name = database_name(rt, path)?;
-            Err(Fault::Input(format!(in rt.alloc(); "{name}: {error}")?))
-        }
-    }
-}
+use std::io::{self, BufWriter, Write};
 
 fn answer_all<W: Write>(
     rt: &HostRuntime,
-    batch: &Batch,
+    batch: &Batch<'_>,
     database: &Database,
     writer: &mut W,
 ) -> Result<Counts, Fault> {
@@ -60,7 +30,11 @@ fn answer_all<W: Write>(
     Ok(counts)
 }
 
-fn answer_database(rt: &HostRuntime, batch: &Batch, database: &Database) -> Result<Ending, Fault> {
+fn answer_database(
+    rt: &HostRuntime,
+    batch: &Batch<'_>,
+    database: &Database,
+) -> Result<Ending, Fault> {
     let alloc = rt.alloc();
     let mut writer = BufWriter::new(alloc, io::writer(rt)).map_err(Fault::of_output)?;
     let counts = answer_all(rt, batch, database, &mut writer)?;
@@ -75,20 +49,25 @@ fn answer_database(rt: &HostRuntime, batch: &Batch, database: &Database) -> Resu
 }
 
 /// Answers each entry of a database.
-pub fn database(rt: &HostRuntime, asked: &DatabaseArguments) -> Result<Ending, Fault> {
+pub fn database<'a>(
+    rt: &HostRuntime,
+    about: About<'a>,
+    asked: &DatabaseArguments,
+) -> Result<Ending, Fault> {
     let alloc = rt.alloc();
     let path = asked.path.as_str();
     let bytes = read_file(rt, path)?;
     let database = match Database::of_text(alloc, &bytes)? {
         Ok(database) => database,
         Err(error) => {
-            let name = database_name(rt, path)?;
+            let name = name_of(rt, path)?;
             let line = format!(in alloc; "{name}: {error}")?;
             warn(rt, &line);
             return Ok(Ending::BadDatabase);
         }
     };
     let batch = Batch {
+        about,
         named: asked.compiler,
         base: working_directory(rt)?,
         env_vars: variables(rt)?,

@@ -6,6 +6,8 @@ mod arguments;
 mod batch;
 mod disk;
 mod fault;
+mod file;
+mod known;
 mod one;
 mod options;
 mod progress;
@@ -13,20 +15,24 @@ mod texts;
 
 use crate::arguments::raw_arguments;
 use crate::fault::{Fault, warn};
-use crate::options::{Wanted, read_options};
+use crate::options::{Options, Wanted, read_options};
 use scl_explain::Ending;
 use std::process::ExitCode;
 
+/// Does what the options ask for.
+fn answer(rt: &HostRuntime, options: &Options) -> Result<Ending, Fault> {
+    match &options.wanted {
+        Wanted::Done(ending) => Ok(*ending),
+        wanted => known::answer_by(rt, &options.known, wanted),
+    }
+}
+
 fn run(rt: &HostRuntime) -> Result<Ending, Fault> {
     let arguments = raw_arguments(rt)?;
-    match read_options(rt, &arguments)? {
-        Wanted::Done(ending) => Ok(ending),
-        Wanted::Explain(asked) => one::explain(rt, &asked),
-        Wanted::Command(asked) => one::command(rt, &asked),
-        Wanted::Check(asked) => one::check(rt, &asked),
-        Wanted::Database(asked) => batch::database(rt, &asked),
-        Wanted::Reasons => one::reasons(rt),
-    }
+    let options = read_options(rt, &arguments)?;
+    let ending = answer(rt, &options);
+    drop(options);
+    ending
 }
 
 fn main(rt: HostRuntime) -> ExitCode {

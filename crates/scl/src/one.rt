@@ -4,6 +4,7 @@ use crate::disk::SystemDisk;
 use crate::fault::{Fault, warn};
 use crate::options::LineArguments;
 use scl_cl::path;
+use scl_describe::{About, Catalogue};
 use scl_explain::{
     Case, CommandForm, Ending, Form, Paint, Reply, WordForm, check as check_reply,
     command as command_reply, explain as explain_reply,
@@ -69,13 +70,25 @@ fn form_of(rt: &HostRuntime, asked: &LineArguments) -> Form {
 }
 
 /// Says what a command line is.
-pub fn explain(rt: &HostRuntime, asked: &LineArguments) -> Result<Ending, Fault> {
+pub fn explain(
+    rt: &HostRuntime,
+    about: &About<'_>,
+    asked: &LineArguments,
+) -> Result<Ending, Fault> {
     let Some(case) = case_of(rt, asked)? else {
         return Ok(Ending::Usage);
     };
     let disk = SystemDisk { rt };
     let form = form_of(rt, asked);
-    let reply = explain_reply(rt.alloc(), &disk, &case, asked.multiarch, form, &Pages)?;
+    let reply = explain_reply(
+        rt.alloc(),
+        &disk,
+        about,
+        &case,
+        asked.multiarch,
+        form,
+        &Pages,
+    )?;
     say(rt, &reply)
 }
 
@@ -91,7 +104,11 @@ fn word_form(rt: &HostRuntime, asked: &LineArguments) -> WordForm {
 }
 
 /// Writes the command to run in the place of a command line.
-pub fn command(rt: &HostRuntime, asked: &LineArguments) -> Result<Ending, Fault> {
+pub fn command(
+    rt: &HostRuntime,
+    about: &About<'_>,
+    asked: &LineArguments,
+) -> Result<Ending, Fault> {
     let Some(case) = case_of(rt, asked)? else {
         return Ok(Ending::Usage);
     };
@@ -100,24 +117,40 @@ pub fn command(rt: &HostRuntime, asked: &LineArguments) -> Result<Ending, Fault>
         words: word_form(rt, asked),
         is_strict: asked.is_strict,
     };
-    let reply = command_reply(rt.alloc(), &disk, &case, asked.multiarch, form, &Pages)?;
+    let reply = command_reply(
+        rt.alloc(),
+        &disk,
+        about,
+        &case,
+        asked.multiarch,
+        form,
+        &Pages,
+    )?;
     say(rt, &reply)
 }
 
 /// Says which hazards a command line has.
-pub fn check(rt: &HostRuntime, asked: &LineArguments) -> Result<Ending, Fault> {
+pub fn check(rt: &HostRuntime, about: &About<'_>, asked: &LineArguments) -> Result<Ending, Fault> {
     let Some(case) = case_of(rt, asked)? else {
         return Ok(Ending::Usage);
     };
     let disk = SystemDisk { rt };
     let form = form_of(rt, asked);
-    let reply = check_reply(rt.alloc(), &disk, &case, asked.multiarch, form, &Pages)?;
+    let reply = check_reply(
+        rt.alloc(),
+        &disk,
+        about,
+        &case,
+        asked.multiarch,
+        form,
+        &Pages,
+    )?;
     say(rt, &reply)
 }
 
 /// Writes each reason and hazard.
-pub fn reasons(rt: &HostRuntime) -> Result<Ending, Fault> {
-    let text = reasons_text(rt.alloc())?;
+pub fn reasons(rt: &HostRuntime, catalogue: &Catalogue<'_>) -> Result<Ending, Fault> {
+    let text = reasons_text(rt.alloc(), catalogue)?;
     rt.stdout()
         .write_all(text.as_bytes())
         .map_err(Fault::of_output)?;

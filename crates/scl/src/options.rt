@@ -60,6 +60,24 @@ pub enum Wanted {
     Reasons,
 }
 
+/// What is known of compilers, by the command line.
+#[derive(Drop)]
+pub struct KnownArguments {
+    /// The path of the catalogue, if not the built-in one is meant.
+    pub catalogue: Option<String>,
+    /// The compiler's version, where it is told.
+    pub version: Option<String>,
+}
+
+/// What the command line says.
+#[derive(Drop)]
+pub struct Options {
+    /// What it asks for.
+    pub wanted: Wanted,
+    /// What is known of compilers.
+    pub known: KnownArguments,
+}
+
 /// The names of compilers, in the order of docs/RULES.md.
 static COMPILERS: [&str; 8] = [
     "gcc", "g++", "clang", "clang++", "cl", "clang-cl", "diab", "tasking",
@@ -68,7 +86,21 @@ static COMPILERS: [&str; 8] = [
 /// The kinds of entries.
 static KINDS: [&str; 3] = ["ok", "hazard", "refused"];
 
+fn with_catalogue<'a>(alloc: Global, command: Command<'a>) -> Result<Command<'a>, AllocError> {
+    let catalogue = Arg::new(alloc, "catalogue")
+        .long("catalogue")
+        .value_name("FILE")
+        .help("Name the hazards of this catalogue, and not of the built-in one");
+    command.arg(catalogue)
+}
+
 fn with_common<'a>(alloc: Global, command: Command<'a>) -> Result<Command<'a>, AllocError> {
+    let version = Arg::new(alloc, "version-known")
+        .long("compiler-version")
+        .value_name("VERSION")
+        .help(
+            "The compiler's version: 14 or 12.2 for hazards, 14.0.6 for runs, or a text that names Apple's",
+        );
     let compiler = Arg::new(alloc, "compiler")
         .long("compiler")
         .value_name("NAME")
@@ -78,7 +110,7 @@ fn with_common<'a>(alloc: Global, command: Command<'a>) -> Result<Command<'a>, A
         .long("multiarch")
         .action(ArgAction::SetTrue)
         .help("Allow several -arch");
-    command.arg(compiler)?.arg(multiarch)
+    with_catalogue(alloc, command.arg(compiler)?.arg(multiarch)?.arg(version)?)
 }
 
 fn with_json<'a>(alloc: Global, command: Command<'a>) -> Result<Command<'a>, AllocError> {
@@ -152,8 +184,11 @@ fn database_command<'a>(alloc: Global) -> Result<Command<'a>, AllocError> {
     with_common(alloc, with_json(alloc, command)?)
 }
 
-fn reasons_command<'a>(alloc: Global) -> Command<'a> {
-    Command::new(alloc, "reasons").about(texts::ABOUT_REASONS)
+fn reasons_command<'a>(alloc: Global) -> Result<Command<'a>, AllocError> {
+    with_catalogue(
+        alloc,
+        Command::new(alloc, "reasons").about(texts::ABOUT_REASONS),
+    )
 }
 
 fn whole_command<'a>(alloc: Global) -> Result<Command<'a>, AllocError> {
@@ -167,7 +202,7 @@ fn whole_command<'a>(alloc: Global) -> Result<Command<'a>, AllocError> {
         .subcommand(command_command(alloc)?)?
         .subcommand(check_command(alloc)?)?
         .subcommand(database_command(alloc)?)?
-        .subcommand(reasons_command(alloc))
+        .subcommand(reasons_command(alloc)?)
 }
 
 /// The words as text, with what is no text replaced, behind the program's name.
@@ -293,6 +328,40 @@ fn what_is_wanted(
     }
 }
 
+fn copied(alloc: Global, text: Option<&str>) -> Result<Option<String>, AllocError> {
+    match text {
+        Some(text) => Ok(Some(String::from_str(alloc, text)?)),
+        None => Ok(None),
+    }
+}
+
+/// What is known of compilers, by the words of the subcommand.
+fn what_is_known(alloc: Global, matches: &ArgMatches<'_>) -> Result<KnownArguments, AllocError> {
+    match matches.subcommand() {
+        Some((_, inner)) => Ok(KnownArguments {
+            catalogue: copied(alloc, inner.get_str("catalogue"))?,
+            version: copied(alloc, inner.get_str("version-known"))?,
+        }),
+        None => Ok(nothing_known()),
+    }
+}
+
+/// The built-in catalogue, and each version.
+fn nothing_known() -> KnownArguments {
+    KnownArguments {
+        catalogue: None,
+        version: None,
+    }
+}
+
+/// What is asked where nothing is left to do.
+fn done(wanted: Wanted) -> Options {
+    Options {
+        wanted,
+        known: nothing_known(),
+    }
+}
+
 /// A mistake in one line: what stands behind `error: ` and before the first empty line of its text.
 fn mistake_line(alloc: Global, text: &str) -> Result<String, AllocError> {
     let mut line = String::new(alloc);
@@ -335,14 +404,17 @@ fn matches_of<'a>(alloc: Global, words: &'a [String]) -> Result<ArgMatches<'a>, 
 }
 
 /// What the arguments ask for; help and mistakes are told.
-pub fn read_options(rt: &HostRuntime, arguments: &[Vec<u8>]) -> Result<Wanted, Fault> {
+pub fn read_options(rt: &HostRuntime, arguments: &[Vec<u8>]) -> Result<Options, Fault> {
     let alloc = rt.alloc();
     let words = shown_words(alloc, arguments)?;
     match matches_of(alloc, &words) {
         Ok(matches) => match wrong_argument(alloc, arguments, &matches)? {
-            Some(what) => Ok(wrong_words(rt, what.as_str())?),
-            None => Ok(what_is_wanted(alloc, arguments, &matches)?),
+            Some(what) => Ok(done(wrong_words(rt, what.as_str())?)),
+            None => Ok(Options {
+                wanted: what_is_wanted(alloc, arguments, &matches)?,
+                known: what_is_known(alloc, &matches)?,
+            }),
         },
-        Err(error) => tell(rt, &error),
+        Err(error) => Ok(done(tell(rt, &error)?)),
     }
 }

@@ -27,7 +27,7 @@ pub const ABOUT_REASONS: &str =
 
 /// How the program ends, and which compiler a command line is of.
 pub const STATUSES: &str =
-    "Statuses: 0 answered; 2 wrong words; 3 out of memory; 4 a file cannot be read or the answer not be written; 5 the database is broken or has entries that are none (all others are answered); 10 cannot be cached; 11 compiles nothing; 12 a hazard; 13 a word holds a NUL, so no process can be given the command; 14 there is a command, and its outcome may not be kept in the cache.
+    "Statuses: 0 answered; 2 wrong words, or a line of the catalogue is wrong; 3 out of memory; 4 a file cannot be read or the answer not be written; 5 the database is broken or has entries that are none (all others are answered); 10 cannot be cached; 11 compiles nothing; 12 a hazard; 13 a word holds a NUL, so no process can be given the command; 14 there is a command, and its outcome may not be kept in the cache.
 
 Which compiler: by the file name of the first word that is neither a launcher (ccache, sccache, distcc, icecc, env) nor an assignment (NAME=.., NAME of letters, digits and _); without .exe and a version it ends in clang-cl, clang++, clang, g++, gcc, c++ or cc (alone or behind a -), or is cl, dcc or cctc. cc and c++ are gcc and g++ unless --compiler says otherwise.
 
@@ -46,7 +46,7 @@ Example:
 
 /// How `command` ends, and calls of it.
 pub const EXAMPLE_COMMAND: &str =
-    "Ends with status 10 where the outcome cannot be cached, 11 where nothing is compiled, and 13 where a word holds a NUL; then no command is written. With --strict none is written where a hazard is named either, and the status is 12: run the command as given. With status 14 the command is written: it may be run, and its outcome may not be kept in the cache.
+    "Ends with status 10 where the outcome cannot be cached, 11 where nothing is compiled, and 13 where a word holds a NUL; then no command is written. With --strict none is written where a hazard concerns more than messages either, and the status is 12: run the command as given. With status 14 the command is written: it may be run, and its outcome may not be kept in the cache.
 
 The command is a line for any shell. On a terminal a word with a character that cannot be seen stands in $'..', which bash, zsh and ksh read; with -0 each word is written as it is.
 
@@ -59,7 +59,7 @@ Example:
 
 /// What `check` writes, how it ends, and calls of it.
 pub const EXAMPLE_CHECK: &str =
-    "Writes a line for each hazard, its name and what happens. Ends with status 12 where there is one, 0 where there is none, 10 where the outcome cannot be cached, 11 where nothing is compiled, 13 where a word holds a NUL, and 14 where no hazard is named and the outcome may not be kept in the cache. Hazards are known of gcc, clang and clang-cl.
+    "Writes a line for each hazard, its name and what happens. Ends with status 12 where there is one, 0 where there is none, 10 where the outcome cannot be cached, 11 where nothing is compiled, 13 where a word holds a NUL, and 14 where no hazard is named and the outcome may not be kept in the cache. Most hazards are known of gcc, clang and clang-cl.
 
 Example:
     scl check gcc -c src/foo.c -MD -MT one -MT two -o foo.o

@@ -1,4 +1,4 @@
-pub mod ReplyLemmas
-pub mod SizeLemmas
-pub mod TextLemmas
-pub mod ToldLemmas
+mod TextLemmas
+mod DescribedLemmas
+mod AgainLemmas
+mod CatalogueLemmas

@@ -1,6 +1,3 @@
 pub mod Texts
-pub mod Shapes
-pub mod Requests
-pub mod Replies
-pub mod Sizes
-pub mod Told
+pub mod Described
+pub mod Catalogues

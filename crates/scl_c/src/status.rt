@@ -6,11 +6,16 @@ pub(crate) const TOLD: i32 = 0;
 /// The memory that was handed in is too short.
 pub(crate) const TOO_SHORT: i32 = 1;
 
-/// The request is bad: it has a bad line, or its compiler is not served.
+/// The request has a bad line.
 pub(crate) const BAD: i32 = 2;
 
 /// Memory was refused.
 pub(crate) const NO_MEMORY: i32 = 3;
 
-/// A command line has more words than were allowed.
-pub(crate) const TOO_MANY_WORDS: i32 = 4;
+// (4 is the header's own: a description says `too-many-words`)
+
+/// The request's bad line asks a setting that is not known.
+pub(crate) const NEWER: i32 = 5;
+
+/// A line of the catalogue is wrong.
+pub(crate) const BAD_CATALOGUE: i32 = 6;

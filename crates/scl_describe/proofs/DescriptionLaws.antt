@@ -2,6 +2,7 @@
 use Rattle.std.proofs.Common.{◌≡◌, ℕ, true, false, cond, List, [], ◌∷◌, ◌++◌, map, codes, Option, None, Some, unwrap_or, refl, ap, sym, subst, ◌∙◌, append-nil, append_assoc}
 use Rattle.std.specs.List.{flat_map}
 use Rattle.std.proofs.lemmas.Grind.{flat_map-append}
+use Rattle.scl_catalogue.specs.Form.{Catalogue}
 use Rattle.scl_values.specs.Each.{Each}
 use Rattle.scl_values.specs.Escaped.{escaped}
 use Rattle.scl_text.specs.Records.{Parsed, parsed_of}
@@ -14,14 +15,14 @@ use Rattle.scl_description.specs.Lines.{line}
 use Rattle.scl_description.specs.Rows.{Entry, IsRow, lone, row_text, rows_text, rows_of, row_entry, entry, entry_text, entries_text}
 use Rattle.scl_description.specs.Records.{record_entries, record_in}
 use Rattle.scl_description.proofs.RecordLaws.{description-back-among}
-use Rattle.scl_hazards.specs.declared.hazard.Hazard.{Hazard}
+use Rattle.scl_hazards.specs.Hazards.{Hazard}
 use Rattle.scl_rows.specs.Rows.{refused_at, told, unless_owned}
 use Rattle.scl_rows.specs.declared.row.Row.{Row}
 use Rattle.scl_describe.specs.declared.described.Findings.{Findings}
 use Rattle.scl_reader.specs.declared.kept.Compilation.{Compilation}
 use Rattle.scl_describe.specs.OptionLines.{fields_given, kind_name, option_fields, option_rests, options_entry, options_given}
 use Rattle.scl_describe.specs.OptionRows.{rows_by}
-use Rattle.scl_describe.specs.Hazards.{hazards_by}
+use Rattle.scl_describe.specs.Hazards.{hazards_by, known_by}
 use Rattle.scl_reader.specs.QuestionsGiven.{given}
 use Rattle.scl_reader.specs.CommandLines.{Request}
 use Rattle.scl_cl.specs.AnswerTexts.{arg_line, text_of}
@@ -62,9 +63,9 @@ options-are (row ∷ rows) =
 abbrev all_entries : List Entry → Entry → List Hazard → Questions → List Entry
 all_entries outcome options hazards asks = version_entry ∷ [] ++ outcome ++ (options ∷ hazards_entry hazards ∷ question_entries asks)
 
-entries-are : (s : Settings) (r : Request) (found : Findings) → AreOf r found
-    → entries_given (runs_for s r.compiler) found ≡ answer_entries s r (map kind_name found.rows.items)
-entries-are s r found are =
+entries-are : (catalogue : Catalogue) (s : Settings) (r : Request) (found : Findings) → AreOf (known_by catalogue s.version) r found
+    → entries_given (runs_for s r.compiler) found ≡ answer_entries catalogue s r (map kind_name found.rows.items)
+entries-are catalogue s r found are =
     let runs : Parsed → List (List (List ℕ)) = runs_for s r.compiler in
     let kinds : List (List ℕ) = map kind_name found.rows.items in
     let outcome : outcome_given runs (refused_at (map told found.rows.items)) found.answer ≡ outcome_entries s r (answer_to r) (reading_by r.compiler r) =
@@ -76,22 +77,22 @@ entries-are s r found are =
     ap (λ es. all_entries es (options_given found.rows.items) found.hazards.items (given found.questions)) outcome
     ∙ ap (λ e. all_entries outcome_is e found.hazards.items (given found.questions)) options
     ∙ ap (λ hazards. all_entries outcome_is options_is hazards (given found.questions)) are.hazards
-    ∙ ap (all_entries outcome_is options_is (hazards_by r)) are.questions
+    ∙ ap (all_entries outcome_is options_is (hazards_by (known_by catalogue s.version) r)) are.questions
 
 -- the text of an answer and the rows behind it are a description
-pub is-description : (s : Settings) (r : Request) (text : List ℕ) (found : Findings) → has_at_most s.bound r ≡ true → AreOf r found
-    → text ≡ text_of (answer_of found.answer) ++ entries_text (entries_given (runs_for s r.compiler) found) → IsDescription s r text
-is-description s r text found within are is =
+pub is-description : (catalogue : Catalogue) (s : Settings) (r : Request) (text : List ℕ) (found : Findings) → has_at_most s.bound r ≡ true → AreOf (known_by catalogue s.version) r found
+    → text ≡ text_of (answer_of found.answer) ++ entries_text (entries_given (runs_for s r.compiler) found) → IsDescription catalogue s r text
+is-description catalogue s r text found within are is =
     let kinds : List (List ℕ) = map kind_name found.rows.items in (
       kinds,
       is
           ∙ ap (λ a. text_of a ++ entries_text (entries_given (runs_for s r.compiler) found)) are.answer
-          ∙ ap (λ es. text_of (answer_to r) ++ entries_text es) (entries-are s r found are)
-          ∙ ap (λ b. cond b (text_of (answer_to r) ++ entries_text (answer_entries s r kinds)) (entries_text too_many_entries)) (sym within),
+          ∙ ap (λ es. text_of (answer_to r) ++ entries_text es) (entries-are catalogue s r found are)
+          ∙ ap (λ b. cond b (text_of (answer_to r) ++ entries_text (answer_entries catalogue s r kinds)) (entries_text too_many_entries)) (sym within),
     )
 
-pub too-long : (s : Settings) (r : Request) (text : List ℕ) → has_at_most s.bound r ≡ false → text ≡ entries_text too_many_entries → IsDescription s r text
-too-long s r text within is = ([], is ∙ ap (λ b. cond b (text_of (answer_to r) ++ entries_text (answer_entries s r [])) (entries_text too_many_entries)) (sym within))
+pub too-long : (catalogue : Catalogue) (s : Settings) (r : Request) (text : List ℕ) → has_at_most s.bound r ≡ false → text ≡ entries_text too_many_entries → IsDescription catalogue s r text
+too-long catalogue s r text within is = ([], is ∙ ap (λ b. cond b (text_of (answer_to r) ++ entries_text (answer_entries catalogue s r [])) (entries_text too_many_entries)) (sym within))
 
 -- ---- a record is read back
 
@@ -119,22 +120,22 @@ abbrev in_order : (before after : List Entry) → Parsed → List Entry
 in_order before after p = before ++ record_entries p ++ after
 
 pub descriptions-back : DescriptionsReadBack
-descriptions-back s r kinds words kept p within compiles reads are =
+descriptions-back catalogue s r kinds words kept p within compiles reads are =
     let after : List Entry = runs_entry (runs_for s r.compiler p) ∷ environment_entry (environment_by r.compiler r.environment) ∷ [] in
-    let asks : List Entry = options_entry kinds (rows_by r) ∷ hazards_entry (hazards_by r) ∷ question_entries (questions_of r) in
+    let asks : List Entry = options_entry kinds (rows_by r) ∷ hazards_entry (hazards_by (known_by catalogue s.version) r) ∷ question_entries (questions_of r) in
     let before : List Entry = command_entries words kept ++ version_entry ∷ [] in
     let outcome : outcome_entries s r (answer_to r) (reading_by r.compiler r) ≡ record_entries p ++ after =
     ap (λ a. outcome_entries s r a (reading_by r.compiler r)) compiles ∙ ap (outcome_entries s r (compiled words kept)) reads in
-    let entries : command_entries words kept ++ answer_entries s r kinds ≡ in_order before (after ++ asks) p =
+    let entries : command_entries words kept ++ answer_entries catalogue s r kinds ≡ in_order before (after ++ asks) p =
     ap (λ es. command_entries words kept ++ (version_entry ∷ [] ++ es ++ asks)) outcome
     ∙ ap (λ es. command_entries words kept ++ (version_entry ∷ es)) (append_assoc (record_entries p) after asks)
     ∙ sym (append_assoc (command_entries words kept) (version_entry ∷ []) (record_entries p ++ (after ++ asks)))
     ∙ sym (append_assoc before (record_entries p) (after ++ asks)) in
-    let text : description s r kinds ≡ entries_text (in_order before (after ++ asks) p) =
-    ap (λ b. cond b (text_of (answer_to r) ++ entries_text (answer_entries s r kinds)) (entries_text too_many_entries)) within
-    ∙ ap (λ a. text_of a ++ entries_text (answer_entries s r kinds)) compiles
-    ∙ ap (λ t. t ++ entries_text (answer_entries s r kinds)) (command-rows words kept)
-    ∙ sym (flat_map-append entry_text (command_entries words kept) (answer_entries s r kinds))
+    let text : description catalogue s r kinds ≡ entries_text (in_order before (after ++ asks) p) =
+    ap (λ b. cond b (text_of (answer_to r) ++ entries_text (answer_entries catalogue s r kinds)) (entries_text too_many_entries)) within
+    ∙ ap (λ a. text_of a ++ entries_text (answer_entries catalogue s r kinds)) compiles
+    ∙ ap (λ t. t ++ entries_text (answer_entries catalogue s r kinds)) (command-rows words kept)
+    ∙ sym (flat_map-append entry_text (command_entries words kept) (answer_entries catalogue s r kinds))
     ∙ ap entries_text entries in
     ap record_in text
     ∙ description-back-among before (after ++ asks) p (command-beside words kept) (refl, (refl, (refl, (refl, (refl, (refl, (refl, tt))))))) (subst (λ es. Each IsRow (rows_of es)) entries are)

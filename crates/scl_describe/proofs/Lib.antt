@@ -3,3 +3,4 @@ pub mod ExplainedLaws
 pub mod DescriptionLaws
 pub mod RowLaws
 pub mod FindingLaws
+pub mod DecidedLaws

@@ -1,13 +1,13 @@
 -- The description of the answer to a request: the answer's lines, and behind them rows of what was read.
 use Rattle.std.specs.Prelude.{◌≡◌, ℕ, true, List, [], ◌∷◌, ◌++◌, map, codes, Option, Result, Ok, Err, unwrap_or, if◌then◌else◌}
+use Rattle.scl_catalogue.specs.Form.{Catalogue}
 use Rattle.scl_values.specs.Each.{Each}
 use Rattle.scl_text.specs.declared.records.Cacheable.{Cacheable}
 use Rattle.scl_text.specs.declared.records.Cacheable.TheVariants as cacheable
 use Rattle.scl_text.specs.Records.{Parsed, Verdict}
 use Rattle.scl_reasons.specs.Explanations.{text_for}
 use Rattle.scl_reasons.specs.Table.{other, table}
-use Rattle.scl_hazards.specs.Hazards as hazards
-use Rattle.scl_hazards.specs.declared.hazard.Hazard.{Hazard}
+use Rattle.scl_hazards.specs.Hazards.{Hazard}
 use Rattle.scl_rows.specs.Rows.{refused_at}
 use Rattle.scl_description.specs.Lines.{lines_of}
 use Rattle.scl_description.specs.Rows.{Entry, entry, row_entry, words_entry, maybe_entry, lone_entry, lone, IsRow, rows_of, entries_text}
@@ -19,7 +19,7 @@ use Rattle.scl_cl.specs.AnswerTexts.{text_of}
 use Rattle.scl_reader.specs.Answers.{Answer, compiled, cannot_cache, not_compilation, answer_to, reading_by, runs_with, environment_by}
 use Rattle.scl_describe.specs.OptionLines.{index_entry, options_entry}
 use Rattle.scl_describe.specs.OptionRows.{rows_by}
-use Rattle.scl_describe.specs.Hazards.{hazards_by}
+use Rattle.scl_describe.specs.Hazards.{hazards_by, known_by}
 use Rattle.scl_reader.specs.Questions.{Questions, questions_of}
 use Rattle.scl_describe.specs.Settings.{Settings, settings_in, request_lines}
 use Rattle.scl_reader.specs.Within.{has_at_most}
@@ -63,7 +63,7 @@ undone_entries at = index_entry (codes "at") at ∷ []
 
 -- the names of hazards
 abbrev pub hazards_entry : List Hazard → Entry
-hazards_entry found = words_entry (codes "hazard") (map (λ hazard. (hazards.told hazard).name) found)
+hazards_entry found = words_entry (codes "hazard") (map (λ hazard. hazard.name) found)
 
 -- ---- what the answer asks of the view
 
@@ -88,34 +88,34 @@ outcome_entries s request (cannot_cache reason beside) r = refused_entries reaso
 outcome_entries s request not_compilation r = undone_entries (refused_at (rows_by request))
 
 -- the rows behind the answer's lines, with the names of the kinds of flags
-abbrev pub answer_entries : Settings → Request → List (List ℕ) → List Entry
-answer_entries s request kinds =
+abbrev pub answer_entries : Catalogue → Settings → Request → List (List ℕ) → List Entry
+answer_entries catalogue s request kinds =
     version_entry ∷ []
     ++ outcome_entries s request (answer_to request) (reading_by request.compiler request)
-    ++ (options_entry kinds (rows_by request) ∷ hazards_entry (hazards_by request) ∷ question_entries (questions_of request))
+    ++ (options_entry kinds (rows_by request) ∷ hazards_entry (hazards_by (known_by catalogue s.version) request) ∷ question_entries (questions_of request))
 
 -- where a command line has more words than the bound
 abbrev pub too_many_entries : List Entry
 too_many_entries = lone_entry (codes "too-many-words") ∷ version_entry ∷ []
 
-abbrev pub description : Settings → Request → List (List ℕ) → List ℕ
-description s request kinds =
-    if has_at_most s.bound request then text_of (answer_to request) ++ entries_text (answer_entries s request kinds) else entries_text too_many_entries
+abbrev pub description : Catalogue → Settings → Request → List (List ℕ) → List ℕ
+description catalogue s request kinds =
+    if has_at_most s.bound request then text_of (answer_to request) ++ entries_text (answer_entries catalogue s request kinds) else entries_text too_many_entries
 
 -- the text describes the answer to the request; which names the kinds of flags have is not said
-abbrev pub IsDescription : Settings → Request → List ℕ → Type 0
-IsDescription s request text = (kinds : List (List ℕ)) × (text ≡ description s request kinds)
+abbrev pub IsDescription : Catalogue → Settings → Request → List ℕ → Type 0
+IsDescription catalogue s request text = (kinds : List (List ℕ)) × (text ≡ description catalogue s request kinds)
 
 -- what a description of the request may be, or the number of its bad line
-abbrev pub IsDescriptionOf : Settings → Result Request ℕ → Result (List ℕ) ℕ → Type 0
-IsDescriptionOf s (Ok request) (Ok text) = IsDescription s request text
-IsDescriptionOf s (Err n) (Err m) = n ≡ m
-IsDescriptionOf s (Ok request) (Err m) = ⊥
-IsDescriptionOf s (Err n) (Ok text) = ⊥
+abbrev pub IsDescriptionOf : Catalogue → Settings → Result Request ℕ → Result (List ℕ) ℕ → Type 0
+IsDescriptionOf catalogue s (Ok request) (Ok text) = IsDescription catalogue s request text
+IsDescriptionOf catalogue s (Err n) (Err m) = n ≡ m
+IsDescriptionOf catalogue s (Ok request) (Err m) = ⊥
+IsDescriptionOf catalogue s (Err n) (Ok text) = ⊥
 
 -- what may be answered to the bytes of a description's request: their settings and the request of their other lines
-abbrev pub DescribesBytes : List ℕ → Result (List ℕ) ℕ → Type 0
-DescribesBytes bytes said = IsDescriptionOf (settings_in (lines_of bytes)) (request_in (request_lines (lines_of bytes))) said
+abbrev pub DescribesBytes : Catalogue → List ℕ → Result (List ℕ) ℕ → Type 0
+DescribesBytes catalogue bytes said = IsDescriptionOf catalogue (settings_in (lines_of bytes)) (request_in (request_lines (lines_of bytes))) said
 
 -- ---- a law
 
@@ -126,7 +126,7 @@ command_entries words cacheable.No = lone_entry (codes "ok") ∷ words_entry (co
 
 -- A description of a command gives the record that was read.
 abbrev pub DescriptionsReadBack : Type 0
-DescriptionsReadBack = (s : Settings) (request : Request) (kinds words : List (List ℕ)) (kept : Cacheable) (p : Parsed)
+DescriptionsReadBack = (catalogue : Catalogue) (s : Settings) (request : Request) (kinds words : List (List ℕ)) (kept : Cacheable) (p : Parsed)
     → has_at_most s.bound request ≡ true → answer_to request ≡ compiled words kept → reading_by request.compiler request ≡ Ok p
-    → Each IsRow (rows_of (command_entries words kept ++ answer_entries s request kinds))
-    → record_in (description s request kinds) ≡ p
+    → Each IsRow (rows_of (command_entries words kept ++ answer_entries catalogue s request kinds))
+    → record_in (description catalogue s request kinds) ≡ p

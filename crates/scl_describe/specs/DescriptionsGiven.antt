@@ -6,7 +6,9 @@ use Rattle.scl_text.specs.Commands.{pairs_of}
 use Rattle.scl_text.specs.Records.{parsed_of, Parsed}
 use Rattle.scl_text.specs.declared.records.CompilerArguments.{CompilerArguments}
 use Rattle.scl_text.specs.declared.records.CompilerArguments.TheVariants as outcomes
-use Rattle.scl_description.specs.Rows.{Entry}
+use Rattle.scl_cl.specs.AnswerTexts.{text_of}
+use Rattle.scl_description.specs.Rows.{Entry, entries_text}
+use Rattle.scl_hazards.specs.Hazards.{Known}
 use Rattle.scl_reader.specs.declared.kept.Compilation.{Compilation}
 use Rattle.scl_describe.specs.declared.described.Findings.{Findings}
 use Rattle.scl_reader.specs.Answers.{answer_to, environment_by, reading_by}
@@ -38,17 +40,23 @@ entries_given runs found =
     ++ outcome_given runs (refused_at (map told found.rows.items)) found.answer
     ++ (options_given found.rows.items ∷ hazards_entry found.hazards.items ∷ question_entries (given found.questions))
 
--- these are the findings of a request whose program has the empty name
-pub record AreOf (request : Request) (found : Findings) : Type 0 where
+-- these are the findings of a request whose program has the empty name, by what is known of its compiler
+pub record AreOf (known : Known) (request : Request) (found : Findings) : Type 0 where
   pub answer : answer_of found.answer ≡ answer_to request
   pub parts : HasParts (reading_by request.compiler request) [] (environment_by request.compiler request.environment) request.directory found.answer
   pub rows : map told found.rows.items ≡ rows_by request
-  pub hazards : found.hazards.items ≡ hazards_by request
+  pub hazards : found.hazards.items ≡ hazards_by known request
   pub questions : given found.questions ≡ questions_of request
 
--- these are the findings of a reading of a line whose program has the empty name
-pub record AreFound (reading : Reading) (line : Given) (found : Findings) : Type 0 where
+-- these are the findings of a reading of a line whose program has the empty name, by what is known of its compiler
+pub record AreFound (known : Known) (reading : Reading) (line : Given) (found : Findings) : Type 0 where
   pub answer : AnswersReading (definitions_of (compiler_of reading)) [] (outcome_in reading) line.directory line.environment line.view found.answer
   pub rows : map told found.rows.items ≡ rows_in reading
-  pub hazards : found.hazards.items ≡ hazards_in line.environment reading
+  pub hazards : found.hazards.items ≡ hazards_in known line reading
   pub questions : given found.questions ≡ questions_in line reading
+
+-- the text is that of a reading's answer, and the rows of what is found of the reading
+pub record IsTextOf (known : Known) (runs : Parsed → List (List (List ℕ))) (reading : Reading) (line : Given) (text : List ℕ) : Type 0 where
+  pub found : Findings
+  pub are_found : AreFound known reading line found
+  pub is : text ≡ text_of (answer_of found.answer) ++ entries_text (entries_given runs found)

@@ -1,19 +1,38 @@
 -- The hazards of a request's command line.
-use Rattle.std.specs.Prelude.{ℕ, false, List, []}
+use Rattle.std.specs.Prelude.{ℕ, Bool, List, Option, None, Some}
+use Rattle.scl_catalogue.specs.Form.{Catalogue}
+use Rattle.scl_catalogue.specs.declared.case.Version.{Version}
+use Rattle.scl_catalogue_text.specs.Reading.{version_read}
 use Rattle.scl_hazards.specs.ClangClHazards.{msvc_hazards}
 use Rattle.scl_hazards.specs.GnuHazards.{gnu_hazards}
-use Rattle.scl_hazards.specs.declared.hazard.Hazard.{Hazard}
-use Rattle.scl_reader.specs.CommandLines.{Request}
+use Rattle.scl_hazards.specs.Hazards.{Hazard, Known}
+use Rattle.scl_hazards.specs.SmallHazards.{diab_hazards, tasking_hazards}
+use Rattle.scl_reader.specs.Apple.{is_apple}
+use Rattle.scl_reader.specs.CommandLines.{Given, Request, given_in}
+use Rattle.scl_reader.specs.PrecompiledHeaders.{has_precompiled_header}
 use Rattle.scl_reader.specs.Reads.{read_of}
 use Rattle.scl_reader.specs.declared.reading.Reading.{Reading}
 use Rattle.scl_reader.specs.declared.reading.Reading.TheVariants.{Gnu, Msvc, Diab, Tasking}
 
--- those of a command line that was read in an environment of these pairs; nothing is known of Diab and TaskingVX
-abbrev pub hazards_in : List (List ℕ × List ℕ) → Reading → List Hazard
-hazards_in pairs (Gnu r) = gnu_hazards false r
-hazards_in pairs (Msvc r) = msvc_hazards pairs r
-hazards_in pairs (Diab r) = []
-hazards_in pairs (Tasking r) = []
+-- the version that a text is; each is meant where it is none
+abbrev pub version_told : Option (List ℕ) → Option Version
+version_told None = None
+version_told (Some text) = version_read text
 
-abbrev pub hazards_by : Request → List Hazard
-hazards_by request = hazards_in request.environment (read_of request)
+-- what a catalogue knows of a compiler whose version has this text, if it is known
+abbrev pub known_by : Catalogue → Option (List ℕ) → Known
+known_by catalogue version = record { catalogue = catalogue; version = version_told version; is_apple = is_apple version }
+
+-- those of a reading in an environment of these pairs, by whether there is a precompiled header that matters
+abbrev pub hazards_with : Known → List (List ℕ × List ℕ) → (has_header : Bool) → Reading → List Hazard
+hazards_with known pairs has_header (Gnu r) = gnu_hazards known has_header r
+hazards_with known pairs has_header (Msvc r) = msvc_hazards known pairs r
+hazards_with known pairs has_header (Diab r) = diab_hazards known r
+hazards_with known pairs has_header (Tasking r) = tasking_hazards known r
+
+-- those of a command line that was read
+abbrev pub hazards_in : Known → Given → Reading → List Hazard
+hazards_in known line reading = hazards_with known line.environment (has_precompiled_header line reading) reading
+
+abbrev pub hazards_by : Known → Request → List Hazard
+hazards_by known request = hazards_in known (given_in request) (read_of request)

@@ -1,8 +1,10 @@
 pub mod Explained
 pub mod OptionRows
 pub mod Hazards
+pub mod Decided
 pub mod Settings
 pub mod SettingsRead
 pub mod OptionLines
 pub mod Descriptions
 pub mod DescriptionsGiven
+pub mod Abouts

@@ -29,10 +29,10 @@ use std::alloc::Global;
 
 /// What is described of a request.
 #[derive(Drop)]
-pub(crate) struct Findings {
+pub(crate) struct Findings<'a> {
     pub(crate) answer: CompilerArguments<Compilation>,
     pub(crate) rows: Vec<Row>,
-    pub(crate) hazards: Vec<Hazard>,
+    pub(crate) hazards: Vec<Hazard<'a>>,
     pub(crate) questions: Questions,
 }
 
@@ -153,7 +153,7 @@ fn push_outcome(
     text: &mut Vec<u8>,
     compiler: Compiler,
     settings: &Settings,
-    findings: &Findings,
+    findings: &Findings<'_>,
 ) -> Mem<()>
     ensures { OnOk result (text.new.items ≡ text.old.items ++ entries_text (outcome_given (runs_for (settings_by settings.now) compiler) (refused_at (map told findings.now.rows.items)) findings.now.answer)) }
 {
@@ -171,11 +171,11 @@ fn push_outcome(
 
 /// Appends a row for each hazard.
 #[tactic(auto, unfolding(scl_description::specs::Rows::entry_text))]
-fn push_hazards(text: &mut Vec<u8>, hazards: &[Hazard]) -> Mem<()>
+fn push_hazards(text: &mut Vec<u8>, hazards: &[Hazard<'_>]) -> Mem<()>
     ensures { OnOk result (text.new.items ≡ text.old.items ++ entry_text (hazards_entry hazards.now)) }
 {
     for hazard in hazards {
-        push_word(text, "hazard", hazard.name().as_bytes())?;
+        push_word(text, "hazard", hazard.name())?;
     }
     Ok(())
 }
@@ -192,7 +192,7 @@ pub(crate) fn description_text(
     alloc: Global,
     compiler: Compiler,
     settings: &Settings,
-    findings: &Findings,
+    findings: &Findings<'_>,
 ) -> Mem<Vec<u8>>
     ensures { IfOk result (λ text. text.items ≡ text_of (answer_of findings.now.answer) ++ entries_text (entries_given (runs_for (settings_by settings.now) compiler) findings.now)) }
 {

@@ -2,7 +2,6 @@
 ghost use Rattle.std.specs.Prelude.{◌≡◌, ◌≢◌, ◌^◌, ◌+◌, ◌<◌, ◌≤◌, ◌⊎◌, ℕ, List, length, map, take, IfOk, IfSome, Ok, Err};
 ghost use Rattle.std.specs.Io.KnownBytes.{Appends, IsAtEnd};
 ghost use Rattle.scl_devices.specs.Counts.{one_more, many_more};
-ghost use Rattle.scl_text.specs.Commands.{pairs_of};
 ghost use Rattle.scl_rows.specs.Rows.{told};
 ghost use Rattle.scl_reader.specs.CommandLines.{given_by};
 ghost use Rattle.scl_reader.specs.Questions.{questions_in};
@@ -11,43 +10,51 @@ ghost use Rattle.scl_cl.specs.Drafts.{asked_by};
 ghost use Rattle.scl_cl.specs.Outcomes.{IsJudged, IsSilent};
 ghost use Rattle.scl_cl.specs.Transfers.{Gave};
 ghost use Rattle.scl_describe.specs.SettingsRead.{settings_by};
-ghost use Rattle.scl_describe.specs.Descriptions.{IsDescription, DescribesBytes};
-ghost use Rattle.scl_describe.specs.DescriptionsGiven.{AreFound};
+ghost use Rattle.scl_catalogue.specs.Views.{catalogue_of};
+ghost use Rattle.scl_describe.specs.Descriptions.{IsDescription, DescribesBytes, runs_for};
+ghost use Rattle.scl_describe.specs.DescriptionsGiven.{AreFound, IsTextOf};
 ghost use Rattle.scl_describe.specs.Hazards.{hazards_in};
 ghost use Rattle.scl_describe.specs.OptionRows.{rows_in};
 
+use crate::about::known_of;
 use crate::described::{Findings, description_text, too_many_words};
 use crate::found::{hazards_of, rows_of};
 use crate::settings::{Settings, read_settings};
 use scl_cl::{Counted, Outcome, Request, Service, read_request, serve};
-use scl_hazards::Hazard;
-use scl_reader::{CommandLine, Questions, Reading};
+use scl_hazards::{Catalogue, Hazard, Known};
+use scl_reader::{CommandLine, Compiler, Questions, Reading};
 use scl_rows::Row;
 use scl_text::{Mem, TooManyWords};
 use std::alloc::Global;
 use std::io::{Read, Write};
 
 /// What is described of a reading beside its answer: its rows, its hazards and its questions.
-fn told_of(
+fn told_of<'a>(
     alloc: Global,
+    known: &Known<'a>,
     reading: &Reading,
     line: &CommandLine<'_>,
-) -> Mem<(Vec<Row>, Vec<Hazard>, Questions)>
+) -> Mem<(Vec<Row>, Vec<Hazard<'a>>, Questions)>
     ensures rows { IfOk result (λ found. map told found.0.items ≡ rows_in reading.now) }
-    ensures hazards { IfOk result (λ found. found.1.items ≡ hazards_in (pairs_of line.now.environment.now) reading.now) }
+    ensures hazards { IfOk result (λ found. found.1.items ≡ hazards_in known.now (given_by line.now) reading.now) }
     ensures questions { IfOk result (λ found. given found.2 ≡ questions_in (given_by line.now) reading.now) }
 {
     let rows = rows_of(alloc, reading)?;
-    let hazards = hazards_of(alloc, reading, line.environment)?;
+    let hazards = hazards_of(alloc, known, reading, line)?;
     let questions = reading.questions(alloc, line)?;
     Ok((rows, hazards, questions))
 }
 
 /// What is described of a reading.
-fn findings_of(alloc: Global, reading: Reading, line: &CommandLine<'_>) -> Mem<Findings>
-    ensures { IfOk result (AreFound reading (given_by line.now)) }
+fn findings_of<'a>(
+    alloc: Global,
+    known: &Known<'a>,
+    reading: Reading,
+    line: &CommandLine<'_>,
+) -> Mem<Findings<'a>>
+    ensures { IfOk result (AreFound known.now reading (given_by line.now)) }
 {
-    let (rows, hazards, questions) = match told_of(alloc, &reading, line) {
+    let (rows, hazards, questions) = match told_of(alloc, known, &reading, line) {
         Ok(told) => told,
         Err(refused) => {
             drop(reading);
@@ -63,53 +70,81 @@ fn findings_of(alloc: Global, reading: Reading, line: &CommandLine<'_>) -> Mem<F
     })
 }
 
+/// The text of what is described of a reading.
+fn reading_text(
+    alloc: Global,
+    known: &Known<'_>,
+    compiler: Compiler,
+    settings: &Settings,
+    reading: Reading,
+    line: &CommandLine<'_>,
+) -> Mem<Vec<u8>>
+    ensures { IfOk result (λ text. IsTextOf known.now (runs_for (settings_by settings.now) compiler) reading (given_by line.now) text.items) }
+{
+    let findings = findings_of(alloc, known, reading, line)?;
+    let text = description_text(alloc, compiler, settings, &findings)?;
+    Ok(text)
+}
+
 /// The description of the answer to a request.
 #[tactic(auto, using(crate::proofs::FindingLaws::is_too_long))]
-fn request_description(alloc: Global, settings: &Settings, request: &Request) -> Mem<Vec<u8>>
-    ensures { IfOk result (λ text. IsDescription (settings_by settings.now) (asked_by request.now) text.items) }
+fn request_description(
+    alloc: Global,
+    catalogue: &Catalogue<'_>,
+    settings: &Settings,
+    request: &Request,
+) -> Mem<Vec<u8>>
+    ensures { IfOk result (λ text. IsDescription (catalogue_of catalogue.now) (settings_by settings.now) (asked_by request.now) text.items) }
 {
     let (compiler, line) = (request.compiler, request.line());
     match compiler.read(alloc, &line, settings.bound)? {
         Ok(reading) => {
-            let findings = findings_of(alloc, reading, &line)?;
-            let text = description_text(alloc, compiler, settings, &findings)?;
+            let known = known_of(catalogue, settings.version.as_deref());
+            let text = reading_text(alloc, &known, compiler, settings, reading, &line)?;
             Ok(text)
         }
         Err(TooManyWords) => too_many_words(alloc),
     }
 }
 
-/// Answers a request by a description of its answer (docs/RULES.md, Descriptions).
+/// Answers a request by a description of its answer, with the hazards that a catalogue knows (docs/RULES.md, Descriptions).
 #[derive(Debug, Clone, Copy)]
-pub struct Descriptions;
+pub struct Descriptions<'a> {
+    /// The catalogue.
+    pub catalogue: Catalogue<'a>,
+}
 
-impl Service for Descriptions {
+impl<'a> Service for Descriptions<'a> {
+    ghost use Rattle.scl_catalogue.specs.Views.{catalogue_of};
     ghost use Rattle.scl_describe.specs.Descriptions.{DescribesBytes};
 
-    ghost answers = { λ _ bytes said. DescribesBytes bytes said };
+    ghost answers = { λ service bytes said. DescribesBytes (catalogue_of service.catalogue) bytes said };
 
     fn answer(&self, alloc: Global, bytes: Vec<u8>) -> Mem<Result<Vec<u8>, u64>> {
         let (settings, lines) = read_settings(alloc, &bytes)?;
         drop(bytes);
         match read_request(alloc, &lines)? {
-            Ok(request) => { Ok(Ok(request_description(alloc, &settings, &request)?)) }
+            Ok(request) => {
+                Ok(Ok(request_description(alloc, &self.catalogue, &settings, &request)?))
+            }
             Err(number) => Ok(Err(number)),
         }
     }
 }
 
 /// Reads the request to its end, and writes a description of its answer: the answer's lines as `run` writes them, and behind
-/// them rows of what was read (docs/RULES.md, Descriptions). Lines `setting` say what the description is asked beside the
-/// request. It ends as `run` does.
+/// them rows of what was read, with the hazards that the catalogue knows (docs/RULES.md, Descriptions). Lines `setting` say what
+/// the description is asked beside the request. It ends as `run` does.
 pub fn describe<R: Read, W: Write>(
     alloc: Global,
+    catalogue: &Catalogue<'_>,
     reader: &mut Counted<R>,
     writer: &mut Counted<W>,
 ) -> Outcome
     // What is answered is the answer to all that the reader had, and it is written whole.
     ensures answered { result ≡ Outcome.Answered → IfSome (R.remaining reader.old.device) (λ bytes.
-        (text : List ℕ) × DescribesBytes bytes (Ok text) × Appends (W.contents writer.old.device) (W.contents writer.new.device) text) }
-    ensures bad_line { (n : ℕ) → result ≡ Outcome.BadLine n → IfSome (R.remaining reader.old.device) (λ bytes. DescribesBytes bytes (Err n)) }
+        (text : List ℕ) × DescribesBytes (catalogue_of catalogue.now) bytes (Ok text) × Appends (W.contents writer.old.device) (W.contents writer.new.device) text) }
+    ensures bad_line { (n : ℕ) → result ≡ Outcome.BadLine n → IfSome (R.remaining reader.old.device) (λ bytes. DescribesBytes (catalogue_of catalogue.now) bytes (Err n)) }
     // No line is judged before all was read.
     ensures judged { IsJudged result → IsAtEnd (R.remaining reader.new.device) }
     // The first read that fails ends the run, and is told.
@@ -120,12 +155,15 @@ pub fn describe<R: Read, W: Write>(
     ensures reader_told { result ≢ Outcome.ReadFailed → reader.new.failed ≡ reader.old.failed }
     // A beginning of the answer was written, not all of it, and the writer failed.
     ensures write_failed { result ≡ Outcome.WriteFailed → IfSome (R.remaining reader.old.device) (λ bytes.
-        (text : List ℕ) × (n : ℕ) × DescribesBytes bytes (Ok text) × (n < length text) × Appends (W.contents writer.old.device) (W.contents writer.new.device) (take n text)) }
+        (text : List ℕ) × (n : ℕ) × DescribesBytes (catalogue_of catalogue.now) bytes (Ok text) × (n < length text) × Appends (W.contents writer.old.device) (W.contents writer.new.device) (take n text)) }
     // The first write that fails ends the run, and is told.
     ensures writer_failed { result ≡ Outcome.WriteFailed → writer.new.failed ≡ one_more writer.old.failed }
     ensures writer_told { result ≢ Outcome.WriteFailed → writer.new.failed ≡ writer.old.failed }
     // Nothing was written.
     ensures untouched { IsSilent result → writer.new ≡ writer.old }
 {
-    serve(alloc, &Descriptions, reader, writer)
+    let service = Descriptions {
+        catalogue: *catalogue,
+    };
+    serve(alloc, &service, reader, writer)
 }

@@ -1,12 +1,12 @@
 //! What is described of a command line that was read: what became of its options, and its hazards.
 ghost use Rattle.std.specs.Prelude.{◌≡◌, IfOk, map};
 ghost use Rattle.scl_rows.specs.Rows.{told};
-ghost use Rattle.scl_text.specs.Commands.{pairs_of};
+ghost use Rattle.scl_reader.specs.CommandLines.{given_by};
 ghost use Rattle.scl_describe.specs.Hazards.{hazards_in};
 ghost use Rattle.scl_describe.specs.OptionRows.{rows_in};
 
-use scl_hazards::{Hazard, gnu_hazards, msvc_hazards};
-use scl_reader::Reading;
+use scl_hazards::{Hazard, Known, diab_hazards, gnu_hazards, msvc_hazards, tasking_hazards};
+use scl_reader::{CommandLine, Reading};
 use scl_rows::{Row, gnu_rows, msvc_rows, small_rows};
 use scl_text::Mem;
 use std::alloc::Global;
@@ -26,19 +26,23 @@ pub fn rows_of(alloc: Global, reading: &Reading) -> Mem<Vec<Row>>
     }
 }
 
-/// The hazards of a command line that was read in this environment: what gcc, clang or clang-cl is known to do otherwise with
-/// the built command than with the given one; none where there is no command, and none of Diab and TaskingVX, of which nothing
-/// is known (docs/RULES.md, Hazards). It fails only for want of memory.
-pub fn hazards_of(
+/// The hazards of a command line that was read: what its compiler is known to do otherwise with the built command than with the
+/// given one; none where there is no command (docs/RULES.md, Hazards). It fails only for want of memory.
+pub fn hazards_of<'a>(
     alloc: Global,
+    known: &Known<'a>,
     reading: &Reading,
-    environment: &[(Vec<u8>, Vec<u8>)],
-) -> Mem<Vec<Hazard>>
-    ensures { IfOk result (λ found. found.items ≡ hazards_in (pairs_of environment.now) reading.now) }
+    line: &CommandLine<'_>,
+) -> Mem<Vec<Hazard<'a>>>
+    ensures { IfOk result (λ found. found.items ≡ hazards_in known.now (given_by line.now) reading.now) }
 {
     match reading {
-        Reading::Gnu(reading) => gnu_hazards(alloc, reading, false),
-        Reading::Msvc(reading) => msvc_hazards(alloc, reading, environment),
-        Reading::Diab(_) | Reading::Tasking(_) => Ok(Vec::new(alloc)),
+        Reading::Gnu(gnu) => {
+            let has_header = reading.has_precompiled_header(alloc, line)?;
+            gnu_hazards(alloc, known, gnu, has_header)
+        }
+        Reading::Msvc(msvc) => msvc_hazards(alloc, known, msvc, line.environment),
+        Reading::Diab(diab) => diab_hazards(alloc, known, diab),
+        Reading::Tasking(tasking) => tasking_hazards(alloc, known, tasking),
     }
 }

@@ -7,6 +7,7 @@ ghost use Rattle.scl_small.specs.DiabReading as diab;
 ghost use Rattle.scl_small.specs.DiabTable as diab_table;
 ghost use Rattle.scl_small.specs.TaskingReading as tasking;
 ghost use Rattle.scl_small.specs.TaskingTable as tasking_table;
+ghost use Rattle.scl_describe.specs.Decided.{HazardsAreDecided, RowsAreDecided};
 ghost use Rattle.scl_describe.specs.Descriptions.{DescriptionsReadBack};
 ghost use Rattle.scl_describe.specs.OptionRows.{RowsShareWords, RowsTell};
 ghost use Rattle.scl_describe.specs.Explained.{AreExplained, is_refused_somewhere, is_refused_by_msvc, is_refused_by_small};
@@ -29,6 +30,16 @@ pub fn of_reasons()
 pub fn of_rows()
     ensures rows_tell { RowsTell }
     ensures rows_share_words { RowsShareWords }
+{}
+
+/// Laws of what is told of a request (docs/RULES.md, Questions): of every disk that has what its view has, and none of what its
+/// answer asks,
+///
+/// - `rows_are_decided`: the rows are the same;
+/// - `hazards_are_decided`: so are the hazards, by whatever is known of the compiler.
+pub fn of_questions()
+    ensures rows_are_decided { RowsAreDecided }
+    ensures hazards_are_decided { HazardsAreDecided }
 {}
 
 /// Laws of descriptions (docs/RULES.md, Descriptions):

@@ -1,6 +1,7 @@
 //! Descriptions: an answer's lines, and behind them rows of what was read.
 #![tactic(auto)]
 
+mod about;
 mod described;
 mod descriptions;
 mod found;
@@ -8,7 +9,8 @@ pub mod laws;
 mod option_lines;
 mod settings;
 
+pub use about::About;
 pub use descriptions::{Descriptions, describe};
 pub use found::{hazards_of, rows_of};
-pub use scl_hazards::{Danger, HAZARDS, Hazard};
+pub use scl_hazards::{Catalogue, Danger, Entry, Hazard, Known, Version, danger_name};
 pub use scl_rows::{Destination, Origin, Row};

@@ -1,7 +1,7 @@
 -- The command line of a case on a disk is loaded as the case is.
 use Rattle.std.proofs.Common.{◌≡◌, ℕ, Bool, List, Err, ap, subst, ◌∙◌}
 use Rattle.scl_files.specs.Views.{Viewed}
-use Rattle.scl_load.specs.Loads.{IsEnd, Load, load_of}
+use Rattle.scl_load.specs.Loads.{IsEnd, IsLoaded, Load, load_of}
 use Rattle.scl_load.specs.declared.loader.DiskLine.{DiskLine}
 use Rattle.scl_load.specs.declared.loader.LoadError.{LoadError}
 use Rattle.scl_reader.specs.CommandLines.{asked}
@@ -28,6 +28,9 @@ module _ (line : DiskLine) (case : Case) (multiarch : Bool) (compiler : line.com
       ∙ ap (λ d. load_by case.compiler (words_of case.words.items) d (pairs_of line.environment.now) line.multiarch) directory
       ∙ ap (λ e. load_by case.compiler (words_of case.words.items) case.cwd.items e line.multiarch) environment
       ∙ ap (λ m. load_by case.compiler (words_of case.words.items) case.cwd.items (pairs_of case.env_vars.items) m) multi
+
+  pub loaded_is : (held view : Viewed) → IsLoaded held (load_of line default_most 4096) view → IsLoaded held (load_for case multiarch) view
+  loaded_is held view h = subst (λ load. IsLoaded held load view) load_is h
 
   pub end_is : {E : Type 0} (held : Viewed) (error : LoadError E) → IsEnd held (load_of line default_most 4096) (Err error) → IsEnd held (load_for case multiarch) (Err error)
   end_is held error h = subst (λ load. IsEnd held load (Err error)) load_is h

@@ -1,6 +1,6 @@
 -- The statuses that the program ends with.
 use Rattle.std.specs.Prelude.{ℕ, Bool, true, false, List, [], ◌∷◌}
-use Rattle.scl_hazards.specs.declared.hazard.Hazard.{Hazard}
+use Rattle.scl_hazards.specs.Hazards.{Hazard}
 use Rattle.scl_reader.specs.Answers.{Answer, compiled, cannot_cache, not_compilation}
 use Rattle.scl_text.specs.declared.records.Cacheable.{Cacheable}
 use Rattle.scl_text.specs.declared.records.Cacheable.TheVariants as cacheable
@@ -8,18 +8,23 @@ use Rattle.scl_explain.specs.Nuls.{some_hold_nul}
 use Rattle.scl_explain.specs.declared.status.Ending.{Ending}
 use Rattle.scl_explain.specs.declared.status.Ending.TheVariants as ending
 
--- how a command ends, by whether a word holds a NUL, the hazards that are named, and whether its outcome may be kept
-abbrev pub ending_of_command : Bool → List Hazard → Cacheable → Ending
-ending_of_command true hazards kept = ending.HoldsNul
-ending_of_command false (hazard ∷ hazards) kept = ending.Hazard
-ending_of_command false [] cacheable.No = ending.NotKept
-ending_of_command false [] cacheable.Yes = ending.Answered
+-- some hazard is named
+abbrev pub are_named : List Hazard → Bool
+are_named [] = false
+are_named (hazard ∷ hazards) = true
 
--- how an answer for this program ends, of whose command these hazards are named
-abbrev pub ending_of : List ℕ → Answer → List Hazard → Ending
-ending_of program (compiled words kept) hazards = ending_of_command (some_hold_nul (program ∷ words)) hazards kept
-ending_of program (cannot_cache reason beside) hazards = ending.CannotCache
-ending_of program not_compilation hazards = ending.CompilesNothing
+-- how a command ends, by whether a word holds a NUL, whether a hazard ends it, and whether its outcome may be kept
+abbrev pub ending_of_command : (holds_nul has_hazard : Bool) → Cacheable → Ending
+ending_of_command true has_hazard kept = ending.HoldsNul
+ending_of_command false true kept = ending.Hazard
+ending_of_command false false cacheable.No = ending.NotKept
+ending_of_command false false cacheable.Yes = ending.Answered
+
+-- how an answer for this program ends, by whether a hazard ends it
+abbrev pub ending_of : List ℕ → Answer → (has_hazard : Bool) → Ending
+ending_of program (compiled words kept) has_hazard = ending_of_command (some_hold_nul (program ∷ words)) has_hazard kept
+ending_of program (cannot_cache reason beside) has_hazard = ending.CannotCache
+ending_of program not_compilation has_hazard = ending.CompilesNothing
 
 abbrev pub status_of : Ending → ℕ
 status_of ending.Answered = 0

@@ -1,6 +1,6 @@
 -- What the entries of a compile database are, by their answers and the hazards of their commands.
 use Rattle.std.specs.Prelude.{List, [], ◌∷◌}
-use Rattle.scl_hazards.specs.declared.hazard.Hazard.{Hazard}
+use Rattle.scl_hazards.specs.Hazards.{Hazard}
 use Rattle.scl_text.specs.declared.records.Cacheable.TheVariants as cacheable
 use Rattle.scl_reader.specs.Answers.{Answer, compiled, cannot_cache, not_compilation}
 use Rattle.scl_explain.specs.declared.entry_kind.EntryKind.{EntryKind}

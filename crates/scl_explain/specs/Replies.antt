@@ -1,8 +1,9 @@
 -- What the program writes of a command line, by its answer and the hazards of its command.
-use Rattle.std.specs.Prelude.{◌≡◌, ℕ, Bool, List, [], ◌∷◌, ◌++◌, codes, if◌then◌else◌}
-use Rattle.std.specs.List.{flat_map}
-use Rattle.scl_hazards.specs.declared.hazard.Hazard.{Hazard}
-use Rattle.scl_hazards.specs.Hazards.{told}
+use Rattle.std.specs.Prelude.{◌≡◌, ◌&&◌, ℕ, Bool, true, false, List, [], ◌∷◌, ◌++◌, codes, if◌then◌else◌}
+use Rattle.std.specs.List.{flat_map, list_any}
+use Rattle.scl_catalogue.specs.declared.entry.Danger.{Danger}
+use Rattle.scl_catalogue.specs.declared.entry.Danger.TheVariants as dangers
+use Rattle.scl_hazards.specs.Hazards.{Hazard}
 use Rattle.scl_reader.specs.Answers.{Answer, compiled, cannot_cache, not_compilation}
 use Rattle.scl_explain.specs.CommandTexts.{command_text}
 use Rattle.scl_explain.specs.Nuls.{some_hold_nul}
@@ -12,7 +13,7 @@ use Rattle.scl_explain.specs.declared.reply.Form.TheVariants as form
 
 -- the line of a hazard: its name, and what happens
 abbrev pub hazard_line : Hazard → List ℕ
-hazard_line hazard = (told hazard).name ++ codes ": " ++ (told hazard).consequence ++ 10 ∷ []
+hazard_line hazard = hazard.name ++ codes ": " ++ hazard.consequence ++ 10 ∷ []
 
 abbrev pub hazards_text : List Hazard → List ℕ
 hazards_text hazards = flat_map hazard_line hazards
@@ -22,13 +23,23 @@ abbrev pub IsChecked : Form → List Hazard → List ℕ → Type 0
 IsChecked (form.Text paint) hazards text = text ≡ hazards_text hazards
 IsChecked form.Json hazards text = Unit {0}
 
--- the hazards for which no command is written
-abbrev pub barring : Bool → List Hazard → List Hazard
-barring is_strict hazards = if is_strict then hazards else []
+-- what is made differs, and not only what is said of it
+abbrev pub concerns_files : Danger → Bool
+concerns_files dangers.Object = true
+concerns_files dangers.Failure = true
+concerns_files dangers.SideFile = true
+concerns_files dangers.Messages = false
 
--- the text of the command for a program, where there is one, no hazard bars it, and a process can be given its words
-abbrev pub command_written : WordForm → List ℕ → Answer → List Hazard → List ℕ
-command_written form program (compiled words kept) [] = if some_hold_nul (program ∷ words) then [] else command_text form (program ∷ words)
-command_written form program (compiled words kept) (hazard ∷ hazards) = []
-command_written form program (cannot_cache reason beside) hazards = []
-command_written form program not_compilation hazards = []
+abbrev pub some_concern_files : List Hazard → Bool
+some_concern_files hazards = list_any (λ hazard. concerns_files hazard.danger) hazards
+
+-- no command is written in a strict form where a hazard concerns files
+abbrev pub is_barred : (is_strict : Bool) → List Hazard → Bool
+is_barred is_strict hazards = is_strict && some_concern_files hazards
+
+-- the text of the command for a program, where there is one, it is not barred, and a process can be given its words
+abbrev pub command_written : WordForm → List ℕ → Answer → (is_barred : Bool) → List ℕ
+command_written form program (compiled words kept) true = []
+command_written form program (compiled words kept) false = if some_hold_nul (program ∷ words) then [] else command_text form (program ∷ words)
+command_written form program (cannot_cache reason beside) barred = []
+command_written form program not_compilation barred = []

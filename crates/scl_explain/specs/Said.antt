@@ -5,15 +5,16 @@ use Rattle.scl_files.specs.Views.{Viewed}
 use Rattle.scl_rows.specs.Rows.{Told}
 use Rattle.scl_text.specs.Commands.{pairs_of}
 use Rattle.scl_text.specs.Records.{Parsed, Verdict, NotCompilation}
-use Rattle.scl_hazards.specs.declared.hazard.Hazard.{Hazard}
+use Rattle.scl_hazards.specs.Hazards.{Hazard, Known}
 use Rattle.scl_reader.specs.CommandLines.{Request, asked}
-use Rattle.scl_reader.specs.Answers.{Answer, answer_to}
+use Rattle.scl_reader.specs.Answers.{Answer, answer_to, reading_by}
 use Rattle.scl_describe.specs.Hazards.{hazards_by}
+use Rattle.scl_describe.specs.OptionRows.{rows_by}
 use Rattle.scl_load.specs.Loads.{Load, IsDiskError, IsEnd}
 use Rattle.scl_reader.specs.Within.{default_most}
 use Rattle.scl_load.specs.declared.loader.LoadError.{LoadError}
-use Rattle.scl_explain.specs.Endings.{ending_of}
-use Rattle.scl_explain.specs.Replies.{IsChecked, barring, command_written}
+use Rattle.scl_explain.specs.Endings.{are_named, ending_of}
+use Rattle.scl_explain.specs.Replies.{IsChecked, command_written, is_barred}
 use Rattle.scl_explain.specs.declared.case.Case.{Case}
 use Rattle.scl_explain.specs.declared.commanded.CommandForm.{CommandForm}
 use Rattle.scl_explain.specs.declared.reply.Form.{Form}
@@ -33,11 +34,19 @@ compiles_nothing _ = false
 abbrev pub rows_given : Bool → Result Parsed Verdict → List Told → List Told
 rows_given wanted said rows = if wanted || compiles_nothing said then rows else []
 
--- in a view the answer is that on each disk of which this holds, and this is said of it and of the hazards there
-pub record IsSaid (holds : Viewed → Type 0) (multiarch : Bool) (case : Case) (says : Answer → List Hazard → Type 0) : Type 0 where
+-- what is told of a case on each disk of which this holds is what is told of it in the view: the answer, the record or why there is none, the rows, and the hazards that are known
+pub record IsDecided (known : Known) (holds : Viewed → Type 0) (multiarch : Bool) (case : Case) (view : Viewed) : Type 0 where
+  pub answer : (held : Viewed) → holds held → held.is_multiarch ≡ multiarch → answer_to (request_of case held) ≡ answer_to (request_of case view)
+  pub outcome : (held : Viewed) → holds held → held.is_multiarch ≡ multiarch
+      → reading_by case.compiler (request_of case held) ≡ reading_by case.compiler (request_of case view)
+  pub rows : (held : Viewed) → holds held → held.is_multiarch ≡ multiarch → rows_by (request_of case held) ≡ rows_by (request_of case view)
+  pub hazards : (held : Viewed) → holds held → held.is_multiarch ≡ multiarch → hazards_by known (request_of case held) ≡ hazards_by known (request_of case view)
+
+-- of a view that decides what is told on such disks, this is said of the answer and of the hazards that are known
+pub record IsSaid (known : Known) (holds : Viewed → Type 0) (multiarch : Bool) (case : Case) (says : Answer → List Hazard → Type 0) : Type 0 where
   pub loaded : Viewed
-  pub same_answer : (held : Viewed) → holds held → held.is_multiarch ≡ multiarch → answer_to (request_of case held) ≡ answer_to (request_of case loaded)
-  pub said : says (answer_to (request_of case loaded)) (hazards_by (request_of case loaded))
+  pub decided : IsDecided known holds multiarch case loaded
+  pub said : says (answer_to (request_of case loaded)) (hazards_by known (request_of case loaded))
 
 -- what is loaded for a command line: it may have so many words, with its response files in place, and open files so often as where nothing else is said, and fewer than 2^12 files
 -- may name each the next
@@ -60,12 +69,12 @@ pub record IsUnread {E : Type 0} (holds : Viewed → Type 0) (fails : E → Type
   pub is_disk_error : IsDiskError fails error
   pub is_failure : IsFailure reply
 
--- a reply with the command to run, where there is one and no hazard bars it
+-- a reply with the command to run, where there is one and it is not barred
 pub record IsCommanded (form : CommandForm) (case : Case) (reply : Reply) (answer : Answer) (hazards : List Hazard) : Type 0 where
-  pub ending : reply.ending ≡ ending_of case.program.items answer (barring form.is_strict hazards)
-  pub output : reply.output.items ≡ command_written form.words case.program.items answer (barring form.is_strict hazards)
+  pub ending : reply.ending ≡ ending_of case.program.items answer (is_barred form.is_strict hazards)
+  pub output : reply.output.items ≡ command_written form.words case.program.items answer (is_barred form.is_strict hazards)
 
 -- a reply with the hazards
 pub record IsCheckedReply (form : Form) (case : Case) (reply : Reply) (answer : Answer) (hazards : List Hazard) : Type 0 where
-  pub ending : reply.ending ≡ ending_of case.program.items answer hazards
+  pub ending : reply.ending ≡ ending_of case.program.items answer (are_named hazards)
   pub output : IsChecked form hazards reply.output.items

@@ -1,22 +1,23 @@
 //! What a command line is answered, with what its answer asks of a disk.
-ghost use Rattle.std.specs.Prelude.{◌≡◌, ◌||◌, IfOk, IfErr, None, false, map};
+ghost use Rattle.std.specs.Prelude.{◌≡◌, ◌||◌, IfOk, IfErr, false, map, string_bytes};
+ghost use Rattle.std.specs.Option.{option_copied, option_map};
 ghost use Rattle.scl_files.specs.Views.{Viewed};
-ghost use Rattle.scl_text.specs.Commands.{pairs_of};
 ghost use Rattle.scl_text.specs.Records.{outcome_of};
 ghost use Rattle.scl_text.specs.Runs.{runs_of};
 ghost use Rattle.scl_reader.specs.Answers.{answer_to, reading_by};
 ghost use Rattle.scl_reader.specs.AnswersGiven.{answer_of};
 ghost use Rattle.scl_reader.specs.CommandLines.{given_by, given_in};
 ghost use Rattle.scl_reader.specs.Reads.{outcome_in, read_of, runs_for, runs_in};
+ghost use Rattle.scl_describe.specs.Abouts.{known_for};
 ghost use Rattle.scl_describe.specs.Hazards.{hazards_by, hazards_in};
 ghost use Rattle.scl_describe.specs.OptionRows.{rows_by, rows_in};
 ghost use Rattle.scl_rows.specs.Rows.{told};
-ghost use Rattle.scl_explain.specs.Said.{IsNotLoaded, compiles_nothing, request_of, rows_given};
-ghost use Rattle.scl_load.specs.Loads.{IsDiskError};
+ghost use Rattle.scl_explain.specs.Said.{IsDecided, IsNotLoaded, compiles_nothing, load_for, request_of, rows_given};
+ghost use Rattle.scl_load.specs.Loads.{IsDiskError, IsLoaded};
 
 use crate::case::Case;
 use crate::logged::Logged;
-use scl_describe::{hazards_of, rows_of};
+use scl_describe::{About, hazards_of, rows_of};
 use scl_hazards::Hazard;
 use scl_load::{Disk, DiskLine, LoadError, Loaded, load};
 use scl_reader::{
@@ -30,7 +31,7 @@ const MOST_ROUNDS: u32 = 1 << 12;
 
 /// What a command line is answered.
 #[derive(Drop)]
-pub struct Answered {
+pub struct Answered<'a> {
     /// The answer.
     pub answer: CompilerArguments<Compilation>,
     /// The words of the preprocessor's runs; none where there is no command.
@@ -40,7 +41,7 @@ pub struct Answered {
     /// The paths at which words name a response file, and there is none.
     pub missing_files: Vec<Vec<u8>>,
     /// The hazards of the built command; none where there is none.
-    pub hazards: Vec<Hazard>,
+    pub hazards: Vec<Hazard<'a>>,
     /// What became of each option; nothing where that is not wanted and something is compiled.
     pub rows: Vec<Row>,
     /// What the disk has of what is asked.
@@ -67,26 +68,37 @@ fn rows_for(alloc: Global, reading: &Reading, wants_rows: bool) -> Mem<Vec<Row>>
 
 /// What is found of a reading, beside its answer.
 #[derive(Drop)]
-struct Found {
+struct Found<'a> {
     runs: Vec<Vec<Vec<u8>>>,
-    hazards: Vec<Hazard>,
+    hazards: Vec<Hazard<'a>>,
     rows: Vec<Row>,
 }
 
-/// What is found of a command line that was read in an environment.
-fn found_in(
+/// The text of the compiler's version, where that is told.
+fn version_of(alloc: Global, about: &About<'_>) -> Mem<Option<String>>
+    ensures { IfOk result (λ version. option_map string_bytes version ≡ option_copied about.now.version) }
+{
+    match about.version {
+        Some(text) => Ok(Some(String::from_str(alloc, text)?)),
+        None => Ok(None),
+    }
+}
+
+/// What is found of a command line that was read, by what is known of its compiler.
+fn found_in<'a>(
     alloc: Global,
+    about: &About<'a>,
     reading: &Reading,
-    environment: &[(Vec<u8>, Vec<u8>)],
+    line: &CommandLine<'_>,
     wants_rows: bool,
-) -> Mem<Found>
-    ensures runs { IfOk result (λ found. runs_of found.runs.items ≡ runs_in None false false false reading.now) }
-    ensures hazards { IfOk result (λ found. found.hazards.items ≡ hazards_in (pairs_of environment.now) reading.now) }
+) -> Mem<Found<'a>>
+    ensures runs { IfOk result (λ found. runs_of found.runs.items ≡ runs_in (option_copied about.now.version) false false false reading.now) }
+    ensures hazards { IfOk result (λ found. found.hazards.items ≡ hazards_in (known_for about.now) (given_by line.now) reading.now) }
     ensures rows { IfOk result (λ found. map told found.rows.items ≡ rows_given wants_rows (outcome_in reading.now) (rows_in reading.now)) }
 {
     let rows = rows_for(alloc, reading, wants_rows)?;
-    let hazards = hazards_of(alloc, reading, environment)?;
-    let runs = reading.runs(alloc, None, false, false, false)?;
+    let hazards = hazards_of(alloc, &about.known(), reading, line)?;
+    let runs = reading.runs(alloc, version_of(alloc, about)?, false, false, false)?;
     Ok(Found {
         runs,
         hazards,
@@ -108,22 +120,23 @@ fn line_in<'a>(case: &'a Case, view: &'a View) -> CommandLine<'a>
 
 /// The answer of a reading, with what is found of it.
 #[tactic(auto, using(crate::proofs::ReadCaseLaws::read_rules))]
-fn answer_read(
+fn answer_read<'a>(
     alloc: Global,
+    about: &About<'a>,
     case: &Case,
     view: &View,
     reading: Reading,
     wants_rows: bool,
-) -> Mem<(CompilerArguments<Compilation>, Found)>
+) -> Mem<(CompilerArguments<Compilation>, Found<'a>)>
     requires { reading ≡ read_of (request_of case.now view.now) }
     ensures answer { IfOk result (λ both. answer_to (request_of case.now view.now) ≡ answer_of both.0) }
-    ensures runs { IfOk result (λ both. runs_of both.1.runs.items ≡ runs_for None case.now.compiler false false false (reading_by case.now.compiler (request_of case.now view.now))) }
-    ensures hazards { IfOk result (λ both. both.1.hazards.items ≡ hazards_by (request_of case.now view.now)) }
+    ensures runs { IfOk result (λ both. runs_of both.1.runs.items ≡ runs_for (option_copied about.now.version) case.now.compiler false false false (reading_by case.now.compiler (request_of case.now view.now))) }
+    ensures hazards { IfOk result (λ both. both.1.hazards.items ≡ hazards_by (known_for about.now) (request_of case.now view.now)) }
     ensures rows { IfOk result (λ both. let request = request_of case.now view.now in
         map told both.1.rows.items ≡ rows_given wants_rows (reading_by case.now.compiler request) (rows_by request)) }
 {
     let line = line_in(case, view);
-    match found_in(alloc, &reading, line.environment, wants_rows) {
+    match found_in(alloc, about, &reading, &line, wants_rows) {
         Ok(found) => Ok((reading.into_answer(alloc, &case.program, &line)?, found)),
         Err(refused) => {
             drop(reading);
@@ -139,11 +152,9 @@ fn load_case<D: Disk>(
     case: &Case,
     multiarch: bool,
 ) -> Mem<Result<Loaded, LoadError<D::Error>>>
-    ensures answer { IfOk result (λ said. IfOk said (λ loaded. (held : Viewed) → D.holds disk.now held → held.is_multiarch ≡ multiarch
-        → answer_to (request_of case.now held) ≡ answer_to (request_of case.now loaded.view))) }
-    ensures decided { IfOk result (λ said. IfOk said (λ loaded. (held : Viewed) → D.holds disk.now held → held.is_multiarch ≡ multiarch
-        → reading_by case.now.compiler (request_of case.now held) ≡ outcome_in loaded.reading)) }
     ensures reading { IfOk result (λ said. IfOk said (λ loaded. loaded.reading ≡ read_of (request_of case.now loaded.view))) }
+    ensures loaded { IfOk result (λ said. IfOk said (λ loaded. (held : Viewed) → D.holds disk.now held → held.is_multiarch ≡ multiarch
+        → IsLoaded held (load_for case.now multiarch) loaded.view)) }
     ensures end { IfOk result (λ said. IfErr said (IsNotLoaded (D.holds disk.now) multiarch case.now)) }
     ensures error { IfOk result (λ said. IfErr said (λ error. IsDiskError (D.fails disk.now) error)) }
 {
@@ -160,25 +171,26 @@ fn load_case<D: Disk>(
     }
 }
 
-/// The answer to a command line on a disk, which is asked for response files, directories and other paths; `multiarch` says
-/// whether several architectures are allowed. Rows of options are given where `wants_rows` says so, and where nothing is
-/// compiled. A read that fails is `Disk` with its error; `TooManyWords` and `TooManyRounds` where response files give more
-/// than 1,000,000 words or are opened more often, or where 2^12 name each the next. The outer error is the refusal of memory.
+/// The answer to a command line on a disk, which is asked for response files, directories and other paths, with the hazards and
+/// the runs of the preprocessor by what is known of its compiler; `multiarch` says whether several architectures are allowed.
+/// Rows of options are given where `wants_rows` says so, and where nothing is compiled. A read that fails is `Disk` with its error; `TooManyWords` and `TooManyRounds` where response
+/// files give more than 1,000,000 words or are opened more often, or where 2^12 name each the next. The outer error is the
+/// refusal of memory.
 #[tactic(auto, using(crate::proofs::ReadCaseLaws::outcome_read))]
-pub fn answer_case<D: Disk>(
+pub fn answer_case<'a, D: Disk>(
     alloc: Global,
     disk: &D,
+    about: &About<'a>,
     case: &Case,
     multiarch: bool,
     wants_rows: bool,
-) -> Mem<Result<Answered, LoadError<D::Error>>>
+) -> Mem<Result<Answered<'a>, LoadError<D::Error>>>
     ensures answer { IfOk result (λ said. IfOk said (λ answered. (held : Viewed) → D.holds disk.now held → held.is_multiarch ≡ multiarch
         → answer_to (request_of case.now held) ≡ answer_of answered.answer)) }
     ensures loaded { IfOk result (λ said. IfOk said (λ answered. answer_to (request_of case.now answered.view) ≡ answer_of answered.answer)) }
-    ensures decided { IfOk result (λ said. IfOk said (λ answered. (held : Viewed) → D.holds disk.now held → held.is_multiarch ≡ multiarch
-        → reading_by case.now.compiler (request_of case.now held) ≡ reading_by case.now.compiler (request_of case.now answered.view))) }
-    ensures runs { IfOk result (λ said. IfOk said (λ answered. runs_of answered.runs.items ≡ runs_for None case.now.compiler false false false (reading_by case.now.compiler (request_of case.now answered.view)))) }
-    ensures hazards { IfOk result (λ said. IfOk said (λ answered. answered.hazards.items ≡ hazards_by (request_of case.now answered.view))) }
+    ensures decided { IfOk result (λ said. IfOk said (λ answered. IsDecided (known_for about.now) (D.holds disk.now) multiarch case.now answered.view)) }
+    ensures runs { IfOk result (λ said. IfOk said (λ answered. runs_of answered.runs.items ≡ runs_for (option_copied about.now.version) case.now.compiler false false false (reading_by case.now.compiler (request_of case.now answered.view)))) }
+    ensures hazards { IfOk result (λ said. IfOk said (λ answered. answered.hazards.items ≡ hazards_by (known_for about.now) (request_of case.now answered.view))) }
     ensures rows { IfOk result (λ said. IfOk said (λ answered. let request = request_of case.now answered.view in
         map told answered.rows.items ≡ rows_given wants_rows (reading_by case.now.compiler request) (rows_by request))) }
     ensures end { IfOk result (λ said. IfErr said (IsNotLoaded (D.holds disk.now) multiarch case.now)) }
@@ -190,7 +202,7 @@ pub fn answer_case<D: Disk>(
         Err(error) => return Ok(Err(error)),
     };
     let log = logged.into_log();
-    let (answer, found) = answer_read(alloc, case, &view, reading, wants_rows)?;
+    let (answer, found) = answer_read(alloc, about, case, &view, reading, wants_rows)?;
     let Found {
         runs,
         hazards,

@@ -1,6 +1,7 @@
 //! The hazards of a command line, alone.
 ghost use Rattle.std.specs.Prelude.{◌⊎◌, IfOk};
 ghost use Rattle.scl_reader.specs.AnswersGiven.{answer_of};
+ghost use Rattle.scl_describe.specs.Abouts.{known_for};
 ghost use Rattle.scl_explain.specs.Replies.{IsChecked};
 ghost use Rattle.scl_explain.specs.Said.{IsCheckedReply, IsSaid, IsUnread};
 
@@ -10,7 +11,8 @@ use crate::hazards::hazards_text;
 use crate::refusal::ending_line;
 use crate::reply::{Form, Reply, unread};
 use crate::report::Report;
-use crate::status::Ending;
+use crate::status::{Ending, are_named};
+use scl_describe::About;
 use scl_load::Disk;
 use scl_reader::Mem;
 use std::alloc::Global;
@@ -20,7 +22,7 @@ use std::fmt::Display;
 fn check_bytes<R: Report>(
     alloc: Global,
     case: &Case,
-    answered: &Answered,
+    answered: &Answered<'_>,
     form: Form,
     report: &R,
 ) -> Mem<Vec<u8>>
@@ -36,7 +38,7 @@ fn check_bytes<R: Report>(
 fn error_line<R: Report>(
     alloc: Global,
     case: &Case,
-    answered: &Answered,
+    answered: &Answered<'_>,
     form: Form,
     report: &R,
 ) -> Mem<Option<String>> {
@@ -49,7 +51,7 @@ fn error_line<R: Report>(
 fn check_reply<R: Report>(
     alloc: Global,
     case: &Case,
-    answered: &Answered,
+    answered: &Answered<'_>,
     form: Form,
     report: &R,
 ) -> Mem<Reply>
@@ -58,7 +60,11 @@ fn check_reply<R: Report>(
     Ok(Reply {
         output: check_bytes(alloc, case, answered, form, report)?,
         error: error_line(alloc, case, answered, form, report)?,
-        ending: Ending::of_answer(&case.program, &answered.answer, &answered.hazards),
+        ending: Ending::of_answer(
+            &case.program,
+            &answered.answer,
+            are_named(&answered.hazards),
+        ),
     })
 }
 
@@ -69,6 +75,7 @@ fn check_reply<R: Report>(
 pub fn check<D: Disk, R: Report>(
     alloc: Global,
     disk: &D,
+    about: &About<'_>,
     case: &Case,
     multiarch: bool,
     form: Form,
@@ -76,9 +83,9 @@ pub fn check<D: Disk, R: Report>(
 ) -> Mem<Reply>
 where
     D::Error: Display,
-    ensures { IfOk result (λ reply. IsUnread (D.holds disk.now) (D.fails disk.now) multiarch case.now reply ⊎ IsSaid (D.holds disk.now) multiarch case.now (IsCheckedReply form case.now reply)) }
+    ensures { IfOk result (λ reply. IsUnread (D.holds disk.now) (D.fails disk.now) multiarch case.now reply ⊎ IsSaid (known_for about.now) (D.holds disk.now) multiarch case.now (IsCheckedReply form case.now reply)) }
 {
-    match answer_case(alloc, disk, case, multiarch, false)? {
+    match answer_case(alloc, disk, about, case, multiarch, false)? {
         Ok(answered) => check_reply(alloc, case, &answered, form, report),
         Err(error) => unread(alloc, &error),
     }

@@ -1,7 +1,8 @@
 //! The command to run in the place of a command line.
 ghost use Rattle.std.specs.Prelude.{◌≡◌, ◌⊎◌, IfOk};
 ghost use Rattle.scl_reader.specs.AnswersGiven.{answer_of};
-ghost use Rattle.scl_explain.specs.Replies.{barring, command_written};
+ghost use Rattle.scl_describe.specs.Abouts.{known_for};
+ghost use Rattle.scl_explain.specs.Replies.{command_written, concerns_files, is_barred, some_concern_files};
 ghost use Rattle.scl_explain.specs.Said.{IsCommanded, IsSaid, IsUnread};
 
 use crate::answered::{Answered, answer_case};
@@ -13,7 +14,8 @@ use crate::reply::{Reply, unread};
 use crate::report::Report;
 use crate::status::Ending;
 use crate::words::{WordForm, command_text};
-use scl_hazards::Hazard;
+use scl_describe::About;
+use scl_hazards::{Danger, Hazard};
 use scl_load::Disk;
 use scl_reader::{Compilation, CompilerArguments, Mem};
 use std::alloc::Global;
@@ -24,29 +26,51 @@ use std::fmt::Display;
 pub struct CommandForm {
     /// How its words are written.
     pub words: WordForm,
-    /// Whether none is written where a hazard is named.
+    /// Whether none is written where a hazard is named that concerns more than messages.
     pub is_strict: bool,
 }
 
-/// The hazards for which no command is written.
-fn barring(answered: &Answered, is_strict: bool) -> &[Hazard]
-    ensures { result.now ≡ barring is_strict answered.now.hazards.items }
+/// Whether what is made differs, and not only what is said of it.
+fn concerns_files(danger: Danger) -> bool
+    ensures { result ≡ concerns_files danger }
 {
-    if is_strict { &answered.hazards } else { &[] }
+    match danger {
+        Danger::Object | Danger::Failure | Danger::SideFile => true,
+        Danger::Messages => false,
+    }
 }
 
-/// The command, where there is one and no hazard bars it.
+/// Whether a hazard concerns files.
+fn some_concern_files(hazards: &[Hazard<'_>]) -> bool
+    ensures { result ≡ some_concern_files hazards.now }
+{
+    for hazard in hazards {
+        if concerns_files(hazard.danger()) {
+            return true;
+        }
+    }
+    false
+}
+
+/// Whether no command is written, since a form is strict and a hazard concerns files.
+fn is_barred(is_strict: bool, hazards: &[Hazard<'_>]) -> bool
+    ensures { result ≡ is_barred is_strict hazards.now }
+{
+    is_strict && some_concern_files(hazards)
+}
+
+/// The command, where there is one and it is not barred.
 fn command_bytes(
     alloc: Global,
     program: &[u8],
     answer: &CompilerArguments<Compilation>,
-    barring: &[Hazard],
+    is_barred: bool,
     form: WordForm,
 ) -> Mem<Vec<u8>>
-    ensures { IfOk result (λ text. text.items ≡ command_written form program.now (answer_of answer.now) barring.now) }
+    ensures { IfOk result (λ text. text.items ≡ command_written form program.now (answer_of answer.now) is_barred) }
 {
     match answer {
-        CompilerArguments::Ok(compilation) if barring.is_empty() => {
+        CompilerArguments::Ok(compilation) if !is_barred => {
             let words = &compilation.command.arguments;
             if some_hold_nul(program, words) {
                 Ok(Vec::new(alloc))
@@ -64,15 +88,15 @@ fn command_bytes(
 fn error_line<R: Report>(
     alloc: Global,
     case: &Case,
-    answered: &Answered,
-    barring: &[Hazard],
+    answered: &Answered<'_>,
+    is_barred: bool,
     report: &R,
 ) -> Mem<Option<String>> {
     if matches!(
-        Ending::of_answer(&case.program, &answered.answer, barring),
+        Ending::of_answer(&case.program, &answered.answer, is_barred),
         Ending::Hazard
     ) {
-        hazards_line(alloc, barring)
+        hazards_line(alloc, &answered.hazards)
     } else {
         ending_line(alloc, case, answered, report)
     }
@@ -81,13 +105,14 @@ fn error_line<R: Report>(
 fn command_reply<R: Report>(
     alloc: Global,
     case: &Case,
-    answered: &Answered,
+    answered: &Answered<'_>,
     form: CommandForm,
     report: &R,
 ) -> Mem<Reply>
     ensures { IfOk result (λ reply. IsCommanded form case.now reply (answer_of answered.now.answer) answered.now.hazards.items) }
 {
-    let (answer, bars) = (&answered.answer, barring(answered, form.is_strict));
+    let answer = &answered.answer;
+    let bars = is_barred(form.is_strict, &answered.hazards);
     Ok(Reply {
         output: command_bytes(alloc, &case.program, answer, bars, form.words)?,
         error: error_line(alloc, case, answered, bars, report)?,
@@ -96,13 +121,14 @@ fn command_reply<R: Report>(
 }
 
 /// The command to run in the place of a command line, quoted for a shell or each word with a NUL after it. Nothing is written
-/// where there is none, where a word of it holds a NUL, and of a strict form where a hazard is named; then it ends as such, and
+/// where there is none, where a word of it holds a NUL, and of a strict form where a hazard concerns more than messages; then it ends as such, and
 /// so says the line of standard error, with why `report` says that nothing is compiled. That its outcome may not be kept is said
 /// there too. It fails only for want of memory.
 #[tactic(auto, using(crate::proofs::UnreadLaws::is_unread))]
 pub fn command<D: Disk, R: Report>(
     alloc: Global,
     disk: &D,
+    about: &About<'_>,
     case: &Case,
     multiarch: bool,
     form: CommandForm,
@@ -110,9 +136,9 @@ pub fn command<D: Disk, R: Report>(
 ) -> Mem<Reply>
 where
     D::Error: Display,
-    ensures { IfOk result (λ reply. IsUnread (D.holds disk.now) (D.fails disk.now) multiarch case.now reply ⊎ IsSaid (D.holds disk.now) multiarch case.now (IsCommanded form case.now reply)) }
+    ensures { IfOk result (λ reply. IsUnread (D.holds disk.now) (D.fails disk.now) multiarch case.now reply ⊎ IsSaid (known_for about.now) (D.holds disk.now) multiarch case.now (IsCommanded form case.now reply)) }
 {
-    match answer_case(alloc, disk, case, multiarch, false)? {
+    match answer_case(alloc, disk, about, case, multiarch, false)? {
         Ok(answered) => command_reply(alloc, case, &answered, form, report),
         Err(error) => unread(alloc, &error),
     }

@@ -39,7 +39,7 @@ pub struct Counts {
     /// The reasons for which entries can't be cached.
     pub refused: BTreeMap<String, Met>,
     /// The names of the hazards of entries.
-    pub hazards: BTreeMap<String, Met>,
+    pub hazards: BTreeMap<Vec<u8>, Met>,
     /// The entries that are none, with why.
     pub broken: Vec<(u64, String)>,
     /// The entries with a file that can't be read, with why.
@@ -115,13 +115,13 @@ impl Counts {
         alloc: Global,
         entry: u64,
         file: &str,
-        hazards: &[Hazard],
+        hazards: &[Hazard<'_>],
     ) -> Mem<()> {
         if !hazards.is_empty() {
             self.hazardous = self.hazardous.saturating_add(1);
         }
         for hazard in hazards {
-            let key = String::from_str(alloc, hazard.name())?;
+            let key = Vec::from_slice(alloc, hazard.name())?;
             meet(alloc, &mut self.hazards, key, entry, file)?;
         }
         Ok(())
@@ -146,7 +146,7 @@ impl Counts {
         alloc: Global,
         entry: u64,
         file: &str,
-        answered: &Answered,
+        answered: &Answered<'_>,
     ) -> Mem<()> {
         match &answered.answer {
             CompilerArguments::Ok(compilation) => {
@@ -173,7 +173,7 @@ impl Counts {
         alloc: Global,
         entry: u64,
         file: &str,
-        answered: &Answered,
+        answered: &Answered<'_>,
     ) -> Mem<EntryKind>
         ensures { IfOk result (λ kind. kind ≡ kind_of (answer_of answered.now.answer) answered.now.hazards.items) }
     {

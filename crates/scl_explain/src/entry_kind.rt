@@ -20,7 +20,10 @@ pub enum EntryKind {
 
 impl EntryKind {
     /// What an entry with this answer is, of whose command these hazards are named.
-    pub(crate) fn of_answer(answer: &CompilerArguments<Compilation>, hazards: &[Named]) -> EntryKind
+    pub(crate) fn of_answer(
+        answer: &CompilerArguments<Compilation>,
+        hazards: &[Named<'_>],
+    ) -> EntryKind
         ensures { result ≡ kind_of (answer_of answer.now) hazards.now }
     {
         match answer {

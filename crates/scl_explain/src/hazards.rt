@@ -4,44 +4,46 @@ ghost use Rattle.scl_explain.specs.Replies.{hazard_line, hazards_text};
 
 use scl_hazards::Hazard;
 use scl_reader::Mem;
+use scl_shell::shown;
 use std::alloc::Global;
 
 /// Puts the names of hazards behind a text. It fails only for want of memory.
-pub fn push_hazard_names(text: &mut String, hazards: &[Hazard]) -> Mem<()> {
+pub fn push_hazard_names(alloc: Global, text: &mut String, hazards: &[Hazard<'_>]) -> Mem<()> {
     for (at, hazard) in hazards.iter().enumerate() {
-        let (before, name) = (if at == 0 { "" } else { ", " }, hazard.name());
+        let name = shown(alloc, hazard.name())?;
+        let before = if at == 0 { "" } else { ", " };
         write!(text, "{before}{name}")?;
     }
     Ok(())
 }
 
-fn push_hazard_line(text: &mut Vec<u8>, hazard: Hazard) -> Mem<()>
-    ensures { OnOk result (text.new.items ≡ text.old.items ++ hazard_line hazard) }
+fn push_hazard_line(text: &mut Vec<u8>, hazard: &Hazard<'_>) -> Mem<()>
+    ensures { OnOk result (text.new.items ≡ text.old.items ++ hazard_line hazard.now) }
 {
-    text.extend_from_slice(hazard.name().as_bytes())?;
+    text.extend_from_slice(hazard.name())?;
     text.extend_from_slice(b": ")?;
-    text.extend_from_slice(hazard.consequence().as_bytes())?;
+    text.extend_from_slice(hazard.consequence())?;
     text.push(b'\n')?;
     Ok(())
 }
 
 /// A line for each hazard, with what happens.
-pub(crate) fn hazards_text(alloc: Global, hazards: &[Hazard]) -> Mem<Vec<u8>>
+pub(crate) fn hazards_text(alloc: Global, hazards: &[Hazard<'_>]) -> Mem<Vec<u8>>
     ensures { IfOk result (λ text. text.items ≡ hazards_text hazards.now) }
 {
     let mut text = Vec::new(alloc);
     for hazard in hazards {
-        push_hazard_line(&mut text, *hazard)?;
+        push_hazard_line(&mut text, hazard)?;
     }
     Ok(text)
 }
 
 /// That hazards keep a command from being written, if there are some.
-pub(crate) fn hazards_line(alloc: Global, hazards: &[Hazard]) -> Mem<Option<String>> {
+pub(crate) fn hazards_line(alloc: Global, hazards: &[Hazard<'_>]) -> Mem<Option<String>> {
     if hazards.is_empty() {
         return Ok(None);
     }
     let mut text = String::from_str(alloc, "hazards: ")?;
-    push_hazard_names(&mut text, hazards)?;
+    push_hazard_names(alloc, &mut text, hazards)?;
     Ok(Some(text))
 }

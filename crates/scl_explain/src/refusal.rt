@@ -66,7 +66,7 @@ fn command_line(alloc: Global, program: &[u8], compilation: &Compilation) -> Mem
 pub(crate) fn ending_line<R: Report>(
     alloc: Global,
     case: &Case,
-    answered: &Answered,
+    answered: &Answered<'_>,
     report: &R,
 ) -> Mem<Option<String>> {
     match &answered.answer {

@@ -7,6 +7,7 @@ use crate::answered::{Answered, answer_case};
 use crate::case::Case;
 use crate::report::Report;
 use crate::status::Ending;
+use scl_describe::About;
 use scl_load::{Disk, LoadError};
 use scl_reader::Mem;
 use std::alloc::Global;
@@ -72,6 +73,7 @@ pub(crate) fn unread<E: Display>(alloc: Global, error: &LoadError<E>) -> Mem<Rep
 pub fn explain<D: Disk, R: Report>(
     alloc: Global,
     disk: &D,
+    about: &About<'_>,
     case: &Case,
     multiarch: bool,
     form: Form,
@@ -81,7 +83,7 @@ where
     D::Error: Display,
     ensures { IfOk result (λ reply. IsUnread (D.holds disk.now) (D.fails disk.now) multiarch case.now reply ⊎ (reply.ending ≡ ending.Answered)) }
 {
-    match answer_case(alloc, disk, case, multiarch, true)? {
+    match answer_case(alloc, disk, about, case, multiarch, true)? {
         Ok(answered) => Ok(Reply {
             output: report
                 .explanation(alloc, case, &answered, form)?

@@ -12,13 +12,13 @@ pub trait Report {
         &self,
         alloc: Global,
         case: &Case,
-        answered: &Answered,
+        answered: &Answered<'_>,
         form: Form,
     ) -> Mem<String>;
 
     /// That a command line compiles nothing, and why.
-    fn nothing(&self, alloc: Global, case: &Case, answered: &Answered) -> Mem<String>;
+    fn nothing(&self, alloc: Global, case: &Case, answered: &Answered<'_>) -> Mem<String>;
 
     /// The hazards of a command line, for machines.
-    fn hazards(&self, alloc: Global, case: &Case, answered: &Answered) -> Mem<String>;
+    fn hazards(&self, alloc: Global, case: &Case, answered: &Answered<'_>) -> Mem<String>;
 }

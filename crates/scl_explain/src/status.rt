@@ -1,7 +1,7 @@
 //! How the program ends.
-ghost use Rattle.std.specs.Prelude.{◌≡◌, false, []};
+ghost use Rattle.std.specs.Prelude.{◌≡◌, false};
 ghost use Rattle.scl_reader.specs.AnswersGiven.{answer_of};
-ghost use Rattle.scl_explain.specs.Endings.{ending_of, ending_of_command, status_of};
+ghost use Rattle.scl_explain.specs.Endings.{are_named, ending_of, ending_of_command, status_of};
 
 use crate::nuls::some_hold_nul;
 use scl_hazards::Hazard;
@@ -33,9 +33,16 @@ pub enum Ending {
     NotKept,
 }
 
+/// Whether some hazard is named.
+pub(crate) fn are_named(hazards: &[Hazard<'_>]) -> bool
+    ensures { result ≡ are_named hazards.now }
+{
+    !hazards.is_empty()
+}
+
 impl Ending {
     fn of_kept(cacheable: Cacheable) -> Ending
-        ensures { result ≡ ending_of_command false [] cacheable }
+        ensures { result ≡ ending_of_command false false cacheable }
     {
         match cacheable {
             Cacheable::No => Ending::NotKept,
@@ -43,30 +50,30 @@ impl Ending {
         }
     }
 
-    fn of_command(has_nul: bool, hazards: &[Hazard], cacheable: Cacheable) -> Ending
-        ensures { result ≡ ending_of_command has_nul hazards.now cacheable }
+    fn of_command(has_nul: bool, has_hazard: bool, cacheable: Cacheable) -> Ending
+        ensures { result ≡ ending_of_command has_nul has_hazard cacheable }
     {
         if has_nul {
             Ending::HoldsNul
-        } else if hazards.is_empty() {
-            Ending::of_kept(cacheable)
-        } else {
+        } else if has_hazard {
             Ending::Hazard
+        } else {
+            Ending::of_kept(cacheable)
         }
     }
 
-    /// How an answer for a program ends, of whose command these hazards are named.
+    /// How an answer for a program ends, by whether a hazard ends it.
     pub(crate) fn of_answer(
         program: &[u8],
         answer: &CompilerArguments<Compilation>,
-        hazards: &[Hazard],
+        has_hazard: bool,
     ) -> Ending
-        ensures { result ≡ ending_of program.now (answer_of answer.now) hazards.now }
+        ensures { result ≡ ending_of program.now (answer_of answer.now) has_hazard }
     {
         match answer {
             CompilerArguments::Ok(compilation) => {
                 let has_nul = some_hold_nul(program, &compilation.command.arguments);
-                Ending::of_command(has_nul, hazards, compilation.cacheable)
+                Ending::of_command(has_nul, has_hazard, compilation.cacheable)
             }
             CompilerArguments::CannotCache(_, _) => Ending::CannotCache,
             CompilerArguments::NotCompilation => Ending::CompilesNothing,

@@ -1,20 +1,33 @@
--- The hazards of clang-cl's command lines.
+-- The hazards of cl's and clang-cl's command lines.
 use Rattle.std.specs.Prelude.{ℕ, Bool, false, cond, ◌||◌, List, [], ◌++◌, Option, None, Some, unwrap_or}
+use Rattle.scl_catalogue.specs.Found.{LineSeen, OptionSeen}
+use Rattle.scl_catalogue.specs.declared.case.Compiler.{Compiler}
+use Rattle.scl_catalogue.specs.declared.case.Compiler.TheVariants as compilers
+use Rattle.scl_catalogue.specs.declared.case.Version.{Version}
+use Rattle.scl_catalogue.specs.declared.line.Facts.{Facts}
 use Rattle.scl_driver_texts.specs.Otherwise.{is_split_otherwise, splits_otherwise}
 use Rattle.scl_driver_texts.specs.declared.splitter.Splitter.TheVariants as splitters
 use Rattle.scl_files.specs.Decoding.{utf8_mark}
+use Rattle.scl_files.specs.Paths.{extension}
 use Rattle.scl_files.specs.declared.expand.ExpansionKind.TheVariants as expansions
+use Rattle.scl_gnu_reading.specs.Places as gnu
+use Rattle.scl_gnu_reading.specs.declared.gcc.place.Place.TheVariants as gnu_places
 use Rattle.scl_msvc.specs.Environment.{back_variable, front_variable, value_of}
+use Rattle.scl_msvc_reading.specs.Places.{goes_to}
 use Rattle.scl_msvc_reading.specs.Reads.{MsvcRead}
-use Rattle.scl_msvc_reading.specs.declared.msvc.data.Kind.{Kind}
+use Rattle.scl_msvc_reading.specs.declared.msvc.place.Place.TheVariants as places
 use Rattle.scl_text.specs.Commands.{object_of}
+use Rattle.scl_text.specs.Languages.{needs_c_preprocessing}
 use Rattle.scl_text.specs.Records.{Parsed}
-use Rattle.scl_hazards.specs.ClangClRows.{cl_text_rows, cl_word_rows}
 use Rattle.scl_hazards.specs.GnuHazards.{of_record}
-use Rattle.scl_hazards.specs.Lines.{Lined}
-use Rattle.scl_hazards.specs.Rows.{found}
-use Rattle.scl_hazards.specs.declared.driver.Driver.TheVariants as drivers
-use Rattle.scl_hazards.specs.declared.hazard.Hazard.{Hazard}
+use Rattle.scl_hazards.specs.Hazards.{Hazard, Known, hazards_found}
+use Rattle.scl_hazards.specs.KindTexts.{cl_kind_text, gnu_kind_text}
+use Rattle.scl_hazards.specs.Languages.{language_name}
+use Rattle.scl_hazards.specs.Options.{is_hidden, options_seen}
+
+-- the compiler that a catalogue calls so
+abbrev pub cl_compiler : (is_clang : Bool) → Compiler
+cl_compiler is_clang = cond is_clang compilers.ClangCl compilers.Cl
 
 -- the value of a variable is split otherwise: a text of UTF-8, as if a file began with its mark
 abbrev pub splits_value : Option (List ℕ) → Bool
@@ -24,30 +37,49 @@ splits_value (Some value) = is_split_otherwise splitters.LlvmWindows expansions.
 abbrev pub splits_environment : List (List ℕ × List ℕ) → Bool
 splits_environment pairs = splits_value (value_of front_variable pairs) || splits_value (value_of back_variable pairs)
 
--- the command line, in an environment of these pairs, with its record
-abbrev pub cl_line : List (List ℕ × List ℕ) → MsvcRead → Parsed → Lined Kind
-cl_line pairs r p =
-    record {
-      driver = drivers.ClangCl;
-      is_plusplus = false;
-      is_apple = false;
-      words = r.outer.words;
-      options = r.outer.line.options;
-      inner_words = r.handed;
-      inner = r.inner.line.options;
-      input = p.input;
-      language = p.language;
-      object = unwrap_or (object_of p) [];
-      texts = r.outer.texts;
-      splits_otherwise = splits_otherwise splitters.LlvmWindows expansions.Msvc r.outer.texts;
-      environment = r.environment;
-      splits_environment = splits_environment pairs;
-    }
+abbrev pub cl_options : MsvcRead → List OptionSeen
+cl_options r = options_seen cl_kind_text (goes_to places.Common) r.outer.words r.outer.line.options
 
--- the hazards that are there, in the order of the tables
-unfoldable pub cl_found : Lined Kind → List Hazard
-cl_found l = found cl_text_rows l ++ found cl_word_rows l
+abbrev pub cl_inner : MsvcRead → List OptionSeen
+cl_inner r = options_seen gnu_kind_text (gnu.goes_to gnu_places.Common) r.handed r.inner.line.options
 
--- the hazards of a reading, if it has a record; of cl none is known
-unfoldable pub msvc_hazards : List (List ℕ × List ℕ) → MsvcRead → List Hazard
-msvc_hazards pairs r = cond r.is_clang (of_record (λ p. cl_found (cl_line pairs r p)) r.outcome) []
+-- what is told of a line with this record, in an environment of these pairs
+abbrev pub cl_facts : List (List ℕ × List ℕ) → MsvcRead → Parsed → Facts
+cl_facts pairs r p = record {
+  is_plusplus = false;
+  is_apple = false;
+  is_preprocessed = needs_c_preprocessing p.language;
+  is_other_language = false;
+  is_split_otherwise = splits_otherwise splitters.LlvmWindows expansions.Msvc r.outer.texts;
+  is_environment_split_otherwise = splits_environment pairs;
+  is_input_hidden = is_hidden p.input;
+  is_object_hidden = is_hidden (unwrap_or (object_of p) []);
+  has_other_target = false;
+  is_object_renamed = false;
+  has_precompiled_header = false;
+}
+
+-- the command line with its record, where these facts and options are told
+abbrev pub line_told : Option Version → MsvcRead → Parsed → Facts → (options inner : List OptionSeen) → LineSeen
+line_told version r p facts options inner = record {
+  compiler = cl_compiler r.is_clang;
+  version = version;
+  facts = facts;
+  options = options;
+  inner = inner;
+  words = r.outer.words;
+  files = r.outer.texts;
+  environment = r.environment;
+  language = language_name p.language;
+  input = p.input;
+  extension = extension p.input;
+  object = unwrap_or (object_of p) [];
+}
+
+-- the command line, in an environment of these pairs
+abbrev pub cl_line : Known → List (List ℕ × List ℕ) → MsvcRead → Parsed → LineSeen
+cl_line known pairs r p = line_told known.version r p (cl_facts pairs r p) (cl_options r) (cl_inner r)
+
+-- the hazards of a reading, if it has a record
+unfoldable pub msvc_hazards : Known → List (List ℕ × List ℕ) → MsvcRead → List Hazard
+msvc_hazards known pairs r = of_record (λ p. hazards_found known.catalogue (cl_line known pairs r p)) r.outcome

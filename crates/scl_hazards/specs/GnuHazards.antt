@@ -1,70 +1,85 @@
 -- The hazards of gcc's and clang's command lines.
-use Rattle.std.specs.Prelude.{Bool, false, cond, List, [], ◌++◌, Result, Ok, Err, unwrap_or}
+use Rattle.std.specs.Prelude.{Bool, false, cond, List, [], Option, Result, Ok, Err, unwrap_or}
+use Rattle.scl_catalogue.specs.Found.{LineSeen, OptionSeen}
+use Rattle.scl_catalogue.specs.declared.case.Compiler.{Compiler}
+use Rattle.scl_catalogue.specs.declared.case.Compiler.TheVariants as compilers
+use Rattle.scl_catalogue.specs.declared.case.Version.{Version}
+use Rattle.scl_catalogue.specs.declared.line.Facts.{Facts}
 use Rattle.scl_driver_texts.specs.Otherwise.{splits_otherwise}
 use Rattle.scl_driver_texts.specs.declared.splitter.Splitter.{Splitter}
 use Rattle.scl_driver_texts.specs.declared.splitter.Splitter.TheVariants as splitters
+use Rattle.scl_files.specs.Paths.{extension}
 use Rattle.scl_files.specs.declared.expand.ExpansionKind.TheVariants as expansions
+use Rattle.scl_gnu_reading.specs.Places.{goes_to}
 use Rattle.scl_gnu_reading.specs.Reads.{GnuRead}
 use Rattle.scl_gnu_reading.specs.Recordings.{is_clang}
-use Rattle.scl_gnu_reading.specs.declared.gcc.data.Kind.{Kind}
+use Rattle.scl_gnu_reading.specs.declared.gcc.place.Place.TheVariants as places
 use Rattle.scl_text.specs.Commands.{object_of}
+use Rattle.scl_text.specs.Languages.{needs_c_preprocessing}
 use Rattle.scl_text.specs.Records.{Parsed, Verdict}
 use Rattle.scl_text.specs.declared.records.CCompilerKind.{CCompilerKind}
-use Rattle.scl_hazards.specs.GnuRows.{text_rows, split_dwarf_rows, recorded_rows, output_rows, language_rows, word_rows, order_rows, dependency_rows, diagnostic_rows}
-use Rattle.scl_hazards.specs.Lines.{Lined}
-use Rattle.scl_hazards.specs.Rows.{found}
-use Rattle.scl_hazards.specs.declared.driver.Driver.{Driver}
-use Rattle.scl_hazards.specs.declared.driver.Driver.TheVariants as drivers
-use Rattle.scl_hazards.specs.declared.hazard.Hazard.{Hazard}
+use Rattle.scl_hazards.specs.Hazards.{Hazard, Known, hazards_found}
+use Rattle.scl_hazards.specs.KindTexts.{gnu_kind_text}
+use Rattle.scl_hazards.specs.Languages.{is_other_language, language_name}
+use Rattle.scl_hazards.specs.Options.{is_hidden, options_seen}
+use Rattle.scl_hazards.specs.Targets.{has_other_target, is_renamed}
 
 -- of a command line that has a record
 abbrev pub of_record : (Parsed → List Hazard) → Result Parsed Verdict → List Hazard
 of_record hazards (Ok p) = hazards p
 of_record hazards (Err said) = []
 
--- the driver that a compiler is
-abbrev pub driver_of : CCompilerKind → Driver
-driver_of compiler = cond (is_clang compiler) drivers.Clang drivers.Gcc
+-- the compiler that a catalogue calls so
+abbrev pub compiler_of : CCompilerKind → Compiler
+compiler_of kind = cond (is_clang kind) compilers.Clang compilers.Gcc
 
--- how the driver splits texts
-abbrev pub splitter_of : Driver → Splitter
-splitter_of drivers.Gcc = splitters.Libiberty
-splitter_of drivers.Clang = splitters.LlvmGnu
-splitter_of drivers.ClangCl = splitters.LlvmWindows
+-- how it splits texts
+abbrev pub splitter_of : CCompilerKind → Splitter
+splitter_of kind = cond (is_clang kind) splitters.LlvmGnu splitters.Libiberty
 
--- the command line, with its record
-abbrev pub gnu_line : (is_apple : Bool) → GnuRead → Parsed → Lined Kind
-gnu_line is_apple r p =
-    record {
-      driver = driver_of r.compiler;
-      is_plusplus = r.plusplus;
-      is_apple = is_apple;
-      words = r.outer.words;
-      options = r.outer.line.options;
-      inner_words = r.handed;
-      inner = r.inner.line.options;
-      input = p.input;
-      language = p.language;
-      object = unwrap_or (object_of p) [];
-      texts = r.outer.texts;
-      splits_otherwise = splits_otherwise (splitter_of (driver_of r.compiler)) expansions.Gnu r.outer.texts;
-      environment = [];
-      splits_environment = false;
-    }
+abbrev pub gnu_options : GnuRead → List OptionSeen
+gnu_options r = options_seen gnu_kind_text (goes_to places.Common) r.outer.words r.outer.line.options
 
--- the hazards that are there, in the order of the tables
-abbrev pub in_texts_and_records : Lined Kind → List Hazard
-in_texts_and_records l = found text_rows l ++ (found split_dwarf_rows l ++ found recorded_rows l)
+abbrev pub gnu_inner : GnuRead → List OptionSeen
+gnu_inner r = options_seen gnu_kind_text (goes_to places.Common) r.handed r.inner.line.options
 
-abbrev pub in_outputs_and_words : Lined Kind → List Hazard
-in_outputs_and_words l = found output_rows l ++ (found language_rows l ++ found word_rows l)
+-- what is told of a line with this record and these options
+abbrev pub gnu_facts : (is_apple has_precompiled_header : Bool) → GnuRead → Parsed → List OptionSeen → Facts
+gnu_facts is_apple has_precompiled_header r p options = record {
+  is_plusplus = r.plusplus;
+  is_apple = is_apple;
+  is_preprocessed = needs_c_preprocessing p.language;
+  is_other_language = is_other_language r.plusplus p.input p.language options;
+  is_split_otherwise = splits_otherwise (splitter_of r.compiler) expansions.Gnu r.outer.texts;
+  is_environment_split_otherwise = false;
+  is_input_hidden = is_hidden p.input;
+  is_object_hidden = is_hidden (unwrap_or (object_of p) []);
+  has_other_target = has_other_target (unwrap_or (object_of p) []) options;
+  is_object_renamed = is_renamed p.input (unwrap_or (object_of p) []);
+  has_precompiled_header = has_precompiled_header;
+}
 
-abbrev pub in_order_and_messages : Lined Kind → List Hazard
-in_order_and_messages l = found order_rows l ++ (found dependency_rows l ++ found diagnostic_rows l)
+-- the command line with its record, where these facts and options are told
+abbrev pub line_told : Option Version → GnuRead → Parsed → Facts → (options inner : List OptionSeen) → LineSeen
+line_told version r p facts options inner = record {
+  compiler = compiler_of r.compiler;
+  version = version;
+  facts = facts;
+  options = options;
+  inner = inner;
+  words = r.outer.words;
+  files = r.outer.texts;
+  environment = [];
+  language = language_name p.language;
+  input = p.input;
+  extension = extension p.input;
+  object = unwrap_or (object_of p) [];
+}
 
-unfoldable pub gnu_found : Lined Kind → List Hazard
-gnu_found l = in_texts_and_records l ++ (in_outputs_and_words l ++ in_order_and_messages l)
+abbrev pub gnu_line : Known → (has_precompiled_header : Bool) → GnuRead → Parsed → LineSeen
+gnu_line known has_precompiled_header r p =
+    line_told known.version r p (gnu_facts known.is_apple has_precompiled_header r p (gnu_options r)) (gnu_options r) (gnu_inner r)
 
 -- the hazards of a reading, if it has a record
-unfoldable pub gnu_hazards : (is_apple : Bool) → GnuRead → List Hazard
-gnu_hazards is_apple r = of_record (λ p. gnu_found (gnu_line is_apple r p)) r.outcome
+unfoldable pub gnu_hazards : Known → (has_precompiled_header : Bool) → GnuRead → List Hazard
+gnu_hazards known has_precompiled_header r = of_record (λ p. hazards_found known.catalogue (gnu_line known has_precompiled_header r p)) r.outcome

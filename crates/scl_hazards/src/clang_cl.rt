@@ -1,44 +1,55 @@
-//! The hazards of clang-cl's command lines.
-ghost use Rattle.std.specs.Prelude.{◌≡◌, IfOk};
+//! The hazards of cl's and clang-cl's command lines.
+ghost use Rattle.std.specs.Prelude.{◌≡◌, IfOk, map};
 ghost use Rattle.std.specs.Option.{option_copied};
+ghost use Rattle.scl_catalogue.specs.Views.{line_of, seen_of};
 ghost use Rattle.scl_msvc.specs.Environment.{value_of};
-ghost use Rattle.scl_msvc_reading.specs.Data.{kind_of, word_of};
 ghost use Rattle.scl_text.specs.Commands.{pairs_of};
 ghost use Rattle.scl_text.specs.Records.{parsed_of};
-ghost use Rattle.scl_hazards.specs.ClangClHazards.{cl_found, cl_line, msvc_hazards, splits_environment, splits_value};
-ghost use Rattle.scl_hazards.specs.Lines.{line_of};
+ghost use Rattle.scl_hazards.specs.ClangClHazards.{cl_compiler, cl_facts, cl_inner, cl_line, cl_options, line_told, msvc_hazards, splits_environment, splits_value};
+ghost use Rattle.scl_hazards.specs.Hazards.{hazards_found};
 
-use crate::clang_cl_rows::{cl_text_rows, cl_word_rows};
-use crate::driver::Driver;
+use crate::found::hazards_found;
 use crate::gnu::object_of;
 use crate::hazard::Hazard;
-use crate::line::Line;
-use crate::row::push_found;
-use crate::test::Kinded;
+use crate::kind_texts::cl_kind_text;
+use crate::known::Known;
+use crate::language::language_name;
+use crate::seen::{BothSeen, Kinded, is_hidden, options_seen};
 use scl_args::{Argument, Mem};
+use scl_catalogue::{Compiler, Facts, Line};
 use scl_driver_texts::{Splitter, is_split_otherwise, splits_otherwise};
-use scl_gnu_reading::gcc;
 use scl_msvc_reading::msvc::{ArgData, Kind, MsvcReading, Place, place_of};
+use scl_text::path::extension;
 use scl_text::records::CompilerArguments;
 use scl_text::{ExpansionKind, ParsedArguments};
 use std::alloc::Global;
 
 impl Kinded for ArgData {
-    ghost use Rattle.scl_hazards.specs.ClangCl.{cl_means, cl_stays};
+    ghost use Rattle.scl_msvc_reading.specs.Places.{goes_to};
+    ghost use Rattle.scl_msvc_reading.specs.declared.msvc.place.Place.TheVariants as places;
+    ghost use Rattle.scl_hazards.specs.KindTexts.{cl_kind_text};
 
-    ghost means = { cl_means };
+    ghost kind_text = { cl_kind_text };
 
-    ghost stays = { cl_stays };
+    ghost is_common = { goes_to places.Common };
 
-    fn means(kind: Kind) -> Option<gcc::Kind> {
-        match kind {
-            Kind::Output => Some(gcc::Kind::Output),
-            _ => None,
-        }
+    fn kind_text(kind: Kind) -> &'static [u8] {
+        cl_kind_text(kind)
     }
 
-    fn stays(option: &Argument<ArgData>) -> bool {
+    fn is_common(option: &Argument<ArgData>) -> bool {
         place_of(option) == Place::Common
+    }
+}
+
+/// The compiler that a catalogue calls so.
+fn cl_compiler(is_clang: bool) -> Compiler
+    ensures { result ≡ cl_compiler is_clang }
+{
+    if is_clang {
+        Compiler::ClangCl
+    } else {
+        Compiler::Cl
     }
 }
 
@@ -74,63 +85,99 @@ fn splits_environment(alloc: Global, env_vars: &[(Vec<u8>, Vec<u8>)]) -> Mem<boo
     Ok(front || back)
 }
 
-/// The hazards of a line that are there, in the order of the tables.
-#[tactic(auto, unfolding(crate::specs::ClangClHazards::cl_found))]
-fn cl_found(alloc: Global, line: &Line<'_, ArgData>) -> Mem<Vec<Hazard>>
-    ensures { IfOk result (λ hazards. hazards.items ≡ cl_found (line_of kind_of word_of line.now)) }
+/// The options of the line and of its inner one.
+fn both_seen(alloc: Global, reading: &MsvcReading) -> Mem<BothSeen<'_>>
+    ensures outer { IfOk result (λ both. map seen_of both.outer.items ≡ cl_options reading.now) }
+    ensures inner { IfOk result (λ both. map seen_of both.inner.items ≡ cl_inner reading.now) }
 {
-    let mut hazards = Vec::new(alloc);
-    push_found(&mut hazards, cl_text_rows(), line)?;
-    push_found(&mut hazards, cl_word_rows(), line)?;
-    Ok(hazards)
+    let line = reading.outer();
+    let outer = options_seen(alloc, line.words(), line.line().options().as_slice())?;
+    let inner_options = reading.inner().line().options().as_slice();
+    let inner = options_seen(alloc, reading.handed(), inner_options)?;
+    Ok(BothSeen { outer, inner })
 }
 
-/// The hazards of a command line of clang-cl that has this record, in this environment.
-fn hazards_with(
+/// What is told of the line beside its words and options.
+fn cl_facts(
     alloc: Global,
     reading: &MsvcReading,
     env_vars: &[(Vec<u8>, Vec<u8>)],
     parsed: &ParsedArguments,
-) -> Mem<Vec<Hazard>>
-    ensures { IfOk result (λ hazards. hazards.items ≡ cl_found (cl_line (pairs_of env_vars.now) reading.now (parsed_of parsed.now))) }
+) -> Mem<Facts>
+    ensures { IfOk result (λ facts. facts ≡ cl_facts (pairs_of env_vars.now) reading.now (parsed_of parsed.now)) }
 {
-    let (outer, msvc) = (reading.outer(), ExpansionKind::Msvc);
-    let texts = outer.texts();
-    let line = Line {
-        driver: Driver::ClangCl,
+    let (texts, msvc) = (reading.outer().texts(), ExpansionKind::Msvc);
+    Ok(Facts {
         is_plusplus: false,
         is_apple: false,
-        words: outer.words(),
-        options: outer.line().options().as_slice(),
-        inner_words: reading.handed(),
-        inner: reading.inner().line().options().as_slice(),
-        input: &parsed.input,
-        language: parsed.language,
-        object: object_of(parsed),
-        texts,
-        splits_otherwise: splits_otherwise(alloc, Splitter::LlvmWindows, msvc, texts)?,
-        environment: reading.environment(),
-        splits_environment: splits_environment(alloc, env_vars)?,
-    };
-    cl_found(alloc, &line)
+        is_preprocessed: parsed.language.needs_c_preprocessing(),
+        is_other_language: false,
+        is_split_otherwise: splits_otherwise(alloc, Splitter::LlvmWindows, msvc, texts)?,
+        is_environment_split_otherwise: splits_environment(alloc, env_vars)?,
+        is_input_hidden: is_hidden(&parsed.input),
+        is_object_hidden: is_hidden(object_of(parsed)),
+        has_other_target: false,
+        is_object_renamed: false,
+        has_precompiled_header: false,
+    })
 }
 
-/// The hazards of a command line of cl or of clang-cl, read in this environment: exactly those of which a case of the tables is
-/// there, in the order of the tables; none where it has no record, and none of cl, of which nothing is known (docs/RULES.md,
-/// Hazards). It fails only for want of memory.
-#[tactic(auto, unfolding(crate::specs::ClangClHazards::msvc_hazards))]
-pub fn msvc_hazards(
+/// The command line with this record, of which these facts and options are told.
+fn line_told<'a>(
+    known: &Known<'_>,
+    reading: &'a MsvcReading,
+    parsed: &'a ParsedArguments,
+    facts: Facts,
+    options: &'a BothSeen<'a>,
+) -> Line<'a>
+    ensures { line_of result ≡ line_told known.now.version reading.now (parsed_of parsed.now) facts (map seen_of options.now.outer.items) (map seen_of options.now.inner.items) }
+{
+    let outer = reading.outer();
+    Line {
+        compiler: cl_compiler(reading.is_clang()),
+        version: known.version(),
+        facts,
+        options: &options.outer,
+        inner: &options.inner,
+        words: outer.words(),
+        files: outer.texts(),
+        environment: reading.environment(),
+        language: language_name(parsed.language),
+        input: &parsed.input,
+        extension: extension(&parsed.input),
+        object: object_of(parsed),
+    }
+}
+
+/// The hazards of a command line that has this record, in this environment.
+fn hazards_with<'r, 'a>(
     alloc: Global,
+    known: &Known<'a>,
+    reading: &'r MsvcReading,
+    env_vars: &[(Vec<u8>, Vec<u8>)],
+    parsed: &'r ParsedArguments,
+) -> Mem<Vec<Hazard<'a>>>
+    ensures { IfOk result (λ hazards. hazards.items ≡ hazards_found known.now.catalogue (cl_line known.now (pairs_of env_vars.now) reading.now (parsed_of parsed.now))) }
+{
+    let options = both_seen(alloc, reading)?;
+    let facts = cl_facts(alloc, reading, env_vars, parsed)?;
+    let line = line_told(known, reading, parsed, facts, &options);
+    hazards_found(alloc, known, &line)
+}
+
+/// The hazards of a command line of cl or of clang-cl, read in this environment: exactly those of which the catalogue has a case
+/// that is there, in its order; none where the line has no record (docs/RULES.md, Hazards). It fails only for want of memory.
+#[tactic(auto, unfolding(crate::specs::ClangClHazards::msvc_hazards))]
+pub fn msvc_hazards<'a>(
+    alloc: Global,
+    known: &Known<'a>,
     reading: &MsvcReading,
     env_vars: &[(Vec<u8>, Vec<u8>)],
-) -> Mem<Vec<Hazard>>
-    ensures { IfOk result (λ hazards. hazards.items ≡ msvc_hazards (pairs_of env_vars.now) reading.now) }
+) -> Mem<Vec<Hazard<'a>>>
+    ensures { IfOk result (λ hazards. hazards.items ≡ msvc_hazards known.now (pairs_of env_vars.now) reading.now) }
 {
-    if !reading.is_clang() {
-        return Ok(Vec::new(alloc));
-    }
     match reading.outcome() {
-        CompilerArguments::Ok(parsed) => hazards_with(alloc, reading, env_vars, parsed),
+        CompilerArguments::Ok(parsed) => hazards_with(alloc, known, reading, env_vars, parsed),
         CompilerArguments::CannotCache(_, _) | CompilerArguments::NotCompilation => {
             Ok(Vec::new(alloc))
         }

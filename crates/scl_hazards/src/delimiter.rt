@@ -1,22 +1,18 @@
 //! Options that lack their delimiter in the built command.
 ghost use Rattle.std.specs.Prelude.{◌≡◌};
 ghost use Rattle.scl_values.specs.Words.{words_of};
-ghost use Rattle.scl_hazards.specs.Conditions.{delimiter_of, is_delimited, lacks_delimiter, stands_delimited};
-ghost use Rattle.scl_hazards.specs.Texts.{texts_of};
+ghost use Rattle.scl_hazards.specs.Options.{delimiter_of, is_delimited, lacks_delimiter, stands_delimited};
 
-use crate::test::Kinded;
-use crate::text::is;
-use scl_args::{ArgDisposition, Argument, Delimiter, Test};
+use scl_args::{ArgDisposition, Delimiter};
 
 /// Whether the word is the flag and the delimiter.
-fn is_delimited(flag: &str, delimiter: u8, word: &[u8]) -> bool
+fn is_delimited(flag: &[u8], delimiter: u8, word: &[u8]) -> bool
     ensures { result ≡ is_delimited flag.now delimiter word.now }
 {
-    let flag = flag.as_bytes();
     word.starts_with(flag) && word[flag.len()..] == [delimiter]
 }
 
-fn stands_delimited(words: &[Vec<u8>], flag: &str, delimiter: Delimiter) -> bool
+fn stands_delimited(words: &[Vec<u8>], flag: &[u8], delimiter: Delimiter) -> bool
     ensures { result ≡ stands_delimited (words_of words.now) flag.now delimiter }
 {
     let Some(delimiter) = delimiter else {
@@ -41,28 +37,17 @@ fn delimiter_of(how: ArgDisposition) -> Delimiter
     }
 }
 
-/// The test that options pass which have an empty value and another flag than these, and of which a word has the delimiter.
-#[derive(Clone, Copy)]
-pub(crate) struct LacksDelimiter<'a> {
-    pub(crate) words: &'a [Vec<u8>],
-    pub(crate) but: &'a [&'static str],
-}
-
-impl<'a, T: Kinded> Test<T> for LacksDelimiter<'a> {
-    ghost use Rattle.scl_values.specs.Words.{words_of};
-    ghost use Rattle.scl_hazards.specs.Conditions.{lacks_delimiter};
-    ghost use Rattle.scl_hazards.specs.Texts.{texts_of};
-
-    ghost passes = { λ test. lacks_delimiter (words_of test.words.now) (texts_of test.but.now) };
-
-    fn passes(&self, option: &Argument<T>) -> bool {
-        match option {
-            Argument::Raw(_) | Argument::UnknownFlag(_) | Argument::Flag(_, _) => false,
-            Argument::WithValue(flag, value, how) => {
-                value.word().is_empty()
-                    && !is(self.but, flag.as_bytes())
-                    && stands_delimited(self.words, flag, delimiter_of(*how))
-            }
-        }
-    }
+/// Whether an option with this flag and value has an empty value, and one of the words has its delimiter.
+pub(crate) fn lacks_delimiter(
+    words: &[Vec<u8>],
+    flag: &[u8],
+    value: &[u8],
+    how: Option<ArgDisposition>,
+) -> bool
+    ensures { result ≡ lacks_delimiter (words_of words.now) flag.now value.now how }
+{
+    let Some(how) = how else {
+        return false;
+    };
+    value.is_empty() && stands_delimited(words, flag, delimiter_of(how))
 }

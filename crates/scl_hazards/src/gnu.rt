@@ -1,60 +1,66 @@
 //! The hazards of gcc's and clang's command lines.
-ghost use Rattle.std.specs.Prelude.{◌≡◌, ◌++◌, IfOk, OnOk, unwrap_or, []};
-ghost use Rattle.scl_gnu_reading.specs.Data.{kind_of, word_of};
+ghost use Rattle.std.specs.Prelude.{◌≡◌, IfOk, map, unwrap_or, []};
+ghost use Rattle.scl_catalogue.specs.Views.{line_of, seen_of};
+ghost use Rattle.scl_values.specs.Words.{words_of};
 ghost use Rattle.scl_text.specs.Commands.{object_of};
 ghost use Rattle.scl_text.specs.Records.{parsed_of};
-ghost use Rattle.scl_hazards.specs.GnuHazards.{driver_of, gnu_found, gnu_hazards, gnu_line, in_order_and_messages, in_outputs_and_words, in_texts_and_records, splitter_of};
-ghost use Rattle.scl_hazards.specs.Lines.{line_of};
+ghost use Rattle.scl_hazards.specs.GnuHazards.{compiler_of, gnu_facts, gnu_hazards, gnu_inner, gnu_line, gnu_options, line_told, splitter_of};
+ghost use Rattle.scl_hazards.specs.Hazards.{hazards_found};
 
-use crate::driver::Driver;
-use crate::gnu_rows::*;
+use crate::found::hazards_found;
 use crate::hazard::Hazard;
-use crate::line::Line;
-use crate::row::push_found;
-use crate::test::Kinded;
+use crate::kind_texts::gnu_kind_text;
+use crate::known::Known;
+use crate::language::{is_other_language, language_name};
+use crate::seen::{BothSeen, Kinded, is_hidden, options_seen};
+use crate::targets::{has_other_target, is_renamed};
 use scl_args::{Argument, Mem};
+use scl_catalogue::{Compiler, Facts, Line, Seen};
 use scl_driver_texts::{Splitter, splits_otherwise};
 use scl_gnu_reading::gcc::{ArgData, GnuReading, Kind, Place, place_of};
 use scl_text::outputs::output_path;
+use scl_text::path::extension;
 use scl_text::records::{CCompilerKind, CompilerArguments};
 use scl_text::{ExpansionKind, ParsedArguments};
 use std::alloc::Global;
 
 impl Kinded for ArgData {
-    ghost use Rattle.scl_hazards.specs.Inner.{gnu_means, gnu_stays};
+    ghost use Rattle.scl_gnu_reading.specs.Places.{goes_to};
+    ghost use Rattle.scl_gnu_reading.specs.declared.gcc.place.Place.TheVariants as places;
+    ghost use Rattle.scl_hazards.specs.KindTexts.{gnu_kind_text};
 
-    ghost means = { gnu_means };
+    ghost kind_text = { gnu_kind_text };
 
-    ghost stays = { gnu_stays };
+    ghost is_common = { goes_to places.Common };
 
-    fn means(kind: Kind) -> Option<Kind> {
-        Some(kind)
+    fn kind_text(kind: Kind) -> &'static [u8] {
+        gnu_kind_text(kind)
     }
 
-    fn stays(option: &Argument<ArgData>) -> bool {
+    fn is_common(option: &Argument<ArgData>) -> bool {
         place_of(option) == Place::Common
     }
 }
 
-/// How the driver splits texts.
-fn splitter_of(driver: Driver) -> Splitter
-    ensures { result ≡ splitter_of driver }
+/// The compiler that a catalogue calls so.
+fn compiler_of(kind: CCompilerKind) -> Compiler
+    ensures { result ≡ compiler_of kind }
 {
-    match driver {
-        Driver::Gcc => Splitter::Libiberty,
-        Driver::Clang => Splitter::LlvmGnu,
-        Driver::ClangCl => Splitter::LlvmWindows,
+    if kind == CCompilerKind::Clang {
+        Compiler::Clang
+    } else {
+        Compiler::Gcc
     }
 }
 
-/// The driver that a compiler is.
-fn driver_of(compiler: CCompilerKind) -> Driver
-    ensures { result ≡ driver_of compiler }
+/// How it splits texts.
+fn splitter_of(kind: CCompilerKind) -> Splitter
+    ensures { result ≡ splitter_of kind }
 {
-    if compiler == CCompilerKind::Clang {
-        Driver::Clang
+    if kind == CCompilerKind::Clang {
+        Splitter::LlvmGnu
     } else {
-        Driver::Gcc
+        Splitter::Libiberty
     }
 }
 
@@ -68,81 +74,117 @@ pub(crate) fn object_of(parsed: &ParsedArguments) -> &[u8]
     }
 }
 
-fn push_texts_and_records(hazards: &mut Vec<Hazard>, line: &Line<'_, ArgData>) -> Mem<()>
-    ensures { OnOk result (hazards.new.items ≡ hazards.old.items ++ in_texts_and_records (line_of kind_of word_of line.now)) }
+/// The options of the line and of its inner one.
+fn both_seen(alloc: Global, reading: &GnuReading) -> Mem<BothSeen<'_>>
+    ensures outer { IfOk result (λ both. map seen_of both.outer.items ≡ gnu_options reading.now) }
+    ensures inner { IfOk result (λ both. map seen_of both.inner.items ≡ gnu_inner reading.now) }
 {
-    push_found(hazards, text_rows(), line)?;
-    push_found(hazards, split_dwarf_rows(), line)?;
-    push_found(hazards, recorded_rows(), line)
+    let line = reading.outer();
+    let outer = options_seen(alloc, line.words(), line.line().options().as_slice())?;
+    let inner_options = reading.inner().line().options().as_slice();
+    let inner = options_seen(alloc, reading.handed(), inner_options)?;
+    Ok(BothSeen { outer, inner })
 }
 
-fn push_outputs_and_words(hazards: &mut Vec<Hazard>, line: &Line<'_, ArgData>) -> Mem<()>
-    ensures { OnOk result (hazards.new.items ≡ hazards.old.items ++ in_outputs_and_words (line_of kind_of word_of line.now)) }
+/// What is told of the line beside its words and options.
+fn gnu_facts(
+    alloc: Global,
+    is_apple: bool,
+    has_precompiled_header: bool,
+    reading: &GnuReading,
+    parsed: &ParsedArguments,
+    options: &[Seen<'_>],
+) -> Mem<Facts>
+    ensures { IfOk result (λ facts. facts ≡ gnu_facts is_apple has_precompiled_header reading.now (parsed_of parsed.now) (map seen_of options.now)) }
 {
-    push_found(hazards, output_rows(), line)?;
-    push_found(hazards, language_rows(), line)?;
-    push_found(hazards, word_rows(), line)
+    let splitter = splitter_of(reading.kind());
+    let (input, language, plusplus) = (&parsed.input, parsed.language, reading.plusplus());
+    Ok(Facts {
+        is_plusplus: plusplus,
+        is_apple,
+        is_preprocessed: language.needs_c_preprocessing(),
+        is_other_language: is_other_language(plusplus, input, language, options),
+        is_split_otherwise: splits_otherwise(
+            alloc,
+            splitter,
+            ExpansionKind::Gnu,
+            reading.outer().texts(),
+        )?,
+        is_environment_split_otherwise: false,
+        is_input_hidden: is_hidden(input),
+        is_object_hidden: is_hidden(object_of(parsed)),
+        has_other_target: has_other_target(options, object_of(parsed)),
+        is_object_renamed: is_renamed(alloc, input, object_of(parsed))?,
+        has_precompiled_header,
+    })
 }
 
-fn push_order_and_messages(hazards: &mut Vec<Hazard>, line: &Line<'_, ArgData>) -> Mem<()>
-    ensures { OnOk result (hazards.new.items ≡ hazards.old.items ++ in_order_and_messages (line_of kind_of word_of line.now)) }
+/// The command line with this record, of which these facts and options are told.
+fn line_told<'a>(
+    known: &Known<'_>,
+    reading: &'a GnuReading,
+    parsed: &'a ParsedArguments,
+    facts: Facts,
+    options: &'a BothSeen<'a>,
+) -> Line<'a>
+    ensures { line_of result ≡ line_told known.now.version reading.now (parsed_of parsed.now) facts (map seen_of options.now.outer.items) (map seen_of options.now.inner.items) }
 {
-    push_found(hazards, order_rows(), line)?;
-    push_found(hazards, dependency_rows(), line)?;
-    push_found(hazards, diagnostic_rows(), line)
-}
-
-/// The hazards of a line that are there, in the order of the tables.
-#[tactic(auto, unfolding(crate::specs::GnuHazards::gnu_found))]
-fn gnu_found(alloc: Global, line: &Line<'_, ArgData>) -> Mem<Vec<Hazard>>
-    ensures { IfOk result (λ hazards. hazards.items ≡ gnu_found (line_of kind_of word_of line.now)) }
-{
-    let mut hazards = Vec::new(alloc);
-    push_texts_and_records(&mut hazards, line)?;
-    push_outputs_and_words(&mut hazards, line)?;
-    push_order_and_messages(&mut hazards, line)?;
-    Ok(hazards)
+    let outer = reading.outer();
+    Line {
+        compiler: compiler_of(reading.kind()),
+        version: known.version(),
+        facts,
+        options: &options.outer,
+        inner: &options.inner,
+        words: outer.words(),
+        files: outer.texts(),
+        environment: &[],
+        language: language_name(parsed.language),
+        input: &parsed.input,
+        extension: extension(&parsed.input),
+        object: object_of(parsed),
+    }
 }
 
 /// The hazards of a command line that has this record.
-fn hazards_with(
+fn hazards_with<'r, 'a>(
     alloc: Global,
-    reading: &GnuReading,
-    is_apple: bool,
-    parsed: &ParsedArguments,
-) -> Mem<Vec<Hazard>>
-    ensures { IfOk result (λ hazards. hazards.items ≡ gnu_found (gnu_line is_apple reading.now (parsed_of parsed.now))) }
+    known: &Known<'a>,
+    reading: &'r GnuReading,
+    has_precompiled_header: bool,
+    parsed: &'r ParsedArguments,
+) -> Mem<Vec<Hazard<'a>>>
+    ensures { IfOk result (λ hazards. hazards.items ≡ hazards_found known.now.catalogue (gnu_line known.now has_precompiled_header reading.now (parsed_of parsed.now))) }
 {
-    let driver = driver_of(reading.kind());
-    let (outer, gnu) = (reading.outer(), ExpansionKind::Gnu);
-    let texts = outer.texts();
-    let line = Line {
-        driver,
-        is_plusplus: reading.plusplus(),
-        is_apple,
-        words: outer.words(),
-        options: outer.line().options().as_slice(),
-        inner_words: reading.handed(),
-        inner: reading.inner().line().options().as_slice(),
-        input: &parsed.input,
-        language: parsed.language,
-        object: object_of(parsed),
-        texts,
-        splits_otherwise: splits_otherwise(alloc, splitter_of(driver), gnu, texts)?,
-        environment: &[],
-        splits_environment: false,
-    };
-    gnu_found(alloc, &line)
+    let options = both_seen(alloc, reading)?;
+    let facts = gnu_facts(
+        alloc,
+        known.is_apple(),
+        has_precompiled_header,
+        reading,
+        parsed,
+        &options.outer,
+    )?;
+    let line = line_told(known, reading, parsed, facts, &options);
+    hazards_found(alloc, known, &line)
 }
 
-/// The hazards of a command line of gcc or clang, Apple's or not: exactly those of which a case of the tables is there, in the
-/// order of the tables; none where it has no record (docs/RULES.md, Hazards). It fails only for want of memory.
+/// The hazards of a command line of gcc or clang: exactly those of which the catalogue has a case that is there, in its order; none
+/// where the line has no record (docs/RULES.md, Hazards). Whoever sees the files tells whether a precompiled header lies beside a
+/// file that the line includes, in a folder where it is searched for. It fails only for want of memory.
 #[tactic(auto, unfolding(crate::specs::GnuHazards::gnu_hazards))]
-pub fn gnu_hazards(alloc: Global, reading: &GnuReading, is_apple: bool) -> Mem<Vec<Hazard>>
-    ensures { IfOk result (λ hazards. hazards.items ≡ gnu_hazards is_apple reading.now) }
+pub fn gnu_hazards<'a>(
+    alloc: Global,
+    known: &Known<'a>,
+    reading: &GnuReading,
+    has_precompiled_header: bool,
+) -> Mem<Vec<Hazard<'a>>>
+    ensures { IfOk result (λ hazards. hazards.items ≡ gnu_hazards known.now has_precompiled_header reading.now) }
 {
     match reading.outcome() {
-        CompilerArguments::Ok(parsed) => hazards_with(alloc, reading, is_apple, parsed),
+        CompilerArguments::Ok(parsed) => {
+            hazards_with(alloc, known, reading, has_precompiled_header, parsed)
+        }
         CompilerArguments::CannotCache(_, _) | CompilerArguments::NotCompilation => {
             Ok(Vec::new(alloc))
         }

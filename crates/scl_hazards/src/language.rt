@@ -1,15 +1,11 @@
 //! The language in which the compiler alone compiles the input, and that of the built command.
 ghost use Rattle.std.specs.Prelude.{◌≡◌, map, None};
 ghost use Rattle.std.specs.Option.{option_copied};
+ghost use Rattle.scl_catalogue.specs.Views.{seen_of};
 ghost use Rattle.scl_gnu_reading.specs.FixedTests.{driven, language_of};
-ghost use Rattle.scl_values.specs.Seen.{seen};
-ghost use Rattle.scl_hazards.specs.Conditions.{is_other_language, language_built, language_text, last_long_text, long_language, long_text, same_language, text_at_input};
-ghost use Rattle.scl_hazards.specs.Lines.{line_of};
+ghost use Rattle.scl_hazards.specs.Languages.{is_input, is_other_language, language_built, language_name, language_text, last_long_text, long_language, long_text, same_language, text_at_input};
 
-use crate::line::Line;
-use crate::test::{Kinded, is_input, is_one};
-use scl_args::Argument;
-use scl_gnu_reading::gcc::Kind;
+use scl_catalogue::{Seen, Standing};
 use scl_text::language::Language;
 
 /// The text of a language that the long spelling names.
@@ -20,15 +16,15 @@ fn long_text(word: &[u8]) -> Option<&[u8]>
 }
 
 /// The text of a language that the option names.
-fn language_text<T: Kinded>(option: &Argument<T>) -> Option<&[u8]>
-    ensures { option_copied result ≡ language_text T.means (seen T.kind_of T.word_of option.now) }
+fn language_text<'a>(option: &Seen<'a>) -> Option<&'a [u8]>
+    ensures { option_copied result ≡ language_text (seen_of option.now) }
 {
-    match option {
-        Argument::Raw(_) => None,
-        Argument::UnknownFlag(word) => long_text(word),
-        Argument::Flag(_, value) | Argument::WithValue(_, value, _) => {
-            if is_one::<T>(&[Kind::Language], value.kind()) {
-                Some(value.word())
+    match option.standing {
+        Standing::Raw => None,
+        Standing::Unknown => long_text(option.name),
+        Standing::Known => {
+            if option.kind == b"language".as_slice() {
+                Some(option.value)
             } else {
                 None
             }
@@ -37,18 +33,24 @@ fn language_text<T: Kinded>(option: &Argument<T>) -> Option<&[u8]>
 }
 
 /// The text of a language that the option names in the long spelling.
-fn long_language<T: Kinded>(option: &Argument<T>) -> Option<&[u8]>
-    ensures { option_copied result ≡ long_language (seen T.kind_of T.word_of option.now) }
+fn long_language<'a>(option: &Seen<'a>) -> Option<&'a [u8]>
+    ensures { option_copied result ≡ long_language (seen_of option.now) }
 {
-    match option {
-        Argument::UnknownFlag(word) => long_text(word),
-        Argument::Raw(_) | Argument::Flag(_, _) | Argument::WithValue(_, _, _) => None,
+    match option.standing {
+        Standing::Unknown => long_text(option.name),
+        Standing::Raw | Standing::Known => None,
     }
 }
 
+fn is_input(option: &Seen<'_>) -> bool
+    ensures { result ≡ is_input (seen_of option.now) }
+{
+    option.standing == Standing::Raw && option.name != b"--".as_slice()
+}
+
 /// The text of the language that was named last before the input.
-fn text_at_input<T: Kinded>(options: &[Argument<T>]) -> Option<&[u8]>
-    ensures { option_copied result ≡ text_at_input T.means None (map (seen T.kind_of T.word_of) options.now) }
+fn text_at_input<'a>(options: &[Seen<'a>]) -> Option<&'a [u8]>
+    ensures { option_copied result ≡ text_at_input None (map seen_of options.now) }
 {
     let mut text: Option<&[u8]> = None;
     for option in options {
@@ -61,8 +63,8 @@ fn text_at_input<T: Kinded>(options: &[Argument<T>]) -> Option<&[u8]>
 }
 
 /// The text of the language that the long spelling named last.
-fn last_long_text<T: Kinded>(options: &[Argument<T>]) -> Option<&[u8]>
-    ensures { option_copied result ≡ last_long_text None (map (seen T.kind_of T.word_of) options.now) }
+fn last_long_text<'a>(options: &[Seen<'a>]) -> Option<&'a [u8]>
+    ensures { option_copied result ≡ last_long_text None (map seen_of options.now) }
 {
     let mut text: Option<&[u8]> = None;
     for option in options {
@@ -112,11 +114,39 @@ fn same_language(one: Option<Language>, other: Option<Language>) -> bool
     }
 }
 
-/// Whether the compiler alone compiles the input in another language than the built command does.
-pub(crate) fn is_other_language<T: Kinded>(line: &Line<'_, T>) -> bool
-    ensures { result ≡ is_other_language T.means (line_of T.kind_of T.word_of line.now) }
+/// Whether gcc or clang alone compiles the input in another language than the built command does.
+pub(crate) fn is_other_language(
+    plusplus: bool,
+    input: &[u8],
+    language: Language,
+    options: &[Seen<'_>],
+) -> bool
+    ensures { result ≡ is_other_language plusplus input.now language (map seen_of options.now) }
 {
-    let given = language_of(line.is_plusplus, text_at_input(line.options), line.input);
-    let built = language_built(line.language, last_long_text(line.options));
+    let given = language_of(plusplus, text_at_input(options), input);
+    let built = language_built(language, last_long_text(options));
     !same_language(given, built)
+}
+
+/// The name by which a catalogue calls the language.
+pub(crate) fn language_name(language: Language) -> &'static [u8]
+    ensures { result.now ≡ language_name language }
+{
+    match language {
+        Language::Assembler => b"assembler",
+        Language::AssemblerToPreprocess => b"assembler-with-cpp",
+        Language::C => b"c",
+        Language::CHeader => b"c-header",
+        Language::GenericHeader => b"header",
+        Language::Cxx => b"c++",
+        Language::CxxHeader => b"c++-header",
+        Language::CxxModule => b"c++-module",
+        Language::ObjectiveC => b"objective-c",
+        Language::ObjectiveCHeader => b"objective-c-header",
+        Language::ObjectiveCxx => b"objective-c++",
+        Language::ObjectiveCxxHeader => b"objective-c++-header",
+        Language::Cuda => b"cuda",
+        Language::Rust => b"rs",
+        Language::Hip => b"hip",
+    }
 }

@@ -1,24 +1,24 @@
-//! Hazards: command lines, as they were read, for which gcc, clang or clang-cl do something else with the built command than with
-//! the given one.
+//! Hazards: command lines, as they were read, for which a compiler does something else with the built command than with the given
+//! one, as a catalogue knows it.
 #![tactic(auto)]
 
 mod clang_cl;
-mod clang_cl_rows;
-mod condition;
 mod delimiter;
-mod driver;
+mod found;
 mod gnu;
-mod gnu_rows;
-mod groups;
 mod hazard;
+mod kind_texts;
+mod known;
 mod language;
-mod line;
-mod order;
-mod row;
-mod test;
-mod text;
+mod names;
+mod seen;
+mod small;
+mod targets;
 
 pub use clang_cl::msvc_hazards;
-pub use driver::Driver;
 pub use gnu::gnu_hazards;
-pub use hazard::{Danger, HAZARDS, Hazard};
+pub use hazard::{Hazard, hazard_of};
+pub use known::Known;
+pub use names::{compiler_name, danger_name, is_of};
+pub use scl_catalogue::{Catalogue, Compiler, Danger, Entry, Version};
+pub use small::{diab_hazards, tasking_hazards};

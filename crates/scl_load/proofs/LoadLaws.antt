@@ -5,10 +5,12 @@ use Rattle.scl_files.specs.declared.expand.ExpansionKind.{ExpansionKind}
 use Rattle.scl_values.specs.Each.{Each}
 use Rattle.scl_values.specs.Words.{words_of}
 use Rattle.scl_reader.specs.Answers.{answer_to, reading_by}
+use Rattle.scl_reader.specs.CommandLines.{Given, Request, asked_for}
 use Rattle.scl_reader.specs.Compilers.{expansion_of}
-use Rattle.scl_reader.specs.Questions.{Questions, Extends, HasNoneOf, questions_of}
+use Rattle.scl_reader.specs.Questions.{Questions, Extends, HasNoneOf, questions_in, questions_of}
 use Rattle.scl_reader.specs.Reads.{files_lacked, outcome_in, read_of}
 use Rattle.scl_reader.specs.Within.{has_at_most}
+use Rattle.scl_reader.specs.declared.compiler.Compiler.{Compiler}
 use Rattle.scl_reader.specs.declared.reading.Reading.{Reading}
 use Rattle.scl_reader.proofs.QuestionLaws.{are-decided, readings-decided}
 use Rattle.scl_reader.proofs.ReadLaws.{readings-say}
@@ -34,6 +36,7 @@ module _ (holds : Viewed → Type 0) (load : Load) where
       let found = (looked.1 held h here.extends).none_found refl in
       subst (λ view. IsLoaded held load view) (sym found.0) (record {
         is_made = record { readings = readings; are_looks = here.are_looks; are_allowed = allowed };
+        extends = here.extends;
         is_within = within;
         has_none = subst (HasNoneOf held) is found.1;
       })
@@ -48,6 +51,13 @@ module _ (holds : Viewed → Type 0) (load : Load) where
 
   pub unended : (view : Viewed) (leads : List Lead) → IsUnderWay load.most_rounds view leads → (held : Viewed) → holds held → held.is_multiarch ≡ load.is_multiarch → IsUnended held load
   unended view leads way held h m = record { view = view; are_looks = (way held h m).are_looks }
+
+-- what a reading of a line asks is what the line's request asks
+pub asks-so : (compiler : Compiler) (line : Given) (request : Request) (most : ℕ) (reading : Reading) (asked : Questions) → asked_for compiler line ≡ request
+    → (has_at_most most (asked_for compiler line) ≡ true) × (reading ≡ read_of (asked_for compiler line)) → asked ≡ questions_in line reading
+    → (has_at_most most request ≡ true) × (reading ≡ read_of request) × (asked ≡ questions_of request)
+asks-so compiler line request most reading asked is read asks =
+    subst (λ r. (has_at_most most r ≡ true) × (reading ≡ read_of r) × (asked ≡ questions_of r)) is (read.0, read.1, asks ∙ ap (questions_in line) read.1)
 
 -- where the disk has none of what a reading asks, it decides the record and the answer
 module _ (holds : Viewed → Type 0) (line : DiskLine) (most most_rounds readings : ℕ) (before after : Viewed) (leads : List Lead) (q : Questions)

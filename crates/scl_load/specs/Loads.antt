@@ -116,9 +116,10 @@ pub record IsMade (disk : Viewed) (load : Load) (view : Viewed) : Type 0 where
   pub are_looks : AreLooks disk load readings view
   pub are_allowed : readings < load.most_rounds
 
--- it is made, no command line is too long, and the disk has none of what is asked
+-- it is made of what the disk has, no command line is too long, and the disk has none of what is asked
 pub record IsLoaded (disk : Viewed) (load : Load) (view : Viewed) : Type 0 where
   pub is_made : IsMade disk load view
+  pub extends : Extends disk view
   pub is_within : has_at_most load.most_words (load.asks view) ≡ true
   pub has_none : HasNoneOf disk (questions_of (load.asks view))
 

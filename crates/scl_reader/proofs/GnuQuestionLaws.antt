@@ -1,34 +1,33 @@
 -- Where the disk has none of what is asked of Gcc and Clang, it gives the same reading.
-use Rattle.std.proofs.Common.{◌≡◌, ℕ, Bool, true, false, not, ◌||◌, cond, List, [], ◌∷◌, ◌++◌, map, filter, None, Some, Result, Ok, Err, refl, sym, ap, subst, ◌∙◌}
+use Rattle.std.proofs.Common.{◌≡◌, ℕ, Bool, true, false, not, ◌||◌, cond, List, [], ◌∷◌, ◌++◌, map, filter, Option, None, Some, Result, Ok, Err, refl, sym, ap, subst, ◌∙◌}
 use Rattle.std.specs.Prelude.{is_some}
 use Rattle.std.specs.List.{flat_map, list_all, list_any}
-use Rattle.scl_values.specs.Cuts.{Cut, cut, raw, unknown, flag, with_value, is_dangling}
+use Rattle.scl_values.specs.Cuts.{Cut, cut, raw, unknown, flag, with_value}
 use Rattle.scl_values.specs.declared.argument.ArgDisposition.{ArgDisposition}
 use Rattle.scl_values.specs.declared.argument.ArgDisposition.TheVariants as how
 use Rattle.scl_values.specs.Each.{Each}
 use Rattle.scl_values.specs.Row.{Row, Shape, bare, apart, joined, either}
 use Rattle.scl_values.specs.Seen.{Seen, Known, shown, text_of}
 use Rattle.scl_values.specs.Tables.{owner_in, all_rows}
-use Rattle.scl_args.proofs.OwnerLaws.{owner_in-is}
-use Rattle.scl_args.specs.Empties.{refusing_empty}
+use Rattle.scl_args.proofs.OwnerLaws.{owner_in-is, owner_is}
 use Rattle.scl_args.specs.Options.{begins_with_at, names_file, texts, first_verdict, ◌>>=◌}
 use Rattle.scl_args.proofs.AgainChecks.{implied}
-use Rattle.scl_args.proofs.EmptyLaws.{judged-else}
 use Rattle.scl_args.proofs.FoundLaws.{IsFound, found}
 use Rattle.scl_args.proofs.OriginLaws.{CameUnmarked, value_row}
 use Rattle.scl_args.proofs.OtherValueLaws.{has-all}
-use Rattle.scl_args.proofs.OutcomeLaws.{judged-ok, unless-none, option_or-none}
+use Rattle.scl_args.proofs.OutcomeLaws.{option_or-none}
 use Rattle.scl_args.specs.Origins.{ValueCame}
 use Rattle.scl_files.specs.declared.expand.ExpansionKind.TheVariants as expansions
 use Rattle.scl_files.specs.Expand.{expand}
+use Rattle.scl_files.specs.Expanded.{ExpandedWords, expanded_by}
 use Rattle.scl_files.specs.Paths.{join}
 use Rattle.scl_files.specs.ResponseFiles.{file_name_in}
 use Rattle.scl_files.specs.Views.{Viewed, File, is_directory}
 use Rattle.scl_files.proofs.ExpandLaws.{plain_words}
 use Rattle.scl_text.specs.declared.records.CCompilerKind.{CCompilerKind}
-use Rattle.scl_text.specs.JudgedWords.{judged_words, judged_cut, options_of}
-use Rattle.scl_text.specs.Reasons.{argument_parse, empty_value}
-use Rattle.scl_text.specs.Records.{Verdict}
+use Rattle.scl_text.specs.Lines.{JudgedLine, line_by, line_options}
+use Rattle.scl_text.specs.ReadLines.{LineRead, line_read}
+use Rattle.scl_text.specs.Records.{Parsed, Verdict}
 use Rattle.scl_gnu_reading.specs.declared.gcc.data.Kind.{Kind}
 use Rattle.scl_gnu_reading.specs.declared.gcc.data.Kind.TheVariants as kind
 use Rattle.scl_gnu_reading.specs.declared.gcc.hash_files.HashRole.{HashRole}
@@ -37,15 +36,17 @@ use Rattle.scl_gnu_reading.specs.ClangRows.{clang_rows, clang_tables}
 use Rattle.scl_gnu_reading.specs.FixedTests as tests
 use Rattle.scl_gnu_reading.specs.GccRows.{gcc_rows}
 use Rattle.scl_gnu_reading.specs.Hashes.{Hashed}
-use Rattle.scl_gnu_reading.specs.Inners.{inner_verdict, inner_reading}
+use Rattle.scl_gnu_reading.specs.Inners.{inner_verdict}
 use Rattle.scl_gnu_reading.specs.Kinds.{of, hashed}
-use Rattle.scl_gnu_reading.specs.Readings.{reading, read, recorded}
+use Rattle.scl_gnu_reading.specs.Readings.{recorded}
+use Rattle.scl_gnu_reading.specs.Reads.{GnuRead, handed_ats, handed_words, inner_read, outcome_by, outer_read, read_by}
 use Rattle.scl_gnu_reading.specs.Recordings.{is_clang, record_of, hash_path, hash_path_as, profile_in}
 use Rattle.scl_gnu_reading.specs.Verdicts.{verdict}
 use Rattle.scl_gnu.specs.OwnTables.{is_kind}
 use Rattle.scl_files.specs.Wanted.{wanted, HasNone}
-use Rattle.scl_files.proofs.WantedLaws.{wanted_decides}
 use Rattle.scl_reader.specs.Questions.{if_none, no_directory, hash_files, Extends}
+use Rattle.scl_reader.proofs.DecidedLaws.{IsGnuSettled, expanded-decided, gnu-expanded, gnu-settled, nothing-settled, settled-wanted}
+use Rattle.scl_reader.proofs.HandedLaws.{cut-handed, takes_rest}
 
 -- ---- words that are handed on name no file
 
@@ -186,40 +187,67 @@ pub bind-same : {A B V : Type 0} (r : Result A V) (f g : A → Result B V) → (
 bind-same (Ok a) f g h = h a refl
 bind-same (Err v) f g h = refl
 
+apart-takes : (s : Shape) → is_apart s ≡ true → takes_rest s ≡ false
+apart-takes bare e = refl
+apart-takes apart e = refl
+apart-takes (joined d) e = absurd (cc)
+apart-takes (either d) e = absurd (cc)
+
 module _ (compiler : CCompilerKind) (plusplus : Bool) (tables : List (List (Row Kind))) (rows_apart : handed_apart tables)
-    (directory : List ℕ) (disk view : Viewed) (extends : Extends disk view) (words : List (List ℕ)) (no_files : HasNone disk.files (wanted expansions.Gnu directory view.files words))
-    (asked : NoneAsked directory disk view extends (hash_files (reading compiler plusplus tables directory view words))) where
-  abbrev os : List (Seen Kind)
-  os = map shown (options_of expansions.Gnu tables (is_clang compiler) directory view words)
+    (directory : List ℕ) (disk view : Viewed) (extends : Extends disk view) where
+  abbrev outcome_at : Viewed → JudgedLine Kind → JudgedLine Kind → Result Parsed Verdict
+  outcome_at files outer inner = outcome_by compiler plusplus directory files outer inner
 
-  abbrev handed : List (List ℕ)
-  handed = texts (of (kind.XClang ∷ [])) os
+  outcome-same : (outer inner : JudgedLine Kind) → NoneAsked directory disk view extends (hash_files (outcome_at view outer inner)) → outcome_at disk outer inner ≡ outcome_at view outer inner
+  outcome-same outer inner n =
+      bind-same (line_options outer) _ _ (λ os e. bind-same (line_options inner) _ _ (λ is f.
+      same-recorded directory disk view extends compiler plusplus os is
+      (subst (λ r. NoneAsked directory disk view extends (hash_files (r >>= recorded compiler plusplus directory view os))) f
+      (subst (λ r. NoneAsked directory disk view extends (hash_files (r >>= (λ xs. line_options inner >>= recorded compiler plusplus directory view xs)))) e n))))
 
-  read-os : NoneAsked directory disk view extends (hash_files (read compiler plusplus directory view os)) → Each (λ w. begins_with_at w ≡ false) handed
-      → read compiler plusplus directory disk os ≡ read compiler plusplus directory view os
-  read-os n h =
-      ap (λ ws. judged_cut inner_verdict (owner_in clang_tables) false ws >>= recorded compiler plusplus directory disk os) (stand directory disk.files handed h ∙ sym (stand directory view.files handed h))
-      ∙ bind-same (inner_reading inner_verdict directory view handed) (recorded compiler plusplus directory disk os) (recorded compiler plusplus directory view os)
-      (λ inner e. same-recorded directory disk view extends compiler plusplus os inner
-      (subst (λ r. NoneAsked directory disk view extends (hash_files (r >>= recorded compiler plusplus directory view os))) e n))
+  stand-apart : (word : List ℕ) (row : Row Kind) (value : List ℕ) (h : Option ArgDisposition) → owner_in tables word ≡ Some row → of (kind.XClang ∷ []) (Known row.flag row.kind value h) ≡ true → takes_rest row.shape ≡ false
+  stand-apart word row value h o e =
+      apart-takes row.shape
+      (implied (is_kind kind.XClang row.kind) (is_apart row.shape)
+      (has-all (λ row. not (is_kind kind.XClang row.kind) || is_apart row.shape) (all_rows tables) row rows_apart (owner_is (all_rows tables) word row (sym (owner_in-is tables word) ∙ o)).is_row) e)
 
-  abbrev judged_view : Result (List (Seen Kind)) Verdict
-  judged_view = judged_words expansions.Gnu (verdict view.is_multiarch) tables (is_clang compiler) directory view words
+  module _ (words : List (List ℕ)) (ats : List (Option ℕ)) (no_files : HasNone disk.files (wanted expansions.Gnu directory view.files words)) where
+    abbrev expanded_at : Viewed → ExpandedWords
+    expanded_at files = expanded_by expansions.Gnu directory files.files words ats
 
-  read-same : (xs : List (Seen Kind)) → judged_view ≡ Ok xs → read compiler plusplus directory disk xs ≡ read compiler plusplus directory view xs
-  read-same xs e =
-      let ws = expand expansions.Gnu directory view.files words in
-      let c = cut (owner_in tables) (is_clang compiler) ws in
-      let is = judged-ok (refusing_empty (owner_in tables) empty_value (verdict view.is_multiarch)) argument_parse os (is_dangling c.end) xs e in
-      let bare_ = judged-else (owner_in tables) empty_value (verdict view.is_multiarch) argument_parse os (is_dangling c.end) xs e in
-      let named = none-named view.is_multiarch [] os (unless-none (first_verdict (verdict view.is_multiarch) [] os) _ xs bare_) in
-      let n = subst (λ r. NoneAsked directory disk view extends (hash_files (r >>= read compiler plusplus directory view))) (e ∙ ap Ok (sym is)) asked in
-      subst (λ ys. read compiler plusplus directory disk ys ≡ read compiler plusplus directory view ys) is
-      (read-os n (handed-none tables (is_clang compiler) rows_apart ws named))
+    abbrev outer : LineRead Kind
+    outer = outer_read compiler tables view (expanded_at view)
 
-  pub reading-same : reading compiler plusplus tables directory disk words ≡ reading compiler plusplus tables directory view words
-  reading-same =
-      ap (λ ws. judged_cut (verdict disk.is_multiarch) (owner_in tables) (is_clang compiler) ws >>= read compiler plusplus directory disk)
-      (wanted_decides expansions.Gnu directory view.files disk.files words extends.files no_files)
-      ∙ ap (λ m. judged_words expansions.Gnu (verdict m) tables (is_clang compiler) directory view words >>= read compiler plusplus directory disk) extends.multiarch
-      ∙ bind-same judged_view (read compiler plusplus directory disk) (read compiler plusplus directory view) read-same
+    outer-same : outer_read compiler tables disk (expanded_at disk) ≡ outer
+    outer-same =
+        ap (outer_read compiler tables disk) (expanded-decided directory view.files disk.files extends.files expansions.Gnu words ats no_files)
+        ∙ ap (λ m. line_read (verdict m) (owner_in tables) (is_clang compiler) (expanded_at view)) extends.multiarch
+
+    handed-settled : Each (IsGnuSettled directory view.files disk.files extends.files) (handed_words outer.line)
+    unfolding line_by
+    handed-settled =
+        cut-handed (owner_in tables) (is_clang compiler) (of (kind.XClang ∷ [])) (IsGnuSettled directory view.files disk.files extends.files) (nothing-settled directory view.files disk.files extends.files)
+        (λ word. refl) (λ word. refl) stand-apart (expand expansions.Gnu directory view.files words)
+        (gnu-expanded directory view.files disk.files extends.files words (gnu-settled directory view.files disk.files extends.files words no_files))
+
+    abbrev inner_at : Viewed → LineRead Kind → LineRead Kind
+    inner_at files line = inner_read inner_verdict directory files (handed_words line.line) (handed_ats line.line)
+
+    inner-same : inner_at disk outer ≡ inner_at view outer
+    inner-same =
+        ap (line_read inner_verdict (owner_in clang_tables) false)
+        (expanded-decided directory view.files disk.files extends.files expansions.Gnu (handed_words outer.line) (handed_ats outer.line)
+        (settled-wanted directory view.files disk.files extends.files (handed_words outer.line) handed-settled))
+
+    abbrev built : LineRead Kind → LineRead Kind → Result Parsed Verdict → GnuRead
+    built line inner said = record { compiler = compiler; plusplus = plusplus; outer = line; handed = handed_words line.line; inner = inner; outcome = said }
+
+    abbrev read_at : Viewed → GnuRead
+    read_at files = read_by compiler plusplus tables directory files (expanded_at files)
+
+    -- the whole reading is the same
+    pub gnu-decided : NoneAsked directory disk view extends (hash_files (read_at view).outcome) → read_at disk ≡ read_at view
+    gnu-decided n =
+        ap (λ line. built line (inner_at disk line) (outcome_at disk line.line (inner_at disk line).line)) outer-same
+        ∙ ap (λ inner. built outer inner (outcome_at disk outer.line inner.line)) inner-same
+        ∙ ap (built outer (inner_at view outer)) (outcome-same outer.line (inner_at view outer).line n)

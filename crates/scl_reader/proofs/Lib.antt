@@ -1,7 +1,11 @@
 pub mod AgainLaws
+pub mod DecidedLaws
+pub mod ExpandedSameLaws
 pub mod GnuQuestionLaws
+pub mod HandedLaws
 pub mod InnerLineLaws
 pub mod MsvcQuestionLaws
+pub mod ReachLaws
 pub mod ReadLaws
 pub mod QuestionLaws
 pub mod RecordLaws

@@ -1,6 +1,6 @@
 -- What an answer that is no command says of its record: there is none.
-use Rattle.std.proofs.Common.{◌≡◌, ℕ, true, List, [], Option, None, Some, Result, Ok, Err, ◌∙◌, refl, ap, sym, subst}
-use Rattle.std.specs.Prelude.{codes, is_some}
+use Rattle.std.proofs.Common.{◌≡◌, ℕ, true, List, Option, None, Some, Result, Ok, Err, ◌∙◌, refl, ap, sym, subst}
+use Rattle.std.specs.Prelude.{is_some}
 use Rattle.std.specs.Result.{result_ok}
 use Rattle.scl_files.specs.Views.{Viewed}
 use Rattle.scl_text.specs.Records.{Parsed, Verdict, parsed_of}

@@ -25,6 +25,7 @@ use Rattle.scl_small.specs.TaskingReading as tasking
 use Rattle.scl_small.specs.TaskingTable as tasking_table
 use Rattle.scl_reader.specs.declared.compiler.Compiler.{Compiler}
 use Rattle.scl_reader.specs.declared.compiler.Compiler.TheVariants as compilers
+use Rattle.scl_reader.specs.Apple.{is_apple}
 use Rattle.scl_reader.specs.CommandLines.{Request}
 
 pub data Answer : Type 0 where
@@ -65,12 +66,12 @@ command_by compilers.ClangCl parsed = msvc.command parsed
 command_by compilers.Diab parsed = command parsed
 command_by compilers.Tasking parsed = command parsed
 
--- the words of the runs of the preprocessor for what was read, by a compiler whose version has this text, if it is known
+-- the words of the runs of the preprocessor for what was read, by a compiler whose version has this text, if it is known: it says whether Clang is Apple's
 abbrev pub runs_with : Option (List ℕ) → Compiler → (may_dist rewrites cache_mode : Bool) → Parsed → List (List (List ℕ))
 runs_with version compilers.Gcc may_dist rewrites cache_mode parsed = gcc_runs may_dist rewrites cache_mode parsed
 runs_with version compilers.Gxx may_dist rewrites cache_mode parsed = gcc_runs may_dist rewrites cache_mode parsed
-runs_with version compilers.Clang may_dist rewrites cache_mode parsed = clang_runs false version may_dist rewrites cache_mode parsed
-runs_with version compilers.Clangxx may_dist rewrites cache_mode parsed = clang_runs false version may_dist rewrites cache_mode parsed
+runs_with version compilers.Clang may_dist rewrites cache_mode parsed = clang_runs (is_apple version) version may_dist rewrites cache_mode parsed
+runs_with version compilers.Clangxx may_dist rewrites cache_mode parsed = clang_runs (is_apple version) version may_dist rewrites cache_mode parsed
 runs_with version compilers.Cl may_dist rewrites cache_mode parsed = msvc_preprocess.runs false may_dist rewrites parsed
 runs_with version compilers.ClangCl may_dist rewrites cache_mode parsed = msvc_preprocess.runs true may_dist rewrites parsed
 runs_with version compilers.Diab may_dist rewrites cache_mode parsed = diab_runs parsed

@@ -1,9 +1,11 @@
 pub mod Compilers
 pub mod CommandLines
+pub mod Apple
 pub mod Answers
 pub mod Definitions
 pub mod AnswersGiven
 pub mod Reads
 pub mod Within
+pub mod PrecompiledHeaders
 pub mod Questions
 pub mod QuestionsGiven

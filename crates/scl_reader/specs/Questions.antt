@@ -1,5 +1,5 @@
 -- What the answer to a request asks of its view that the view does not have.
-use Rattle.std.specs.Prelude.{◌≡◌, ℕ, Bool, true, false, List, [], ◌∷◌, codes, map, Option, None, Some, Result, Ok, Err}
+use Rattle.std.specs.Prelude.{◌≡◌, ℕ, Bool, true, false, List, [], ◌∷◌, ◌++◌, codes, map, Option, None, Some, Result, Ok, Err}
 use Rattle.std.specs.List.{flat_map}
 use Rattle.scl_values.specs.Each.{Each}
 use Rattle.scl_files.specs.Paths.{join}
@@ -9,6 +9,7 @@ use Rattle.scl_text.specs.Outputs.{path_at}
 use Rattle.scl_text.specs.Records.{Parsed, Verdict}
 use Rattle.scl_reader.specs.CommandLines.{Given, Request, given_in}
 use Rattle.scl_reader.specs.Answers.{reading_by, answer_to}
+use Rattle.scl_reader.specs.PrecompiledHeaders.{has_precompiled_header, precompiled_headers}
 use Rattle.scl_reader.specs.Reads.{files_lacked, outcome_in, read_of}
 use Rattle.scl_reader.specs.declared.reading.Reading.{Reading}
 
@@ -48,6 +49,14 @@ abbrev pub database_in : Result Parsed Verdict → Option (List ℕ)
 database_in (Ok p) = path_at p.outputs (codes "pdb")
 database_in (Err v) = None
 
+-- the path, where the view has nothing
+abbrev pub no_path : Viewed → List ℕ → List (List ℕ)
+no_path view path = if_none (exists path view) path
+
+-- the paths of precompiled headers that matter, where the view has nothing
+abbrev pub headers_asked : Given → Reading → List (List ℕ)
+headers_asked g r = flat_map (no_path g.view) (precompiled_headers g r)
+
 -- ---- all of them
 
 -- what the reading of a command line asks of its view
@@ -55,7 +64,7 @@ abbrev pub questions_in : Given → Reading → Questions
 questions_in g r = record {
   files = map (λ file. file.path) (files_lacked r);
   directories = directories_in g.view (outcome_in r);
-  existing = database_asked g.directory g.view (database_in (outcome_in r));
+  existing = database_asked g.directory g.view (database_in (outcome_in r)) ++ headers_asked g r;
 }
 
 abbrev pub questions_of : Request → Questions
@@ -81,6 +90,16 @@ on_disk r disk = record { compiler = r.compiler; directory = r.directory; words 
 abbrev pub AnswersAreDecided : Type 0
 AnswersAreDecided = (r : Request) (disk : Viewed) → Extends disk r.view → HasNoneOf disk (questions_of r) → answer_to (on_disk r disk) ≡ answer_to r
 
--- so is what is read, each field of a record
+-- so is the record, each of its fields, or the refusal
 abbrev pub ReadingsAreDecided : Type 0
 ReadingsAreDecided = (r : Request) (disk : Viewed) → Extends disk r.view → HasNoneOf disk (questions_of r) → reading_by r.compiler (on_disk r disk) ≡ reading_by r.compiler r
+
+-- so is the whole reading: the words of each line, given and inner, their options and what is said against them, the texts of response files, what is lacked, and the outcome
+abbrev pub WholeReadingsAreDecided : Type 0
+WholeReadingsAreDecided = (r : Request) (disk : Viewed) → Extends disk r.view → HasNoneOf disk (questions_of r) → read_of (on_disk r disk) ≡ read_of r
+
+-- so is whether there is a precompiled header that matters
+abbrev pub HeadersAreDecided : Type 0
+HeadersAreDecided =
+    (r : Request) (disk : Viewed) → Extends disk r.view → HasNoneOf disk (questions_of r)
+    → has_precompiled_header (given_in (on_disk r disk)) (read_of (on_disk r disk)) ≡ has_precompiled_header (given_in r) (read_of r)

@@ -101,7 +101,7 @@ pub record Lacked : Type 0 where
 abbrev pub named_by : ExpansionKind → List (List ℕ) → List Lacked
 named_by kind paths = map (λ path. record { kind = kind; path = path }) paths
 
--- the files that the command lines ask for and the view lacks. (The inner line of Gcc and Clang asks for none besides, where it is read: `AnswersAreDecided`.)
+-- the files that the command lines ask for and the view lacks. (The inner line of Gcc and Clang asks for none besides: `WholeReadingsAreDecided`.)
 abbrev pub files_lacked : Reading → List Lacked
 files_lacked (Gnu r) = named_by expansions.Gnu r.outer.lacked
 files_lacked (Msvc r) = named_by expansions.Msvc r.outer.lacked ++ named_by expansions.Gnu r.xclang.lacked ++ named_by expansions.Gnu r.clang.lacked

@@ -1,8 +1,10 @@
 //! What is asked of a compiler, whichever of the served ones it is.
-ghost use Rattle.std.specs.Prelude.{IfOk, string_bytes};
+ghost use Rattle.std.specs.Prelude.{◌≡◌, IfOk, None, string_bytes};
 ghost use Rattle.std.specs.Option.{option_map};
+ghost use Rattle.scl_reader.specs.Apple.{is_apple};
 ghost use Rattle.scl_reader.specs.Definitions.{definitions_of, definitions_with};
 
+use crate::apple::is_apple;
 use crate::compiler::Compiler;
 use scl_gnu::clang::Clang;
 use scl_gnu::gcc::Gcc;
@@ -36,6 +38,21 @@ pub(crate) trait Query: Sized {
         }) answer) };
 }
 
+/// Clang, whose version has this text, if it is known: Apple's where the text says so.
+fn clang(clangplusplus: bool, version: Option<String>) -> Clang
+    ensures driver { result.clangplusplus ≡ clangplusplus }
+    ensures maker { result.is_appleclang ≡ is_apple (option_map string_bytes version) }
+    ensures version { option_map string_bytes result.version ≡ option_map string_bytes version }
+    ensures assembler { result.assembler_digest ≡ None }
+{
+    Clang {
+        clangplusplus,
+        is_appleclang: is_apple(version.as_deref()),
+        version,
+        assembler_digest: None,
+    }
+}
+
 impl Compiler {
     /// The answer to a query, by the definitions of the compiler with this name, of which no version is known (docs/RULES.md,
     /// Compilers). It fails only for want of memory.
@@ -56,48 +73,12 @@ impl Compiler {
         ensures { IfOk result (λ answer. Q.gives query (definitions_with (option_map string_bytes version) self) answer) }
     {
         match self {
-            Compiler::Gcc => {
-                let gcc = Gcc {
-                    gplusplus: false,
-                    version: None,
-                    assembler_digest: None,
-                };
-                query.ask(alloc, &gcc)
-            }
-            Compiler::Gxx => {
-                let gxx = Gcc {
-                    gplusplus: true,
-                    version: None,
-                    assembler_digest: None,
-                };
-                query.ask(alloc, &gxx)
-            }
-            Compiler::Clang => {
-                let clang = Clang {
-                    clangplusplus: false,
-                    is_appleclang: false,
-                    version,
-                    assembler_digest: None,
-                };
-                query.ask(alloc, &clang)
-            }
-            Compiler::Clangxx => {
-                let clangxx = Clang {
-                    clangplusplus: true,
-                    is_appleclang: false,
-                    version,
-                    assembler_digest: None,
-                };
-                query.ask(alloc, &clangxx)
-            }
-            Compiler::Cl => {
-                let cl = Msvc::new(false, String::new(alloc));
-                query.ask(alloc, &cl)
-            }
-            Compiler::ClangCl => {
-                let cl = Msvc::new(true, String::new(alloc));
-                query.ask(alloc, &cl)
-            }
+            Compiler::Gcc => query.ask(alloc, &Gcc::new(false)),
+            Compiler::Gxx => query.ask(alloc, &Gcc::new(true)),
+            Compiler::Clang => query.ask(alloc, &clang(false, version)),
+            Compiler::Clangxx => query.ask(alloc, &clang(true, version)),
+            Compiler::Cl => query.ask(alloc, &Msvc::new(false, String::new(alloc))),
+            Compiler::ClangCl => query.ask(alloc, &Msvc::new(true, String::new(alloc))),
             Compiler::Diab => query.ask(alloc, &Diab::new()),
             Compiler::Tasking => query.ask(alloc, &TaskingVX),
         }

@@ -1,7 +1,7 @@
 //! Laws of the definitions of readings and answers, each a clause of a function that does nothing.
 ghost use Rattle.std.specs.Prelude.{◌≡◌, true};
 ghost use Rattle.scl_reader.specs.Answers.{AnswersAreReadAgain, RecordsHaveCommands};
-ghost use Rattle.scl_reader.specs.Questions.{AnswersAreDecided, ReadingsAreDecided};
+ghost use Rattle.scl_reader.specs.Questions.{AnswersAreDecided, HeadersAreDecided, ReadingsAreDecided, WholeReadingsAreDecided};
 ghost use Rattle.scl_reader.specs.Reads.{ReadingsSay};
 ghost use Rattle.scl_reader.specs.Within.{ClangInnerIsWithin};
 ghost use Rattle.scl_reader.specs.contracts.compiler.CompilerPartialEq.TheImpl as compilers;
@@ -31,10 +31,14 @@ pub fn of_answers()
 /// the answer to a request asks,
 ///
 /// - `answers_are_decided`: the answer is the same;
-/// - `readings_are_decided`: so is what is read, each field of the record, and with it the runs of the preprocessor.
+/// - `readings_are_decided`: so is the record, each of its fields, or the refusal, and with it the runs of the preprocessor;
+/// - `whole_readings_are_decided`: so is the whole reading, and with it all that is a function of it;
+/// - `headers_are_decided`: so is whether there is a precompiled header that matters.
 pub fn of_questions()
     ensures answers_are_decided { AnswersAreDecided }
     ensures readings_are_decided { ReadingsAreDecided }
+    ensures whole_readings_are_decided { WholeReadingsAreDecided }
+    ensures headers_are_decided { HeadersAreDecided }
 {}
 
 /// The law of inner lines of Clang (docs/RULES.md, Expansion):

@@ -2,18 +2,21 @@
 //! (`Compiler::read`), and all that is said of it is a function of its reading: its record, its answer, what it asks of files.
 #![tactic(auto)]
 
+mod apple;
 mod ask;
 mod command_line;
 mod compile;
 mod compiler;
 mod kept;
 pub mod laws;
+mod precompiled;
 mod questions;
 mod read;
 mod reading;
 mod runs;
 mod within;
 
+pub use apple::is_apple;
 pub use command_line::CommandLine;
 pub use compiler::Compiler;
 pub use kept::{BuiltCommand, Compilation, Kept};

@@ -8,7 +8,7 @@ ghost use Rattle.scl_text.specs.Records.{outcome_of};
 ghost use Rattle.scl_reader.specs.CommandLines.{asked, given_by};
 ghost use Rattle.scl_reader.specs.Reads.{lacked_of};
 ghost use Rattle.scl_reader.specs.Within.{has_at_most};
-ghost use Rattle.scl_reader.specs.Questions.{database_in, hash_files, no_directory, database_asked, questions_in, questions_of};
+ghost use Rattle.scl_reader.specs.Questions.{database_in, hash_files, no_directory, no_path, database_asked, questions_in, questions_of};
 ghost use Rattle.scl_reader.specs.QuestionsGiven.{given};
 
 use crate::command_line::CommandLine;
@@ -53,6 +53,16 @@ fn absent_directories(alloc: Global, hashed: &[Vec<u8>], view: &View) -> Mem<Vec
     Ok(paths)
 }
 
+/// Puts a path behind others, where the view has nothing there.
+fn push_path(paths: &mut Vec<Vec<u8>>, path: Vec<u8>, view: &View) -> Mem<()>
+    ensures { OnOk result (words_of paths.new.items ≡ words_of paths.old.items ++ no_path view.now path.items) }
+{
+    if !view.exists(&path) {
+        paths.push(path)?;
+    }
+    Ok(())
+}
+
 /// The path of a file for debug information, if there is one and the view has nothing there.
 fn absent_database(
     alloc: Global,
@@ -64,12 +74,19 @@ fn absent_database(
 {
     let mut paths = Vec::new(alloc);
     if let Some(database) = database {
-        let path = join(alloc, cwd, database)?;
-        if !view.exists(&path) {
-            paths.push(path)?;
-        }
+        push_path(&mut paths, join(alloc, cwd, database)?, view)?;
     }
     Ok(paths)
+}
+
+/// Puts those of the paths behind others at which the view has nothing.
+fn push_absent(existing: &mut Vec<Vec<u8>>, paths: Vec<Vec<u8>>, view: &View) -> Mem<()>
+    ensures { OnOk result (words_of existing.new.items ≡ words_of existing.old.items ++ flat_map (no_path view.now) (words_of paths.items)) }
+{
+    for path in paths {
+        push_path(existing, path, view)?;
+    }
+    Ok(())
 }
 
 /// The files on which an outcome depends.
@@ -112,10 +129,13 @@ impl Reading {
         let files = self.files_lacked(alloc)?;
         let (outcome, view) = (self.outcome(), line.view);
         let database = database_of(outcome);
+        let mut existing = absent_database(alloc, database, line.directory, view)?;
+        let headers = self.precompiled_headers(alloc, line)?;
+        push_absent(&mut existing, headers, view)?;
         Ok(Questions {
             files: paths_of(alloc, files)?,
             directories: absent_directories(alloc, hash_files_of(outcome), view)?,
-            existing: absent_database(alloc, database, line.directory, view)?,
+            existing,
         })
     }
 }
@@ -123,9 +143,9 @@ impl Reading {
 impl Compiler {
     /// What the answer to a command line asks of a view that the view does not have: the response files that its words name,
     /// those that words inside the files of the view name, and those of inner command lines; the directories in which
-    /// profiles may lie; and the file that debug information may be added to (docs/RULES.md, Questions). A disk that has what
-    /// the view has, and none of what is asked, gives the same answer (`laws::of_questions`). `TooManyWords` where
-    /// `answer_within` says so. The outer error is the refusal of memory.
+    /// profiles may lie; the file that debug information may be added to; and the precompiled headers that matter
+    /// (docs/RULES.md, Questions). A disk that has what the view has, and none of what is asked, gives the same reading and
+    /// answer (`laws::of_questions`). `TooManyWords` where `answer_within` says so. The outer error is the refusal of memory.
     #[tactic(auto, using(crate::proofs::ReadLaws::answer_read))]
     pub fn open_questions(
         self,

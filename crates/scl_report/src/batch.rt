@@ -3,6 +3,7 @@ use crate::digest::{entry_line, summary};
 use crate::entry::case_of_entry;
 use crate::json::{answer_line, refused_entry_line};
 use scl_cl::{Compiler, Mem};
+use scl_describe::About;
 use scl_explain::{Answered, Case, Counts, Ending, EntryKind, answer_case, load_error_text};
 use scl_load::Disk;
 use scl_text::command::copy_pairs;
@@ -12,7 +13,9 @@ use std::fmt::Display;
 
 /// How a database is answered.
 #[derive(Drop)]
-pub struct Batch {
+pub struct Batch<'a> {
+    /// What is known of the compilers.
+    pub about: About<'a>,
     /// The compiler of each entry, where one was named.
     pub named: Option<Compiler>,
     /// The directory in which those of the entries stand.
@@ -35,7 +38,7 @@ fn file_of(value: &Value) -> &str {
     }
 }
 
-impl Batch {
+impl<'a> Batch<'a> {
     fn is_written(&self, kind: EntryKind) -> bool {
         match self.only {
             Some(only) => only == kind,
@@ -49,7 +52,7 @@ impl Batch {
         entry: u64,
         file: &str,
         case: &Case,
-        answered: &Answered,
+        answered: &Answered<'_>,
     ) -> Mem<String> {
         if self.json {
             answer_line(alloc, entry, case, answered)
@@ -79,7 +82,7 @@ impl Batch {
     where
         D::Error: Display,
     {
-        match answer_case(alloc, disk, case, self.multiarch, false)? {
+        match answer_case(alloc, disk, &self.about, case, self.multiarch, false)? {
             Ok(answered) => {
                 let kind = counts.count(alloc, entry, file, &answered)?;
                 if self.is_written(kind) {
@@ -126,7 +129,7 @@ impl Batch {
         if self.json {
             Ok(String::new(alloc))
         } else {
-            summary(alloc, counts)
+            summary(alloc, &self.about.catalogue, counts)
         }
     }
 }

@@ -4,9 +4,9 @@ use scl_cl::{Compilation, CompilerArguments, Mem};
 use scl_explain::{
     Answered, Case, Counts, Met, cached_text, push_hazard_names, refusal_text, unrunnable_text,
 };
-use scl_hazards::{HAZARDS, Hazard};
+use scl_hazards::{Catalogue, Hazard, hazard_of};
 use scl_reasons::sentence;
-use scl_shell::shown_briefly;
+use scl_shell::{shown, shown_briefly};
 use std::alloc::Global;
 use std::collections::BTreeMap;
 
@@ -49,15 +49,28 @@ fn push_reasons(alloc: Global, text: &mut String, reasons: &BTreeMap<String, Met
     Ok(())
 }
 
-/// The hazards of entries, with what happens.
-fn push_hazards(alloc: Global, text: &mut String, counts: &Counts) -> Mem<()> {
+/// A hazard of entries, if some have it, with what happens.
+fn push_hazard(alloc: Global, text: &mut String, counts: &Counts, hazard: &Hazard<'_>) -> Mem<()> {
+    let Some(met) = counts.hazards.get(hazard.name()) else {
+        return Ok(());
+    };
+    push_met(alloc, text, shown(alloc, hazard.name())?.as_str(), met)?;
+    let consequence = shown(alloc, hazard.consequence())?;
+    write!(text, "          {consequence}\n")
+}
+
+/// The hazards of entries, in the order of the catalogue.
+fn push_hazards(
+    alloc: Global,
+    text: &mut String,
+    catalogue: &Catalogue<'_>,
+    counts: &Counts,
+) -> Mem<()> {
     let hazardous = counts.hazardous;
     write!(text, "with a hazard: {hazardous}\n")?;
-    for &hazard in HAZARDS {
-        if let Some(met) = counts.hazards.get(hazard.name()) {
-            push_met(alloc, text, hazard.name(), met)?;
-            let consequence = hazard.consequence();
-            write!(text, "          {consequence}\n")?;
+    for entry in catalogue.entries {
+        if let Some(hazard) = hazard_of(entry) {
+            push_hazard(alloc, text, counts, &hazard)?;
         }
     }
     Ok(())
@@ -138,7 +151,7 @@ fn refused_entries(counts: &Counts) -> u64 {
 }
 
 /// What was counted over a database, for a person. It fails only for want of memory.
-pub fn summary(alloc: Global, counts: &Counts) -> Mem<String> {
+pub fn summary(alloc: Global, catalogue: &Catalogue<'_>, counts: &Counts) -> Mem<String> {
     let mut text = String::new(alloc);
     let (entries, ok, none) = (counts.entries, counts.ok, counts.not_compilation);
     let refused = refused_entries(counts);
@@ -148,7 +161,7 @@ pub fn summary(alloc: Global, counts: &Counts) -> Mem<String> {
         let unkept = counts.unkept;
         write!(text, "may not be kept in the cache: {unkept}\n")?;
     }
-    push_hazards(alloc, &mut text, counts)?;
+    push_hazards(alloc, &mut text, catalogue, counts)?;
     write!(text, "compile nothing: {none}\n")?;
     write!(text, "cannot be cached: {refused}\n")?;
     push_reasons(alloc, &mut text, &counts.refused)?;
@@ -160,10 +173,10 @@ pub fn summary(alloc: Global, counts: &Counts) -> Mem<String> {
 }
 
 /// The hazards of an entry, if it has some.
-fn push_named(text: &mut String, hazards: &[Hazard]) -> Mem<()> {
+fn push_named(alloc: Global, text: &mut String, hazards: &[Hazard<'_>]) -> Mem<()> {
     if !hazards.is_empty() {
         text.push_str("; hazards: ")?;
-        push_hazard_names(text, hazards)?;
+        push_hazard_names(alloc, text, hazards)?;
     }
     Ok(())
 }
@@ -187,7 +200,7 @@ pub fn entry_line(
     entry: u64,
     file: &str,
     case: &Case,
-    answered: &Answered,
+    answered: &Answered<'_>,
 ) -> Mem<String> {
     let mut text = String::new(alloc);
     push_place(alloc, &mut text, entry, file)?;
@@ -195,7 +208,7 @@ pub fn entry_line(
     match &answered.answer {
         CompilerArguments::Ok(compilation) => {
             push_compiled(alloc, &mut text, &case.program, compilation)?;
-            push_named(&mut text, &answered.hazards)?;
+            push_named(alloc, &mut text, &answered.hazards)?;
         }
         CompilerArguments::CannotCache(reason, more) => {
             let missing = &answered.missing_files;

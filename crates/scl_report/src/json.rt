@@ -2,7 +2,7 @@
 use crate::nothing::why_nothing;
 use scl_cl::{Cacheable, Compilation, CompilerArguments, Mem};
 use scl_explain::{Answered, Case, unrunnable_text};
-use scl_hazards::Hazard;
+use scl_hazards::{Hazard, danger_name};
 use scl_reasons::sentence;
 use scl_rows::Row;
 use scl_shell::is_hidden;
@@ -172,18 +172,18 @@ fn outputs_value(alloc: Global, compilation: &Compilation) -> Mem<Value> {
     Ok(members.into_value())
 }
 
-fn hazard_value(alloc: Global, hazard: Hazard) -> Mem<Value> {
+fn hazard_value(alloc: Global, hazard: &Hazard<'_>) -> Mem<Value> {
     let mut members = Members::new(alloc);
-    members.put_text("consequence", hazard.consequence())?;
-    members.put_text("danger", hazard.danger().name())?;
-    members.put_text("name", hazard.name())?;
+    members.put_bytes("consequence", hazard.consequence())?;
+    members.put_text("danger", danger_name(hazard.danger()))?;
+    members.put_bytes("name", hazard.name())?;
     Ok(members.into_value())
 }
 
-fn hazards_value(alloc: Global, hazards: &[Hazard]) -> Mem<Value> {
+fn hazards_value(alloc: Global, hazards: &[Hazard<'_>]) -> Mem<Value> {
     let mut items = Vec::new(alloc);
     for hazard in hazards {
-        items.push(hazard_value(alloc, *hazard)?)?;
+        items.push(hazard_value(alloc, hazard)?)?;
     }
     Ok(Value::Array(items))
 }
@@ -208,7 +208,7 @@ fn put_unrunnable(members: &mut Members, program: &[u8], compilation: &Compilati
 }
 
 /// How the answer ends: with hazards, or why there is no command.
-fn put_outcome(members: &mut Members, case: &Case, answered: &Answered) -> Mem<()> {
+fn put_outcome(members: &mut Members, case: &Case, answered: &Answered<'_>) -> Mem<()> {
     match &answered.answer {
         CompilerArguments::Ok(compilation) => {
             members.put_text("outcome", "ok")?;
@@ -234,7 +234,7 @@ fn put_outcome(members: &mut Members, case: &Case, answered: &Answered) -> Mem<(
 }
 
 /// What is asked about, and how the answer ends.
-fn outcome_members(alloc: Global, case: &Case, answered: &Answered) -> Mem<Members> {
+fn outcome_members(alloc: Global, case: &Case, answered: &Answered<'_>) -> Mem<Members> {
     let mut members = Members::new(alloc);
     members.put_text("compiler", case.compiler.name())?;
     members.put_bytes("directory", &case.cwd)?;
@@ -246,7 +246,7 @@ fn outcome_members(alloc: Global, case: &Case, answered: &Answered) -> Mem<Membe
 }
 
 /// The same, with what was read, the command and the runs of the preprocessor.
-fn members_of(alloc: Global, case: &Case, answered: &Answered) -> Mem<Members> {
+fn members_of(alloc: Global, case: &Case, answered: &Answered<'_>) -> Mem<Members> {
     let mut members = outcome_members(alloc, case, answered)?;
     if let CompilerArguments::Ok(compilation) = &answered.answer {
         put_compilation(&mut members, compilation)?;
@@ -256,12 +256,12 @@ fn members_of(alloc: Global, case: &Case, answered: &Answered) -> Mem<Members> {
 }
 
 /// The hazards of a command line. It fails only for want of memory.
-pub fn check_line(alloc: Global, case: &Case, answered: &Answered) -> Mem<String> {
+pub fn check_line(alloc: Global, case: &Case, answered: &Answered<'_>) -> Mem<String> {
     outcome_members(alloc, case, answered)?.into_line()
 }
 
 /// The answer to an entry of a database. It fails only for want of memory.
-pub fn answer_line(alloc: Global, entry: u64, case: &Case, answered: &Answered) -> Mem<String> {
+pub fn answer_line(alloc: Global, entry: u64, case: &Case, answered: &Answered<'_>) -> Mem<String> {
     let mut members = members_of(alloc, case, answered)?;
     members.put("entry", Value::from(entry))?;
     members.into_line()
@@ -271,7 +271,7 @@ pub fn answer_line(alloc: Global, entry: u64, case: &Case, answered: &Answered) 
 pub fn explanation_line(
     alloc: Global,
     case: &Case,
-    answered: &Answered,
+    answered: &Answered<'_>,
     rows: &[Row],
 ) -> Mem<String> {
     let mut members = members_of(alloc, case, answered)?;

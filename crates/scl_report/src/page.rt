@@ -75,7 +75,7 @@ fn push_compiled(page: &mut Page, program: &[u8], compilation: &Compilation) -> 
     page.outcome(colour, cached_text(compilation.cacheable))
 }
 
-fn push_outcome(page: &mut Page, case: &Case, answered: &Answered, rows: &[Row]) -> Mem<()> {
+fn push_outcome(page: &mut Page, case: &Case, answered: &Answered<'_>, rows: &[Row]) -> Mem<()> {
     let bad = page.codes.bad;
     match &answered.answer {
         CompilerArguments::Ok(compilation) => push_compiled(page, &case.program, compilation),
@@ -97,7 +97,7 @@ fn push_case(page: &mut Page, case: &Case) -> Mem<()> {
     page.path("directory", &case.cwd, "")
 }
 
-fn push_files(page: &mut Page, answered: &Answered) -> Mem<()> {
+fn push_files(page: &mut Page, answered: &Answered<'_>) -> Mem<()> {
     page.paths("response file", &answered.response_files, "")?;
     page.paths(
         "response file",
@@ -133,20 +133,21 @@ fn push_record(page: &mut Page, compilation: &Compilation) -> Mem<()> {
 }
 
 /// A hazard, and what happens.
-fn hazard_text(alloc: Global, hazard: Hazard) -> Mem<String> {
-    let (name, consequence) = (hazard.name(), hazard.consequence());
+fn hazard_text(alloc: Global, hazard: &Hazard<'_>) -> Mem<String> {
+    let name = shown(alloc, hazard.name())?;
+    let consequence = shown(alloc, hazard.consequence())?;
     format!(in alloc; "{name}: {consequence}")
 }
 
-fn push_hazards(page: &mut Page, hazards: &[Hazard]) -> Mem<()> {
+fn push_hazards(page: &mut Page, hazards: &[Hazard<'_>]) -> Mem<()> {
     for hazard in hazards {
-        let text = hazard_text(page.alloc, *hazard)?;
+        let text = hazard_text(page.alloc, hazard)?;
         page.line("hazard", text.as_str())?;
     }
     Ok(())
 }
 
-fn push_commands(page: &mut Page, case: &Case, answered: &Answered) -> Mem<()> {
+fn push_commands(page: &mut Page, case: &Case, answered: &Answered<'_>) -> Mem<()> {
     if let CompilerArguments::Ok(compilation) = &answered.answer {
         push_record(page, compilation)?;
         push_hazards(page, &answered.hazards)?;
@@ -169,7 +170,7 @@ fn push_rows(page: &mut Page, rows: &[Row]) -> Mem<()> {
 pub fn explanation(
     alloc: Global,
     case: &Case,
-    answered: &Answered,
+    answered: &Answered<'_>,
     rows: &[Row],
     paint: Paint,
 ) -> Mem<String> {

@@ -15,7 +15,7 @@ impl Report for Pages {
         &self,
         alloc: Global,
         case: &Case,
-        answered: &Answered,
+        answered: &Answered<'_>,
         form: Form,
     ) -> Mem<String> {
         match form {
@@ -24,11 +24,11 @@ impl Report for Pages {
         }
     }
 
-    fn nothing(&self, alloc: Global, case: &Case, answered: &Answered) -> Mem<String> {
+    fn nothing(&self, alloc: Global, case: &Case, answered: &Answered<'_>) -> Mem<String> {
         nothing_text(alloc, &answered.rows)
     }
 
-    fn hazards(&self, alloc: Global, case: &Case, answered: &Answered) -> Mem<String> {
+    fn hazards(&self, alloc: Global, case: &Case, answered: &Answered<'_>) -> Mem<String> {
         check_line(alloc, case, answered)
     }
 }

@@ -1,8 +1,21 @@
 //! All reasons and hazards, for a person.
 use scl_cl::Mem;
-use scl_hazards::{Driver, HAZARDS, Hazard};
+use scl_hazards::{
+    Catalogue, Compiler, Entry, Hazard, compiler_name, danger_name, hazard_of, is_of,
+};
 use scl_reasons::{Explanation, explanations};
+use scl_shell::shown;
 use std::alloc::Global;
+
+/// The compilers of which something is known, in the order in which they are told.
+const COMPILERS: [Compiler; 6] = [
+    Compiler::Gcc,
+    Compiler::Clang,
+    Compiler::ClangCl,
+    Compiler::Cl,
+    Compiler::Diab,
+    Compiler::Tasking,
+];
 
 fn push_explanation(text: &mut String, explanation: &Explanation) -> Mem<()> {
     for reason in explanation.reasons {
@@ -12,32 +25,45 @@ fn push_explanation(text: &mut String, explanation: &Explanation) -> Mem<()> {
     write!(text, "    {sentence}\n")
 }
 
-fn push_drivers(text: &mut String, drivers: &[Driver]) -> Mem<()> {
-    for (at, driver) in drivers.iter().enumerate() {
-        let (before, name) = (if at == 0 { "" } else { ", " }, driver.name());
-        write!(text, "{before}{name}")?;
+/// The compilers of which the entry speaks.
+fn push_compilers(text: &mut String, entry: &Entry<'_>) -> Mem<()> {
+    let mut before = "";
+    for compiler in COMPILERS {
+        if is_of(entry, compiler) {
+            let name = compiler_name(compiler);
+            write!(text, "{before}{name}")?;
+            before = ", ";
+        }
     }
     Ok(())
 }
 
-fn push_hazard(text: &mut String, hazard: Hazard) -> Mem<()> {
-    let (name, danger) = (hazard.name(), hazard.danger().name());
+fn push_hazard(
+    alloc: Global,
+    text: &mut String,
+    entry: &Entry<'_>,
+    hazard: &Hazard<'_>,
+) -> Mem<()> {
+    let name = shown(alloc, hazard.name())?;
+    let danger = danger_name(hazard.danger());
     write!(text, "{name} ({danger}; ")?;
-    push_drivers(text, hazard.drivers())?;
-    let consequence = hazard.consequence();
+    push_compilers(text, entry)?;
+    let consequence = shown(alloc, hazard.consequence())?;
     write!(text, ")\n    {consequence}\n")
 }
 
-/// Each reason why a command line can't be cached, and each hazard of a built command, with a sentence for people. It fails
-/// only for want of memory.
-pub fn reasons_text(alloc: Global) -> Mem<String> {
+/// Each reason why a command line can't be cached, and each hazard of a built command that is known, with a sentence for people.
+/// It fails only for want of memory.
+pub fn reasons_text(alloc: Global, catalogue: &Catalogue<'_>) -> Mem<String> {
     let mut text = String::from_str(alloc, "Reasons why a command line cannot be cached:\n")?;
     for explanation in explanations() {
         push_explanation(&mut text, explanation)?;
     }
     text.push_str("\nHazards of built commands, with what differs:\n")?;
-    for &hazard in HAZARDS {
-        push_hazard(&mut text, hazard)?;
+    for entry in catalogue.entries {
+        if let Some(hazard) = hazard_of(entry) {
+            push_hazard(alloc, &mut text, entry, &hazard)?;
+        }
     }
     Ok(text)
 }

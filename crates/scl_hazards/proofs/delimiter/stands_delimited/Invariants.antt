@@ -1,7 +1,7 @@
 use Rattle.std.proofs.Common.{◌≡◌, drop}
 use Rattle.std.specs.List.{list_any}
 use Rattle.scl_values.specs.Words.{words_of}
-use Rattle.scl_hazards.specs.Conditions.{is_delimited}
+use Rattle.scl_hazards.specs.Options.{is_delimited}
 use Rattle.scl_hazards.proofs.delimiter.stands_delimited.Given as goal
 
 abbrev pub invariant-loop-word : goal.invariant-loop-word

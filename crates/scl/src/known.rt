@@ -1,0 +1,132 @@
+//! What is known of compilers: the built-in catalogue, or one that is handed in, and the version that is told.
+use crate::fault::{Fault, warn};
+use crate::file::{name_of, read_file};
+use crate::options::{KnownArguments, Wanted};
+use crate::{batch, one};
+use bumpalo::Bump;
+use scl_catalogue_default::built_in_entries;
+use scl_catalogue_text::{BadLine, ReadError, read};
+use scl_describe::{About, Catalogue, Entry};
+use scl_explain::Ending;
+use scl_reader::is_apple;
+
+/// Answers what is asked, by what is known.
+fn answer(rt: &HostRuntime, about: About<'_>, wanted: &Wanted) -> Result<Ending, Fault> {
+    match wanted {
+        Wanted::Done(ending) => Ok(*ending),
+        Wanted::Explain(asked) => one::explain(rt, &about, asked),
+        Wanted::Command(asked) => one::command(rt, &about, asked),
+        Wanted::Check(asked) => one::check(rt, &about, asked),
+        Wanted::Database(asked) => batch::database(rt, about, asked),
+        Wanted::Reasons => one::reasons(rt, &about.catalogue),
+    }
+}
+
+/// Answers what is asked of a compiler of this version, by a catalogue.
+fn answer_with<'a>(
+    rt: &HostRuntime,
+    catalogue: &Catalogue<'a>,
+    version: Option<&'a str>,
+    wanted: &Wanted,
+) -> Result<Ending, Fault> {
+    let about = About {
+        catalogue: *catalogue,
+        version,
+    };
+    answer(rt, about, wanted)
+}
+
+/// Tells the first wrong line of a catalogue.
+fn wrong_line(rt: &HostRuntime, path: &str, bad: BadLine) -> Result<Ending, Fault> {
+    let name = name_of(rt, path)?;
+    let line = format!(in rt.alloc(); "{name}:{}: {}", bad.line, bad.mistake)?;
+    warn(rt, &line);
+    Ok(Ending::Usage)
+}
+
+/// Answers what is asked, by the catalogue of a file's text, which is read into the arena.
+fn answer_by_text<'a>(
+    rt: &HostRuntime,
+    path: &str,
+    arena: &'a Bump,
+    text: &'a [u8],
+    version: Option<&'a str>,
+    wanted: &Wanted,
+) -> Result<Ending, Fault> {
+    match read(rt.alloc(), arena, text) {
+        Ok(catalogue) => answer_with(rt, &catalogue, version, wanted),
+        Err(ReadError::BadLine(bad)) => wrong_line(rt, path, bad),
+        Err(ReadError::Memory) => Err(Fault::Memory),
+    }
+}
+
+/// Answers what is asked, by the catalogue of a file.
+fn answer_by_file(
+    rt: &HostRuntime,
+    path: &str,
+    version: Option<&str>,
+    wanted: &Wanted,
+) -> Result<Ending, Fault> {
+    let text = read_file(rt, path)?;
+    let arena = Bump::new(rt.alloc());
+    answer_by_text(rt, path, &arena, &text, version, wanted)
+}
+
+/// What is known of a compiler of this version by entries that are built in, which name no group.
+fn about<'a>(entries: &'a [Entry<'static>], version: Option<&'a str>) -> About<'a> {
+    About {
+        catalogue: Catalogue {
+            groups: &[],
+            entries,
+        },
+        version,
+    }
+}
+
+/// Answers what is asked, by the built-in catalogue.
+fn answer_by_built_in(
+    rt: &HostRuntime,
+    version: Option<&str>,
+    wanted: &Wanted,
+) -> Result<Ending, Fault> {
+    let entries = built_in_entries(rt.alloc())?;
+    answer(rt, about(&entries, version), wanted)
+}
+
+/// Whether a text is numbers with dots between them.
+fn is_numbers(text: &str) -> bool {
+    let mut is_number = false;
+    for byte in text.as_bytes() {
+        let is_digit = byte.is_ascii_digit();
+        if !is_digit && !(is_number && *byte == b'.') {
+            return false;
+        }
+        is_number = is_digit;
+    }
+    is_number
+}
+
+/// Whether a text tells a version.
+fn tells_version(text: &str) -> bool {
+    is_numbers(text) || is_apple(Some(text))
+}
+
+/// Answers what is asked of a compiler of this version, where one is told, by the catalogue that is named.
+pub fn answer_by(
+    rt: &HostRuntime,
+    known: &KnownArguments,
+    wanted: &Wanted,
+) -> Result<Ending, Fault> {
+    let told = known.version.as_deref();
+    if told.is_some_and(|text| !tells_version(text)) {
+        warn(
+            rt,
+            &"a version is numbers with dots between them, as 14.0.6, or a text that names Apple's",
+        );
+        return Ok(Ending::Usage);
+    }
+    match &known.catalogue {
+        Some(path) => answer_by_file(rt, path.as_str(), told, wanted),
+        None => answer_by_built_in(rt, told, wanted),
+    }
+}

@@ -1,6 +1,0 @@
-use Rattle.std.proofs.Common.{◌≡◌, reverse, take}
-use Rattle.scl_c.specs.Shapes.{texts_of}
-use Rattle.scl_c.proofs.asked.add_existing.Given as goal
-
-abbrev pub invariant-loop-path : goal.invariant-loop-path
-invariant-loop-path l = l.view ≡ record l.initial.view { existing = reverse (texts_of (take l.path-index l.paths)) }

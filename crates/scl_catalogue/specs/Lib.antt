@@ -1,0 +1,4 @@
+pub mod Form
+pub mod Found
+pub mod Keyed
+pub mod Views

@@ -1,0 +1,90 @@
+-- What the code's catalogues and lines hold.
+use Rattle.std.specs.Prelude.{ℕ, List, Option, map}
+use Rattle.std.specs.Option.{option_copied}
+use Rattle.scl_values.specs.Words.{words_of}
+use Rattle.scl_catalogue.specs.Form as form
+use Rattle.scl_catalogue.specs.Found.{LineSeen, OptionSeen}
+use Rattle.scl_catalogue.specs.declared.case.Case.{Case}
+use Rattle.scl_catalogue.specs.declared.catalogue.Catalogue.{Catalogue}
+use Rattle.scl_catalogue.specs.declared.condition.Condition.{Condition}
+use Rattle.scl_catalogue.specs.declared.condition.Question.{Question}
+use Rattle.scl_catalogue.specs.declared.condition.Question.TheVariants as question
+use Rattle.scl_catalogue.specs.declared.entry.Entry.{Entry}
+use Rattle.scl_catalogue.specs.declared.entry.Tells.{Tells}
+use Rattle.scl_catalogue.specs.declared.entry.Tells.TheVariants as tells
+use Rattle.scl_catalogue.specs.declared.line.Line.{Line}
+use Rattle.scl_catalogue.specs.declared.relation.Relation.{Relation}
+use Rattle.scl_catalogue.specs.declared.relation.Relation.TheVariants as relation
+use Rattle.scl_catalogue.specs.declared.seen.Seen.{Seen}
+use Rattle.scl_catalogue.specs.declared.test.Demand.{Demand}
+use Rattle.scl_catalogue.specs.declared.test.Demand.TheVariants as demand
+use Rattle.scl_catalogue.specs.declared.test.Group.{Group}
+use Rattle.scl_catalogue.specs.declared.test.Test.{Test}
+use Rattle.scl_catalogue.specs.declared.text.Pattern.{Pattern}
+use Rattle.scl_catalogue.specs.declared.text.Text.{Text}
+
+abbrev pub pattern_of : Pattern → form.Pattern
+pattern_of p = record { how = p.how; text = p.text.now }
+
+abbrev pub text_of : Text → form.Text
+text_of t = record { any = map pattern_of t.any.now; but = map pattern_of t.but.now }
+
+abbrev pub demand_of : Demand → form.Demand
+demand_of (demand.Marked m) = form.Marked m
+demand_of (demand.Value text) = form.Value (text_of text)
+demand_of (demand.Part text) = form.Part (text_of text)
+
+abbrev pub test_of : Test → form.Test
+test_of t = record { class = t.class; names = text_of t.names; demands = map demand_of t.demands.now }
+
+abbrev pub group_of : Group → form.Group
+group_of g = record { name = g.name.now; tests = map test_of g.tests.now }
+
+abbrev pub relation_of : Relation → form.Relation
+relation_of (relation.Any g) = form.Any (group_of g)
+relation_of (relation.Two g) = form.Two (group_of g)
+relation_of (relation.Before g h) = form.Before (group_of g) (group_of h)
+relation_of (relation.Unfollowed g h) = form.Unfollowed (group_of g) (group_of h)
+relation_of (relation.Last g h) = form.Last (group_of g) (group_of h)
+
+abbrev pub question_of : Question → form.Question
+question_of (question.Is f) = form.Is f
+question_of (question.At p text) = form.At p (text_of text)
+question_of (question.Given r) = form.Given (relation_of r)
+question_of (question.Inner r) = form.Inner (relation_of r)
+
+abbrev pub condition_of : Condition → form.Condition
+condition_of c = record { is_denied = c.is_denied; question = question_of c.question }
+
+abbrev pub case_of : Case → form.Case
+case_of c = record { served = c.served.now; conditions = map condition_of c.conditions.now }
+
+abbrev pub tells_of : Tells → form.Tells
+tells_of (tells.Hazard d) = form.Hazard d
+tells_of (tells.Effect v file) = form.Effect v file.now
+tells_of tells.Reason = form.Reason
+
+abbrev pub entry_of : Entry → form.Entry
+entry_of e = record { tells = tells_of e.tells; name = e.name.now; says = e.says.now; cases = map case_of e.cases.now }
+
+abbrev pub catalogue_of : Catalogue → form.Catalogue
+catalogue_of c = record { groups = map group_of c.groups.now; entries = map entry_of c.entries.now }
+
+abbrev pub seen_of : Seen → OptionSeen
+seen_of o = record { standing = o.standing; name = o.name.now; kind = o.kind.now; value = o.value.now; marks = o.marks }
+
+abbrev pub line_of : Line → LineSeen
+line_of l = record {
+  compiler = l.compiler;
+  version = l.version;
+  facts = l.facts;
+  options = map seen_of l.options.now;
+  inner = map seen_of l.inner.now;
+  words = words_of l.words.now;
+  files = words_of l.files.now;
+  environment = words_of l.environment.now;
+  language = l.language.now;
+  input = l.input.now;
+  extension = option_copied l.extension;
+  object = l.object.now;
+}

@@ -1,0 +1,23 @@
+//! A catalogue of what is known of compilers: its form, and which of its entries a command line has.
+#![tactic(auto)]
+
+mod case;
+mod catalogue;
+mod condition;
+mod entry;
+mod keys;
+mod line;
+mod relation;
+mod seen;
+mod test;
+mod text;
+
+pub use case::{Case, Compiler, Served, Version};
+pub use catalogue::Catalogue;
+pub use condition::{Condition, Fact, Place, Question};
+pub use entry::{Danger, Entry, Tells, Verb};
+pub use line::{Facts, Line};
+pub use relation::Relation;
+pub use seen::{Mark, Marks, Seen, Standing};
+pub use test::{Class, Demand, Group, Test};
+pub use text::{How, Pattern, Text};

@@ -1,0 +1,60 @@
+//! Groups of the catalogue that is built in; `catalogue/build` writes them.
+use scl_catalogue::Group;
+
+pub(crate) const UNKNOWN_FATAL: Group<'static> = group! {
+    b"UNKNOWN_FATAL"
+    [Unknown {Is b"-Werror=unknown-warning-option"}]
+};
+
+pub(crate) const UNKNOWN_NOT_FATAL: Group<'static> = group! {
+    b"UNKNOWN_NOT_FATAL"
+    [Unknown {Is b"-Wno-error=unknown-warning-option"}]
+};
+
+pub(crate) const UNKNOWN_OFF: Group<'static> = group! {
+    b"UNKNOWN_OFF"
+    [Unknown {Is b"-Wno-unknown-warning-option" Is b"-Wno-everything"}]
+};
+
+pub(crate) const UNKNOWN_ON: Group<'static> = group! {
+    b"UNKNOWN_ON"
+    [Unknown {Is b"-Wunknown-warning-option" Is b"-Weverything" Is b"-Werror=unknown-warning-option"}]
+};
+
+pub(crate) const CL_OUTPUT: Group<'static> = group! {
+    b"CL_OUTPUT"
+    [Kind {Is b"output"}]
+};
+
+pub(crate) const CL_JOINED_OUTPUT: Group<'static> = group! {
+    b"CL_JOINED_OUTPUT"
+    [Unknown {Begins b"-o" ; Is b"-openmp" Is b"-openmp-" Is b"-openmp:experimental"}]
+};
+
+pub(crate) const CL_FATAL: Group<'static> = group! {
+    b"CL_FATAL"
+    [Flag {Is b"-WX" Is b"/WX"}]
+    [Unknown {Is b"-Werror"}]
+};
+
+pub(crate) const CL_DEBUG: Group<'static> = group! {
+    b"CL_DEBUG"
+    [Flag {Is b"-Z7" Is b"/Z7" Is b"-Zi" Is b"/Zi" Is b"-ZI" Is b"/ZI"}]
+    [Unknown {Begins b"-g"}]
+};
+
+pub(crate) const CL_TAKING_NEXT: Group<'static> = group! {
+    b"CL_TAKING_NEXT"
+    [Unknown {Is b"-diasdkdir" Is b"-vctoolsdir" Is b"-vctoolsversion" Is b"-winsdkdir" Is b"-winsdkversion" Is b"-winsysroot"}]
+};
+
+pub(crate) const CL_CUT_SHORT: Group<'static> = group! {
+    b"CL_CUT_SHORT"
+    [Flag {Is b"-isystem"} {Marked Joined} {Value Begins b"-after"}]
+    [Flag {Is b"-iframework"} {Marked Joined} {Value Begins b"withsysroot"}]
+};
+
+pub(crate) const CL_PREPROCESSOR: Group<'static> = group! {
+    b"CL_PREPROCESSOR"
+    [Flag {Is b"-D" Is b"/D" Is b"-FI" Is b"/FI" Is b"-I" Is b"/I" Is b"-U" Is b"/U" Is b"-imsvc" Is b"/imsvc"}]
+};

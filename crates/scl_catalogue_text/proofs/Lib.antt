@@ -1,0 +1,12 @@
+pub mod AgainLemmas
+pub mod ByteLemmas
+pub mod CaseLemmas
+pub mod ConditionLemmas
+pub mod CutLemmas
+pub mod EachLemmas
+pub mod GroupLemmas
+pub mod LineLemmas
+pub mod SplitLemmas
+pub mod TestLemmas
+pub mod TextLemmas
+pub mod WrongLemmas

@@ -1,0 +1,225 @@
+-- The lines of a catalogue's text, read again.
+use Rattle.std.proofs.Common.{◌≡◌, ◌∙◌, ℕ, ◌+◌, ◌==◌, Bool, true, false, not, ◌&&◌, cond, List, [], ◌∷◌, ◌++◌, map, codes, Option, None, Some, Result, Ok, Err, append_assoc, refl, sym, ap}
+use Rattle.std.proofs.lemmas.List.{append-nil}
+use Rattle.std.proofs.lemmas.List.Folds.{list_all-append}
+use Rattle.std.specs.List.{list_all, list_any}
+use Rattle.std.specs.Str.{bytes_eq}
+use Rattle.scl_catalogue.specs.Form.{Group, Case, Test, Tells, Hazard, Effect, Reason, Entry, Catalogue}
+use Rattle.scl_catalogue.specs.declared.case.Compiler.{Compiler}
+use Rattle.scl_catalogue.specs.declared.case.Compiler.TheVariants as compiler
+use Rattle.scl_catalogue.specs.declared.entry.Danger.{Danger}
+use Rattle.scl_catalogue.specs.declared.entry.Danger.TheVariants as danger
+use Rattle.scl_catalogue.specs.declared.entry.Verb.{Verb}
+use Rattle.scl_catalogue.specs.declared.entry.Verb.TheVariants as verb
+use Rattle.scl_catalogue_text.specs.Cutting.{first_word, from_mark, other_words, parts, until_mark, words}
+use Rattle.scl_catalogue_text.specs.Lines.{NewCase, NewEntry, NewGroup, Nothing, Said, Says, SoFar, added, catalogue_so_far, effect_read, group_line_by, group_line_read, hazard_read, line_by, line_read, lines_read, read, reason_read, with_last, with_line}
+use Rattle.scl_catalogue_text.specs.Names.{compiler_name, danger_name, danger_named, verb_name, verb_named}
+use Rattle.scl_catalogue_text.specs.Outcome.{after, after_line, at_end, at_line}
+use Rattle.scl_catalogue_text.specs.Reading.{case_read, group_named, tests_read}
+use Rattle.scl_catalogue_text.specs.Writable.{AreCases, AreEntries, AreGroups, CanBeWritten, IsCase, IsEntry, are_tests, has_one, has_words, is_group_name, is_plain_word, is_served, lacks}
+use Rattle.scl_catalogue_text.specs.Written.{case_text, condition_text, entry_lines, group_line, head_text, joined, lines_of, lines_of_entries, lines_text, spaced, tests_text, written}
+use Rattle.scl_catalogue_text.specs.declared.mistake.BadLine.{BadLine}
+use Rattle.scl_catalogue_text.specs.declared.mistake.Mistake.{Mistake}
+use Rattle.scl_catalogue_text.proofs.CaseLemmas.{begins-compiler, case-bytes, case-written}
+use Rattle.scl_catalogue_text.proofs.ConditionLemmas.{is_of_line}
+use Rattle.scl_catalogue_text.proofs.GroupLemmas.{is_of_name, is_of_tests, lacks-all, name-unbroken, of-tests, tests-written}
+use Rattle.scl_catalogue_text.proofs.SplitLemmas.{behind-none, first-word, from-append, is_unbroken, other-words, parts-lines, until-append, words-spaced}
+use Rattle.scl_catalogue_text.proofs.TestLemmas.{all-append, all-weaker, and-left, and-right, both, lacks-passed, lacks_mark}
+use Rattle.scl_catalogue_text.proofs.TextLemmas.{spaced-bytes}
+
+-- ---- groups
+
+group-head : (gs : List Group) (xs : List ℕ) → line_read gs (codes "group" ++ 32 ∷ xs) ≡ group_line_read gs (32 ∷ xs)
+unfolding line_read line_by first_word other_words
+group-head gs xs = refl
+
+first-none : first_word [] ≡ []
+unfolding first_word
+first-none = refl
+
+word-alone : (w : List ℕ) → is_unbroken w ≡ true → first_word (32 ∷ w) ≡ w
+unfolding first_word
+word-alone w h = ap first_word (sym (append-nil w)) ∙ first-word w [] h behind-none
+
+nothing-behind : (w : List ℕ) → is_unbroken w ≡ true → other_words (32 ∷ w) ≡ []
+unfolding other_words
+nothing-behind w h = ap other_words (sym (append-nil w)) ∙ other-words w [] h behind-none
+
+group-by-name : (gs : List Group) (name rest : List ℕ) (ts : List Test) → has_one name ≡ true → group_named gs name ≡ None → tests_read rest ≡ Ok ts → group_line_by gs name (58 ∷ rest) ≡ Ok (NewGroup (record { name = name; tests = ts }))
+unfolding group_line_by
+group-by-name gs [] rest ts o h k = let no : false ≡ true = o in cc
+group-by-name gs (b ∷ name) rest ts o h k = rw (h, k) refl
+
+group-line-by : (gs : List Group) (name : List ℕ) (ts : List Test) → is_group_name name ≡ true → are_tests ts ≡ true → group_named gs name ≡ None → group_line_read gs (32 ∷ (name ++ 58 ∷ tests_text ts)) ≡ Ok (NewGroup (record { name = name; tests = ts }))
+unfolding group_line_read
+group-line-by gs name ts h k l =
+    let rest : List ℕ = tests_text ts in
+    let lacking : lacks_mark 58 name ≡ true = lacks-passed is_of_name 58 refl name (and-right (has_one name) (list_all is_of_name name) h) in
+    let until : until_mark 58 (name ++ 58 ∷ rest) ≡ name = until-append 58 name (58 ∷ rest) lacking ∙ append-nil name in
+    let from : from_mark 58 (name ++ 58 ∷ rest) ≡ 58 ∷ rest = from-append 58 name (58 ∷ rest) lacking in
+    let unbroken : is_unbroken name ≡ true = name-unbroken name h in
+    rw (until, from, nothing-behind name unbroken, word-alone name unbroken, first-none) (group-by-name gs name rest ts (and-left (has_one name) (list_all is_of_name name) h) l (tests-written ts k))
+
+group-written-line : (gs : List Group) (g : Group) → is_group_name g.name ≡ true → are_tests g.tests ≡ true → group_named gs g.name ≡ None → line_read gs (group_line g) ≡ Ok (NewGroup g)
+group-written-line gs g h k l = group-head gs (g.name ++ 58 ∷ tests_text g.tests) ∙ group-line-by gs g.name g.tests h k l
+
+-- ---- entries
+
+plain-unbroken : (name : List ℕ) → is_plain_word name ≡ true → is_unbroken name ≡ true
+plain-unbroken name h = both (and-left (has_one name) (lacks (32 ∷ 10 ∷ []) name) h) (lacks-passed (λ b. not (list_any (λ m. b == m) (32 ∷ 10 ∷ []))) 32 refl name (and-right (has_one name) (lacks (32 ∷ 10 ∷ []) name) h))
+
+plain-line : (name : List ℕ) → is_plain_word name ≡ true → list_all is_of_line name ≡ true
+plain-line name h = lacks-all (λ b. not (list_any (λ m. b == m) (32 ∷ 10 ∷ []))) (10 ∷ []) name refl (and-right (has_one name) (lacks (32 ∷ 10 ∷ []) name) h)
+
+record IsDanger (d : Danger) : Type 0 where
+  read : danger_named (danger_name d) ≡ Some d
+  unbroken : is_unbroken (danger_name d) ≡ true
+  bytes : list_all is_of_line (danger_name d) ≡ true
+
+danger-name : (d : Danger) → IsDanger d
+danger-name danger.Object = record { read = refl; unbroken = refl; bytes = refl }
+danger-name danger.Failure = record { read = refl; unbroken = refl; bytes = refl }
+danger-name danger.SideFile = record { read = refl; unbroken = refl; bytes = refl }
+danger-name danger.Messages = record { read = refl; unbroken = refl; bytes = refl }
+
+record IsVerb (v : Verb) : Type 0 where
+  read : verb_named (verb_name v) ≡ Some v
+  unbroken : is_unbroken (verb_name v) ≡ true
+  bytes : list_all is_of_line (verb_name v) ≡ true
+
+verb-name : (v : Verb) → IsVerb v
+verb-name verb.Reads = record { read = refl; unbroken = refl; bytes = refl }
+verb-name verb.Writes = record { read = refl; unbroken = refl; bytes = refl }
+verb-name verb.Asks = record { read = refl; unbroken = refl; bytes = refl }
+
+hazard-head : (gs : List Group) (xs : List ℕ) → line_read gs (codes "hazard" ++ 32 ∷ xs) ≡ hazard_read (words (32 ∷ xs))
+unfolding line_read line_by first_word other_words
+hazard-head gs xs = refl
+
+effect-head : (gs : List Group) (xs : List ℕ) → line_read gs (codes "effect" ++ 32 ∷ xs) ≡ effect_read (words (32 ∷ xs))
+unfolding line_read line_by first_word other_words
+effect-head gs xs = refl
+
+reason-head : (gs : List Group) (xs : List ℕ) → line_read gs (codes "reason" ++ 32 ∷ xs) ≡ reason_read (words (32 ∷ xs))
+unfolding line_read line_by first_word other_words
+reason-head gs xs = refl
+
+head-written : (gs : List Group) (tells : Tells) (name : List ℕ) → is_plain_word name ≡ true → has_words tells ≡ true → line_read gs (head_text tells name) ≡ Ok (NewEntry tells name)
+unfolding hazard_read effect_read reason_read
+head-written gs (Hazard d) name h k =
+    let cut : words (spaced (name ∷ danger_name d ∷ [])) ≡ name ∷ danger_name d ∷ [] = words-spaced (name ∷ danger_name d ∷ []) (both (plain-unbroken name h) (both (danger-name d).unbroken refl)) in
+    hazard-head gs (name ++ spaced (danger_name d ∷ [])) ∙ (ap hazard_read cut ∙ rw (danger-name d).read refl)
+head-written gs (Effect v file) name h k =
+    let cut : words (spaced (name ∷ verb_name v ∷ file ∷ [])) ≡ name ∷ verb_name v ∷ file ∷ [] = words-spaced (name ∷ verb_name v ∷ file ∷ []) (both (plain-unbroken name h) (both (verb-name v).unbroken (both (plain-unbroken file k) refl))) in
+    effect-head gs (name ++ spaced (verb_name v ∷ file ∷ [])) ∙ (ap effect_read cut ∙ rw (verb-name v).read refl)
+head-written gs Reason name h k =
+    let cut : words (spaced (name ∷ [])) ≡ name ∷ [] = words-spaced (name ∷ []) (both (plain-unbroken name h) refl) in
+    reason-head gs (name ++ []) ∙ ap reason_read cut
+
+says-written : (gs : List Group) (says : List ℕ) → line_read gs (codes "  says " ++ says) ≡ Ok (Says says)
+unfolding line_read line_by first_word other_words
+says-written gs says = refl
+
+case-head : (gs : List Group) (c : Compiler) (xs : List ℕ) → line_read gs (32 ∷ 32 ∷ (compiler_name c ++ xs)) ≡ after (case_read gs (32 ∷ 32 ∷ (compiler_name c ++ xs))) (λ case. Ok (NewCase case))
+unfolding line_read line_by first_word other_words
+case-head gs compiler.Gcc xs = refl
+case-head gs compiler.Clang xs = refl
+case-head gs compiler.ClangCl xs = refl
+case-head gs compiler.Cl xs = refl
+case-head gs compiler.Diab xs = refl
+case-head gs compiler.Tasking xs = refl
+
+case-line : (gs : List Group) (c : Case) → IsCase gs c → line_read gs (case_text c) ≡ Ok (NewCase c)
+case-line gs c h =
+    let b = begins-compiler c.served (58 ∷ joined 59 (map condition_text c.conditions)) (and-left (has_one c.served) (list_all is_served c.served) h.served) in
+    ap (line_read gs) b.is ∙ (case-head gs b.compiler b.rest ∙ (ap (λ xs. after (case_read gs xs) (λ case. Ok (NewCase case))) (sym b.is) ∙ rw (case-written gs c h) refl))
+
+nothing-line : (gs : List Group) → line_read gs [] ≡ Ok Nothing
+unfolding line_read first_word
+nothing-line gs = refl
+
+-- ---- texts
+
+abbrev state : List Group → List Entry → Option Entry → SoFar
+state gs es last = record { groups = gs; entries = es; last = last }
+
+-- a line that adds to what is read so far
+step : (n : ℕ) (s next : SoFar) (line : List ℕ) (lines : List (List ℕ)) → with_line s line ≡ Ok next → lines_read n s (line ∷ lines) ≡ lines_read (n + 1) next lines
+step n s next line lines h = rw h refl
+
+groups-read : (gs above : List Group) (n : ℕ) (rest : List (List ℕ)) (r : Result Catalogue BadLine) → AreGroups above gs → ((m : ℕ) → lines_read m (state (above ++ gs) [] None) rest ≡ r) → lines_read n (state above [] None) (map group_line gs ++ rest) ≡ r
+groups-read [] above n rest r h k = ap (λ gs. lines_read n (state gs [] None) rest) (sym (append-nil above)) ∙ k n
+groups-read (g ∷ gs) above n rest r h k =
+    let line : line_read above (group_line g) ≡ Ok (NewGroup g) = group-written-line above g h.0 h.1 h.2 in
+    let read : with_line (state above [] None) (group_line g) ≡ Ok (state (above ++ g ∷ []) [] None) = rw line refl in
+    step n (state above [] None) (state (above ++ g ∷ []) [] None) (group_line g) (map group_line gs ++ rest) read
+    ∙ groups-read gs (above ++ g ∷ []) (n + 1) rest r h.3 (λ m. ap (λ all. lines_read m (state all [] None) rest) (append_assoc above (g ∷ []) gs) ∙ k m)
+
+abbrev entry_with : Tells → List ℕ → List ℕ → List Case → Entry
+entry_with tells name says cases = record { tells = tells; name = name; says = says; cases = cases }
+
+cases-read : (cs before : List Case) (gs : List Group) (es : List Entry) (tells : Tells) (name says : List ℕ) (n : ℕ) (rest : List (List ℕ)) (r : Result Catalogue BadLine) → AreCases gs cs
+    → ((m : ℕ) → lines_read m (state gs es (Some (entry_with tells name says (before ++ cs)))) rest ≡ r) → lines_read n (state gs es (Some (entry_with tells name says before))) (map case_text cs ++ rest) ≡ r
+cases-read [] before gs es tells name says n rest r h k = ap (λ cs. lines_read n (state gs es (Some (entry_with tells name says cs))) rest) (sym (append-nil before)) ∙ k n
+cases-read (c ∷ cs) before gs es tells name says n rest r h k =
+    let line : line_read gs (case_text c) ≡ Ok (NewCase c) = case-line gs c h.0 in
+    let read : with_line (state gs es (Some (entry_with tells name says before))) (case_text c) ≡ Ok (state gs es (Some (entry_with tells name says (before ++ c ∷ [])))) = rw line refl in
+    step n (state gs es (Some (entry_with tells name says before))) (state gs es (Some (entry_with tells name says (before ++ c ∷ [])))) (case_text c) (map case_text cs ++ rest) read
+    ∙ cases-read cs (before ++ c ∷ []) gs es tells name says (n + 1) rest r h.1 (λ m. ap (λ all. lines_read m (state gs es (Some (entry_with tells name says all))) rest) (append_assoc before (c ∷ []) cs) ∙ k m)
+
+head-added : (gs : List Group) (es above : List Entry) (last : Option Entry) (tells : Tells) (name : List ℕ) → with_last es last ≡ above → list_any (λ other. bytes_eq other.name name) above ≡ false → line_read gs (head_text tells name) ≡ Ok (NewEntry tells name)
+    → with_line (state gs es last) (head_text tells name) ≡ Ok (state gs above (Some (entry_with tells name [] [])))
+head-added gs es above last tells name e h line = rw (line, e, h) refl
+
+entries-read : (entries above : List Entry) (gs : List Group) (es : List Entry) (last : Option Entry) (n : ℕ) → with_last es last ≡ above → AreEntries gs above entries → lines_read n (state gs es last) (lines_of_entries entries ++ [] ∷ []) ≡ Ok (record { groups = gs; entries = above ++ entries })
+entries-read [] above gs es last n e h = rw (nothing-line gs, e) (ap (λ all. Ok (record { groups = gs; entries = all })) (sym (append-nil above)))
+entries-read (f ∷ entries) above gs es last n e h =
+    let is = h.0 in
+    let rest : List (List ℕ) = lines_of_entries entries ++ [] ∷ [] in
+    let head = head-added gs es above last f.tells f.name e h.1 (head-written gs f.tells f.name is.name is.tells) in
+    let said : with_line (state gs above (Some (entry_with f.tells f.name [] []))) (codes "  says " ++ f.says) ≡ Ok (state gs above (Some (entry_with f.tells f.name f.says []))) = rw (says-written gs f.says) refl in
+    let others : (m : ℕ) → lines_read m (state gs above (Some f)) rest ≡ Ok (record { groups = gs; entries = above ++ f ∷ entries }) =
+    λ m. entries-read entries (above ++ f ∷ []) gs above (Some f) m refl h.2 ∙ ap (λ all. Ok (record { groups = gs; entries = all })) (append_assoc above (f ∷ []) entries) in
+    ap (lines_read n (state gs es last)) (append_assoc (entry_lines f) (lines_of_entries entries) ([] ∷ []))
+    ∙ (step n (state gs es last) (state gs above (Some (entry_with f.tells f.name [] []))) (head_text f.tells f.name) ((codes "  says " ++ f.says) ∷ (map case_text f.cases ++ rest)) head
+    ∙ (step (n + 1) (state gs above (Some (entry_with f.tells f.name [] []))) (state gs above (Some (entry_with f.tells f.name f.says []))) (codes "  says " ++ f.says) (map case_text f.cases ++ rest) said
+    ∙ cases-read f.cases [] gs above f.tells f.name f.says (n + 1 + 1) rest (Ok (record { groups = gs; entries = above ++ f ∷ entries })) is.cases others))
+
+-- ---- lines without line ends
+
+line-lacks : (bs : List ℕ) → list_all is_of_line bs ≡ true → lacks_mark 10 bs ≡ true
+line-lacks bs h = lacks-passed is_of_line 10 refl bs h
+
+group-line-bytes : (g : Group) → is_group_name g.name ≡ true → are_tests g.tests ≡ true → list_all is_of_line (group_line g) ≡ true
+group-line-bytes g h k =
+    all-append is_of_line g.name (58 ∷ tests_text g.tests) (lacks-all is_of_name (10 ∷ []) g.name refl (and-right (has_one g.name) (list_all is_of_name g.name) h)) (lacks-all is_of_tests (10 ∷ []) (tests_text g.tests) refl (of-tests g.tests k))
+
+head-bytes : (tells : Tells) (name : List ℕ) → is_plain_word name ≡ true → has_words tells ≡ true → list_all is_of_line (head_text tells name) ≡ true
+head-bytes (Hazard d) name h k = spaced-bytes is_of_line refl (name ∷ danger_name d ∷ []) (both (plain-line name h) (both (danger-name d).bytes refl))
+head-bytes (Effect v file) name h k = spaced-bytes is_of_line refl (name ∷ verb_name v ∷ file ∷ []) (both (plain-line name h) (both (verb-name v).bytes (both (plain-line file k) refl)))
+head-bytes Reason name h k = spaced-bytes is_of_line refl (name ∷ []) (both (plain-line name h) refl)
+
+groups-lack : (gs above : List Group) → AreGroups above gs → list_all (lacks_mark 10) (map group_line gs) ≡ true
+groups-lack [] above h = refl
+groups-lack (g ∷ gs) above h = both (line-lacks (group_line g) (group-line-bytes g h.0 h.1)) (groups-lack gs (above ++ g ∷ []) h.3)
+
+cases-lack : (cs : List Case) (gs : List Group) → AreCases gs cs → list_all (lacks_mark 10) (map case_text cs) ≡ true
+cases-lack [] gs h = refl
+cases-lack (c ∷ cs) gs h = both (line-lacks (case_text c) (case-bytes gs c h.0)) (cases-lack cs gs h.1)
+
+entry-lacks : (e : Entry) (gs : List Group) → IsEntry gs e → list_all (lacks_mark 10) (entry_lines e) ≡ true
+entry-lacks e gs h = both (line-lacks (head_text e.tells e.name) (head-bytes e.tells e.name h.name h.tells)) (both (line-lacks (codes "  says " ++ e.says) h.says) (cases-lack e.cases gs h.cases))
+
+entries-lack : (es above : List Entry) (gs : List Group) → AreEntries gs above es → list_all (lacks_mark 10) (lines_of_entries es) ≡ true
+entries-lack [] above gs h = refl
+entries-lack (e ∷ es) above gs h = all-append (lacks_mark 10) (entry_lines e) (lines_of_entries es) (entry-lacks e gs h.0) (entries-lack es (above ++ e ∷ []) gs h.2)
+
+-- what is written is read
+pub read_written : (c : Catalogue) → CanBeWritten c → read (written c) ≡ Ok c
+unfolding read written
+read_written c h =
+    let lacking : list_all (lacks_mark 10) (lines_of c) ≡ true = all-append (lacks_mark 10) (map group_line c.groups) (lines_of_entries c.entries) (groups-lack c.groups [] h.groups) (entries-lack c.entries [] c.groups h.entries) in
+    let cut : parts 10 (lines_text (lines_of c)) ≡ lines_of c ++ [] ∷ [] = parts-lines (lines_of c) lacking in
+    let start : SoFar = state [] [] None in
+    ap (lines_read 1 start) cut ∙ (ap (lines_read 1 start) (append_assoc (map group_line c.groups) (lines_of_entries c.entries) ([] ∷ []))
+    ∙ groups-read c.groups [] 1 (lines_of_entries c.entries ++ [] ∷ []) (Ok c) h.groups (λ m. entries-read c.entries [] c.groups [] None m refl h.entries))

@@ -1,0 +1,10 @@
+pub mod Again
+pub mod Cutting
+pub mod Lines
+pub mod Names
+pub mod Outcome
+pub mod Reading
+pub mod SaidViews
+pub mod Writable
+pub mod Written
+pub mod Wrong

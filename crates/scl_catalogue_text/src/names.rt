@@ -1,0 +1,151 @@
+//! The words by which a catalogue's text names things.
+ghost use Rattle.std.specs.Prelude.{◌≡◌};
+ghost use Rattle.std.specs.Str.{bytes_eq};
+ghost use Rattle.scl_catalogue_text.specs.Names.{class_named, compiler_named, danger_named, fact_named, mark_named, place_named, verb_named};
+
+use scl_catalogue::{Class, Compiler, Danger, Fact, Mark, Place, Verb};
+
+/// Whether the word is this name.
+pub(crate) fn is(word: &[u8], name: &str) -> bool
+    ensures { result ≡ bytes_eq word.now name.now }
+{
+    word == name.as_bytes()
+}
+
+pub(crate) fn class_named(word: &[u8]) -> Option<Class>
+    ensures { result ≡ class_named word.now }
+{
+    if is(word, "option") {
+        Some(Class::Option)
+    } else if is(word, "raw") {
+        Some(Class::Raw)
+    } else if is(word, "unknown") {
+        Some(Class::Unknown)
+    } else if is(word, "flag") {
+        Some(Class::Flag)
+    } else if is(word, "kind") {
+        Some(Class::Kind)
+    } else {
+        None
+    }
+}
+
+pub(crate) fn mark_named(word: &[u8]) -> Option<Mark>
+    ensures { result ≡ mark_named word.now }
+{
+    if is(word, "stays") {
+        Some(Mark::Stays)
+    } else if is(word, "apart") {
+        Some(Mark::Apart)
+    } else if is(word, "joined") {
+        Some(Mark::Joined)
+    } else if is(word, "delimiter-dropped") {
+        Some(Mark::DelimiterDropped)
+    } else if is(word, "hidden-value") {
+        Some(Mark::HiddenValue)
+    } else {
+        None
+    }
+}
+
+pub(crate) fn fact_named(word: &[u8]) -> Option<Fact>
+    ensures { result ≡ fact_named word.now }
+{
+    if is(word, "plusplus") {
+        Some(Fact::Plusplus)
+    } else if is(word, "apple") {
+        Some(Fact::Apple)
+    } else if is(word, "preprocessed") {
+        Some(Fact::Preprocessed)
+    } else if is(word, "other-language") {
+        Some(Fact::OtherLanguage)
+    } else if is(word, "split-otherwise") {
+        Some(Fact::SplitOtherwise)
+    } else if is(word, "environment-split-otherwise") {
+        Some(Fact::EnvironmentSplitOtherwise)
+    } else if is(word, "hidden-input") {
+        Some(Fact::HiddenInput)
+    } else if is(word, "hidden-object") {
+        Some(Fact::HiddenObject)
+    } else if is(word, "other-target") {
+        Some(Fact::OtherTarget)
+    } else if is(word, "renamed-object") {
+        Some(Fact::RenamedObject)
+    } else if is(word, "precompiled-header") {
+        Some(Fact::PrecompiledHeader)
+    } else {
+        None
+    }
+}
+
+pub(crate) fn place_named(word: &[u8]) -> Option<Place>
+    ensures { result ≡ place_named word.now }
+{
+    if is(word, "word") {
+        Some(Place::Word)
+    } else if is(word, "file") {
+        Some(Place::File)
+    } else if is(word, "environment") {
+        Some(Place::Environment)
+    } else if is(word, "language") {
+        Some(Place::Language)
+    } else if is(word, "input") {
+        Some(Place::Input)
+    } else if is(word, "extension") {
+        Some(Place::Extension)
+    } else if is(word, "object") {
+        Some(Place::Object)
+    } else {
+        None
+    }
+}
+
+pub(crate) fn compiler_named(word: &[u8]) -> Option<Compiler>
+    ensures { result ≡ compiler_named word.now }
+{
+    if is(word, "gcc") {
+        Some(Compiler::Gcc)
+    } else if is(word, "clang") {
+        Some(Compiler::Clang)
+    } else if is(word, "clang-cl") {
+        Some(Compiler::ClangCl)
+    } else if is(word, "cl") {
+        Some(Compiler::Cl)
+    } else if is(word, "diab") {
+        Some(Compiler::Diab)
+    } else if is(word, "tasking") {
+        Some(Compiler::Tasking)
+    } else {
+        None
+    }
+}
+
+pub(crate) fn danger_named(word: &[u8]) -> Option<Danger>
+    ensures { result ≡ danger_named word.now }
+{
+    if is(word, "object") {
+        Some(Danger::Object)
+    } else if is(word, "failure") {
+        Some(Danger::Failure)
+    } else if is(word, "side-file") {
+        Some(Danger::SideFile)
+    } else if is(word, "messages") {
+        Some(Danger::Messages)
+    } else {
+        None
+    }
+}
+
+pub(crate) fn verb_named(word: &[u8]) -> Option<Verb>
+    ensures { result ≡ verb_named word.now }
+{
+    if is(word, "reads") {
+        Some(Verb::Reads)
+    } else if is(word, "writes") {
+        Some(Verb::Writes)
+    } else if is(word, "asks") {
+        Some(Verb::Asks)
+    } else {
+        None
+    }
+}

@@ -1,0 +1,203 @@
+//! Reads conditions.
+ghost use Rattle.std.specs.Prelude.{◌≡◌, map};
+ghost use Rattle.scl_catalogue.specs.Views.{condition_of, group_of, question_of, relation_of};
+ghost use Rattle.scl_catalogue_text.specs.Outcome.{each, Reads};
+ghost use Rattle.scl_catalogue_text.specs.Reading.{condition_by, condition_read, conditions_read, is_relation, of_one, of_two, question_by, relation_of_one, relation_of_parts, relation_of_two, relation_read};
+
+use crate::cut::{first_word, has_word, parts};
+use crate::mistake::{Mistake, Part, Stop};
+use crate::names::{fact_named, is, place_named};
+use crate::read_test::group;
+use crate::read_text::{Room, text};
+use scl_catalogue::{Condition, Group, Question, Relation};
+
+/// Whether a relation has this name.
+#[tactic(auto, unfolding(crate::specs::Reading::is_relation))]
+fn is_relation(name: &[u8]) -> bool
+    ensures { result ≡ is_relation name.now }
+{
+    is(name, "any")
+        || is(name, "two")
+        || is(name, "before")
+        || is(name, "unfollowed")
+        || is(name, "last")
+}
+
+#[tactic(auto, unfolding(crate::specs::Reading::of_one))]
+fn of_one<'a>(name: &[u8], only: Group<'a>) -> Part<Relation<'a>>
+    ensures { Reads relation_of result (of_one name.now (group_of only.entry)) }
+{
+    if is(name, "any") {
+        Ok(Relation::Any(only))
+    } else if is(name, "two") {
+        Ok(Relation::Two(only))
+    } else {
+        Err(Stop::Mistake(Mistake::WrongNumberOfGroups))
+    }
+}
+
+#[tactic(auto, unfolding(crate::specs::Reading::of_two))]
+fn of_two<'a>(name: &[u8], first: Group<'a>, second: Group<'a>) -> Part<Relation<'a>>
+    ensures { Reads relation_of result (of_two name.now (group_of first.entry) (group_of second.entry)) }
+{
+    if is(name, "before") {
+        Ok(Relation::Before(first, second))
+    } else if is(name, "unfollowed") {
+        Ok(Relation::Unfollowed(first, second))
+    } else if is(name, "last") {
+        Ok(Relation::Last(first, second))
+    } else {
+        Err(Stop::Mistake(Mistake::WrongNumberOfGroups))
+    }
+}
+
+#[tactic(auto, unfolding(crate::specs::Reading::relation_of_one))]
+fn relation_of_one<'a>(
+    room: Room<'a>,
+    groups: &[Group<'a>],
+    name: &[u8],
+    only: &'a [u8],
+) -> Part<Relation<'a>>
+    ensures { Reads relation_of result (relation_of_one (map group_of groups.now) name.now only.now) }
+{
+    let only = group(room, groups, only)?;
+    of_one(name, only)
+}
+
+#[tactic(auto, unfolding(crate::specs::Reading::relation_of_two))]
+fn relation_of_two<'a>(
+    room: Room<'a>,
+    groups: &[Group<'a>],
+    name: &[u8],
+    first: &'a [u8],
+    second: &'a [u8],
+) -> Part<Relation<'a>>
+    ensures { Reads relation_of result (relation_of_two (map group_of groups.now) name.now first.now second.now) }
+{
+    let first = group(room, groups, first)?;
+    let second = group(room, groups, second)?;
+    of_two(name, first, second)
+}
+
+#[tactic(auto, unfolding(crate::specs::Reading::relation_of_parts))]
+fn relation_of<'a>(
+    room: Room<'a>,
+    groups: &[Group<'a>],
+    name: &[u8],
+    parts: &[&'a [u8]],
+) -> Part<Relation<'a>>
+    ensures { Reads relation_of result (relation_of_parts (map group_of groups.now) name.now (map (λ part. part.now) parts.now)) }
+{
+    match parts {
+        [only] => relation_of_one(room, groups, name, only),
+        [first, second] => relation_of_two(room, groups, name, first, second),
+        _ => Err(Stop::Mistake(Mistake::WrongNumberOfGroups)),
+    }
+}
+
+/// The relation of the name, whose groups have `>` between them.
+#[tactic(auto, unfolding(crate::specs::Reading::relation_read))]
+fn relation<'a>(
+    room: Room<'a>,
+    groups: &[Group<'a>],
+    name: &[u8],
+    bytes: &'a [u8],
+) -> Part<Relation<'a>>
+    ensures { Reads relation_of result (relation_read (map group_of groups.now) name.now bytes.now) }
+{
+    if !is_relation(name) {
+        return Err(Stop::Mistake(Mistake::UnknownQuestion));
+    }
+    let parts = parts(room.alloc, bytes, b'>')?;
+    relation_of(room, groups, name, &parts)
+}
+
+#[tactic(auto, unfolding(crate::specs::Reading::question_by))]
+fn question<'a>(
+    room: Room<'a>,
+    groups: &[Group<'a>],
+    word: &[u8],
+    others: &'a [u8],
+) -> Part<Question<'a>>
+    ensures { Reads question_of result (question_by (map group_of groups.now) word.now others.now) }
+{
+    if let Some(fact) = fact_named(word) {
+        return if has_word(others) {
+            Err(Stop::Mistake(Mistake::TooManyWords))
+        } else {
+            Ok(Question::Is(fact))
+        };
+    }
+    if let Some(place) = place_named(word) {
+        let text = text(room, others)?;
+        return Ok(Question::At(place, text));
+    }
+    if is(word, "inner") {
+        let (word, others) = first_word(others);
+        let relation = relation(room, groups, word, others)?;
+        return Ok(Question::Inner(relation));
+    }
+    let relation = relation(room, groups, word, others)?;
+    Ok(Question::Given(relation))
+}
+
+#[tactic(auto, unfolding(crate::specs::Reading::condition_by))]
+fn condition_of<'a>(
+    room: Room<'a>,
+    groups: &[Group<'a>],
+    word: &[u8],
+    others: &'a [u8],
+) -> Part<Condition<'a>>
+    ensures { Reads condition_of result (condition_by (map group_of groups.now) word.now others.now) }
+{
+    if is(word, "not") {
+        let (word, others) = first_word(others);
+        let question = question(room, groups, word, others)?;
+        return Ok(Condition {
+            is_denied: true,
+            question,
+        });
+    }
+    let question = question(room, groups, word, others)?;
+    Ok(Condition {
+        is_denied: false,
+        question,
+    })
+}
+
+#[tactic(auto, unfolding(crate::specs::Reading::condition_read))]
+fn condition<'a>(room: Room<'a>, groups: &[Group<'a>], bytes: &'a [u8]) -> Part<Condition<'a>>
+    ensures { Reads condition_of result (condition_read (map group_of groups.now) bytes.now) }
+{
+    let (word, others) = first_word(bytes);
+    condition_of(room, groups, word, others)
+}
+
+fn each_condition<'a>(
+    room: Room<'a>,
+    groups: &[Group<'a>],
+    parts: &[&'a [u8]],
+) -> Part<&'a [Condition<'a>]>
+    ensures { Reads (λ all. map condition_of all.now) result (each (condition_read (map group_of groups.now)) (map (λ part. part.now) parts.now)) }
+{
+    let mut all = Vec::new(room.alloc);
+    for part in parts {
+        let one = condition(room, groups, part)?;
+        all.push(one)?;
+    }
+    let placed = room.arena.try_alloc_slice_copy(&all)?;
+    Ok(placed)
+}
+
+/// Conditions with `;` between them.
+#[tactic(auto, unfolding(crate::specs::Reading::conditions_read))]
+pub(crate) fn conditions<'a>(
+    room: Room<'a>,
+    groups: &[Group<'a>],
+    bytes: &'a [u8],
+) -> Part<&'a [Condition<'a>]>
+    ensures { Reads (λ all. map condition_of all.now) result (conditions_read (map group_of groups.now) bytes.now) }
+{
+    let parts = parts(room.alloc, bytes, b';')?;
+    each_condition(room, groups, &parts)
+}

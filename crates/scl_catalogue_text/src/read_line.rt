@@ -1,0 +1,158 @@
+//! Reads a line of a catalogue.
+ghost use Rattle.std.specs.Prelude.{◌≡◌, map};
+ghost use Rattle.scl_catalogue.specs.Views.{group_of};
+ghost use Rattle.scl_catalogue_text.specs.Lines.{effect_read, group_line_by, group_line_read, hazard_read, is_comment, line_by, line_read, reason_read, without_first};
+ghost use Rattle.scl_catalogue_text.specs.Outcome.{Reads};
+ghost use Rattle.scl_catalogue_text.specs.SaidViews.{said_of};
+
+use crate::cut::{cut_at, first_word, has_word, words};
+use crate::mistake::{Mistake, Part, Stop};
+use crate::names::{danger_named, is, verb_named};
+use crate::read_case::case;
+use crate::read_test::{group_named, tests};
+use crate::read_text::Room;
+use scl_catalogue::{Case, Group, Tells};
+
+/// What a line says.
+pub(crate) enum Said<'a> {
+    Nothing,
+    Group(Group<'a>),
+    Entry(Tells<'a>, &'a [u8]),
+    Says(&'a [u8]),
+    Case(Case<'a>),
+}
+
+#[tactic(auto, unfolding(crate::specs::Lines::hazard_read))]
+fn hazard<'a>(words: &[&'a [u8]]) -> Part<Said<'a>>
+    ensures { Reads said_of result (hazard_read (map (λ word. word.now) words.now)) }
+{
+    let [name, danger] = words else {
+        return Err(Stop::Mistake(Mistake::WrongEntry));
+    };
+    match danger_named(danger) {
+        Some(danger) => Ok(Said::Entry(Tells::Hazard(danger), name)),
+        None => Err(Stop::Mistake(Mistake::WrongEntry)),
+    }
+}
+
+#[tactic(auto, unfolding(crate::specs::Lines::effect_read))]
+fn effect<'a>(words: &[&'a [u8]]) -> Part<Said<'a>>
+    ensures { Reads said_of result (effect_read (map (λ word. word.now) words.now)) }
+{
+    let [name, verb, file] = words else {
+        return Err(Stop::Mistake(Mistake::WrongEntry));
+    };
+    match verb_named(verb) {
+        Some(verb) => Ok(Said::Entry(Tells::Effect(verb, file), name)),
+        None => Err(Stop::Mistake(Mistake::WrongEntry)),
+    }
+}
+
+#[tactic(auto, unfolding(crate::specs::Lines::reason_read))]
+fn reason<'a>(words: &[&'a [u8]]) -> Part<Said<'a>>
+    ensures { Reads said_of result (reason_read (map (λ word. word.now) words.now)) }
+{
+    let [name] = words else {
+        return Err(Stop::Mistake(Mistake::WrongEntry));
+    };
+    Ok(Said::Entry(Tells::Reason, name))
+}
+
+/// A group of this name, whose tests stand behind the colon.
+#[tactic(auto, unfolding(crate::specs::Lines::group_line_by))]
+fn group_of<'a>(
+    room: Room<'a>,
+    groups: &[Group<'a>],
+    name: &'a [u8],
+    behind: &'a [u8],
+) -> Part<Said<'a>>
+    ensures { Reads said_of result (group_line_by (map group_of groups.now) name.now behind.now) }
+{
+    if name.is_empty() {
+        return Err(Stop::Mistake(Mistake::WrongGroup));
+    }
+    let Some((_, rest)) = behind.split_first() else {
+        return Err(Stop::Mistake(Mistake::NoColon));
+    };
+    if group_named(groups, name).is_some() {
+        return Err(Stop::Mistake(Mistake::NameTwice));
+    }
+    let tests = tests(room, rest)?;
+    Ok(Said::Group(Group { name, tests }))
+}
+
+#[tactic(auto, unfolding(crate::specs::Lines::group_line_read))]
+fn group<'a>(room: Room<'a>, groups: &[Group<'a>], bytes: &'a [u8]) -> Part<Said<'a>>
+    ensures { Reads said_of result (group_line_read (map group_of groups.now) bytes.now) }
+{
+    let (head, behind) = cut_at(bytes, b':');
+    let (name, others) = first_word(head);
+    if has_word(others) {
+        return Err(Stop::Mistake(Mistake::TooManyWords));
+    }
+    group_of(room, groups, name, behind)
+}
+
+/// The sentence after the first blank.
+fn without_first(bytes: &[u8]) -> &[u8]
+    ensures { result.now ≡ without_first bytes.now }
+{
+    match bytes.split_first() {
+        Some((_, sentence)) => sentence,
+        None => bytes,
+    }
+}
+
+/// A line that begins with this word, and goes on with the others.
+#[tactic(auto, unfolding(crate::specs::Lines::line_by))]
+fn line_named<'a>(
+    room: Room<'a>,
+    groups: &[Group<'a>],
+    word: &[u8],
+    others: &'a [u8],
+    line: &'a [u8],
+) -> Part<Said<'a>>
+    ensures { Reads said_of result (line_by (map group_of groups.now) word.now others.now line.now) }
+{
+    if is(word, "says") {
+        return Ok(Said::Says(without_first(others)));
+    }
+    if is(word, "group") {
+        return group(room, groups, others);
+    }
+    if is(word, "hazard") {
+        let words = words(room.alloc, others)?;
+        return hazard(&words);
+    }
+    if is(word, "effect") {
+        let words = words(room.alloc, others)?;
+        return effect(&words);
+    }
+    if is(word, "reason") {
+        let words = words(room.alloc, others)?;
+        return reason(&words);
+    }
+    let case = case(room, groups, line)?;
+    Ok(Said::Case(case))
+}
+
+fn is_comment(line: &[u8]) -> bool
+    ensures { result ≡ is_comment line.now }
+{
+    match line.first() {
+        Some(byte) => *byte == b'#',
+        None => false,
+    }
+}
+
+/// What a line says, below lines that name these groups.
+#[tactic(auto, unfolding(crate::specs::Lines::line_read))]
+pub(crate) fn line<'a>(room: Room<'a>, groups: &[Group<'a>], line: &'a [u8]) -> Part<Said<'a>>
+    ensures { Reads said_of result (line_read (map group_of groups.now) line.now) }
+{
+    let (word, others) = first_word(line);
+    if word.is_empty() || is_comment(line) {
+        return Ok(Said::Nothing);
+    }
+    line_named(room, groups, word, others, line)
+}

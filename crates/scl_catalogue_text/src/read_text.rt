@@ -1,0 +1,184 @@
+//! Reads patterns.
+ghost use Rattle.std.specs.Prelude.{◌≡◌, ◌<◌, ◌++◌, map, IfSome, Ok};
+ghost use Rattle.std.specs.Option.{option_map};
+ghost use Rattle.scl_catalogue.specs.Views.{pattern_of, text_of};
+ghost use Rattle.scl_catalogue_text.specs.Outcome.{after, each, Reads};
+ghost use Rattle.scl_catalogue_text.specs.Reading.{digit, escape, escapes, hex_byte, pattern_read, patterns_read, starred_parts, text_of_parts, text_read, text_with, text_without, unescaped};
+
+use crate::cut::{parts, words};
+use crate::mistake::{Mistake, Part, Stop};
+use bumpalo::Bump;
+use scl_catalogue::{How, Pattern, Text};
+use std::alloc::Global;
+
+/// Where what is read is placed, and whose memory is taken meanwhile.
+#[derive(Clone, Copy)]
+pub(crate) struct Room<'a> {
+    pub(crate) arena: &'a Bump,
+    pub(crate) alloc: Global,
+}
+
+fn digit(byte: u8) -> Option<u8>
+    ensures value { result ≡ digit byte }
+    ensures low { IfSome result (λ value. value < 16) }
+{
+    match byte {
+        b'0'..=b'9' => Some(byte - b'0'),
+        b'a'..=b'f' => Some(byte - b'a' + 10),
+        _ => None,
+    }
+}
+
+/// The byte that two digits tell, and the bytes after them.
+#[tactic(auto, unfolding(crate::specs::Reading::hex_byte))]
+fn hex_byte(bytes: &[u8]) -> Option<(u8, &[u8])>
+    ensures { option_map (λ pair. (pair.0, pair.1.now)) result ≡ hex_byte bytes.now }
+{
+    let (first, behind) = bytes.split_first()?;
+    let (second, rest) = behind.split_first()?;
+    let high = digit(*first)?;
+    let low = digit(*second)?;
+    Some((high * 16 + low, rest))
+}
+
+/// Adds the bytes for which a part after a backslash stands.
+#[tactic(auto, unfolding(crate::specs::Reading::escape))]
+fn push_escaped(bytes: &mut Vec<u8>, part: &[u8]) -> Part<()>
+    ensures { Reads (λ _. bytes.new.items) result (after (escape part.now) (λ added. Ok (bytes.old.items ++ added))) }
+{
+    let Some((first, rest)) = part.split_first() else {
+        return Err(Stop::Mistake(Mistake::WrongEscape));
+    };
+    if *first == b'e' {
+        bytes.extend_from_slice(rest)?;
+        return Ok(());
+    }
+    if *first != b'x' {
+        return Err(Stop::Mistake(Mistake::WrongEscape));
+    }
+    let Some((byte, rest)) = hex_byte(rest) else {
+        return Err(Stop::Mistake(Mistake::WrongEscape));
+    };
+    bytes.push(byte)?;
+    bytes.extend_from_slice(rest)?;
+    Ok(())
+}
+
+/// Adds the bytes for which each part after a backslash stands.
+fn push_each_escaped(bytes: &mut Vec<u8>, parts: &[&[u8]]) -> Part<()>
+    ensures { Reads (λ _. bytes.new.items) result (after (escapes (map (λ part. part.now) parts.now)) (λ added. Ok (bytes.old.items ++ added))) }
+{
+    for part in parts {
+        push_escaped(bytes, part)?;
+    }
+    Ok(())
+}
+
+/// The bytes for which a word stands: `\xHH` is a byte, `\e` nothing.
+#[tactic(auto, unfolding(crate::specs::Reading::unescaped))]
+fn unescaped<'a>(room: Room<'a>, word: &'a [u8]) -> Part<&'a [u8]>
+    ensures { Reads (λ bytes. bytes.now) result (unescaped word.now) }
+{
+    let parts = parts(room.alloc, word, b'\\')?;
+    let Some((first, escaped)) = parts.split_first() else {
+        return Ok(&[]);
+    };
+    if escaped.is_empty() {
+        return Ok(first);
+    }
+    let mut bytes = Vec::from_slice(room.alloc, first)?;
+    push_each_escaped(&mut bytes, escaped)?;
+    let placed = room.arena.try_alloc_slice_copy(&bytes)?;
+    Ok(placed)
+}
+
+/// A pattern as it is written: a star first or last says how it is compared.
+#[tactic(auto, unfolding(crate::specs::Reading::starred_parts))]
+fn starred<'a>(parts: &[&'a [u8]]) -> Option<Pattern<'a>>
+    ensures { option_map pattern_of result ≡ starred_parts (map (λ part. part.now) parts.now) }
+{
+    let (how, text) = match parts {
+        [text] => (How::Is, *text),
+        [text, behind] if behind.is_empty() => (How::Begins, *text),
+        [before, text] if before.is_empty() => (How::Ends, *text),
+        [before, text, behind] if before.is_empty() && behind.is_empty() => (How::Holds, *text),
+        _ => return None,
+    };
+    Some(Pattern { how, text })
+}
+
+#[tactic(auto, unfolding(crate::specs::Reading::pattern_read))]
+fn pattern<'a>(room: Room<'a>, word: &'a [u8]) -> Part<Pattern<'a>>
+    ensures { Reads pattern_of result (pattern_read word.now) }
+{
+    let parts = parts(room.alloc, word, b'*')?;
+    let Some(starred) = starred(&parts) else {
+        return Err(Stop::Mistake(Mistake::WrongPattern));
+    };
+    let text = unescaped(room, starred.text)?;
+    Ok(Pattern {
+        how: starred.how,
+        text,
+    })
+}
+
+fn each_pattern<'a>(room: Room<'a>, words: &[&'a [u8]]) -> Part<&'a [Pattern<'a>]>
+    ensures { Reads (λ all. map pattern_of all.now) result (each pattern_read (map (λ word. word.now) words.now)) }
+{
+    let mut all = Vec::new(room.alloc);
+    for word in words {
+        let one = pattern(room, word)?;
+        all.push(one)?;
+    }
+    let placed = room.arena.try_alloc_slice_copy(&all)?;
+    Ok(placed)
+}
+
+#[tactic(auto, unfolding(crate::specs::Reading::patterns_read))]
+fn patterns<'a>(room: Room<'a>, bytes: &'a [u8]) -> Part<&'a [Pattern<'a>]>
+    ensures { Reads (λ all. map pattern_of all.now) result (patterns_read bytes.now) }
+{
+    let words = words(room.alloc, bytes)?;
+    let all = each_pattern(room, &words)?;
+    if all.is_empty() {
+        return Err(Stop::Mistake(Mistake::NoPattern));
+    }
+    Ok(all)
+}
+
+#[tactic(auto, unfolding(crate::specs::Reading::text_with))]
+fn text_with<'a>(room: Room<'a>, any: &'a [u8], but: &'a [u8]) -> Part<Text<'a>>
+    ensures { Reads text_of result (text_with any.now but.now) }
+{
+    let any = patterns(room, any)?;
+    let but = patterns(room, but)?;
+    Ok(Text { any, but })
+}
+
+#[tactic(auto, unfolding(crate::specs::Reading::text_without))]
+fn text_without<'a>(room: Room<'a>, any: &'a [u8]) -> Part<Text<'a>>
+    ensures { Reads text_of result (text_without any.now) }
+{
+    let any = patterns(room, any)?;
+    Ok(Text { any, but: &[] })
+}
+
+#[tactic(auto, unfolding(crate::specs::Reading::text_of_parts))]
+fn text_of<'a>(room: Room<'a>, parts: &[&'a [u8]]) -> Part<Text<'a>>
+    ensures { Reads text_of result (text_of_parts (map (λ part. part.now) parts.now)) }
+{
+    match parts {
+        [any] => text_without(room, any),
+        [any, but] => text_with(room, any, but),
+        _ => Err(Stop::Mistake(Mistake::ExceptTwice)),
+    }
+}
+
+/// Patterns, and after a mark those that are left out.
+#[tactic(auto, unfolding(crate::specs::Reading::text_read))]
+pub(crate) fn text<'a>(room: Room<'a>, bytes: &'a [u8]) -> Part<Text<'a>>
+    ensures { Reads text_of result (text_read bytes.now) }
+{
+    let parts = parts(room.alloc, bytes, b'!')?;
+    text_of(room, &parts)
+}

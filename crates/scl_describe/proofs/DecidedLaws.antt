@@ -1,0 +1,18 @@
+-- A request has the rows and the hazards on the disk that it has in a view with enough of it.
+use Rattle.std.proofs.Common.{ap, ◌∙◌}
+use Rattle.scl_reader.proofs.QuestionLaws.{headers-decided, wholes-decided}
+use Rattle.scl_reader.specs.CommandLines.{given_in}
+use Rattle.scl_reader.specs.PrecompiledHeaders.{has_precompiled_header}
+use Rattle.scl_reader.specs.Questions.{on_disk}
+use Rattle.scl_reader.specs.Reads.{read_of}
+use Rattle.scl_describe.specs.Decided.{HazardsAreDecided, RowsAreDecided}
+use Rattle.scl_describe.specs.Hazards.{hazards_with}
+use Rattle.scl_describe.specs.OptionRows.{rows_in}
+
+pub rows-decided : RowsAreDecided
+rows-decided r disk extends none = ap rows_in (wholes-decided r disk extends none)
+
+pub hazards-decided : HazardsAreDecided
+hazards-decided known r disk extends none =
+    ap (λ reading. hazards_with known r.environment (has_precompiled_header (given_in (on_disk r disk)) (read_of (on_disk r disk))) reading) (wholes-decided r disk extends none)
+    ∙ ap (λ has. hazards_with known r.environment has (read_of r)) (headers-decided r disk extends none)

@@ -1,0 +1,46 @@
+//! What is known of the compiler that is run.
+ghost use Rattle.std.specs.Prelude.{◌≡◌};
+ghost use Rattle.std.specs.Option.{option_copied};
+ghost use Rattle.scl_catalogue.specs.Views.{catalogue_of};
+ghost use Rattle.scl_describe.specs.Abouts.{known_for};
+ghost use Rattle.scl_describe.specs.Hazards.{known_by, version_told};
+
+use scl_catalogue_text::version;
+use scl_hazards::{Catalogue, Known, Version};
+use scl_reader::is_apple;
+
+/// What is known of the compiler that is run.
+#[derive(Debug, Clone, Copy, Drop)]
+pub struct About<'a> {
+    /// What is known of compilers.
+    pub catalogue: Catalogue<'a>,
+    /// The text of its version, where that is told: a number such as `14` or `14.0.6`, of which the first two count for hazards,
+    /// or a text in which Apple's clang names itself.
+    pub version: Option<&'a str>,
+}
+
+/// The version that a text is; each is meant where it is none.
+fn version_told(text: Option<&str>) -> Option<Version>
+    ensures { result ≡ version_told (option_copied text.entry) }
+{
+    match text {
+        Some(text) => version(text.as_bytes()),
+        None => None,
+    }
+}
+
+/// What a catalogue knows of a compiler whose version has this text, if it is told.
+pub(crate) fn known_of<'a>(catalogue: &Catalogue<'a>, version: Option<&str>) -> Known<'a>
+    ensures { result ≡ known_by (catalogue_of catalogue.now) (option_copied version.entry) }
+{
+    Known::new(catalogue, version_told(version), is_apple(version))
+}
+
+impl<'a> About<'a> {
+    /// What the catalogue knows of a compiler of this version.
+    pub fn known(&self) -> Known<'a>
+        ensures { result ≡ known_for self.now }
+    {
+        known_of(&self.catalogue, self.version)
+    }
+}

@@ -1,2 +1,0 @@
-pub mod DriverRows
-pub mod OwnFlags

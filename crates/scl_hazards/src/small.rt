@@ -1,0 +1,162 @@
+//! The hazards of Diab's and TaskingVX's command lines.
+ghost use Rattle.std.specs.Prelude.{◌≡◌, IfOk, map};
+ghost use Rattle.scl_catalogue.specs.Views.{line_of, seen_of};
+ghost use Rattle.scl_text.specs.Records.{parsed_of};
+ghost use Rattle.scl_hazards.specs.Hazards.{hazards_found};
+ghost use Rattle.scl_hazards.specs.SmallHazards.{diab_hazards, line_told, small_facts, small_hazards, small_line, tasking_hazards};
+
+use crate::found::hazards_found;
+use crate::gnu::object_of;
+use crate::hazard::Hazard;
+use crate::kind_texts::{diab_kind_text, tasking_kind_text};
+use crate::known::Known;
+use crate::language::language_name;
+use crate::seen::{Kinded, is_hidden, options_seen};
+use scl_args::{Argument, Mem};
+use scl_catalogue::{Compiler, Facts, Line, Seen};
+use scl_small::{Place, Rules, SmallReading, diab, place_of, tasking_vx};
+use scl_text::ParsedArguments;
+use scl_text::path::extension;
+use scl_text::records::CompilerArguments;
+use std::alloc::Global;
+
+impl Kinded for diab::ArgData {
+    ghost use Rattle.scl_small.specs.DiabReading.{place};
+    ghost use Rattle.scl_small.specs.Places.{goes_to};
+    ghost use Rattle.scl_small.specs.declared.place.Place.TheVariants as places;
+    ghost use Rattle.scl_hazards.specs.KindTexts.{diab_kind_text};
+
+    ghost kind_text = { diab_kind_text };
+
+    ghost is_common = { goes_to place places.Common };
+
+    fn kind_text(kind: diab::Kind) -> &'static [u8] {
+        diab_kind_text(kind)
+    }
+
+    fn is_common(option: &Argument<diab::ArgData>) -> bool {
+        place_of(option) == Place::Common
+    }
+}
+
+impl Kinded for tasking_vx::ArgData {
+    ghost use Rattle.scl_small.specs.Places.{goes_to};
+    ghost use Rattle.scl_small.specs.TaskingReading.{place};
+    ghost use Rattle.scl_small.specs.declared.place.Place.TheVariants as places;
+    ghost use Rattle.scl_hazards.specs.KindTexts.{tasking_kind_text};
+
+    ghost kind_text = { tasking_kind_text };
+
+    ghost is_common = { goes_to place places.Common };
+
+    fn kind_text(kind: tasking_vx::Kind) -> &'static [u8] {
+        tasking_kind_text(kind)
+    }
+
+    fn is_common(option: &Argument<tasking_vx::ArgData>) -> bool {
+        place_of(option) == Place::Common
+    }
+}
+
+/// What is told of the line beside its words and options.
+fn small_facts(parsed: &ParsedArguments) -> Facts
+    ensures { result ≡ small_facts (parsed_of parsed.now) }
+{
+    Facts {
+        is_plusplus: false,
+        is_apple: false,
+        is_preprocessed: parsed.language.needs_c_preprocessing(),
+        is_other_language: false,
+        is_split_otherwise: false,
+        is_environment_split_otherwise: false,
+        is_input_hidden: is_hidden(&parsed.input),
+        is_object_hidden: is_hidden(object_of(parsed)),
+        has_other_target: false,
+        is_object_renamed: false,
+        has_precompiled_header: false,
+    }
+}
+
+/// The command line with this record, of which these options are told.
+fn line_told<'a, T: Rules>(
+    compiler: Compiler,
+    known: &Known<'_>,
+    reading: &'a SmallReading<T>,
+    parsed: &'a ParsedArguments,
+    options: &'a [Seen<'a>],
+) -> Line<'a>
+    ensures { line_of result ≡ line_told compiler known.now.version reading.now (parsed_of parsed.now) (map seen_of options.now) }
+{
+    let outer = reading.outer();
+    Line {
+        compiler,
+        version: known.version(),
+        facts: small_facts(parsed),
+        options,
+        inner: &[],
+        words: outer.words(),
+        files: outer.texts(),
+        environment: &[],
+        language: language_name(parsed.language),
+        input: &parsed.input,
+        extension: extension(&parsed.input),
+        object: object_of(parsed),
+    }
+}
+
+/// The hazards of a command line of this compiler that has this record.
+fn hazards_with<'r, 'a, T: Rules + Kinded>(
+    alloc: Global,
+    compiler: Compiler,
+    known: &Known<'a>,
+    reading: &'r SmallReading<T>,
+    parsed: &'r ParsedArguments,
+) -> Mem<Vec<Hazard<'a>>>
+    ensures { IfOk result (λ hazards. hazards.items ≡ hazards_found known.now.catalogue (small_line T.kind_text T.is_common compiler known.now reading.now (parsed_of parsed.now))) }
+{
+    let outer = reading.outer();
+    let options = options_seen(alloc, outer.words(), outer.line().options().as_slice())?;
+    let line = line_told(compiler, known, reading, parsed, &options);
+    hazards_found(alloc, known, &line)
+}
+
+/// The hazards of a command line of this compiler.
+#[tactic(auto, unfolding(crate::specs::SmallHazards::small_hazards))]
+fn small_hazards<'a, T: Rules + Kinded>(
+    alloc: Global,
+    compiler: Compiler,
+    known: &Known<'a>,
+    reading: &SmallReading<T>,
+) -> Mem<Vec<Hazard<'a>>>
+    ensures { IfOk result (λ hazards. hazards.items ≡ small_hazards T.kind_text T.is_common compiler known.now reading.now) }
+{
+    match reading.outcome() {
+        CompilerArguments::Ok(parsed) => hazards_with(alloc, compiler, known, reading, parsed),
+        CompilerArguments::CannotCache(_, _) | CompilerArguments::NotCompilation => {
+            Ok(Vec::new(alloc))
+        }
+    }
+}
+
+/// The hazards of a command line of Diab: exactly those of which the catalogue has a case that is there, in its order; none where
+/// the line has no record (docs/RULES.md, Hazards). It fails only for want of memory.
+pub fn diab_hazards<'a>(
+    alloc: Global,
+    known: &Known<'a>,
+    reading: &SmallReading<diab::ArgData>,
+) -> Mem<Vec<Hazard<'a>>>
+    ensures { IfOk result (λ hazards. hazards.items ≡ diab_hazards known.now reading.now) }
+{
+    small_hazards(alloc, Compiler::Diab, known, reading)
+}
+
+/// The hazards of a command line of TaskingVX, as those of Diab.
+pub fn tasking_hazards<'a>(
+    alloc: Global,
+    known: &Known<'a>,
+    reading: &SmallReading<tasking_vx::ArgData>,
+) -> Mem<Vec<Hazard<'a>>>
+    ensures { IfOk result (λ hazards. hazards.items ≡ tasking_hazards known.now reading.now) }
+{
+    small_hazards(alloc, Compiler::Tasking, known, reading)
+}
