@@ -18,7 +18,7 @@ no_both true true h p q = cc
 no_both true false h p q = cc
 no_both false b h p q = cc
 
--- a fitting flag that is no longer, and is not the same, is shorter
+-- a fitting flag that is at most as long, and is not the same, is shorter
 pub below-of : {K : Type 0} (f word : List ℕ) (rows : List (Row K)) → starts_with nat_eq word f ≡ true → no_flag f rows ≡ true → AtMost (length f) word rows → Below (length f) word rows
 below-of f word [] s n m = tt
 below-of f word (x ∷ rows) s n m =
@@ -101,14 +101,14 @@ module _ {K : Type 0} (changing joining : Row K → Bool) (rows : List (Row K)) 
   kept-flag : (word : List ℕ) → starts_with nat_eq word row.flag ≡ true → AtMost (length row.flag) word rows → KeptFlag word rows row
   kept-flag word s m = wins-kept changing rows row word keeps has changes s m
 
-  -- the flag of a row that may be printed otherwise is its own owner, and is no beginning of the mark
+  -- the flag of a row that may be printed differently is its own owner, and the mark does not begin with it
   pub owner-flag : owner rows row.flag ≡ Some row
   owner-flag = owner-wins row.flag rows row (fits-flag row) (at_most-word row.flag rows) (kept-flag row.flag (starts-itself row.flag) (at_most-word row.flag rows)).wins
 
   pub flag-no_dash : extends (45 ∷ (45 ∷ [])) row.flag ≡ false
   flag-no_dash = (kept-flag row.flag (starts-itself row.flag) (at_most-word row.flag rows)).no_dash
 
-  -- an either flag that is printed side.Concatenated, with what the row joins, is owned by the row
+  -- an either flag that is printed joined, with a rest that the row accepts, is owned by the row
   pub owner-joined : joins_safely joining rows rows ≡ true → joining row ≡ true → (rest : List ℕ) → joins row.shape rest ≡ true → owner rows (row.flag ++ rest) ≡ Some row
   owner-joined safe j rest e =
       let s = starts-append row.flag rest in

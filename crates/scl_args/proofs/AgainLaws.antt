@@ -32,7 +32,7 @@ eq-starts (x ∷ f) rest (y ∷ word) h =
     let ab = both (nat_eq x y) (bytes_eq (f ++ rest) word) h in
     rw (ab.0) (eq-starts f rest word ab.1)
 
--- a word that begins with a flag is no mark, where the mark does not begin with the flag
+-- a word that begins with a flag is not the mark, if the mark does not begin with the flag
 pub no-mark : (dashes : Bool) (f rest : List ℕ) → extends (45 ∷ (45 ∷ [])) f ≡ false → is_mark dashes (f ++ rest) ≡ false
 no-mark dashes f rest e =
     elim (is_mark dashes (f ++ rest)) as (λ b. is_mark dashes (f ++ rest) ≡ b → b ≡ false) [
@@ -179,7 +179,7 @@ module _ {K : Type 0} (own : List ℕ → Option (Row K)) (dashes : Bool) (rows 
   again (flag row) came clear k = reads-flag own dashes row came.1 came.0
   again (with_value row v h) came clear k = again-shape row row.shape v h refl came clear k
 
-  -- the options that pass a test, as a reader sees them, printed and cut again
+  -- the options that pass a test, as they are seen, printed and cut again
   pub list-again : (p : Seen K → Bool) (cs : List (Cut K)) → Each (CameUnmarked own dashes) cs → Each IsClear cs → Each (λ c. p (shown c) ≡ true → IsKept dashes kept c) cs
       → Reads own dashes (flat_map (spelled_on to) (filter p (map shown cs))) (map plain_seen (filter p (map shown cs)))
   list-again p [] came clear k = reads-nil own dashes

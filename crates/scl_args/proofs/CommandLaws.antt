@@ -25,13 +25,15 @@ module _ {K J : Type 0} (tables : List (List (Row K))) (dashes : Bool) (inner_ta
   abbrev Again : List (List ℕ) → List (Plain K) → Type 0
   Again ws os = Reads (owner_in tables) dashes ws os
 
-  -- what is asked of an inner command line: its options are clear, its words are read again where they are wrapped, and no other option has its flag
+  -- what is needed of an inner command line: its options are clear, its words are read again where they are wrapped, and no
+  -- other option has its flag
   pub record IsInner (i : Inner K J) : Type 0 where
     pub clear : AreClear (owner_in inner_tables) false i.options
     pub wraps : (w : List ℕ) → Again (wrapped i w) (plain.value i.flag i.kind w ∷ [])
     pub alone : has_no_kept kept i.flag (all_rows tables) ≡ true
 
-  -- what is asked of a list: it carries options of kept kinds and unknown ones alone, and nothing is added with an inner command line's flag
+  -- what is needed of a list: it carries only options of kept kinds and unknown ones, and adds nothing with an inner command
+  -- line's flag
   pub record IsList (inners : List (Inner K J)) (l : CommandList K J) : Type 0 where
     pub keeps : (c : Cut K) → l.carries (shown c) ≡ true → IsKept dashes kept c
     pub keeps_inner : (c : Cut J) → l.carries_inner (shown c) ≡ true → IsKept false inner_kept c
@@ -89,7 +91,8 @@ module _ {K J : Type 0} (tables : List (List (Row K))) (dashes : Bool) (inner_ta
     all-words [] h = each-all (HaveItsWords []) (λ i. (refl, reads-nil (owner_in inner_tables) false)) said.inners
     all-words (l ∷ ls) h = each-three IsInner (HasItsWords l) (HaveItsWords ls) (HaveItsWords (l ∷ ls)) (one-more l ls h.0) said.inners inners (words-of l h.0) (all-words ls h.1)
 
-    -- what is asked of the rest of a command: no value of an inner command line's flag stands in front or behind
+    -- what is needed of the rest of a command: own options, in front or at the end, have no value of an inner command line's
+    -- flag
     pub record IsRest (parts : Parts K J) (front back : List (List ℕ)) : Type 0 where
       pub lists : Each (IsList said.inners) parts.lists
       pub no_raws : Each HasNoRaws parts.lists
@@ -124,7 +127,7 @@ module _ {K J : Type 0} (tables : List (List (Row K))) (dashes : Bool) (inner_ta
           ∙ (ap (read (owner_in inner_tables) false) (values-in-all i f b ∙ h.0)
           ∙ reads-last (owner_in inner_tables) false (flat_map (λ l. handed_words l i) parts.lists) (flat_map (carried_inner i) parts.lists) h.1)
 
-      -- the words of own options in front, of lists, and of own options behind are read again
+      -- the words of own options in front, of lists, and of own options at the end are read again
       pub command-again : IsReadAgain tables dashes inner_tables said parts words
       command-again = record {
         outer = outer;

@@ -1,4 +1,4 @@
--- Empty values of either rows: they are seen, and options that are judged and not refused have none.
+-- Empty values of either rows: they are seen, and options of which none is refused have none.
 use Rattle.std.proofs.Common.{◌≡◌, ℕ, Bool, true, false, cond, ◌&&◌, ◌↔◌, List, [], ◌∷◌, ◌++◌, map, Option, None, Some, Ok, Err, refl, sym, ap, subst, ◌∙◌, if◌then◌else◌}
 use Rattle.std.proofs.lemmas.List.{append-nil}
 use Rattle.std.specs.Option.{option_or}
@@ -24,7 +24,7 @@ and-false true = refl
 and-false false = refl
 
 module _ {K : Type 0} (own : List ℕ → Option (Row K)) (dashes : Bool) where
-  -- a value that stands so is seen to be empty
+  -- a value with this disposition is seen to be empty
   abbrev sees_empty : Row K → List ℕ → ArgDisposition → Bool
   sees_empty row v h = is_empty v && stands_either own row.flag h
 
@@ -74,18 +74,18 @@ module _ {K : Type 0} (own : List ℕ → Option (Row K)) (dashes : Bool) where
 unmarked : {K : Type 0} (tables : List (List (Row K))) (dashes : Bool) (words : List (List ℕ)) → Each (CameUnmarked (owner_in tables) dashes) (cut (owner_in tables) dashes words).options
 unmarked tables dashes words = all_unmarked (owner_in tables) dashes _ (cut_came (owner_in tables) dashes (all_rows tables) (owner_in-is tables) words)
 
--- an option has an empty value, as it is seen, exactly where it is not clear
+-- an option is seen to have an empty value exactly if it is not clear
 pub empty_values_are_seen : {K : Type 0} → EmptyValuesAreSeen K
 empty_values_are_seen tables dashes words = all-seen (owner_in tables) dashes _ (unmarked tables dashes words)
 
--- ---- options that are judged and not refused
+-- ---- options of which none is refused
 
 not-refused : {V : Type 0} (b : Bool) (empty : V) (said : Option V) → cond b (Some empty) said ≡ None → (b ≡ false) × (said ≡ None)
 not-refused true empty said e = absurd (cc)
 not-refused false empty said e = (refl, e)
 
 module _ {K V : Type 0} (own : List ℕ → Option (Row K)) (empty : V) (verdict : List (Seen K) → Seen K → Option V) where
-  -- nothing else is said against them
+  -- they have no other verdict
   none-else : (before os : List (Seen K)) → first_verdict (refusing_empty own empty verdict) before os ≡ None → first_verdict verdict before os ≡ None
   none-else before [] e = refl
   none-else before (o ∷ os) e =
@@ -93,7 +93,7 @@ module _ {K V : Type 0} (own : List ℕ → Option (Row K)) (empty : V) (verdict
       let said = not-refused (has_empty_value own o) empty (verdict before o) both.0 in
       ap (λ x. option_or x (first_verdict verdict (before ++ o ∷ []) os)) said.1 ∙ none-else (before ++ o ∷ []) os both.1
 
-  -- so they pass the judge that knows nothing of empty values
+  -- so they pass the judge without the test of empty values
   pub judged-else : (dangling : V) (os : List (Seen K)) (dangles : Bool) (xs : List (Seen K)) → judged (refusing_empty own empty verdict) dangling os dangles ≡ Ok xs → judged verdict dangling os dangles ≡ Ok xs
   judged-else dangling os dangles xs e =
       ap (λ x. unless x (if dangles then Err dangling else Ok os)) (none-else [] os (unless-none (first_verdict (refusing_empty own empty verdict) [] os) _ xs e))
@@ -108,7 +108,7 @@ module _ {K V : Type 0} (own : List ℕ → Option (Row K)) (empty : V) (verdict
       let said = not-refused (has_empty_value own (shown c)) empty (verdict before (shown c)) both.0 in
       (see.0.0 said.0, none-empty (before ++ shown c ∷ []) cs see.1 both.1)
 
--- options that are judged, empty values first, and not refused are clear
+-- if empty values are refused first and no option is refused, the options are clear
 pub judged-clear : {K V : Type 0} → JudgedAreClear K V
 judged-clear tables dashes words empty verdict dangling options e =
     let c = cut (owner_in tables) dashes words in

@@ -10,7 +10,7 @@ module _ {A : Type 0} where
   last-nil : (P : A → Type 0) (x y : A) → option_or None (Some x) ≡ Some y → P x → P y
   last-nil P x y e h = let same : x ≡ y = cc in subst P same h
 
-  -- what is so of each is so of the last
+  -- what holds of each element holds of the last
   pub from-last : (P : A → Type 0) (xs : List A) (x : A) → Each P xs → last xs ≡ Some x → P x
   from-last P [] x h e = absurd (cc)
   from-last P (y ∷ xs) x h e =
@@ -39,7 +39,7 @@ module _ {A : Type 0} where
   filter-none q [] e = refl
   filter-none q (x ∷ xs) e = let both = any-first q x xs e in rw (both.0) (filter-none q xs both.1)
 
-  -- the last that passes, with what is so of each
+  -- the last that passes, with what holds of each
   pub record HasLast (P : A → Type 0) (q : A → Bool) (xs : List A) : Type 0 where
     pub option : A
     pub is : last (filter q xs) ≡ Some option
@@ -78,7 +78,7 @@ module _ {A : Type 0} where
       | false ↦ λ e. rw (not-passed x e) (filter-twice xs)
     ] refl
 
--- where one option alone passes a test, the last of those that pass a narrower one is that one
+-- if only one option passes a test, the last of those that pass a narrower one is that one
 module _ {K : Type 0} (q p : Seen K → Bool) (implies : (o : Seen K) → q o ≡ true → p o ≡ true) where
   only-text : (os : List (Seen K)) (x : List ℕ) (o : Seen K) → map text_of os ≡ x ∷ [] → last (filter q os) ≡ Some o → text_of o ≡ x
   only-text [] x o t e = absurd (cc)

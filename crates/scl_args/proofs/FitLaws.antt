@@ -10,7 +10,7 @@ use Rattle.scl_tables.proofs.OrderLemmas.{cmp, is_less, fits_prefix, prefix_not_
 use Rattle.scl_tables.proofs.PrefixLemmas.{both, starts-length, fits-starts}
 use Rattle.scl_args.proofs.OwnerLaws.{owner-longest, owner-wins, AtMost, Below, Wins}
 
--- of two fitting rows the one that comes first by bytes is shorter
+-- of two fitting rows the one that is less by bytes is shorter
 first_shorter : {K : Type 0} (row other : Row K) (word : List ℕ) → fits row word ≡ true → fits other word ≡ true → cmp row.flag other.flag ≡ Less → length row.flag < length other.flag
 first_shorter row other word f g l =
     let n : ℕ = length word in

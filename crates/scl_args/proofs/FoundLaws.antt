@@ -55,7 +55,7 @@ module _ {K : Type 0} (tables : List (List (Row K))) (dashes : Bool) where
   only-text p [] x h e = absurd (cc)
   only-text p (o ∷ os) x h e = (o, h.0, cc)
 
-  -- the option that has the one text
+  -- the option that has the only text
   pub one-text : (p : Seen K → Bool) (words : List (List ℕ)) (x : List ℕ) → texts p (seen_in words) ≡ x ∷ [] → (o : Seen K) × IsFound p o × (text_of o ≡ x)
   one-text p words x e = only-text p (filter p (seen_in words)) x (found p words) e
 

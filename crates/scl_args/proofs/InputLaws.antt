@@ -71,7 +71,7 @@ module _ {K : Type 0} (own : List ℕ → Option (Row K)) (dashes : Bool) where
     | ends_options ↦ λ h. inr h
   ] (piece_ok word)
 
-  -- words that end with the input, behind the mark or not
+  -- words that end with the input, after the mark or without it
   pub ends-input : (ws : List (List ℕ)) (os : List (Plain K)) (marked : Bool) (x : List ℕ) → Reads own dashes ws os → (marked ≡ true → dashes ≡ true) → (marked ≡ false → IsInput own dashes x)
       → read own dashes (ws ++ input_words marked x) ≡ record { options = os ++ map plain.raw (input_words marked x); end = clean }
   ends-input ws os true x r d i = r.before (input_words true x) ∙ ap (behind os) (rw (d refl) refl)

@@ -52,7 +52,7 @@ module _ {K : Type 0} (own : List ℕ → Option (Row K)) (dashes : Bool) where
   one-raw (flag row ∷ cs) x f first t = one-raw cs x f first t
   one-raw (with_value row v h ∷ cs) x f first t = one-raw cs x f first t
 
-  -- the one raw word before which no mark stands has no owner
+  -- the only raw word before which there is no mark has no owner
   pub raw-is_input : (ws : List (List ℕ)) (x : List ℕ) → let os = map shown (cut own dashes ws).options in
       texts raw_input os ≡ x ∷ [] → is_behind_dashes raw_input os ≡ false → IsInput own dashes x
   raw-is_input ws x t first = one-raw (cut own dashes ws).options x (first_raw own dashes ws) first t
@@ -68,7 +68,7 @@ module _ {K : Type 0} (own : List ℕ → Option (Row K)) (dashes : Bool) (rows 
   another-value row (joined d) v h other e n c = absurd (n d refl)
   another-value row (either d) v h other e n c = reads-either_apart own dashes row d other e (let w = owned_word own dashes row d v h c in owns-flag row w.0 w.1 (covers row d e))
 
--- where no mark ends the options, no option is one
+-- if no mark ends the options, no option is one
 module _ {K : Type 0} (own : List ℕ → Option (Row K)) (dashes : Bool) (unmarked : dashes ≡ false) (q : Seen K → Bool) where
   no-dashes : (c : Cut K) → CameUnmarked own dashes c → is_dashes (shown c) ≡ false
   no-dashes (raw w) came = no-mark w (came unmarked).no_dash
@@ -83,7 +83,7 @@ module _ {K : Type 0} (own : List ℕ → Option (Row K)) (dashes : Bool) (unmar
     | false ↦ no-first_dashes cs came.1
   ]
 
--- an input stands behind the mark only where a mark ends the options
+-- an input is after the mark only if a mark ends the options
 pub marked-dashes : {K : Type 0} (tables : List (List (Row K))) (dashes : Bool) (ws : List (List ℕ)) (p : Seen K → Bool) →
     is_behind_dashes p (map shown (cut (owner_in tables) dashes ws).options) ≡ true → dashes ≡ true
 marked-dashes tables dashes ws p m = elim dashes as (λ b. dashes ≡ b → b ≡ true) [
@@ -93,7 +93,7 @@ marked-dashes tables dashes ws p m = elim dashes as (λ b. dashes ≡ b → b �
       (all_unmarked (owner_in tables) dashes cs (cut_came (owner_in tables) dashes (all_rows tables) (owner_in-is tables) ws))) ∙ m
 ] refl
 
--- an option of a kind stands before the mark and all that is raw behind it
+-- an option of a kind comes before the mark and all raw words after it
 module _ {K : Type 0} (tables : List (List (Row K))) (dashes : Bool) (q p : Seen K → Bool) (of_raw : (w : List ℕ) → q (Raw w) ≡ false) (implies : (o : Seen K) → q o ≡ true → p o ≡ true) where
   none-marked : (ws : List (List ℕ)) → list_any q (map shown (map raw ws)) ≡ true → ⊥
   none-marked [] e = cc
@@ -119,7 +119,7 @@ module _ {K : Type 0} (tables : List (List (Row K))) (dashes : Bool) (q p : Seen
         | false ↦ λ f. first-known cs ws came.1 (sym (ap (λ b. b || list_any q rest) (not-passed q p implies (shown c) f)) ∙ e)
       ] refl)
 
-  -- so no mark stands before the first of them
+  -- so no mark comes before the first of them
   pub known-first : (ws : List (List ℕ)) → let os = map shown (cut (owner_in tables) dashes ws).options in list_any q os ≡ true → is_behind_dashes p os ≡ false
   known-first ws e =
       let all = cut_came (owner_in tables) dashes (all_rows tables) (owner_in-is tables) ws in

@@ -38,7 +38,7 @@ then_less a b o h =
 less_itself : (a : ℕ) (o : Ordering) → ordering_then (nat_cmp a a) o ≡ o
 less_itself a o = let n : nat_lt a a ≡ false = grind (arith, nat_tests) in let e : (a == a) ≡ true = grind (arith, nat_tests) in rw (n, e) refl
 
--- a longer flag that begins with one comes after it
+-- a longer flag that begins with a flag is greater
 longer-after : (f y : List ℕ) → extends y f ≡ true → length f < length y → cmp f y ≡ Less
 longer-after [] [] e l = absurd (omega arith)
 longer-after [] (y ∷ ys) e l = refl
@@ -48,7 +48,7 @@ longer-after (x ∷ f) (y ∷ ys) e l =
     let s : x ≡ y = equal x y ab.0 in
     rw s (less_itself y (cmp f ys) ∙ longer-after f ys ab.1 (omega arith))
 
--- what stands between a flag and a longer one begins with the flag
+-- what is between a flag and a longer one that begins with it begins with it too
 between : (f x y : List ℕ) → cmp f x ≡ Less → cmp x y ≡ Less → extends y f ≡ true → extends x f ≡ true
 between [] x y p q e = refl
 between (a ∷ f) [] y p q e = absurd (cc)
@@ -70,7 +70,7 @@ rising : {K : Type 0} (flag : List ℕ) (rows : List (Row K)) → comes_before f
 rising flag [] c t f l = refl
 rising flag (row ∷ rows) c t f l = ap is_lt (nat_list_cmp_total.trans f flag row.flag l (is_less _ c))
 
--- no later flag goes on after the flag, where a smaller flag after it does not
+-- no later flag extends the flag, if a smaller flag after it does not
 none_after : {K : Type 0} (f x : List ℕ) (rows : List (Row K)) → cmp f x ≡ Less → not (extends x f) ≡ true → comes_before x rows ≡ true → is_table rows ≡ true → is_last f rows ≡ true
 none_after f x [] l n c t = refl
 none_after f x (row ∷ rows) l n c t =
@@ -82,7 +82,7 @@ none_after f x (row ∷ rows) l n c t =
       | false ↦ λ e. none_after f x rows l n (rising row.flag rows a.1 ab.1 x xr) ab.1
     ] refl
 
--- no flag of a table goes on after the flag, where the next greater one does not
+-- no flag of a table extends the flag, if the next greater one does not
 pub is_last-next : {K : Type 0} (f : List ℕ) (rows : List (Row K)) → is_table rows ≡ true → next_is_clear f rows ≡ true → is_last f rows ≡ true
 is_last-next {K = K} f [] t n = refl
 is_last-next {K = K} f (row ∷ rows) t n =

@@ -1,4 +1,5 @@
--- Printed options name no response file where they were given none: a word of theirs is their flag, their value, or begins with their flag.
+-- Printed options name no response file if they were given none: each word that they print is their flag, their value, or
+-- begins with their flag.
 use Rattle.std.proofs.Common.{◌≡◌, ℕ, Bool, true, false, cond, not, ◌||◌, ◌==◌, List, [], ◌∷◌, ◌++◌, map, filter, Option, None, Some, refl, subst}
 use Rattle.std.specs.List.{flat_map}
 use Rattle.std.specs.Option.{option_map}
@@ -38,7 +39,7 @@ plain-itself (x ∷ f) e = plain-first (x ∷ []) f e
 
 -- ---- one option
 
--- the flag of the option, if it has one, has a first byte, which is not @
+-- the flag of the option, if it has one, has a first byte, and that is not @
 abbrev pub HasPlainFlag : {K : Type 0} → Seen K → Type 0
 HasPlainFlag (Raw w) = Unit {0}
 HasPlainFlag (Unknown w) = Unit {0}
@@ -108,11 +109,11 @@ module _ {K : Type 0} (p : Seen K → Bool) where
   texts-of [] h = tt
   texts-of (o ∷ os) h = (h.0, texts-of os h.1)
 
-  -- the one text
+  -- the only text
   pub one-none : (os : List (Seen K)) (x : List ℕ) → Each GivesNoFile os → texts p os ≡ x ∷ [] → NamesNoFile x
   one-none os x n e = (subst (λ xs. Each NamesNoFile xs) e (texts-of (filter p os) (passed GivesNoFile os n))).0
 
--- words behind a wrapper
+-- words after a wrapper
 module _ (wrapper : List ℕ) (plain : is_plain_flag wrapper ≡ true) where
   pub apart-none : (ws : List (List ℕ)) → Each NamesNoFile ws → Each NamesNoFile (flat_map (wrapped_apart wrapper) ws)
   apart-none [] h = tt
@@ -125,7 +126,7 @@ module _ (wrapper : List ℕ) (plain : is_plain_flag wrapper ≡ true) where
 -- ---- last ones
 
 module _ {K : Type 0} (P : Seen K → Type 0) (f : Seen K → List ℕ) (gives : (o : Seen K) → P o → NamesNoFile (f o)) where
-  -- what the option says, or another word that names none
+  -- what the option says, or another word that names no file
   or-other : (o : Option (Seen K)) (other : List ℕ) → ((x : Seen K) → o ≡ Some x → P x) → NamesNoFile other → NamesNoFile (unwrap_or (option_map f o) other)
   or-other None other h n = n
   or-other (Some x) other h n = gives x (h x refl)

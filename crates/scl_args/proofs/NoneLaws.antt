@@ -1,4 +1,4 @@
--- What only own options have: the lists of a command have none of it.
+-- What only own options have, and the lists of a command do not.
 use Rattle.std.proofs.Common.{◌≡◌, ℕ, Bool, true, false, cond, List, [], ◌∷◌, ◌++◌, map, filter, refl, sym, ap, ◌∙◌}
 use Rattle.std.proofs.lemmas.Grind.{flat_map-append}
 use Rattle.std.proofs.lemmas.List.{append-nil}
@@ -15,9 +15,9 @@ none-passed has p none (o ∷ os) = elim (p o) as (λ b. p o ≡ b → flat_map 
   | false ↦ λ e. none-passed has p none os
 ] refl
 
--- `has` is what an option has
+-- `has` gives what an option has
 module _ {K J X : Type 0} (has : Plain K → List X) where
-  -- an inner command line of whose words' options none has any
+  -- an inner command line whose words are cut into options that have nothing of it
   abbrev pub HandsNone : Inner K J → Type 0
   HandsNone i = (w : List ℕ) → has (plain.value i.flag i.kind w) ≡ []
 
@@ -31,7 +31,7 @@ module _ {K J X : Type 0} (has : Plain K → List X) where
       flat_map-append has (handed l i) (flat_map (handed l) is)
       ∙ (ap (λ xs. xs ++ flat_map has (flat_map (handed l) is)) (none-values i none.0 (handed_words l i)) ∙ none-handed l is none.1)
 
-  -- a list that carries and adds no option that has any
+  -- a list that carries and adds no option that has any of it
   pub record HasNone (l : CommandList K J) : Type 0 where
     pub carries_none : (o : Seen K) → l.carries o ≡ true → has (plain_seen o) ≡ []
     pub adds_none : flat_map has l.added ≡ []
@@ -50,7 +50,7 @@ module _ {K J X : Type 0} (has : Plain K → List X) where
       flat_map-append has (carried said l) (flat_map (carried said) ls)
       ∙ (ap (λ xs. xs ++ flat_map has (flat_map (carried said) ls)) (none-carried said l inners none.0) ∙ none-lists said ls inners none.1)
 
-  -- what own options and such lists have is what the own options have
+  -- own options and such lists together have what the own options have
   pub own-alone : (said : Said K J) (front back : List (Plain K)) (ls : List (CommandList K J)) → Each HandsNone said.inners → Each HasNone ls →
       flat_map has (front ++ flat_map (carried said) ls ++ back) ≡ flat_map has (front ++ back)
   own-alone said front back ls inners none =

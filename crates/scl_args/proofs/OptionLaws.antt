@@ -1,4 +1,4 @@
--- Filters, last ones and first verdicts of two lists of options one after the other.
+-- Filters, last ones and first verdicts of two lists of options, one after the other.
 use Rattle.std.proofs.Common.{◌≡◌, ℕ, Bool, true, cond, List, [], ◌∷◌, ◌++◌, Option, Some, None, refl, ap, sym, ◌∙◌, filter, map, length, slice_get, ◌-◌, Bor, suc, arith}
 use Rattle.std.specs.List.{flat_map, list_any}
 use Rattle.std.specs.Option.{option_map, option_copied, option_or}
@@ -36,12 +36,12 @@ module _ {K : Type 0} where
   pub texts-append : (p : Seen K → Bool) (xs ys : List (Seen K)) → texts p (xs ++ ys) ≡ texts p xs ++ texts p ys
   texts-append p xs ys = ap (map text_of) (filter-append p xs ys) ∙ map-append text_of (filter p xs) (filter p ys)
 
-  -- the last of a list is the last one by a test that it passes
+  -- the last of a list is the last that passes a test, if it passes
   pub last_by-passes : (p : Seen K → Bool) (xs : List (Seen K)) (x : Seen K) → p x ≡ true → last_by p (xs ++ x ∷ []) ≡ Some x
   last_by-passes p xs x e =
       ap last (filter-append p xs (x ∷ [])) ∙ last-append (filter p xs) (filter p (x ∷ [])) ∙ ap (λ b. option_or (last (cond b (x ∷ []) [])) (last (filter p xs))) e
 
--- the last of a list, as it is read by its place
+-- the last of a list is the element at its last index
 last-at : {A B : Type 0} (f : A → B) (x : A) (xs : List A) → option_map f (slice_get (x ∷ xs) (length xs)) ≡ last (map f (x ∷ xs))
 last-at f x [] = refl
 last-at f x (y ∷ ys) = last-at f y ys ∙ sym (option_or-assoc (last (map f ys)) (Some (f y)) (Some (f x)))

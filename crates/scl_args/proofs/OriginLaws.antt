@@ -19,7 +19,7 @@ owned_word own dashes row d v (how.CanBeConcatenated e) s = (row.flag, s.1)
 owned_word own dashes row d v (how.CanBeSeparated e) s = (row.flag ++ s.1.0 ∷ s.1.1, s.1.2)
 owned_word own dashes row d v (how.Concatenated e) s = (row.flag, s.2)
 
--- where no mark ends the options, a raw one came from a word of none too
+-- if no mark ends the options, a raw one too came from a word without an owner
 abbrev pub CameUnmarked : {K : Type 0} → (List ℕ → Option (Row K)) → Bool → Cut K → Type 0
 CameUnmarked own dashes (raw w) = dashes ≡ false → Came own dashes (raw w)
 CameUnmarked own dashes (unknown w) = Came own dashes (unknown w)
@@ -112,7 +112,7 @@ module _ {K : Type 0} (own : List ℕ → Option (Row K)) (dashes : Bool) (rows 
   last_all row None h = none_came
   last_all row (Some d) h = first_came (with_value row [] d) [] h none_came
 
-  -- each option that words are cut into came from a word of its owner or of none, up to the mark
+  -- each option that words are cut into came from a word of its owner or from one without an owner, up to the mark
   pub cut_came : (words : List (List ℕ)) → CameAll (cut own dashes words).options
   cut_came [] = none_came
   cut_came (word ∷ []) = elim (piece_of own dashes word) as (λ p. PieceCame word p → (let x : Cutting K = elim p [
@@ -148,7 +148,7 @@ module _ {K : Type 0} (own : List ℕ → Option (Row K)) (dashes : Bool) (rows 
   value_row row (joined d) v h c = has_row row (row.flag ++ c.1.0) c.1.1
   value_row row (either d) v h c = let w = owned_word own dashes row d v h c in has_row row w.0 w.1
 
--- ---- words of none
+-- ---- words without an owner
 
 module _ {K : Type 0} (own : List ℕ → Option (Row K)) (dashes : Bool) where
   no_owner : (c : Cut K) → Came own dashes c → HasNoOwner own c

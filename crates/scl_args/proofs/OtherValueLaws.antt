@@ -21,7 +21,7 @@ use Rattle.scl_args.proofs.FoundLaws.{IsFound}
 use Rattle.scl_args.proofs.MarkLaws.{another-value}
 use Rattle.scl_args.proofs.OriginLaws.{CameUnmarked, has_row, value_row}
 
--- what is so of each element is so of this one
+-- what holds of each element holds of this one
 pub has-all : {A : Type 0} (q : A → Bool) (xs : List A) (x : A) → list_all q xs ≡ true → Has xs x → q x ≡ true
 has-all q [] x h has = absurd has
 has-all q (y ∷ xs) x h (inl e) = ap q (sym e) ∙ (both (q y) (list_all q xs) h).0
@@ -60,7 +60,7 @@ module _ {K : Type 0} (tables : List (List (Row K))) (dashes : Bool) (kept : K �
   other-value p by_kind o f other = subst (λ x. Reads (owner_in tables) dashes (flag_of x ∷ other ∷ []) (plain.value (flag_of x) k other ∷ [])) f.is
       (value-cut f.option f.came (sym (by_kind (shown f.option)) ∙ (ap p f.is ∙ f.passes)) other)
 
--- what is so of each row of some kinds is so of the flags of options of these kinds
+-- what holds of each row of some kinds holds of the flags of options of these kinds
 module _ {K : Type 0} (tables : List (List (Row K))) (dashes : Bool) (t : K → Bool) where
   flag-cut : (q : List ℕ → Bool) → list_all (λ row. not (t row.kind) || q row.flag) (all_rows tables) ≡ true → (c : Cut K) → CameUnmarked (owner_in tables) dashes c
       → is_of t (shown c) ≡ true → q (flag_of (shown c)) ≡ true

@@ -31,11 +31,11 @@ if-ok : {A V : Type 0} (dangles : Bool) (v : V) (x a : A) → cond dangles (Err 
 if-ok true v x a e = absurd (cc)
 if-ok false v x a e = cc
 
--- options that are judged and not refused are handed on
+-- if no option is refused, the options are the result
 pub judged-ok : {K V : Type 0} (verdict : List (Seen K) → Seen K → Option V) (dangling : V) (os : List (Seen K)) (dangles : Bool) (xs : List (Seen K)) → judged verdict dangling os dangles ≡ Ok xs → os ≡ xs
 judged-ok verdict dangling os dangles xs e = if-ok dangles dangling os xs (unless-ok (first_verdict verdict _ os) _ xs e)
 
--- and nothing is said against any of them, where what is said does not go by the options before
+-- and there is no verdict of any of them, if a verdict does not depend on the options before
 module _ {K V : Type 0} (verdict : List (Seen K) → Seen K → Option V) (alone : (before : List (Seen K)) (o : Seen K) → verdict before o ≡ verdict [] o) where
   none-refused : (before os : List (Seen K)) → first_verdict verdict before os ≡ None → Each (λ o. verdict [] o ≡ None) os
   none-refused before [] e = tt

@@ -1,4 +1,4 @@
--- A word that is owned as it is meant has one of the rows that it is meant to have.
+-- A word with an intended owner has one of the rows that may own it.
 use Rattle.std.proofs.Common.{◌≡◌, ℕ, Bool, true, false, ◌&&◌, ◌||◌, List, [], ◌∷◌, Option, None, Some, refl, ap, ◌∙◌, ◌⊎◌, inl, inr, arith}
 use Rattle.std.proofs.lemmas.Bool.{and_parts}
 use Rattle.std.proofs.lemmas.Slice.Eq.{bytes_eq-Decides}
@@ -53,7 +53,7 @@ pub unmarked : (dashes : Bool) (word : List ℕ) → bytes_eq word mark ≡ fals
 unmarked true word e = e
 unmarked false word e = refl
 
--- a flag that takes the next word is read with it, whether its value may stand joined or not
+-- a flag that takes the next word is read with it, whether its row allows a joined value or not
 pub either-way : {K : Type 0} (tables : List (List (Row K))) (dashes : Bool) (flag : List ℕ) (k : K) (value : List ℕ) → bytes_eq flag mark ≡ false →
     (owner_in tables flag ≡ Some (row flag k apart)) ⊎ (owner_in tables flag ≡ Some (row flag k (either None))) → Reads (owner_in tables) dashes (flag ∷ value ∷ []) (plain.value flag k value ∷ [])
 either-way tables dashes flag k value m (inl e) = reads-apart (owner_in tables) dashes (row flag k apart) value refl (record { is = e; no_mark = unmarked dashes flag m })

@@ -74,7 +74,7 @@ owner_is rows word row e = let P : Option (Row _) → Type 0 = λ o. LongestIfAn
 
 -- ---- which row is the owner
 
--- every fitting row has a flag of at most the length, or below it
+-- the flags of all fitting rows have at most this length, or less
 abbrev pub AtMost : {K : Type 0} → ℕ → List ℕ → List (Row K) → Type 0
 AtMost n word [] = Unit {0}
 AtMost n word (x ∷ xs) = (fits x word ≡ true → length x.flag ≤ n) × AtMost n word xs
@@ -83,7 +83,7 @@ abbrev pub Below : {K : Type 0} → ℕ → List ℕ → List (Row K) → Type 0
 Below n word [] = Unit {0}
 Below n word (x ∷ xs) = (fits x word ≡ true → length x.flag < n) × Below n word xs
 
--- the row is one of the rows, and after it only shorter flags fit
+-- the row is one of the rows, and only shorter flags fit after it
 abbrev pub Wins : {K : Type 0} → List ℕ → List (Row K) → Row K → Type 0
 Wins word [] row = ⊥
 Wins word (x ∷ xs) row = ((x ≡ row) × Below (length row.flag) word xs) ⊎ Wins word xs row

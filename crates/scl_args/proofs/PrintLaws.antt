@@ -26,7 +26,7 @@ module _ {K : Type 0} (tables : List (List (Row K))) (dashes : Bool) where
   abbrev own : List ℕ → Option (Row K)
   own = owner_in tables
 
-  -- how the options of a piece were cut from its word, and the next where it needs one
+  -- how the options of a piece were cut from its word, and from the next if it needs one
   abbrev LastFrom : Row K → Option ArgDisposition → List ℕ → Type 0
   LastFrom row None word = Unit {0}
   LastFrom row (Some h) word = CutFrom (with_value row [] h) (word ∷ [])
@@ -42,7 +42,7 @@ module _ {K : Type 0} (tables : List (List (Row K))) (dashes : Bool) where
   PieceFrom word (needs_value row h last) = NeedsFrom word row h last
   PieceFrom word ends_options = Unit {0}
 
-  -- a value that stands in its flag's word
+  -- a value in its flag's word
   in_word : (row : Row K) (d : Option ℕ) (h : ArgDisposition) (rest : List ℕ) → joins (joined d) rest ≡ true → ((v : List ℕ) → spelled (shown (with_value row v h)) ≡ (row.flag ++ delimited d v) ∷ [])
       → ((e : ℕ) → d ≡ Some e → CutFrom (with_value row [] h) ((row.flag ++ e ∷ []) ∷ []))
       → CutFrom (with_value row (after_delimiter d rest) h) ((row.flag ++ rest) ∷ [])

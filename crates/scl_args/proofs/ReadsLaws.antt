@@ -26,7 +26,7 @@ module _ {K : Type 0} (own : List ℕ → Option (Row K)) (dashes : Bool) where
       → (value : List ℕ) (rest : List (List ℕ)) → cut own dashes (word ∷ (value ∷ rest)) ≡ before (with_value row value d) (cut own dashes rest)
   cut_value word row d last e value rest = rw (e, cut) refl
 
-  -- ---- words read, one after the other
+  -- ---- words read, one list after the other
 
   pub reads-whole : (word : List ℕ) (c : Cut K) → piece_of own dashes word ≡ whole c → Reads own dashes (word ∷ []) (plain c ∷ [])
   reads-whole word c e = record { before = λ rest. ap plainly (cut_whole word c e rest) }
@@ -51,7 +51,7 @@ module _ {K : Type 0} (own : List ℕ → Option (Row K)) (dashes : Bool) where
   reads-lists words options [] h = reads-nil
   reads-lists words options (x ∷ xs) h = reads-append (words x) (flat_map words xs) (options x) (flat_map options xs) h.0 (reads-lists words options xs h.1)
 
-  -- words behind which nothing stands
+  -- words after which there are none
   pub reads-last : (words : List (List ℕ)) (options : List (Plain K)) → Reads own dashes words options → read own dashes words ≡ cleanly options
   reads-last words options r = ap (read own dashes) (sym (append-nil words)) ∙ (r.before [] ∙ ap cleanly (append-nil options))
 

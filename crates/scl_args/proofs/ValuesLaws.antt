@@ -62,7 +62,7 @@ module _ {K J : Type 0} (l : CommandList K J) where
       values_at-append i.flag (handed l x) (flat_map (handed l) is)
       ∙ (ap (λ vs. vs ++ values_at i.flag (flat_map (handed l) is)) (values_at-another i.flag x.flag x.kind h.0.0 (handed_words l x)) ∙ none-handed i is h.1)
 
-  -- each inner command line's flag has the words that were handed on to it
+  -- each inner command line's flag has the words that were passed to it
   pub values-handed : (is : List (Inner K J)) → HaveOwnFlags is → Each (λ i. values_at i.flag (flat_map (handed l) is) ≡ handed_words l i) is
   values-handed [] h = tt
   values-handed (i ∷ is) h = (

@@ -1,4 +1,4 @@
--- What tables must keep so that printed options are cut into themselves: two checks, over all their rows in one list.
+-- What tables must satisfy so that printed options are cut into themselves: two checks, over all their rows in one list.
 use Rattle.std.specs.Prelude.{◌≡◌, ℕ, Bool, true, false, not, ◌&&◌, ◌||◌, nat_lt, List, [], ◌∷◌, length, nat_eq, None, Some, cond}
 use Rattle.std.specs.List.{list_all, list_any, starts_with}
 use Rattle.std.specs.Str.{bytes_eq}
@@ -19,7 +19,8 @@ extends f other = starts_with nat_eq f other
 abbrev pub no_flag : {K : Type 0} → List ℕ → List (Row K) → Bool
 no_flag f rows = list_all (λ row. not (extends row.flag f && extends f row.flag)) rows
 
--- whether an option of the row may be printed otherwise than it was cut: its shape is either, or it has a delimiter and its kind is kept
+-- whether an option of the row may be printed differently than it was cut: its shape is either, or it has a delimiter and its
+-- kind is kept
 abbrev pub is_changing_shape : Bool → Shape → Bool
 is_changing_shape kept bare = false
 is_changing_shape kept apart = false
@@ -30,7 +31,7 @@ is_changing_shape kept (either d) = true
 abbrev pub is_changing : {K : Type 0} → (K → Bool) → Row K → Bool
 is_changing kept row = is_changing_shape (kept row.kind) row.shape
 
--- the first check: no changing row has its flag again in a later row, and none has a flag that the mark begins with
+-- the first check: no later row has the flag of a changing row, and the mark does not begin with that flag
 abbrev pub keeps_flags : {K : Type 0} → (Row K → Bool) → List (Row K) → Bool
 keeps_flags changing [] = true
 keeps_flags changing (row ∷ rows) = (not (changing row) || (no_flag row.flag rows && not (extends mark row.flag))) && keeps_flags changing rows
@@ -39,15 +40,15 @@ abbrev pub is_together : NormalizedDisposition → Bool
 is_together side.Separated = false
 is_together side.Concatenated = true
 
--- whether the row's flag is printed together with a value that may have stood apart
+-- whether the row's flag is printed joined to a value that may have been apart
 abbrev pub is_joining : {K : Type 0} → (List ℕ → NormalizedDisposition) → Row K → Bool
 is_joining to row = is_either row.shape && is_together (to row.flag)
 
--- whether no flag of the rows goes on after the flag
+-- whether no flag of the rows extends the flag
 abbrev pub is_last : {K : Type 0} → List ℕ → List (Row K) → Bool
 is_last f rows = list_all (λ row. not (extends row.flag f) || not (nat_lt (length f) (length row.flag))) rows
 
--- the second check: no flag of all the rows goes on after the flag of a joining row
+-- the second check: no flag of all the rows extends the flag of a joining row
 abbrev pub joins_safely : {K : Type 0} → (Row K → Bool) → List (Row K) → List (Row K) → Bool
 joins_safely joining all [] = true
 joins_safely joining all (row ∷ rows) = (not (joining row) || is_last row.flag all) && joins_safely joining all rows
@@ -56,7 +57,7 @@ joins_safely joining all (row ∷ rows) = (not (joining row) || is_last row.flag
 abbrev pub has_no_kept : {K : Type 0} → (K → Bool) → List ℕ → List (Row K) → Bool
 has_no_kept kept f rows = list_all (λ row. not (bytes_eq row.flag f && kept row.kind)) rows
 
--- the second check of one flag and one table, where the rows are sorted: the next greater flag does not go on after it
+-- the second check of one flag and one table, whose rows are sorted: the next greater flag does not extend it
 abbrev pub next_is_clear : {K : Type 0} → List ℕ → List (Row K) → Bool
 next_is_clear f [] = true
 next_is_clear f (row ∷ rows) = cond (is_lt (slice_cmp nat_cmp f row.flag)) (not (extends row.flag f)) (next_is_clear f rows)

@@ -12,7 +12,7 @@ use Rattle.scl_args.specs.Reads.{read, cleanly}
 
 -- ---- what a command line says
 
--- an inner command line, each of whose words is the value of an option with this flag and kind: what its words are cut into
+-- an inner command line: its words are the values of the options with this flag and kind; and what they are cut into
 pub record Inner (K J : Type 0) : Type 0 where
   pub flag : List ℕ
   pub kind : K
@@ -25,20 +25,20 @@ pub record Said (K J : Type 0) : Type 0 where
 
 -- ---- what a command is made of
 
--- a list of options: those of the command line that it carries, those of inner command lines, and what is added
+-- a list of options: those that it carries of the command line, those of inner command lines, and those that it adds
 pub record CommandList (K J : Type 0) : Type 0 where
   pub carries : Seen K → Bool
   pub carries_inner : Seen J → Bool
   pub added : List (Plain K)
 
--- own options in front, the lists, and own options behind; the input is one of the own
+-- own options in front, the lists, and own options at the end; the input is one of the own options
 pub record Parts (K J : Type 0) : Type 0 where
   pub front : List (Plain K)
   pub lists : List (CommandList K J)
   pub back : List (Plain K)
 
 module _ {K J : Type 0} where
-  -- the words that the list has for the inner command line
+  -- the words that the list passes to the inner command line
   abbrev pub handed_words : CommandList K J → Inner K J → List (List ℕ)
   handed_words l inner = list side_of_flag l.carries_inner inner.options
 
@@ -77,7 +77,9 @@ raw_word (plain.value g k v) = []
 abbrev pub raw_words : {K : Type 0} → List (Plain K) → List (List ℕ)
 raw_words os = flat_map raw_word os
 
--- a command's words, cut by the tables, end cleanly, and their options are its own and those of its lists, in order and with unchanged values; the values of each inner command line's flag, cut by the inner tables, are the inner options, list by list; and all words that are no options are own ones, as the input is
+-- A command's words, cut by the tables, end cleanly, and their options are its own and those of its lists, in order and with
+-- unchanged values. The values of each inner command line's flag, cut by the inner tables, are the inner options, list by
+-- list. All words that are no options are own ones, as the input is.
 pub record IsReadAgain {K J : Type 0} (tables : List (List (Row K))) (dashes : Bool) (inner_tables : List (List (Row J)))
     (said : Said K J) (parts : Parts K J) (words : List (List ℕ)) : Type 0 where
   pub outer : read (owner_in tables) dashes words ≡ cleanly (parts.front ++ flat_map (carried said) parts.lists ++ parts.back)

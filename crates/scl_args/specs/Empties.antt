@@ -20,7 +20,8 @@ abbrev pub is_empty : List ℕ → Bool
 is_empty [] = true
 is_empty (byte ∷ bytes) = false
 
--- whether an empty value that stands so is one of an either row, where `own` gives a word's owner: of a value that is joined without a delimiter the owner of its flag tells
+-- whether an empty value with this disposition belongs to an either row; `own` gives a word's owner. If the value is joined
+-- without a delimiter, the owner of its flag decides
 abbrev pub stands_either : {K : Type 0} → (List ℕ → Option (Row K)) → List ℕ → ArgDisposition → Bool
 stands_either own flag how.Separated = false
 stands_either own flag (how.CanBeConcatenated d) = true
@@ -35,6 +36,6 @@ has_empty_value own (Unknown w) = false
 has_empty_value own (Known f k v None) = false
 has_empty_value own (Known f k v (Some h)) = is_empty v && stands_either own f h
 
--- an empty value of an either row is refused before all that is said else
+-- an empty value of an either row is refused before any other test
 abbrev pub refusing_empty : {K V : Type 0} → (List ℕ → Option (Row K)) → V → (List (Seen K) → Seen K → Option V) → List (Seen K) → Seen K → Option V
 refusing_empty own empty verdict before o = cond (has_empty_value own o) (Some empty) (verdict before o)

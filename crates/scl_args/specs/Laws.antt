@@ -1,4 +1,4 @@
--- What follows from the definitions of tables, cutting and printing, in the subject's own words.
+-- What follows from the definitions of tables, cutting and printing, in the terms of the subject.
 use Rattle.std.specs.Prelude.{◌≡◌, ℕ, ◌*◌, ◌+◌, ◌^◌, ◌<◌, ◌≤◌, Bool, true, false, List, [], ◌∷◌, ◌++◌, length, map, IsPermutation, slice_index_or, Option, Some, MatchOption, ◌⊎◌, ◌↔◌}
 use Rattle.std.specs.Cmp.Lexicographic.{slice_cmp}
 use Rattle.std.specs.List.{flat_map}
@@ -26,17 +26,17 @@ abbrev pub FlagsRise : Type 0 → Type 0
 FlagsRise K = (rows : List (Row K)) → is_table rows ≡ true → (i j : ℕ) (other : Row K) → i < j → j < length rows
     → slice_cmp nat_cmp (slice_index_or rows i other).flag (slice_index_or rows j other).flag ≡ Less
 
--- the row fits the word, and no row that does has a longer flag
+-- the row fits the word, and no fitting row has a longer flag
 pub record IsLongestFit {K : Type 0} (rows : List (Row K)) (word : List ℕ) (row : Row K) : Type 0 where
   pub is_row : Has rows row
   pub fits_word : fits row word ≡ true
   pub none_longer : (other : Row K) → Has rows other → fits other word ≡ true → length other.flag ≤ length row.flag
 
--- an owner is a longest fit, and there is none only where no row fits
+-- an owner is a longest fit, and there is none only if no row fits
 abbrev pub OwnerIsLongestFit : Type 0 → Type 0
 OwnerIsLongestFit K = (rows : List (Row K)) (word : List ℕ) → MatchOption (owner rows word) ((row : Row K) → Has rows row → fits row word ≡ false) (IsLongestFit rows word)
 
--- in a table, two rows that fit a word and whose flags have one length are one row
+-- in a table, two rows that fit a word and have equally long flags are the same row
 abbrev pub FitsAreUnique : Type 0 → Type 0
 FitsAreUnique K = (rows : List (Row K)) → is_table rows ≡ true → (word : List ℕ) (row other : Row K) → Has rows row → Has rows other
     → fits row word ≡ true → fits other word ≡ true → length row.flag ≡ length other.flag → row ≡ other
@@ -54,32 +54,33 @@ LastFitOwns K = (before after : List (Row K)) (row : Row K) (word : List ℕ) �
 abbrev pub OwnerIsOfAllRows : Type 0 → Type 0
 OwnerIsOfAllRows K = (tables : List (List (Row K))) (word : List ℕ) → owner_in tables word ≡ owner (all_rows tables) word
 
--- of several tables, the last of those whose owners have the longest flag gives the owner
+-- of several tables the owner is that of the last table whose owner has the longest flag
 abbrev pub LastTableWins : Type 0 → Type 0
 LastTableWins K = (earlier later : List (List (Row K))) (rows : List (Row K)) (word : List ℕ) (row : Row K) → owner rows word ≡ Some row
     → Each (λ table. (other : Row K) → owner table word ≡ Some other → length other.flag ≤ length row.flag) earlier
     → Each (λ table. (other : Row K) → owner table word ≡ Some other → length other.flag < length row.flag) later
     → owner_in (earlier ++ rows ∷ later) word ≡ Some row
 
--- with one member more, the owner is the longer of the one before and the member's, and at one length the member's; the bounds on looks add up
+-- with one more member, the owner is the longer of the one before and the member's; of equally long ones the member's; the
+-- bounds on looks add up
 abbrev pub LastMemberWins : Type 0 → Type 0 → Type 0
 LastMemberWins K S = (tables_of : S → List (List (Row K))) (members : List S) (member : S) (word : List ℕ) →
     let before = flat_map tables_of members in
     let after = flat_map tables_of (members ++ member ∷ []) in
     (owner_in after word ≡ longer (owner_in before word) (owner_in (tables_of member) word)) × (looks_in after word ≡ looks_in before word + looks_in (tables_of member) word)
 
--- rows of the tables that have one flag are one row
+-- rows of the tables that have the same flag are the same row
 abbrev pub ShareNoFlag : {K : Type 0} → List (List (Row K)) → Type 0
 ShareNoFlag {K = K} tables = (row other : Row K) → Has (all_rows tables) row → Has (all_rows tables) other → row.flag ≡ other.flag → row ≡ other
 
--- tables in another order give owners with one flag, and where no two rows share a flag the same owner
+-- tables in another order give owners with the same flag, and the same owner if no two rows share a flag
 abbrev pub OrderCountsOnTies : Type 0 → Type 0
 OrderCountsOnTies K = (tables others : List (List (Row K))) (word : List ℕ) → IsPermutation tables others →
     (option_map (λ row. row.flag) (owner_in tables word) ≡ option_map (λ row. row.flag) (owner_in others word)) × (ShareNoFlag tables → owner_in tables word ≡ owner_in others word)
 
 -- ---- the bound on looks
 
--- the digits of a number in base two: as many as say it, and no more
+-- the number of binary digits of n: enough for n, and no more
 abbrev pub CountsDigits : Type 0
 CountsDigits = (n : ℕ) → (n < 2 ^ bits n) × (0 < n → 2 ^ bits n ≤ 2 * n)
 
@@ -94,7 +95,7 @@ abbrev pub CutsByCases : Type 0 → Type 0
 CutsByCases K = (own : List ℕ → Option (Row K)) (dashes : Bool) (words : List (List ℕ)) (cutting : Cutting K)
     → CutsInto own dashes words cutting.options cutting.end ↔ (cut own dashes words ≡ cutting)
 
--- options print the words that they were cut from, but for a delimiter with nothing behind it
+-- options print the words that they were cut from, except a delimiter with nothing after it
 abbrev pub PrintsWhatWasCut : Type 0 → Type 0
 PrintsWhatWasCut K = (tables : List (List (Row K))) (dashes : Bool) (words : List (List ℕ)) →
     let cutting = cut (owner_in tables) dashes words in
@@ -104,11 +105,11 @@ PrintsWhatWasCut K = (tables : List (List (Row K))) (dashes : Bool) (words : Lis
 abbrev pub PrintsOneOrTwo : Type 0 → Type 0
 PrintsOneOrTwo K = (option : Seen K) → (length (spelled option) ≡ 1) ⊎ (length (spelled option) ≡ 2)
 
--- the texts of an option, where each path's text is its word, are its words
+-- the texts of an option are its words, if each path's text is its word
 abbrev pub TextsAreWords : Type 0 → Type 0 → Type 0
 TextsAreWords K T = (is_path : T → Bool) (kind_of : T → K) (word_of : T → List ℕ) (option : Argument T) →
     map word_shown (items_shown (seen is_path word_of option)) ≡ spelled (seen kind_of word_of option)
 
--- an option that was moved to its side stays there, whatever side it is moved to
+-- an option that was moved to a side stays there, whatever side it is moved to
 abbrev pub StaysOnItsSide : Type 0 → Type 0
 StaysOnItsSide K = (side other : List ℕ → NormalizedDisposition) (option : Seen K) → normal_on other (normal_on side option) ≡ normal_on side option

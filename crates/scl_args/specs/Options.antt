@@ -1,4 +1,4 @@
--- What definitions say of a finished list of options: filters, last ones, lists of words, a first verdict.
+-- What definitions say of a finished list of options: filters, last ones, lists of words, the first verdict.
 use Rattle.std.specs.Prelude.{ℕ, ◌==◌, ◌||◌, Vec, Bool, true, false, List, [], ◌∷◌, ◌++◌, map, filter, length, nat_eq, Option, None, Some, Result, Ok, Err, if◌then◌else◌}
 use Rattle.std.specs.List.{flat_map, list_any}
 use Rattle.std.specs.Option.{option_map, option_or}
@@ -33,7 +33,7 @@ abbrev pub begins_with_at : List ℕ → Bool
 begins_with_at [] = false
 begins_with_at (byte ∷ bytes) = byte == 64
 
--- whether the value begins with @, in a word of its own or where it could have been one
+-- whether the value begins with @ and was a word of its own, or could have been
 abbrev pub names_file : {K : Type 0} → Seen K → Bool
 names_file (Raw w) = false
 names_file (Unknown w) = false
@@ -49,19 +49,19 @@ is_dashes (Raw w) = bytes_eq w mark
 is_dashes (Unknown w) = false
 is_dashes (Known f k v h) = false
 
--- `--`, where the input stands behind it
+-- `--`, if the input is after it
 abbrev pub dash_words : Bool → List (List ℕ)
 dash_words true = mark ∷ []
 dash_words false = []
 
--- the option with its value on the side of its flag, where it may stand either way
+-- the option with its value on the side of its flag, if its row allows both
 abbrev pub normal_on : {K : Type 0} → (List ℕ → NormalizedDisposition) → Seen K → Seen K
 normal_on to (Raw w) = Raw w
 normal_on to (Unknown w) = Unknown w
 normal_on to (Known f k v None) = Known f k v None
 normal_on to (Known f k v (Some d)) = Known f k v (Some (normal_how (to f) d))
 
--- a flag of two bytes together with its value, any other apart
+-- a flag of two bytes is joined to its value, any other is apart
 abbrev pub side_of_flag : List ℕ → NormalizedDisposition
 side_of_flag flag = if nat_eq (length flag) 2 then side.Concatenated else side.Separated
 
@@ -99,11 +99,11 @@ abbrev pub first_is : {A : Type 0} → (A → Bool) → List A → Bool
 first_is p [] = false
 first_is p (x ∷ xs) = p x
 
--- whether a raw -- stands before any input
+-- whether a raw word -- is before any input
 abbrev pub is_behind_dashes : {K : Type 0} → (Seen K → Bool) → List (Seen K) → Bool
 is_behind_dashes is_input os = first_is is_dashes (filter (λ o. is_dashes o || is_input o) os)
 
--- the first verdict in order, where an option is judged after those before it
+-- the first verdict in order; an option is judged given those before it
 abbrev pub first_verdict : {K V : Type 0} → (List (Seen K) → Seen K → Option V) → List (Seen K) → List (Seen K) → Option V
 first_verdict verdict before [] = None
 first_verdict verdict before (o ∷ os) = option_or (verdict before o) (first_verdict verdict (before ++ o ∷ []) os)
@@ -115,12 +115,12 @@ abbrev pub ◌>>=◌ : {A B V : Type 0} → Result A V → (A → Result B V) �
 (Ok x) >>= f = f x
 (Err v) >>= f = Err v
 
--- goes on where nothing is said against it
+-- goes on if there is no verdict
 abbrev pub unless : {A V : Type 0} → Option V → Result A V → Result A V
 unless None rest = rest
 unless (Some v) rest = Err v
 
--- the options, where none is refused and the last flag has its value
+-- the options, if none is refused and the last flag has its value
 abbrev pub judged : {K V : Type 0} → (List (Seen K) → Seen K → Option V) → V → List (Seen K) → Bool → Result (List (Seen K)) V
 judged verdict dangling os dangles = unless (first_verdict verdict [] os) (if dangles then Err dangling else Ok os)
 

@@ -19,7 +19,8 @@ pub record Owns {K : Type 0} (own : List ℕ → Option (Row K)) (dashes : Bool)
   pub is : own word ≡ Some row
   pub no_mark : is_mark dashes word ≡ false
 
--- a value of an either row is the word after the flag, or the rest of a longer word that the row owns; where the flag was the last word it is empty, and there is no delimiter
+-- The value of an either row is the word after the flag, or the rest of a longer word that the row owns. If the flag was the
+-- last word, the value is empty and there is no delimiter.
 abbrev pub StandsEither : {K : Type 0} → (List ℕ → Option (Row K)) → Bool → Row K → Option ℕ → List ℕ → ArgDisposition → Type 0
 StandsEither own dashes row d v how.Separated = ⊥
 StandsEither own dashes row d v (how.CanBeConcatenated e) = (d ≡ e) × Owns own dashes row.flag row
@@ -34,13 +35,13 @@ ValueCame own dashes row apart v h = (h ≡ how.Separated) × Owns own dashes ro
 ValueCame own dashes row (joined d) v h = (h ≡ how.Concatenated d) × ((rest : List ℕ) × Owns own dashes (row.flag ++ rest) row × (joins (joined d) rest ≡ true) × (v ≡ after_delimiter d rest))
 ValueCame own dashes row (either d) v h = StandsEither own dashes row d v h
 
--- a word that is cut into a raw one, as long as options are cut
+-- a word that is cut into a raw option where an option may begin
 pub record IsInput {K : Type 0} (own : List ℕ → Option (Row K)) (dashes : Bool) (w : List ℕ) : Type 0 where
   pub no_owner : own w ≡ None
   pub no_dash : starts_with_dash w ≡ false
   pub no_mark : is_mark dashes w ≡ false
 
--- the option came from a word of its owner, or of none
+-- the option came from a word of its owner, or from a word without an owner
 abbrev pub Came : {K : Type 0} → (List ℕ → Option (Row K)) → Bool → Cut K → Type 0
 Came own dashes (raw w) = IsInput own dashes w
 Came own dashes (unknown w) = (own w ≡ None) × (starts_with_dash w ≡ true) × (is_mark dashes w ≡ false)
@@ -54,12 +55,13 @@ HasNoOwner own (unknown w) = own w ≡ None
 HasNoOwner own (flag row) = Unit {0}
 HasNoOwner own (with_value row v h) = Unit {0}
 
--- the words, if there are any, begin with the mark
+-- the words begin with the mark, if there are any
 abbrev pub BeginsWithMark : Bool → List (List ℕ) → Type 0
 BeginsWithMark dashes [] = Unit {0}
 BeginsWithMark dashes (w ∷ ws) = is_mark dashes w ≡ true
 
--- the options are those that came from words of their owners or of none, and behind them the mark and all words after it, raw
+-- the options are those that came from words of their owners or from words without an owner, and then the mark and all words
+-- after it, raw
 pub record AllCame {K : Type 0} (own : List ℕ → Option (Row K)) (dashes : Bool) (options : List (Cut K)) : Type 0 where
   pub unmarked : List (Cut K)
   pub marked : List (List ℕ)
@@ -67,7 +69,7 @@ pub record AllCame {K : Type 0} (own : List ℕ → Option (Row K)) (dashes : Bo
   pub came : Each (Came own dashes) unmarked
   pub mark_first : BeginsWithMark dashes marked
 
--- an option of an either row has a value that is not empty
+-- if the row's shape is either, the value is not empty
 abbrev pub HasSome : Shape → List ℕ → Type 0
 HasSome bare v = Unit {0}
 HasSome apart v = Unit {0}
@@ -87,7 +89,7 @@ pub record AreClear {K : Type 0} (own : List ℕ → Option (Row K)) (dashes : B
   pub are : options ≡ map shown (cut own dashes words).options
   pub clear : Each IsClear (cut own dashes words).options
 
--- an option with a value of a kept kind, a flag without one, an unknown flag, or a raw word where no mark ends the options
+-- an option with a value of a kept kind, a flag without a value, an unknown flag, or, if no mark ends the options, a raw word
 abbrev pub IsKept : {K : Type 0} → Bool → (K → Bool) → Cut K → Type 0
 IsKept dashes kept (raw w) = dashes ≡ false
 IsKept dashes kept (unknown w) = Unit {0}
@@ -99,7 +101,7 @@ abbrev pub FirstIsOwned : {K : Type 0} → (List ℕ → Option (Row K)) → Boo
 FirstIsOwned own dashes row [] = ⊥
 FirstIsOwned own dashes row (w ∷ ws) = Owns own dashes w row
 
--- the row of the option, where it has one, owns the first word that the option prints
+-- the row of the option, if it has one, owns the first word that the option prints
 abbrev pub PrintsOwned : {K : Type 0} → (List ℕ → Option (Row K)) → Bool → (List ℕ → NormalizedDisposition) → Cut K → Type 0
 PrintsOwned own dashes to (raw w) = Unit {0}
 PrintsOwned own dashes to (unknown w) = Unit {0}
@@ -114,6 +116,6 @@ FirstRaw own dashes (unknown w ∷ cs) = FirstRaw own dashes cs
 FirstRaw own dashes (flag row ∷ cs) = FirstRaw own dashes cs
 FirstRaw own dashes (with_value row v h ∷ cs) = FirstRaw own dashes cs
 
--- the input, behind the mark if that is wanted
+-- the input, after the mark if it is marked
 abbrev pub input_words : Bool → List ℕ → List (List ℕ)
 input_words marked x = dash_words marked ++ x ∷ []

@@ -1,4 +1,4 @@
--- The words that a builder adds of its own, and what a table of rows keeps so that they are read as they are meant. All of it computes.
+-- The words that a builder adds, and what tables must satisfy so that they are read as intended. All of it can be computed.
 use Rattle.std.specs.Prelude.{ℕ, Bool, true, false, ◌&&◌, ◌==◌, List, [], ◌∷◌, Option, None, Some}
 use Rattle.std.specs.List.{list_any}
 use Rattle.std.specs.Str.{bytes_eq}
@@ -19,7 +19,7 @@ may_stand_apart apart = true
 may_stand_apart (joined d) = false
 may_stand_apart (either d) = true
 
--- ---- rows that are one
+-- ---- rows that are the same
 
 abbrev pub is_delimiter : Option ℕ → Option ℕ → Bool
 is_delimiter None None = true
@@ -36,12 +36,12 @@ is_shape _ _ = false
 
 -- ---- own words
 
--- a word of the builder's own, and the rows of which one has to own it
+-- a word that the builder adds, and the rows of which one must own it
 pub record OwnWord (K : Type 0) : Type 0 where
   pub word : List ℕ
   pub rows : List (Row K)
 
--- one that takes the next word, whether its value may stand joined or not
+-- one that takes the next word as its value, whether its row allows a joined value or not
 abbrev pub apart_or_either : {K : Type 0} → List ℕ → K → OwnWord K
 apart_or_either flag kind = record { word = flag; rows = row flag kind apart ∷ row flag kind (either None) ∷ [] }
 
@@ -54,6 +54,6 @@ module _ {K : Type 0} (is_kind : K → K → Bool) where
   is_one_of None rows = false
   is_one_of (Some found) rows = list_any (is_row found) rows
 
-  -- whether the word is owned as it is meant
+  -- whether the word has an owner that is intended
   abbrev pub is_owned : List (List (Row K)) → OwnWord K → Bool
   is_owned tables own = is_one_of (owner_in tables own.word) own.rows

@@ -1,4 +1,4 @@
--- Words that are handed on, each behind a wrapper.
+-- Words for an inner command line, each after a wrapper.
 use Rattle.std.specs.Prelude.{ℕ, ◌≡◌, List, [], ◌∷◌, ◌++◌, take}
 
 -- the wrapper as a word of its own before the word
@@ -9,6 +9,6 @@ wrapped_apart wrapper word = wrapper ∷ word ∷ []
 abbrev pub wrapped_joined : List ℕ → List ℕ → List (List ℕ)
 wrapped_joined wrapper word = (wrapper ++ word) ∷ []
 
--- words as they are where only the first of others could be put behind them
+-- the words from before, with a prefix of the others appended
 abbrev pub HasFirstOf : (before others after : List (List ℕ)) → Type 0
 HasFirstOf before others after = (n : ℕ) × (after ≡ before ++ take n others)

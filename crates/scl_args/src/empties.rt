@@ -8,7 +8,7 @@ ghost use Rattle.scl_values.specs.Tables.{owner_in};
 use scl_tables::SearchableArgInfo;
 use scl_values::{ArgDisposition, ArgInfo, ArgRow, Argument, ArgumentValue, ReadArg};
 
-/// Whether a row was found whose shape is either.
+/// Whether a row was found and its shape is either.
 fn finds_either<T: ArgumentValue>(row: Option<&ArgInfo<T>>) -> bool
     ensures { result ≡ finds_either (row_at row.entry) }
 {
@@ -21,8 +21,8 @@ fn finds_either<T: ArgumentValue>(row: Option<&ArgInfo<T>>) -> bool
     }
 }
 
-/// Whether an empty value that stands so is one of an either row. The tables are asked only where it is joined without a
-/// delimiter.
+/// Whether an empty value with this disposition belongs to an either row. The tables are searched only if the value is joined
+/// without a delimiter.
 fn stands_either<T: ArgumentValue, S: SearchableArgInfo<T>>(
     arg_info: &S,
     flag: &str,
@@ -37,8 +37,8 @@ fn stands_either<T: ArgumentValue, S: SearchableArgInfo<T>>(
     }
 }
 
-/// Whether the option's value is empty and its row, in the tables that it was cut by, takes one either way
-/// (docs/RULES.md, Readings).
+/// Whether the option's value is empty and its row, in the tables by which it was cut, has an either shape (docs/RULES.md,
+/// Readings).
 pub fn has_empty_value<T: ReadArg, S: SearchableArgInfo<T>>(
     arg_info: &S,
     option: &Argument<T>,

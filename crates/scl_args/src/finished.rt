@@ -1,4 +1,4 @@
-//! A finished list of options, and filters over it.
+//! The finished list of options, and filters over it.
 ghost use Rattle.std.specs.Prelude.{◌≡◌, IfOk, map};
 ghost use Rattle.std.specs.List.{list_any};
 ghost use Rattle.std.specs.Option.{option_map};
@@ -29,7 +29,7 @@ impl<T: ReadArg> Model for Options<T> {
 }
 
 impl<T: ReadArg> Options<T> {
-    /// The finished list.
+    /// Wraps the finished list.
     pub fn new(options: Vec<Argument<T>>) -> Options<T>
         ensures { result ≡ all_seen T.kind_of T.word_of options }
     {
@@ -71,15 +71,14 @@ impl<T: ReadArg> Options<T> {
         self.options.iter().any(|option| test.passes(option))
     }
 
-    /// The texts of the options that pass, in order. It fails only for want of memory.
+    /// The texts of the options that pass, in order.
     pub fn texts<P: Test<T>>(&self, alloc: Global, test: &P) -> Mem<Vec<Vec<u8>>>
         ensures { IfOk result (λ words. words_of words.items ≡ texts (P.passes test.now) self.now) }
     {
         texts(alloc, &self.options, test)
     }
 
-    /// The words of the options that pass, each option on the side of its flag (docs/RULES.md, Lists of options). It
-    /// fails only for want of memory.
+    /// The words of the options that pass, each option on the side of its flag (docs/RULES.md, Lists of options).
     pub fn list<S: Sides, P: Test<T>>(
         &self,
         alloc: Global,
@@ -92,7 +91,7 @@ impl<T: ReadArg> Options<T> {
     }
 
     /// The words of two lists, as `list` gives them: those of the options that pass the first test, and those of the options
-    /// that pass the second; the options' memory is used again or given back as it goes. It fails only for want of memory.
+    /// that pass the second. It takes ownership of the options, and reuses or frees their memory on the way.
     pub fn into_two_lists<S: Sides, P: Test<T>>(
         self,
         alloc: Global,
@@ -121,7 +120,7 @@ impl<T: ReadArg> Options<T> {
         Ok((firsts, seconds))
     }
 
-    /// Whether a raw word `--` stands before any of the options that the test takes for inputs (docs/RULES.md, Readings).
+    /// Whether a raw word `--` is before any option that the test accepts as an input (docs/RULES.md, Readings).
     pub fn is_behind_dashes<P: Test<T>>(&self, inputs: &P) -> bool
         ensures { result ≡ is_behind_dashes (P.passes inputs.now) self.now }
     {

@@ -1,4 +1,4 @@
-//! Command line arguments: tables of flags, words that are cut into options, what options say, and how they are printed.
+//! Arguments of command lines: flag tables, cutting words into options, filters over options, and printing.
 #![tactic(auto)]
 
 mod empties;

@@ -9,7 +9,7 @@ use crate::options::Test;
 use scl_values::{ArgDisposition, Argument, Mem, NormalizedDisposition, ReadArg, join_word};
 use std::alloc::Global;
 
-/// On which side of its flag an option of a list prints a value that may stand either way (docs/RULES.md, Printing).
+/// The side of a flag on which an option of a list prints its value, if its row allows both (docs/RULES.md, Printing).
 pub trait Sides {
     ghost use Rattle.std.specs.Prelude.{ℕ, List};
     ghost use Rattle.scl_values.specs.declared.argument.NormalizedDisposition.{NormalizedDisposition};
@@ -22,7 +22,7 @@ pub trait Sides {
         ensures { result ≡ side self.now flag.now };
 }
 
-/// Flags of two bytes stand together with their values, any others apart (docs/RULES.md, Printing).
+/// Flags of two bytes are printed joined to their values, any others apart (docs/RULES.md, Printing).
 #[derive(Clone, Copy, Debug)]
 pub struct ShortFlagsJoined;
 
@@ -61,8 +61,8 @@ fn push_value<T: ReadArg>(
     Ok(())
 }
 
-/// Puts the words of the option, on the side of its flag, behind others (docs/RULES.md, Printing). It fails only for want of
-/// memory, and the first of two words may then stand there.
+/// Appends the words of the option, its value on the side of its flag (docs/RULES.md, Printing). If it fails, the first of
+/// two words may have been appended.
 pub fn push_option<T: ReadArg, S: Sides>(
     alloc: Global,
     words: &mut Vec<Vec<u8>>,
@@ -87,7 +87,7 @@ pub fn push_option<T: ReadArg, S: Sides>(
     }
 }
 
-/// Puts the words of the option behind others as `push_option` does; the word of one without a flag is moved.
+/// Appends the words of the option as `push_option` does. The word of an option without a flag is moved, not copied.
 pub(crate) fn push_whole<T: ReadArg, S: Sides>(
     alloc: Global,
     words: &mut Vec<Vec<u8>>,
@@ -107,8 +107,7 @@ pub(crate) fn push_whole<T: ReadArg, S: Sides>(
     }
 }
 
-/// The words of the options that pass, each option on the side of its flag (docs/RULES.md, Lists of options). It fails only
-/// for want of memory.
+/// The words of the options that pass, each option on the side of its flag (docs/RULES.md, Lists of options).
 pub(crate) fn list<T: ReadArg, S: Sides, P: Test<T>>(
     alloc: Global,
     options: &[Argument<T>],

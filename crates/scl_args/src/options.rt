@@ -1,5 +1,5 @@
-//! Filters over a finished list of options: the last that passes a test, its flag or text, whether any passes, the texts of
-//! those that do.
+//! Filters over a finished list of options: the last that passes a test, its flag or text, whether any passes, and the texts
+//! of those that do.
 ghost use Rattle.std.specs.Prelude.{◌≡◌, IfOk, map};
 ghost use Rattle.std.specs.List.{list_any};
 ghost use Rattle.std.specs.Option.{option_map};
@@ -10,7 +10,7 @@ ghost use Rattle.scl_args.specs.Options.{begins_with_at, names_file, is_dashes, 
 use scl_values::{ArgDisposition, Argument, ArgumentValue, Mem, ReadArg};
 use std::alloc::Global;
 
-/// A test that options pass or not (docs/RULES.md, Lists of options).
+/// A test of options (docs/RULES.md, Lists of options).
 pub trait Test<T: ArgumentValue> {
     ghost use Rattle.std.specs.Prelude.{Bool};
     ghost use Rattle.scl_values.specs.Seen.{Seen};
@@ -23,12 +23,12 @@ pub trait Test<T: ArgumentValue> {
         ensures { result ≡ passes self.now (seen T.kind_of T.word_of option.now) };
 }
 
-/// The test that options of these kinds pass.
+/// The test for options of these kinds.
 #[derive(Clone, Copy, Debug)]
 pub struct OfKinds<'a, K>(pub &'a [K]);
 
 impl<'a, K: PartialEq> OfKinds<'a, K> {
-    /// Whether the kind is one of these. By `contains` it would be a call for each option that a filter walks over.
+    /// Whether the kind is one of these. A loop, because `contains` would make a call for each option of a filter.
     fn has(&self, kind: &K) -> bool
         ensures { result ≡ list_any (λ other. K.eq other kind.now) self.now.0.now }
     {
@@ -88,7 +88,7 @@ pub fn last_text<'a, T: ReadArg, P: Test<T>>(
     Some(last_by(options, test)?.text())
 }
 
-/// The texts of the options that pass, in order. It fails only for want of memory.
+/// The texts of the options that pass, in order.
 pub fn texts<T: ReadArg, P: Test<T>>(
     alloc: Global,
     options: &[Argument<T>],
@@ -121,8 +121,8 @@ fn begins_with_at(value: &[u8]) -> bool
     value.first() == Some(&b'@')
 }
 
-/// Whether the option's value begins with `@` and stands in a word of its own, or could have: it then names a file that
-/// was not put in its place (docs/RULES.md, Readings).
+/// Whether the option's value begins with `@` and was a word of its own, or could have been: such a value names a file that
+/// was not expanded (docs/RULES.md, Readings).
 pub fn names_file<T: ReadArg>(option: &Argument<T>) -> bool
     ensures { result ≡ names_file (seen T.kind_of T.word_of option.now) }
 {

@@ -1,4 +1,4 @@
-//! Words that are handed on, each behind a wrapper.
+//! Words for an inner command line, each after a wrapper.
 ghost use Rattle.std.specs.Prelude.{◌≡◌, ◌++◌, OnOk, OnErr};
 ghost use Rattle.scl_values.specs.Words.{words_of};
 ghost use Rattle.scl_args.specs.Wrapped.{HasFirstOf};
@@ -6,20 +6,20 @@ ghost use Rattle.scl_args.specs.Wrapped.{HasFirstOf};
 use scl_values::Mem;
 use std::alloc::Global;
 
-/// What a word that is handed on becomes (docs/RULES.md, Lists of options).
+/// How a word for an inner command line is written (docs/RULES.md, Lists of options).
 pub trait Wrapper {
     ghost use Rattle.std.specs.Prelude.{ℕ, List};
 
-    /// The words that a word becomes.
+    /// The words that are written for a word.
     ghost wrapped: { Self → List ℕ → List (List ℕ) };
 
-    /// Puts what the word becomes behind other words; where memory is refused, the first of that may stand there already.
+    /// Appends the words that are written for this word. If it fails, the first of them may have been appended.
     fn push_word(&self, alloc: Global, words: &mut Vec<Vec<u8>>, word: &[u8]) -> Mem<()>
         ensures ok { OnOk result (words_of words.new.items ≡ words_of words.old.items ++ wrapped self.now word.now) }
         ensures err { OnErr result (HasFirstOf (words_of words.old.items) (wrapped self.now word.now) (words_of words.new.items)) };
 }
 
-/// The wrapper stands as a word of its own before each.
+/// The wrapper is a word of its own before each word.
 #[derive(Clone, Copy, Debug)]
 pub struct WrappedApart(pub &'static str);
 
@@ -35,7 +35,7 @@ impl Wrapper for WrappedApart {
     }
 }
 
-/// Each is joined to the wrapper.
+/// Each word is joined to the wrapper.
 #[derive(Clone, Copy, Debug)]
 pub struct WrappedJoined(pub &'static str);
 

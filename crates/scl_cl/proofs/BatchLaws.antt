@@ -39,7 +39,7 @@ first-none : (b : ℕ) (o : Option (List ℕ × List ℕ)) → with_first b o �
 first-none b None e = refl
 first-none b (Some p) e = absurd (cc)
 
--- what stands before a mark stays where more comes behind
+-- what comes before a mark stays if more bytes follow
 cut-more : (m : ℕ) (xs r : List ℕ) → is_some (cut_at m xs) ≡ true → cut_at m (xs ++ r) ≡ more_behind r (cut_at m xs)
 cut-more m [] r h = absurd (let no : true ≡ false = sym h in cc)
 cut-more m (x ∷ xs) r h =
@@ -50,7 +50,7 @@ cut-more m (x ∷ xs) r h =
 lines-more : (xs r text rest : List ℕ) → cut_at 10 xs ≡ parts text rest → lines_of (xs ++ r) ≡ text ∷ lines_of (rest ++ r)
 lines-more xs r text rest h = lines_of-cut (xs ++ r) text (rest ++ r) (cut-more 10 xs r (ap is_some h) ∙ ap (more_behind r) h)
 
--- where no mark stands in front, the first stands behind
+-- if there is no mark in front, the first mark is in what follows
 cut-behind : (m : ℕ) (xs ys front rest : List ℕ) → cut_at m xs ≡ None → cut_at m ys ≡ parts front rest → cut_at m (xs ++ ys) ≡ parts (xs ++ front) rest
 cut-behind m [] ys front rest n e = e
 cut-behind m (x ∷ xs) ys front rest n e =
@@ -59,7 +59,7 @@ cut-behind m (x ∷ xs) ys front rest n e =
       | false ↦ λ k. ap (with_first x) (cut-behind m xs ys front rest (first-none x (cut_at m xs) k) e)
     ] n
 
--- what is cut at a mark
+-- the part before a mark
 abbrev front-of : Option (List ℕ × List ℕ) → List ℕ
 front-of None = []
 front-of (Some p) = p.0
@@ -90,7 +90,7 @@ cut-is m (x ∷ xs) front rest e =
 pub slice-all : (n : ℕ) (xs : List ℕ) → take (length xs - n) (drop n xs) ≡ drop n xs
 slice-all n xs = subst (λ k. take k (drop n xs) ≡ drop n xs) (length-drop n xs) (take-length (drop n xs))
 
--- of bytes that end so, the end is what stands behind the others
+-- if bytes end with these, that end follows the others
 joined : (a b : List ℕ) (m : ℕ) (rest : List ℕ) → a ++ (b ++ m ∷ rest) ≡ (a ++ (b ++ m ∷ [])) ++ rest
 joined [] [] m rest = refl
 joined [] (x ∷ b) m rest = ap (λ t. x ∷ t) (joined [] b m rest)
@@ -115,7 +115,7 @@ begins-so left b rest m f =
     let same : length left ≡ length (b ++ m ∷ rest) = ap length f in
     (subst (λ xs. take (length b) xs ≡ b) (sym f) (take-append_seam b (m ∷ rest)), omega arith)
 
--- the first line, where none ends in so many bytes
+-- the first line, if none ends in the first `searched` bytes
 module _ (bytes : List ℕ) (begin searched : ℕ) (within : searched ≤ length (drop begin bytes)) (none : cut_at 10 (take searched (drop begin bytes)) ≡ None) where
   abbrev left : List ℕ
   left = drop begin bytes
@@ -225,7 +225,7 @@ steps-end answers text request said ended answer so_far is = (
   λ lines. ends-here so_far lines text ended,
 )
 
--- the end, behind a request's lines
+-- the end after a request's lines
 pub ends-none : (answers : List ℕ → Result (List ℕ) ℕ → Type 0) (request : List ℕ) → request ≡ [] → Ends answers request []
 ends-none answers request none [] is = refl
 ends-none answers request none (l ∷ ls) is = absurd (no-line l (flat_map line ls) (sym none ∙ is)) where
@@ -260,7 +260,7 @@ told-ends answers request old new before after (Err stops.Memory) some h = h
 told-ends answers request old new before after (Err stops.Read) some h = h
 told-ends answers request old new before after (Err stops.Write) some h = (some, h.0, h.1)
 
--- the end was met
+-- the end was reached
 pub takes-end : (old new : Option (List ℕ)) (p0 p p' : List ℕ) (before after : ℕ) (o : Option (Vec ℕ Global)) → Stays old new p0 p → IsAtEnd new → cut_at 10 p ≡ None → after ≡ before → LastOf p p' o
     → TakesLine old new p0 p' before after (Ok o)
 takes-end old new p0 p p' before after None stays end none same last = (takes-none old new p0 p stays end last, end, same)
@@ -279,7 +279,7 @@ pub appends-none : (a : Option (List ℕ)) → Appends a a []
 appends-none None = tt
 appends-none (Some x) = sym (append-nil x)
 
--- what is told of requests, and of more behind them
+-- what is written for requests, and for more after them
 pub told-on : (answers : List ℕ → Result (List ℕ) ℕ → Type 0) (done more : List (List (List ℕ))) (written next : List ℕ) → AreTold answers done written → AreTold answers more next → AreTold answers (done ++ more) (written ++ next)
 told-on answers [] more written next h k = subst (λ w. AreTold answers more (w ++ next)) (sym h) k
 told-on answers (lines ∷ done) more written next h k =
@@ -345,7 +345,7 @@ module _ (answers : List ℕ → Result (List ℕ) ℕ → Type 0) where
     subst (λ bytes. answers bytes said) owes.1 answer,
   )
 
-  -- a line ended a request, whose answer was written in part
+  -- a line ended a request, and its answer was written in part
   pub served-broken : (all now now' old mid new : Option (List ℕ)) (pending pending' text request : List ℕ) (lines : ℕ) → Served answers all now old mid pending request lines
       → LosesLine now now' pending pending' text → bytes_eq text (codes "end") ≡ true → IsToldPart (answers request) mid new → AreToldBroken answers all old new
   served-broken all now now' old mid new pending pending' text request lines served loses ended part = record {
@@ -469,7 +469,7 @@ module _ (answers : List ℕ → Result (List ℕ) ℕ → Type 0) where
 
 -- ---- reads for one line
 
--- so many reads that gave bytes were made since the line was begun, and no LF stands in those that were looked at
+-- n reads gave bytes since the line began, and there is no LF in the bytes that were searched
 pub record IsSearched (old now : Option (List ℕ)) (p0 p : List ℕ) (turns searched : ℕ) : Type 0 where
   pub bytes : List ℕ
   pub consumed : Consumes old now bytes
@@ -499,7 +499,7 @@ stays-searched old now p0 p turns searched is = consumes-stays old now p0 p is.b
 pub none-searched : (r : Option (List ℕ)) (p : List ℕ) → IsSearched r r p p 0 0
 none-searched r p = record { bytes = []; consumed = consumes-none r; long = omega arith; left = sym (append-nil p); within = omega arith; none = refl }
 
--- a block more
+-- one block more
 pub more-searched : (old now new : Option (List ℕ)) (p0 p q : List ℕ) (turns searched before after : ℕ) (more : Bool) → more ≡ true → IsSearched old now p0 p turns searched → cut_at 10 p ≡ None
     → ReadsMore now new p q before after (Ok more) → IsSearched old new p0 q (turns + 1) (length p)
 more-searched old now new p0 p q turns searched before after false is_more is none read = absurd (let no : false ≡ true = is_more in cc)
@@ -518,7 +518,7 @@ more-searched old now new p0 p q turns searched before after true is_more is non
       none = rw read.2 (rw (take-append_seam p read.0) none);
     }
 
--- there were too many
+-- there were too many reads
 consumed-many : (old now : Option (List ℕ)) (p0 bytes : List ℕ) → Consumes old now bytes → 2 ^ 40 ≤ length bytes → IfSome old (λ r. 2 ^ 40 ≤ length (p0 ++ r))
 consumed-many None now p0 bytes h long = tt
 consumed-many (Some x) None p0 bytes h long = absurd h
@@ -531,7 +531,7 @@ consumed-many (Some x) (Some y) p0 bytes h long =
 pub many-searched : (old now : Option (List ℕ)) (p0 p : List ℕ) (turns searched : ℕ) → 2 ^ 40 ≤ turns → IsSearched old now p0 p turns searched → IfSome old (λ r. 2 ^ 40 ≤ length (p0 ++ r))
 many-searched old now p0 p turns searched many is = let long = is.long in consumed-many old now p0 is.bytes is.consumed (omega arith)
 
--- nothing was read: what belongs to no line is the last one
+-- nothing was read: the bytes that do not make a line are the last line
 pub read-none : (old now new : Option (List ℕ)) (p0 p q p' : List ℕ) (before at after : ℕ) (more : Bool) (o : Option (Vec ℕ Global)) → more ≡ false → Stays old now p0 p → at ≡ before
     → ReadsMore now new p q at after (Ok more) → cut_at 10 p ≡ None → LastOf q p' o → TakesLine old new p0 p' before after (Ok o)
 read-none old now new p0 p q p' before at after true o none stays same read cut last = absurd (let no : true ≡ false = none in cc)

@@ -28,7 +28,7 @@ any_more p (x ∷ xs) y =
 flat_more : {A : Type 0} (f : Saying → List A) (xs : List Saying) (y : Saying) → flat_map f (xs ++ y ∷ []) ≡ flat_map f xs ++ f y
 flat_more f xs y = flat_map-append f xs (y ∷ []) ∙ ap (λ zs. flat_map f xs ++ zs) (append-nil (f y))
 
--- one line's part of a list is the same turned round
+-- one line's part of a list is the same in reverse
 viewed_directory_in-turned : (y : Saying) → reverse (viewed_directory_in y) ≡ viewed_directory_in y
 viewed_directory_in-turned sayings.Blank = refl
 viewed_directory_in-turned (sayings.Compiler _) = refl
@@ -55,7 +55,7 @@ path_in-turned sayings.Multiarch = refl
 pub gathered-more : (before : List Saying) (line : Saying) → with_line (gathered before) line ≡ gathered (before ++ line ∷ [])
 gathered-more before line = simp (flat_more, reverse-append, fold-append, viewed_directory_in-turned, path_in-turned, any_more)
 
--- Of all bytes these are left behind lines that kept this; the next line has this number.
+-- Of all bytes these are left, after lines that named this; the next line has this number.
 pub record Passed (all left : List ℕ) (number : ℕ) (kept : Gathered) : Type 0 where
   pub before : List Saying
   pub kept_is : kept ≡ gathered before

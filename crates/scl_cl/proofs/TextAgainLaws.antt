@@ -14,7 +14,7 @@ text-again bytes text (Err n) e is = absurd (cc)
 pub answer-again : (bytes text : List ℕ) → program_answer bytes ≡ Ok text → IsTextReadAgain bytes text
 answer-again bytes text is = text-again bytes text (request_in (lines_of bytes)) refl is
 
--- where there are bytes, and the text of their answer is as it should be, a command in it is read again
+-- if there are bytes, and the text of their answer is the right one, a command in it is read again
 pub text-answers-again : (given : Option (List ℕ)) (IsWritten : List ℕ → Type 0) →
     IfSome given (λ bytes. (text : List ℕ) × (program_answer bytes ≡ Ok text) × IsWritten text) → IfSome given (λ bytes. (text : List ℕ) × IsTextReadAgain bytes text × IsWritten text)
 text-answers-again None IsWritten h = tt

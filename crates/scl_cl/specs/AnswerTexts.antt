@@ -11,12 +11,12 @@ use Rattle.scl_reader.specs.Answers.{Answer, compiled, cannot_cache, not_compila
 abbrev pub arg_line : List ℕ → List ℕ
 arg_line word = codes "arg " ++ line (escaped word)
 
--- whether the outcome may be kept
+-- whether the result can be cached
 abbrev pub cacheable_text : Cacheable → List ℕ
 cacheable_text cacheable.Yes = codes "cacheable yes"
 cacheable_text cacheable.No = codes "cacheable no"
 
--- the text of an answer, by lines with LF; a reason is not escaped, and the text beside it is left out
+-- the text of an answer, in lines with LF; a reason is not escaped, and the text beside it is left out
 abbrev pub text_of : Answer → List ℕ
 text_of (compiled words kept) = line (codes "ok") ++ flat_map arg_line words ++ line (cacheable_text kept)
 text_of (cannot_cache reason beside) = codes "cannot-cache " ++ line reason

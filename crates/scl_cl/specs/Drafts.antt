@@ -1,4 +1,4 @@
--- The part of a request that lines so far make.
+-- The part of a request that its lines so far make.
 use Rattle.std.specs.Prelude.{◌||◌, ◌++◌, map}
 use Rattle.std.specs.Option.{option_to_list}
 use Rattle.scl_values.specs.Words.{words_of}
@@ -34,7 +34,7 @@ gathered_by draft = record {
   view = draft.view;
 }
 
--- what a finished request asks for
+-- what a finished request requests
 abbrev pub asked_by : code.Request → Request
 asked_by request = record {
   compiler = request.compiler;

@@ -1,4 +1,4 @@
--- What a line that the code keeps says.
+-- What a line says that the code has stored.
 use Rattle.scl_cl.specs.Sayings.{Saying}
 use Rattle.scl_cl.specs.Sayings as sayings
 use Rattle.scl_cl.specs.declared.saying.Saying as code

@@ -1,4 +1,4 @@
--- How a run ends: what of it is told.
+-- How a run ends, and what is reported of it.
 use Rattle.std.specs.Prelude.{ℕ, List, ◌++◌, codes}
 use Rattle.std.specs.Fmt.{decimal}
 use Rattle.scl_cl.specs.declared.outcome.Outcome.{Outcome}
@@ -28,7 +28,7 @@ status_of OutOfMemory = 3
 status_of ReadFailed = 4
 status_of WriteFailed = 4
 
--- `answered`, or the program's line on standard error, less its LF
+-- `answered`, or the program's line on standard error, without its LF
 abbrev pub told_of : Outcome → List ℕ
 told_of Answered = codes "answered"
 told_of (BadLine n) = codes "bad line " ++ decimal n

@@ -40,7 +40,7 @@ abbrev pub is_multiarch : Saying → Bool
 is_multiarch sayings.Multiarch = true
 is_multiarch _ = false
 
--- the files with others added, one after the other
+-- the files with others added in order
 abbrev pub with_files : List File → List File → List File
 with_files files added = fold (λ before file. put_file file before) files added
 
@@ -53,7 +53,7 @@ view_of all = record {
   is_multiarch = list_any is_multiarch all;
 }
 
--- what lines name, in their order
+-- what lines name, in order
 pub record Gathered : Type 0 where
   pub compilers : List Compiler
   pub directories : List (List ℕ)
@@ -85,7 +85,7 @@ request_for (compiler ∷ _) g = Some (record {
   view = g.view;
 })
 
--- the request that what lines name makes, if they name a compiler
+-- the request from what lines name, if they name a compiler
 abbrev pub request_of : Gathered → Option Request
 request_of g = request_for g.compilers g
 
@@ -93,14 +93,15 @@ abbrev pub is_given : {A : Type 0} → List A → Bool
 is_given [] = false
 is_given (_ ∷ _) = true
 
--- whether a line breaks a rule behind lines that name this: it says nothing, or names again what stands once
+-- whether a line breaks a rule, given that the lines before it name this: it says nothing, or it repeats what may be said
+-- only once
 abbrev pub breaks : Gathered → Option Saying → Bool
 breaks g None = true
 breaks g (Some (sayings.Compiler _)) = is_given g.compilers
 breaks g (Some (sayings.Directory _)) = is_given g.directories
 breaks g (Some _) = false
 
--- the number of the first line that breaks a rule; the first of these has the number n and stands behind lines that say this
+-- the number of the first line that breaks a rule; the first of these lines has number n and follows lines that say this
 abbrev pub first_broken : ℕ → List Saying → List (List ℕ) → Option ℕ
 first_broken n earlier [] = None
 first_broken n earlier (line ∷ lines) = if breaks (gathered earlier) (said line) then Some n else first_broken (n + 1) (earlier ++ option_to_list (said line)) lines
@@ -109,6 +110,7 @@ abbrev pub request_unless : Option ℕ → List (List ℕ) → Result Request �
 request_unless (Some n) lines = Err n
 request_unless None lines = ok_or (request_of (gathered (filter_map said lines))) (length lines + 1)
 
--- the request of the lines, or the number of the bad line: the first that breaks a rule, or else, where none names a compiler, the one behind the last
+-- the request of the lines, or the number of the bad line: the first that breaks a rule, or, if no line names a compiler, the
+-- last line's number plus one
 abbrev pub request_in : List (List ℕ) → Result Request ℕ
 request_in lines = request_unless (first_broken 1 [] lines) lines

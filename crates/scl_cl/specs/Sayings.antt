@@ -37,7 +37,7 @@ keywords = keyword.Word ∷ keyword.Compiler ∷ keyword.Cwd ∷ keyword.File �
 abbrev pub keyword_named : List ℕ → Option Keyword
 keyword_named text = find (λ k. bytes_eq (keyword_text k) text) keywords
 
--- what a line says by its keyword and the text behind the keyword's space
+-- what a line says, by its keyword and the text after the keyword's space
 abbrev pub said_with : List ℕ → Keyword → Option Saying
 said_with text keyword.Compiler = option_map Compiler (compiler_named text)
 said_with text keyword.Cwd = option_map Directory (field_of text)
@@ -53,7 +53,7 @@ said_alone line =
     if bytes_eq line [] then Some Blank
     else (if bytes_eq line (codes "multiarch") then Some Multiarch else None)
 
--- what a line says, if it says anything, by what stands before and behind its first space
+-- what a line says, if anything, by what comes before and after its first space
 abbrev pub said_in : List ℕ → Option (List ℕ × List ℕ) → Option Saying
 said_in line None = said_alone line
 said_in line (Some parts) = option_and_then (said_with parts.1) (keyword_named parts.0)

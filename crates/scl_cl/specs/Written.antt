@@ -16,7 +16,7 @@ use Rattle.scl_cl.specs.Requests.{gathered, breaks, first_broken}
 use Rattle.scl_cl.specs.AnswerTexts.{text_of, cacheable_text}
 use Rattle.scl_reader.specs.Answers.{compiled}
 
--- what is said can be written: its byte strings are bytes
+-- it can be written: its byte strings are bytes
 abbrev pub CanBeWritten : Saying → Type 0
 CanBeWritten sayings.Blank = Unit {0}
 CanBeWritten (sayings.Compiler compiler) = Unit {0}
@@ -31,7 +31,7 @@ CanBeWritten sayings.Multiarch = Unit {0}
 abbrev pub AllCanBeWritten : List Saying → Type 0
 AllCanBeWritten = Each CanBeWritten
 
--- the line that says this
+-- the line for this
 abbrev pub written : Saying → List ℕ
 written sayings.Blank = []
 written (sayings.Compiler compiler) = codes "compiler " ++ name_of compiler
@@ -51,11 +51,11 @@ FieldReadsBack = (bytes : List ℕ) → AreBytes bytes → field_of (escaped byt
 abbrev pub FieldIsPrintable : Type 0
 FieldIsPrintable = (bytes : List ℕ) → AreBytes bytes → ArePrintable (escaped bytes)
 
--- A line that is written says what was to be said.
+-- A line that is written says what it was written for.
 abbrev pub LineReadsBack : Type 0
 LineReadsBack = (s : Saying) → CanBeWritten s → said (written s) ≡ Some s
 
--- The lines of a request that is written say what was to be said.
+-- The lines of a request that is written say what they were written for.
 abbrev pub RequestReadsBack : Type 0
 RequestReadsBack = (all : List Saying) → AllCanBeWritten all → filter_map said (lines_of (flat_map (λ s. line (written s)) all)) ≡ all
 
@@ -63,21 +63,21 @@ RequestReadsBack = (all : List Saying) → AllCanBeWritten all → filter_map sa
 abbrev pub LinesEndAtFeeds : Type 0
 LinesEndAtFeeds = (line rest : List ℕ) → cut_at line_feed line ≡ None → lines_of (line ++ line_feed ∷ rest) ≡ line ∷ lines_of rest
 
--- The lines of the text of a command are `ok`, one line for each word, and whether it can be cached.
+-- The lines of the text of a command are `ok`, one line for each word, and whether its result can be cached.
 abbrev pub AnswerHasLines : Type 0
 AnswerHasLines = (words : List (List ℕ)) (kept : Cacheable) → AreAllBytes words
     → lines_of (text_of (compiled words kept)) ≡ (codes "ok" ∷ map (λ word. codes "arg " ++ escaped word) words) ++ cacheable_text kept ∷ []
 
--- The k-th line breaks a rule behind those before it.
+-- The k-th line breaks a rule, given the lines before it.
 abbrev pub breaks_at : List (List ℕ) → ℕ → Bool
 breaks_at lines k = breaks (gathered (filter_map said (take k lines))) (said (slice_index_or lines k []))
 
--- The bad line breaks a rule and none before it does; where there is none, no line does.
+-- The bad line breaks a rule, and none before it does; if there is no bad line, no line does.
 abbrev pub BadLineIsFirst : Type 0
 BadLineIsFirst = (lines : List (List ℕ)) → MatchOption (first_broken 1 [] lines)
     ((k : ℕ) → k < length lines → breaks_at lines k ≡ false)
     (λ n. (k : ℕ) × (n ≡ k + 1) × (k < length lines) × (breaks_at lines k ≡ true) × ((j : ℕ) → j < k → breaks_at lines j ≡ false))
 
--- The name of each compiler names it, and the text of each keyword the keyword.
+-- A compiler is found by its name, and a keyword by its text.
 abbrev pub NamesReadBack : Type 0
 NamesReadBack = ((compiler : Compiler) → compiler_named (name_of compiler) ≡ Some compiler) × ((keyword : Keyword) → keyword_named (sayings.keyword_text keyword) ≡ Some keyword)

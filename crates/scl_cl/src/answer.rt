@@ -56,7 +56,7 @@ fn reason_text(alloc: Global, reason: &str) -> Mem<Vec<u8>>
     Ok(text)
 }
 
-/// The text of an answer, whatever it keeps.
+/// The text of an answer of any type.
 fn text_of<K: Kept>(alloc: Global, answer: &CompilerArguments<K>) -> Mem<Vec<u8>>
     ensures { IfOk result (λ text. text.items ≡ text_of (answer_by K.command K.cacheable answer.now)) }
 {
@@ -69,15 +69,14 @@ fn text_of<K: Kept>(alloc: Global, answer: &CompilerArguments<K>) -> Mem<Vec<u8>
     }
 }
 
-/// The text of an answer: lines with LF; the text beside a reason is left out (docs/RULES.md, Answers). It fails only for
-/// want of memory.
+/// The text of an answer: lines with LF. The text beside a reason is left out (docs/RULES.md, Answers).
 pub fn answer_text(alloc: Global, answer: &CompilerArguments<Compilation>) -> Mem<Vec<u8>>
     ensures { IfOk result (λ text. text.items ≡ text_of (answer_of answer.now)) }
 {
     text_of(alloc, answer)
 }
 
-/// The text of an answer that keeps no record, as `answer_text` gives it. It fails only for want of memory.
+/// The text of an answer without a record, as `answer_text` gives it.
 pub fn command_text(alloc: Global, answer: &CompilerArguments<BuiltCommand>) -> Mem<Vec<u8>>
     ensures { IfOk result (λ text. text.items ≡ text_of (command_answer answer.now)) }
 {

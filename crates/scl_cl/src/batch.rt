@@ -1,4 +1,4 @@
-//! Batches: requests that are answered one after the other, each ended by a line `end`, as each answer is.
+//! Batches: requests that are answered one by one. Each request ends with a line `end`, and so does each answer.
 ghost use Rattle.std.specs.Prelude.{◌≡◌, ◌≢◌, ◌++◌, ◌≤◌, ◌^◌, ◌⊎◌, ℕ, [], List, None, IfOk, IfSome, OnOk, length, take};
 ghost use Rattle.std.specs.Io.KnownBytes.{Appends, IsAtEnd};
 ghost use Rattle.scl_devices.specs.Counts.{one_more};
@@ -16,10 +16,10 @@ use std::alloc::{AllocError, Global};
 use std::io::{Read, Write};
 use std::mem;
 
-/// Why a batch stops before its end.
+/// Why a batch ends early.
 #[derive(Drop)]
 enum Stop {
-    /// Memory was refused.
+    /// A memory allocation failed.
     Memory,
     /// The reader failed.
     Read,
@@ -51,7 +51,7 @@ impl From<ReadError> for Stop {
     }
 }
 
-/// Bytes that were read. Those before `begin` were taken, and the others belong to no line yet.
+/// Bytes that were read. Those before `begin` were taken; the others do not make a line yet.
 #[derive(Drop)]
 struct Pending {
     bytes: Vec<u8>,
@@ -68,14 +68,15 @@ impl Pending {
         }
     }
 
-    /// The bytes that belong to no line yet.
+    /// The bytes that do not make a line yet.
     fn left(&self) -> &[u8]
         ensures { result.now ≡ left_of self.now }
     {
         &self.bytes[self.begin.min(self.bytes.len())..]
     }
 
-    /// Takes the first line, less its LF, if one ends; none does in so many bytes, which are not looked at again.
+    /// Takes the first line, without its LF, if one ends here. The first `searched` bytes have no LF and are not searched
+    /// again.
     fn take(&mut self, alloc: Global, searched: usize) -> Mem<Option<Vec<u8>>>
         requires within { searched ≤ length (left_of self.old) }
         requires searched { cut_at 10 (take searched (left_of self.old)) ≡ None }
@@ -90,7 +91,7 @@ impl Pending {
         Ok(Some(line))
     }
 
-    /// Reads a block behind them, and lets go of what was taken; says whether there was anything.
+    /// Reads one more block and drops what was taken; says whether it read anything.
     fn read<R: Read>(&mut self, alloc: Global, reader: &mut Counted<R>) -> Result<bool, ReadError>
         ensures { ReadsMore (R.remaining reader.old.device) (R.remaining reader.new.device) (left_of self.old) (left_of self.new) reader.old.failed reader.new.failed result }
     {
@@ -102,7 +103,7 @@ impl Pending {
         read_block(alloc, reader, &mut self.bytes)
     }
 
-    /// Takes them as the last line, if there are any.
+    /// Takes the bytes that are left as the last line, if there are any.
     fn take_last(&mut self, alloc: Global) -> Mem<Option<Vec<u8>>>
         ensures { IfOk result (LastOf (left_of self.old) (left_of self.new)) }
     {
@@ -115,7 +116,7 @@ impl Pending {
     }
 }
 
-/// Takes the next line, less its LF, which the last may lack; none where no byte is left. Each byte is looked at once.
+/// Takes the next line, without its LF, which the last line may lack; none if no byte is left. Each byte is searched once.
 fn take_line<R: Read>(
     alloc: Global,
     reader: &mut Counted<R>,
@@ -136,7 +137,7 @@ fn take_line<R: Read>(
     Err(ReadError::Device)
 }
 
-/// What is told of a request.
+/// What is written for a request.
 fn told_text(alloc: Global, said: Result<Vec<u8>, u64>) -> Mem<Vec<u8>>
     ensures { IfOk result (λ text. text.items ≡ told (said_by said)) }
 {
@@ -175,7 +176,7 @@ fn push_line(bytes: &mut Vec<u8>, text: &[u8]) -> Mem<()>
     Ok(())
 }
 
-/// Takes a line of a batch: a request's, or the one that ends it, and then the request is answered.
+/// Takes a line of a batch: a line of a request, or the line that ends it; then the request is answered.
 fn take_in<S: Service, W: Write>(
     alloc: Global,
     service: &S,
@@ -197,7 +198,7 @@ fn take_in<S: Service, W: Write>(
     Ok(())
 }
 
-/// Answers the last request of a batch, if no line `end` stood behind it.
+/// Answers the last request of a batch, if no line `end` follows it.
 fn take_end<S: Service, W: Write>(
     alloc: Global,
     service: &S,
@@ -238,30 +239,30 @@ fn serve_requests<S: Service, R: Read, W: Write>(
     Err(Stop::Read)
 }
 
-/// Reads requests, each ended by a line `end`, which the last may lack, and answers each as soon as its end was read: by the
-/// service's text, or by a line `bad-line N`, and by a line `end` behind either (docs/RULES.md, Batches). It never ends with
-/// `BadLine`. At every end the requests that were read before are answered, whole and in order; with `WriteFailed` a beginning
-/// of the answer to the next stands behind them.
+/// Reads requests, each up to a line `end`, which the last may lack. Each is answered as soon as it has been read: with the
+/// service's text, or with a line `bad-line N`, and then with a line `end` (docs/RULES.md, Batches). It never ends with
+/// `BadLine`. Whenever it ends, the requests read before are answered, whole and in order; after `WriteFailed` a prefix of
+/// the next answer follows them.
 pub fn serve_each<S: Service, R: Read, W: Write>(
     alloc: Global,
     service: &S,
     reader: &mut Counted<R>,
     writer: &mut Counted<W>,
 ) -> Outcome
-    // What is written are the answers to the requests, in order.
+    // The answers to the requests were written, in order.
     ensures answered { result ≡ Outcome.Answered → IfSome (R.remaining reader.old.device) (λ bytes.
         (written : List ℕ) × AreTold (S.answers service.now) (requests_of (lines_of bytes)) written × Appends (W.contents writer.old.device) (W.contents writer.new.device) written) }
-    // Where a run ends early, they are those to a beginning of the requests.
+    // If a run ends early, they are those to the first requests.
     ensures begun { result ≢ Outcome.WriteFailed → AreToldBegun (S.answers service.now) (R.remaining reader.old.device) (W.contents writer.old.device) (W.contents writer.new.device) }
-    // Where the writer failed, a beginning of the answer to the next one stands behind them, and not all of it.
+    // If the writer failed, a proper prefix of the next answer follows them.
     ensures write_failed { result ≡ Outcome.WriteFailed → AreToldBroken (S.answers service.now) (R.remaining reader.old.device) (W.contents writer.old.device) (W.contents writer.new.device) }
     ensures at_end { result ≡ Outcome.Answered → IsAtEnd (R.remaining reader.new.device) }
     ensures goes_on { (n : ℕ) → result ≢ Outcome.BadLine n }
-    // The first read that fails ends the run, and is told; else the reader had too many bytes.
+    // The first failed read ends the run, and is reported; or the reader had too many bytes.
     ensures read_failed { result ≡ Outcome.ReadFailed → (reader.new.failed ≡ one_more reader.old.failed)
         ⊎ (IfSome (R.remaining reader.old.device) (λ bytes. 2 ^ 40 ≤ length bytes) × (reader.new.failed ≡ reader.old.failed)) }
     ensures reader_told { result ≢ Outcome.ReadFailed → reader.new.failed ≡ reader.old.failed }
-    // The first write that fails ends the run, and is told.
+    // The first failed write ends the run, and is reported.
     ensures writer_failed { result ≡ Outcome.WriteFailed → writer.new.failed ≡ one_more writer.old.failed }
     ensures writer_told { result ≢ Outcome.WriteFailed → writer.new.failed ≡ writer.old.failed }
 {

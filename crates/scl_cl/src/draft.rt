@@ -11,7 +11,7 @@ use scl_reader::Compiler;
 use scl_text::{Mem, View};
 use std::alloc::Global;
 
-/// What the lines so far make of a request.
+/// The part of a request that its lines so far make.
 #[derive(Drop)]
 pub(crate) struct Draft {
     pub compiler: Option<Compiler>,
@@ -22,7 +22,7 @@ pub(crate) struct Draft {
 }
 
 impl Draft {
-    /// A draft without any line.
+    /// A draft without lines.
     pub(crate) fn new(alloc: Global) -> Draft
         ensures { gathered_by result ≡ gathered [] }
     {
@@ -35,7 +35,7 @@ impl Draft {
         }
     }
 
-    /// Whether the line says again what stands once.
+    /// Whether the line repeats something that may be said only once.
     pub(crate) fn refuses(&self, saying: &Saying) -> bool
         ensures { result ≡ breaks (gathered_by self.now) (Some (said_by saying.now)) }
     {
@@ -52,7 +52,7 @@ impl Draft {
         }
     }
 
-    /// Takes what the line says.
+    /// Adds what the line says.
     pub(crate) fn take(&mut self, saying: Saying) -> Mem<()>
         requires { breaks (gathered_by self.old) (Some (said_by saying)) ≡ false }
         ensures { OnOk result (gathered_by self.new ≡ with_line (gathered_by self.old) (said_by saying)) }

@@ -1,8 +1,8 @@
-//! The keywords that lines begin with.
+//! The keywords at the start of lines.
 ghost use Rattle.std.specs.Prelude.{◌≡◌};
 ghost use Rattle.scl_cl.specs.Sayings.{keyword_text, keywords, keyword_named};
 
-/// What a line is about.
+/// The subject of a line.
 #[derive(Clone, Copy)]
 pub(crate) enum Keyword {
     Compiler,
@@ -14,7 +14,7 @@ pub(crate) enum Keyword {
     Env,
 }
 
-/// The keywords, the one of most lines first.
+/// The keywords, the most frequent first.
 static KEYWORDS: [Keyword; 7] = [
     Keyword::Word,
     Keyword::Compiler,

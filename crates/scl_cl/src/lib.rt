@@ -1,5 +1,5 @@
-//! Requests to a compiler that is served, as bytes: their grammar, the text of an answer, and the program over any reader and
-//! writer (`run`). What compilers answer is in `scl_reader`, and handed on here.
+//! Requests to the compilers, as bytes: their grammar, the text of an answer, and the program over any reader and writer
+//! (`run`). The answers themselves are in `scl_reader`, which is re-exported here.
 #![tactic(auto)]
 
 mod answer;

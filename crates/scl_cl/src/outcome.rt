@@ -2,18 +2,19 @@
 
 use std::fmt;
 
-/// How a run ended (docs/RULES.md, Outcomes). As text it is `answered`, or the line that the program prints to standard error.
+/// How a run ended (docs/RULES.md, Outcomes). As text it is `answered`, or the line that the program prints to standard
+/// error.
 #[derive(Debug, Clone, Copy, PartialEq, Eq)]
 pub enum Outcome {
-    /// The answer was written whole.
+    /// The whole answer was written.
     Answered,
-    /// The line of this number, the first being 1, breaks a rule; nothing was written.
+    /// The line with this number, counted from 1, breaks a rule; nothing was written.
     BadLine(u64),
-    /// Memory was refused; nothing was written.
+    /// A memory allocation failed; nothing was written.
     OutOfMemory,
-    /// A read failed, or 2^40 reads gave bytes and no end was met; nothing was written.
+    /// A read failed, or 2^40 reads gave bytes without reaching the end; nothing was written.
     ReadFailed,
-    /// The writer failed; a beginning of the answer was written.
+    /// The writer failed; a prefix of the answer was written.
     WriteFailed,
 }
 
@@ -21,8 +22,8 @@ impl Outcome {
     ghost use Rattle.std.specs.Prelude.{◌≡◌};
     ghost use Rattle.scl_cl.specs.Outcomes.{status_of};
 
-    /// The status that the program ends with: 0 where it answered, 2 for a bad line, 3 where memory
-    /// was refused, 4 where a read or a write failed (docs/RULES.md, The program).
+    /// The exit status of the program: 0 if it answered, 2 for a bad line, 3 if memory ran out, 4 if a read or a write failed
+    /// (docs/RULES.md, The program).
     pub fn status(self) -> u8
         ensures { result ≡ status_of self }
     {

@@ -1,4 +1,4 @@
-//! The program, over a reader and a writer.
+//! The program over a reader and a writer.
 ghost use Rattle.std.specs.Prelude.{◌≡◌, ◌≢◌, ◌^◌, ◌+◌, ◌<◌, ◌≤◌, ◌⊎◌, ℕ, List, length, take, IfOk, IfSome, Ok, Err};
 ghost use Rattle.std.specs.Io.KnownBytes.{Appends, IsAtEnd};
 ghost use Rattle.scl_devices.specs.Counts.{one_more, many_more};
@@ -21,7 +21,7 @@ use scl_text::records::CompilerArguments;
 use std::alloc::Global;
 use std::io::{Read, Write};
 
-/// The answer to a request, of which nothing else is kept.
+/// The answer to a request; the rest of the reading is dropped.
 fn answer_for(alloc: Global, request: Request) -> Mem<CompilerArguments<BuiltCommand>>
     ensures { IfOk result (λ answer. command_answer answer ≡ answer_to (asked_by request)) }
 {
@@ -43,7 +43,7 @@ fn text_for(alloc: Global, request: Request) -> Mem<Vec<u8>>
     command_text(alloc, &answer)
 }
 
-/// Answers a request by the text of its answer (docs/RULES.md, Answers).
+/// The service that answers a request with the text of its answer (docs/RULES.md, Answers).
 #[derive(Debug, Clone, Copy)]
 pub struct Commands;
 
@@ -63,31 +63,31 @@ impl Service for Commands {
     }
 }
 
-/// Reads the request to its end, and writes the answer (docs/RULES.md, Outcomes).
+/// Reads the whole request, and writes the answer (docs/RULES.md, Outcomes).
 pub fn run<R: Read, W: Write>(
     alloc: Global,
     reader: &mut Counted<R>,
     writer: &mut Counted<W>,
 ) -> Outcome
-    // What is answered is the answer to all that the reader had, and it is written whole.
+    // The answer to all that the reader had was written, whole.
     ensures answered { result ≡ Outcome.Answered → IfSome (R.remaining reader.old.device) (λ bytes.
         (text : List ℕ) × (program_answer bytes ≡ Ok text) × Appends (W.contents writer.old.device) (W.contents writer.new.device) text) }
     // A command in the answer is read again.
     ensures read_again { result ≡ Outcome.Answered → IfSome (R.remaining reader.old.device) (λ bytes.
         (text : List ℕ) × IsTextReadAgain bytes text × Appends (W.contents writer.old.device) (W.contents writer.new.device) text) }
     ensures bad_line { (n : ℕ) → result ≡ Outcome.BadLine n → IfSome (R.remaining reader.old.device) (λ bytes. program_answer bytes ≡ Err n) }
-    // No line is judged before all was read.
+    // No line is judged before everything was read.
     ensures judged { IsJudged result → IsAtEnd (R.remaining reader.new.device) }
-    // The first read that fails ends the run, and is told.
+    // The first failed read ends the run, and is reported.
     ensures read_failed { result ≡ Outcome.ReadFailed → (reader.new.failed ≡ one_more reader.old.failed)
         ⊎ (Gave (R.remaining reader.old.device) (R.remaining reader.new.device) (2 ^ 40) × (reader.new.failed ≡ reader.old.failed) × (many_more (2 ^ 40) reader.old.calls ≤ reader.new.calls)) }
-    // Whatever the reader tells, it is not read without end.
+    // Whatever the reader does, the number of reads is bounded.
     ensures reads { reader.new.calls ≤ reader.old.calls + 2 ^ 40 }
     ensures reader_told { result ≢ Outcome.ReadFailed → reader.new.failed ≡ reader.old.failed }
-    // A beginning of the answer was written, not all of it, and the writer failed.
+    // A proper prefix of the answer was written, and the writer failed.
     ensures write_failed { result ≡ Outcome.WriteFailed → IfSome (R.remaining reader.old.device) (λ bytes.
         (text : List ℕ) × (n : ℕ) × (program_answer bytes ≡ Ok text) × (n < length text) × Appends (W.contents writer.old.device) (W.contents writer.new.device) (take n text)) }
-    // The first write that fails ends the run, and is told.
+    // The first failed write ends the run, and is reported.
     ensures writer_failed { result ≡ Outcome.WriteFailed → writer.new.failed ≡ one_more writer.old.failed }
     ensures writer_told { result ≢ Outcome.WriteFailed → writer.new.failed ≡ writer.old.failed }
     // Nothing was written.

@@ -12,19 +12,18 @@ use scl_reader::{CommandLine, Compiler};
 use scl_text::{Mem, View};
 use std::alloc::Global;
 
-/// What is asked for: a compiler, the directory that it stands in, its words, its environment,
-/// and the files that it may see (docs/RULES.md, Requests).
+/// A request: a compiler, its directory, its words, its environment, and the files that it may see (docs/RULES.md, Requests).
 #[derive(Drop)]
 pub struct Request {
-    /// The compiler that is asked.
+    /// The compiler.
     pub compiler: Compiler,
-    /// The path of the directory in which the words are read.
+    /// The path of the directory from which the words are read.
     pub directory: Vec<u8>,
-    /// The words behind the program.
+    /// The words after the program.
     pub words: Vec<Vec<u8>>,
     /// The keys and values of the environment, in order.
     pub environment: Vec<(Vec<u8>, Vec<u8>)>,
-    /// The files that may be read, and what else is there.
+    /// The files that may be read, and the other paths that exist.
     pub view: View,
 }
 
@@ -42,8 +41,7 @@ impl Request {
     }
 }
 
-/// The request that the bytes make, or the number of their bad line, counted from 1 (docs/RULES.md, Requests). The outer
-/// error is the refusal of memory.
+/// The request in these bytes, or the number of the bad line, counted from 1 (docs/RULES.md, Requests).
 pub fn read_request(alloc: Global, bytes: &[u8]) -> Mem<Result<Request, u64>>
     ensures { IfOk result (λ read. MatchResult read
         (λ request. request_in (lines_of bytes.now) ≡ Ok (asked_by request))

@@ -37,7 +37,7 @@ fn saying_alone(line: &[u8]) -> Option<Saying>
     }
 }
 
-/// What a line says by its keyword and the text behind the keyword's space.
+/// What a line says by its keyword and the text after the keyword's space.
 fn saying_with(alloc: Global, keyword: Keyword, text: &[u8]) -> Mem<Option<Saying>>
     ensures { IfOk result (λ saying. option_map said_by saying ≡ said_with text.now keyword) }
 {

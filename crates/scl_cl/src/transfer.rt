@@ -1,4 +1,4 @@
-//! Reading all there is.
+//! Reading to the end.
 ghost use Rattle.std.specs.Prelude.{◌<◌, ◌≤◌, ◌+◌, ◌^◌, length};
 ghost use Rattle.scl_cl.specs.Transfers.{ReadEnds};
 ghost use Rattle.scl_cl.specs.Batches.{ReadsMore};
@@ -7,18 +7,18 @@ use scl_args::Counted;
 use std::alloc::{AllocError, Global};
 use std::io::Read;
 
-/// How many reads are made at most.
+/// The most reads of a run.
 pub(crate) const READS: u64 = 1 << 40;
 
-/// How many bytes a read asks for.
+/// The number of bytes that a read requests.
 const BLOCK: usize = 1 << 13;
 
 /// Why not all was read.
 #[derive(Drop)]
 pub(crate) enum ReadError {
-    /// Memory was refused.
+    /// A memory allocation failed.
     Memory,
-    /// The reader failed, or its end was not met.
+    /// The reader failed, or did not reach its end.
     Device,
 }
 
@@ -69,7 +69,7 @@ pub(crate) fn read_all<R: Read>(
     read_blocks(alloc, reader, &mut block)
 }
 
-/// Reads once, and puts what was read behind other bytes; says whether there was anything.
+/// Reads once and appends what was read; says whether there was anything.
 fn read_more<R: Read>(
     reader: &mut Counted<R>,
     block: &mut [u8],
@@ -89,7 +89,7 @@ fn read_more<R: Read>(
     Ok(true)
 }
 
-/// Reads a block, and puts it behind other bytes; says whether there was anything.
+/// Reads a block and appends it; says whether there was anything.
 pub(crate) fn read_block<R: Read>(
     alloc: Global,
     reader: &mut Counted<R>,

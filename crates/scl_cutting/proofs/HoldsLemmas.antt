@@ -1,4 +1,4 @@
--- Tables whose value rows have kinds that hold values.
+-- Tables in which the kinds of rows that take a value hold one.
 use Rattle.std.proofs.Common.{◌≡◌, ℕ, Bool, true, false, cond, nat_lt, ◌&&◌, ◌||◌, not, List, [], ◌∷◌, length, drop, filter, Option, None, Some, refl, subst}
 use Rattle.std.specs.Str.{bytes_eq}
 use Rattle.scl_values.specs.Row.{Row, Shape, bare, apart, joined, either, fits}
@@ -16,7 +16,7 @@ and-right true b h = h
 and-right false b h = cc
 
 module _ {K : Type 0} (holds : K → Bool) where
-  -- a row that takes a value has a kind that holds one
+  -- if a row takes a value, its kind holds one
   abbrev RowHolds : Row K → Type 0
   RowHolds row = takes_value row.shape ≡ true → holds row.kind ≡ true
 
@@ -48,7 +48,7 @@ module _ {K : Type 0} (holds : K → Bool) where
   owner_in-holds (rows ∷ tables) word h =
       longer-holds (owner rows word) (owner_in tables word) (owner-holds rows word (and-left (rows_hold_values holds rows) (tables_hold_values holds tables) h)) (owner_in-holds tables word (and-right (rows_hold_values holds rows) (tables_hold_values holds tables) h))
 
-  -- an option with a value has a kind that holds one
+  -- if an option has a value, its kind holds one
   abbrev pub CutHolds : Cut K → Type 0
   CutHolds (raw w) = Unit {0}
   CutHolds (unknown w) = Unit {0}

@@ -31,7 +31,7 @@ module _ {I K T : Type 0} (steps : I → Option (Vec ℕ Global) → I → Type 
   dashes_item a b w false true p q d h = absurd (cc)
   dashes_item a b w true e p q d h = absurd (cc)
 
-  -- a fallible maker of the first option of the words
+  -- the result of making the first option of the words
   ends_by : (c : Cut K) (left others : Cutting K) (e : ArgParseError) → left ≡ before c others → (e ≡ error.Memory) ⊎ FailsAt make e c → EndsBy make e left
   ends_by c left others e eq (inl m) = no_memory m
   ends_by c left others e eq (inr f) = no_value c others eq f
@@ -78,7 +78,7 @@ module _ {I K T : Type 0} (steps : I → Option (Vec ℕ Global) → I → Type 
   option_item a b t w item over false true p q d h m = absurd (cc)
   option_item a b t w item over true e p q d h m = absurd (cc)
 
--- a row that takes the next word as its value
+-- a row whose value is the next word
 pub next_word_piece : {I K T : Type 0} (steps : I → Option (Vec ℕ Global) → I → Type 0) (make : K → List ℕ → Result T ArgParseError → Type 0) (s t : I) (v : Vec ℕ Global)
     (item made : Result (Argument T) ArgParseError) (over : Bool) (own : Option (Row K)) (word : List ℕ) (row : Row K) (d : ArgDisposition) (last : Option ArgDisposition)
     → Some row ≡ own → needs_value row d last ≡ owned_piece (Some row) word → steps s (Some v) t → item ≡ made → over ≡ is_err made → Makes make (with_value row v.items d) made
@@ -140,7 +140,7 @@ module _ {I K T : Type 0} (steps : I → Option (Vec ℕ Global) → I → Type 
   run_items s t u [] y n = let P : Cutter I K → Type 0 = λ c. CutsRun steps make c [] in subst P (sym y) (stop t u n)
   run_items s t u (item ∷ items) y n = step_items s y.0 t u item items y.1.2 y.1.3 y.2 (run_items y.0 t u items y.2 n)
 
-  -- the same, of an iterator whose state shows a cutter
+  -- the same for an iterator whose state shows a cutter
   module _ {S : Type 0} (shows : S → Cutter I K) where
     abbrev NextOf : S → Option (Result (Argument T) ArgParseError) → S → Type 0
     NextOf s r t = Next (shows s) r (shows t)

@@ -31,7 +31,7 @@ module _ {K : Type 0} (own : List ℕ → Option (Row K)) (dashes : Bool) where
     | ends_options ↦ λ e. ended word (next ∷ words) e
   ] refl
 
-  -- a fact of each option, from the facts of the pieces: one induction for all such facts
+  -- a fact of each option from the facts of the pieces: one induction for all such facts
   module _ (P : Cut K → Type 0)
       (at_whole : (word : List ℕ) (c : Cut K) → piece_of own dashes word ≡ whole c → P c)
       (at_value : (word : List ℕ) (row : Row K) (d : ArgDisposition) (last : Option ArgDisposition) → piece_of own dashes word ≡ needs_value row d last → (v : List ℕ) → P (with_value row v d))
@@ -52,7 +52,7 @@ module _ {K : Type 0} (own : List ℕ → Option (Row K)) (dashes : Bool) where
     each-option _ _ _ (last_word word row d last p) = lasts word row d last p
     each-option _ _ _ (ended word words p) = raws word p (word ∷ words)
 
--- ---- the relation and the function are one
+-- ---- the relation and the function agree
 
 module _ {K : Type 0} (own : List ℕ → Option (Row K)) (dashes : Bool) where
   with_first : (c : Cut K) (left : Cutting K) (cs : List (Cut K)) (e : End) → left ≡ record { options = cs; end = e } → before c left ≡ record { options = c ∷ cs; end = e }

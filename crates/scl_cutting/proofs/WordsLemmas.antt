@@ -75,7 +75,7 @@ module _ {K T : Type 0} (make : K → List ℕ → Result T ArgParseError → Ty
       let first : seen kind_of word_of a ≡ shown h.0 = seen_made a h.0 h.3 in
       (ap (λ l. l.end) h.2 ∙ more.0, rw h.2 (rw first (ap (λ xs. shown h.0 ∷ xs) more.1)))
 
--- ---- values that are always made of the words of kinds that hold values
+-- ---- values that can be made from each word, for kinds that hold one
 
 module _ {K T : Type 0} (make : K → List ℕ → Result T ArgParseError → Type 0) (kind_of : T → K) (word_of : T → List ℕ) (holds : K → Bool)
     (keeps : (k : K) (word : List ℕ) (v : T) → make k word (Ok v) → (kind_of v ≡ k) × (word_of v ≡ word))
@@ -103,7 +103,7 @@ module _ {K T : Type 0} (make : K → List ℕ → Result T ArgParseError → Ty
       let first : seen kind_of word_of o ≡ shown a.0 = seen_made make kind_of word_of keeps o a.0 a.3 in
       (ap (λ l. l.end) a.2 ∙ more.0, rw a.2 (rw first (ap (λ xs. shown a.0 ∷ xs) more.1)))
 
-  -- a finished run tells the options, and whether the end dangles
+  -- a finished run says which options there are, and whether the end dangles
   pub seen_by_end : (options : List (Argument T)) (left : Cutting K) (end : Option ArgParseError) (b : Bool) → dangles_by end ≡ Some b → Each (CutHolds holds) left.options
       → AreItemsOf make left (items_of options end) → (is_dangling left.end ≡ b) × (map (seen kind_of word_of) options ≡ map shown left.options)
   seen_by_end options left None b d h a = let all = seen_all make kind_of word_of keeps options left a in (rw all.0 (cc), all.1)

@@ -4,7 +4,7 @@ use Rattle.scl_values.specs.declared.argument.ArgDisposition.{ArgDisposition}
 use Rattle.scl_values.specs.Row.{Row}
 use Rattle.scl_values.specs.Cuts.{Cut, raw, with_value, End, clean, whole, needs_value, ends_options, piece_of, last_piece}
 
--- the words are cut into the options, by cases on the first word
+-- the words are cut into the options: one case for each piece that the first word may be
 pub data CutsInto {K : Type 0} (own : List ℕ → Option (Row K)) (dashes : Bool) : List (List ℕ) → List (Cut K) → End → Type 0 where
   nothing : CutsInto own dashes [] [] clean
   option : (word : List ℕ) (c : Cut K) (words : List (List ℕ)) (cs : List (Cut K)) (e : End) → piece_of own dashes word ≡ whole c → CutsInto own dashes words cs e → CutsInto own dashes (word ∷ words) (c ∷ cs) e

@@ -22,7 +22,8 @@ items_of options (Some e) = after_options options (Err e ∷ [])
 abbrev pub left_of : {K : Type 0} → Cutter (List (Vec ℕ Global)) K → Cutting K
 left_of s = cut_left s (words_of s.arguments)
 
--- whether an error ended cutting, where no memory was wanting; where every value can be made, that is a last flag without its value
+-- whether an error ended cutting, if no allocation failed; if every value can be made, that is the last flag without its
+-- value
 abbrev pub dangles_by : Option ArgParseError → Option Bool
 dangles_by None = Some false
 dangles_by (Some error.UnexpectedEndOfArgs) = Some true

@@ -1,4 +1,4 @@
-//! An iterator of options, cut from words to come.
+//! An iterator that cuts words into options.
 ghost use Rattle.std.specs.Prelude.{◌≡◌, List, true, false, Result};
 ghost use Rattle.std.specs.Bool.{OnFalse};
 ghost use Rattle.std.specs.Iterator.{count_unless, Drains};
@@ -13,9 +13,11 @@ use scl_values::{ArgParseResult, Argument, ArgumentValue};
 use std::alloc::Global;
 use std::marker::{Model, PhantomData};
 
-/// Cuts the words of an iterator into options (docs/RULES.md, Cutting). The first error is the last item: the last flag
-/// lacks its value, a value can't be made of its word, or a request for memory was refused. Each option can be printed as
-/// text.
+/// Cuts the words of an iterator into options (docs/RULES.md, Cutting). Each option can be printed as texts. The first error
+/// is the last item:
+/// - `UnexpectedEndOfArgs`: the last flag has no value.
+/// - an error of `make`: a value can't be made from its word.
+/// - `Memory`: an allocation failed.
 #[derive(Drop)]
 pub struct ArgsIter<I, T, S> {
     alloc: Global,
@@ -75,7 +77,7 @@ impl<I: Iterator<Item = Vec<u8>> + Drop, T: ArgumentValue, S: SearchableArgInfo<
     T,
     S,
 > {
-    /// Cuts these words by the rows of a table, or of several. This takes no memory.
+    /// Cuts these words by the rows of a table, or of several. It allocates nothing.
     pub fn new(alloc: Global, arguments: I, arg_info: S) -> ArgsIter<I, T, S>
         ensures arguments { result.arguments ≡ arguments }
         ensures arg_info { result.arg_info ≡ arg_info }
@@ -94,7 +96,7 @@ impl<I: Iterator<Item = Vec<u8>> + Drop, T: ArgumentValue, S: SearchableArgInfo<
         }
     }
 
-    /// The same, where the first word `--` that stands where an option could, and all words after it, are raw.
+    /// The same, except that the first word `--` where an option may begin, and all words after it, are raw.
     pub fn with_double_dashes(self) -> ArgsIter<I, T, S>
         ensures arguments { result.arguments ≡ self.arguments }
         ensures arg_info { result.arg_info ≡ self.arg_info }

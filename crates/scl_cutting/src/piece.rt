@@ -1,4 +1,4 @@
-//! What one word is cut into, and where its value is.
+//! What one word is cut into, and where the value is.
 ghost use Rattle.std.specs.Prelude.{◌≡◌, ◌≤◌, length, drop, is_err, IfOk, true};
 ghost use Rattle.std.specs.Bool.{OnFalse};
 ghost use Rattle.std.specs.Iterator.{IsFinite, size};
@@ -16,14 +16,14 @@ use scl_values::{
 };
 use std::alloc::Global;
 
-/// Where the value is of a flag whose row fits a word.
+/// Where the value of a flag is whose row fits a word.
 #[derive(Drop)]
 pub(crate) enum ValuePlace {
     /// The flag takes no value.
     Nowhere,
-    /// The value begins there in the word.
+    /// The value begins at this index of the word.
     Joined(usize, ArgDisposition),
-    /// The value is the next word; if none is left, it may be empty.
+    /// The value is the next word. If none is left, the second disposition, if any, is that of an empty value.
     NextWord(ArgDisposition, Option<ArgDisposition>),
 }
 
@@ -38,7 +38,7 @@ fn skip_delimiter(delimiter: Delimiter, word: &[u8], start: usize) -> usize
     }
 }
 
-/// Where the value is of a flag that it may be joined to or follow.
+/// Where the value of a flag of an either row is.
 #[tactic(auto, using(crate::proofs::CutsLemmas::piece_at_either))]
 fn either_place<K>(row: &ArgRow<K>, delimiter: Delimiter, word: &[u8]) -> ValuePlace
     requires { length (row_of row.now).flag ≤ length word.now }
@@ -126,7 +126,7 @@ fn over_on_error<T: ArgumentValue>(
     (item, over)
 }
 
-/// The option that a word in option place begins, and whether it is the last item.
+/// The option that begins with a word where an option may begin, and whether it is the last item.
 #[tactic(auto, using(scl_tables::proofs::TablesLemmas::owner_in_length))]
 pub(crate) fn option_of<I: Iterator<Item = Vec<u8>>, T: ArgumentValue, S: SearchableArgInfo<T>>(
     alloc: Global,

@@ -1,10 +1,10 @@
-//! An iterator that gives back a list's memory as it goes.
+//! An iterator that frees a list's memory as it goes.
 ghost use Rattle.std.specs.Prelude.{◌≡◌};
 
 use std::marker::Model;
 
-/// The items of a list, first to last. The list's memory is given back as it goes: at most twice what the items that are
-/// left take is kept.
+/// The items of a list, first to last. The list's memory is freed on the way: it takes at most twice what the remaining items
+/// take.
 #[derive(Debug, Drop)]
 pub struct ShrinkingIter<T> {
     reversed: Vec<T>,
@@ -19,7 +19,7 @@ impl<T> Model for ShrinkingIter<T> {
 }
 
 impl<T> ShrinkingIter<T> {
-    /// The items of the list. This takes no memory.
+    /// The items of the list. It allocates nothing.
     pub fn new(list: Vec<T>) -> ShrinkingIter<T>
         ensures { result ≡ list.items }
     {

@@ -32,8 +32,8 @@ fn cutter<T: ArgumentValue, S: SearchableArgInfo<T> + Drop>(
     }
 }
 
-/// Cuts all the words, and gives the options with the error that ended them, if there is one (docs/RULES.md, Cutting).
-/// It fails itself only where the list of options gets no memory. Each option can be printed as text.
+/// Cuts all words; gives the options, and the error that ended cutting if there was one (docs/RULES.md, Cutting). The call
+/// itself fails only if the list of options can't be allocated. Each option can be printed as texts.
 pub fn cut_words<T: ArgumentValue, S: SearchableArgInfo<T> + Drop>(
     alloc: Global,
     words: Vec<Vec<u8>>,
@@ -54,7 +54,7 @@ pub fn cut_words<T: ArgumentValue, S: SearchableArgInfo<T> + Drop>(
     Ok((options, None))
 }
 
-/// Whether an error ended cutting; where every value can be made, that is a last flag without its value.
+/// Whether an error ended cutting. If every value can be made, that is the last flag without its value.
 fn dangles_by(end: Option<ArgParseError>) -> Mem<bool>
     ensures { IfOk result (λ dangles. dangles_by end ≡ Some dangles) }
 {
@@ -69,17 +69,17 @@ fn dangles_by(end: Option<ArgParseError>) -> Mem<bool>
     }
 }
 
-/// What words are cut into (docs/RULES.md, Cutting).
+/// The options that words are cut into (docs/RULES.md, Cutting).
 #[derive(Debug, PartialEq, Eq, Drop)]
 pub struct CutWords<T> {
     /// The options in order.
     pub options: Vec<Argument<T>>,
-    /// Whether a last flag was left without its value.
+    /// Whether the last flag has no value.
     pub is_dangling: bool,
 }
 
-/// Cuts all the words by tables whose rows that take a value have kinds that hold one: so no value fails to be made, and
-/// this fails only for want of memory. Each option can be printed as text (docs/RULES.md, Cutting).
+/// Cuts all words by tables in which the kinds of rows that take a value hold one: so every value can be made (docs/RULES.md,
+/// Cutting). Each option can be printed as texts.
 pub fn cut_options<T: ExactArg, S: SearchableArgInfo<T> + Drop>(
     alloc: Global,
     words: Vec<Vec<u8>>,

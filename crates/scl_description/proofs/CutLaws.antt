@@ -1,4 +1,4 @@
--- Bytes cut at a mark, and lines.
+-- Bytes split at a mark, and lines.
 use Rattle.std.proofs.Common.{◌≡◌, ℕ, ◌+◌, ◌-◌, ◌<◌, true, false, cond, List, [], ◌∷◌, ◌++◌, Option, Some, None, refl, ap, sym, ◌∙◌, nat_eq, length, take, drop, get_or, arith, drop-cons, take-append-drop, length-drop, take_all, add-one, inl, inr, eq-eqb}
 use Rattle.std.specs.List.{onto_first}
 use Rattle.std.proofs.lemmas.List.{take_more}
@@ -12,28 +12,28 @@ none_first : (b : ℕ) (o : Option (List ℕ × List ℕ)) → with_first b o �
 none_first b None h = refl
 none_first b (Some p) h = cc
 
--- a mark behind bytes without one
+-- a mark after bytes without one
 pub cut_at-mark : (m : ℕ) (xs ys : List ℕ) → cut_at m xs ≡ None → cut_at m (xs ++ m ∷ ys) ≡ parts xs ys
 cut_at-mark m [] ys h = rw (eq-eqb m m refl) refl
 cut_at-mark m (x ∷ xs) ys h =
     elim (nat_eq x m) as (λ v. cond v (parts [] xs) (with_first x (cut_at m xs)) ≡ None → cond v (parts [] (xs ++ m ∷ ys)) (with_first x (cut_at m (xs ++ m ∷ ys))) ≡ parts (x ∷ xs) ys)
     [ true ↦ λ e. cc | false ↦ λ e. ap (with_first x) (cut_at-mark m xs ys (none_first x _ e)) ] h
 
--- another byte behind bytes without a mark
+-- another byte after bytes without a mark
 pub cut_at-other : (m : ℕ) (xs : List ℕ) (b : ℕ) → cut_at m xs ≡ None → nat_eq b m ≡ false → cut_at m (xs ++ b ∷ []) ≡ None
 cut_at-other m [] b h k = rw k refl
 cut_at-other m (x ∷ xs) b h k =
     elim (nat_eq x m) as (λ v. cond v (parts [] xs) (with_first x (cut_at m xs)) ≡ None → cond v (parts [] (xs ++ b ∷ [])) (with_first x (cut_at m (xs ++ b ∷ []))) ≡ None)
     [ true ↦ λ e. cc | false ↦ λ e. ap (with_first x) (cut_at-other m xs b (none_first x _ e) k) ] h
 
--- bytes without a mark behind bytes without one
+-- bytes without a mark after bytes without one
 pub cut_at-append : (m : ℕ) (xs ys : List ℕ) → cut_at m xs ≡ None → cut_at m ys ≡ None → cut_at m (xs ++ ys) ≡ None
 cut_at-append m [] ys h k = k
 cut_at-append m (x ∷ xs) ys h k =
     elim (nat_eq x m) as (λ v. cond v (parts [] xs) (with_first x (cut_at m xs)) ≡ None → cond v (parts [] (xs ++ ys)) (with_first x (cut_at m (xs ++ ys))) ≡ None)
     [ true ↦ λ e. cc | false ↦ λ e. ap (with_first x) (cut_at-append m xs ys (none_first x _ e) k) ] h
 
--- the mark at a place before which there is none
+-- a mark with no mark before it
 pub cut_at-place : (m : ℕ) (bs : List ℕ) (i : ℕ) → i < length bs → get_or bs i 0 ≡ m → cut_at m (take i bs) ≡ None → cut_at m bs ≡ parts (take i bs) (take (length bs - (i + 1)) (drop (i + 1) bs))
 cut_at-place m bs i h e k =
     let all : take (length bs - (i + 1)) (drop (i + 1) bs) ≡ drop (i + 1) bs = take_all _ _ (omega (arith, length-drop (i + 1) bs)) in
@@ -60,7 +60,7 @@ line_behind b bs line rest (Some p) is ih e =
     let back : p.1 ≡ rest = ap part_behind e in
     ap (onto_first b) (ih p.0 p.1 is) ∙ ap (λ l. l ∷ lines_of p.1) front ∙ ap (λ r. line ∷ lines_of r) back
 
--- the first line is what stands before the first LF
+-- the first line is what comes before the first LF
 pub lines_of-cut : (bs line rest : List ℕ) → cut_at 10 bs ≡ parts line rest → lines_of bs ≡ line ∷ lines_of rest
 lines_of-cut [] line rest h = cc
 lines_of-cut (b ∷ bs) line rest h =
@@ -79,7 +79,7 @@ pub lines_of-only : (bs : List ℕ) → 0 < length bs → cut_at 10 bs ≡ None 
 lines_of-only [] h e = absurd (omega arith)
 lines_of-only (b ∷ bs) h e = lines_of-last b bs e
 
--- what stands behind a mark is shorter
+-- what follows a mark is shorter
 pub cut_at-shorter : (m : ℕ) (bs : List ℕ) (p : List ℕ × List ℕ) → cut_at m bs ≡ Some p → length p.1 < length bs
 cut_at-shorter m [] p h = cc
 cut_at-shorter m (b ∷ bs) p h =

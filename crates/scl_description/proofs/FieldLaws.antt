@@ -1,4 +1,4 @@
--- Fields: bytes that stand for themselves before what is left of one, and bytes before what is left.
+-- Plain bytes before what is left of a field, and bytes before what is left.
 use Rattle.std.proofs.Common.{◌≡◌, ℕ, Bool, true, false, ◌&&◌, List, [], ◌∷◌, ◌++◌, Option, Some, None, refl, ap, sym, ◌∙◌, append_assoc}
 use Rattle.std.specs.List.{list_all}
 use Rattle.scl_values.specs.Escaped.{is_plain, escape, escaped}
@@ -55,17 +55,17 @@ escaped-run (b ∷ run) rest h =
     ap (λ bytes. bytes ++ escaped (run ++ rest)) (escape-plain b (both_first (is_plain b) (list_all is_plain run) h))
     ∙ ap (λ bytes. b ∷ bytes) (escaped-run run rest (both_second (is_plain b) (list_all is_plain run) h))
 
--- a text to which plain bytes were added
+-- a text to which plain bytes were appended
 pub written_on : (text run rest bytes : List ℕ) → bytes ≡ run ++ rest → list_all is_plain run ≡ true → (text ++ run) ++ escaped rest ≡ text ++ escaped bytes
 written_on text run rest bytes whole plain = append_assoc text run (escaped rest) ∙ ap (λ more. text ++ more) (sym (escaped-run run rest plain) ∙ ap escaped (sym whole))
 
--- a text to which a byte and the plain bytes behind it were added
+-- a text to which a byte and the plain bytes after it were appended
 pub escape_on : (text all run rest left behind : List ℕ) (b : ℕ) → text ++ escaped left ≡ all → left ≡ b ∷ behind → behind ≡ run ++ rest → list_all is_plain run ≡ true
     → ((text ++ escape b) ++ run) ++ escaped rest ≡ all
 escape_on text all run rest left behind b is first whole plain =
     written_on (text ++ escape b) run rest behind whole plain ∙ append_assoc text (escape b) (escaped behind) ∙ ap (λ bytes. text ++ escaped bytes) (sym first) ∙ is
 
--- a byte of the field was taken, and the plain bytes behind it
+-- a byte of the field was taken, and the plain bytes after it
 pub one_escape_on : (bytes left behind run rest : List ℕ) (b : ℕ) (all : Option (List ℕ)) → onto bytes (field_of left) ≡ all
     → field_of left ≡ before (Some b) (field_of behind) → behind ≡ run ++ rest → list_all is_plain run ≡ true → onto ((bytes ++ b ∷ []) ++ run) (field_of rest) ≡ all
 one_escape_on bytes left behind run rest b all is taken whole plain =

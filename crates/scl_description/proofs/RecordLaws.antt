@@ -15,7 +15,7 @@ use Rattle.scl_description.specs.Lines.{line}
 use Rattle.scl_description.specs.Records.{record_entries, record_names, output_rest, words_back, maybe_back, yes_back, output_back, language_text, language_back, color_text, color_back, record_by, record_in}
 use Rattle.scl_description.proofs.RowLaws.{rows-back}
 
--- the rests of the entries with the name
+-- what follows the name in the entries
 abbrev found : List Entry → List ℕ → List (List (List ℕ))
 found entries name = flat_map (λ e. cond (bytes_eq e.name name) e.rests []) entries
 
@@ -40,7 +40,7 @@ rests-found (e ∷ es) name =
     ∙ ap (λ rs. rs ++ rests_at (rows_of es) name) (one-entry name e.name e.rests)
     ∙ ap (λ rs. cond (bytes_eq e.name name) e.rests [] ++ rs) (rests-found es name)
 
--- ---- what stands in an entry gives the field
+-- ---- an entry gives the field back
 
 words-given : (words : List (List ℕ)) → words_back (map lone words ++ []) ≡ words
 words-given [] = refl
@@ -108,7 +108,7 @@ description-back p are =
 abbrev is_named : List ℕ → Bool
 is_named name = list_any (bytes_eq name) record_names
 
--- rows of other names have nothing of a field
+-- rows with other names say nothing of a field
 lacking : (es : List Entry) (name : List ℕ) → is_named name ≡ true → Each IsBeside es → found es name ≡ []
 lacking [] name is beside = refl
 lacking (e ∷ es) name is beside = either (bytes_eq e.name name) refl (lacking es name is beside.1) where

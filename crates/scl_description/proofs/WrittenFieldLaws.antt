@@ -29,7 +29,7 @@ pub field-escaped : (bytes : List ℕ) → AreBytes bytes → field_of (escaped 
 field-escaped [] are = refl
 field-escaped (b ∷ bs) are = field-escape b (escaped bs) are.0 ∙ ap (before (Some b)) (field-escaped bs are.1)
 
--- the bytes of an escape are printable, and so are those of a list before printable ones
+-- the bytes of an escape are printable, and so are those of a list in front of printable ones
 escape-printable : (b : ℕ) (rest : List ℕ) → b < 256 → ArePrintable rest → ArePrintable (escape b ++ rest)
 escape-printable b rest h are = either (is_plain b) refl where
   digit-printable : (n : ℕ) → n < 16 → (0x21 ≤ digit_of n) × (digit_of n ≤ 0x7e)
@@ -43,7 +43,7 @@ pub escaped-printable : (bytes : List ℕ) → AreBytes bytes → ArePrintable (
 escaped-printable [] are = tt
 escaped-printable (b ∷ bs) are = escape-printable b (escaped bs) are.0 (escaped-printable bs are.1)
 
--- printable bytes hold no mark below them
+-- printable bytes have no mark below 33
 pub cut_at-printable : (m : ℕ) (bs : List ℕ) → m < 33 → ArePrintable bs → cut_at m bs ≡ None
 cut_at-printable m [] h are = refl
 cut_at-printable m (b ∷ bs) h are =

@@ -1,4 +1,4 @@
--- Fields of lines, and the bytes that they stand for.
+-- Fields of lines, and the bytes that they mean.
 use Rattle.std.specs.Prelude.{ℕ, ◌<◌, ◌≤◌, ◌+◌, ◌-◌, ◌*◌, ◌&&◌, Bool, false, List, [], ◌∷◌, Option, Some, None, ◌==◌, nat_le, if◌then◌else◌}
 use Rattle.std.specs.Option.{option_zip}
 use Rattle.scl_files.specs.Characters.{tab, backslash}
@@ -16,7 +16,7 @@ abbrev pub pair_value : Option ℕ → Option ℕ → Option ℕ
 pair_value (Some high) (Some low) = Some (16 * high + low)
 pair_value _ _ = None
 
--- the byte of a backslash, an x and two digits: its value is sixteen times the first and the second
+-- the byte of a backslash, an x and two digits: sixteen times the value of the first, plus that of the second
 abbrev pub escaped_byte : ℕ → ℕ → ℕ → ℕ → Option ℕ
 escaped_byte first letter high low = if first == backslash && letter == 0x78 then pair_value (digit_value high) (digit_value low) else None
 
@@ -24,12 +24,12 @@ abbrev pub before : Option ℕ → Option (List ℕ) → Option (List ℕ)
 before (Some b) (Some bs) = Some (b ∷ bs)
 before _ _ = None
 
--- whether the first byte, if there is one, stands for itself
+-- whether the first byte, if there is one, is plain
 abbrev pub starts_plain : List ℕ → Bool
 starts_plain [] = false
 starts_plain (b ∷ _) = is_plain b
 
--- the bytes that a field's text stands for
+-- the bytes that a field's text means
 abbrev pub field_of : List ℕ → Option (List ℕ)
 field_of [] = Some []
 field_of (b ∷ (x ∷ (h ∷ (l ∷ rest)))) =

@@ -15,11 +15,11 @@ RowsReadBack = (rows : List (List (List ℕ))) → Each IsRow rows → rows_in (
 abbrev pub DescriptionReadsBack : Type 0
 DescriptionReadsBack = (p : Parsed) → Each IsRow (rows_of (record_entries p)) → record_in (description_of p) ≡ p
 
--- the entry is none of a record's
+-- the entry does not belong to a record
 abbrev pub IsBeside : Entry → Type 0
 IsBeside e = list_any (bytes_eq e.name) record_names ≡ false
 
--- A record is read back also where rows of other names stand before its lines and behind them.
+-- A record is read back also among rows with other names, before and after its lines.
 abbrev pub DescriptionReadsBackAmong : Type 0
 DescriptionReadsBackAmong = (before after : List Entry) (p : Parsed) → Each IsBeside before → Each IsBeside after → Each IsRow (rows_of (before ++ record_entries p ++ after))
     → record_in (entries_text (before ++ record_entries p ++ after)) ≡ p

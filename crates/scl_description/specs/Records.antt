@@ -42,7 +42,7 @@ all_colors = colors.Off ∷ colors.On ∷ colors.Auto ∷ []
 
 -- ---- a record's rows
 
--- what stands behind `output`: the name, the path, and a third field where the file may be missing
+-- what follows `output`: the name, the path, and a third field if the file may be missing
 abbrev pub output_rest : Artifact → List (List ℕ)
 output_rest a = a.name ∷ a.path ∷ (if a.optional then codes "optional" ∷ [] else [])
 
@@ -58,11 +58,11 @@ source_entries p =
     ∷ row_entry (codes "compilation-flag") (lone p.compilation_flag)
     ∷ []
 
--- what is made
+-- the outputs and the dependency file
 abbrev pub output_entries : Parsed → List Entry
 output_entries p = maybe_entry (codes "depfile") p.depfile ∷ outputs_entry p.outputs ∷ []
 
--- the lists of words, a row a word
+-- the lists of words, one row for each word
 abbrev pub list_entries : Parsed → List Entry
 list_entries p =
     words_entry (codes "dependency") p.dependency_args
@@ -72,11 +72,12 @@ list_entries p =
     ∷ words_entry (codes "unhashed") p.unhashed_args
     ∷ []
 
--- the files that are read beside the input: those that a distant compiler needs, and those on whose contents the outcome depends
+-- the files that are read besides the input: those that a distant compiler needs, and those on whose contents the result
+-- depends
 abbrev pub file_entries : Parsed → List Entry
 file_entries p = words_entry (codes "dist") p.extra_dist_files ∷ words_entry (codes "hash") p.extra_hash_files ∷ []
 
--- what else was read
+-- the remaining fields
 abbrev pub switch_entries : Parsed → List Entry
 switch_entries p =
     yes_entry (codes "external-assembler") p.uses_external_assembler
@@ -117,7 +118,7 @@ abbrev pub maybe_back : List (List (List ℕ)) → Option (List ℕ)
 maybe_back [] = None
 maybe_back (rest ∷ rests) = Some (first_field rest)
 
--- a word that there always is
+-- a word of which there is always a row
 abbrev pub word_back : List (List (List ℕ)) → List ℕ
 word_back rests = unwrap_or (maybe_back rests) []
 
@@ -140,7 +141,7 @@ language_back rests = unwrap_or (find (λ l. bytes_eq (language_text l) (word_ba
 abbrev pub color_back : List (List (List ℕ)) → ColorMode
 color_back rests = unwrap_or (find (λ c. bytes_eq (color_text c) (word_back rests)) all_colors) colors.Auto
 
--- the record whose fields stand behind each name
+-- the record, from what follows each name
 abbrev pub record_by : (List ℕ → List (List (List ℕ))) → Parsed
 record_by at = record {
   input = word_back (at (codes "input"));
@@ -165,6 +166,7 @@ record_by at = record {
   too_hard_for_preprocessor_cache_mode = maybe_back (at (codes "too-hard"));
 }
 
--- the record of a text, whatever else it says and in which order its rows stand, but those of one name in theirs; C, `auto`, no and nothing where it lacks one
+-- the record of a text. Other rows are ignored, and the order of rows counts only among those with one name. A field without
+-- a row is C, `auto`, false or empty
 abbrev pub record_in : List ℕ → Parsed
 record_in text = record_by (rests_at (rows_in text))

@@ -1,4 +1,4 @@
--- Rows: lines of fields with one space between them, of which the first says what the row is.
+-- Rows: lines of fields, separated by one space. The first field says what the row is.
 use Rattle.std.specs.Prelude.{ℕ, Bool, true, false, List, [], ◌∷◌, ◌++◌, map, Option, Some, None, ◌==◌, if◌then◌else◌}
 use Rattle.std.specs.List.{flat_map, filter_map, onto_first}
 use Rattle.std.specs.Option.{option_to_list}
@@ -10,11 +10,11 @@ use Rattle.scl_description.specs.Lines.{line, lines_of}
 
 -- ---- written
 
--- fields, each behind a space
+-- fields, each after a space
 abbrev pub fields_behind : List (List ℕ) → List ℕ
 fields_behind fields = flat_map (λ field. space ∷ escaped field) fields
 
--- the text of a row, less its LF
+-- the text of a row, without its LF
 abbrev pub row_text : List (List ℕ) → List ℕ
 row_text [] = []
 row_text (field ∷ fields) = escaped field ++ fields_behind fields
@@ -25,7 +25,7 @@ rows_text rows = flat_map (λ row. line (row_text row)) rows
 
 -- ---- read
 
--- what stands between spaces
+-- the parts between spaces
 abbrev pub parts_of : List ℕ → List (List ℕ)
 parts_of [] = [] ∷ []
 parts_of (b ∷ bs) = if b == space then [] ∷ parts_of bs else onto_first b (parts_of bs)
@@ -46,14 +46,14 @@ row_of line = all_fields (parts_of line)
 abbrev pub rows_in : List ℕ → List (List (List ℕ))
 rows_in text = filter_map row_of (lines_of text)
 
--- a row can be written: it has a first field, and its fields are bytes
+-- a row that can be written: it has a first field, and its fields are bytes
 abbrev pub IsRow : List (List ℕ) → Type 0
 IsRow [] = ⊥
 IsRow (field ∷ fields) = AreAllBytes (field ∷ fields)
 
 -- ---- rows of one name
 
--- a name, and what stands behind it in each of its rows
+-- a name, and what follows it in each of its rows
 pub record Entry : Type 0 where
   pub name : List ℕ
   pub rests : List (List (List ℕ))
@@ -75,12 +75,12 @@ entry_text e = rows_text (entry_rows e)
 abbrev pub entries_text : List Entry → List ℕ
 entries_text entries = flat_map entry_text entries
 
--- what stands behind a row's first field, where that is the name
+-- what follows a row's first field, if that is the name
 abbrev pub behind : List ℕ → List (List ℕ) → List (List (List ℕ))
 behind name [] = []
 behind name (field ∷ rest) = if bytes_eq field name then rest ∷ [] else []
 
--- what stands behind the name in each of its rows, in order
+-- what follows the name in each of its rows, in order
 abbrev pub rests_at : List (List (List ℕ)) → List ℕ → List (List (List ℕ))
 rests_at rows name = flat_map (behind name) rows
 
@@ -97,11 +97,11 @@ row_entry name fields = entry name (fields ∷ [])
 abbrev pub words_entry : List ℕ → List (List ℕ) → Entry
 words_entry name words = entry name (map lone words)
 
--- a word that there may be
+-- an optional word
 abbrev pub maybe_entry : List ℕ → Option (List ℕ) → Entry
 maybe_entry name word = words_entry name (option_to_list word)
 
--- yes is a row with the name alone, and no is none
+-- true is a row with only the name, false is no row
 abbrev pub yes_rests : Bool → List (List (List ℕ))
 yes_rests true = [] ∷ []
 yes_rests false = []
@@ -109,6 +109,6 @@ yes_rests false = []
 abbrev pub yes_entry : List ℕ → Bool → Entry
 yes_entry name holds = entry name (yes_rests holds)
 
--- the name alone
+-- the name only
 abbrev pub lone_entry : List ℕ → Entry
 lone_entry name = yes_entry name true

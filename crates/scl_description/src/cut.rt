@@ -1,8 +1,8 @@
-//! Cutting bytes at a mark.
+//! Splitting bytes at a mark.
 ghost use Rattle.std.specs.Prelude.{◌≡◌, ◌<◌, ◌∷◌, [], MatchOption, IfSome, None, Some, length};
 ghost use Rattle.scl_description.specs.Lines.{cut_at, lines_of};
 
-/// What stands before the first such byte and what stands behind it.
+/// The bytes before the first mark, and those after it.
 pub fn cut_at(mark: u8, bytes: &[u8]) -> Option<(&[u8], &[u8])>
     ensures { MatchOption result (cut_at mark bytes.now ≡ None) (λ parts. cut_at mark bytes.now ≡ Some (parts.0.now, parts.1.now)) }
 {
@@ -14,7 +14,7 @@ pub fn cut_at(mark: u8, bytes: &[u8]) -> Option<(&[u8], &[u8])>
     None
 }
 
-/// The first line, and what stands behind its LF.
+/// The first line, and what follows its LF.
 pub fn next_line(bytes: &[u8]) -> Option<(&[u8], &[u8])>
     ensures lines { MatchOption result (bytes.now ≡ []) (λ p. lines_of bytes.now ≡ p.0.now ∷ lines_of p.1.now) }
     ensures shorter { IfSome result (λ p. length p.1.now < length bytes.now) }

@@ -1,4 +1,4 @@
-//! Fields: bytes that stand for themselves, and `\xHH`.
+//! Fields: plain bytes, and `\xHH` for any other.
 ghost use Rattle.std.specs.Prelude.{◌≡◌, ◌++◌, ◌<◌, length, true, false, MatchOption, IfOk, IfSome, OnOk, Some, None};
 ghost use Rattle.std.specs.List.{list_all};
 ghost use Rattle.std.specs.Option.{option_map};
@@ -9,14 +9,14 @@ use crate::cut::cut_at;
 use scl_text::Mem;
 use std::alloc::Global;
 
-/// Whether the byte stands for itself.
+/// Whether the byte is plain: written as it is.
 pub fn is_plain(byte: u8) -> bool
     ensures { result ≡ is_plain byte }
 {
     0x21 <= byte && byte <= 0x7e && byte != b'\\'
 }
 
-/// The bytes up to the first that does not stand for itself, and those from it on.
+/// The plain bytes at the front, and the rest.
 fn plain_prefix(bytes: &[u8]) -> (&[u8], &[u8])
     ensures plain { list_all is_plain result.0.now ≡ true }
     ensures ends { starts_plain result.1.now ≡ false }
@@ -30,7 +30,7 @@ fn plain_prefix(bytes: &[u8]) -> (&[u8], &[u8])
     (bytes, &[])
 }
 
-/// The hexadecimal digit of a number below sixteen.
+/// The hexadecimal digit of a number below 16.
 fn digit_of(number: u8) -> u8
     requires { number < 16 }
     ensures { result ≡ digit_of number }
@@ -42,7 +42,7 @@ fn digit_of(number: u8) -> u8
     }
 }
 
-/// Appends a byte that does not stand for itself, as it stands in a field.
+/// Appends a byte that is not plain, escaped.
 fn push_escape(text: &mut Vec<u8>, byte: u8) -> Mem<()>
     requires { is_plain byte ≡ false }
     ensures { OnOk result (text.new.items ≡ text.old.items ++ escape byte) }
@@ -50,7 +50,7 @@ fn push_escape(text: &mut Vec<u8>, byte: u8) -> Mem<()>
     text.extend_from_slice(&[b'\\', b'x', digit_of(byte / 16), digit_of(byte % 16)])
 }
 
-/// Appends bytes as they stand in a field.
+/// Appends bytes as a field.
 pub fn push_field(text: &mut Vec<u8>, bytes: &[u8]) -> Mem<()>
     ensures { OnOk result (text.new.items ≡ text.old.items ++ escaped bytes.now) }
 {
@@ -88,7 +88,7 @@ fn escaped_byte(backslash: u8, letter: u8, high: u8, low: u8) -> Option<u8>
     }
 }
 
-/// The byte of the escape that a field's text begins with, and the text behind it.
+/// The byte of the escape at the front of a field's text, and the text after it.
 fn first_escape(text: &[u8]) -> Option<(u8, &[u8])>
     requires some { 0 < length text.now }
     requires escape { starts_plain text.now ≡ false }
@@ -103,7 +103,7 @@ fn first_escape(text: &[u8]) -> Option<(u8, &[u8])>
     }
 }
 
-/// The bytes that a field's text stands for.
+/// The bytes that a field's text means.
 pub fn read_field(alloc: Global, text: &[u8]) -> Mem<Option<Vec<u8>>>
     ensures { IfOk result (λ field. option_map (λ bytes. bytes.items) field ≡ field_of text.now) }
 {

@@ -1,5 +1,5 @@
-//! Descriptions: rows of escaped fields, and the record of a command line as such rows. It has the lines and fields of
-//! requests and answers too.
+//! Descriptions: rows of escaped fields, and the record of a command line as such rows. Requests and answers use these lines
+//! and fields too.
 #![tactic(auto)]
 
 mod cut;

@@ -33,7 +33,7 @@ fn language_name(language: Language) -> &'static str
     }
 }
 
-/// The name of whether diagnostics are coloured.
+/// The name of a colour mode in a description.
 fn color_name(mode: ColorMode) -> &'static str
     ensures { result.now ≡ color_text mode }
 {
@@ -78,7 +78,7 @@ fn push_source(text: &mut Vec<u8>, parsed: &ParsedArguments) -> Mem<()>
     Ok(())
 }
 
-/// Appends the rows of what is made.
+/// Appends the rows of the outputs and of the dependency file.
 fn push_made(text: &mut Vec<u8>, parsed: &ParsedArguments) -> Mem<()>
     ensures { OnOk result (text.new.items ≡ text.old.items ++ entries_text (output_entries (parsed_of parsed.now))) }
 {
@@ -98,7 +98,7 @@ fn push_lists(text: &mut Vec<u8>, parsed: &ParsedArguments) -> Mem<()>
     Ok(())
 }
 
-/// Appends the rows of the files that are read beside the input.
+/// Appends the rows of the files that are read besides the input.
 fn push_files(text: &mut Vec<u8>, parsed: &ParsedArguments) -> Mem<()>
     ensures { OnOk result (text.new.items ≡ text.old.items ++ entries_text (file_entries (parsed_of parsed.now))) }
 {
@@ -106,7 +106,7 @@ fn push_files(text: &mut Vec<u8>, parsed: &ParsedArguments) -> Mem<()>
     push_words(text, "hash", &parsed.extra_hash_files)
 }
 
-/// Appends the rows of what else was read.
+/// Appends the rows of the remaining fields.
 fn push_switches(text: &mut Vec<u8>, parsed: &ParsedArguments) -> Mem<()>
     ensures { OnOk result (text.new.items ≡ text.old.items ++ entries_text (switch_entries (parsed_of parsed.now))) }
 {
@@ -128,8 +128,7 @@ fn push_switches(text: &mut Vec<u8>, parsed: &ParsedArguments) -> Mem<()>
     Ok(())
 }
 
-/// Appends the rows of a record, which is read back from them (`laws::of_descriptions`; docs/RULES.md, Descriptions). It
-/// fails only for want of memory.
+/// Appends the rows of a record; it is read back from them (`laws::of_descriptions`; docs/RULES.md, Descriptions).
 pub fn push_record(text: &mut Vec<u8>, parsed: &ParsedArguments) -> Mem<()>
     ensures { OnOk result (text.new.items ≡ text.old.items ++ description_of (parsed_of parsed.now)) }
 {

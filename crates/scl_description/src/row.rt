@@ -1,4 +1,4 @@
-//! Rows: lines of escaped fields with one space between them, of which the first says what the row is.
+//! Rows: lines of escaped fields, separated by one space. The first field says what the row is.
 ghost use Rattle.std.specs.Prelude.{◌≡◌, ◌++◌, ◌∷◌, map, OnOk};
 ghost use Rattle.std.specs.Option.{option_copied};
 ghost use Rattle.scl_files.specs.Characters.{space};
@@ -9,7 +9,7 @@ ghost use Rattle.scl_description.specs.Rows.{fields_behind, entry_text, lone, ro
 use crate::field::push_field;
 use scl_text::Mem;
 
-/// Appends a field behind a space.
+/// Appends a field after a space.
 fn push_behind(text: &mut Vec<u8>, field: &[u8]) -> Mem<()>
     ensures { OnOk result (text.new.items ≡ text.old.items ++ space ∷ escaped field.now) }
 {
@@ -17,7 +17,7 @@ fn push_behind(text: &mut Vec<u8>, field: &[u8]) -> Mem<()>
     push_field(text, field)
 }
 
-/// Appends fields, each behind a space.
+/// Appends fields, each after a space.
 fn push_all_behind(text: &mut Vec<u8>, fields: &[&[u8]]) -> Mem<()>
     ensures { OnOk result (text.new.items ≡ text.old.items ++ fields_behind (map (λ field. field.now) fields.now)) }
 {
@@ -27,7 +27,7 @@ fn push_all_behind(text: &mut Vec<u8>, fields: &[&[u8]]) -> Mem<()>
     Ok(())
 }
 
-/// Appends words, each behind a space.
+/// Appends words, each after a space.
 fn push_words_behind(text: &mut Vec<u8>, words: &[Vec<u8>]) -> Mem<()>
     ensures { OnOk result (text.new.items ≡ text.old.items ++ fields_behind (words_of words.now)) }
 {
@@ -37,7 +37,7 @@ fn push_words_behind(text: &mut Vec<u8>, words: &[Vec<u8>]) -> Mem<()>
     Ok(())
 }
 
-/// Appends the row of a name and of the fields behind it (docs/RULES.md, Descriptions). It fails only for want of memory.
+/// Appends a row with this name and these fields (docs/RULES.md, Descriptions).
 #[tactic(auto, unfolding(crate::specs::Rows::entry_text))]
 pub fn push_row(text: &mut Vec<u8>, name: &str, fields: &[&[u8]]) -> Mem<()>
     ensures { OnOk result (text.new.items ≡ text.old.items ++ entry_text (row_entry name.now (map (λ field. field.now) fields.now))) }
@@ -48,14 +48,14 @@ pub fn push_row(text: &mut Vec<u8>, name: &str, fields: &[&[u8]]) -> Mem<()>
     Ok(())
 }
 
-/// Appends the row of a name and of the word behind it. It fails only for want of memory.
+/// Appends a row with this name and this word.
 pub fn push_word(text: &mut Vec<u8>, name: &str, word: &[u8]) -> Mem<()>
     ensures { OnOk result (text.new.items ≡ text.old.items ++ entry_text (row_entry name.now (lone word.now))) }
 {
     push_row(text, name, &[word])
 }
 
-/// Appends the row of a name and of the words behind it. It fails only for want of memory.
+/// Appends a row with this name and these words.
 #[tactic(auto, unfolding(crate::specs::Rows::entry_text))]
 pub fn push_row_of(text: &mut Vec<u8>, name: &str, words: &[Vec<u8>]) -> Mem<()>
     ensures { OnOk result (text.new.items ≡ text.old.items ++ entry_text (row_entry name.now (words_of words.now))) }
@@ -66,7 +66,7 @@ pub fn push_row_of(text: &mut Vec<u8>, name: &str, words: &[Vec<u8>]) -> Mem<()>
     Ok(())
 }
 
-/// Appends a row of the name for each word. It fails only for want of memory.
+/// Appends for each word a row with this name.
 #[tactic(auto, unfolding(crate::specs::Rows::entry_text))]
 pub fn push_words(text: &mut Vec<u8>, name: &str, words: &[Vec<u8>]) -> Mem<()>
     ensures { OnOk result (text.new.items ≡ text.old.items ++ entry_text (words_entry name.now (words_of words.now))) }
@@ -77,7 +77,7 @@ pub fn push_words(text: &mut Vec<u8>, name: &str, words: &[Vec<u8>]) -> Mem<()>
     Ok(())
 }
 
-/// Appends the row of a word, if there is one. It fails only for want of memory.
+/// Appends the row of a word, if there is one.
 #[tactic(auto, unfolding(crate::specs::Rows::entry_text))]
 pub fn push_maybe(text: &mut Vec<u8>, name: &str, word: Option<&[u8]>) -> Mem<()>
     ensures { OnOk result (text.new.items ≡ text.old.items ++ entry_text (maybe_entry name.now (option_copied word.entry))) }
@@ -88,7 +88,7 @@ pub fn push_maybe(text: &mut Vec<u8>, name: &str, word: Option<&[u8]>) -> Mem<()
     }
 }
 
-/// Appends the row of a name alone, where it holds. It fails only for want of memory.
+/// Appends a row with only the name, if it holds.
 #[tactic(auto, unfolding(crate::specs::Rows::entry_text))]
 pub fn push_yes(text: &mut Vec<u8>, name: &str, holds: bool) -> Mem<()>
     ensures { OnOk result (text.new.items ≡ text.old.items ++ entry_text (yes_entry name.now holds)) }

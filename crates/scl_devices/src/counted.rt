@@ -8,8 +8,8 @@ use std::io;
 use std::io::{Read, Write};
 use std::marker::Model;
 
-/// A reader or writer, with the number of its calls of `read` or `write`, and of those that failed: docs/RULES.md, Devices.
-/// A number stays at its greatest value. A clause sees the device and the numbers.
+/// A reader or writer that counts its calls of `read` or `write`, and those that failed (docs/RULES.md, Devices). A count
+/// stops at its greatest value. A clause sees the device and both counts.
 #[derive(Drop)]
 pub struct Counted<D> {
     device: D,
@@ -26,7 +26,7 @@ impl<D> Model for Counted<D> {
 }
 
 impl<D> Counted<D> {
-    /// Holds a reader or writer that had no call yet: docs/RULES.md, Devices.
+    /// Wraps a reader or writer, with both counts at 0 (docs/RULES.md, Devices).
     pub fn new(device: D) -> Counted<D>
         ensures device { result.device ≡ device }
         ensures no_calls { result.calls ≡ 0 }
@@ -39,14 +39,14 @@ impl<D> Counted<D> {
         }
     }
 
-    /// How many calls of `read` or `write` there were: docs/RULES.md, Devices.
+    /// The number of calls of `read` or `write` (docs/RULES.md, Devices).
     pub fn calls(&self) -> u64
         ensures { result ≡ self.now.calls }
     {
         self.calls
     }
 
-    /// How many calls of `read` or `write` failed: docs/RULES.md, Devices.
+    /// The number of these calls that failed (docs/RULES.md, Devices).
     pub fn failures(&self) -> u64
         ensures { result ≡ self.now.failed }
     {

@@ -1,4 +1,5 @@
-//! A reader and a writer over slices that give and take some bytes a call, and fail after some calls.
+//! A reader and a writer over slices: each call moves a limited number of bytes, and after a set number of calls each call
+//! fails.
 ghost use Rattle.std.specs.Prelude.{◌≡◌, ◌-◌, ◌↔◌, ◌++◌, [], length, take, drop, Some, IsErr, IsOk, IfOk, IfErr, OnErr};
 ghost use Rattle.std.specs.Io.{ReadsAtMost, WritesAtMost};
 ghost use Rattle.std.specs.Io.KnownBytes.{ReadConsumes, WriteAppends, Keeps};
@@ -9,8 +10,8 @@ use std::io;
 use std::io::{ErrorKind, Read, Write};
 use std::marker::Model;
 
-/// A reader of bytes that gives at most so many a call, and fails after so many calls; it takes no memory
-/// (docs/RULES.md, Devices). A clause sees the bytes and the calls that are left, and the most of a call.
+/// A reader over a slice, without allocation: a call gives at most `most` bytes, and fails when no calls are left
+/// (docs/RULES.md, Devices). A clause sees the bytes and the calls that are left, and `most`.
 #[derive(Drop)]
 pub struct FailingReader<'a> {
     bytes: &'a [u8],
@@ -27,7 +28,7 @@ impl<'a> Model for FailingReader<'a> {
 }
 
 impl<'a> FailingReader<'a> {
-    /// Gives these bytes, at most `most` of them a call, and fails after so many calls, or at once where `most` is 0
+    /// Reads these bytes, at most `most` in a call. After `calls` calls each call fails; if `most` is 0, each call fails
     /// (docs/RULES.md, Devices).
     pub fn new(bytes: &'a [u8], most: usize, calls: u64) -> FailingReader<'a>
         ensures { result ≡ record { bytes = bytes.now; most = most; calls = calls } }
@@ -61,9 +62,8 @@ impl Read for FailingReader<'_> {
     }
 }
 
-/// A writer into a slice that takes at most so many bytes a call, and fails after so many calls; it takes no memory
-/// (docs/RULES.md, Devices). A clause sees the bytes that were taken, the rest of the slice, the calls that are left, and
-/// the most of a call.
+/// A writer into a slice, without allocation: a call takes at most `most` bytes, and fails when no calls are left
+/// (docs/RULES.md, Devices). A clause sees the bytes taken, the rest of the slice, the calls that are left, and `most`.
 #[derive(Drop)]
 pub struct FailingWriter<'a> {
     slice: &'a mut [u8],
@@ -84,8 +84,8 @@ impl<'a> Model for FailingWriter<'a> {
 }
 
 impl<'a> FailingWriter<'a> {
-    /// Takes bytes to the front of the slice, at most `most` of them a call and as many as fit, and fails after so
-    /// many calls (docs/RULES.md, Devices).
+    /// Writes to the front of the slice, at most `most` bytes in a call and as many as fit. After `calls` calls each call
+    /// fails (docs/RULES.md, Devices).
     pub fn new(slice: &'a mut [u8], most: usize, calls: u64) -> FailingWriter<'a>
         ensures { result ≡ record { bytes = []; rest = slice.old; most = most; calls = calls } }
     {
@@ -97,7 +97,7 @@ impl<'a> FailingWriter<'a> {
         }
     }
 
-    /// The bytes that were taken, in order (docs/RULES.md, Devices).
+    /// The bytes taken so far, in order (docs/RULES.md, Devices).
     pub fn taken(&self) -> &[u8]
         ensures { result.now ≡ self.now.bytes }
     {

@@ -1,4 +1,4 @@
-//! Readers and writers that count what fails, that fail where one says, and whole texts that are written.
+//! Readers and writers that count failures, readers and writers that fail on purpose, and writing a whole text.
 #![tactic(auto)]
 
 mod counted;

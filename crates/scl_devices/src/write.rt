@@ -4,14 +4,14 @@ ghost use Rattle.scl_devices.specs.Writes.{WriteEnds};
 use crate::counted::Counted;
 use std::io::Write;
 
-/// That a writer failed, with the length of the beginning of the text that went out before.
+/// A write failed: how much of the text the writer took before.
 #[derive(Debug, Clone, Copy, PartialEq, Eq)]
 pub struct WriteFault {
-    /// How many bytes of the text went out before.
+    /// The number of bytes that the writer took before the failed write.
     pub written: u64,
 }
 
-/// Writes a whole text, or tells how much of it went out before the writer failed (docs/RULES.md, Devices).
+/// Writes the whole text. If a write fails, the fault says how many bytes the writer took before (docs/RULES.md, Devices).
 pub fn write_whole<W: Write>(writer: &mut Counted<W>, text: &[u8]) -> Result<(), WriteFault>
     ensures { WriteEnds (W.contents writer.old.device) (W.contents writer.new.device) writer.old.failed writer.new.failed text.now result }
 {

@@ -1,4 +1,4 @@
--- Texts that are held once serve as those that are put in place.
+-- For a test of texts, those held once are as good as those of the expanded files.
 use Rattle.std.proofs.Common.{◌≡◌, ℕ, zero, suc, ◌||◌, ◌&&◌, Bool, true, false, cond, not, filter, List, [], ◌∷◌, ◌++◌, length, Option, None, Some, refl, sym, ap, ◌∙◌}
 use Rattle.std.proofs.lemmas.Bool.{false≢true}
 use Rattle.std.proofs.lemmas.List.Folds.{list_all-append, list_any-append}
@@ -18,7 +18,7 @@ use Rattle.scl_driver_texts.specs.InPlace.{texts_in_place, texts_within, with_te
 
 -- ---- the paths that are opened are those of the texts
 
--- there is a file at each of the paths
+-- each of the paths has a file
 abbrev all_found : List File → List (List ℕ) → Bool
 all_found files paths = list_all (λ path. is_some (bytes_at path files)) paths
 
@@ -35,7 +35,7 @@ found-inside kind other path files h =
     let inside = bytes_at-inside kind path other files in
     inside ∙ shown (hides kind other path) (bytes_at path files) (ap is_some (sym inside) ∙ h)
 
--- what is found inside a file is found outside, and is the same
+-- what is found inside a file is also found outside, with the same bytes
 inside-outside : (kind : ExpansionKind) (other : List ℕ) (files : List File) (paths : List (List ℕ)) → all_found (files_inside kind other files) paths ≡ true
     → (all_found files paths ≡ true) × (texts_at (files_inside kind other files) paths ≡ texts_at files paths)
 inside-outside kind other files [] h = (refl, refl)
@@ -98,7 +98,7 @@ another : (x y kept all : Bool) → (x || kept) ≡ (x || all) → (x || (y || k
 another true y kept all h = refl
 another false y kept all h = ap (λ b. y || b) h
 
--- a test that tells no two of one place apart
+-- a test with the same result for paths with the same components
 module _ (q : List ℕ → Bool) (alike : (a b : List ℕ) → same_path a b ≡ true → q a ≡ q b) where
   any-others : (path : List ℕ) (paths : List (List ℕ)) → (q path || list_any q (filter (λ other. not (same_path path other)) paths)) ≡ (q path || list_any q paths)
   any-others path [] = refl

@@ -1,4 +1,4 @@
--- Words that are compared.
+-- Comparing words.
 use Rattle.std.proofs.Common.{◌≡◌, ◌&&◌, List, [], ◌∷◌, ℕ, nat_eq, Vec, refl, ap}
 use Rattle.std.specs.declared.alloc.Global.{Global}
 use lib.Pointwise.{pointwise}

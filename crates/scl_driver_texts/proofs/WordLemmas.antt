@@ -1,4 +1,4 @@
--- Bytes before a byte 0, and what readers make of bytes that come.
+-- Bytes before a byte 0, and what readers do with the bytes to come.
 use Rattle.std.proofs.Common.{◌≡◌, ◌≢◌, ℕ, zero, suc, ◌<◌, ◌≤◌, ◌==◌, ltb, true, false, cond, List, ◌∷◌, None, Some, Result, Ok, Err, OnOk, position, take, length, refl, arith}
 use Rattle.std.proofs.lemmas.Bool.{ltb-true, false≢true}
 use Rattle.std.proofs.lemmas.Grind.{common_steps}
@@ -31,12 +31,12 @@ inside-some bytes i h = (some_position bytes i h).1
 
 pub ruleset nul_rules = (before-some, before-none, inside-some)
 
--- some backslashes are an item
+-- at least one backslash is an item
 pub slashes-some : (n : ℕ) (is : List Item) → n ≢ 0 → slashes n is ≡ taken (backslashes n) ∷ is
 slashes-some zero is h = absurd (h refl)
 slashes-some (suc n) is h = refl
 
--- what follows from a fact that holds on success
+-- an implication between facts that hold on success
 pub on_ok : {A E : Type 0} {P Q : Type 0} (r : Result A E) → (P → Q) → OnOk r P → OnOk r Q
 on_ok (Ok x) f h = f h
 on_ok (Err e) f h = tt

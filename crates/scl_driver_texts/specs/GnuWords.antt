@@ -14,12 +14,13 @@ separates dialects.Llvm c = c == space || c == tab || c == line_feed || c == car
 abbrev pub is_quote : ℕ → Bool
 is_quote c = c == single_quote || c == double_quote
 
--- what a backslash at the end of the text takes: nothing, or itself
+-- what a backslash at the end of the text becomes: nothing, or itself
 abbrev pub at_end : Dialect → List ℕ
 at_end dialects.Libiberty = []
 at_end dialects.Llvm = backslash ∷ []
 
--- a backslash takes the byte behind it, in quotes of either kind too; the flag says that one stands before these bytes
+-- a backslash escapes the byte after it, in quotes of either kind too; the flag says whether there is a backslash before
+-- these bytes
 abbrev pub items : Dialect → Bool → List ℕ → List Item
 items d true [] = taken (at_end d) ∷ []
 items d false [] = []
@@ -38,10 +39,10 @@ pieces d None (bare c ∷ is) =
 unfoldable pub gnu_words : Dialect → List ℕ → List (List ℕ)
 gnu_words d text = joined None (pieces d None (items d false text))
 
--- of gcc: the text ends at a byte 0, and quotes alone are a word
+-- gcc: the text ends at its first byte 0; empty quotes are an empty word
 unfoldable pub libiberty_words : List ℕ → List (List ℕ)
 libiberty_words text = gnu_words dialects.Libiberty (before_nul text)
 
--- of clang: quotes alone are no word, and each word ends at a byte 0
+-- clang: empty words are dropped; then each word ends at its first byte 0
 unfoldable pub llvm_words : List ℕ → List (List ℕ)
 llvm_words text = map before_nul (filter is_not_empty (gnu_words dialects.Llvm text))

@@ -1,4 +1,4 @@
--- What contracts of public functions cite.
+-- What the contracts of public functions cite.
 pub mod GnuWords
 pub mod InPlace
 pub mod InPlaceLaws
@@ -6,5 +6,5 @@ pub mod Otherwise
 pub mod Pieces
 pub mod Splitters
 pub mod WindowsWords
--- What only contracts of private functions cite: how the code keeps what those above speak of.
+-- What only the contracts of private functions cite: how the code stores what the definitions above say.
 pub mod Readers

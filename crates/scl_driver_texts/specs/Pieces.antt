@@ -11,18 +11,18 @@ vertical_tab = 11
 abbrev pub is_nul : ℕ → Bool
 is_nul c = c == nul
 
--- a byte that may mean more than itself, or bytes that a backslash made plain
+-- a byte that may have a meaning, or bytes that a backslash made plain
 pub data Item : Type 0 where
   bare : ℕ → Item
   taken : List ℕ → Item
 
--- a gap between words, bytes of a word, or the end of a text inside quotes, by which the word is lost
+-- a gap between words, bytes of a word, or the end of a text inside quotes, which drops the word
 pub data Piece : Type 0 where
   gap : Piece
   stands : List ℕ → Piece
   lost : Piece
 
--- the bytes of a word that may have begun, and more of it
+-- the bytes of a word, which may have begun, and more of it
 abbrev pub begun_with : Option (List ℕ) → List ℕ → List ℕ
 begun_with None bytes = bytes
 begun_with (Some before) bytes = before ++ bytes
@@ -32,7 +32,7 @@ abbrev pub kept : Option (List ℕ) → List (List ℕ) → List (List ℕ)
 kept None words = words
 kept (Some word) words = word ∷ words
 
--- what stands between gaps, joined, where a word may have begun
+-- what is between gaps, joined; a word may have begun
 abbrev pub joined : Option (List ℕ) → List Piece → List (List ℕ)
 joined begun [] = kept begun []
 joined begun (gap ∷ ps) = kept begun (joined None ps)

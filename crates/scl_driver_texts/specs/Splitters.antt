@@ -1,4 +1,4 @@
--- The splitters of the compilers' drivers, and the texts that they split otherwise than the rules.
+-- The splitters of the compilers' drivers, and the texts that they split differently than the rules.
 use Rattle.std.specs.Prelude.{ℕ, nat_eq, ◌||◌, Bool, false, cond, not, List, [], ◌∷◌, drop, Option, None, Some}
 use Rattle.std.specs.List.{starts_with}
 use Rattle.std.specs.Option.{option_map}
@@ -9,7 +9,7 @@ use Rattle.scl_driver_texts.specs.WindowsWords.{windows_words}
 use Rattle.scl_driver_texts.specs.declared.splitter.Splitter.{Splitter}
 use Rattle.scl_driver_texts.specs.declared.splitter.Splitter.TheVariants as splitters
 
--- what LLVM reads of a file: a mark is left out, and UTF-16 behind one is made UTF-8; none if that is malformed
+-- what LLVM reads of a file: without its mark; UTF-16 after a mark is converted to UTF-8, and none if it is malformed
 unfoldable pub llvm_text : List ℕ → Option (List ℕ)
 llvm_text bytes =
     cond (starts_with nat_eq bytes utf8_mark) (Some (drop 3 bytes))

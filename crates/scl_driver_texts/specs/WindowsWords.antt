@@ -17,14 +17,15 @@ abbrev pub slashes : ℕ → List Item → List Item
 slashes zero is = is
 slashes (suc n) is = taken (backslashes (suc n)) ∷ is
 
--- behind n backslashes: of those before a quote each two are one, and an odd one makes the quote plain; all others are themselves
+-- after n backslashes: before a quote each two of them are one, and an odd one makes the quote plain; all others are
+-- themselves
 abbrev pub items : ℕ → List ℕ → List Item
 items n [] = slashes n []
 items n (c ∷ cs) =
     cond (c == backslash) (items (n + 1) cs)
     (cond (c == double_quote) (slashes (n / 2) (cond (is_even n) (bare c) (taken (c ∷ [])) ∷ items 0 cs)) (slashes n (bare c ∷ items 0 cs)))
 
--- bare quotes open and close, but two in one place inside quotes are a plain one; outside quotes, bare white space is a gap
+-- bare quotes open and close, but two in a row inside quotes are one plain quote; outside quotes, bare white space is a gap
 abbrev pub pieces : Place → List Item → List Piece
 pieces places.Outside [] = []
 pieces places.Outside (taken bytes ∷ is) = stands bytes ∷ pieces places.Outside is

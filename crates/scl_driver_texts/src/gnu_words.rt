@@ -9,7 +9,7 @@ use crate::words::Words;
 use scl_values::Mem;
 use std::alloc::Global;
 
-/// Whose splitter.
+/// The driver whose splitter it is.
 #[derive(Clone, Copy)]
 pub(crate) enum Dialect {
     Libiberty,
@@ -26,7 +26,7 @@ impl Dialect {
         }
     }
 
-    /// What a backslash at the end of the text takes.
+    /// What a backslash at the end of the text becomes.
     fn at_end(self) -> &'static [u8]
         ensures { result.now ≡ at_end self }
     {
@@ -43,7 +43,7 @@ fn is_quote(byte: u8) -> bool
     byte == b'\'' || byte == b'"'
 }
 
-/// The words so far, and where the next byte stands.
+/// The words so far, and the context of the next byte.
 #[derive(Drop)]
 pub(crate) struct Reader {
     dialect: Dialect,
@@ -53,7 +53,7 @@ pub(crate) struct Reader {
 }
 
 impl Reader {
-    /// Reads a byte that no backslash takes, outside quotes.
+    /// Reads a byte outside quotes that is not escaped.
     fn step_outside(&mut self, byte: u8) -> Mem<()>
         requires bare { self.old.is_taken ≡ false }
         requires outside { self.old.quote ≡ None }
@@ -125,7 +125,7 @@ fn nul_at(bytes: &[u8]) -> Option<usize>
     bytes.iter().position(|byte| *byte == 0)
 }
 
-/// A string as C reads it: what stands before its first byte 0.
+/// A string as C reads it: the bytes before the first 0.
 #[tactic(auto, using(crate::proofs::WordLemmas::nul_rules))]
 fn before_nul(bytes: &[u8]) -> &[u8]
     ensures { result.now ≡ before_nul bytes.now }

@@ -1,4 +1,4 @@
-//! How the drivers of gcc, clang and clang-cl split the texts of response files, and which of these they split otherwise than
+//! How the drivers of gcc, clang and clang-cl split the texts of response files, and which texts they split differently than
 //! the rules.
 #![tactic(auto)]
 

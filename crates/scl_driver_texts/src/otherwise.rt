@@ -1,4 +1,4 @@
-//! Texts that a driver splits otherwise than the rules.
+//! Texts that a driver splits differently than the rules.
 ghost use Rattle.std.specs.Prelude.{◌≡◌, IfOk};
 ghost use Rattle.scl_values.specs.Words.{words_of};
 ghost use Rattle.scl_driver_texts.specs.Splitters.{are_same, is_otherwise};
@@ -15,7 +15,7 @@ fn are_same(words: &[Vec<u8>], others: &[Vec<u8>]) -> bool
     words == others
 }
 
-/// Whether the driver does not split the file's bytes into these words.
+/// Whether the driver splits the file's bytes into other words than these, or into none.
 fn is_otherwise(alloc: Global, splitter: Splitter, bytes: &[u8], words: &[Vec<u8>]) -> Mem<bool>
     ensures { IfOk result (λ it_is. it_is ≡ is_otherwise splitter bytes.now (words_of words.now)) }
 {
@@ -25,8 +25,8 @@ fn is_otherwise(alloc: Global, splitter: Splitter, bytes: &[u8], words: &[Vec<u8
     }
 }
 
-/// Whether the driver splits the bytes of a response file otherwise than the rules, by which they are a text that can be read.
-/// The error is a refusal of memory.
+/// Whether the driver splits the bytes of a response file differently than the rules. The answer is no if by the rules the
+/// bytes are no text that can be read.
 #[tactic(auto, unfolding(crate::specs::Otherwise::is_split_otherwise))]
 pub fn is_split_otherwise(
     alloc: Global,
@@ -42,7 +42,7 @@ pub fn is_split_otherwise(
     }
 }
 
-/// Whether the driver splits one of the texts of response files otherwise. The error is a refusal of memory.
+/// Whether the driver splits one of the texts of response files differently than the rules.
 #[tactic(auto, unfolding(crate::specs::Otherwise::splits_otherwise))]
 pub fn splits_otherwise(
     alloc: Global,

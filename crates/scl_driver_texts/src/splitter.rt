@@ -10,7 +10,7 @@ use scl_files::read_text;
 use scl_values::Mem;
 use std::alloc::Global;
 
-/// Whose splitter.
+/// A compiler's splitter.
 #[derive(Clone, Copy, Debug, PartialEq, Eq)]
 pub enum Splitter {
     /// gcc's: `buildargv` of libiberty, as gcc 12 has it.
@@ -36,8 +36,7 @@ fn llvm_text(alloc: Global, bytes: &[u8]) -> Mem<Option<Vec<u8>>>
     }
 }
 
-/// The words of a response file's bytes, as the driver splits them; none where it stops at bytes that are no text. The error
-/// is a refusal of memory.
+/// The words of a response file's bytes, as the driver splits them; none if it stops at bytes that are no text.
 #[tactic(auto, unfolding(crate::specs::Splitters::split))]
 pub fn split(alloc: Global, splitter: Splitter, bytes: &[u8]) -> Mem<Option<Vec<Vec<u8>>>>
     ensures { IfOk result (λ words. option_map (λ w. words_of w.items) words ≡ split splitter bytes.now) }

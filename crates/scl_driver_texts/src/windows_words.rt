@@ -15,16 +15,16 @@ fn is_windows_separator(byte: u8) -> bool
     matches!(byte, b' ' | b'\t' | b'\n' | b'\r' | 0)
 }
 
-/// Where an item stands.
+/// The context of an item.
 #[derive(Clone, Copy)]
 pub(crate) enum Place {
     Outside,
     Inside,
-    /// Behind a bare quote inside, which closes unless one more follows.
+    /// After a bare quote inside quotes; it closes them unless another quote follows.
     Closing,
 }
 
-/// The words so far, where the next item stands, and the backslashes before it.
+/// The words so far, the context of the next item, and the backslashes before it.
 #[derive(Drop)]
 pub(crate) struct WindowsReader {
     alloc: Global,
@@ -34,7 +34,7 @@ pub(crate) struct WindowsReader {
 }
 
 impl WindowsReader {
-    /// Reads bytes that are plain.
+    /// Reads plain bytes.
     fn take(&mut self, bytes: &[u8]) -> Mem<()>
         ensures come { OnOk result ((is : List Item) → to_come self.new is ≡ to_come self.old (taken bytes.now ∷ is)) }
         ensures kept { self.new.backslashes ≡ self.old.backslashes }
@@ -46,7 +46,7 @@ impl WindowsReader {
         self.words.stand(bytes)
     }
 
-    /// Reads backslashes that are plain.
+    /// Reads plain backslashes.
     fn slashes(&mut self, count: usize) -> Mem<()>
         ensures come { OnOk result ((is : List Item) → to_come self.new is ≡ to_come self.old (slashes count is)) }
         ensures kept { self.new.backslashes ≡ self.old.backslashes }
@@ -98,7 +98,7 @@ impl WindowsReader {
         }
     }
 
-    /// Reads a quote behind the backslashes.
+    /// Reads a quote after the backslashes.
     fn quote_behind(&mut self, count: usize) -> Mem<()>
         requires { self.old.backslashes ≡ 0 }
         ensures come { OnOk result ((rest : List ℕ) → left_in_windows self.new rest ≡ left_in_windows (record self.old { backslashes = count }) (34 ∷ rest)) }

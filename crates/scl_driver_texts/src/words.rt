@@ -1,4 +1,4 @@
-//! Words that are made piece by piece.
+//! Words that are built piece by piece.
 ghost use Rattle.std.specs.Prelude.{◌≡◌, List, [], ◌∷◌, None, OnOk, IfOk};
 ghost use Rattle.scl_values.specs.Words.{words_of};
 ghost use Rattle.scl_driver_texts.specs.Pieces.{Piece, gap, stands, lost, joined};
@@ -7,7 +7,7 @@ ghost use Rattle.scl_driver_texts.specs.Readers.{made};
 use scl_values::Mem;
 use std::alloc::Global;
 
-/// The words that are whole, and the one that has begun.
+/// The complete words, and the one that has begun.
 #[derive(Drop)]
 pub(crate) struct Words {
     alloc: Global,
@@ -26,7 +26,7 @@ impl Words {
         }
     }
 
-    /// More bytes of a word.
+    /// Appends bytes to a word, which begins with them if none has begun.
     pub(crate) fn stand(&mut self, bytes: &[u8]) -> Mem<()>
         ensures { OnOk result ((ps : List Piece) → made self.new ps ≡ made self.old (stands bytes.now ∷ ps)) }
     {
@@ -37,7 +37,7 @@ impl Words {
         Ok(())
     }
 
-    /// A gap.
+    /// Ends the word, if one has begun.
     pub(crate) fn end(&mut self) -> Mem<()>
         ensures made { OnOk result ((ps : List Piece) → made self.new ps ≡ made self.old (gap ∷ ps)) }
         ensures none { OnOk result (self.new.begun ≡ None) }
@@ -48,7 +48,7 @@ impl Words {
         Ok(())
     }
 
-    /// The word that has begun is lost.
+    /// Drops the word that has begun.
     pub(crate) fn lose(&mut self)
         ensures { made self.new [] ≡ made self.old (lost ∷ []) }
     {

@@ -74,7 +74,7 @@ apart_paths kinds.Gnu path other h = h
 apart_paths kinds.Msvc path other h = absurd (false≢true (sym h))
 apart_paths kinds.Diab path other h = h
 
--- what a file may name is apart from it, and is found with it
+-- a file's words can't name that file, and each file that they name is found among the files
 apart : (kind : ExpansionKind) (path other : List ℕ) (files : List File) → is_some (bytes_at other (files_inside kind path files)) ≡ true → (same_path path other ≡ false) × (is_some (bytes_at other files) ≡ true)
 apart kind path other files h =
     let parts = found_apart (hides kind path other) (bytes_at other files) (rw (bytes_at-inside kind other path files) at h) in

@@ -34,7 +34,7 @@ within-stable (suc n) (suc m) kind directory files words h k =
     flat_map-same _ _ words (λ word. in_place-same word _ _ (opened kind directory files word)
     (λ file e. let less = opened-less kind directory files word file e in within-stable n m kind directory (files_inside kind file.path files) file.words (omega (arith, less)) (omega (arith, less))))
 
--- a word gives itself or what stands in its file, and then come the others
+-- a word gives itself or what is in its file, and then the others follow
 pub expand-cons : (kind : ExpansionKind) (directory : List ℕ) (files : List File) (word : List ℕ) (words : List (List ℕ))
     → expand kind directory files (word ∷ words) ≡ in_place word (λ file. expand kind directory (files_inside kind file.path files) file.words) (opened kind directory files word) ++ expand kind directory files words
 unfolding expand

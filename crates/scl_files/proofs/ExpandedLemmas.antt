@@ -1,4 +1,4 @@
--- What is known of words before they are cut: of a walk over them, and of words that stand.
+-- What is known of words before they are cut: of a walk over them, and of words that are not expanded.
 use Rattle.std.proofs.Common.{◌≡◌, ℕ, suc, ◌+◌, ◌<◌, ◌≤◌, ◌&&◌, ◌||◌, Bool, true, false, List, [], ◌∷◌, ◌++◌, length, drop, get_or, replicate, Option, None, Some, Vec, ◌⊎◌, inl, inr, is_some, refl, sym, ap, subst, ◌∙◌, add-one, append_assoc, drop-cons, length-append, length-drop, ◌-◌, arith}
 use Rattle.std.proofs.lemmas.Bool.{leb-true, le-leb}
 use Rattle.std.proofs.lemmas.List.{append-nil, length-map, nil_from_length}
@@ -58,7 +58,7 @@ too_many_more most xs ys all ps qs paths e o (inr h) = inr (longer most ps qs pa
 
 -- ---- words one by one
 
--- the words from an index on are the word there and those behind it; there are none from their end on
+-- the words from an index on are the word there and those after it; from the end on there are none
 pub word_at : (words : List (Vec ℕ Global)) (i : ℕ) (word : Vec ℕ Global) → i < length words → word ≡ get_or words i word → words_of (drop i words) ≡ word.items ∷ words_of (drop (i + 1) words)
 word_at words i word within is =
     ap words_of (drop-cons words i word within ∙ ap (λ first. first ∷ drop (suc i) words) (sym is) ∙ ap (λ n. word ∷ drop n words) (sym (add-one i)))
@@ -77,7 +77,7 @@ module _ (kind : ExpansionKind) (directory : List ℕ) (files : List File) where
   openings_first word words =
       rw (openings-cons kind directory files word words, openings-cons kind directory files word [], openings-nil kind directory files) (simp append-nil refl)
 
-  -- the walk has come as far as these words, of which these are left, with the indices of those
+  -- the walk has come to the end of these words; these are left, with their indices
   pub record IsWalking (most : ℕ) (words left : List (List ℕ)) (ats ats_left : List (Option ℕ)) (old new : Walked) : Type 0 where
     pub words_are : words_of new.words.items ++ expand kind directory files left ≡ words_of old.words.items ++ expand kind directory files words
     pub openings_are : words_of new.openings.items ++ openings kind directory files left ≡ words_of old.openings.items ++ openings kind directory files words
@@ -177,7 +177,7 @@ module _ (most : ℕ) (kind : ExpansionKind) (directory : List ℕ) (files : Lis
   )
   plain_expanded (Err e) h k stands = rw (plain_words kind directory files words h, plain_openings kind directory files words h) (rw stands refl)
 
-  -- what a walk over all words, from none, came to
+  -- the result of a walk over all words, from the start
   pub named_expanded : (old new : Walked) (texts lacking : List (List ℕ)) → old.words.items ≡ [] → old.openings.items ≡ [] → old.ats.items ≡ []
       → WalksOn most kind directory files words (old.ats.items ++ ats_expanded kind directory files words ats) old (Ok tt) new
       → texts ≡ texts_once kind directory files words → lacking ≡ wanted kind directory files words

@@ -1,4 +1,4 @@
--- What stays and what changes where a file name gets an extension.
+-- What stays and what changes when a file name gets an extension.
 use Rattle.std.proofs.Common.{if◌then◌else◌, ◌≡◌, ℕ, zero, suc, ◌+◌, ◌-◌, ◌<◌, ◌≤◌, ◌==◌, ◌&&◌, ◌⊎◌, not, true, false, inl, inr, length, List, [], ◌∷◌, ◌++◌, drop, take, get_or, Option, None, Some, refl, sym, ap, subst, ◌∙◌, arith}
 use Rattle.std.proofs.Math.Bool.{and-false}
 use Rattle.std.proofs.Math.Seq.{take-append_seam, drop-append_seam}
@@ -18,7 +18,7 @@ onto_first-parts : (x : ℕ) (parts : List (List ℕ)) → AllParts parts → is
 onto_first-parts x [] a other = (rw other refl, tt)
 onto_first-parts x (p ∷ ps) a other = (rw other a.0, a.1)
 
--- what stands between slashes has none
+-- what is between slashes has no slash
 parts_of : (path : List ℕ) → AllParts (slice_split is_slash path)
 parts_of [] = (refl, tt)
 parts_of (x ∷ xs) = elim (cases_Bool (is_slash x)) [
@@ -26,7 +26,7 @@ parts_of (x ∷ xs) = elim (cases_Bool (is_slash x)) [
   | inr other ↦ rw other (onto_first-parts x (slice_split is_slash xs) (parts_of xs) other)
 ]
 
--- a name stands at its place among parts
+-- a name at its place among parts
 record StandsAt (before : List ℕ) (parts : List (List ℕ)) (place : Place) (front rest : List (List ℕ)) : Type 0 where
   whole : parts ≡ front ++ place.name ∷ rest
   ahead : place.before ≡ before ++ slashed front
@@ -76,7 +76,7 @@ front_parts : (front : List (List ℕ)) (part : List ℕ) (rest : List (List ℕ
 front_parts [] part rest a = (tt, a.0)
 front_parts (p ∷ ps) part rest a = let later = front_parts ps part rest a.1 in ((a.0, later.0), later.1)
 
--- a file name's place: parts with a slash behind each, and a name
+-- the place of a file name: parts with a slash after each, and a name
 record IsFilePlace (place : Place) (front : List (List ℕ)) : Type 0 where
   parts : AllParts front
   ahead : place.before ≡ slashed front
@@ -148,7 +148,7 @@ at_dot stem e =
     let first : length stem - length stem ≡ 0 = omega arith in
     rw (here, get_or-append_right stem (46 ∷ e) (length stem) (length stem) 0 refl (omega arith), first) refl
 
--- the last dot of a name stands before a plain extension
+-- the last dot of the name is the one before a plain extension
 last_dot : (stem e : List ℕ) → list_all (λ byte. not (is_dot byte)) e ≡ true → suffix_len (λ byte. not (is_dot byte)) (stem ++ 46 ∷ [] ++ e) ≡ length e
 last_dot stem e h =
     let total : length (stem ++ 46 ∷ e) ≡ length stem + suc (length e) = length-append stem (46 ∷ e) in

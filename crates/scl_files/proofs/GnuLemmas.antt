@@ -16,7 +16,7 @@ put mark.Separates c begun others = keep begun (others [])
 put mark.Vanishes c begun others = others begun
 put mark.Stands c begun others = others (begun ++ encode_utf8 c)
 
--- the arguments of characters that are read one by one, where an argument has begun with these bytes
+-- the arguments of characters that are read one by one, if an argument has begun with these bytes
 abbrev pub read_from : Mode → List ℕ → List ℕ → List (List ℕ)
 read_from m begun [] = keep begun []
 read_from m begun (c ∷ cs) = put (mark_of m c) c begun (λ bytes. read_from (mode_after m c) bytes cs)

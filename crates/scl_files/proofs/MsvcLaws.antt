@@ -26,7 +26,8 @@ toggles_mean_nothing (means c [] ∷ ps) h = toggles_mean_nothing ps (and_right 
     and_right true b h = h
     and_right false b h = absurd (false≢true h)
 
--- what is known of a stretch that has begun, before these characters with n backslashes before them: it means something, or is toggling quotes alone, or its last backslash means nothing and a quote follows
+-- What is known of a stretch that has begun, before these characters and after n backslashes. It means something; or it has
+-- only toggling quotes; or its last backslash means nothing and a quote follows.
 data Begun (stretch : List Place) (n : ℕ) (cs : List ℕ) : Type 0 where
   shows : 0 < length (stretch_meaning stretch) → Begun stretch n cs
   toggling : list_all is_toggle stretch ≡ true → n ≡ 0 → Begun stretch n cs
@@ -87,7 +88,7 @@ only_quotes_give_empty_arguments = λ text. rw msvc_stretches-on (each text [] 0
 
 -- ---- quoted words
 
--- the backslashes that stand before the rest of a quoted word, where n of the word do
+-- the number of backslashes before the rest of a quoted word, if the word has n of them there
 abbrev pending : List ℕ → ℕ → ℕ
 pending word n = cond (leads_to_quote_or_end word) (n + n) n
 

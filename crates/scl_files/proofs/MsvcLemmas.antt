@@ -74,7 +74,7 @@ meanings (means c bytes ∷ ps) begun = meanings ps (begun ++ means c bytes ∷ 
 
 -- ---- reading on
 
--- what n backslashes mean, if a quote follows, or not
+-- what n backslashes mean, by whether a quote follows
 abbrev shown : ℕ → Bool → List ℕ
 shown n quoted = cond quoted (backslashes (n / 2)) (backslashes n)
 

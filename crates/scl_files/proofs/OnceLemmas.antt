@@ -45,7 +45,7 @@ texts-append files (x ∷ xs) ys =
     ap (λ l. option_to_list (bytes_at x files) ++ l) (texts-append files xs ys)
     ∙ sym (append_assoc (option_to_list (bytes_at x files)) (texts_at files xs) (texts_at files ys))
 
--- a path that is among others adds no text, and another one its own
+-- a path that is among the others adds no text, another one adds its own
 pub text-known : (files : List File) (paths : List (List ℕ)) (path : List ℕ) → is_among path paths ≡ true → texts_at files (each_once (paths ++ path ∷ [])) ≡ texts_at files (each_once paths)
 text-known files paths path h = rw (once-more paths path, h) (ap (texts_at files) (append-nil (each_once paths)))
 
@@ -69,7 +69,7 @@ among-alike : (a b : List ℕ) (paths : List (List ℕ)) → same_path a b ≡ t
 among-alike a b [] h = refl
 among-alike a b (p ∷ ps) h = rw (same_path-right p a b h, among-alike a b ps h) refl
 
--- a path that is among others leads to no more
+-- one more path that is among the others already changes nothing
 pub among-known : (other : List ℕ) (paths : List (List ℕ)) (path : List ℕ) → is_among path paths ≡ true → is_among other (paths ++ path ∷ []) ≡ is_among other paths
 among-known other paths path h =
     among-more other paths path
@@ -78,7 +78,7 @@ among-known other paths path h =
       | false ↦ λ _. refl
     ] refl
 
--- the entries lead to these paths
+-- the entries are those of these paths
 abbrev pub LeadsTo : List (List ℕ) → List (List ℕ × Unit {0}) → Type 0
 LeadsTo paths entries = (other : List ℕ) → is_some (value_at other entries) ≡ is_among other paths
 
@@ -93,7 +93,7 @@ leads-new paths entries path h = λ other.
     ]
     ∙ sym (among-more other paths path)
 
--- these are the texts at the paths, each once, and the entries lead to the paths
+-- these are the texts at the paths, each once, and the entries are those of the paths
 pub record Once (files : List File) (paths found : List (List ℕ)) (entries : List (List ℕ × Unit {0})) : Type 0 where
   pub texts : found ≡ texts_at files (each_once paths)
   pub leads : LeadsTo paths entries

@@ -1,4 +1,4 @@
--- The recursion of the openings of an expansion, with no bound on its depth; and of words of which none names a file.
+-- The recursion of the openings of an expansion, with no bound on its depth; and words that name no file.
 use Rattle.std.proofs.Common.{◌≡◌, ℕ, zero, suc, ◌≤◌, Bool, false, List, [], ◌∷◌, ◌++◌, length, Option, None, Some, is_some, refl, sym, ap, ◌∙◌, arith}
 use Rattle.std.specs.List.{flat_map, list_any}
 use Rattle.scl_files.specs.Views.{File}
@@ -28,7 +28,7 @@ within-stable (suc n) (suc m) kind directory files words h k =
     flat_map-same _ _ words (λ word. opening-same _ _ (opened kind directory files word)
     (λ file e. let less = opened-less kind directory files word file e in within-stable n m kind directory (files_inside kind file.path files) file.words (omega (arith, less)) (omega (arith, less))))
 
--- a word opens its file and what its words open, and then come the others
+-- a word opens its file and what its words open, and then the others follow
 pub openings-cons : (kind : ExpansionKind) (directory : List ℕ) (files : List File) (word : List ℕ) (words : List (List ℕ))
     → openings kind directory files (word ∷ words) ≡ opening (λ file. openings kind directory (files_inside kind file.path files) file.words) (opened kind directory files word) ++ openings kind directory files words
 unfolding openings

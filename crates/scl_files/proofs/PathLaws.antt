@@ -1,4 +1,4 @@
--- Paths that are put together of parts.
+-- Paths that are made of parts.
 use Rattle.std.proofs.Common.{if◌then◌else◌, ◌≡◌, ℕ, suc, ◌-◌, ◌==◌, ◌&&◌, not, nat_eq, Bool, true, false, inl, inr, length, List, [], ◌∷◌, ◌++◌, drop, Option, None, Some, refl, sym, ap, ◌∙◌, arith, codes}
 use Rattle.std.proofs.lemmas.Bool.{eqb-true, false≢true, cases_Bool, and_parts}
 use Rattle.std.proofs.lemmas.List.{append_assoc, append-nil}
@@ -12,7 +12,7 @@ use lib.Pointwise.{pointwise_decides}
 use Rattle.std.specs.List.{slice_split, last_or}
 use Rattle.scl_files.specs.Paths.{is_slash, is_one_part, is_file_name, is_name, Place, placed, places, places_after, Components, same_components, file_place, file_name, join, ends_with_slash, begins_with_slash}
 
--- parts with a slash behind each
+-- parts with a slash after each
 abbrev pub slashed : List (List ℕ) → List ℕ
 slashed [] = []
 slashed (part ∷ parts) = (part ++ 47 ∷ []) ++ slashed parts
@@ -25,7 +25,7 @@ pub negated : (a : Bool) → not a ≡ true → a ≡ false
 negated true h = absurd (false≢true h)
 negated false h = refl
 
--- the components are equal exactly where the test says so
+-- the test decides whether the components are equal
 pub same_components-Decides : (a b : Components) → Decides (same_components a b) (a ≡ b)
 same_components-Decides a b = (
   λ h. let parts = and_parts (bytes_eq a.start b.start) (pointwise bytes_eq a.names b.names) h in
@@ -35,7 +35,7 @@ same_components-Decides a b = (
   λ e. rw e (rw ((bytes_eq-Decides b.start b.start).1 refl) ((pointwise_decides bytes_eq-Decides b.names b.names).1 refl)),
 )
 
--- a part is the one part of itself
+-- a part, split at slashes, is itself
 split-part : (part : List ℕ) → is_one_part part ≡ true → slice_split is_slash part ≡ part ∷ []
 split-part [] h = refl
 split-part (x ∷ xs) h = let parts = and_parts (not (is_slash x)) (is_one_part xs) h in rw (negated (is_slash x) parts.0, split-part xs parts.1) refl
@@ -44,7 +44,7 @@ split-slash : (part rest : List ℕ) → is_one_part part ≡ true → slice_spl
 split-slash [] rest h = refl
 split-slash (x ∷ xs) rest h = let parts = and_parts (not (is_slash x)) (is_one_part xs) h in rw (negated (is_slash x) parts.0, split-slash xs rest parts.1) refl
 
--- parts with a slash behind each, and a last one
+-- parts with a slash after each, and a last one
 split-slashed : (parts : List (List ℕ)) (part : List ℕ) → AllParts parts → is_one_part part ≡ true → slice_split is_slash (slashed parts ++ part) ≡ parts ++ part ∷ []
 split-slashed [] part a h = split-part part h
 split-slashed (p ∷ ps) part a h = rw (append_assoc, append_assoc) (split-slash p (slashed ps ++ part) a.0 ∙ ap (λ qs. p ∷ qs) (split-slashed ps part a.1 h))
@@ -64,7 +64,7 @@ last_place-append : (found : Option Place) (places : List Place) (place : Place)
 last_place-append found [] place = refl
 last_place-append found (p ∷ ps) place = last_place-append (Some p) ps place
 
--- a file name behind parts
+-- a file name after parts
 pub file_place-slashed : (parts : List (List ℕ)) (name : List ℕ) → AllParts parts → is_file_name name ≡ true → file_place (slashed parts ++ name) ≡ Some (placed (slashed parts) name)
 unfolding places
 file_place-slashed parts name a h =
@@ -74,7 +74,7 @@ file_place-slashed parts name a h =
     rw (split-slashed parts name a plain.0, places_after-append [] parts (name ∷ []), named.0) refl in
     rw (last, last_place-append None (places_after [] parts) (placed (slashed parts) name), negated (bytes_eq name (codes "..")) named.1) refl
 
--- a path cut into parts with a slash behind each, and a last one
+-- a path split into parts with a slash after each, and a last one
 pub record IsCut (path : List ℕ) (parts : List (List ℕ)) (last : List ℕ) : Type 0 where
   pub whole : path ≡ slashed parts ++ last
   pub parts_free : AllParts parts
@@ -93,7 +93,7 @@ cut_of (x ∷ xs) =
       | inr other ↦ onto_cut x xs rest.0 rest.1 rest.2 other
     ]
 
--- whether a path ends with a slash is read of its end
+-- whether a path ends with a slash depends on its end
 ends-behind : (x y : ℕ) (ys : List ℕ) → ends_with_slash (x ∷ (y ∷ ys)) ≡ ends_with_slash (y ∷ ys)
 ends-behind x y ys =
     let more : suc (suc (length ys)) - 1 ≡ suc (length ys) = omega arith in
@@ -109,7 +109,7 @@ part-ends : (y : ℕ) (ys : List ℕ) → is_one_part (y ∷ ys) ≡ true → en
 part-ends y [] h = let other = negated (is_slash y) (and_parts (not (is_slash y)) true h).0 in grind (arith, nat_tests)
 part-ends y (z ∷ zs) h = ends-behind y z zs ∙ part-ends z zs (and_parts (not (is_slash y)) (is_one_part (z ∷ zs)) h).1
 
--- a path that ends with a slash is parts with a slash behind each
+-- a path that ends with a slash is parts with a slash after each
 pub record IsSlashed (path : List ℕ) (parts : List (List ℕ)) : Type 0 where
   pub whole : path ≡ slashed parts
   pub free : AllParts parts
@@ -134,7 +134,7 @@ begins_with_no_slash (x ∷ xs) h =
 ends_with_its_slash : (path : List ℕ) → ends_with_slash (path ++ 47 ∷ []) ≡ true
 ends_with_its_slash path = ends-append path 47 []
 
--- a file name that is joined to a path is its file name
+-- a file name that is joined to a path is the file name of the result
 pub file_name-join : (path name : List ℕ) → is_file_name name ≡ true → file_name (join path name) ≡ Some name
 file_name-join path name h =
     rw (begins_with_no_slash name h) (elim (length path == 0) as (λ b. file_name (if b then name else (if ends_with_slash path then path ++ name else path ++ codes "/" ++ name)) ≡ Some name) [

@@ -1,4 +1,4 @@
--- Cutting a path at its slashes.
+-- Splitting a path at its slashes.
 use Rattle.std.proofs.Common.{◌≡◌, ℕ, suc, ◌+◌, ◌<◌, ◌≤◌, ltb, true, false, cond, not, length-drop, List, [], ◌∷◌, ◌++◌, length, take, drop, map, position, Option, None, Some, refl, sym, ap, ◌∙◌, arith, ◌⊎◌, inl, inr}
 use Rattle.std.proofs.lemmas.Bool.{ltb-true, eqb-true, false≢true, cases_lt}
 use Rattle.std.proofs.lemmas.Grind.{common_steps}
@@ -79,7 +79,7 @@ from_end : (path : List ℕ) (at next : ℕ) → length (drop at path) ≤ posit
 unfolding places_from
 from_end path at next l n = rw (slash_free (drop at path) l, n, drop-length) refl
 
--- a path from a position on has its first part, if that is a name, and then what follows
+-- a path from a position on: its first part, if that is a name, and then what follows
 from_part : (path part : List ℕ) (at next : ℕ) → at < length path → part ≡ before_first is_slash (drop at path) → next ≡ min (length path) (at + length part + 1)
     → (position_or_len is_slash (drop at path) < length (drop at path)) ⊎ (length (drop at path) ≤ position_or_len is_slash (drop at path))
     → places_from path at ≡ cond (is_name part) (placed (take at path) part ∷ places_from path next) (places_from path next)

@@ -154,10 +154,10 @@ module _ {T : Type 0} (path : List ℕ) (entries : List (Entry T)) (tree : PathT
         | Some entry ↦ λ e. rw (same-by-node tree entry.path.items path entry.node node linked.is_tree (linked.reached n entry e) leads, place-by-node node n leads) refl
       ] refl
 
--- ---- what stands at a place
+-- ---- the entry at an index
 
 module _ {T : Type 0} (path : List ℕ) (entries : List (Entry T)) where
-  -- a place is one of the first n
+  -- an index is one of the first n
   pub place-below : (n at : ℕ) → n ≤ length entries → place_at path entries n ≡ Some at → at < n
   place-below zero at h e = absurd (cc)
   place-below (suc n) at h e =

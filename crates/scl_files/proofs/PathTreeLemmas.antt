@@ -38,7 +38,7 @@ led-kept old new (name ∷ names) (Some node) to keeps e =
 pub node-kept : (old new : PathTree) (path : List ℕ) (node : ℕ) → Keeps old new → node_at path old ≡ Some node → node_at path new ≡ Some node
 node-kept old new path node keeps e = led-kept old new (parts_of path) (Some 0) node keeps e
 
--- from a tree on, a name leads where it led there
+-- a name leads from each node of the old tree to the same node
 pub led_on : (old new : PathTree) (name : List ℕ) (node to : ℕ) (names : List (List ℕ)) → child old name node ≡ Some to → Keeps old new → led new (Some node) (name ∷ names) ≡ led new (Some to) names
 led_on old new name node to names e keeps = ap (λ at. led new at names) (keeps name node to e)
 
@@ -66,7 +66,7 @@ module _ (tree : PathTree) (is : IsTree tree) where
   node-parts : (path : List ℕ) (node : ℕ) → node_at path tree ≡ Some node → is.parts node ≡ parts_of path
   node-parts path node e = led-parts (parts_of path) 0 node e ∙ rw is.root refl
 
--- paths lead to one node if they are the same
+-- paths with the same node are the same
 pub same-by-node : (tree : PathTree) (a b : List ℕ) (m n : ℕ) → IsTree tree → node_at a tree ≡ Some m → node_at b tree ≡ Some n → same_path a b ≡ (m == n)
 same-by-node tree a b m n is leads also =
     elim (m == n) as (λ r. (m == n) ≡ r → same_path a b ≡ r) [
@@ -78,7 +78,7 @@ same-by-node tree a b m n is leads also =
       ] refl
     ] refl
 
--- paths lead to other nodes if they are not
+-- paths are not the same if one has a node and the other has none
 pub apart-by-node : (tree : PathTree) (a b : List ℕ) (m : ℕ) → node_at a tree ≡ Some m → node_at b tree ≡ None → same_path a b ≡ false
 apart-by-node tree a b m leads none =
     elim (same_path a b) as (λ r. same_path a b ≡ r → r ≡ false) [
@@ -179,7 +179,7 @@ module _ (tree : PathTree) (key : Vec ℕ Global) (numbers : BTreeMap (Vec ℕ G
       (old.0 ∙ rw (below is.name key.items number (btree_map_len tree.numbers) old.2) refl, old.1, omega (arith, old.2, grown), old.3) in
       record { name = name; parts = is.parts; root = is.root; named = named; parted = parted }
 
--- ---- a node more
+-- ---- one node more
 
 tied : (o : Ordering) → is_eq o ≡ true → o ≡ Equal
 tied Less e = absurd (false≢true e)

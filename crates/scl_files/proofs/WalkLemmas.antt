@@ -1,4 +1,4 @@
--- Words so far and words that are left.
+-- The words so far, and the words that are left.
 use Rattle.std.proofs.Common.{◌≡◌, ℕ, ◌+◌, ◌<◌, true, false, List, [], ◌∷◌, ◌++◌, length, get_or, take, Vec, sym, ap, subst, ◌∙◌, add-one}
 use Rattle.std.proofs.lemmas.List.{map-append}
 use Rattle.std.proofs.Math.Seq.{take-suc}
@@ -9,13 +9,13 @@ use Rattle.scl_files.specs.PathMaps.{value_at}
 use Rattle.scl_files.specs.Views.{File, bytes_at, is_among}
 use Rattle.scl_files.proofs.OnceLemmas.{Once, leads-known, leads-new, text-known, text-new}
 
--- one word more of those that a loop goes over
+-- one more word of those that a loop goes over
 pub taken_more : (words : List (Vec ℕ Global)) (i : ℕ) (word : Vec ℕ Global) → i < length words → word ≡ get_or words i word → words_of (take (i + 1) words) ≡ words_of (take i words) ++ word.items ∷ []
 taken_more words i word within is =
     ap words_of (ap (λ n. take n words) (add-one i) ∙ take-suc words i word within ∙ ap (λ w. take i words ++ w ∷ []) (sym is))
     ∙ map-append (λ w. w.items) (take i words) (word ∷ [])
 
--- the paths with one more, which was among them, or which was not and whose text came behind
+-- the paths with one more: it was among them, or it was not and its text was appended
 module _ (files : List File) (paths : List (Vec ℕ Global)) (i : ℕ) (path : Vec ℕ Global) (within : i < length paths) (is : path ≡ get_or paths i path) where
   abbrev before : List (List ℕ)
   before = words_of (take i paths)

@@ -1,4 +1,4 @@
--- Where the disk has none of the wanted files, it gives the same words.
+-- If the disk has none of the wanted files, it gives the same words.
 use Rattle.std.proofs.Common.{◌≡◌, ℕ, zero, suc, ◌≤◌, Bool, true, false, cond, List, [], ◌∷◌, ◌++◌, length, Option, None, Some, refl, sym, ap, ◌∙◌, arith}
 use Rattle.std.specs.Option.{option_and_then}
 use Rattle.scl_values.specs.Each.{Each}
@@ -28,7 +28,7 @@ each-mapped P Q (x ∷ xs) f h = (f x h.0, each-mapped P Q xs f h.1)
 
 -- ---- one word
 
--- the disk has no file that the word asks for in vain
+-- the disk has no file for which the word asks in vain
 abbrev IsAnswered : ExpansionKind → List ℕ → List File → List File → List ℕ → Type 0
 IsAnswered kind directory files disk word = HasNone disk (lacked_by kind directory files word)
 
@@ -109,12 +109,12 @@ word-inside kind directory path files disk word a =
 
 -- ---- all words
 
--- the disk gives the words that the files give, where it has none of the files that are left to ask for
+-- the disk gives the words that the files give, if it has none of the wanted files that are absent
 abbrev Decides : ExpansionKind → List ℕ → List File → List File → Type 0
 Decides kind directory files disk =
     (words : List (List ℕ)) → HasFiles disk files → Each (IsAnswered kind directory files disk) (expand kind directory files words) → expand kind directory disk words ≡ expand kind directory files words
 
--- the same of the words of each file that a word opens
+-- the same for the words of each file that a word opens
 abbrev DecidesInside : ExpansionKind → List ℕ → List File → List File → Type 0
 DecidesInside kind directory files disk =
     (word : List ℕ) (file : OpenFile) → opened kind directory files word ≡ Some file → Decides kind directory (files_inside kind file.path files) (files_inside kind file.path disk)

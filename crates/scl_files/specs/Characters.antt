@@ -1,4 +1,4 @@
--- The characters that texts and paths give a meaning, by their codes.
+-- Characters that have a meaning in texts and paths, by their codes.
 use Rattle.std.specs.Prelude.{ℕ}
 
 abbrev pub tab : ℕ

@@ -20,13 +20,13 @@ abbrev pub unit_of : Order → ℕ → ℕ → ℕ
 unit_of orders.LittleEndFirst a b = b * 256 + a
 unit_of orders.BigEndFirst a b = a * 256 + b
 
--- the 16-bit numbers, if the bytes are even in number
+-- the 16-bit numbers, if the number of bytes is even
 abbrev pub units : Order → List ℕ → Option (List ℕ)
 units order [] = Some []
 units order (a ∷ []) = None
 units order (a ∷ (b ∷ bytes)) = option_map (λ us. unit_of order a b ∷ us) (units order bytes)
 
--- the text of 16-bit numbers, if every surrogate stands in a pair
+-- the text of 16-bit numbers, if each surrogate is in a pair
 abbrev pub units_text : List ℕ → Option (List ℕ)
 units_text us = cond (has_unpaired_surrogate us) None (Some (encode_utf8_all (utf16_lossy_chars us)))
 
@@ -73,7 +73,7 @@ abbrev pub unit_bytes : Order → ℕ → List ℕ
 unit_bytes orders.LittleEndFirst unit = unit % 256 ∷ unit / 256 ∷ []
 unit_bytes orders.BigEndFirst unit = unit / 256 ∷ unit % 256 ∷ []
 
--- characters as they stand in a UTF-16 file
+-- characters as the bytes of a UTF-16 file
 abbrev pub utf16_file : Order → List ℕ → List ℕ
 utf16_file order cs = utf16_mark order ++ flat_map (unit_bytes order) (flat_map encode_utf16 cs)
 

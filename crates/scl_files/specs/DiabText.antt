@@ -13,11 +13,11 @@ is_white_space c =
 abbrev pub is_quote : ℕ → Bool
 is_quote c = c == single_quote || c == double_quote
 
--- the stretches between white space that hold a character
+-- the stretches between white space that have a character
 abbrev pub diab_words : List ℕ → List (List ℕ)
 diab_words text = filter is_not_empty (slice_split is_white_space text)
 
--- the arguments of a text in UTF-8, from its characters, unless a quote stands in it
+-- the arguments of a text in UTF-8, from its characters, unless it has a quote
 unfoldable pub diab_arguments : List ℕ → Option (List (List ℕ))
 diab_arguments text = cond (list_any is_quote text) None (Some (map encode_utf8_all (diab_words text)))
 
@@ -26,6 +26,6 @@ diab_arguments text = cond (list_any is_quote text) None (Some (map encode_utf8_
 abbrev pub is_diab_word : List ℕ → Bool
 is_diab_word word = is_not_empty word && list_all (λ c. not (is_white_space c || is_quote c)) word
 
--- words without white space and quotes, with a space between each two, are read as they were
+-- a text of words without white space and quotes, separated by spaces, gives these words
 abbrev pub PlainWordsAreReadBack : Type 0
 PlainWordsAreReadBack = (words : List (List ℕ)) → list_all is_diab_word words ≡ true → diab_arguments (join_with_byte space words) ≡ Some (map encode_utf8_all words)

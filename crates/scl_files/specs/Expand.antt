@@ -1,4 +1,4 @@
--- Words with response files put in place.
+-- Words with response files expanded.
 use Rattle.std.specs.Prelude.{ℕ, zero, suc, List, [], ◌∷◌, length, Option, None, Some}
 use Rattle.std.specs.List.{flat_map}
 use Rattle.std.specs.Option.{option_and_then}
@@ -6,7 +6,7 @@ use Rattle.scl_files.specs.Views.{File, bytes_at}
 use Rattle.scl_files.specs.ResponseFiles.{named, arguments, files_inside}
 use Rattle.scl_files.specs.declared.expand.ExpansionKind.{ExpansionKind}
 
--- a file that is open, and its words that are left
+-- an open file, and the words left in it
 pub record OpenFile : Type 0 where
   pub path : List ℕ
   pub words : List (List ℕ)
@@ -20,17 +20,18 @@ unfoldable pub opened : ExpansionKind → List ℕ → List File → List ℕ �
 opened kind directory files word =
     option_and_then (λ path. open_file_at path (option_and_then (arguments kind) (bytes_at path files))) (named kind directory word)
 
--- the word, or what stands in the file that it names
+-- the word, or what is in the file that it names
 abbrev pub in_place : List ℕ → (OpenFile → List (List ℕ)) → Option OpenFile → List (List ℕ)
 in_place word words_in None = word ∷ []
 in_place word words_in (Some file) = words_in file
 
--- the words, where n of the files are not open
+-- the expanded words, if n of the files are not open
 abbrev pub expand_within : ℕ → ExpansionKind → List ℕ → List File → List (List ℕ) → List (List ℕ)
 expand_within zero kind directory files words = words
 expand_within (suc n) kind directory files words =
     flat_map (λ word. in_place word (λ file. expand_within n kind directory (files_inside kind file.path files) file.words) (opened kind directory files word)) words
 
--- the words, where a word that names one of the files, of which none is open, gives the words of that file, with that file open
+-- the expanded words, if none of the files is open: a word that names one of them gives the words of that file, expanded
+-- while it is open
 unfoldable pub expand : ExpansionKind → List ℕ → List File → List (List ℕ) → List (List ℕ)
 expand kind directory files words = expand_within (length files) kind directory files words

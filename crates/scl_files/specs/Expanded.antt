@@ -1,4 +1,4 @@
--- A command line in which response files are put in place: all that is known of it before it is cut.
+-- A command line with response files expanded, and all that is known of it before it is cut.
 use Rattle.std.specs.Prelude.{◌≡◌, ℕ, true, false, List, [], Option, Result, MatchResult}
 use Rattle.scl_values.specs.Words.{words_of}
 use Rattle.scl_files.specs.Expand.{expand}
@@ -11,14 +11,15 @@ use Rattle.scl_files.specs.declared.expand.ExpansionKind.{ExpansionKind}
 use Rattle.scl_files.specs.declared.expand.TooManyWords.{TooManyWords}
 use Rattle.scl_files.specs.declared.line.Expanded.{Expanded}
 
--- its words, of each the index of the given word that brought it, the texts of the files that are put in place, each once, and the paths of those that are wanted
+-- its words, of each the index of the given word from which it came, the texts of the expanded files, each once, and the
+-- paths of the wanted files that are absent
 pub record ExpandedWords : Type 0 where
   pub words : List (List ℕ)
   pub ats : List (Option ℕ)
   pub texts : List (List ℕ)
   pub lacked : List (List ℕ)
 
--- those of words that given ones brought
+-- those of the expansion of words that came from given ones
 abbrev pub expanded_by : ExpansionKind → List ℕ → List File → List (List ℕ) → List (Option ℕ) → ExpandedWords
 expanded_by kind directory files words ats = record {
   words = expand kind directory files words;
@@ -27,20 +28,20 @@ expanded_by kind directory files words ats = record {
   lacked = wanted kind directory files words;
 }
 
--- those of words in which nothing is put in place
+-- those of words without an expansion
 abbrev pub standing : List (List ℕ) → List (Option ℕ) → ExpandedWords
 standing words ats = record { words = words; ats = ats; texts = []; lacked = [] }
 
 abbrev pub expanded_of : Expanded → ExpandedWords
 expanded_of e = record { words = words_of e.words.items; ats = e.ats.items; texts = words_of e.texts.items; lacked = words_of e.lacked.items }
 
--- the words say all this where they and their openings are at most so many, and that they are too many exactly where they are not
+-- the result is exactly this if the words and the openings are at most `most`; else it is `TooManyWords`
 abbrev pub IsExpanded : ℕ → ExpansionKind → List ℕ → List File → List (List ℕ) → List (Option ℕ) → Result Expanded TooManyWords → Type 0
 IsExpanded most kind directory files words ats said =
     MatchResult said (λ e. (is_expanded_within most kind directory files words ≡ true) × (expanded_of e ≡ expanded_by kind directory files words ats))
     (λ _. is_expanded_within most kind directory files words ≡ false)
 
--- the same of words that stand as they are given
+-- the same for words that are not expanded
 abbrev pub Stands : ℕ → List (List ℕ) → List (Option ℕ) → Result Expanded TooManyWords → Type 0
 Stands most words ats said =
     MatchResult said (λ e. (is_within most words ≡ true) × (expanded_of e ≡ standing words ats)) (λ _. is_within most words ≡ false)

@@ -1,4 +1,4 @@
--- What is true of every expansion.
+-- What holds of every expansion.
 use Rattle.std.specs.Prelude.{◌≡◌, ℕ, false, List, [], ◌∷◌, ◌++◌, Some, None, is_some}
 use Rattle.std.specs.List.{list_any}
 use Rattle.scl_values.specs.Each.{Each}
@@ -9,7 +9,7 @@ use Rattle.scl_files.specs.Expand.{OpenFile, opened, in_place, expand}
 use Rattle.scl_files.specs.declared.expand.ExpansionKind.{ExpansionKind}
 use Rattle.scl_files.specs.declared.expand.ExpansionKind.TheVariants as kinds
 
--- a word gives itself, or the expansion of the words of its file with that file open, and then come the others
+-- a word gives itself, or the expansion of the words of its file while that file is open; then the other words follow
 abbrev pub WordsAreExpandedOneByOne : Type 0
 WordsAreExpandedOneByOne =
     (kind : ExpansionKind) (directory : List ℕ) (files : List File) (word : List ℕ) (words : List (List ℕ))
@@ -43,7 +43,7 @@ PlainWordsStand =
     (kind : ExpansionKind) (directory : List ℕ) (files : List File) (words : List (List ℕ))
     → list_any (λ word. is_some (file_name_in kind word)) words ≡ false → expand kind directory files words ≡ words
 
--- the paths of files that are open, each named by a word while the ones before it are open
+-- the paths of open files, each named by a word while the ones before it are open
 pub data IsChain (kind : ExpansionKind) (directory : List ℕ) : List File → List (List ℕ) → Type 0 where
   none : (files : List File) → IsChain kind directory files []
   opens : (files : List File) (word : List ℕ) (open_file : OpenFile) (paths : List (List ℕ)) → opened kind directory files word ≡ Some open_file

@@ -17,11 +17,11 @@ use Rattle.scl_files.specs.declared.expansion.Step.TheVariants as step
 abbrev pub words_left : WordsLeft → List (List ℕ)
 words_left w = words_of (into_iter_items w.words)
 
--- a file that a word opens
+-- a file that a word opens, as the definitions see it
 abbrev pub opens : (Vec ℕ Global × WordsLeft) → OpenFile
 opens file = record { path = file.0.items; words = words_left file.1 }
 
--- the files that are open, the last opened first: that one has these words left, and each other those around the next
+-- the open files, the last opened first: that one has these words left, each other has those left around the next
 abbrev pub open_files : List (List ℕ) → List (List ℕ × WordsLeft) → List OpenFile
 open_files inner [] = []
 open_files inner (file ∷ files) = record { path = file.0; words = inner } ∷ open_files (words_left file.1) files
@@ -60,7 +60,7 @@ abbrev pub cost : (OpenFile → ℕ) → Option OpenFile → ℕ
 cost inside None = 1
 cost inside (Some file) = 2 + inside file
 
--- how many steps the words take: one for each word, and one more to close each file
+-- the number of steps of the words: one for each word, and one to close each file
 abbrev pub steps_within : ℕ → ExpansionKind → List ℕ → List File → List (List ℕ) → ℕ
 steps_within zero kind directory files words = length words
 steps_within (suc n) kind directory files words =
@@ -91,7 +91,7 @@ steps_of e = steps_left e.kind e.directory.now e.view.now.files (open_files_of e
 abbrev pub closed_of : Expansion → List File
 closed_of e = closed e.kind e.view.now.files (open_files_of e)
 
--- what was left where the word came before
+-- what was left before this word was taken
 abbrev pub left_before : Expansion → List ℕ → List (List ℕ)
 left_before e word = in_place word (λ file. expand e.kind e.directory.now (files_inside e.kind file.path (closed_of e)) file.words) (opened e.kind e.directory.now (closed_of e) word) ++ left_of e
 
@@ -101,7 +101,8 @@ openings_before e word = opening (λ file. openings e.kind e.directory.now (file
 abbrev pub steps_before : Expansion → List ℕ → ℕ
 steps_before e word = cost (λ file. steps e.kind e.directory.now (files_inside e.kind file.path (closed_of e)) file.words) (opened e.kind e.directory.now (closed_of e) word) + steps_of e
 
--- a step gave the first of these words, or opened the first of these files, or came nearer to either, or met their end
+-- a step gave the first of these words, or opened the first of these files, or came nearer to either, or reached the end of
+-- both
 abbrev pub StepsFrom : List (List ℕ) → List (List ℕ) → ℕ → Step → Expansion → Type 0
 StepsFrom words paths n (step.Word w) t = (words ≡ w.items ∷ left_of t) × (paths ≡ openings_of t) × (steps_of t < n)
 StepsFrom words paths n (step.Opened path) t = (words ≡ left_of t) × (paths ≡ path.items ∷ openings_of t) × (steps_of t < n)

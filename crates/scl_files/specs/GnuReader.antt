@@ -1,4 +1,4 @@
--- What `split_gnu_response_file_args` makes of one character.
+-- What `split_gnu_response_file_args` does with one character.
 use Rattle.std.specs.Prelude.{ℕ, ◌==◌, ◌||◌, cond}
 use Rattle.scl_files.specs.Characters.{backslash, single_quote, double_quote}
 use Rattle.scl_files.specs.GnuText.{is_gnu_separator}
@@ -7,7 +7,7 @@ use Rattle.scl_files.specs.declared.gnu_text.Mode.TheVariants as mode
 use Rattle.scl_files.specs.declared.gnu_text.Mark.{Mark}
 use Rattle.scl_files.specs.declared.gnu_text.Mark.TheVariants as mark
 
--- what a character is, and what is read after it
+-- what a character means, and how the next one is read
 abbrev pub mark_of : Mode → ℕ → Mark
 mark_of mode.Plain c = cond (is_gnu_separator c) mark.Separates (cond (c == backslash || c == single_quote || c == double_quote) mark.Vanishes mark.Stands)
 mark_of mode.Escaped c = mark.Stands

@@ -7,14 +7,14 @@ use Rattle.scl_files.specs.Characters.{space, tab, line_feed, form_feed, carriag
 abbrev pub is_gnu_separator : ℕ → Bool
 is_gnu_separator c = c == space || c == tab || c == line_feed || c == form_feed || c == carriage_return
 
--- a piece of a text: a separator, or characters that stand for these
+-- a piece of a text: a separator, or characters that mean these
 pub data Piece : Type 0 where
   gap : Piece
   stands : List ℕ → Piece
 
 -- ---- the rule: what the pieces of a text are
 
--- the inside of double quotes, and the characters that it stands for
+-- the inside of double quotes, and the characters that it means
 pub data Inside : List ℕ → List ℕ → Type 0 where
   nothing : Inside [] []
   one : (c : ℕ) (s m : List ℕ) → c ≢ double_quote → c ≢ backslash → Inside s m → Inside (c ∷ s) (c ∷ m)
@@ -41,7 +41,8 @@ pub data ArePieces : List ℕ → List Piece → Type 0 where
 
 -- ---- the pieces, computed
 
--- where a character stands: between pieces, behind a backslash, in single or double quotes (with what their inside stands for so far), or behind a backslash in double quotes
+-- the context of a character: between pieces; after a backslash; in single or double quotes, with what their inside means so
+-- far; or after a backslash in double quotes
 pub data At : Type 0 where
   outside : At
   behind_backslash : At
@@ -78,7 +79,7 @@ abbrev pub keep : List ℕ → List (List ℕ) → List (List ℕ)
 keep [] arguments = arguments
 keep (b ∷ bs) arguments = (b ∷ bs) ∷ arguments
 
--- what stands between separators, joined, where an argument has begun with these bytes
+-- what is between separators, joined, if an argument has begun with these bytes
 abbrev pub joined : List ℕ → List Piece → List (List ℕ)
 joined begun [] = keep begun []
 joined begun (gap ∷ ps) = keep begun (joined [] ps)
@@ -103,7 +104,8 @@ is_not_empty (c ∷ cs) = true
 abbrev pub GivesNoEmptyArgument : Type 0
 GivesNoEmptyArgument = (text : List ℕ) → list_all is_not_empty (gnu_arguments text) ≡ true
 
--- behind an opening single quote: a word, each single quote of it as the end of the quotes, an escaped quote and a new opening one, and the closing quote
+-- after an opening single quote: the word, in which each single quote becomes a closing quote, an escaped quote and an
+-- opening quote; then the closing quote
 abbrev pub in_single_quotes : List ℕ → List ℕ
 in_single_quotes [] = single_quote ∷ []
 in_single_quotes (c ∷ cs) = cond (c == single_quote) (single_quote ∷ backslash ∷ single_quote ∷ single_quote ∷ in_single_quotes cs) (c ∷ in_single_quotes cs)
@@ -112,11 +114,11 @@ in_single_quotes (c ∷ cs) = cond (c == single_quote) (single_quote ∷ backsla
 abbrev pub gnu_quoted : List ℕ → List ℕ
 gnu_quoted word = single_quote ∷ in_single_quotes word
 
--- a word with a backslash before each character that means something else
+-- a word with a backslash before each character that has another meaning
 abbrev pub gnu_escaped : List ℕ → List ℕ
 gnu_escaped [] = []
 gnu_escaped (c ∷ cs) = cond (is_gnu_separator c || c == backslash || c == single_quote || c == double_quote) (backslash ∷ c ∷ gnu_escaped cs) (c ∷ gnu_escaped cs)
 
--- words that are not empty, quoted in this way with a space between each two, are read as they were
+-- a text of words that are not empty, quoted in this way and separated by spaces, gives these words
 abbrev pub IsReadBack : (List ℕ → List ℕ) → Type 0
 IsReadBack quoted = (words : List (List ℕ)) → list_all is_not_empty words ≡ true → gnu_arguments (join_with_byte space (map quoted words)) ≡ map encode_utf8_all words

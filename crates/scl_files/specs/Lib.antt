@@ -1,4 +1,4 @@
--- What contracts of public functions cite.
+-- What the contracts of public functions cite.
 pub mod Characters
 pub mod Decoding
 pub mod DiabText
@@ -15,7 +15,7 @@ pub mod Views
 pub mod Wanted
 pub mod Within
 pub mod WordsToCome
--- What only contracts of private functions cite: how the code keeps and reads what those above speak of.
+-- What only the contracts of private functions cite: how the code stores and reads what the definitions above say.
 pub mod ExpansionState
 pub mod GnuReader
 pub mod MsvcReader

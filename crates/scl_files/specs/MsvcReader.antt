@@ -1,4 +1,4 @@
--- What `SplitMsvcResponseFileArgs` makes of one character.
+-- What `SplitMsvcResponseFileArgs` does with one character.
 use Rattle.std.specs.Prelude.{◌≡◌, ℕ, ◌+◌, ◌/◌, ◌==◌, ◌&&◌, not, Bool, true, false, cond, List, [], ◌∷◌, ◌++◌, replicate, encode_utf8}
 use Rattle.std.specs.String.{string_bytes}
 use Rattle.scl_files.specs.Characters.{backslash, double_quote}
@@ -8,7 +8,8 @@ use Rattle.scl_files.specs.declared.msvc_text.Reader.{Reader}
 abbrev pub backslashes : ℕ → List ℕ
 backslashes n = replicate n backslash
 
--- the arguments from the front: whether one has begun, its bytes so far, the backslashes after them, and whether a quote is open
+-- the arguments from the front: whether one has begun, its bytes so far, the backslashes after them, and whether a quote is
+-- open
 abbrev pub read_on : Bool → List ℕ → ℕ → Bool → List ℕ → List (List ℕ)
 read_on begun bytes n inside [] = cond begun ((bytes ++ backslashes n) ∷ []) []
 read_on begun bytes n inside (c ∷ cs) =

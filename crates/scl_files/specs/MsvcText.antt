@@ -11,9 +11,9 @@ is_msvc_separator c = c == space || c == tab || c == line_feed || c == carriage_
 abbrev pub is_even : ℕ → Bool
 is_even n = n % 2 == 0
 
--- ---- what stands at a place of the text
+-- ---- the context of a place in the text
 
--- how many backslashes stand directly before the place
+-- the number of backslashes directly before the place
 abbrev pub backslashes_before : List ℕ → ℕ → ℕ
 backslashes_before text zero = 0
 backslashes_before text (suc i) = cond (slice_index text i == backslash) (backslashes_before text i + 1) 0
@@ -22,7 +22,7 @@ backslashes_before text (suc i) = cond (slice_index text i == backslash) (backsl
 abbrev pub toggles : List ℕ → ℕ → Bool
 toggles text i = slice_index text i == double_quote && is_even (backslashes_before text i)
 
--- an odd number of toggling quotes stands before the place
+-- the number of toggling quotes before the place is odd
 abbrev pub is_inside : List ℕ → ℕ → Bool
 is_inside text zero = false
 is_inside text (suc i) = cond (toggles text i) (not (is_inside text i)) (is_inside text i)
@@ -31,14 +31,15 @@ is_inside text (suc i) = cond (toggles text i) (not (is_inside text i)) (is_insi
 abbrev pub splits : List ℕ → ℕ → Bool
 splits text i = is_msvc_separator (slice_index text i) && not (is_inside text i)
 
--- the first of these characters that is no backslash is a quote
+-- the first of these characters that is not a backslash is a quote
 abbrev pub leads_to_quote : List ℕ → Bool
 leads_to_quote [] = false
 leads_to_quote (c ∷ cs) = cond (c == backslash) (leads_to_quote cs) (c == double_quote)
 
 -- ---- what a character means
 
--- by the backslashes before it, and whether, past backslashes, a quote follows it: of backslashes before a quote each second one, a quote that does not toggle, and every other character mean themselves
+-- what a character means, by the backslashes before it and whether a quote follows after any more backslashes. These mean
+-- themselves: each second backslash before a quote, a quote that does not toggle, and every other character
 abbrev pub meaning : ℕ → Bool → ℕ → List ℕ
 meaning backslashes quoted c =
     cond (c == backslash) (cond (quoted && is_even backslashes) [] (backslash ∷ []))
@@ -54,19 +55,19 @@ place text i =
     cond (splits text i) split
     (means (slice_index text i) (meaning (backslashes_before text i) (leads_to_quote (drop (i + 1) text)) (slice_index text i)))
 
--- the places from i on, of which there are n
+-- n places, from i on
 abbrev pub places : List ℕ → ℕ → ℕ → List Place
 places text i zero = []
 places text i (suc n) = place text i ∷ places text (i + 1) n
 
 -- ---- the arguments
 
--- a stretch before the others, if it holds a character
+-- a stretch before the others, if it has a character
 abbrev pub keep_stretch : List Place → List (List Place) → List (List Place)
 keep_stretch [] others = others
 keep_stretch (p ∷ ps) others = (p ∷ ps) ∷ others
 
--- the stretches between places that split, the first of which has begun with these
+-- the stretches between places that split; the first one has begun with these
 abbrev pub stretches : List Place → List Place → List (List Place)
 stretches begun [] = keep_stretch begun []
 stretches begun (split ∷ ps) = keep_stretch begun (stretches [] ps)
@@ -96,26 +97,27 @@ is_toggle split = false
 is_toggle (means c []) = c == double_quote
 is_toggle (means c (b ∷ bs)) = false
 
--- an argument is empty exactly where its stretch is toggling quotes alone
+-- an argument is empty exactly if its stretch has only toggling quotes
 abbrev pub OnlyQuotesGiveEmptyArguments : Type 0
 OnlyQuotesGiveEmptyArguments = (text : List ℕ) → Each (λ stretch. (stretch_meaning stretch ≡ []) ↔ (list_all is_toggle stretch ≡ true)) (msvc_stretches text)
 
--- past backslashes, the end of the word or a quote of it follows
+-- after any backslashes, the word ends or has a quote
 abbrev pub leads_to_quote_or_end : List ℕ → Bool
 leads_to_quote_or_end [] = true
 leads_to_quote_or_end (c ∷ cs) = cond (c == backslash) (leads_to_quote_or_end cs) (c == double_quote)
 
--- behind an opening quote: a word with a backslash before each quote, backslashes doubled before a quote and before the end, and the closing quote
+-- after an opening quote: the word with a backslash before each quote, and with backslashes doubled before a quote and before
+-- the end; then the closing quote
 abbrev pub in_double_quotes : List ℕ → List ℕ
 in_double_quotes [] = double_quote ∷ []
 in_double_quotes (c ∷ cs) =
     cond (c == backslash) (cond (leads_to_quote_or_end cs) (backslash ∷ backslash ∷ in_double_quotes cs) (backslash ∷ in_double_quotes cs))
     (cond (c == double_quote) (backslash ∷ double_quote ∷ in_double_quotes cs) (c ∷ in_double_quotes cs))
 
--- a word as MSVC's own tools quote it
+-- a word as MSVC's tools quote it
 abbrev pub msvc_quoted : List ℕ → List ℕ
 msvc_quoted word = double_quote ∷ in_double_quotes word
 
--- words that are quoted, with a space between each two, are read as they were, empty ones too
+-- a text of quoted words, separated by spaces, gives these words, empty ones too
 abbrev pub QuotedWordsAreReadBack : Type 0
 QuotedWordsAreReadBack = (words : List (List ℕ)) → msvc_arguments (join_with_byte space (map msvc_quoted words)) ≡ map encode_utf8_all words

@@ -1,4 +1,4 @@
--- Which files an expansion opens, and when its words and openings are at most so many.
+-- Which files an expansion opens, and whether its words and openings are within a limit.
 use Rattle.std.specs.Prelude.{ℕ, zero, suc, ◌&&◌, not, Bool, filter, List, [], ◌∷◌, length, Option, None, Some}
 use Rattle.std.specs.List.{flat_map}
 use Rattle.std.specs.Option.{option_to_list}
@@ -14,21 +14,21 @@ abbrev pub opening : (OpenFile → List (List ℕ)) → Option OpenFile → List
 opening inside None = []
 opening inside (Some file) = file.path ∷ inside file
 
--- the openings, where n of the files are not open
+-- the openings, if n of the files are not open
 abbrev pub openings_within : ℕ → ExpansionKind → List ℕ → List File → List (List ℕ) → List (List ℕ)
 openings_within zero kind directory files words = []
 openings_within (suc n) kind directory files words =
     flat_map (λ word. opening (λ file. openings_within n kind directory (files_inside kind file.path files) file.words) (opened kind directory files word)) words
 
--- the paths of the files that the words open, of which none is open, in order and each as often as it is opened
+-- the paths of the files that the words open, if none of the files is open: in order, each as often as it is opened
 unfoldable pub openings : ExpansionKind → List ℕ → List File → List (List ℕ) → List (List ℕ)
 openings kind directory files words = openings_within (length files) kind directory files words
 
--- whether the expansion of the words gives at most so many words, and opens files at most so many times
+-- whether the expansion has at most `most` words and at most `most` openings
 abbrev pub is_expanded_within : ℕ → ExpansionKind → List ℕ → List File → List (List ℕ) → Bool
 is_expanded_within most kind directory files words = is_within most (expand kind directory files words) && is_within most (openings kind directory files words)
 
--- each path where it stands first
+-- each path at its first occurrence
 abbrev pub each_once : List (List ℕ) → List (List ℕ)
 each_once [] = []
 each_once (path ∷ paths) = path ∷ filter (λ other. not (same_path path other)) (each_once paths)
@@ -37,6 +37,6 @@ each_once (path ∷ paths) = path ∷ filter (λ other. not (same_path path othe
 abbrev pub texts_at : List File → List (List ℕ) → List (List ℕ)
 texts_at files paths = flat_map (λ path. option_to_list (bytes_at path files)) paths
 
--- the texts of the files that the words open, each once however often it is opened
+-- the texts of the files that the words open, each once, however often it is opened
 unfoldable pub texts_once : ExpansionKind → List ℕ → List File → List (List ℕ) → List (List ℕ)
 texts_once kind directory files words = texts_at files (each_once (openings kind directory files words))

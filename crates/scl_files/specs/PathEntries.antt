@@ -1,4 +1,4 @@
--- The entries of a map of paths, in the order of adding, and what leads to them.
+-- The entries of a map of paths in the order of adding, and the links to them.
 use Rattle.std.specs.Prelude.{◌≡◌, ℕ, zero, suc, ◌==◌, cond, List, [], ◌∷◌, length, Option, None, Some}
 use Rattle.std.specs.List.{slice_get}
 use Rattle.std.specs.Ordering.{nat_cmp}
@@ -24,7 +24,7 @@ abbrev pub this_at : {T : Type 0} → List ℕ → ℕ → Option (Entry T) → 
 this_at path n None older = older
 this_at path n (Some entry) older = cond (same_path entry.path.items path) (Some n) older
 
--- where the newest of the first n entries at the path stands
+-- the index of the newest of the first n entries at the path
 abbrev pub place_at : {T : Type 0} → List ℕ → List (Entry T) → ℕ → Option ℕ
 place_at path entries zero = None
 place_at path entries (suc n) = this_at path n (slice_get entries n) (place_at path entries n)
@@ -33,12 +33,12 @@ abbrev pub this_or : {T : Type 0} → ℕ → ℕ → Option (Entry T) → Optio
 this_or node n None older = older
 this_or node n (Some entry) older = cond (entry.node == node) (Some n) older
 
--- where the newest of the first n entries at the node stands
+-- the index of the newest of the first n entries at the node
 abbrev pub newest_up_to : {T : Type 0} → ℕ → List (Entry T) → ℕ → Option ℕ
 newest_up_to node entries zero = None
 newest_up_to node entries (suc n) = this_or node n (slice_get entries n) (newest_up_to node entries n)
 
--- each entry has the node that its path leads to, and leads to the next older one there, and the map leads to the newest
+-- each entry has the node of its path and the index of the next older entry there, and the map has the index of the newest
 pub record IsLinked {T : Type 0} (entries : List (Entry T)) (tree : PathTree) (newest : BTreeMap ℕ ℕ) : Type 0 where
   pub is_tree : IsTree tree
   pub reached : (k : ℕ) (entry : Entry T) → slice_get entries k ≡ Some entry → node_at entry.path.items tree ≡ Some entry.node

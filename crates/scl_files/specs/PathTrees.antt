@@ -1,4 +1,4 @@
--- The nodes of a tree of names, and the paths that lead to them.
+-- The nodes of a tree of names, and the paths to them.
 use Rattle.std.specs.Prelude.{◌≡◌, ℕ, ◌<◌, ◌≤◌, List, [], ◌∷◌, ◌++◌, fold, Option, Some}
 use Rattle.std.specs.Option.{option_and_then}
 use Rattle.std.specs.Ordering.{nat_cmp, ordering_then}
@@ -12,15 +12,15 @@ use Rattle.scl_files.specs.declared.path_map.tree.PathTree.{PathTree}
 abbrev pub name_number : List ℕ → PathTree → Option ℕ
 name_number name tree = get_by (λ key. slice_cmp nat_cmp name key.items) tree.numbers
 
--- the order of steps: of a node and a name's number
+-- the order of steps: by the node, then by the name's number
 abbrev pub step_cmp : ℕ × ℕ → ℕ × ℕ → Ordering
 step_cmp a b = ordering_then (nat_cmp a.0 b.0) (nat_cmp a.1 b.1)
 
--- where a name leads from a node
+-- the child of a node by a name
 abbrev pub child : PathTree → List ℕ → ℕ → Option ℕ
 child tree name node = option_and_then (λ number. get step_cmp tree.children (node, number)) (name_number name tree)
 
--- where names lead in turn
+-- the node that is reached by names in turn
 abbrev pub led : PathTree → Option ℕ → List (List ℕ) → Option ℕ
 led tree node names = fold (λ at name. option_and_then (child tree name) at) node names
 
@@ -32,11 +32,11 @@ parts_of path = (components path).start ∷ (components path).names
 abbrev pub node_at : List ℕ → PathTree → Option ℕ
 node_at path tree = led tree (Some 0) (parts_of path)
 
--- where names led they lead, to the same node
+-- names that led to a node lead to the same one
 abbrev pub Keeps : PathTree → PathTree → Type 0
 Keeps old new = (name : List ℕ) (node to : ℕ) → child old name node ≡ Some to → child new name node ≡ Some to
 
--- each number has one name, and to each node lead one list of parts
+-- each number has one name, and each node has one list of parts that leads to it
 pub record IsTree (tree : PathTree) : Type 0 where
   pub name : ℕ → List ℕ
   pub parts : ℕ → List (List ℕ)

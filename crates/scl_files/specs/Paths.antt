@@ -36,7 +36,7 @@ pub record Place : Type 0 where
 abbrev pub placed : List ℕ → List ℕ → Place
 placed before name = record { before = before; name = name }
 
--- the path through a name
+-- the path up to the end of a name
 abbrev pub through : Place → List ℕ
 through place = place.before ++ place.name
 
@@ -45,7 +45,7 @@ abbrev pub places_after : List ℕ → List (List ℕ) → List Place
 places_after before [] = []
 places_after before (part ∷ parts) = if is_name part then placed before part ∷ places_after (before ++ part ++ codes "/") parts else places_after (before ++ part ++ codes "/") parts
 
--- the names of a path and where they stand: the parts between slashes that are neither empty nor `.`
+-- the names of a path with their places: the parts between slashes that are neither empty nor `.`
 unfoldable pub places : List ℕ → List Place
 places path = places_after [] (slice_split is_slash path)
 
@@ -64,7 +64,7 @@ pub record Components : Type 0 where
 abbrev pub components : List ℕ → Components
 components path = record { start = start path; names = names_of (places path) }
 
--- the components are the same
+-- whether the components are the same
 abbrev pub same_components : Components → Components → Bool
 same_components a b = bytes_eq a.start b.start && pointwise bytes_eq a.names b.names
 
@@ -75,14 +75,14 @@ abbrev pub unless_parent : Option Place → Option Place
 unless_parent None = None
 unless_parent (Some place) = if bytes_eq place.name (codes "..") then None else Some place
 
--- where the file name stands: the last component, unless that is `.`, `..`, the root or absent
+-- the place of the file name: the last component, unless that is `.`, `..`, the root or absent
 abbrev pub file_place : List ℕ → Option Place
 file_place path = unless_parent (last_or None (places path))
 
 abbrev pub file_name : List ℕ → Option (List ℕ)
 file_name path = option_map (λ place. place.name) (file_place path)
 
--- what follows the last dot of a name, unless there is none or it is the first byte
+-- what follows the last dot of a name; none if there is no dot or it is the first byte
 abbrev pub extension_of_name : List ℕ → Option (List ℕ)
 extension_of_name name = if length (before_last is_dot name) == 0 then None else Some (after_last is_dot name)
 
@@ -97,7 +97,7 @@ extension path = option_and_then extension_of_name (file_name path)
 abbrev pub join : List ℕ → List ℕ → List ℕ
 join a b = if begins_with_slash b || length a == 0 then b else (if ends_with_slash a then a ++ b else a ++ codes "/" ++ b)
 
--- the path cut at the end of its file name's stem, a dot and the extension
+-- the path up to the end of its file name's stem, then a dot and the extension
 abbrev pub extended_at : List ℕ → Option Place → List ℕ → List ℕ
 extended_at path None extension = path
 extended_at path (Some place) extension = place.before ++ stem_of_name place.name ++ codes "." ++ extension
@@ -105,7 +105,7 @@ extended_at path (Some place) extension = place.before ++ stem_of_name place.nam
 abbrev pub with_extension : List ℕ → List ℕ → List ℕ
 with_extension path extension = extended_at path (file_place path) extension
 
--- the path through the component before the last name
+-- the path up to the end of the component before the last name
 abbrev pub parent_from : List ℕ → List ℕ → List Place → List ℕ
 parent_from parent last [] = parent
 parent_from parent last (place ∷ rest) = parent_from last (through place) rest
@@ -113,7 +113,7 @@ parent_from parent last (place ∷ rest) = parent_from last (through place) rest
 abbrev pub parent : List ℕ → List ℕ
 parent path = parent_from (start path) (start path) (places path)
 
--- the path without its file name, which is then joined on
+-- the path without its file name, joined with the new one
 abbrev pub with_file_name : List ℕ → List ℕ → List ℕ
 with_file_name path name = join (if is_some (file_place path) then parent path else path) name
 

@@ -1,4 +1,4 @@
--- How a word names a response file, and what words stand in the file.
+-- How a word names a response file, and which words the file has.
 use Rattle.std.specs.Prelude.{ℕ, ◌==◌, ◌&&◌, ◌||◌, not, Bool, true, false, cond, filter, List, [], ◌∷◌, Option, None, Some}
 use Rattle.std.specs.Option.{option_map, option_and_then}
 use Rattle.std.specs.Str.{chars}
@@ -12,7 +12,7 @@ use Rattle.scl_files.specs.Decoding.{utf8_text, decoded}
 use Rattle.scl_files.specs.declared.expand.ExpansionKind.{ExpansionKind}
 use Rattle.scl_files.specs.declared.expand.ExpansionKind.TheVariants as kinds
 
--- what stands behind `@`
+-- what follows `@`
 abbrev pub name_behind_at : List ℕ → Option (List ℕ)
 name_behind_at [] = None
 name_behind_at (b ∷ name) = cond (b == at_sign) (Some name) None
@@ -22,7 +22,7 @@ abbrev pub is_reserved : List ℕ → Bool
 is_reserved [] = false
 is_reserved (b ∷ name) = b == capital_e || b == capital_o || b == at_sign
 
--- what stands behind `-@`, unless it is reserved
+-- what follows `-@`, unless it is reserved
 abbrev pub name_behind_dash_at : List ℕ → Option (List ℕ)
 name_behind_dash_at [] = None
 name_behind_dash_at (a ∷ []) = None
@@ -34,17 +34,17 @@ file_name_in kinds.Gnu word = name_behind_at word
 file_name_in kinds.Msvc word = name_behind_at word
 file_name_in kinds.Diab word = name_behind_dash_at word
 
--- the path of the file that the word names, from the directory
+-- the path, from the directory, of the file that the word names
 unfoldable pub named : ExpansionKind → List ℕ → List ℕ → Option (List ℕ)
 named kind directory word = option_map (join directory) (file_name_in kind word)
 
--- the words that the bytes of a file hold, if they are a text that can be read
+-- the words in a file's bytes, if these are a text that can be read
 unfoldable pub arguments : ExpansionKind → List ℕ → Option (List (List ℕ))
 arguments kinds.Gnu bytes = option_map (λ text. gnu_arguments (chars text)) (utf8_text bytes)
 arguments kinds.Msvc bytes = option_map (λ text. msvc_arguments (chars text)) (decoded bytes)
 arguments kinds.Diab bytes = option_and_then (λ text. diab_arguments (chars text)) (utf8_text bytes)
 
--- while a file is open at the one path, no word opens one at the other
+-- while a file is open at the first path, no word opens one at the second
 abbrev pub hides : ExpansionKind → List ℕ → List ℕ → Bool
 hides kinds.Gnu path other = same_path path other
 hides kinds.Msvc path other = true

@@ -1,4 +1,4 @@
--- What a view holds: files, directories and other paths that exist, all by paths that are compared by their components.
+-- What a view has: files, directories and other paths that exist. Paths are compared by their components.
 use Rattle.std.specs.Prelude.{ℕ, Bool, false, cond, ◌||◌, List, [], ◌∷◌, Option, None, Some, is_some, Vec}
 use Rattle.std.specs.List.{list_any}
 use Rattle.std.specs.declared.alloc.Global.{Global}
@@ -8,7 +8,7 @@ pub record File : Type 0 where
   pub path : List ℕ
   pub bytes : List ℕ
 
--- what was added, the newest first; a file stands where the first one at its path was added
+-- what was added, the newest first; a file that is added again keeps its place
 pub record Viewed : Type 0 where
   pub files : List File
   pub directories : List (List ℕ)
@@ -23,16 +23,16 @@ abbrev pub bytes_at : List ℕ → List File → Option (List ℕ)
 bytes_at path [] = None
 bytes_at path (file ∷ files) = cond (same_path file.path path) (Some file.bytes) (bytes_at path files)
 
--- the file's bytes in the place of those of the newest file at its path
+-- the file's bytes in place of those of the newest file at its path
 abbrev pub with_bytes : File → List File → List File
 with_bytes file [] = []
 with_bytes file (other ∷ files) = cond (same_path other.path file.path) (record { path = other.path; bytes = file.bytes } ∷ files) (other ∷ with_bytes file files)
 
--- the files with one more; one at the same path gives way
+-- the files with one more; it replaces one at the same path
 abbrev pub put_file : File → List File → List File
 put_file file files = cond (is_some (bytes_at file.path files)) (with_bytes file files) (file ∷ files)
 
--- the path is among these
+-- whether the path is among these
 abbrev pub is_among : List ℕ → List (List ℕ) → Bool
 is_among path others = list_any (λ other. same_path other path) others
 
@@ -43,7 +43,7 @@ is_directory path view = is_among path view.directories
 abbrev pub exists : List ℕ → Viewed → Bool
 exists path view = is_some (bytes_at path view.files) || (is_directory path view || is_among path view.existing)
 
--- what an entry of a path and its value is
+-- an entry of a map as a file of the view
 abbrev pub file_of : List ℕ × Vec ℕ Global → File
 file_of entry = record { path = entry.0; bytes = entry.1.items }
 

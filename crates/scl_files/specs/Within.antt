@@ -1,6 +1,6 @@
--- Command lines that have at most so many words.
+-- Command lines with at most a given number of words.
 use Rattle.std.specs.Prelude.{ℕ, nat_le, Bool, List, length}
 
--- whether these words are at most so many
+-- whether there are at most `most` of these words
 abbrev pub is_within : ℕ → List (List ℕ) → Bool
 is_within most words = nat_le (length words) most

@@ -11,11 +11,11 @@ pub record WordsToCome : Type 0 where
   pub words : List (List ℕ)
   pub ended : Bool
 
--- an error may come where no word is left
+-- an error may come when no word is left
 abbrev pub items_left : WordsToCome → Count
 items_left s = at_most (cond s.ended 0 (1 + length s.words))
 
--- a call gave the first word, or an error, which ends it, or met the end
+-- a call gave the first word; or an error, which ends the iterator; or it reached the end
 abbrev pub Gives : {A : Type 0} → (A → List ℕ) → WordsToCome → Option (Result A AllocError) → WordsToCome → Type 0
 Gives bytes_of s None t = (t.ended ≡ true) × (s.ended ≡ false → s.words ≡ [])
 Gives bytes_of s (Some (Ok word)) t = (s.ended ≡ false) × (t.ended ≡ false) × (s.words ≡ bytes_of word ∷ t.words)

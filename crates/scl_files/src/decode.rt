@@ -1,4 +1,4 @@
-//! Bytes as text: UTF-8, UTF-16 by its mark, windows-1252.
+//! Bytes as text: UTF-8, UTF-16 with a byte order mark, windows-1252.
 ghost use Rattle.std.specs.Prelude.{◌≡◌, IfOk};
 ghost use Rattle.std.specs.Option.{option_map, option_copied};
 ghost use Rattle.std.specs.String.{string_bytes};
@@ -8,7 +8,7 @@ use bstr::ByteSlice;
 use scl_values::Mem;
 use std::alloc::Global;
 
-/// Which byte of a 16-bit number stands first.
+/// Which byte of a 16-bit number comes first.
 #[derive(Clone, Copy)]
 pub(crate) enum Order {
     LittleEndFirst,
@@ -86,8 +86,8 @@ pub(crate) fn utf8_text(bytes: &[u8]) -> Option<&str>
     bytes.to_str().ok()
 }
 
-/// The text of bytes in UTF-8, all of them: a leading mark `EF BB BF` is part of it. None if they are
-/// malformed. The error is a refusal of memory. (docs/RULES.md, Decoding)
+/// All the bytes as a text in UTF-8; a leading mark `EF BB BF` is part of the text. None if they are malformed
+/// (docs/RULES.md, Decoding).
 pub fn from_local_codepage(alloc: Global, bytes: &[u8]) -> Mem<Option<String>>
     ensures { IfOk result (λ o. option_map string_bytes o ≡ utf8_text bytes.now) }
 {
@@ -97,8 +97,8 @@ pub fn from_local_codepage(alloc: Global, bytes: &[u8]) -> Mem<Option<String>>
     }
 }
 
-/// The text of a file's bytes: by its mark UTF-8 or UTF-16 of either order, without the mark, and else
-/// windows-1252. None if they are malformed. The error is a refusal of memory. (docs/RULES.md, Decoding)
+/// The text of a file's bytes: by its mark UTF-8 or UTF-16 of either byte order, without the mark; else windows-1252. None if
+/// they are malformed (docs/RULES.md, Decoding).
 #[tactic(auto, unfolding(crate::specs::Decoding::decoded))]
 pub fn read_text(alloc: Global, bytes: &[u8]) -> Mem<Option<String>>
     ensures { IfOk result (λ o. option_map string_bytes o ≡ decoded bytes.now) }

@@ -15,8 +15,8 @@ fn has_quote(text: &str) -> bool
     text.chars().any(|c| c == '\'' || c == '"')
 }
 
-/// The arguments of a Diab options file's text, each in UTF-8: what stands between white space. None where a quote
-/// of either kind stands in the text. The error is a refusal of memory. (docs/RULES.md, Diab text)
+/// The arguments of a Diab options file's text, each in UTF-8: the stretches between white space. None if the text has a
+/// quote of either kind (docs/RULES.md, Diab text).
 #[tactic(auto, using(crate::proofs::DiabLemmas::argument_rules))]
 pub fn split_diab(alloc: Global, text: &str) -> Mem<Option<Vec<Vec<u8>>>>
     ensures { IfOk result (λ o. option_map (λ v. words_of v.items) o ≡ diab_arguments (chars text.now)) }

@@ -1,4 +1,4 @@
-//! Words in which response files are put in place.
+//! Words with response files expanded.
 ghost use Rattle.std.specs.Prelude.{◌≡◌, is_some, IfOk};
 ghost use Rattle.std.specs.List.{list_any};
 ghost use Rattle.scl_files.specs.ResponseFiles.{file_name_in};
@@ -12,7 +12,7 @@ use crate::view::View;
 use scl_values::Mem;
 use std::alloc::Global;
 
-/// Whose response files are put in place (docs/RULES.md, Expansion).
+/// The compiler whose response files are expanded (docs/RULES.md, Expansion).
 #[derive(Clone, Copy, Debug, PartialEq, Eq)]
 pub enum ExpansionKind {
     /// `@name`, GNU text, expanded again.
@@ -23,8 +23,7 @@ pub enum ExpansionKind {
     Diab,
 }
 
-/// All the words with response files put in place, as the iterator of the kind gives them
-/// (docs/RULES.md, Expansion). It fails only for want of memory.
+/// All words with response files expanded, as the iterator of this kind gives them (docs/RULES.md, Expansion).
 pub fn expand_all(
     alloc: Global,
     kind: ExpansionKind,
@@ -60,8 +59,8 @@ pub(crate) fn name_files(kind: ExpansionKind, words: &[Vec<u8>]) -> bool
     false
 }
 
-/// The words that `expand_all` gives, of words that are handed over: where none of them names a file they are the same
-/// (docs/RULES.md, Expansion). It fails only for want of memory.
+/// The words that `expand_all` gives. It takes ownership of the words, and returns them unchanged if none of them names a
+/// file (docs/RULES.md, Expansion).
 pub fn expand_words(
     alloc: Global,
     kind: ExpansionKind,
@@ -77,6 +76,6 @@ pub fn expand_words(
     Ok(words)
 }
 
-/// That an expansion gives more words than were asked for.
+/// An expansion exceeds its limit of words, or of opened files.
 #[derive(Debug, Clone, Copy, PartialEq, Eq)]
 pub struct TooManyWords;

@@ -11,7 +11,7 @@ use scl_values::Mem;
 use std::alloc::Global;
 use std::marker::Model;
 
-/// The words of an expansion of any kind.
+/// The words of an expansion of one kind.
 #[derive(Drop)]
 pub(crate) struct Expand<'a> {
     expansion: Expansion<'a>,
@@ -73,8 +73,8 @@ impl Iterator for Expand<'_> {
     }
 }
 
-/// The words with the GNU response files that `@name` words name put in place. A refusal of memory is
-/// the last item (docs/RULES.md, Expansion).
+/// The words, with the GNU response files expanded that `@name` words name. A failed allocation is the last item
+/// (docs/RULES.md, Expansion).
 #[derive(Drop)]
 pub struct GnuExpand<'a> {
     words: Expand<'a>,
@@ -89,7 +89,7 @@ impl<'a> Model for GnuExpand<'a> {
 }
 
 impl<'a> GnuExpand<'a> {
-    /// An expansion that has not begun; it takes no memory yet (docs/RULES.md, Expansion).
+    /// An expansion before its first word; nothing is allocated yet (docs/RULES.md, Expansion).
     pub fn new(alloc: Global, cwd: &'a [u8], words: &'a [Vec<u8>], view: &'a View) -> GnuExpand<'a>
         ensures { result ≡ record { words = expand ExpansionKind.Gnu cwd.now view.now.files (words_of words.now); ended = false } }
     {
@@ -111,8 +111,8 @@ impl Iterator for GnuExpand<'_> {
     }
 }
 
-/// The words with the MSVC response files that `@name` words name put in place. A refusal of memory is
-/// the last item (docs/RULES.md, Expansion).
+/// The words, with the MSVC response files expanded that `@name` words name. A failed allocation is the last item
+/// (docs/RULES.md, Expansion).
 #[derive(Drop)]
 pub struct MsvcExpand<'a> {
     words: Expand<'a>,
@@ -127,7 +127,7 @@ impl<'a> Model for MsvcExpand<'a> {
 }
 
 impl<'a> MsvcExpand<'a> {
-    /// An expansion that has not begun; it takes no memory yet (docs/RULES.md, Expansion).
+    /// An expansion before its first word; nothing is allocated yet (docs/RULES.md, Expansion).
     pub fn new(alloc: Global, cwd: &'a [u8], words: &'a [Vec<u8>], view: &'a View) -> MsvcExpand<'a>
         ensures { result ≡ record { words = expand ExpansionKind.Msvc cwd.now view.now.files (words_of words.now); ended = false } }
     {
@@ -149,8 +149,8 @@ impl Iterator for MsvcExpand<'_> {
     }
 }
 
-/// The words with the Diab response files that `-@name` words name put in place. A refusal of memory is
-/// the last item (docs/RULES.md, Expansion).
+/// The words, with the Diab response files expanded that `-@name` words name. A failed allocation is the last item
+/// (docs/RULES.md, Expansion).
 #[derive(Drop)]
 pub struct ExpandAtArgs<'a> {
     words: Expand<'a>,
@@ -165,7 +165,7 @@ impl<'a> Model for ExpandAtArgs<'a> {
 }
 
 impl<'a> ExpandAtArgs<'a> {
-    /// An expansion that has not begun; it takes no memory yet (docs/RULES.md, Expansion).
+    /// An expansion before its first word; nothing is allocated yet (docs/RULES.md, Expansion).
     pub fn new(
         alloc: Global,
         cwd: &'a [u8],

@@ -1,4 +1,4 @@
-//! The engine of all expansions: files that are open, and the words that are left of them.
+//! The engine of all expansions: the files that are open, and the words left in them.
 ghost use Rattle.std.specs.Prelude.{◌≡◌, [], ◌∷◌, IfOk, MatchOption, length};
 ghost use Rattle.std.specs.Option.{option_map};
 ghost use Rattle.std.specs.Vec.Iter.{into_iter_items, into_iter_len};
@@ -12,7 +12,7 @@ use std::alloc::Global;
 use std::mem::replace;
 use std::vec::IntoIter;
 
-/// The words of a file that are left.
+/// The words left in a file.
 #[derive(Drop)]
 pub(crate) struct WordsLeft {
     words: IntoIter<Vec<u8>>,
@@ -29,8 +29,8 @@ impl WordsLeft {
     }
 }
 
-/// An expansion that has begun: the given words that are left, those of the file opened last, and
-/// the files that are open, the last opened last, each with the words left around it.
+/// An expansion that has begun: the given words that are left, the words left in the file opened last, and the open files.
+/// These are in the order of opening, each with the words left around it.
 #[derive(Drop)]
 pub(crate) struct Expansion<'a> {
     alloc: Global,
@@ -42,16 +42,16 @@ pub(crate) struct Expansion<'a> {
     open_files: PathMap<WordsLeft>,
 }
 
-/// What a step came to.
+/// The result of a step.
 #[derive(Drop)]
 pub(crate) enum Step {
     /// The next word.
     Word(Vec<u8>),
-    /// The next file that is opened, by its path.
+    /// A file was opened, at this path.
     Opened(Vec<u8>),
     /// The file opened last was closed.
     Closed,
-    /// No word is left.
+    /// No words are left.
     End,
 }
 
@@ -84,7 +84,7 @@ impl<'a> Expansion<'a> {
         }
     }
 
-    /// Whether no word opens a file at the path now.
+    /// Whether no word may open the file at the path, given the files that are open.
     fn is_shut(&self, path: &[u8]) -> bool
         ensures { result ≡ is_shut self.now.kind path.now (open_files_of self.now) }
     {
@@ -94,7 +94,7 @@ impl<'a> Expansion<'a> {
         }
     }
 
-    /// The path and the words of the file that a word names, if it may be opened.
+    /// The path and the words of the file that a word names, if the word may open it.
     #[tactic(auto, using(crate::proofs::OpenLemmas::opened_rules))]
     fn open(&self, word: &[u8]) -> Mem<Option<(Vec<u8>, WordsLeft)>>
         ensures { IfOk result (λ r. option_map opens r ≡ opened self.now.kind self.now.directory.now (closed_of self.now) word.now) }
@@ -130,7 +130,7 @@ impl<'a> Expansion<'a> {
         }
     }
 
-    /// Takes the next given word, where no file is open.
+    /// Takes the next given word, if no file is open.
     fn next_given(&mut self) -> Mem<Step>
         requires { self.old.open_files ≡ [] }
         ensures { IfOk result (λ step. Steps self.old step self.new) }
@@ -143,7 +143,7 @@ impl<'a> Expansion<'a> {
         self.give(word)
     }
 
-    /// Takes the next word, or closes the file opened last where it has none left.
+    /// Takes the next word, or closes the file opened last if it has none left.
     pub(crate) fn step(&mut self) -> Mem<Step>
         ensures { IfOk result (λ step. Steps self.old step self.new) }
     {

@@ -33,7 +33,7 @@ fn is_gnu_separator(c: char) -> bool
 }
 
 impl Mode {
-    /// How the next character is read, and what this one is.
+    /// How the next character is read, and what this one means.
     fn read(self, c: char) -> (Mode, Mark)
         ensures mode { result.0 ≡ mode_after self c }
         ensures mark { result.1 ≡ mark_of self c }
@@ -70,9 +70,11 @@ fn keep(arguments: &mut Vec<Vec<u8>>, argument: String) -> Mem<()>
     Ok(())
 }
 
-/// The arguments of a GNU response file's text, each in UTF-8. A separator is a space, tab, LF, FF or CR; a
-/// backslash takes the next character as it is, also in double quotes; no argument is empty. The error is a refusal
-/// of memory. (docs/RULES.md, GNU text)
+/// The arguments of a GNU response file's text, each in UTF-8 (docs/RULES.md, GNU text):
+///
+/// - Separators are space, tab, LF, FF and CR.
+/// - A backslash takes the next character as it is, in double quotes too.
+/// - No argument is empty.
 pub fn split_gnu_response_file_args(alloc: Global, text: &str) -> Mem<Vec<Vec<u8>>>
     ensures arguments { IfOk result (λ v. words_of v.items ≡ gnu_arguments (chars text.now)) }
     ensures pieces { IfOk result (λ v. (ps : List Piece) → ArePieces (chars text.now) ps → words_of v.items ≡ joined [] ps) }

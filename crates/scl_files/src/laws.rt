@@ -1,4 +1,4 @@
-//! What follows from the definitions of paths, texts and expansions: each law is a clause of a function that does nothing.
+//! What follows from the definitions of paths, texts and expansions. Each law is a clause of a function with an empty body.
 ghost use Rattle.std.specs.Prelude.{◌≡◌, Some, IsTrue, ◌↔◌, IfSome};
 ghost use Rattle.scl_files.specs.Paths.{join, with_extension, with_file_name, same_path, components, is_file_name, is_plain_extension, extended_name, stem_of_name, file_name, extension};
 ghost use Rattle.scl_files.specs.GnuText.{TextsHavePieces, TextsHaveNoOtherPieces, GivesNoEmptyArgument, IsReadBack, gnu_quoted, gnu_escaped};
@@ -10,12 +10,12 @@ ghost use Rattle.scl_files.specs.ExpansionLaws.{WordsAreExpandedOneByOne, WordsO
 
 /// Laws of paths (docs/RULES.md, Paths):
 ///
-/// - `same_components`: `same_path` says that the components are equal; so it is an equivalence (`reflexive`, `symmetric`,
+/// - `same_components`: `same_path` says whether the components are equal; so it is an equivalence (`reflexive`, `symmetric`,
 ///   `transitive`);
-/// - `joined_name`, `replaced_name`: a plain name that is joined to a directory, or put in place of a file name, is the file
-///   name;
-/// - `extended_name`, `new_extension`, `same_stem`: a plain extension takes the place of the file name's own, and is then the
-///   extension; the stem stays.
+/// - `joined_name`, `replaced_name`: a plain name that is joined to a directory, or that replaces a file name, is the new
+///   file name;
+/// - `extended_name`, `new_extension`, `same_stem`: a plain extension replaces the file name's own and is then the extension;
+///   the stem stays.
 pub fn of_paths(_a: &[u8], _b: &[u8], _c: &[u8])
     ensures same_components { IsTrue (same_path _a.now _b.now) ↔ (components _a.now ≡ components _b.now) }
     ensures reflexive { IsTrue (same_path _a.now _a.now) }
@@ -35,15 +35,15 @@ pub fn of_paths(_a: &[u8], _b: &[u8], _c: &[u8])
 ///
 /// - `gnu_pieces`, `gnu_no_other_pieces`: every text has exactly one list of pieces;
 /// - `gnu_arguments_are_nonempty`: no GNU text gives an empty argument;
-/// - `gnu_quoted_words_are_read_back`, `gnu_escaped_words_are_read_back`: words in single quotes, or with backslashes, with a
-///   space between each two, are the arguments of their text;
-/// - `only_quotes_give_empty_msvc_arguments`: an MSVC text gives an empty argument exactly where a stretch is toggling quotes
-///   alone, as `""`;
-/// - `msvc_quoted_words_are_read_back`: words that MSVC's own tools quote, with a space between each two, are the arguments
-///   of their text;
-/// - `diab_words_are_read_back`: words without white space and quotes, with a space between each two, are the arguments of
-///   their text;
-/// - `utf8_files_are_read_back`, `utf16_files_are_read_back`: a file in UTF-8 or UTF-16 behind its mark gives its characters.
+/// - `gnu_quoted_words_are_read_back`, `gnu_escaped_words_are_read_back`: a text of words in single quotes, or with
+///   backslashes, separated by spaces, gives these words;
+/// - `only_quotes_give_empty_msvc_arguments`: an MSVC text gives an empty argument exactly where a stretch has only toggling
+///   quotes, as in `""`;
+/// - `msvc_quoted_words_are_read_back`: a text of words that are quoted as MSVC's tools do, separated by spaces, gives these
+///   words;
+/// - `diab_words_are_read_back`: a text of words without white space and quotes, separated by spaces, gives these words;
+/// - `utf8_files_are_read_back`, `utf16_files_are_read_back`: a file in UTF-8 or UTF-16, after its mark, gives its
+///   characters.
 #[tactic(auto, using(crate::proofs::GnuLaws::gnu_laws, crate::proofs::MsvcLaws::msvc_laws, crate::proofs::DiabLaws::plain_words_are_read_back, crate::proofs::DecodeLaws::file_laws))]
 pub fn of_texts()
     ensures gnu_pieces { TextsHavePieces }
@@ -58,17 +58,17 @@ pub fn of_texts()
     ensures utf16_files_are_read_back { Utf16FilesAreReadBack }
 {}
 
-/// Laws of words in which response files are put in place (docs/RULES.md, Expansion):
+/// Laws of words with response files expanded (docs/RULES.md, Expansion):
 ///
-/// - `words_are_expanded_one_by_one`: a word gives itself, or the expansion of the words of its file with that file open,
-///   and then come the others;
-/// - `words_of_msvc_files_stand`: the words of an MSVC file stand as they are;
-/// - `absent_files_leave_their_words`, `unreadable_files_leave_their_words`: where a word names a file that is absent, or
-///   whose text can't be read, the word stands;
-/// - `open_files_are_absent_inside`: while a file is open, it is absent for the words inside it;
-/// - `plain_words_stand`: where no word names a file, the words stand;
-/// - `each_file_is_open_once`: no file is open twice on a chain of files in which each is named by a word while the ones
-///   before it are open.
+/// - `words_are_expanded_one_by_one`: a word gives itself, or the expansion of the words of its file while that file is open;
+///   then the other words follow;
+/// - `words_of_msvc_files_stand`: the words of an MSVC file are not expanded;
+/// - `absent_files_leave_their_words`, `unreadable_files_leave_their_words`: a word stays if the file that it names is absent
+///   or its text can't be read;
+/// - `open_files_are_absent_inside`: while a file is open, its words find no file at its path;
+/// - `plain_words_stand`: if no word names a file, the words are unchanged;
+/// - `each_file_is_open_once`: on a chain of files, each named by a word while the ones before it are open, no file is open
+///   twice.
 pub fn of_expansion()
     ensures words_are_expanded_one_by_one { WordsAreExpandedOneByOne }
     ensures words_of_msvc_files_stand { WordsOfMsvcFilesStand }
@@ -81,9 +81,9 @@ pub fn of_expansion()
 
 /// Laws of the files that words ask for (docs/RULES.md, Expansion):
 ///
-/// - `wanted_files_decide`: where the disk has the files of a view, with the same bytes, and none of those that are wanted
-///   besides, the words on the disk are the words in the view. So a caller that looks for each wanted file on the disk, and
-///   hands in those that are there, until none is found, has the words that the whole disk would give.
+/// - `wanted_files_decide`: let the disk have the files of a view, with the same bytes, and none of the other wanted files.
+///   Then the expansion on the disk is the expansion in the view. So a caller can look for each wanted file on the disk, add
+///   those that exist to the view, and repeat until none is found. Its words are then those of the whole disk.
 pub fn of_wanted_files()
     ensures wanted_files_decide { WantedFilesDecide }
 {}

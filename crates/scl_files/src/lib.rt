@@ -1,4 +1,4 @@
-//! Paths, views of files, the texts of response files, and words in which such files are put in place.
+//! Paths, views of files, the texts of response files, and the expansion of such files.
 #![tactic(auto)]
 
 mod decode;

@@ -1,4 +1,4 @@
-//! A command line in which response files are put in place: all that is known of it before it is cut.
+//! A command line with response files expanded, and all that is known of it before it is cut.
 ghost use Rattle.std.specs.Prelude.{◌≡◌, [], ◌∷◌, ◌++◌, IfOk, length, replicate};
 ghost use Rattle.scl_values.specs.Words.{words_of};
 ghost use Rattle.scl_files.specs.Expand.{expand};
@@ -15,20 +15,20 @@ use crate::wanted::lacked_files;
 use scl_values::Mem;
 use std::alloc::Global;
 
-/// Words with response files put in place, with all that is known of them before they are cut.
+/// Words with response files expanded, and all that is known of them before they are cut.
 #[derive(Debug, Drop)]
 pub struct Expanded {
     /// The words.
     pub words: Vec<Vec<u8>>,
-    /// Of each word, the index of the given word that brought it, if one did.
+    /// Of each word, the index of the given word from which it came, if it came from one.
     pub ats: Vec<Option<usize>>,
-    /// The texts of the files that were put in place, in the order in which they were first opened, each once.
+    /// The texts of the files that were expanded, in the order of their first opening, each once.
     pub texts: Vec<Vec<u8>>,
-    /// The paths of the files that the view lacks, in order and as often as they are asked for.
+    /// The paths of the wanted files that the view does not have, in order and as often as they are asked for.
     pub lacked: Vec<Vec<u8>>,
 }
 
-/// The words so far, of each the index of the given word that brought it, and the paths of the files that were opened.
+/// The words so far, the index of the given word from which each came, and the paths of the files that were opened.
 #[derive(Drop)]
 struct Walked {
     words: Vec<Vec<u8>>,
@@ -50,7 +50,7 @@ impl Walked {
     }
 }
 
-/// Puts what a word gives behind the words so far, unless that makes too many.
+/// Appends what a word expands to, unless that exceeds the limit.
 fn walk_word(
     alloc: Global,
     kind: ExpansionKind,
@@ -85,7 +85,7 @@ fn walk_word(
     }
 }
 
-/// The same of a given word, with its index.
+/// The same for a given word, with its index.
 fn walk_given(
     alloc: Global,
     kind: ExpansionKind,
@@ -134,7 +134,7 @@ fn walk(
     Ok(Ok(()))
 }
 
-/// What is known of words that may name files.
+/// The expansion of words that may name files, and all that is known of it.
 fn expand_named(
     alloc: Global,
     kind: ExpansionKind,
@@ -160,7 +160,7 @@ fn expand_named(
     }))
 }
 
-/// Given words as they stand, where they are `most` or fewer; else `TooManyWords`.
+/// The given words unchanged, if they are at most `most`; else `TooManyWords`.
 #[tactic(auto, using(crate::proofs::SourceLaws::words_count))]
 pub fn standing_line(alloc: Global, given: Sourced, most: usize) -> Result<Expanded, TooManyWords>
     ensures { Stands most (words_of given.words.items) given.ats.items result }
@@ -176,9 +176,9 @@ pub fn standing_line(alloc: Global, given: Sourced, most: usize) -> Result<Expan
     })
 }
 
-/// Given words with response files put in place, with all that is known of them before they are cut, where they are `most` or
-/// fewer and open files at most so often; else `TooManyWords`, as soon as one more came (docs/RULES.md, Expansion). A text is
-/// held once however often it is opened. The outer error is the refusal of memory.
+/// The given words with response files expanded, and all that is known of them before they are cut (docs/RULES.md,
+/// Expansion). If there are more than `most` words, or more than `most` openings of files, the result is `TooManyWords`, as
+/// soon as the limit is exceeded. A text is held once, however often it is opened.
 pub fn expand_line(
     alloc: Global,
     kind: ExpansionKind,

@@ -11,7 +11,7 @@ use scl_values::Mem;
 use std::alloc::Global;
 use std::marker::Model;
 
-/// An argument so far, the backslashes behind it, and whether a quote is open.
+/// An argument so far, the backslashes after it, and whether a quote is open.
 #[derive(Drop)]
 pub(crate) struct Reader {
     argument: String,
@@ -69,7 +69,7 @@ impl Reader {
     }
 }
 
-/// The first argument of the text, and the text behind it.
+/// The first argument of the text, and the text after it.
 fn first_argument(alloc: Global, text: &str) -> Mem<Option<(String, &str)>>
     ensures first { IfOk result (λ o. MatchOption o (msvc_arguments (chars text.now) ≡ []) (λ p. msvc_arguments (chars text.now) ≡ string_bytes p.0 ∷ msvc_arguments (chars p.1.now))) }
 {
@@ -93,9 +93,12 @@ fn first_argument(alloc: Global, text: &str) -> Mem<Option<(String, &str)>>
     }
 }
 
-/// The arguments of an MSVC response file's text, one at a time. A quote behind an even number of backslashes
-/// toggles, a space, tab, LF or CR outside quotes splits, and `""` gives an empty argument. An item's error is a
-/// refusal of memory, which ends the iterator. (docs/RULES.md, MSVC text)
+/// The arguments of an MSVC response file's text, one at a time (docs/RULES.md, MSVC text). A failed allocation is the last
+/// item.
+///
+/// - A quote after an even number of backslashes toggles.
+/// - A space, tab, LF or CR outside quotes splits.
+/// - `""` gives an empty argument.
 #[derive(Drop)]
 pub struct SplitMsvcResponseFileArgs<'a> {
     alloc: Global,
@@ -114,8 +117,8 @@ impl<'a> Model for SplitMsvcResponseFileArgs<'a> {
 }
 
 impl<'a> SplitMsvcResponseFileArgs<'a> {
-    /// An iterator over the arguments of `text`, each a text of its own in memory from `alloc`. It takes no memory
-    /// itself. (docs/RULES.md, MSVC text)
+    /// An iterator over the arguments of `text`. Each argument is a text of its own, allocated in `alloc` when it is read
+    /// (docs/RULES.md, MSVC text).
     pub fn from(alloc: Global, text: &'a str) -> SplitMsvcResponseFileArgs<'a>
         ensures { result ≡ record { words = msvc_arguments (chars text.now); ended = false } }
     {
@@ -155,8 +158,7 @@ impl Iterator for SplitMsvcResponseFileArgs<'_> {
     }
 }
 
-/// The arguments of an MSVC response file's text, each in UTF-8. The error is a refusal of memory.
-/// (docs/RULES.md, MSVC text)
+/// The arguments of an MSVC response file's text, each in UTF-8 (docs/RULES.md, MSVC text).
 pub fn msvc_words(alloc: Global, text: &str) -> Mem<Vec<Vec<u8>>>
     ensures { IfOk result (λ v. words_of v.items ≡ msvc_arguments (chars text.now)) }
 {

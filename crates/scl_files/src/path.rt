@@ -1,4 +1,4 @@
-//! Paths as bytes, by their components.
+//! Paths as bytes, compared by their components.
 ghost use Rattle.std.specs.Prelude.{◌≡◌, ◌++◌, ◌+◌, ◌≤◌, None, length, IfOk, position, drop, not};
 ghost use Rattle.std.specs.List.{before_first, last_or, suffix_len};
 ghost use Rattle.std.specs.Option.{option_copied, option_map};
@@ -42,7 +42,7 @@ fn is_name(part: &[u8]) -> bool
     !part.is_empty() && part != b".".as_slice()
 }
 
-/// A name in a path, with the bytes before it and the path through it.
+/// A name in a path, with the bytes before it and the path up to its end.
 #[derive(Drop)]
 pub(crate) struct Place<'a> {
     before: &'a [u8],
@@ -114,7 +114,7 @@ fn last_place(path: &[u8]) -> Option<Place<'_>>
     Places::new(path).last()
 }
 
-/// Where the file name stands: the last component, unless that is `.`, `..`, the root or absent.
+/// The place of the file name: the last component, unless that is `.`, `..`, the root or absent.
 fn file_place(path: &[u8]) -> Option<Place<'_>>
     ensures { option_map (λ place. placed place.before.now place.name.now) result ≡ file_place path.now }
 {
@@ -132,7 +132,7 @@ pub fn file_name(path: &[u8]) -> Option<&[u8]>
     Some(file_place(path)?.name)
 }
 
-/// The position after a name's last dot, 0 where it has none.
+/// The position after a name's last dot; 0 if it has none.
 fn after_last_dot(name: &[u8]) -> usize
     ensures { result + suffix_len (λ byte. not (is_dot byte)) name.now ≡ length name.now }
 {
@@ -156,17 +156,16 @@ fn stem_and_extension(name: &[u8]) -> (&[u8], Option<&[u8]>)
     }
 }
 
-/// What follows the last dot of a path's file name: None without a file name, without a dot, and
-/// where that dot is the first byte of the name (docs/RULES.md, Paths).
+/// What follows the last dot of a path's file name. None if there is no file name, no dot, or the only dot is the first byte
+/// (docs/RULES.md, Paths).
 pub fn extension(path: &[u8]) -> Option<&[u8]>
     ensures { option_copied result ≡ extension path.now }
 {
     stem_and_extension(file_name(path)?).1
 }
 
-/// The second path, which stands in the directory of the first: the second alone where it begins with
-/// `/` or the first is empty, and else both with a `/` between them, unless the first ends in one
-/// (docs/RULES.md, Paths). It fails only for want of memory.
+/// The second path, in the directory of the first. It is only the second if that begins with `/` or the first is empty; else
+/// both, with a `/` between them unless the first ends in one (docs/RULES.md, Paths).
 pub fn join(alloc: Global, directory: &[u8], path: &[u8]) -> Mem<Vec<u8>>
     ensures { IfOk result (λ joined. joined.items ≡ join directory.now path.now) }
 {
@@ -181,8 +180,8 @@ pub fn join(alloc: Global, directory: &[u8], path: &[u8]) -> Mem<Vec<u8>>
     Ok(joined)
 }
 
-/// The path cut at the end of its file name's stem, a dot and the extension, in bytes; a path without
-/// a file name stays as it is (docs/RULES.md, Paths). It fails only for want of memory.
+/// The path up to the end of its file name's stem, then a dot and the extension. A path without a file name is unchanged
+/// (docs/RULES.md, Paths).
 pub fn with_extension(alloc: Global, path: &[u8], extension: &[u8]) -> Mem<Vec<u8>>
     ensures { IfOk result (λ whole. whole.items ≡ with_extension path.now extension.now) }
 {
@@ -197,7 +196,7 @@ pub fn with_extension(alloc: Global, path: &[u8], extension: &[u8]) -> Mem<Vec<u
     Ok(whole)
 }
 
-/// The path through the component before its last name.
+/// The path up to the end of the component before its last name.
 fn parent(path: &[u8]) -> &[u8]
     ensures { result.now ≡ parent path.now }
 {
@@ -210,9 +209,8 @@ fn parent(path: &[u8]) -> &[u8]
     parent
 }
 
-/// The path without its file name and the slashes and `.` parts before that, with a name joined on; to
-/// a path without a file name it is joined as it is (docs/RULES.md, Paths). It fails only for want of
-/// memory.
+/// The path without its file name and without the slashes and `.` parts before it, joined with a name. A path without a file
+/// name is joined as it is (docs/RULES.md, Paths).
 pub fn with_file_name(alloc: Global, path: &[u8], name: &[u8]) -> Mem<Vec<u8>>
     ensures { IfOk result (λ whole. whole.items ≡ with_file_name path.now name.now) }
 {
@@ -222,8 +220,7 @@ pub fn with_file_name(alloc: Global, path: &[u8], name: &[u8]) -> Mem<Vec<u8>>
     }
 }
 
-/// Whether two paths have the same components: they start alike and have the same names
-/// (docs/RULES.md, Paths).
+/// Whether two paths have the same components: the same start and the same names (docs/RULES.md, Paths).
 pub fn same_path(a: &[u8], b: &[u8]) -> bool
     ensures { result ≡ same_path a.now b.now }
 {

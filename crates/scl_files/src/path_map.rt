@@ -1,4 +1,4 @@
-//! Values by paths.
+//! Maps from paths to values.
 
 mod entry;
 mod links;

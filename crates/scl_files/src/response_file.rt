@@ -30,7 +30,7 @@ pub(crate) fn file_name_in(kind: ExpansionKind, word: &[u8]) -> Option<&[u8]>
     }
 }
 
-/// The path of the file that a word names, from the directory, if it names one. The error is a refusal of memory.
+/// The path, from the directory, of the file that a word names, if it names one.
 #[tactic(auto, unfolding(crate::specs::ResponseFiles::named))]
 pub fn named(
     alloc: Global,
@@ -76,7 +76,7 @@ fn diab_arguments(alloc: Global, bytes: &[u8]) -> Mem<Option<Vec<Vec<u8>>>>
     }
 }
 
-/// The words that the bytes of a file hold, if they are a text that can be read. The error is a refusal of memory.
+/// The words in a file's bytes, if these are a text that can be read.
 pub fn arguments(alloc: Global, kind: ExpansionKind, bytes: &[u8]) -> Mem<Option<Vec<Vec<u8>>>>
     ensures { IfOk result (λ words. option_map (λ w. words_of w.items) words ≡ arguments kind bytes.now) }
 {

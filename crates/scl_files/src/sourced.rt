@@ -1,4 +1,4 @@
-//! Which given word brought a word.
+//! From which given word a word came.
 ghost use Rattle.std.specs.Prelude.{◌≡◌, [], ◌++◌, IfOk, OnOk, length, drop, replicate};
 ghost use Rattle.scl_values.specs.Words.{words_of};
 ghost use Rattle.scl_files.specs.Sources.{first_at, indices};
@@ -6,7 +6,7 @@ ghost use Rattle.scl_files.specs.Sources.{first_at, indices};
 use scl_values::Mem;
 use std::alloc::Global;
 
-/// Words, and of each the index of the given word that brought it, if one did.
+/// Words, and of each the index of the given word from which it came, if it came from one.
 #[derive(Debug, Drop)]
 pub struct Sourced {
     /// The words.
@@ -16,7 +16,7 @@ pub struct Sourced {
     ghost counted: { length ats.items ≡ length words.items },
 }
 
-/// The indices of so many words.
+/// The indices of `count` given words.
 #[tactic(auto, using(crate::proofs::SourceLaws::indices_more))]
 fn indices(alloc: Global, count: usize) -> Mem<Vec<Option<usize>>>
     ensures { IfOk result (λ ats. ats.items ≡ indices count) }
@@ -29,7 +29,7 @@ fn indices(alloc: Global, count: usize) -> Mem<Vec<Option<usize>>>
 }
 
 impl Sourced {
-    /// Given words, each with its own index. It fails only for want of memory.
+    /// Given words, each with its own index.
     #[tactic(auto, using(crate::proofs::SourceLaws::indices_count, crate::proofs::SourceLaws::words_count))]
     pub fn given(alloc: Global, words: Vec<Vec<u8>>) -> Mem<Sourced>
         ensures words { IfOk result (λ given. given.words ≡ words) }
@@ -50,14 +50,14 @@ pub fn first_at(ats: &[Option<usize>]) -> Option<usize>
     }
 }
 
-/// The indices behind so many.
+/// The indices after the first `count`.
 pub fn behind(ats: &[Option<usize>], count: usize) -> &[Option<usize>]
     ensures { result.now ≡ drop count ats.now }
 {
     &ats[count.min(ats.len())..]
 }
 
-/// Puts an index, once for each of so many words, behind others.
+/// Appends an index `count` times.
 pub(crate) fn push_at(ats: &mut Vec<Option<usize>>, at: Option<usize>, count: usize) -> Mem<()>
     ensures { OnOk result (ats.new.items ≡ ats.old.items ++ replicate count at) }
 {

@@ -10,7 +10,7 @@ use crate::view::View;
 use scl_values::Mem;
 use std::alloc::Global;
 
-/// Puts the text of the file at the path behind others.
+/// Appends the text of the file at the path.
 fn push_text(alloc: Global, texts: &mut Vec<Vec<u8>>, path: &[u8], view: &View) -> Mem<()>
     ensures { OnOk result (words_of texts.new.items ≡ words_of texts.old.items ++ option_to_list (bytes_at path.now view.now.files)) }
 {
@@ -20,7 +20,7 @@ fn push_text(alloc: Global, texts: &mut Vec<Vec<u8>>, path: &[u8], view: &View) 
     Ok(())
 }
 
-/// The texts of the files at the paths, each once however often its path stands there.
+/// The texts of the files at the paths, each once, however often its path occurs.
 pub(crate) fn texts_once(alloc: Global, paths: &[Vec<u8>], view: &View) -> Mem<Vec<Vec<u8>>>
     ensures { IfOk result (λ texts. words_of texts.items ≡ texts_at view.now.files (each_once (words_of paths.now))) }
 {

@@ -1,4 +1,4 @@
-//! What a command line may ask of files.
+//! What command lines may ask of files.
 ghost use Rattle.std.specs.Prelude.{List, OnOk, OnErr, if◌then◌else◌, Some, ◌≡◌, ℕ, ◌∷◌, true};
 ghost use Rattle.std.specs.Option.{option_copied};
 ghost use Rattle.scl_files.specs.Paths.{same_path};
@@ -9,8 +9,8 @@ use scl_values::Mem;
 use std::alloc::Global;
 use std::marker::Model;
 
-/// The files, directories and other paths that a command line may ask for, and whether it may name
-/// several architectures. Paths are compared by their components (docs/RULES.md, View).
+/// The files, directories and other paths that a command line may ask for, and whether it may name several architectures.
+/// Paths are compared by their components (docs/RULES.md, View).
 #[derive(Drop)]
 pub struct View {
     files: PathMap<Vec<u8>>,
@@ -34,7 +34,7 @@ impl Model for View {
 }
 
 impl View {
-    /// A view of nothing, where several architectures are not allowed (docs/RULES.md, View).
+    /// A view without files, in which several architectures are not allowed (docs/RULES.md, View).
     pub fn new(alloc: Global) -> View
         ensures { result ≡ empty_view }
     {
@@ -46,8 +46,8 @@ impl View {
         }
     }
 
-    /// Adds a file, in place of an earlier one at the path, whose memory is freed. Where memory is refused
-    /// the view is as it was (docs/RULES.md, View).
+    /// Adds a file. It replaces, and frees, an earlier one at the path. If an allocation fails, the view is unchanged
+    /// (docs/RULES.md, View).
     pub fn add_file(&mut self, path: Vec<u8>, bytes: Vec<u8>) -> Mem<()>
         ensures ok { OnOk result (self.new ≡ record self.old { files = put_file (record { path = path.items; bytes = bytes.items }) self.old.files }) }
         ensures found { OnOk result ((other : List ℕ) → bytes_at other self.new.files ≡ (if same_path path.items other then Some bytes.items else bytes_at other self.old.files)) }
@@ -56,7 +56,7 @@ impl View {
         self.files.put(path, bytes)
     }
 
-    /// Adds a directory. Where memory is refused the view is as it was (docs/RULES.md, View).
+    /// Adds a directory. If an allocation fails, the view is unchanged (docs/RULES.md, View).
     pub fn add_dir(&mut self, path: Vec<u8>) -> Mem<()>
         ensures ok { OnOk result (self.new ≡ record self.old { directories = path.items ∷ self.old.directories }) }
         ensures found { OnOk result ((other : List ℕ) → is_directory other self.new ≡ (if same_path path.items other then true else is_directory other self.old)) }
@@ -65,8 +65,7 @@ impl View {
         self.directories.add(path, ())
     }
 
-    /// Adds a path that exists. Where memory is refused the view is as it was (docs/RULES.md,
-    /// View).
+    /// Adds a path that exists. If an allocation fails, the view is unchanged (docs/RULES.md, View).
     pub fn add_existing(&mut self, path: Vec<u8>) -> Mem<()>
         ensures ok { OnOk result (self.new ≡ record self.old { existing = path.items ∷ self.old.existing }) }
         ensures found { OnOk result ((other : List ℕ) → exists other self.new ≡ (if same_path path.items other then true else exists other self.old)) }
@@ -75,7 +74,7 @@ impl View {
         self.existing.add(path, ())
     }
 
-    /// Says whether a command line may name several architectures (docs/RULES.md, View).
+    /// Sets whether a command line may name several architectures (docs/RULES.md, View).
     pub fn set_multiarch(&mut self, multiarch: bool)
         ensures { self.new ≡ record self.old { is_multiarch = multiarch } }
     {

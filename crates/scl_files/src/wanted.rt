@@ -1,4 +1,4 @@
-//! Which response files words ask for that a view lacks.
+//! Which response files words ask for that a view does not have.
 ghost use Rattle.std.specs.Prelude.{◌≡◌, ◌++◌, IfOk, OnOk};
 ghost use Rattle.std.specs.List.{flat_map};
 ghost use Rattle.scl_values.specs.Words.{words_of};
@@ -11,7 +11,7 @@ use crate::view::View;
 use scl_values::Mem;
 use std::alloc::Global;
 
-/// Puts the path of the file that a word names behind others, where the view lacks it.
+/// Appends the path of the file that a word names, if the view does not have it.
 fn push_absent(
     alloc: Global,
     paths: &mut Vec<Vec<u8>>,
@@ -30,7 +30,7 @@ fn push_absent(
     Ok(())
 }
 
-/// The paths of the files that words name and the view lacks.
+/// The paths of the files that words name and the view does not have.
 fn absent_files(
     alloc: Global,
     kind: ExpansionKind,
@@ -47,8 +47,8 @@ fn absent_files(
     Ok(paths)
 }
 
-/// The paths of the files that the expansion of given words would open and the view lacks, in order, and as often as they are
-/// asked for (`laws::of_wanted_files`).
+/// The paths of the files that the expansion of given words would open and that the view does not have, in order, and as
+/// often as they are asked for (`laws::of_wanted_files`).
 #[tactic(auto, unfolding(crate::specs::Wanted::wanted))]
 pub(crate) fn lacked_files(
     alloc: Global,

@@ -20,7 +20,7 @@ use Rattle.scl_gnu_reading.specs.Kinds.{of}
 use Rattle.scl_gnu.specs.ReadAgain.{inner_options_of}
 use Rattle.scl_gnu.specs.OwnTables.{is_kind}
 
--- no row of Gcc's hands words on
+-- no row of Gcc has the flag for inner words
 
 no_row : list_all (λ row. not (is_kind kind.XClang row.kind) || false) (all_rows (gcc_rows ∷ [])) ≡ true
 unfolding gcc_rows

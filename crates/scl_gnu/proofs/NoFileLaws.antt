@@ -1,4 +1,4 @@
--- The command of a record of Gcc or Clang names no response file where none was given.
+-- The command of a record of Gcc or Clang names no response file if it was given none.
 use Rattle.std.proofs.Common.{◌≡◌, ℕ, Bool, true, false, List, [], ◌∷◌, ◌++◌, map, Option, Some, Ok, refl, sym, ap, subst, ◌∙◌}
 use Rattle.std.specs.Prelude.{codes, is_some, unwrap_or}
 use Rattle.scl_values.specs.Cuts.{Cut, cut}
@@ -52,7 +52,7 @@ NameNone words = Each NamesNoFile words
 append : (xs ys : List (List ℕ)) → NameNone xs → NameNone ys → NameNone (xs ++ ys)
 append xs ys = each-append NamesNoFile xs ys
 
--- ---- words of a compiler's own
+-- ---- words that a compiler adds
 
 color-none : (color : ColorMode) → NameNone (color_words color)
 color-none colors.Off = tt
@@ -76,7 +76,7 @@ target-none : (needed has_path : Bool) (flag target : Option (List ℕ)) (object
 target-none true has_path flag target object f t n = (f, (t, depfile-none has_path object n))
 target-none false has_path flag target object f t n = tt
 
--- what is asked of the flags of a compiler's tables
+-- what is needed of the flags of a compiler's tables
 pub record PlainFlags (tables : List (List (Row Kind))) : Type 0 where
   pub carries : has_plain_flags carried (all_rows tables) ≡ true
   pub compiles : has_plain_flags (is_kind kind.DoCompilation) (all_rows tables) ≡ true
@@ -95,7 +95,7 @@ module _ (compiler : CCompilerKind) (tables : List (List (Row Kind))) (flags : P
         append _ _ (listed-none p side_of_flag os none
         (plain-found tables (is_clang compiler) carried flags.carries p (λ f k v h e. same-list (place k) there lists e) ws)) (inside there lists)
 
-    -- the last flag of a kind with plain flags, else another
+    -- the last flag of a kind with plain flags, or another flag
     last-flag : (k : Kind) (other : List ℕ) → has_plain_flags (is_kind k) (all_rows tables) ≡ true → NamesNoFile other → NamesNoFile (unwrap_or (last_flag (of (k ∷ [])) os) other)
     last-flag k other plain n = last-none HasPlainFlag flag_of flag-none (of (k ∷ [])) os other (plain-found tables (is_clang compiler) (is_kind k) plain (of (k ∷ [])) (λ f x v h e. e) ws) n
 
@@ -134,7 +134,7 @@ module _ (compiler : CCompilerKind) (tables : List (List (Row Kind))) (flags : P
     (inside : (directory : List ℕ) (view : Viewed) (words : List (List ℕ)) →
     let inner = inner_options_of directory view (map shown (options_of expansions.Gnu tables (is_clang compiler) directory view words)) in
     Each (λ i. Each GivesNoFile i.options) (map inner_of (handed_on inner)) → (there : Place) → is_list there ≡ true → NameNone (inner_words_at there (map shown inner))) where
-  -- where words have a record with an object, its command names no response file of its own
+  -- if words have a record with an object, its command names no response file of its own
   commands-none : (plusplus : Bool) (directory : List ℕ) (view : Viewed) (words : List (List ℕ)) (p : Parsed) (object : List ℕ) →
       reading compiler plusplus tables directory view words ≡ Ok p → object_of p ≡ Some object →
       NamesNoFileOfItsOwn (said_by (line_of tables (is_clang compiler) handed_on directory view words)) object (command_words (text p.language) p object)

@@ -1,4 +1,4 @@
--- What is left of words is what the rule leaves, and it stands in its order.
+-- Exactly what the rule leaves is left of words, in order.
 use Rattle.std.proofs.Common.{◌≡◌, ℕ, zero, suc, List, [], ◌∷◌, drop, refl, sym, ap, subst, ◌∙◌, arith}
 use Rattle.scl_gnu.specs.OutputFiles.{file_count, left_behind, without_output_files, LeavesOut, ends, keeps, leaves, StandIn, none, next, later, OutputFilesAreLeftOut}
 use Rattle.scl_gnu.proofs.OutputFileLemmas.{step, without-nil, without-kept, without-left}

@@ -10,7 +10,7 @@ use Rattle.std.proofs.Common.{get_or}
 use Rattle.scl_values.specs.Words.{words_of}
 use Rattle.scl_gnu.specs.OutputFiles.{file_count, left_behind, without_output_files}
 
--- what is left behind so many words is what is left of the others
+-- what is left after n words is what is left of the others
 pub left_behind-drop : (n : ℕ) (words : List (List ℕ)) → left_behind n words ≡ left_behind 0 (drop n words)
 left_behind-drop zero words = refl
 left_behind-drop (suc n) [] = refl

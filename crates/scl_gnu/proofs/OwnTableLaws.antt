@@ -1,4 +1,4 @@
--- Commands by tables of one's own are read again, where the tables keep what the builder's own words ask of them.
+-- Commands by a caller's own tables are read again, if the tables satisfy the conditions of the builder's own words.
 use Rattle.std.proofs.Common.{◌≡◌, ℕ, Bool, true, List, [], ◌∷◌, ◌++◌, map, None, Some, refl, ◌⊎◌, inr, arith}
 use Rattle.std.proofs.lemmas.Bool.{and_parts}
 use Rattle.std.proofs.lemmas.List.{append-nil}
@@ -88,7 +88,7 @@ own-tables-keep tables h =
       alone = others.1;
     }
 
--- ---- what the laws of commands ask
+-- ---- what the laws of commands need
 
 pub own-words : (tables : List (List (Row Kind))) (dashes : Bool) → Keeps tables → OwnWords tables dashes
 own-words tables dashes k =

@@ -1,4 +1,4 @@
--- What is asked of a compiler's own words and inner command lines, and what its own options are not.
+-- What is needed of a compiler's own words and inner command lines, and what its own options are not.
 use Rattle.std.proofs.Common.{◌≡◌, ℕ, Bool, true, false, not, ◌||◌, List, [], ◌∷◌, ◌++◌, map, Option, None, Some, refl, ap, ◌∙◌, append_assoc}
 use Rattle.std.proofs.lemmas.List.{append-nil}
 use Rattle.std.specs.List.{flat_map, list_all}
@@ -35,7 +35,7 @@ xclang = codes "-Xclang"
 abbrev pub wrapped : Inner Kind Kind → List ℕ → List (List ℕ)
 wrapped i w = wrapped_apart xclang w
 
--- what is asked of a compiler's tables: its own words are read by evaluation, and two facts of rows
+-- what is needed of a compiler's tables: its own words are read by evaluation, and two facts of rows
 module _ (tables : List (List (Row Kind))) (dashes : Bool) where
   abbrev Again : List (List ℕ) → List (Plain Kind) → Type 0
   Again ws os = Reads (owner_in tables) dashes ws os
@@ -52,14 +52,14 @@ module _ (tables : List (List (Row Kind))) (dashes : Bool) where
     pub target_flags : list_all (λ row. not (is_kind kind.DepTarget row.kind) || may_stand_apart row.shape) (all_rows tables) ≡ true
     pub other_flags : list_all (λ row. not (is_kind kind.DepTarget row.kind) || not (bytes_eq row.flag xclang)) (all_rows tables) ≡ true
 
-  -- the inner command lines, of which the lists have these inner options
+  -- the inner command lines; the lists have these inner options of them
   pub record AreInners (inner : List (Seen Kind)) (inners : List (Inner Kind Kind)) : Type 0 where
     pub are : Each (IsInner tables dashes clang_tables again.carried again.carried_inner side_of_flag wrapped) inners
     pub own_flags : HaveOwnFlags inners
     pub flags : Each (λ i. i.flag ≡ xclang) inners
     pub words_are : (there : Place) → flat_map (λ i. flat_map (wrapped i) (list side_of_flag (goes_inside_to there) i.options)) inners ≡ inner_words_at there inner
 
--- ---- none of the own options hands words on
+-- ---- no own option is the flag for inner words
 
 pub not-so : (b : Bool) → not b ≡ true → b ≡ false
 not-so true e = absurd (cc)

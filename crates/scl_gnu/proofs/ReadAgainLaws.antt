@@ -133,7 +133,7 @@ module _ (compiler : CCompilerKind) (tables : List (List (Row Kind))) (own_words
     none-target true has_path target object = rw other-flag (none-depfile has_path object)
     none-target false has_path target object = refl
 
-  -- ---- behind
+  -- ---- at the end
 
   module _ (x : List ℕ) (is_text : texts is_input os ≡ x ∷ []) where
     reads-color : (color : ColorMode) → Printed (color_words color) (color_option color)
@@ -241,7 +241,7 @@ module _ (compiler : CCompilerKind) (tables : List (List (Row Kind))) (own_words
     (handed : (directory : List ℕ) (view : Viewed) (words : List (List ℕ)) →
     let inner = inner_options_of directory view (map shown (options_of expansions.Gnu tables (is_clang compiler) directory view words)) in
     Each IsClear inner → AreInners tables (is_clang compiler) (map shown inner) (map inner_of (handed_on inner))) where
-  -- where words have a record with an object, its command is read again
+  -- if words have a record with an object, its command is read again
   pub commands-again : (plusplus : Bool) (directory : List ℕ) (view : Viewed) (words : List (List ℕ)) (p : Parsed) (object : List ℕ) →
       reading compiler plusplus tables directory view words ≡ Ok p → object_of p ≡ Some object →
       let line = line_of tables (is_clang compiler) handed_on directory view words in

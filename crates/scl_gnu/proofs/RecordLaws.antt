@@ -1,4 +1,5 @@
--- What is known of every record that was read: its object, and that its line has no empty either value.
+-- What is known of every record that was read: it has an object, and no option of an either row in its line has an empty
+-- value.
 use Rattle.std.proofs.Common.{◌≡◌, List, [], ◌∷◌, Some, sym, ap, ◌∙◌}
 use Rattle.std.specs.Prelude.{map, is_some}
 use Rattle.scl_values.specs.Row.{Row}

@@ -33,7 +33,7 @@ split_first (b ∷ bs) h = elim (cases_Bool (is_space b)) [
 ]
 
 module _ (rest : List ℕ) where
-  -- what is looked for, where a first part is cut off
+  -- the part that is searched for, if a first part is cut off
   module _ (part behind : List ℕ) (cut : position_or_len is_space rest < length rest) (is_part : part ≡ before_first is_space rest) where
     pub part_found : has_dot part ≡ true → Some part ≡ find has_dot (slice_split is_space rest)
     part_found dot = rw (split_first rest cut, sym is_part, dot) refl
@@ -41,7 +41,7 @@ module _ (rest : List ℕ) where
     pub part_passed : behind ≡ after_first is_space rest → has_dot part ≡ false → find has_dot (slice_split is_space behind) ≡ find has_dot (slice_split is_space rest)
     part_passed is_behind no_dot = rw (split_first rest cut, sym is_part, no_dot, sym is_behind) refl
 
-  -- the same, where no part is
+  -- the same, if there is none
   module _ (whole : position_or_len is_space rest ≡ length rest) where
     pub last_found : has_dot rest ≡ true → Some rest ≡ find has_dot (slice_split is_space rest)
     last_found dot = rw (split_none rest whole, dot) refl

@@ -15,7 +15,7 @@ color_words colors.Off = []
 color_words colors.On = codes "-fdiagnostics-color=always" ∷ []
 color_words colors.Auto = codes "-fdiagnostics-color=always" ∷ []
 
--- what is done, and where the object goes
+-- the compile flag and the path of the object
 abbrev pub front_words : Option (List ℕ) → List ℕ → Parsed → List (List ℕ)
 front_words text object p = language_words text ++ p.compilation_flag ∷ codes "-o" ∷ object ∷ []
 
@@ -35,6 +35,6 @@ back_words p = color_words p.color_mode ++ input_words p
 abbrev pub command_words : Option (List ℕ) → Parsed → List ℕ → List (List ℕ)
 command_words text p object = front_words text object p ++ list_words p ++ back_words p
 
--- the words of the command, where the record has an object
+-- the words of the command, if the record has an object
 abbrev pub command : Option (List ℕ) → Parsed → Option (List (List ℕ))
 command text p = command_by (command_words text) p

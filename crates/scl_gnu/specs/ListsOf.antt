@@ -1,4 +1,4 @@
--- The words of the lists of a command, as the code lends them or hands them over.
+-- The words of the lists of a command, borrowed or owned by the code.
 use Rattle.std.specs.Prelude.{ℕ, List, Vec}
 use Rattle.std.specs.Cow.{cow_slice_items}
 use Rattle.std.specs.declared.alloc.Global.{Global}

@@ -1,4 +1,5 @@
--- Tables of one's own by which the commands of Gcc's and Clang's builder are read again: what their rows keep, which computes.
+-- Tables of a caller's own by which the commands of Gcc's and Clang's builder are read again: the conditions on their rows,
+-- which can be computed.
 use Rattle.std.specs.Prelude.{ℕ, Bool, not, ◌&&◌, ◌||◌, List, [], ◌∷◌, map, codes, Option, None, Some, IsTrue, IfSome}
 use Rattle.std.specs.List.{list_all, list_any}
 use Rattle.std.specs.Str.{bytes_eq}
@@ -26,7 +27,7 @@ use Rattle.scl_gnu_reading.specs.Recordings.{is_clang}
 use Rattle.scl_gnu.specs.Building.{command_words}
 use Rattle.scl_gnu.specs.ReadAgain.{line_of, behind_xclang, parts}
 
--- ---- the words that commands have of their own
+-- ---- the words that commands add
 
 abbrev pub own_words : List (OwnWord Kind)
 own_words =
@@ -38,26 +39,27 @@ own_words =
     apart_or_either (codes "-MT") kind.DepTarget ∷
     record { word = codes "-Xclang"; rows = row (codes "-Xclang") kind.XClang apart ∷ [] } ∷ []
 
--- ---- what rows of a kind keep
+-- ---- conditions on rows of a kind
 
 abbrev pub is_kind : Kind → Kind → Bool
 is_kind k other = list_any (λ x. kinds.ghosts.eq x other) (k ∷ [])
 
--- a flag that asks for a compilation takes no value
+-- a flag that requests a compilation takes no value
 abbrev pub compiles_bare : Row Kind → Bool
 compiles_bare row = not (is_kind kind.DoCompilation row.kind) || is_bare row.shape
 
--- a flag that names a target may take the next word
+-- a flag with a target may take the next word
 abbrev pub targets_apart : Row Kind → Bool
 targets_apart row = not (is_kind kind.DepTarget row.kind) || may_stand_apart row.shape
 
--- and hands no words on
+-- and it is not the flag for inner words
 abbrev pub targets_otherwise : Row Kind → Bool
 targets_otherwise row = not (is_kind kind.DepTarget row.kind) || not (bytes_eq row.flag (codes "-Xclang"))
 
 -- ---- the conditions
 
--- whether commands by the tables are read again: their own words have the owners above, no printed option is cut otherwise (both checks of tables), and no list carries an option with the flag that hands words on
+-- Whether commands by the tables are read again: their own words have the owners above; no printed option is cut differently
+-- (both checks of tables); and no list carries an option with the flag for inner words.
 abbrev pub keep_own_words : List (List (Row Kind)) → Bool
 keep_own_words tables =
     list_all (is_owned kinds.ghosts.eq tables) own_words
@@ -70,13 +72,14 @@ keep_own_words tables =
 
 -- ---- the promise
 
--- of words in a directory with a view, and of their record by the tables: the command's words, cut again by the tables, give what the words say
+-- of words in a directory with a view, and of their record by the tables: the command's words, cut again by the tables, say
+-- what the words say
 abbrev pub OwnCommandIsReadAgain : CCompilerKind → List (List (Row Kind)) → (Language → Option (List ℕ)) → List ℕ → Viewed → List (List ℕ) → Parsed → List (List ℕ) → Type 0
 OwnCommandIsReadAgain compiler tables text directory view words p command = IfSome (object_of p) (λ object.
     let line = line_of tables (is_clang compiler) (λ inner. behind_xclang inner ∷ []) directory view words in
     IsReadAgain tables (is_clang compiler) clang_tables (said_by line) (parts (text p.language) (map shown line.options) p object) command)
 
--- for all tables that keep the conditions, and any texts of languages
+-- for all tables that satisfy the conditions, and any texts of languages
 abbrev pub OwnCommandsAreReadAgain : Type 0
 OwnCommandsAreReadAgain =
     (compiler : CCompilerKind) (tables : List (List (Row Kind))) (text : Language → Option (List ℕ)) → IsTrue (keep_own_words tables) →

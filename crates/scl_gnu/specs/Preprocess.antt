@@ -13,7 +13,7 @@ use Rattle.scl_gnu.specs.Versions.{is_minversion}
 
 -- ---- the settings of a run
 
--- the flags that leave out what may be ignored, but not where lines are to be told apart
+-- the flags that leave out ignorable output, unless the run must keep line markers
 abbrev pub ignoring : Bool → Parsed → List (List ℕ) → List (List ℕ)
 ignoring may_dist p ignorable = if may_dist || p.profile_generate then [] else ignorable
 
@@ -33,22 +33,22 @@ settings kind rewrites ignorable may_dist p = ignoring may_dist p ignorable ++ r
 
 -- ---- the runs
 
--- the language, the settings, the lists, the input
+-- the language, the flags of the run, the lists, the input
 abbrev pub words_with : Option (List ℕ) → (set lists : List (List ℕ)) → Parsed → List (List ℕ)
 words_with text set lists p = language_words text ++ codes "-E" ∷ set ++ lists ++ input_words p
 
--- one run: its lists are those of the command, but for the words that do not change the outcome
+-- one run: its lists are those of the command, without the words that do not change the result
 abbrev pub run_words : Option (List ℕ) → List (List ℕ) → Parsed → List (List ℕ)
 run_words text set p = words_with text set (lists_in_order p.preprocessor_args p.dependency_args [] p.common_args p.arch_args) p
 
--- a record with these words in the place of those that name architectures
+-- a record with these words for architectures
 abbrev pub with_archs : List (List ℕ) → Parsed → Parsed
 with_archs words p = record p { arch_args = words }
 
 abbrev pub arch_words : List ℕ → List (List ℕ)
 arch_words arch = codes "-arch" ∷ arch ∷ []
 
--- a record of whose lists none makes the preprocessor write a file
+-- a record in whose lists no words make the preprocessor write a file
 abbrev pub without_files : Parsed → Parsed
 without_files p = record p {
   dependency_args = [];
@@ -64,24 +64,24 @@ is_none (word ∷ words) = false
 abbrev pub arch_run : Option (List ℕ) → List (List ℕ) → Parsed → List ℕ → Bool → List (List ℕ)
 arch_run text set p arch is_last = run_words text set (with_archs (arch_words arch) (if is_last then p else without_files p))
 
--- a run for each architecture; the last one alone writes files
+-- a run for each architecture; only the last one writes files
 abbrev pub arch_runs : Option (List ℕ) → List (List ℕ) → Parsed → List (List ℕ) → List (List (List ℕ))
 arch_runs text set p [] = []
 arch_runs text set p (arch ∷ rest) = arch_run text set p arch (is_none rest) ∷ arch_runs text set p rest
 
--- one run; or, of several architectures, which are never distributed, one for each
+-- one run; or, of several architectures, one for each, which is never distributed
 abbrev pub preprocess_passes : Option (List ℕ) → CCompilerKind → Bool → List (List ℕ) → Bool → Parsed → List (List (List ℕ))
 preprocess_passes text kind rewrites ignorable may_dist p =
     if nat_le 2 (length (archs p.arch_args))
     then arch_runs text (settings kind rewrites ignorable false p) p (archs p.arch_args)
     else run_words text (settings kind rewrites ignorable may_dist p) p ∷ []
 
--- ---- each compiler, with its flags that leave out what may be ignored
+-- ---- each compiler, with its flags that leave out ignorable output
 
 abbrev pub linemarker_flags : Bool → List (List ℕ)
 linemarker_flags cache_mode = if cache_mode then [] else codes "-P" ∷ []
 
--- Clang from version 14 on leaves out white space too, but not in assembler that is to be preprocessed
+-- Clang from version 14 on leaves out white space too, except in assembler for the preprocessor
 abbrev pub space_flags : Bool → Option (List ℕ) → Language → List (List ℕ)
 space_flags is_apple version language =
     if is_minversion is_apple version 14 && not (ghosts.eq language languages.AssemblerToPreprocess) then codes "-fminimize-whitespace" ∷ [] else []
@@ -98,14 +98,14 @@ clang_runs is_apple version may_dist rewrites cache_mode p =
 
 -- ---- laws
 
--- a record of one architecture, or of none, has one run
+-- a record with at most one architecture has one run
 abbrev pub OneArchitectureHasOneRun : Type 0
 OneArchitectureHasOneRun =
     (text : Option (List ℕ)) (kind : CCompilerKind) (rewrites : Bool) (ignorable : List (List ℕ)) (may_dist : Bool) (p : Parsed)
     → length (archs p.arch_args) < 2
     → preprocess_passes text kind rewrites ignorable may_dist p ≡ run_words text (settings kind rewrites ignorable may_dist p) p ∷ []
 
--- the runs of several differ in the words of their architecture, and in what the last one alone has
+-- the runs of several architectures differ in the words of their architecture, and in what only the last one has
 abbrev pub EachArchitectureHasItsRun : Type 0
 EachArchitectureHasItsRun =
     (text : Option (List ℕ)) (kind : CCompilerKind) (rewrites : Bool) (ignorable : List (List ℕ)) (may_dist : Bool) (p : Parsed) (others : List (List ℕ)) (last : List ℕ)

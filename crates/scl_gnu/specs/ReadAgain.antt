@@ -45,26 +45,27 @@ color_option colors.Off = []
 color_option colors.On = plain.value (codes "-fdiagnostics-color") kind.DiagnosticsColor (codes "always") ∷ []
 color_option colors.Auto = plain.value (codes "-fdiagnostics-color") kind.DiagnosticsColor (codes "always") ∷ []
 
--- where split debug information goes, where that is asked for
+-- the path of split debug information, if it is requested
 abbrev pub split_dwarf_option : Bool → List ℕ → List (Plain Kind)
 split_dwarf_option true object = plain.value (codes "-D") kind.PassThrough (codes "_gsplit_dwarf_path=" ++ with_extension object (codes "dwo")) ∷ []
 split_dwarf_option false object = []
 
--- where the dependency file goes, unless that was said
+-- the path of the dependency file, unless the line has one
 abbrev pub depfile_option : Bool → List ℕ → List (Plain Kind)
 depfile_option true object = []
 depfile_option false object = plain.value (codes "-MF") kind.DepArgumentPath (with_extension object (codes "d")) ∷ []
 
--- the target of dependencies and their file, where a target is needed
+-- the target of dependencies and their file, if a target is needed
 abbrev pub target_options : (is_needed has_path : Bool) (flag target : Option (List ℕ)) → List ℕ → List (Plain Kind)
 target_options true has_path flag target object = plain.value (unwrap_or flag (codes "-MT")) kind.DepTarget (unwrap_or target object) ∷ depfile_option has_path object
 target_options false has_path flag target object = []
 
--- the list of the outer and inner options that go to the place, and of what is added
+-- the list of the outer and inner options of this place, and of what is added
 abbrev pub list_of : Place → List (Plain Kind) → CommandList Kind Kind
 list_of there added = record { carries = goes_to there; carries_inner = goes_inside_to there; added = added }
 
--- of a record's command with this text for the language and this object file, where these are the options of the command line
+-- the parts of a record's command, with this text for the language and this object file, if these are the options of the
+-- command line
 abbrev pub parts : Option (List ℕ) → List (Seen Kind) → Parsed → List ℕ → Parts Kind Kind
 parts text os p object = record {
   front = language_option text ++ plain.flag p.compilation_flag kind.DoCompilation ∷ plain.value (codes "-o") kind.Output object ∷ [];
@@ -80,19 +81,19 @@ parts text os p object = record {
 
 -- ---- what a command line says
 
--- the inner options that the options hand on
+-- the inner options in the outer ones
 abbrev pub inner_options_of : List ℕ → Viewed → List (Seen Kind) → List (Cut Kind)
 inner_options_of directory view os = options_of expansions.Gnu clang_tables false directory view (texts (of (kind.XClang ∷ [])) os)
 
 -- ---- the promise of a command
 
--- what a command line is cut into by the tables, and how its inner options are handed on
+-- what a command line is cut into by the tables, and how its inner options are passed on
 abbrev pub line_of : List (List (Row Kind)) → Bool → (List (Cut Kind) → List (HandedOn Kind Kind)) → List ℕ → Viewed → List (List ℕ) → Line Kind Kind
 line_of tables dashes handed_on directory view words =
     let options = options_of expansions.Gnu tables dashes directory view words in
     record { options = options; handed_on = handed_on (inner_options_of directory view (map shown options)) }
 
--- Gcc has no flag that hands words on
+-- Gcc has no flag for inner words
 abbrev pub gcc_line : List ℕ → Viewed → List (List ℕ) → Line Kind Kind
 gcc_line directory view words = line_of (gcc_rows ∷ []) false (λ inner. []) directory view words
 
@@ -102,7 +103,8 @@ behind_xclang inner = record { flag = codes "-Xclang"; kind = kind.XClang; optio
 abbrev pub clang_line : List ℕ → Viewed → List (List ℕ) → Line Kind Kind
 clang_line directory view words = line_of clang_tables true (λ inner. behind_xclang inner ∷ []) directory view words
 
--- what it is for the words of the command of a record, which these words have, to be read again and to name no response file of their own
+-- what it means for the words of a record's command that they are read again and name no response file of their own, if the
+-- command line has these words
 abbrev pub GccReadsAgain : List ℕ → Viewed → List (List ℕ) → Parsed → List (List ℕ) → Type 0
 GccReadsAgain directory view words p command = IfSome (object_of p) (λ object.
     let line = gcc_line directory view words in
@@ -115,7 +117,7 @@ ClangReadsAgain directory view words p command = IfSome (object_of p) (λ object
 
 -- ---- the law of a compiler
 
--- where words have a record, by these tables, its command with this text for the language keeps the promise
+-- if words have a record by these tables, its command with this text for the language keeps the promise
 abbrev pub CommandsAreFaithful : CCompilerKind → List (List (Row Kind)) → (Language → Option (List ℕ)) → (List ℕ → Viewed → List (List ℕ) → Parsed → List (List ℕ) → Type 0) → Type 0
 CommandsAreFaithful compiler tables text promise =
     (plusplus : Bool) (directory : List ℕ) (view : Viewed) (words : List (List ℕ)) →
@@ -129,13 +131,13 @@ ClangCommandsAreFaithful = CommandsAreFaithful compilers.Clang clang_tables clan
 
 -- ---- records
 
--- where words have a record, by these tables, it has an object
+-- if words have a record by these tables, it has an object
 abbrev pub RecordsHaveObjects : CCompilerKind → List (List (Row Kind)) → Type 0
 RecordsHaveObjects compiler tables =
     (plusplus : Bool) (directory : List ℕ) (view : Viewed) (words : List (List ℕ)) (p : Parsed) →
     reading compiler plusplus tables directory view words ≡ Ok p → is_some (object_of p) ≡ true
 
--- where words have a record, by these tables, no option of an either row has an empty value in their line
+-- if words have a record by these tables, no option of an either row in their line has an empty value
 abbrev pub LinesHaveNoEmpty : CCompilerKind → List (List (Row Kind)) → (List ℕ → Viewed → List (List ℕ) → Line Kind Kind) → Type 0
 LinesHaveNoEmpty compiler tables line =
     (plusplus : Bool) (directory : List ℕ) (view : Viewed) (words : List (List ℕ)) (p : Parsed) →

@@ -1,4 +1,4 @@
--- The runs of the preprocessor for several architectures, made one.
+-- Joining the outputs of the preprocessor's runs for several architectures.
 use Rattle.std.specs.Prelude.{ℕ, ℤ, pos, Bool, not, nat_eq, if◌then◌else◌, List, [], ◌∷◌, ◌++◌, map, find, count_by, Option, None, Some, Vec, codes}
 use Rattle.std.specs.Fmt.{decimal}
 use Rattle.std.specs.List.{flat_map, ends_with}
@@ -7,7 +7,7 @@ use Rattle.std.specs.declared.alloc.Global.{Global}
 use Rattle.scl_files.specs.Characters.{line_feed, space}
 use Rattle.scl_text.specs.declared.records.PassOutput.{PassOutput}
 
--- what a run gave
+-- the result of a run
 pub record Output : Type 0 where
   pub status : ℤ
   pub stdout : List ℕ
@@ -16,7 +16,7 @@ pub record Output : Type 0 where
 abbrev pub output_of : PassOutput → Output
 output_of output = record { status = output.status; stdout = output.stdout.items; stderr = output.stderr.items }
 
--- a run, and the architecture that it was for
+-- a run, and its architecture
 pub record ArchOutput : Type 0 where
   pub arch : List ℕ
   pub output : Output
@@ -31,7 +31,7 @@ arch_outputs pairs = map arch_output pairs
 abbrev pub succeeded : ArchOutput → Bool
 succeeded run = int_eq run.output.status (pos 0)
 
--- a text with a line feed at its end, if it has none
+-- a text, with a line feed at its end
 abbrev pub ended : List ℕ → List ℕ
 ended text = if ends_with nat_eq text (line_feed ∷ []) then text else text ++ line_feed ∷ []
 
@@ -52,7 +52,7 @@ sections runs = flat_map (λ run. section run.arch run.output.stdout) runs
 abbrev pub errors : List ArchOutput → List ℕ
 errors runs = flat_map (λ run. run.output.stderr) runs
 
--- all outputs, where no run failed; else that of the first that failed; with all error outputs
+-- all outputs, if no run failed; else that of the first failed run; and all error outputs
 abbrev pub joined : Option ArchOutput → List ArchOutput → Output
 joined None runs = record { status = pos 0; stdout = sections runs; stderr = errors runs }
 joined (Some failed) runs = record { status = failed.output.status; stdout = failed.output.stdout; stderr = errors runs }

@@ -14,7 +14,7 @@ use Rattle.scl_files.proofs.ExpandLemmas.{expand-nil}
 use Rattle.scl_gnu_reading.specs.declared.gcc.data.Kind.{Kind}
 use Rattle.scl_gnu_reading.specs.Inners.{inner_reading}
 
--- where there are no words there are no options
+-- without words there are no options
 pub none_inside : (verdict : List (Seen Kind) → Seen Kind → Option Verdict) (directory : List ℕ) (view : Viewed) (words : List (Vec ℕ Global))
     → (length words == 0) ≡ true → inner_reading verdict directory view (words_of words) ≡ Ok []
 none_inside verdict directory view words e = rw (nil_from_length words (eqb-true (length words) 0 e), expand-nil _ directory view.files) refl

@@ -1,4 +1,4 @@
--- Outputs that are put one after the other in the order of their names.
+-- Outputs that are added one by one, in the order of their names.
 use Rattle.std.proofs.Common.{◌≡◌, ℕ, true, false, List, [], ◌∷◌, ◌++◌, Option, Some, refl, ◌∙◌, codes}
 use Rattle.std.proofs.lemmas.List.{append_assoc}
 use Rattle.scl_text.specs.Outputs.{output_at, put_optional}

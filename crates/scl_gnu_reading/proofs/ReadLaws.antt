@@ -1,4 +1,4 @@
--- What a reading says is what its words say.
+-- The outcome of a reading is that of its words.
 use Rattle.std.proofs.Common.{◌≡◌, ℕ, Bool, true, false, List, [], ◌∷◌, Option, None, Some, Ok, refl, ap, subst, ◌∙◌}
 use Rattle.std.specs.Prelude.{Result}
 use Rattle.scl_args.specs.Options.{unless, ◌>>=◌}
@@ -30,7 +30,7 @@ same-step : (said : Option Verdict) (options : List (Seen Kind)) (f g : List (Se
 same-step None options f g e = e
 same-step (Some v) options f g e = refl
 
--- the outcome of a reading is what its words say, by the tables, in the view
+-- the outcome of a reading is that of its words, by the tables, in the view
 pub outcome_read : (compiler : CCompilerKind) (plusplus : Bool) (tables : List (List (Row Kind))) (directory : List ℕ) (view : Viewed) (words : List (List ℕ)) (ats : List (Option ℕ))
     → (read_by compiler plusplus tables directory view (expanded_by expansions.Gnu directory view.files words ats)).outcome ≡ reading compiler plusplus tables directory view words
 outcome_read compiler plusplus tables directory view words ats =
@@ -45,13 +45,13 @@ outcome_read compiler plusplus tables directory view words ats =
     ∙ ap (λ r. r >>= (λ os. read compiler plusplus directory view os))
     (line-options (verdict view.is_multiarch) (owner_in tables) (is_clang compiler) (expand expansions.Gnu directory view.files words) (ats_expanded expansions.Gnu directory view.files words ats))
 
--- what the lines, what is handed on and the outcome are, put together
+-- a reading is its lines, the words for the inner line, and its outcome
 pub read_is : (compiler : CCompilerKind) (plusplus : Bool) (tables : List (List (Row Kind))) (directory : List ℕ) (view : Viewed) (e : ExpandedWords) (outer inner : LineRead Kind) (handed : List (List ℕ)) (ats : List (Option ℕ)) (said : Result Parsed Verdict)
     → outer ≡ outer_read compiler tables view e → handed ≡ handed_words outer.line → ats ≡ handed_ats outer.line → inner ≡ inner_read inner_verdict directory view handed ats → said ≡ outcome_by compiler plusplus directory view outer.line inner.line
     → record { compiler = compiler; plusplus = plusplus; outer = outer; handed = handed; inner = inner; outcome = said } ≡ read_by compiler plusplus tables directory view e
 read_is compiler plusplus tables directory view e outer inner handed ats said eo eh ea ei es = rw (es, ei, ea, eh, eo) refl
 
--- the same, where the inner line is not too long; and that it is too long
+-- the same if the inner line is within the limit, and if it is not
 module _ (most : ℕ) (compiler : CCompilerKind) (plusplus : Bool) (tables : List (List (Row Kind))) (directory : List ℕ) (view : Viewed) (e : ExpandedWords) (outer : LineRead Kind) (handed : List (List ℕ))
     (is_outer : outer ≡ outer_read compiler tables view e) (are_handed : handed ≡ handed_words outer.line) where
   inner_within_is : (within : Bool) → is_expanded_within most expansions.Gnu directory view.files handed ≡ within → is_inner_within most compiler tables directory view e ≡ within

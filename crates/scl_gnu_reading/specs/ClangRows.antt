@@ -1,4 +1,4 @@
--- Clang's table; Clang's words are searched in Gcc's table as well.
+-- Clang's table; Clang's words are looked up in Gcc's table as well.
 use Rattle.std.specs.Prelude.{List, [], ◌∷◌, codes}
 use Rattle.scl_values.specs.Row.{Row, row, bare}
 use Rattle.scl_values.specs.Shapes.{APART, JOINED, JOINED_DASH, JOINED_EQUALS, EITHER, EITHER_EQUALS}
@@ -110,6 +110,6 @@ clang_rows =
     row (codes "-working-directory") kind.TooHard EITHER_EQUALS ∷
     row (codes "/winsysroot") kind.PassThroughPath EITHER ∷ []
 
--- the tables of Clang, of which the second wins where both have a flag
+-- the tables of Clang; a flag that both have belongs to the second
 abbrev pub clang_tables : List (List (Row Kind))
 clang_tables = gcc_rows ∷ clang_rows ∷ []

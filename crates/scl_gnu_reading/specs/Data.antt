@@ -6,7 +6,7 @@ use Rattle.scl_gnu_reading.specs.declared.gcc.data.ArgData.TheVariants as values
 use Rattle.scl_gnu_reading.specs.declared.gcc.data.Kind.{Kind}
 use Rattle.scl_gnu_reading.specs.declared.gcc.data.Kind.TheVariants as kind
 
--- what each value is made of: its kind, and the word or the path that it holds, if it holds one
+-- a value's kind, and the word or path that it holds, if it holds one
 abbrev pub content : ArgData → Content Kind
 content values.TooHardFlag = nothing kind.TooHardFlag
 content (values.TooHard w) = word kind.TooHard w.items

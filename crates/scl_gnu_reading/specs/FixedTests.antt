@@ -1,4 +1,4 @@
--- The tests that follow the verdicts of the options, in their order.
+-- The tests after the verdicts of the options, in order.
 use Rattle.std.specs.Prelude.{ℕ, Bool, true, false, ◌&&◌, List, [], ◌∷◌, ◌++◌, Option, None, Some, Result, Ok, codes, unwrap_or, ok_or, if◌then◌else◌}
 use Rattle.std.specs.Option.{option_map}
 use Rattle.scl_values.specs.Seen.{Seen}
@@ -23,31 +23,31 @@ pub record Found : Type 0 where
   pub object : List ℕ
   pub module_path : Option (List ℕ)
 
--- a C++ driver takes files of C for C++
+-- a C++ driver takes C files as C++
 abbrev pub driven : Bool → Language → Language
 driven plusplus language = if plusplus && ghosts.eq language languages.C then languages.Cxx else language
 
--- the language that was asked for, else that of the file's name
+-- the language that is requested, else that of the file's name
 abbrev pub language_of : Bool → Option (List ℕ) → List ℕ → Option Language
 language_of plusplus None input = option_map (driven plusplus) (language_of_file_name input)
 language_of plusplus (Some text) input = language_of_gcc_text text
 
--- the path that was asked for, else the input's file name with extension o
+-- the path that is requested, else the input's file name with extension o
 abbrev pub object_path : Option (List ℕ) → List ℕ → Option (List ℕ)
 object_path None input = option_map (λ name. with_extension name (codes "o")) (file_name input)
 object_path (Some path) input = Some path
 
--- the path with `.pcm` behind its extension
+-- the path with `.pcm` after its extension
 abbrev pub with_pcm : List ℕ → List ℕ
 with_pcm path = with_extension path (unwrap_or (extension path) [] ++ codes ".pcm")
 
--- where a module goes: behind =, else beside the object, under the input's file name
+-- the path of the module: after =, else beside the object, with the input's file name
 abbrev pub module_path_of : Option (List ℕ) → List ℕ → List ℕ → Result (Option (List ℕ)) Verdict
 module_path_of None input object = Ok None
 module_path_of (Some []) input object = ok_or (option_map (λ name. Some (with_pcm (with_file_name object name))) (file_name input)) invalid_input_file
 module_path_of (Some (byte ∷ path)) input object = Ok (Some path)
 
--- no module goes anywhere where the module alone is asked for
+-- there is no module path if the module is the object
 abbrev pub module_path_unless : Bool → Option (List ℕ) → List ℕ → List ℕ → Result (Option (List ℕ)) Verdict
 module_path_unless true text input object = Ok None
 module_path_unless false text input object = module_path_of text input object

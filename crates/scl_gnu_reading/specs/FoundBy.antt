@@ -1,4 +1,4 @@
--- What the fixed tests find, as the code keeps it.
+-- What the fixed tests find, as the code stores it.
 use Rattle.scl_text.specs.Records.{path_of}
 use Rattle.scl_gnu_reading.specs.declared.gcc.fixed_tests.Finding.{Finding}
 use Rattle.scl_gnu_reading.specs.FixedTests.{Found}

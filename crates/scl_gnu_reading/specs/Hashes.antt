@@ -1,4 +1,4 @@
--- Files on whose contents the outcome depends, as options name them, whatever the compiler's kinds.
+-- Files on whose contents the result depends, as options name them, for any compiler's kinds.
 use Rattle.std.specs.Prelude.{ℕ, List, Option, None}
 use Rattle.std.specs.List.{filter_map}
 use Rattle.std.specs.Option.{option_map}
@@ -13,7 +13,7 @@ pub record Hashed : Type 0 where
 abbrev pub named_by : List ℕ → HashRole → Hashed
 named_by text role = record { role = role; text = text }
 
--- the file that an option names, where its kind has a role
+-- the file that an option names, if its kind has a role
 abbrev pub hashed_by : {K : Type 0} → (K → Option HashRole) → Seen K → Option Hashed
 hashed_by role (Raw w) = None
 hashed_by role (Unknown w) = None

@@ -1,4 +1,4 @@
--- Inner command lines: where the words of inner options go, what is said of each, and what the words of one say.
+-- Inner command lines: where the words of inner options go, the verdict of each, and the outcome of the line.
 use Rattle.std.specs.Prelude.{ℕ, Bool, false, List, [], Option, None, Some, Result, codes, if◌then◌else◌}
 use Rattle.std.specs.List.{flat_map}
 use Rattle.std.specs.Str.{bytes_eq, is_utf8}
@@ -30,18 +30,18 @@ inner_place_of (Known f k v how) = inner_place k
 abbrev pub goes_inside_to : Place → Seen Kind → Bool
 goes_inside_to there o = ghosts.eq (inner_place_of o) there
 
--- the words of the inner options that go there, in order, each on the side of its flag, and each word behind `-Xclang`
+-- the words of the inner options of this place, in order, each on the side of its flag, each word after `-Xclang`
 abbrev pub inner_words_at : Place → List (Seen Kind) → List (List ℕ)
 inner_words_at there inner = flat_map (wrapped_apart (codes "-Xclang")) (list side_of_flag (goes_inside_to there) inner)
 
 -- ---- verdicts
 
--- whether a word that is no option may stand behind this option, or first
+-- whether a raw word may follow this option, or be first
 abbrev pub takes_raw : Option (Seen Kind) → Bool
 takes_raw None = false
 takes_raw (Some o) = bytes_eq (flag_of o) (codes "-plugin-arg")
 
--- the word, or the empty text where it is not UTF-8
+-- the word; the empty text if it is not UTF-8
 abbrev pub text_or_empty : List ℕ → List ℕ
 text_or_empty word = if is_utf8 word then word else []
 
@@ -52,7 +52,7 @@ word_refusal reason word = Some (CannotCache reason (Some (text_or_empty word)))
 abbrev pub raw_verdict : Bool → List ℕ → Option Verdict
 raw_verdict is_taken word = if is_taken then None else word_refusal (codes "Can't handle Raw arguments with -Xclang") word
 
--- what an inner option says after others, of which the one just before counts
+-- the verdict of an inner option; only the option directly before it counts
 abbrev pub inner_verdict : List (Seen Kind) → Seen Kind → Option Verdict
 inner_verdict before (Raw w) = raw_verdict (takes_raw (last before)) w
 inner_verdict before (Unknown w) = word_refusal (codes "Can't handle UnknownFlag arguments with -Xclang") w
@@ -60,6 +60,7 @@ inner_verdict before (Known f k v how) = flag_verdict (inner_place k) f
 
 -- ---- readings
 
--- the options of an inner command line: words cut by Clang's tables, whatever tables cut the outer ones, without `--`, and judged, empty values first
+-- the options of an inner command line: words cut by Clang's tables, whatever tables cut the outer ones, without `--`, and
+-- judged, empty values first
 abbrev pub inner_reading : (List (Seen Kind) → Seen Kind → Option Verdict) → List ℕ → Viewed → List (List ℕ) → Result (List (Seen Kind)) Verdict
 inner_reading verdict directory view words = judged_words expansions.Gnu verdict clang_tables false directory view words

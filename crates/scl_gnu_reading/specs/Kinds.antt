@@ -1,4 +1,4 @@
--- What the kinds of options mean, and what the last of some options says.
+-- What kinds of options mean, and what the last of some options says.
 use Rattle.std.specs.Prelude.{ℕ, Bool, false, not, ◌&&◌, ◌||◌, List, [], ◌∷◌, Option, None, Some, codes, if◌then◌else◌}
 use Rattle.std.specs.List.{list_any}
 use Rattle.std.specs.Option.{option_map}
@@ -20,7 +20,7 @@ of kinds o = of_kinds ghosts.eq kinds o
 
 -- ---- what an option says
 
--- the colour that a value asks for
+-- the colour mode that a value requests
 abbrev pub color_named : List ℕ → ColorMode
 color_named value = if bytes_eq value [] || bytes_eq value (codes "always") then colors.On else (if bytes_eq value (codes "never") then colors.Off else colors.Auto)
 
@@ -38,41 +38,41 @@ color_of (Known f k v how) = color k v
 abbrev pub is_hiding_flag : List ℕ → Bool
 is_hiding_flag flag = bytes_eq flag (codes "-Wp") || bytes_eq flag (codes "-Xpreprocessor")
 
--- whether the option hides from a cache of preprocessor runs what it asks of the preprocessor
+-- whether a cache of preprocessor runs can't see what the option requests of the preprocessor
 abbrev pub is_hiding : Seen Kind → Bool
 is_hiding (Raw w) = false
 is_hiding (Unknown w) = false
 is_hiding (Known f k v how) = ghosts.eq k kind.PreprocessorArgument && is_hiding_flag f
 
--- a word that is no option is an input, unless it is `--`
+-- a raw word is an input, unless it is `--`
 abbrev pub is_input : Seen Kind → Bool
 is_input o = is_raw o && not (is_dashes o)
 
--- how an option names a file on whose contents the outcome depends
+-- how an option names a file on whose contents the result depends
 abbrev pub hash_role : Kind → Option HashRole
 hash_role kind.ExtraHashFile = Some roles.File
 hash_role kind.ExtraHashFileClangModuleFile = Some roles.Module
 hash_role kind.ClangProfileUse = Some roles.Profile
 hash_role _ = None
 
--- the files on whose contents the outcome depends, as the options name them
+-- the files on whose contents the result depends, as the options name them
 abbrev pub hashed : List (Seen Kind) → List Hashed
 hashed os = hashed_as hash_role os
 
 -- ---- what the last of some options says
 
--- whether such an option stands
+-- whether there is such an option
 abbrev pub any : List Kind → List (Seen Kind) → Bool
 any kinds os = list_any (of kinds) os
 
--- the colour that was asked for last
+-- the colour mode that is requested last
 abbrev pub color_mode : List (Seen Kind) → Option ColorMode
 color_mode os = option_map color_of (last_by (of (kind.DiagnosticsColor ∷ kind.DiagnosticsColorFlag ∷ kind.NoDiagnosticsColorFlag ∷ [])) os)
 
--- whether the assembler that was asked for last is a program of its own
+-- whether the assembler that is requested last is a separate program
 abbrev pub external_assembler : List (Seen Kind) → Option Bool
 external_assembler os = option_map (of (kind.NoIntegratedAs ∷ [])) (last_by (of (kind.IntegratedAs ∷ kind.NoIntegratedAs ∷ [])) os)
 
--- what hides from a cache of preprocessor runs
+-- the flag that a cache of preprocessor runs can't see
 abbrev pub hiding_flag : List (Seen Kind) → Option (List ℕ)
 hiding_flag os = last_flag is_hiding os

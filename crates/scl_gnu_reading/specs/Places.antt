@@ -8,7 +8,7 @@ use Rattle.scl_gnu_reading.specs.contracts.gcc.place.PlacePartialEq.TheImpl.{gho
 use Rattle.scl_gnu_reading.specs.declared.gcc.place.Place.{Place}
 use Rattle.scl_gnu_reading.specs.declared.gcc.place.Place.TheVariants as places
 
--- where the words of options of the kind go: of outer options, and of inner ones, behind `-Xclang`
+-- where the words of options of the kind go: of outer options, and of inner ones, after `-Xclang`
 abbrev pub places_of : Kind → Place × Place
 places_of kind.TooHardFlag = (places.Refused, places.Refused)
 places_of kind.TooHard = (places.Refused, places.Refused)
@@ -57,6 +57,6 @@ place_of (Known f k v how) = place k
 abbrev pub goes_to : Place → Seen Kind → Bool
 goes_to there o = ghosts.eq (place_of o) there
 
--- the words of the options that go there, in order, each on the side of its flag
+-- the words of the options of this place, in order, each on the side of its flag
 abbrev pub words_at : Place → List (Seen Kind) → List (List ℕ)
 words_at there os = list side_of_flag (goes_to there) os

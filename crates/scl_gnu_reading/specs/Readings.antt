@@ -1,4 +1,4 @@
--- What a command line says.
+-- The outcome of a command line.
 use Rattle.std.specs.Prelude.{ℕ, Bool, List, [], ◌∷◌, Result, Ok}
 use Rattle.scl_args.specs.Options.{texts, ◌>>=◌}
 use Rattle.scl_values.specs.Row.{Row}
@@ -22,13 +22,13 @@ recorded compiler plusplus directory view os inner = do
   f ← found plusplus os
   Ok (record_of compiler directory view os inner f)
 
--- options that are not refused: the inner ones that they hand on are read, and then both are tested and recorded
+-- options that are not refused: the inner ones in them are read, and then both are tested and recorded
 abbrev pub read : CCompilerKind → Bool → List ℕ → Viewed → List (Seen Kind) → Result Parsed Verdict
 read compiler plusplus directory view os = do
   inner ← inner_reading inner_verdict directory view (texts (of (kind.XClang ∷ [])) os)
   recorded compiler plusplus directory view os inner
 
--- the words are cut by the tables, for Clang with `--` as the end of options, judged and read
+-- the words are cut by the tables (for Clang `--` ends the options), judged and read
 abbrev pub reading : CCompilerKind → Bool → List (List (Row Kind)) → List ℕ → Viewed → List (List ℕ) → Result Parsed Verdict
 reading compiler plusplus tables directory view words = do
   os ← judged_words expansions.Gnu (verdict view.is_multiarch) tables (is_clang compiler) directory view words

@@ -1,4 +1,4 @@
--- A command line of Gcc or Clang, read: the lines that it is, and what they say.
+-- A command line of Gcc or Clang, read: its lines and its outcome.
 use Rattle.std.specs.Prelude.{◌≡◌, ℕ, Bool, true, false, List, [], ◌∷◌, Option, Result, MatchResult}
 use Rattle.scl_args.specs.Options.{texts, ◌>>=◌}
 use Rattle.scl_files.specs.Expanded.{ExpandedWords, expanded_by}
@@ -22,7 +22,7 @@ use Rattle.scl_values.specs.Row.{Row}
 use Rattle.scl_values.specs.Seen.{Seen}
 use Rattle.scl_values.specs.Tables.{owner_in}
 
--- a command line that was read: by whom, the given line, the words that it hands on, the line that those are, and the outcome
+-- a command line that was read: the compiler, the given line, the words for the inner line, that line, and the outcome
 pub record GnuRead : Type 0 where
   pub compiler : CCompilerKind
   pub plusplus : Bool
@@ -31,35 +31,35 @@ pub record GnuRead : Type 0 where
   pub inner : LineRead Kind
   pub outcome : Result Parsed Verdict
 
--- the given line, in which response files were put in place
+-- the given line, with response files expanded
 abbrev pub outer_read : CCompilerKind → List (List (Row Kind)) → Viewed → ExpandedWords → LineRead Kind
 outer_read compiler tables view e = line_read (verdict view.is_multiarch) (owner_in tables) (is_clang compiler) e
 
--- the words that a line hands on, and of each the index of the given word that brought it
+-- the words for the inner line, and of each the index of the given word from which it came
 abbrev pub handed_words : JudgedLine Kind → List (List ℕ)
 handed_words outer = texts (of (kind.XClang ∷ [])) outer.options
 
 abbrev pub handed_ats : JudgedLine Kind → List (Option ℕ)
 handed_ats outer = ats_passing (of (kind.XClang ∷ [])) outer.options outer.ats
 
--- the line of words that are handed on
+-- the line of words for the inner line
 abbrev pub inner_read : (List (Seen Kind) → Seen Kind → Option Verdict) → List ℕ → Viewed → List (List ℕ) → List (Option ℕ) → LineRead Kind
 inner_read verdict directory view words ats = line_read verdict (owner_in clang_tables) false (expanded_by expansions.Gnu directory view.files words ats)
 
--- it is said of these words, handed on: the line, where they and their openings are at most so many, and that they are too many exactly where they are not
+-- the result is the line if its words and openings are at most `most`; else it is `TooManyWords`
 abbrev pub IsInnerRead : (List (Seen Kind) → Seen Kind → Option Verdict) → ℕ → List ℕ → Viewed → List (List ℕ) → List (Option ℕ) → Result (LineRead Kind) TooManyWords → Type 0
 IsInnerRead verdict most directory view words ats said =
     let within = is_expanded_within most expansions.Gnu directory view.files words in
     MatchResult said (λ line. (within ≡ true) × (line ≡ inner_read verdict directory view words ats)) (λ _. within ≡ false)
 
--- what the two say: the first refusal, else what the tests find, recorded
+-- the outcome of both lines: the first refusal, else the record of what the tests find
 abbrev pub outcome_by : CCompilerKind → Bool → List ℕ → Viewed → JudgedLine Kind → JudgedLine Kind → Result Parsed Verdict
 outcome_by compiler plusplus directory view outer inner = do
   os ← line_options outer
   is ← line_options inner
   recorded compiler plusplus directory view os is
 
--- the reading of words in which response files were put in place
+-- the reading of expanded words
 abbrev pub read_by : CCompilerKind → Bool → List (List (Row Kind)) → List ℕ → Viewed → ExpandedWords → GnuRead
 read_by compiler plusplus tables directory view e =
     let outer = outer_read compiler tables view e in
@@ -74,14 +74,14 @@ read_by compiler plusplus tables directory view e =
       outcome = outcome_by compiler plusplus directory view outer.line inner.line;
     }
 
--- whether the inner line has at most so many words, and opens files at most so many times
+-- whether the inner line has at most `most` words and at most `most` openings
 abbrev pub is_inner_within : ℕ → CCompilerKind → List (List (Row Kind)) → List ℕ → Viewed → ExpandedWords → Bool
 is_inner_within most compiler tables directory view e =
     is_expanded_within most expansions.Gnu directory view.files (handed_words (outer_read compiler tables view e).line)
 
 -- ---- a law
 
--- a reading of words says what the words say
+-- the outcome of a reading is that of its words
 abbrev pub ReadingsSay : Type 0
 ReadingsSay =
     (compiler : CCompilerKind) (plusplus : Bool) (tables : List (List (Row Kind))) (directory : List ℕ) (view : Viewed) (words : List (List ℕ)) (ats : List (Option ℕ))

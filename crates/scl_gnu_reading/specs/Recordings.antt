@@ -29,7 +29,7 @@ use Rattle.scl_gnu_reading.specs.Places.{words_at}
 
 -- ---- outputs
 
--- what a compilation makes, in the order of the names; `dwo` alone may be missing
+-- the outputs of a compilation, in the order of their names; only `dwo` may be missing
 abbrev pub outputs : List (Seen Kind) → Found → List Artifact
 outputs os f =
     output_at (codes "d") false (if needs_c_preprocessing f.language then last_text (of (kind.DepArgumentPath ∷ [])) os else None)
@@ -46,22 +46,22 @@ abbrev pub added_common : Bool → List ℕ → List (List ℕ)
 added_common true object = (codes "-D_gsplit_dwarf_path=" ++ with_extension object (codes "dwo")) ∷ []
 added_common false object = []
 
--- where the dependency file goes, unless that was said
+-- the path of the dependency file, unless the line has one
 abbrev pub added_depfile : Bool → List ℕ → List (List ℕ)
 added_depfile true object = []
 added_depfile false object = codes "-MF" ∷ with_extension object (codes "d") ∷ []
 
--- the words that are added to those about dependencies, where a target is needed
+-- the words that are added to those about dependencies, if a target is needed
 abbrev pub added_dependency : (is_needed has_path : Bool) (flag target : Option (List ℕ)) → List ℕ → List (List ℕ)
 added_dependency true has_path flag target object = (unwrap_or flag (codes "-MT") ∷ unwrap_or target object ∷ []) ++ added_depfile has_path object
 added_dependency false has_path flag target object = []
 
--- ---- files on whose contents the outcome depends
+-- ---- files on whose contents the result depends
 
 abbrev pub is_equals : ℕ → Bool
 is_equals byte = byte == 61
 
--- what stands behind the first =, else all of it
+-- what follows the first =, else all of it
 abbrev pub module_file_path : List ℕ → List ℕ
 module_file_path text = unwrap_or (option_map (λ at. drop (at + 1) text) (position is_equals text)) text
 
@@ -69,7 +69,7 @@ abbrev pub profile_in : Bool → List ℕ → List ℕ
 profile_in true path = join path (codes "default.profdata")
 profile_in false path = path
 
--- the path in the directory, or in a directory at that path the file `default.profdata`
+-- the path from the directory; if there is a directory at that path, the file `default.profdata` in it
 abbrev pub profile_use_path : List ℕ → List ℕ → Viewed → List ℕ
 profile_use_path text directory view = profile_in (is_directory (join directory text) view) (join directory text)
 
@@ -86,12 +86,12 @@ hash_path directory view h = hash_path_as h.role h.text directory view
 abbrev pub is_clang : CCompilerKind → Bool
 is_clang compiler = ghosts.eq compiler compilers.Clang
 
--- without a standard, and under one with GNU's extensions
+-- without a standard, and with one that has GNU's extensions
 abbrev pub has_extensions : Option (List ℕ) → Bool
 has_extensions None = true
 has_extensions (Some text) = starts_with nat_eq text (codes "gnu")
 
--- whether includes that were rewritten would change what a pedantic Gcc says
+-- whether rewritten includes would change the messages of a pedantic Gcc
 abbrev pub suppresses_rewritten_includes : CCompilerKind → List (Seen Kind) → Bool
 suppresses_rewritten_includes compiler os = (ghosts.eq compiler compilers.Gcc && any (kind.PedanticFlag ∷ []) os) && has_extensions (last_text (of (kind.Standard ∷ [])) os)
 
@@ -99,18 +99,18 @@ suppresses_rewritten_includes compiler os = (ghosts.eq compiler compilers.Gcc &&
 abbrev pub needs_target : Language → List (Seen Kind) → Bool
 needs_target language os = needs_c_preprocessing language && any (kind.NeedDepTarget ∷ []) os
 
--- the words at a place: those of the outer options, then those of the inner ones
+-- the words of a place: those of the outer options, then those of the inner ones
 abbrev pub all_words_at : Place → List (Seen Kind) → List (Seen Kind) → List (List ℕ)
 all_words_at there os inner = words_at there os ++ inner_words_at there inner
 
--- the words about dependencies, and those that are added where a target is needed
+-- the words about dependencies, and those that are added if a target is needed
 abbrev pub dependency_words : List (Seen Kind) → List (Seen Kind) → Found → List (List ℕ)
 dependency_words os inner f =
     all_words_at places.Dependency os inner
     ++ added_dependency (needs_target f.language os) (is_some (last_text (of (kind.DepArgumentPath ∷ [])) os))
     (last_flag (of (kind.DepTarget ∷ [])) os) (last_text (of (kind.DepTarget ∷ [])) os) f.object
 
--- inner options give words and hashed files alone
+-- the record; inner options give only words and hashed files
 abbrev pub record_of : CCompilerKind → List ℕ → Viewed → List (Seen Kind) → List (Seen Kind) → Found → Parsed
 record_of compiler directory view os inner f = record (bare_record f.input f.language f.compile_flag) {
   double_dash_input = is_behind_dashes is_input os;

@@ -1,4 +1,4 @@
-//! Gcc's table, and the words that are read by it or by other tables with the same kinds.
+//! Gcc's table, and the parser of words that are cut by it or by other tables of the same kinds.
 
 mod added_words;
 mod args;

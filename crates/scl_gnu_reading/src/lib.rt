@@ -1,4 +1,4 @@
-//! How the words of Gcc and Clang are read into a record.
+//! Reading the words of Gcc and Clang into a record.
 #![tactic(auto)]
 
 pub mod clang;

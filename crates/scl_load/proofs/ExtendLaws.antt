@@ -1,4 +1,4 @@
--- A view still has only what the disk has, and all that it had, where what is put into it is on the disk.
+-- A view to which something on the disk is added has all that it had, and only what the disk has.
 use Rattle.std.proofs.Common.{◌≡◌, ℕ, Bool, true, false, cond, ◌||◌, List, [], ◌∷◌, Some, refl, sym, ap, ◌∙◌}
 use Rattle.std.specs.Prelude.{is_some}
 use Rattle.scl_files.specs.Paths.{same_path}
@@ -153,7 +153,7 @@ module _ (before : Viewed) (path : List ℕ) where
     multiarch = refl;
   }
 
-  -- a file that the disk has too
+  -- a file that the disk has
   pub keeps-file : (disk : Viewed) (bytes : List ℕ) → Extends disk before → bytes_at path disk.files ≡ Some bytes
       → Extends (record before { files = put_file (record { path = path; bytes = bytes }) before.files }) before
   keeps-file disk bytes extends there = record {
@@ -171,7 +171,7 @@ module _ (before : Viewed) (path : List ℕ) where
     multiarch = refl;
   }
 
-  -- what was put is there
+  -- what was added is there
   pub has-file : (bytes : List ℕ) → bytes_at path (put_file (record { path = path; bytes = bytes }) before.files) ≡ Some bytes
   has-file bytes = bytes_at-put (record { path = path; bytes = bytes }) path before.files ∙ ap (λ s. cond s (Some bytes) (bytes_at path before.files)) (same_path-same path)
 

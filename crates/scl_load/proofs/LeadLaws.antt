@@ -1,4 +1,4 @@
--- Leads are followed, and those that words name are leads of the load.
+-- Following leads, and that those which words name are leads of the load.
 use Rattle.std.proofs.Common.{◌≡◌, ℕ, ◌+◌, ◌≤◌, Bool, true, false, List, [], ◌∷◌, ◌++◌, map, Option, None, Some, Err, ◌⊎◌, inl, inr, Contains, flat_map, filter_map, refl, sym, ap, subst, ◌∙◌}
 use Rattle.std.proofs.lemmas.List.Elements.{Contains-append_left, Contains-append_right, Contains-push}
 use Rattle.std.specs.List.{cons_option}
@@ -125,7 +125,7 @@ module _ (holds : Viewed → Type 0) where
   pub on-same : (view : Viewed) (leads : List Lead) → OnAny view view leads leads
   on-same view leads directory disk load readings h asks led = led
 
-  -- the first of the leads is let go, since the view has its file
+  -- the first of the leads is dropped, because the view has its file
   pub on-past : (first view : Viewed) (leads : List Lead) (lead : Lead) (rest : List Lead) → OnAny first view leads (lead ∷ rest) → OnAny first view leads rest
   on-past first view leads lead rest on directory disk load readings h asks led =
       let here = on directory disk load readings h asks led in
@@ -160,7 +160,7 @@ module _ (holds : Viewed → Type 0) (directory : List ℕ) where
       → GoesOn holds directory first last one three
   on-behind first middle last one two three f g disk load readings h asks led = g disk load readings h asks (f disk load readings h asks led)
 
-  -- what the words of the file that was found name stands behind the leads
+  -- what the words of the found file name follows the leads
   pub on-more : (before after : Viewed) (leads middle more : List Lead) (lead : Lead) (depth : ℕ) → GoesOn holds directory before after leads middle
       → IsFound holds directory before after leads lead → depth ≡ lead.depth + 1 → more ≡ middle ++ leads_from lead.kind directory (bytes_at lead.path after.files) depth
       → GoesOn holds directory before after leads more

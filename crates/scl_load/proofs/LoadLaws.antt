@@ -24,7 +24,7 @@ use Rattle.scl_load.proofs.ExtendLaws.{extends-empty}
 use Rattle.scl_load.proofs.LeadLaws.{each-both, each-flat, each-given, each-in, each-inside, each-mapped, each-so, leads-kept}
 
 module _ (holds : Viewed → Type 0) (load : Load) where
-  -- on each disk of which this holds, so many readings found something, the view was made, and these are left to be looked for
+  -- on each disk of which this holds: n readings found something, the view was made, and these are left to look for
   abbrev pub IsUnderWay : ℕ → Viewed → List Lead → Type 0
   IsUnderWay readings view leads = (held : Viewed) → holds held → held.is_multiarch ≡ load.is_multiarch → IsLed held load readings view leads
 
@@ -59,7 +59,7 @@ pub asks-so : (compiler : Compiler) (line : Given) (request : Request) (most : �
 asks-so compiler line request most reading asked is read asks =
     subst (λ r. (has_at_most most r ≡ true) × (reading ≡ read_of r) × (asked ≡ questions_of r)) is (read.0, read.1, asks ∙ ap (questions_in line) read.1)
 
--- where the disk has none of what a reading asks, it decides the record and the answer
+-- if the disk has none of what a reading asks, the reading decides the record and the answer
 module _ (holds : Viewed → Type 0) (line : DiskLine) (most most_rounds readings : ℕ) (before after : Viewed) (leads : List Lead) (q : Questions)
     (way : IsUnderWay holds (load_of line most most_rounds) readings before leads) (is : q ≡ questions_of (asked_on line before))
     (looked : IsLookedFor holds (HasNoneAsked q) (AreAllSame q) before after false) where
@@ -96,7 +96,7 @@ module _ (disk : Viewed) (line : DiskLine) (most most_rounds : ℕ) where
     are_leads = given-leads (expansion_of line.compiler) refl;
   }
 
-  -- what files name that a reading lacked and that were found
+  -- what is named by the files that a reading lacked and that were found
   found-leads : (readings : ℕ) (before after : Viewed) → AreLooks disk load readings before → Extends disk after
       → Each (IsLead disk load after) (leads_found (read_of (asked_on line before)) after line.directory.now (readings + 1))
   found-leads readings before after looks extends =

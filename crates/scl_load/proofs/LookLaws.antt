@@ -86,7 +86,7 @@ module _ (holds : Viewed → Type 0) (sought : Sought) (path : List ℕ) (view :
     },
   )
 
-  -- it was put into the view
+  -- it was added to the view
   pub found-new : (after : Viewed) → is_there sought path after ≡ true
       → ((disk : Viewed) → holds disk → Extends disk view → Extends disk after × Extends after view) → IsLookedFor holds (IsAbsent sought path) (IsSame sought path) view after true
   found-new after e extended = (
@@ -101,7 +101,7 @@ module _ (holds : Viewed → Type 0) (sought : Sought) (path : List ℕ) (view :
         },
   )
 
--- ---- what is the same stays so
+-- ---- what is the same stays the same
 
 bool-kept : (d m a : Bool) → (a ≡ true → d ≡ true) → (m ≡ true → a ≡ true) → d ≡ m → d ≡ a
 bool-kept d m true f g e = f refl
@@ -151,7 +151,7 @@ module _ (holds first second : Viewed → Type 0) (one_same other_same : Viewed 
         },
   )
 
--- said otherwise
+-- the same in other words
 module _ (holds one other : Viewed → Type 0) (one_same other_same : Viewed → Viewed → Type 0) (before after : Viewed) (found : Bool) where
   pub said-otherwise : ((disk : Viewed) → one disk → other disk) → ((disk : Viewed) → other disk → one disk) → ((disk : Viewed) → one_same disk after → other_same disk after)
       → IsLookedFor holds one one_same before after found → IsLookedFor holds other other_same before after found

@@ -1,4 +1,4 @@
--- How a load ends that the code gives.
+-- How a load of the code ends.
 use Rattle.std.specs.Prelude.{Result, Ok, Err}
 use Rattle.scl_files.specs.Views.{Viewed}
 use Rattle.scl_load.specs.declared.loader.LoadError.{LoadError}

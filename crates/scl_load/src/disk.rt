@@ -1,9 +1,8 @@
-//! Disks that are asked what stands at paths.
+//! Disks: what there is at paths.
 use scl_text::Mem;
 use std::alloc::Global;
 
-/// A disk that is asked what stands at paths. Each read may fail, with an error of the disk's own; the outer error is the
-/// refusal of memory.
+/// A disk that is asked what there is at paths. Each read may fail with an error of the disk's own.
 pub trait Disk {
     ghost use Rattle.std.specs.Prelude.{◌≡◌, IfOk, IfErr};
     ghost use Rattle.std.specs.Option.{option_map};
@@ -12,7 +11,7 @@ pub trait Disk {
     /// Why a read fails.
     type Error: Drop;
 
-    /// The disk says that it holds this. Of one that says so of nothing, nothing is claimed.
+    /// The disk is known to have this. Nothing is proved of a disk of which nothing is known.
     ghost holds: { Self → Viewed → Type 0 };
 
     /// The disk may fail with this error.

@@ -1,4 +1,4 @@
-//! Response files that words name, followed from one to the next on a disk.
+//! Response files that words name, followed from file to file on a disk.
 ghost use Rattle.std.specs.Prelude.{◌≡◌, ◌++◌, ◌+◌, ◌≤◌, IfOk, MatchOption, OnOk};
 ghost use Rattle.std.specs.List.{flat_map};
 ghost use Rattle.scl_files.specs.ResponseFiles.{arguments};
@@ -16,7 +16,7 @@ use scl_reader::{LackedFile, Mem, Reading, View};
 use std::alloc::Global;
 use std::collections::VecDeque;
 
-/// A response file that words name: whose it is, its path, and how many files name each the next before it.
+/// A response file that words name: the compiler's kind, its path, and the number of files in the chain before it.
 #[derive(Drop)]
 struct Lead {
     kind: ExpansionKind,
@@ -24,13 +24,13 @@ struct Lead {
     depth: u32,
 }
 
-/// Response files that words name and that are to be looked for, in order.
+/// Response files to look for, in order.
 #[derive(Drop)]
 pub(crate) struct Leads {
     ahead: VecDeque<Lead>,
 }
 
-/// One more than a depth, where it is below `rounds`.
+/// A depth plus one, if the depth is below `rounds`.
 fn next_depth(depth: u32, rounds: u32) -> Option<u32>
     ensures { MatchOption result (rounds ≤ depth + 1) (λ next. next ≡ depth + 1) }
 {
@@ -58,7 +58,7 @@ impl Leads {
         }
     }
 
-    /// Puts that which a word names behind the others.
+    /// Appends the one that a word names, if it names one.
     fn push_word(
         &mut self,
         alloc: Global,
@@ -75,7 +75,7 @@ impl Leads {
         Ok(())
     }
 
-    /// Puts those that words name behind the others.
+    /// Appends those that words name.
     fn push_named(
         &mut self,
         alloc: Global,
@@ -92,7 +92,7 @@ impl Leads {
         Ok(())
     }
 
-    /// Puts those that the words in a text name behind the others.
+    /// Appends those that the words in a text name.
     fn push_text(
         &mut self,
         alloc: Global,
@@ -109,7 +109,7 @@ impl Leads {
         }
     }
 
-    /// Puts those that the words of a file name behind the others. Those of Msvc's name none.
+    /// Appends those that the words of a file name; words in Msvc's files name none.
     fn push_inside(
         &mut self,
         alloc: Global,
@@ -127,7 +127,7 @@ impl Leads {
         }
     }
 
-    /// Puts those that a file names behind the others, if the view has it.
+    /// Appends those that a file names, if the view has it.
     fn push_file(
         &mut self,
         alloc: Global,
@@ -145,7 +145,7 @@ impl Leads {
         }
     }
 
-    /// Puts those that files name behind the others, of the files that the view has.
+    /// Appends those that files name, of the files that the view has.
     fn push_files(
         &mut self,
         alloc: Global,
@@ -162,7 +162,7 @@ impl Leads {
         Ok(())
     }
 
-    /// Puts those that the files name which a reading lacked and the view has now behind the others.
+    /// Appends those that are named by the files which the reading lacked and the view has.
     pub(crate) fn push_found(
         &mut self,
         alloc: Global,
@@ -177,7 +177,7 @@ impl Leads {
         self.push_files(alloc, &files, view, cwd, depth)
     }
 
-    /// The next that the disk has and the view had not, which it has now; those before are let go.
+    /// The next one that the disk has and the view did not have; it is added to the view. Those before it are dropped.
     fn find<D: Disk>(
         &mut self,
         alloc: Global,
@@ -199,8 +199,8 @@ impl Leads {
         Ok(Ok(None))
     }
 
-    /// Looks for the next that the disk has and the view had not, and puts those that its words name behind the others;
-    /// whether there was one. `TooManyRounds` where it is the last of `rounds` that name each the next.
+    /// Finds the next one that the disk has and the view did not have, and appends those that its words name; says whether
+    /// there was one. The error is `TooManyRounds` if it is the last in a chain of `rounds` files.
     fn step<D: Disk>(
         &mut self,
         alloc: Global,
@@ -225,8 +225,8 @@ impl Leads {
         }
     }
 
-    /// Looks for them, and for those that the words of found ones name, until none is left, or `most` were found: then a
-    /// command line is too long. `TooManyRounds` where `rounds` of them name each the next, `Disk` where a read fails.
+    /// Looks for them, and for those that the words of found ones name, until none is left, or `most` were found: then the
+    /// command line is too long. The error is `TooManyRounds` if a chain has `rounds` files, `Disk` if a read fails.
     pub(crate) fn follow<D: Disk>(
         &mut self,
         alloc: Global,

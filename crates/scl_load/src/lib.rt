@@ -1,4 +1,4 @@
-//! Views of what an answer asks of a disk, loaded.
+//! Loading from a disk the view that an answer asks for.
 #![tactic(auto)]
 
 mod disk;

@@ -1,4 +1,4 @@
-//! What an answer asks of a disk, loaded.
+//! Loading from a disk what an answer asks for.
 ghost use Rattle.std.specs.Prelude.{◌≡◌, IfOk, IfErr, MatchResult, true, false};
 ghost use Rattle.scl_files.specs.Views.{Viewed};
 ghost use Rattle.scl_reader.specs.Answers.{answer_to, reading_by};
@@ -22,22 +22,21 @@ use std::alloc::Global;
 pub enum LoadError<E> {
     /// A read of the disk failed.
     Disk(E),
-    /// A command line has more words or openings of files than were allowed, with the response files that were loaded put in
-    /// place.
+    /// A command line has more words or openings of files than the limit, with the loaded response files expanded.
     TooManyWords,
-    /// As many response files as rounds were allowed name each the next, or each of so many readings found something, so there
-    /// may be more.
+    /// A chain of response files, each naming the next, has as many files as the limit on rounds; or that many readings each
+    /// found something. So there may be more files.
     TooManyRounds,
 }
 
 /// A command line whose files are on a disk.
 #[derive(Clone, Copy)]
 pub struct DiskLine<'a> {
-    /// The compiler that reads it.
+    /// The compiler.
     pub compiler: Compiler,
-    /// The words behind the program.
+    /// The words after the program.
     pub words: &'a [Vec<u8>],
-    /// The path of the directory in which they are read.
+    /// The path of the directory from which they are read.
     pub directory: &'a [u8],
     /// The keys and values of the environment, in order.
     pub environment: &'a [(Vec<u8>, Vec<u8>)],
@@ -45,12 +44,12 @@ pub struct DiskLine<'a> {
     pub multiarch: bool,
 }
 
-/// What was loaded, and the command line, read with it.
+/// The view that was loaded, and the reading of the command line in it.
 #[derive(Drop)]
 pub struct Loaded {
-    /// What the disk has of what is asked.
+    /// What the disk has of what is asked for.
     pub view: View,
-    /// What was read.
+    /// The reading of the command line.
     pub reading: Reading,
 }
 
@@ -68,7 +67,7 @@ impl<'a> DiskLine<'a> {
     }
 }
 
-/// The command line, read in a view, and what it asks of it.
+/// The reading of the command line in a view, and what it asks of the view.
 fn read_in(
     alloc: Global,
     line: &DiskLine<'_>,
@@ -91,8 +90,8 @@ fn read_in(
     }
 }
 
-/// The command line is read in a view, and what it asks of it is looked for: the reading, where nothing was found. Where
-/// something was, what the files name that it lacked stands behind the leads, at this depth.
+/// Reads the command line in the view, and looks for what the reading asks. If nothing is found, gives the reading. Otherwise
+/// appends to the leads, at this depth, what is named by the files that the reading lacked.
 fn read_once<D: Disk>(
     alloc: Global,
     disk: &D,
@@ -127,12 +126,14 @@ fn read_once<D: Disk>(
     }
 }
 
-/// The view of what the answer to a command line asks of the disk, and the command line read with it (docs/RULES.md, Loading).
-/// The response files that its words name, and those that their words name, are looked for first, each once; then it is read,
-/// and what it asks besides is looked for, until nothing more is found. `TooManyRounds` where `rounds` files name each the
-/// next, or where so many readings found something; `TooManyWords` where a command line has more than `most` words or openings
-/// of files (`Compiler::answer_within`). A read of the disk that fails is `Disk` with its error, and ends the load. The outer
-/// error is the refusal of memory.
+/// The view of what the answer to a command line asks of the disk, and the reading of the command line in it (docs/RULES.md,
+/// Loading). First it looks for the response files that words name, and for those that their words name, each once. Then it
+/// reads the line and looks for what the reading asks besides, until nothing more is found. The errors:
+///
+/// - `TooManyRounds`: a chain of response files, each naming the next, has `rounds` files; or `rounds` readings each found
+///   something.
+/// - `TooManyWords`: a command line has more than `most` words or openings of files (`Compiler::answer_within`).
+/// - `Disk`: a read of the disk failed. It ends the load.
 pub fn load<D: Disk>(
     alloc: Global,
     disk: &D,

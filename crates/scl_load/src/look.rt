@@ -1,4 +1,4 @@
-//! What is asked is looked for on a disk, and what is found is put into a view.
+//! Looking for what is asked on a disk, and adding what is found to a view.
 ghost use Rattle.std.specs.Prelude.{◌≡◌, ◌||◌, IfOk, IfErr};
 ghost use Rattle.scl_values.specs.Words.{words_of};
 ghost use Rattle.scl_reader.specs.QuestionsGiven.{given};
@@ -8,7 +8,7 @@ use crate::disk::Disk;
 use scl_reader::{Mem, Questions, View};
 use std::alloc::Global;
 
-/// What is looked for at a path.
+/// The kinds of things to look for at a path.
 #[derive(Clone, Copy)]
 pub(crate) enum Sought {
     File,
@@ -22,7 +22,7 @@ fn copied(alloc: Global, path: &[u8]) -> Mem<Vec<u8>>
     Vec::from_slice(alloc, path)
 }
 
-/// Looks for a file; whether the view has it.
+/// Looks for a file; says whether the view has it.
 pub(crate) fn look_for_file<D: Disk>(
     alloc: Global,
     disk: &D,
@@ -45,7 +45,7 @@ pub(crate) fn look_for_file<D: Disk>(
     }
 }
 
-/// Looks for a directory; whether the view has it.
+/// Looks for a directory; says whether the view has it.
 fn look_for_directory<D: Disk>(
     alloc: Global,
     disk: &D,
@@ -68,7 +68,7 @@ fn look_for_directory<D: Disk>(
     }
 }
 
-/// Looks for anything at a path; whether the view has it.
+/// Looks for anything at a path; says whether the view has it.
 fn look_for_existing<D: Disk>(
     alloc: Global,
     disk: &D,
@@ -108,7 +108,7 @@ fn look_for<D: Disk>(
     }
 }
 
-/// Looks for each of the paths; whether any was found.
+/// Looks for each of the paths; says whether any was found.
 fn look_for_each<D: Disk>(
     alloc: Global,
     disk: &D,
@@ -135,7 +135,7 @@ fn is_any(files: bool, directories: bool, existing: bool) -> bool
     files || directories || existing
 }
 
-/// Looks for all that is asked; whether any of it was found.
+/// Looks for all that is asked; says whether any of it was found.
 pub(crate) fn look_for_all<D: Disk>(
     alloc: Global,
     disk: &D,

@@ -7,16 +7,16 @@ use scl_text::{Mem, View};
 use std::alloc::Global;
 use std::fmt;
 
-/// A disk in memory, which holds what its view has.
+/// A disk in memory, with what its view has.
 #[derive(Drop)]
 pub struct MemoryDisk {
-    /// What it holds.
+    /// What it has.
     pub view: View,
-    /// A path at which no read succeeds, to the letter.
+    /// A path at which each read fails, compared byte by byte.
     pub broken: Option<Vec<u8>>,
 }
 
-/// That a read was asked for at the broken path.
+/// There was a read at the broken path.
 #[derive(Debug, Clone, Copy, PartialEq, Eq)]
 pub struct Broken;
 

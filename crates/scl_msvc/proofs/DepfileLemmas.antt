@@ -1,4 +1,4 @@
--- The files that lines name, and the set of those that were named.
+-- The files that lines name, and the set of those named before.
 use Rattle.std.proofs.Common.{◌≡◌, ℕ, Bool, true, false, not, ◌||◌, List, [], ◌∷◌, ◌++◌, refl, sym, ap, ◌∙◌, subst}
 use Rattle.std.proofs.lemmas.Slice.Eq.{bytes_eq-Decides}
 use Rattle.std.proofs.lemmas.List.Folds.{list_any-append}
@@ -39,7 +39,7 @@ is_eq-bytes a b =
     (λ h. (bytes_eq-Decides a b).1 (exact_bytes a b (equal _ h)))
     (λ h. ap is_eq (same_ties a b ((bytes_eq-Decides a b).0 h)))
 
--- what a set of words contains, by their bytes
+-- which words a set has, by their bytes
 pub contains-words : (key : Vec ℕ Global) (keys : List (Vec ℕ Global)) → list_any (λ k. is_eq (slice_cmp nat_cmp key.items k.items)) keys ≡ list_any (bytes_eq key.items) (words_of keys)
 contains-words key [] = refl
 contains-words key (k ∷ keys) = rw (is_eq-bytes key.items k.items, contains-words key keys) refl

@@ -1,4 +1,4 @@
--- The first # of a word, put in place; an environment that has neither variable; one that is broken.
+-- The first # of a word; an environment without the variables; one in which the value of a variable is not a text.
 use Rattle.std.proofs.Common.{◌≡◌, ℕ, zero, suc, ◌<◌, Bool, true, false, ◌||◌, List, [], ◌∷◌, ◌++◌, Option, None, Some, Result, Ok, Err, IfOk, length, take, drop, slice_index, slice_set, arith, refl, ap, sym, ◌∙◌}
 use Rattle.std.proofs.lemmas.List.{append-nil}
 use Rattle.std.specs.Prelude.{is_some}
@@ -41,7 +41,7 @@ surrounded_by_both pairs words front back e = between _ _ words ∙ ap (λ s. s 
 pub surrounded_stops : (pairs : List (List ℕ × List ℕ)) (words : List (List ℕ)) (v : Verdict) → surroundings pairs ≡ Err v → surrounded pairs words ≡ Err v
 surrounded_stops pairs words v e = between _ _ words ∙ ap (λ s. s >>= (λ both. Ok (both.0 ++ words ++ both.1))) e
 
--- where a step before the reading stops, the answer is what it stops for
+-- if a step before the reading stops, the answer is its refusal
 pub refusal_given : {T A : Type 0} (see : T → A) (stop : Stop) (said : Result A Verdict) (rest : A → Result Parsed Verdict)
     → Gives see (Err stop) said → IfOk (answer_to (Err stop)) (λ answer. outcome_of answer ≡ (said >>= rest))
 refusal_given see (stops.Refused (refusals.CannotCache reason text)) said rest gives = sym (ap (λ s. s >>= rest) gives)

@@ -1,4 +1,4 @@
--- Compilers that are equal by the derived `==` hold the same.
+-- Compilers that are equal by the derived `==` have the same fields.
 use Rattle.std.proofs.Common.{◌≡◌, true, false, Bool, ◌&&◌, Option, None, Some, String, Global, refl, ap}
 use mathlib.Core.Bool.{beq}
 use Rattle.std.specs.Prelude.{string_bytes}

@@ -1,4 +1,4 @@
--- The input of a command is read again: raw, behind the mark or before any, or as the value of the flag of its language.
+-- The input of a command is read again: raw, after the mark or before any mark, or as the value of the flag of its language.
 use Rattle.std.proofs.Common.{◌≡◌, ℕ, Bool, true, false, cond, ◌||◌, List, [], ◌∷◌, ◌++◌, map, Option, None, Some, refl, sym, ap, subst, ◌∙◌}
 use Rattle.std.specs.Option.{option_and_then}
 use Rattle.std.specs.Prelude.{codes, unwrap_or}
@@ -68,13 +68,13 @@ module _ (dashes : Bool) where
   reads-cxx x xs = own-either msvc_tables dashes _ own_joins cxx_row
       (has_row own false (all_rows msvc_tables) (owner_in-is msvc_tables) cxx_row (codes "-Tp") (record { is = refl; no_mark = refl })) refl refl x xs
 
--- ---- behind
+-- ---- at the end
 
 abbrev InputRead : Bool → Language → List ℕ → (is_said marked : Bool) → Type 0
 InputRead dashes l x is_said marked =
     read own dashes (dash_words marked ++ cond is_said (unwrap_or (language_flag l) [] ++ x) x ∷ []) ≡ cleanly (mark_option marked ++ input_option is_said l x ∷ [])
 
--- an option that names its input's language, and is not refused
+-- an option that gives its input's language, and is not refused
 said-again : (is_clang : Bool) (l : Language) (x : List ℕ) (o : Seen Kind) → names_language o ≡ true → language_said o ≡ Some l → text_of o ≡ x → verdict is_clang [] o ≡ None
     → InputRead is_clang l x true false
 said-again is_clang l x (Raw w) e s t v = absurd (cc)
@@ -99,7 +99,7 @@ module _ (is_clang : Bool) (ws : List (List ℕ)) where
   abbrev os : List (Seen Kind)
   os = map shown (cut own is_clang ws).options
 
-  -- where no flag says the language, the inputs are raw words
+  -- if no flag gives the language, the inputs are raw words
   raw-only : (os : List (Seen Kind)) → Each (λ o. names_language o ≡ false) os → Each (λ o. is_input o ≡ raw_input o) os
   raw-only [] h = tt
   raw-only (o ∷ os) h = (ap (λ b. raw_input o || b) h.0 ∙ or-false (raw_input o), raw-only os h.1)

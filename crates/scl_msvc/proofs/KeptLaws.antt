@@ -31,7 +31,7 @@ use Rattle.scl_msvc_reading.specs.Rows.{msvc_tables}
 pub same-list : (a there : Place) → is_list there ≡ true → ghosts.eq a there ≡ true → is_list a ≡ true
 same-list a there l e = grind arith
 
--- each word that is handed on stands behind its wrapper
+-- each word for an inner line follows its wrapper
 abbrev pub wrapped : Inner Kind gnu.Kind → List ℕ → List (List ℕ)
 wrapped i w = cond (bytes_eq i.flag (codes "-Xclang")) (wrapped_apart (codes "-Xclang") w) (wrapped_joined (codes "-clang:") w)
 

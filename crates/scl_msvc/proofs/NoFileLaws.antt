@@ -1,4 +1,4 @@
--- The command of a record of Msvc names no response file where none was given.
+-- The command of a record of Msvc names no response file if it was given none.
 use Rattle.std.proofs.Common.{◌≡◌, ℕ, Bool, true, false, List, [], ◌∷◌, ◌++◌, map, Some, Ok, refl, sym, ap, subst, ◌∙◌, if◌then◌else◌}
 use Rattle.std.specs.Prelude.{codes, unwrap_or}
 use Rattle.scl_values.specs.Cuts.{cut}
@@ -49,7 +49,7 @@ compiles : has_plain_flags (is_kind kind.DoCompilation) (all_rows msvc_tables) �
 unfolding msvc_rows
 compiles = refl
 
--- ---- words of a compiler's own
+-- ---- words that a compiler adds
 
 dash-none : (marked : Bool) → NameNone (dash_words marked)
 dash-none true = (refl, tt)

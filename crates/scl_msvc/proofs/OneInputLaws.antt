@@ -70,7 +70,7 @@ module _ (there : Place) (lists : is_list there ≡ true) where
   list-none : HasNone named_input (list_of there)
   list-none = record { carries_none = no-input; adds_none = refl }
 
--- ---- the own one
+-- ---- the only one of its own
 
 said-one : (o : Seen Kind) (l : Language) → language_said o ≡ Some l → (l ≡ languages.C) ⊎ (l ≡ languages.Cxx)
 said-one (Raw w) l e = absurd (cc)

@@ -71,7 +71,7 @@ reads-xclang false w = reads-apart own false xclang_row w refl (record { is = re
 four : {A : Type 0} (a b c d : List A) → a ++ (b ++ (c ++ (d ++ []))) ≡ a ++ b ++ c ++ d
 four a b c d = ap (λ x. a ++ (b ++ (c ++ x))) (append-nil d) ∙ simp append_assoc
 
--- the options behind have no words for inner command lines
+-- the options at the end have no words for inner command lines
 abbrev HasNoHanded : List (Plain Kind) → Type 0
 HasNoHanded options = (values_at (codes "-Xclang") options ≡ []) × ((values_at (codes "-clang:") options ≡ []) × Unit {0})
 

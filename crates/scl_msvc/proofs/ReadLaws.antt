@@ -1,4 +1,4 @@
--- A reading with the words of the environment says what the words say.
+-- The outcome of a reading with the words of the environment is that of the words.
 use Rattle.std.proofs.Common.{◌≡◌, ℕ, Bool, List, ◌++◌, Result, Ok, Err, refl, ap, sym, ◌∙◌}
 use Rattle.scl_args.specs.Options.{◌>>=◌}
 use Rattle.scl_files.specs.Views.{Viewed}

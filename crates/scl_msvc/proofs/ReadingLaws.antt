@@ -39,7 +39,7 @@ use Rattle.scl_msvc_reading.specs.Verdicts.{verdict}
 
 -- ---- the input and its language
 
--- whether the option names its input's language
+-- whether the option gives its input's language
 abbrev pub names_language : Seen Kind → Bool
 names_language = of language_inputs
 
@@ -48,7 +48,7 @@ input-is said [] x e = absurd (let no = unless-ok said (the_input []) x e in cc)
 input-is said (y ∷ []) x e = (unless-none said (the_input (y ∷ [])) x e, (let same = unless-ok said (the_input (y ∷ [])) x e in cc))
 input-is said (y ∷ z ∷ ys) x e = absurd (cc)
 
--- where a flag says the language, no module is compiled
+-- if a flag gives the language, no module is compiled
 no-module : (is_compiled is_named : Bool) → module_verdict is_compiled is_named true ≡ None → is_compiled ≡ false
 no-module false is_named e = refl
 no-module true true e = absurd (cc)

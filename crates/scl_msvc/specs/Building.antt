@@ -1,4 +1,4 @@
--- The words of a compile command, and whether its outcome may be kept.
+-- The words of a compile command, and whether its result can be cached.
 use Rattle.std.specs.Prelude.{ℕ, List, [], ◌∷◌, ◌++◌, Option, None, Some, codes, unwrap_or, if◌then◌else◌}
 use Rattle.scl_args.specs.Options.{dash_words}
 use Rattle.scl_text.specs.declared.language.Language.{Language}
@@ -17,7 +17,7 @@ lists_in_order preprocessor dependency unhashed common = preprocessor ++ depende
 abbrev pub list_words : Parsed → List (List ℕ)
 list_words p = lists_in_order p.preprocessor_args p.dependency_args p.unhashed_args p.common_args
 
--- the flag that says that an input has the language: there is one for C and one for C++
+-- the flag that gives an input this language: there is one for C and one for C++
 abbrev pub language_flag : Language → Option (List ℕ)
 language_flag languages.C = Some (codes "-Tc")
 language_flag languages.Cxx = Some (codes "-Tp")
@@ -35,7 +35,7 @@ language_flag languages.Cuda = None
 language_flag languages.Rust = None
 language_flag languages.Hip = None
 
--- the input, together with the flag of its language where a flag said that
+-- the input, joined to the flag of its language if a flag gave that
 abbrev pub input_word : Parsed → List ℕ
 input_word p = if p.msvc_explicit_language then unwrap_or (language_flag p.language) [] ++ p.input else p.input
 
@@ -46,11 +46,11 @@ input_words p = dash_words p.double_dash_input ++ input_word p ∷ []
 abbrev pub command_words : Parsed → List ℕ → List (List ℕ)
 command_words p object = p.compilation_flag ∷ (codes "-Fo" ++ object) ∷ list_words p ++ input_words p
 
--- the words of the command, where the record has an object
+-- the words of the command, if the record has an object
 abbrev pub command : Parsed → Option (List (List ℕ))
 command p = command_by command_words p
 
--- the outcome may not be kept where debug information would be added to a file
+-- the result can't be cached if debug information would be appended to a file
 abbrev pub kept_unless : Option (List ℕ) → List ℕ → Viewed → Cacheable
 kept_unless None directory view = cacheables.Yes
 kept_unless (Some database) directory view = if exists (join directory database) view then cacheables.No else cacheables.Yes

@@ -1,4 +1,4 @@
--- The text of a dependency file, from the lines in which an error output names included files.
+-- The text of a dependency file, from the lines of an error output that name included files.
 use Rattle.std.specs.Prelude.{ℕ, ◌≡◌, Bool, not, ◌||◌, nat_eq, if◌then◌else◌, List, [], ◌∷◌, ◌++◌, length, map, filter, drop, Option, None, Some, Result, Ok, Err, Vec, codes}
 use Rattle.std.specs.BTreeSet.{BTreeSet}
 use Rattle.std.specs.Char.{is_whitespace}
@@ -18,7 +18,7 @@ use Rattle.scl_msvc.specs.declared.msvc.depfile.DepfileText.{DepfileText}
 use Rattle.scl_msvc.specs.declared.msvc.depfile.DepfileError.{DepfileError}
 use Rattle.scl_msvc.specs.declared.msvc.depfile.DepfileError.TheVariants as errors
 
--- the lines of a text: each ends at a line feed, less one carriage return before it
+-- the lines of a text: each ends at a line feed, without one carriage return before it
 abbrev pub lines : List ℕ → List (List ℕ)
 lines text = map without_terminator (lines_of text)
 
@@ -29,19 +29,19 @@ trimmed text = trim_end_by is_whitespace (trim_start_by is_whitespace text)
 abbrev pub unspaced : List ℕ → Option (List ℕ)
 unspaced name = if list_any (λ b. nat_eq b space) name then None else Some name
 
--- the file that a line names behind the prefix; none where a space stands in it
+-- the file that a line names after the prefix; none if the name has a space
 abbrev pub name_in : List ℕ → List ℕ → Option (List ℕ)
 name_in prefix line = if starts_with nat_eq line prefix then unspaced (trimmed (drop (length prefix) line)) else None
 
--- the files that the lines name, each where no earlier line gives the same text
+-- the files that the lines name, each unless an earlier line gives the same text
 abbrev pub names : List ℕ → List ℕ → List (List ℕ)
 names prefix stderr = distinct_words (filter_map (name_in prefix) (lines stderr))
 
--- each word with this behind it
+-- each word, with this after it
 abbrev pub ended_by : List ℕ → List (List ℕ) → List ℕ
 ended_by end words = flat_map (λ word. word ++ end) words
 
--- a line is kept where all are, or where it does not begin with the prefix
+-- a line is kept if all are, or if it does not begin with the prefix
 abbrev pub is_kept : Bool → List ℕ → List ℕ → Bool
 is_kept keeps_all prefix line = keeps_all || not (starts_with nat_eq line prefix)
 
@@ -70,7 +70,7 @@ pub record IsDepfile (parsed : Parsed) (object prefix stderr : List ℕ) (made :
   pub text_is : made.text.items ≡ rules object parsed.input (names prefix stderr) sorted
   pub kept_is : made.kept.items ≡ kept_text parsed.msvc_show_includes prefix stderr
 
--- the object whose dependency file is to be written: that of a record for clang that has a dependency file
+-- the object whose dependency file is wanted: that of a record for clang which has a dependency file
 abbrev pub object_by : Option (List ℕ) → Option (List ℕ) → Option (List ℕ)
 object_by None object = None
 object_by (Some depfile) object = object
@@ -78,7 +78,7 @@ object_by (Some depfile) object = object
 abbrev pub depfile_object : Bool → Parsed → Option (List ℕ)
 depfile_object is_clang parsed = if is_clang then object_by parsed.depfile (object_of parsed) else None
 
--- Nothing where no object wants the file; else that the error output is no UTF-8; else its text, or memory was refused.
+-- Nothing if no object wants the file; else an error if the error output is not UTF-8; else its text, or a failed allocation.
 abbrev pub IsDepfileAnswer : Parsed → List ℕ → List ℕ → Option (List ℕ) → Result (Option DepfileText) DepfileError → Type 0
 IsDepfileAnswer parsed prefix stderr None (Ok None) = Unit {0}
 IsDepfileAnswer parsed prefix stderr None (Ok (Some made)) = ⊥

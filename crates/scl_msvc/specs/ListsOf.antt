@@ -1,4 +1,4 @@
--- The words of the lists of a command, as the code holds them.
+-- The words of the lists of a command, as the code stores them.
 use Rattle.std.specs.Prelude.{ℕ, List}
 use Rattle.scl_values.specs.Words.{words_of}
 use Rattle.scl_msvc.specs.Building.{lists_in_order}

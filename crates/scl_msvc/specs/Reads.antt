@@ -9,11 +9,11 @@ use Rattle.scl_text.specs.Records.{Verdict}
 use Rattle.scl_msvc_reading.specs.Reads.{MsvcRead, are_inner_within, read_by, refused_by}
 use Rattle.scl_msvc.specs.Environment.{surroundings}
 
--- the words of a command line between those before and behind it
+-- the words of a command line between those before and after it
 abbrev pub words_between : List (List ℕ) → (List (List ℕ) × List (List ℕ)) → List (List ℕ)
 words_between words both = both.0 ++ words ++ both.1
 
--- of each the index of the given word that it is, if it is one
+-- of each the index of the given word, if it is one
 abbrev pub ats_between : List (List ℕ) → (List (List ℕ) × List (List ℕ)) → List (Option ℕ)
 ats_between words both = replicate (length both.0) None ++ indices (length words) ++ replicate (length both.1) None
 
@@ -23,12 +23,12 @@ expanded_between directory view words both = expanded_by expansions.Msvc directo
 abbrev pub read_between : Bool → List ℕ → Viewed → List (List ℕ) → (List (List ℕ) × List (List ℕ)) → MsvcRead
 read_between is_clang directory view words both = read_by is_clang directory view (both.0 ++ both.1) (expanded_between directory view words both)
 
--- whether it and each inner line has at most so many words and openings of files
+-- whether it and each inner line has at most `most` words and openings of files
 abbrev pub is_read_within : ℕ → Bool → List ℕ → Viewed → List (List ℕ) → (List (List ℕ) × List (List ℕ)) → Bool
 is_read_within most is_clang directory view words both =
     is_expanded_within most expansions.Msvc directory view.files (words_between words both) && are_inner_within most is_clang directory view (expanded_between directory view words both)
 
--- the reading, by the words that the environment gives; where a variable is broken, nothing is read
+-- the reading, by the words that the environment adds; if the value of a variable is not a text, nothing is read
 abbrev pub read_by_both : Bool → List ℕ → Viewed → List (List ℕ) → Result (List (List ℕ) × List (List ℕ)) Verdict → MsvcRead
 read_by_both is_clang directory view words (Ok both) = read_between is_clang directory view words both
 read_by_both is_clang directory view words (Err broken) = refused_by is_clang (Err broken)

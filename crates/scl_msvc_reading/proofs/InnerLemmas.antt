@@ -1,4 +1,4 @@
--- Inner words, joined to the flag that hands them on.
+-- Words for the inner command line, joined to their flag.
 use Rattle.std.proofs.Common.{◌≡◌, ℕ, List, [], ◌∷◌, None, refl}
 use Rattle.scl_values.specs.Spell.{delimited}
 

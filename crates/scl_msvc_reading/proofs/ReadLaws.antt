@@ -1,4 +1,4 @@
--- What a reading says is what its words say.
+-- The outcome of a reading is that of its words.
 use Rattle.std.proofs.Common.{◌≡◌, ℕ, ◌&&◌, Bool, true, false, List, [], ◌∷◌, Option, None, Some, Ok, refl, ap, subst, ◌∙◌}
 use Rattle.std.specs.Prelude.{Result, Err}
 use Rattle.scl_args.specs.Options.{unless, ◌>>=◌}
@@ -32,7 +32,7 @@ same-step : (said : Option Verdict) (options : List (Seen Kind)) (f g : List (Se
 same-step None options f g e = e
 same-step (Some v) options f g e = refl
 
--- two inner lines that are read one after the other, and then both recorded
+-- two inner lines, read one after the other, and then both recorded
 in-turn : (xs cs : Result (List (Seen gnu.Kind)) Verdict) (f : BothInner → Result Parsed Verdict)
     → xs >>= (λ x. cs >>= (λ c. f (record { xclang = x; clang = c }))) ≡ (xs >>= (λ x. cs >>= (λ c. Ok (record { xclang = x; clang = c })))) >>= f
 in-turn (Err v) cs f = refl
@@ -45,7 +45,7 @@ module _ (is_clang : Bool) (directory : List ℕ) (view : Viewed) where
   behind-options k outer =
       line-options inner_verdict (owner_in clang_tables) false (expand expansions.Gnu directory view.files (handed_words (k ∷ []) outer)) (ats_expanded expansions.Gnu directory view.files (handed_words (k ∷ []) outer) (handed_ats (k ∷ []) outer))
 
-  -- the outcome of a reading is what its words say, in the view
+  -- the outcome of a reading is that of its words, in the view
   pub outcome_read : (environment words : List (List ℕ)) (ats : List (Option ℕ))
       → (read_by is_clang directory view environment (expanded_by expansions.Msvc directory view.files words ats)).outcome ≡ reading is_clang directory view words
   outcome_read environment words ats =
@@ -61,7 +61,7 @@ module _ (is_clang : Bool) (directory : List ℕ) (view : Viewed) where
       ∙ ap (λ r. r >>= (λ os. read is_clang directory view os))
       (line-options (verdict is_clang) (owner_in msvc_tables) is_clang (expand expansions.Msvc directory view.files words) (ats_expanded expansions.Msvc directory view.files words ats))
 
-  -- what the lines, what is handed on and the outcome are, put together
+  -- a reading is its lines, the words for the inner lines, and its outcome
   pub read_is : (environment : List (List ℕ)) (e : ExpandedWords) (outer : LineRead Kind) (xclang clang inner : LineRead gnu.Kind) (handed : List (List ℕ)) (said : Result Parsed Verdict)
       → outer ≡ outer_read is_clang e → xclang ≡ line_behind only_xclang directory view outer.line → clang ≡ line_behind only_clang directory view outer.line
       → handed ≡ handed_words either outer.line → inner ≡ line_behind either directory view outer.line → said ≡ outcome_by is_clang directory view outer.line xclang.line clang.line
@@ -71,7 +71,7 @@ module _ (is_clang : Bool) (directory : List ℕ) (view : Viewed) where
 pub all_true : (a b c : Bool) → a ≡ true → b ≡ true → c ≡ true → (a && (b && c)) ≡ true
 all_true a b c ea eb ec = rw (ea, eb, ec) refl
 
--- the same, where no inner line is too long; and that one is too long
+-- the same if each inner line is within the limit, and if one is not
 module _ (most : ℕ) (is_clang : Bool) (directory : List ℕ) (view : Viewed) (e : ExpandedWords) (outer : LineRead Kind) (is_outer : outer ≡ outer_read is_clang e) (l : JudgedLine Kind) (is_line : l ≡ outer.line) where
   pub within_is : (within : Bool) → are_behind_within most directory view l ≡ within → are_inner_within most is_clang directory view e ≡ within
   within_is within h =

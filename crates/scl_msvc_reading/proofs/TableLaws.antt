@@ -1,4 +1,4 @@
--- What is asked of Msvc's tables.
+-- What is needed of Msvc's tables.
 use Rattle.std.proofs.Common.{refl}
 use Rattle.std.specs.Bool.{IsTrue}
 use Rattle.scl_values.specs.Tables.{tables_hold_values}

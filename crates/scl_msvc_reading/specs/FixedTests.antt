@@ -1,4 +1,4 @@
--- The tests that follow the verdicts of the options, in their order.
+-- The tests after the verdicts of the options, in order.
 use Rattle.std.specs.Prelude.{ℕ, Bool, true, false, not, ◌&&◌, ◌||◌, List, [], ◌∷◌, Option, None, Some, Result, Ok, Err, codes, nat_eq, is_some, if◌then◌else◌, ok_or}
 use Rattle.std.specs.List.{ends_with}
 use Rattle.std.specs.Option.{option_map, option_or}
@@ -31,18 +31,18 @@ abbrev pub differ : Bool → Bool → Bool
 differ true other = not other
 differ false other = other
 
--- where a module is compiled, its output is named, and only then; its input has no other language
+-- a line has an output path for a module if, and only if, it compiles one; then no flag gives the input another language
 abbrev pub module_verdict : (is_compiled is_named has_language : Bool) → Option Verdict
 module_verdict is_compiled is_named has_language =
     option_or (then_some (differ is_compiled is_named) (because (codes "-x c++-module without -fmodule-output= or vice versa")))
     (then_some (is_compiled && has_language) (because (codes "-x c++-module with /Tc or /Tp")))
 
--- the one input, where nothing is said against it; of several no more is asked
+-- several inputs are refused; else this refusal counts, if there is one; else there is the only input or none
 abbrev pub input_unless : Option Verdict → List (List ℕ) → Result (List ℕ) Verdict
 input_unless said (input ∷ (other ∷ inputs)) = the_input (input ∷ (other ∷ inputs))
 input_unless said inputs = unless said (the_input inputs)
 
--- that of a module, else what its flag says, else that of the file's name
+-- that of a module, else what a flag says, else that of the file's name
 abbrev pub language_of : Bool → Option Language → List ℕ → Option Language
 language_of true explicit input = Some languages.CxxModule
 language_of false (Some language) input = Some language
@@ -54,11 +54,11 @@ language_of false None input = language_of_file_name input
 abbrev pub names_folder : List ℕ → Bool
 names_folder path = ends_with nat_eq path (slash ∷ []) || ends_with nat_eq path (backslash ∷ [])
 
--- the path, with this extension where it has none
+-- the path, with this extension if it has none
 abbrev pub with_default_extension : List ℕ → List ℕ → List ℕ
 with_default_extension path default = if is_some (extension path) then path else with_extension path default
 
--- the path that was asked for, or the input's file name in that folder, else beside the input
+-- the path that is requested; or the input's file name in that folder; else the same beside the input
 abbrev pub object_path : Option (List ℕ) → List ℕ → Option (List ℕ)
 object_path None input = Some (with_extension input (codes "obj"))
 object_path (Some path) input =
@@ -68,7 +68,7 @@ object_path (Some path) input =
 abbrev pub shared_database : Verdict
 shared_database = because (codes "shared pdb")
 
--- debug information goes to a file of its own, which must be named; clang-cl keeps it in the object
+-- debug information goes to a separate file, which the line must have; clang-cl puts it into the object
 abbrev pub program_database : Bool → Option (List ℕ) → Result (Option (List ℕ)) Verdict
 program_database false path = Ok None
 program_database true None = Err shared_database

@@ -1,4 +1,4 @@
--- The options of inner command lines, as the code keeps them.
+-- The options of inner command lines, as the code stores them.
 use Rattle.scl_msvc_reading.specs.declared.msvc.inner.options.InnerOptions.{InnerOptions}
 use Rattle.scl_msvc_reading.specs.Inners.{BothInner}
 

@@ -1,4 +1,4 @@
--- Inner command lines: where the words of inner options go, and what is said of each.
+-- Inner command lines: where the words of inner options go, and the verdict of each.
 use Rattle.std.specs.Prelude.{ℕ, Bool, List, ◌++◌, Option, None, codes}
 use Rattle.std.specs.List.{flat_map}
 use Rattle.scl_args.specs.Options.{list, side_of_flag}
@@ -64,18 +64,19 @@ inner_place_of (Known f k v how) = inner_place k
 abbrev pub goes_inside_to : Place → Seen Kind → Bool
 goes_inside_to there o = ghosts.eq (inner_place_of o) there
 
--- the words of the inner options that go there, in order, each on the side of its flag
+-- the words of the inner options of this place, in order, each on the side of its flag
 abbrev pub inner_list : Place → List (Seen Kind) → List (List ℕ)
 inner_list there inner = list side_of_flag (goes_inside_to there) inner
 
--- those of the options behind `-Xclang`, each word behind one; then those of the options behind `-clang:`, each word joined to one
+-- those of the options after `-Xclang`, each word after one; then those of the options after `-clang:`, each word joined to
+-- one
 abbrev pub inner_words_at : Place → BothInner → List (List ℕ)
 inner_words_at there inner =
     flat_map (wrapped_apart (codes "-Xclang")) (inner_list there inner.xclang) ++ flat_map (wrapped_joined (codes "-clang:")) (inner_list there inner.clang)
 
 -- ---- verdicts
 
--- what an inner option says, whatever stands before it; a word without an owner is handed on as it is
+-- the verdict of an inner option, whatever is before it; a word without an owner is passed on unchanged
 abbrev pub inner_verdict : List (Seen Kind) → Seen Kind → Option Verdict
 inner_verdict before (Raw w) = None
 inner_verdict before (Unknown w) = None

@@ -1,4 +1,4 @@
--- What the kinds of options mean, and what some of them say of the input.
+-- What kinds of options mean, and what some of them say of the input.
 use Rattle.std.specs.Prelude.{Bool, not, ◌&&◌, ◌||◌, List, [], ◌∷◌, Option, None, Some}
 use Rattle.std.specs.List.{list_any}
 use Rattle.std.specs.Option.{option_and_then}
@@ -16,15 +16,15 @@ use Rattle.scl_msvc_reading.specs.declared.msvc.data.Kind.TheVariants as kind
 abbrev pub of : List Kind → Seen Kind → Bool
 of kinds o = of_kinds ghosts.eq kinds o
 
--- the kinds of options that name an input and say its language
+-- the kinds of options that give an input with its language
 abbrev pub language_inputs : List Kind
 language_inputs = kind.CInput ∷ kind.CxxInput ∷ []
 
--- a word that is no option is an input, unless it is `--`; so is the value of a flag that names one with its language
+-- a raw word is an input, unless it is `--`; so is the value of a flag that gives an input with its language
 abbrev pub is_input : Seen Kind → Bool
 is_input o = (is_raw o && not (is_dashes o)) || of language_inputs o
 
--- the language that an option of the kind says of its input
+-- the language that an option of the kind gives its input
 abbrev pub language_of_kind : Kind → Option Language
 language_of_kind kind.CInput = Some languages.C
 language_of_kind kind.CxxInput = Some languages.Cxx
@@ -35,7 +35,7 @@ language_said (Raw w) = None
 language_said (Unknown w) = None
 language_said (Known f k v how) = language_of_kind k
 
--- how an option names a file on whose contents the outcome depends
+-- how an option names a file on whose contents the result depends
 abbrev pub hash_role : Kind → Option HashRole
 hash_role kind.ExtraHashFile = Some roles.File
 hash_role kind.ClangModuleFile = Some roles.Module
@@ -43,10 +43,10 @@ hash_role _ = None
 
 -- ---- all options
 
--- whether such an option stands
+-- whether there is such an option
 abbrev pub any : List Kind → List (Seen Kind) → Bool
 any kinds os = list_any (of kinds) os
 
--- the language of the input, as its flag says
+-- the language of the input that a flag gives
 abbrev pub explicit_language : List (Seen Kind) → Option Language
 explicit_language os = option_and_then language_said (last_by (of language_inputs) os)

@@ -47,10 +47,10 @@ place_of (Known f k v how) = place k
 abbrev pub goes_to : Place → Seen Kind → Bool
 goes_to there o = ghosts.eq (place_of o) there
 
--- the flags of folders of external includes stand apart from their values, all others together with theirs
+-- the flags of folders of external includes are apart from their values, all others are joined to theirs
 abbrev pub side_of_flag : List ℕ → NormalizedDisposition
 side_of_flag flag = if bytes_eq flag (codes "-external:I") || bytes_eq flag (codes "/external:I") then side.Separated else side.Concatenated
 
--- the words of the options that go there, in order, each on the side of its flag
+-- the words of the options of this place, in order, each on the side of its flag
 abbrev pub words_at : Place → List (Seen Kind) → List (List ℕ)
 words_at there os = list side_of_flag (goes_to there) os

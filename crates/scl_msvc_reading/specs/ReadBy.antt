@@ -1,4 +1,4 @@
--- The inner lines of a reading, as the code keeps them.
+-- The inner lines of a reading, as the code stores them.
 use Rattle.std.specs.Prelude.{◌≡◌, ℕ, List}
 use Rattle.scl_files.specs.Views.{Viewed}
 use Rattle.scl_msvc_reading.specs.Reads.{either, handed_words, line_behind, only_clang, only_xclang}

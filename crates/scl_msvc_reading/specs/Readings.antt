@@ -1,4 +1,4 @@
--- What a command line says.
+-- The outcome of a command line.
 use Rattle.std.specs.Prelude.{ℕ, Bool, List, [], ◌∷◌, Result, Ok}
 use Rattle.scl_args.specs.Options.{texts, ◌>>=◌}
 use Rattle.scl_values.specs.Seen.{Seen}
@@ -17,11 +17,11 @@ use Rattle.scl_msvc_reading.specs.Recordings.{record_of}
 use Rattle.scl_msvc_reading.specs.Rows.{msvc_tables}
 use Rattle.scl_msvc_reading.specs.Verdicts.{verdict}
 
--- the options of an inner command line, whose words are the values of the options of a kind
+-- the options of an inner command line; its words are the values of the options of this kind
 abbrev pub inner_options : Kind → List ℕ → Viewed → List (Seen Kind) → Result (List (Seen gnu.Kind)) Verdict
 inner_options k directory view os = inner_reading inner_verdict directory view (texts (of (k ∷ [])) os)
 
--- those of the two
+-- those of both
 abbrev pub both_inner : List ℕ → Viewed → List (Seen Kind) → Result BothInner Verdict
 both_inner directory view os = do
   xclang ← inner_options kind.XClang directory view os
@@ -34,13 +34,13 @@ recorded is_clang directory view os inner = do
   f ← found is_clang os
   Ok (record_of directory view os inner f)
 
--- options that are not refused: the inner ones that they hand on are read, and then all are tested and recorded
+-- options that are not refused: the inner ones in them are read, and then all are tested and recorded
 abbrev pub read : Bool → List ℕ → Viewed → List (Seen Kind) → Result Parsed Verdict
 read is_clang directory view os = do
   inner ← both_inner directory view os
   recorded is_clang directory view os inner
 
--- the words are cut by both tables, for clang-cl with `--` as the end of options, judged and read
+-- the words are cut by both tables (for clang-cl `--` ends the options), judged and read
 abbrev pub reading : Bool → List ℕ → Viewed → List (List ℕ) → Result Parsed Verdict
 reading is_clang directory view words = do
   os ← judged_words expansions.Msvc (verdict is_clang) msvc_tables is_clang directory view words

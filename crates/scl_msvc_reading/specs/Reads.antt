@@ -1,4 +1,4 @@
--- A command line of cl or clang-cl, read: the lines that it is, and what they say.
+-- A command line of cl or clang-cl, read: its lines and its outcome.
 use Rattle.std.specs.Prelude.{◌≡◌, ℕ, ◌&&◌, Bool, List, [], ◌∷◌, Option, Result}
 use Rattle.scl_args.specs.Options.{texts, ◌>>=◌}
 use Rattle.scl_files.specs.Expanded.{ExpandedWords, expanded_by}
@@ -19,8 +19,8 @@ use Rattle.scl_text.specs.ReadLines.{LineRead, line_read, nothing_read}
 use Rattle.scl_text.specs.Records.{Parsed, Verdict}
 use Rattle.scl_values.specs.Tables.{owner_in}
 
--- a command line that was read: by whom, the words that the environment gave it, the given line with these, the lines behind `-Xclang` and behind `-clang:`, the words
--- that either hands on and the line of those, and the outcome
+-- A command line that was read: the compiler, the words from the environment, and the given line with these; the lines after
+-- `-Xclang` and after `-clang:`; the words for both and their line; and the outcome.
 pub record MsvcRead : Type 0 where
   pub is_clang : Bool
   pub environment : List (List ℕ)
@@ -31,7 +31,7 @@ pub record MsvcRead : Type 0 where
   pub inner : LineRead gnu.Kind
   pub outcome : Result Parsed Verdict
 
--- the given line, in which response files were put in place
+-- the given line, with response files expanded
 abbrev pub outer_read : Bool → ExpandedWords → LineRead Kind
 outer_read is_clang e = line_read (verdict is_clang) (owner_in msvc_tables) is_clang e
 
@@ -44,7 +44,7 @@ only_clang = kind.Clang ∷ []
 abbrev pub either : List Kind
 either = kind.XClang ∷ kind.Clang ∷ []
 
--- the words that the options of these kinds hand on
+-- the values of the options of these kinds, which are words for inner lines
 abbrev pub handed_words : List Kind → JudgedLine Kind → List (List ℕ)
 handed_words kinds outer = texts (of kinds) outer.options
 
@@ -58,7 +58,7 @@ line_behind kinds directory view outer = inner_read inner_verdict directory view
 abbrev pub is_behind_within : ℕ → List Kind → List ℕ → Viewed → JudgedLine Kind → Bool
 is_behind_within most kinds directory view outer = is_expanded_within most expansions.Gnu directory view.files (handed_words kinds outer)
 
--- what the lines say: the first refusal, else what the tests find, recorded
+-- the outcome of the lines: the first refusal, else the record of what the tests find
 abbrev pub outcome_by : Bool → List ℕ → Viewed → JudgedLine Kind → JudgedLine gnu.Kind → JudgedLine gnu.Kind → Result Parsed Verdict
 outcome_by is_clang directory view outer xclang clang = do
   os ← line_options outer
@@ -66,7 +66,7 @@ outcome_by is_clang directory view outer xclang clang = do
   cs ← line_options clang
   recorded is_clang directory view os (record { xclang = xs; clang = cs })
 
--- the reading of words in which response files were put in place, some of which the environment gave
+-- the reading of expanded words, some of which the environment gave
 abbrev pub read_by : Bool → List ℕ → Viewed → List (List ℕ) → ExpandedWords → MsvcRead
 read_by is_clang directory view environment e =
     let outer = outer_read is_clang e in
@@ -83,16 +83,16 @@ read_by is_clang directory view environment e =
       outcome = outcome_by is_clang directory view outer.line xclang.line clang.line;
     }
 
--- whether each inner line of a line has at most so many words, and opens files at most so many times
+-- whether each inner line of a line has at most `most` words and at most `most` openings
 abbrev pub are_behind_within : ℕ → List ℕ → Viewed → JudgedLine Kind → Bool
 are_behind_within most directory view outer =
     is_behind_within most only_xclang directory view outer && (is_behind_within most only_clang directory view outer && is_behind_within most either directory view outer)
 
--- the same of the line that words are in which response files were put in place
+-- the same for the line of expanded words
 abbrev pub are_inner_within : ℕ → Bool → List ℕ → Viewed → ExpandedWords → Bool
 are_inner_within most is_clang directory view e = are_behind_within most directory view (outer_read is_clang e).line
 
--- a command line that is refused before it is read
+-- a reading of a command line that is refused before it is read
 abbrev pub refused_by : Bool → Result Parsed Verdict → MsvcRead
 refused_by is_clang said = record {
   is_clang = is_clang;
@@ -107,7 +107,7 @@ refused_by is_clang said = record {
 
 -- ---- a law
 
--- a reading of words says what the words say
+-- the outcome of a reading is that of its words
 abbrev pub ReadingsSay : Type 0
 ReadingsSay =
     (is_clang : Bool) (directory : List ℕ) (view : Viewed) (environment words : List (List ℕ)) (ats : List (Option ℕ))

@@ -24,11 +24,11 @@ use Rattle.scl_msvc_reading.specs.Places.{words_at}
 
 -- ---- outputs
 
--- a file that is made of type libraries, as C++ may
+-- a file that is made from type libraries, as C++ may request
 abbrev pub library_file : Found → List ℕ → Option (List ℕ)
 library_file f extension = then_some (ghosts.eq f.language languages.Cxx) (with_extension f.object extension)
 
--- those that there are, in the order of their names; `tlh` and `tli` may be missing
+-- the outputs in the order of their names; `tlh` and `tli` may be missing
 abbrev pub outputs : List (Seen Kind) → Found → List Artifact
 outputs os f =
     output_at (codes "module") false (last_text (of (kind.ClangModuleOutput ∷ [])) os) ++ output_at (codes "obj") false (Some f.object) ++ output_at (codes "pdb") false f.program_database
@@ -36,19 +36,19 @@ outputs os f =
 
 -- ---- the record
 
--- the words at a place: those of the outer options, then those of the inner ones
+-- the words of a place: those of the outer options, then those of the inner ones
 abbrev pub all_words_at : Place → List (Seen Kind) → BothInner → List (List ℕ)
 all_words_at there os inner = words_at there os ++ inner_words_at there inner
 
--- the files on whose contents the outcome depends, as the outer options name them, then the inner ones
+-- the files on whose contents the result depends, as first the outer options name them, then the inner ones
 abbrev pub all_hashed : List (Seen Kind) → BothInner → List Hashed
 all_hashed os inner = hashed_as hash_role os ++ gnu.hashed inner.xclang ++ gnu.hashed inner.clang
 
--- whether the program will write a profile of its runs
+-- whether the compiled program writes a profile when it runs
 abbrev pub writes_profile : BothInner → Bool
 writes_profile inner = gnu.any (inner_kind.ProfileGenerate ∷ []) inner.xclang || gnu.any (inner_kind.ProfileGenerate ∷ []) inner.clang
 
--- inner options give words, hashed files and that a profile is written
+-- the record; inner options give words, hashed files, and that a profile is written
 abbrev pub record_of : List ℕ → Viewed → List (Seen Kind) → BothInner → Found → Parsed
 record_of directory view os inner f = record (bare_record f.input f.language f.compile_flag) {
   double_dash_input = is_behind_dashes is_input os;

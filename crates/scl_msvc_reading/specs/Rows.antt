@@ -1,11 +1,11 @@
--- Msvc's two tables: the same flags, each once with `-` and once with `/` before it.
+-- Msvc's two tables: the same flags, once with `-` and once with `/` as the first byte.
 use Rattle.std.specs.Prelude.{ℕ, List, [], ◌∷◌, ◌++◌, map, codes}
 use Rattle.scl_values.specs.Row.{Row, row, bare}
 use Rattle.scl_values.specs.Shapes.{APART, JOINED, JOINED_EQUALS, EITHER}
 use Rattle.scl_msvc_reading.specs.declared.msvc.data.Kind.{Kind}
 use Rattle.scl_msvc_reading.specs.declared.msvc.data.Kind.TheVariants as kind
 
--- the rows, with flags that lack their first byte
+-- the rows, with flags without their first byte
 abbrev pub flags : List (Row Kind)
 flags =
     row (codes "?") kind.SuppressCompilation bare ∷
@@ -268,7 +268,7 @@ flags =
 abbrev pub prefixed : List ℕ → Row Kind → Row Kind
 prefixed prefix flag = row (prefix ++ flag.flag) flag.kind flag.shape
 
--- the rows with the prefix before each flag, and that of a word that names a response file
+-- the rows with the prefix before each flag, and the row of a word that names a response file
 unfoldable pub msvc_rows : List ℕ → List (Row Kind)
 msvc_rows prefix = map (prefixed prefix) flags ++ row (codes "@") kind.TooHardPath JOINED ∷ []
 

@@ -1,4 +1,4 @@
--- What an option says against caching.
+-- The verdict of an option.
 use Rattle.std.specs.Prelude.{ℕ, Bool, not, ◌||◌, List, Option, None, Some, codes}
 use Rattle.std.specs.Str.{bytes_eq}
 use Rattle.std.specs.Option.{option_or}
@@ -18,7 +18,7 @@ abbrev pub flag_verdict : Place → List ℕ → Option Verdict
 flag_verdict places.Refused flag = Some (because flag)
 flag_verdict _ flag = None
 
--- what a flag of the kind says with this value; that of a module's file, or of a language, only clang-cl has
+-- the verdict of a flag of the kind with this value; only clang-cl has modules' files and languages of all inputs
 abbrev pub value_verdict : Bool → List ℕ → Kind → List ℕ → Option Verdict
 value_verdict is_clang flag kind.SuppressCompilation value = Some NotCompilation
 value_verdict is_clang flag kind.Output value = then_some (bytes_eq value (codes "nul")) (because (codes "output to nul"))
@@ -29,11 +29,11 @@ value_verdict is_clang flag kind.ClangModuleOutput value = then_some (is_empty v
 value_verdict is_clang flag kind.ClangLanguage value = then_some (not is_clang || not (bytes_eq value (codes "c++-module"))) (because flag)
 value_verdict is_clang flag _ value = None
 
--- what an option with this flag and value says: what its kind does, else what its value does
+-- the verdict of an option with this flag and value: that of its kind, else that of its value
 abbrev pub known_verdict : Bool → List ℕ → Kind → List ℕ → Option Verdict
 known_verdict is_clang flag k value = option_or (flag_verdict (place k) flag) (value_verdict is_clang flag k value)
 
--- what an option says, whatever stands before it
+-- the verdict of an option, whatever is before it
 abbrev pub verdict : Bool → List (Seen Kind) → Seen Kind → Option Verdict
 verdict is_clang before (Raw w) = None
 verdict is_clang before (Unknown w) = None

@@ -1,4 +1,4 @@
-//! How the words of Msvc's cl and of clang-cl are read into a record.
+//! Reading the words of Msvc's cl and of clang-cl into a record.
 #![tactic(auto)]
 
 pub mod laws;

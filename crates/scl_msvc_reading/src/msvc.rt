@@ -1,4 +1,4 @@
-//! The tables of Msvc's cl and of clang-cl, and the words that are read by them.
+//! The tables of Msvc's cl and of clang-cl, and the parser of words that are cut by them.
 
 mod args;
 mod data;

@@ -18,16 +18,16 @@ is_launcher word = is_one_of launchers (stem_of word)
 abbrev pub is_in_name : ℕ → Bool
 is_in_name byte = nat_le 97 byte && nat_le byte 122 || nat_le 65 byte && nat_le byte 90 || is_digit byte || byte == 95
 
--- the name of a variable, as a shell has it
+-- the name of a variable, by a shell's rules
 abbrev pub is_name : List ℕ → Bool
 is_name text = not (length text == 0) && not (is_digit (slice_index text 0)) && list_all is_in_name text
 
--- where the `=` of a word stands, if a name is before it
+-- the position of the `=` of a word, if a name is before it
 abbrev pub behind_name : List ℕ → Option ℕ → Option ℕ
 behind_name word None = None
 behind_name word (Some at) = if is_name (take at word) then Some at else None
 
--- where the first `=` of `NAME=..` stands
+-- the position of the first `=` of `NAME=..`
 abbrev pub assignment_at : List ℕ → Option ℕ
 assignment_at word = behind_name word (position (λ byte. byte == 61) word)
 
@@ -37,6 +37,6 @@ is_assignment word = is_some (assignment_at word)
 abbrev pub is_before_program : List ℕ → Bool
 is_before_program word = is_assignment word || is_launcher word
 
--- the first word that does not stand before the program
+-- the first word that is neither a launcher nor an assignment
 abbrev pub program_at : List (List ℕ) → Option ℕ
 program_at words = position_from (λ word. not (is_before_program word)) 0 words

@@ -38,12 +38,12 @@ names =
 abbrev pub is_open : List ℕ → Bool
 is_open before = length before == 0 || ends_with nat_eq before (45 ∷ [])
 
--- a name that may stand so stands behind this
+-- a name that may be used so may follow this
 abbrev pub stands : Standing → List ℕ → Bool
 stands Alone before = length before == 0
 stands Prefixed before = is_open before
 
--- a program is called by the name
+-- the program has the name
 abbrev pub fits : List ℕ → Entry → Bool
 fits stem name = ends_with nat_eq stem name.text && stands name.standing (take (length stem - length name.text) stem)
 

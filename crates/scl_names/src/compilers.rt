@@ -6,16 +6,16 @@ use crate::file_name::stem_of;
 use scl_reader::{Compiler, Mem};
 use std::alloc::Global;
 
-/// Where a name may stand.
+/// How a name may be used.
 #[derive(Clone, Copy)]
 pub(crate) enum Standing {
-    /// Alone.
+    /// Only by itself.
     Alone,
-    /// Alone, or behind a prefix that ends in `-`, as `x86_64-linux-gnu-gcc`.
+    /// By itself, or after a prefix that ends in `-`, such as `x86_64-linux-gnu-gcc`.
     Prefixed,
 }
 
-/// A name, and the compiler that it names.
+/// A name, and its compiler.
 pub(crate) struct Name {
     text: &'static str,
     standing: Standing,
@@ -28,7 +28,7 @@ macro_rules! names {
     };
 }
 
-/// The names that are known. No program is called by two of them.
+/// The known names. No program matches two of them.
 static NAMES: &[Name] = &names![
     "clang-cl" Prefixed ClangCl,
     "clang++" Prefixed Clangxx,
@@ -48,7 +48,7 @@ fn names() -> &'static [Name]
     NAMES
 }
 
-/// Whether a name may stand behind this.
+/// Whether a name may follow this: it is empty, or ends in `-`.
 fn is_open(before: &[u8]) -> bool
     ensures { result ≡ is_open before.now }
 {
@@ -56,7 +56,7 @@ fn is_open(before: &[u8]) -> bool
 }
 
 impl Standing {
-    /// Whether a name that stands so may stand behind this.
+    /// Whether a name that is used so may follow this.
     fn is_behind(self, before: &[u8]) -> bool
         ensures { result ≡ stands self before.now }
     {
@@ -88,10 +88,11 @@ fn compiler_named(stem: &[u8]) -> Option<Compiler>
     None
 }
 
-/// The compiler that the path of a program names, if the name is known: what stands behind the last `/` or `\`, without `.exe`,
-/// behind which case is no matter, and without a version, as `-18` or `-4.9.2`. It is one of `clang-cl`, `clang++`, `clang`,
-/// `g++`, `gcc`, `c++` (which is g++) and `cc` (gcc), alone or behind a prefix that ends in `-`, or `cl`, `dcc` (Diab) or
-/// `cctc` (TaskingVX) alone. It fails only for want of memory.
+/// The compiler of a program, by its path, if the name is known. The name is what follows the last `/` or `\`, without `.exe`
+/// (in any case; the name is then compared in lower case) and without a version such as `-18` or `-4.9.2`. The names:
+///
+/// - by themselves or after a prefix that ends in `-`: `clang-cl`, `clang++`, `clang`, `g++`, `gcc`, `c++` (g++), `cc` (gcc);
+/// - only by themselves: `cl`, `dcc` (Diab), `cctc` (TaskingVX).
 pub fn compiler_of(alloc: Global, program: &[u8]) -> Mem<Option<Compiler>>
     ensures { IfOk result (λ compiler. compiler ≡ compiler_of program.now) }
 {

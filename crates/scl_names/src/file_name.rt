@@ -6,7 +6,7 @@ ghost use Rattle.scl_names.specs.FileNames.{is_at, is_digit, is_version, file_na
 use scl_reader::Mem;
 use std::alloc::Global;
 
-/// What parts of a name stand between.
+/// The bytes that separate parts of a name.
 #[derive(Clone, Copy)]
 pub(crate) enum Mark {
     /// `/` and `\`, between the folders of a path.
@@ -26,7 +26,7 @@ impl Mark {
     }
 }
 
-/// The position behind the last mark, 0 where there is none.
+/// The position after the last mark; 0 if there is none.
 fn behind_last(mark: Mark, text: &[u8]) -> usize
     ensures { result + suffix_len (λ byte. not (is_at mark byte)) text.now ≡ length text.now }
 {
@@ -96,7 +96,8 @@ fn without_exe(alloc: Global, name: &[u8]) -> Mem<Vec<u8>>
     }
 }
 
-/// The name of a program by its path: without folders, without `.exe`, behind which case is no matter, and without a version.
+/// The name of a program, by its path: without folders, without `.exe` (in any case; then in lower case), and without a
+/// version.
 pub(crate) fn stem_of(alloc: Global, program: &[u8]) -> Mem<Vec<u8>>
     ensures { IfOk result (λ stem. stem.items ≡ stem_of program.now) }
 {

@@ -1,4 +1,4 @@
-//! The programs that run the compiler which a later word names.
+//! Programs that run the compiler named by a later word.
 ghost use Rattle.std.specs.Prelude.{◌≡◌, ◌<◌, ◌==◌, IfOk, IfSome, length, map, position};
 ghost use Rattle.std.specs.List.{list_all};
 ghost use Rattle.scl_values.specs.Words.{words_of};
@@ -8,7 +8,7 @@ use crate::file_name::{is_digit, stem_of};
 use scl_reader::Mem;
 use std::alloc::Global;
 
-/// The programs that run the compiler which a later word names.
+/// Programs that run the compiler named by a later word.
 static LAUNCHERS: &[&str] = &["ccache", "sccache", "distcc", "icecc", "env"];
 
 fn launchers() -> &'static [&'static str]
@@ -59,7 +59,8 @@ fn equals_at(word: &[u8]) -> Option<usize>
     word.iter().position(|byte| *byte == b'=')
 }
 
-/// Where the `=` of a word stands that assigns a variable: `NAME=..`, NAME of letters, digits and `_`, with no digit first.
+/// The position of the `=` of a word that assigns a variable: `NAME=..`, where NAME has letters, digits and `_`, and no digit
+/// first.
 pub fn assignment_at(word: &[u8]) -> Option<usize>
     ensures at { result ≡ assignment_at word.now }
     ensures within { IfSome result (λ at. at < length word.now) }
@@ -88,9 +89,8 @@ fn is_before_program(alloc: Global, word: &[u8]) -> Mem<bool>
     Ok(is_called(&stem))
 }
 
-/// The index of the word that is the program of a command line: the first that is no launcher (`ccache`, `sccache`, `distcc`,
-/// `icecc`, `env`, called as a compiler may be) and no assignment of a variable
-/// (`assignment_at`). It fails only for want of memory.
+/// The index of the program in a command line: the first word that is no launcher and no assignment (`assignment_at`).
+/// Launchers are `ccache`, `sccache`, `distcc`, `icecc` and `env`, by the same rules of names as a compiler.
 pub fn program_at(alloc: Global, words: &[Vec<u8>]) -> Mem<Option<usize>>
     ensures { IfOk result (λ at. at ≡ program_at (words_of words.now)) }
 {

@@ -1,4 +1,4 @@
-//! Which compiler the name of a program names, and which word of a command line is its program.
+//! The compiler of a program by its name, and the program of a command line.
 #![tactic(auto)]
 
 mod compilers;

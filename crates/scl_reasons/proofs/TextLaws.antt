@@ -1,4 +1,4 @@
--- What the code's explanations say of a reason is what the table says.
+-- The code's explanations and the table say the same of a reason.
 use Rattle.std.proofs.Common.{◌≡◌, ℕ, Bool, true, false, cond, ◌||◌, List, [], ◌∷◌, map, Option, Some, refl, ap, ◌∙◌}
 use Rattle.std.specs.Prelude.{find}
 use Rattle.std.specs.List.{list_any}

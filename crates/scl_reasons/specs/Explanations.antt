@@ -6,7 +6,7 @@ use Rattle.std.specs.Str.{bytes_eq}
 use Rattle.scl_reasons.specs.Table.{Explained, explained_by}
 use Rattle.scl_reasons.specs.declared.explain.Explanation.{Explanation}
 
--- it has the reason among its own
+-- whether the reason is one of its own
 abbrev pub explains : List ℕ → Explained → Bool
 explains reason e = list_any (λ name. bytes_eq name reason) e.reasons
 
@@ -14,13 +14,13 @@ explains reason e = list_any (λ name. bytes_eq name reason) e.reasons
 abbrev pub text_for : List ℕ → List Explained → Option (List ℕ)
 text_for reason all = option_map (λ e. e.text) (find (explains reason) all)
 
--- ---- of the code's explanations
+-- ---- the code's explanations
 
--- what one says
+-- the code's explanation, as the definitions have it
 abbrev pub explained : Explanation → Explained
 explained explanation = explained_by explanation.text.now (map (λ reason. reason.now) explanation.reasons.now)
 
--- it has the reason among its own
+-- whether the reason is one of its own
 abbrev pub is_explained_by : Explanation → List ℕ → Bool
 is_explained_by explanation reason = list_any (λ name. bytes_eq name.now reason) explanation.reasons.now
 

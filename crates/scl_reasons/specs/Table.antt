@@ -13,7 +13,7 @@ explained_by text reasons = record { text = text; reasons = reasons }
 abbrev pub other : List ℕ
 other = codes "The compiler's table refuses this; run the command as given."
 
--- the explanations of every reason that a compiler of this repository gives: those that are no flags, and then flags
+-- the explanations of every reason that a compiler of this repository gives: first those that are no flags, then flags
 unfoldable pub table : List Explained
 table =
     explained_by (codes "A word or a value names a response file that was not put in its place; hand the file in, or write its words out.")

@@ -9,16 +9,16 @@ use crate::table::EXPLANATIONS;
 /// A sentence for people, and the reasons that it explains.
 #[derive(Clone, Copy, Debug)]
 pub struct Explanation {
-    /// What the reasons mean, and what one can do.
+    /// What the reasons mean, and what to do.
     pub text: &'static str,
     /// The reasons, as answers have them.
     pub reasons: &'static [&'static str],
 }
 
-/// The sentence for a reason that no compiler of this repository gives, as a flag of a table of one's own.
+/// The sentence for a reason that no compiler of this repository gives: such as a flag of a caller's own table.
 const OTHER: &str = "The compiler's table refuses this; run the command as given.";
 
-/// All explanations; each reason that a compiler of this repository gives stands in one, once (docs/RULES.md, Sentences).
+/// All explanations. Each reason that a compiler of this repository gives is in exactly one, once (docs/RULES.md, Sentences).
 #[tactic(auto, unfolding(crate::specs::Table::table))]
 pub fn explanations() -> &'static [Explanation]
     ensures { map explained result.now ≡ table }
@@ -43,15 +43,15 @@ fn text_in(explanations: &[Explanation], reason: &str) -> Option<&'static str>
     Some(found.text)
 }
 
-/// The sentence of a reason that a compiler of this repository gives, or `None` where none gives it.
+/// The sentence of a reason that a compiler of this repository gives; `None` for any other.
 pub fn known_sentence(reason: &str) -> Option<&'static str>
     ensures { option_copied result ≡ text_for reason.now table }
 {
     text_in(explanations(), reason)
 }
 
-/// A sentence for people: what the reason means, and what one can do. A reason that no compiler of this repository gives, as
-/// a flag of a table of one's own, has one that says so.
+/// A sentence for people: what the reason means, and what to do. For a reason that no compiler of this repository gives, such
+/// as a flag of a caller's own table, it says so.
 pub fn sentence(reason: &str) -> &'static str
     ensures { result.now ≡ unwrap_or (text_for reason.now table) other }
 {

@@ -9,8 +9,8 @@ macro_rules! explanations {
     };
 }
 
-/// Each reason once: those that are no flags, and then flags. A flag is the reason where its kind is refused whatever its
-/// value, and where it is the driver's and can't be handed on.
+/// Each reason once: first those that are no flags, then flags. A flag is the reason if its kind is refused with any value,
+/// or if it is a driver's flag that can't be passed to the inner command line.
 pub(crate) static EXPLANATIONS: &[Explanation] = &explanations![
     "A word or a value names a response file that was not put in its place; hand the file in, or write its words out.":
         UNEXPANDED_FILE;

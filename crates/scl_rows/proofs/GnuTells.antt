@@ -1,4 +1,4 @@
--- What the rows of a command line of Gcc or Clang tell of its outcome, and the words that they were cut from.
+-- What the rows of a command line of Gcc or Clang say of its outcome, and the words that they were cut from.
 use Rattle.std.proofs.Common.{◌≡◌, ℕ, Bool, true, false, cond, List, [], ◌∷◌, ◌++◌, Option, None, Some, Result, Ok, Err, refl, sym, ap, subst, ◌∙◌}
 use Rattle.std.proofs.lemmas.List.{append-nil}
 use Rattle.std.specs.List.{flat_map}
@@ -65,7 +65,7 @@ no-list (Raw w) = raw-unlisted w
 no-list (Unknown w) = refl
 no-list (Known f k v how) = kind-unlisted k
 
--- the list that a place is
+-- the list of a place
 abbrev there_is : Place → Destination
 there_is place = destination_at place destinations.Ignored
 
@@ -169,7 +169,7 @@ split-others places.Common c is_split object = absurd (cc)
 split-others _ c true object = refl
 split-others _ c false object = refl
 
--- the words that the rules add to the list that the place is
+-- the words that the rules add to the list of the place
 module _ (is_needed has_path : Bool) (flag target : Option (List ℕ)) (object : List ℕ) (is_split : Bool) where
   abbrev added_by : Place → List (List ℕ)
   added_by places.Dependency = added_dependency is_needed has_path flag target object
@@ -247,7 +247,7 @@ module _ (compiler : CCompilerKind) (plusplus : Bool) (tables : List (List (Row 
   inner-refused : first_refusal inner_rows ≡ line_refusal r.inner.line
   inner-refused = line-refused inner_ways r.inner (read-whole inner_verdict (owner_in clang_tables) false inner_words)
 
-  -- the first refusal of its rows is that of the first line that is refused
+  -- the first refusal of the rows is that of the first line that is refused
   both-refused : first_refusal rows ≡ option_or (line_refusal r.outer.line) (line_refusal r.inner.line)
   both-refused =
       first_refusal-append outer_rows inner_rows
@@ -261,7 +261,7 @@ module _ (compiler : CCompilerKind) (plusplus : Bool) (tables : List (List (Row 
       ∙ sym (unless-or (line_refusal r.outer.line) (line_refusal r.inner.line) test_and_record)
       ∙ ap (λ v. unless v test_and_record) (sym both-refused)
 
-  -- of a line of which no row is refused
+  -- a line without refused rows
   module _ (none : first_refusal rows ≡ None) where
     none-in : (line_refusal r.outer.line ≡ None) × (line_refusal r.inner.line ≡ None)
     none-in = option_or-none (line_refusal r.outer.line) (line_refusal r.inner.line) (sym both-refused ∙ none)

@@ -49,7 +49,7 @@ pub options-at : {A B : Type 0} (see : A → B) (options : List A) (i : ℕ) (op
 options-at see options i option within is =
     ap (map see) (drop-cons options i option within ∙ ap (λ first. first ∷ drop (suc i) options) (sym is) ∙ ap (λ n. option ∷ drop n options) (sym (add-one i)))
 
--- one more row, of the options that a loop goes over
+-- one more row, of the options of a loop
 pub judged-more : {K : Type 0} (ways : Ways K) (old new all : List Told) (row : Told) (words own next : List (List ℕ)) (count : ℕ) (ats left : List (Option ℕ)) (at : Option ℕ) (said after : List (Option Verdict)) (refusal : Option Verdict)
     (o : Seen K) (os rest : List (Seen K)) → new ≡ old ++ row ∷ [] → row ≡ row_of ways own at refusal o → count ≡ length (spelled o) → own ≡ take count words → next ≡ drop count words → at ≡ first_at ats → left ≡ drop 1 ats
     → refusal ≡ first_said said → after ≡ drop 1 said → os ≡ o ∷ rest → old ++ rows_judged ways words ats said os ≡ all → new ++ rows_judged ways next left after rest ≡ all
@@ -74,7 +74,7 @@ other-list a there l n = elim (ghosts.eq a there) as (λ b. ghosts.eq a there �
 printed-list : (a : Destination) (origin : Origin) (words : List (List ℕ)) → is_list a ≡ true → printed_at a origin words ≡ flat_map (handed origin) words
 printed-list a origin words e = ap (λ b. cond b (flat_map (handed origin) words) []) e
 
--- words of the given line stand as they are
+-- words of the given line are unchanged
 pub given-words : (words : List (List ℕ)) → flat_map (handed origins.Given) words ≡ words
 given-words words = flat_map_single (λ word. word) words ∙ map-id words
 
@@ -93,11 +93,11 @@ nothing side (o ∷ os) = nothing side os
 -- ---- the rows of options
 
 module _ {K : Type 0} (ways : Ways K) where
-  -- the words of the options that go there
+  -- the words of the options with this destination
   abbrev pub listed : Destination → List (Seen K) → List (List ℕ)
   listed there os = flat_map (handed ways.origin) (list ways.side (λ o. ghosts.eq (ways.goes o) there) os)
 
-  -- no option goes there
+  -- no option has this destination
   pub none-listed : (there : Destination) → ((o : Seen K) → ghosts.eq (ways.goes o) there ≡ false) → (os : List (Seen K)) → listed there os ≡ []
   none-listed there none os = ap (flat_map (handed ways.origin)) (list-same (λ o. ghosts.eq (ways.goes o) there) (λ o. false) none ways.side os ∙ nothing ways.side os)
 
@@ -114,7 +114,7 @@ module _ {K : Type 0} (ways : Ways K) where
         ] refl
     one-more words at (Some v) e o rows os rest = absurd (cc)
 
-    -- where nothing is said of any
+    -- if no option is refused
     words-judged : (said : List (Option Verdict)) (os : List (Seen K)) (words : List (List ℕ)) (ats : List (Option ℕ)) → length said ≡ length os → first_some said ≡ None
         → words_to there (rows_judged ways words ats said os) ≡ listed there os
     words-judged [] [] words ats n e = refl
@@ -126,7 +126,7 @@ module _ {K : Type 0} (ways : Ways K) where
         one-more (take count words) (first_at ats) s both.0 o (rows_judged ways (drop count words) (drop 1 ats) ss os) os
         (words-judged ss os (drop count words) (drop 1 ats) (omega (arith, n)) both.1)
 
-  -- the first refusal is what is said first
+  -- the first refusal of the rows is the first of the refusals
   refused-first : (said : List (Option Verdict)) (os : List (Seen K)) (words : List (List ℕ)) (ats : List (Option ℕ)) → length said ≡ length os → first_refusal (rows_judged ways words ats said os) ≡ first_some said
   refused-first [] [] words ats n = refl
   refused-first [] (o ∷ os) words ats n = absurd (omega (arith, n))
@@ -143,7 +143,7 @@ no-end : {K : Type 0} (origin : Origin) (end : Option (Dangled K)) → option_ma
 no-end origin None e = refl
 no-end origin (Some d) e = absurd (cc)
 
--- of a line where something, or nothing, is said of each option
+-- a line with a refusal, or none, for each option
 module _ {K : Type 0} (ways : Ways K) (l : LineRead K) (whole : length l.line.refusals ≡ length l.line.options) where
   abbrev judged : List Told
   judged = rows_judged ways l.words l.line.ats l.line.refusals l.line.options
@@ -151,14 +151,14 @@ module _ {K : Type 0} (ways : Ways K) (l : LineRead K) (whole : length l.line.re
   abbrev last_row : List Told
   last_row = row_end ways.origin l.line.dangling
 
-  -- the first refusal of its rows is its own
+  -- the first refusal of the rows is the line's
   pub line-refused : first_refusal (line_rows ways l) ≡ line_refusal l.line
   line-refused =
       first_refusal-append judged last_row
       ∙ ap (λ v. option_or v (first_refusal last_row)) (refused-first ways l.line.refusals l.line.options l.words l.line.ats whole)
       ∙ ap (option_or (first_some l.line.refusals)) (end-refused ways.origin l.line.dangling)
 
-  -- where it is not refused, its rows make its lists
+  -- if the line is not refused, its rows make its lists
   pub line-listed : (there : Destination) → is_list there ≡ true → line_refusal l.line ≡ None → words_to there (line_rows ways l) ≡ listed ways there l.line.options
   line-listed there lists e =
       let both = option_or-none (first_some l.line.refusals) (option_map (λ d. argument_parse) l.line.dangling) e in
@@ -171,7 +171,7 @@ said-count : {K : Type 0} (verdict : List (Seen K) → Seen K → Option Verdict
 said-count verdict before [] = refl
 said-count verdict before (o ∷ os) = ap suc (said-count verdict (before ++ o ∷ []) os)
 
--- of a line that was read, something or nothing is said of each option
+-- a line that was read has a refusal, or none, for each option
 pub read-whole : {K : Type 0} (verdict : List (Seen K) → Seen K → Option Verdict) (own : List ℕ → Option (Row K)) (dashes : Bool) (e : ExpandedWords) →
     let l = line_read verdict own dashes e in
     length l.line.refusals ≡ length l.line.options

@@ -1,4 +1,4 @@
--- What the rows of a command line of cl or clang-cl tell of its outcome, and the words that they were cut from.
+-- What the rows of a command line of cl or clang-cl say of its outcome, and the words that they were cut from.
 use Rattle.std.proofs.Common.{◌≡◌, ℕ, Bool, true, false, List, [], ◌++◌, append_assoc, None, Result, Ok, Err, refl, sym, ap, ◌∙◌}
 use Rattle.std.specs.List.{flat_map}
 use Rattle.std.specs.Option.{option_or}
@@ -58,7 +58,7 @@ no-list (Raw w) = raw-unlisted w
 no-list (Unknown w) = refl
 no-list (Known f k v how) = kind-unlisted k
 
--- the list that a place is
+-- the list of a place
 abbrev there_is : Place → Destination
 there_is place = destination_at place destinations.Ignored
 
@@ -101,7 +101,7 @@ module _ (is_clang : Bool) (directory : List ℕ) (view : Viewed) (environment :
   abbrev inner : BothInner
   inner = record { xclang = r.xclang.line.options; clang = r.clang.line.options }
 
-  -- the words that the options of these kinds hand on
+  -- the words in the options of these kinds
   abbrev words_behind : List Kind → ExpandedWords
   words_behind kinds = expanded_by expansions.Gnu directory view.files (handed_words kinds r.outer.line) (handed_ats kinds r.outer.line)
 
@@ -126,7 +126,7 @@ module _ (is_clang : Bool) (directory : List ℕ) (view : Viewed) (environment :
   clang-refused : first_refusal clang_rows ≡ line_refusal r.clang.line
   clang-refused = line-refused (inner_ways origins.ClangColon) r.clang (read-whole inner_verdict (owner_in clang_tables) false (words_behind only_clang))
 
-  -- the first refusal of its rows is that of the first line that is refused
+  -- the first refusal of the rows is that of the first line that is refused
   all-refused : first_refusal (msvc_rows r) ≡ option_or (option_or (line_refusal r.outer.line) (line_refusal r.xclang.line)) (line_refusal r.clang.line)
   all-refused =
       first_refusal-append (outer_rows ++ xclang_rows) clang_rows
@@ -148,7 +148,7 @@ module _ (is_clang : Bool) (directory : List ℕ) (view : Viewed) (environment :
       ∙ sym (unless-or (option_or (line_refusal r.outer.line) (line_refusal r.xclang.line)) (line_refusal r.clang.line) test_and_record)
       ∙ ap (λ v. unless v test_and_record) (sym all-refused)
 
-  -- of a line of which no row is refused
+  -- a line without refused rows
   module _ (none : first_refusal (msvc_rows r) ≡ None) where
     none-but_clang : (option_or (line_refusal r.outer.line) (line_refusal r.xclang.line) ≡ None) × (line_refusal r.clang.line ≡ None)
     none-but_clang = option_or-none (option_or (line_refusal r.outer.line) (line_refusal r.xclang.line)) (line_refusal r.clang.line) (sym all-refused ∙ none)

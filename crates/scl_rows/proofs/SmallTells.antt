@@ -1,4 +1,4 @@
--- What the rows of a command line of Diab or TaskingVX tell of its outcome, and the words that they were cut from.
+-- What the rows of a command line of Diab or TaskingVX say of its outcome, and the words that they were cut from.
 use Rattle.std.proofs.Common.{◌≡◌, ℕ, true, false, List, [], Option, None, Result, Ok, Err, refl, ap, sym, ◌∙◌}
 use Rattle.std.specs.Prelude.{IfOk, ok_or}
 use Rattle.scl_args.specs.Options.{last_flag, side_of_flag, list, texts, unless, ◌>>=◌}

@@ -1,4 +1,4 @@
--- What rows tell: refusals, lists and words of joined rows, and what ties rows to an outcome.
+-- What rows say: refusals, lists and words of joined rows, and how rows and an outcome are related.
 use Rattle.std.proofs.Common.{◌≡◌, List, [], ◌∷◌, ◌++◌, filter, Option, None, Some, Result, Err, refl, sym, ap, subst, ◌∙◌}
 use Rattle.std.proofs.lemmas.Grind.{flat_map-append}
 use Rattle.std.proofs.lemmas.List.Elements.{filter-append}
@@ -11,7 +11,7 @@ use Rattle.scl_rows.specs.Rows.{Told, Tells, HasLists, first_refusal, words_give
 use Rattle.scl_rows.specs.contracts.destination.DestinationPartialEq.TheImpl.{ghosts}
 use Rattle.scl_rows.specs.declared.destination.Destination.{Destination}
 
--- ---- options that there may be, and steps that stop
+-- ---- optional values, and steps that stop
 
 or-assoc : {A : Type 0} (a b c : Option A) → option_or (option_or a b) c ≡ option_or a (option_or b c)
 or-assoc None b c = refl
@@ -29,7 +29,7 @@ pub unless-bind : {A B V : Type 0} (v : Option V) (r : Result A V) (f : A → Re
 unless-bind None r f = refl
 unless-bind (Some y) r f = refl
 
--- ---- rows behind others
+-- ---- rows after others
 
 pub first_refusal-append : (xs ys : List Told) → first_refusal (xs ++ ys) ≡ option_or (first_refusal xs) (first_refusal ys)
 first_refusal-append [] ys = refl

@@ -29,7 +29,7 @@ use Rattle.scl_rows.specs.declared.origin.Origin.TheVariants as origins
 
 -- ---- where options go
 
--- what becomes of an option whose words go to no list, by its kind
+-- the destination of an option whose words go to no list, by its kind
 abbrev pub unlisted_kind : Kind → Destination
 unlisted_kind kind.DiagnosticsColor = destinations.Color
 unlisted_kind kind.DiagnosticsColorFlag = destinations.Color
@@ -41,7 +41,7 @@ unlisted_kind kind.SerializeDiagnostics = destinations.Output
 unlisted_kind kind.XClang = destinations.HandedOn
 unlisted_kind _ = destinations.Ignored
 
--- what becomes of a word that is no option
+-- the destination of a raw word
 abbrev pub raw_goes : List ℕ → Destination
 raw_goes word = if bytes_eq word mark then destinations.Mark else destinations.Input
 
@@ -50,7 +50,7 @@ unlisted (Raw w) = raw_goes w
 unlisted (Unknown w) = destinations.Ignored
 unlisted (Known f k v how) = unlisted_kind k
 
--- the destination that a place is, and another where it is no list
+-- the destination of a place; another one if the place is no list
 abbrev pub destination_at : Place → Destination → Destination
 destination_at places.Common other = destinations.Common
 destination_at places.Unhashed other = destinations.Unhashed
@@ -74,7 +74,7 @@ inner_ways = record { goes = inner_goes; side = side_of_flag; origin = origins.X
 
 -- ---- the rows that the rules add
 
--- an added row of a flag with its value, as these words
+-- an added row of a flag with its value, printed as these words
 abbrev pub row_added : Destination → List ℕ → List ℕ → List (List ℕ) → Told
 row_added there flag value words = record {
   given = [];
@@ -106,7 +106,7 @@ abbrev pub rows_split : Bool → List ℕ → List Told
 rows_split true object = row_joined (codes "-D_gsplit_dwarf_path=") (with_extension object (codes "dwo")) ∷ []
 rows_split false object = []
 
--- those of a compilation of an input in the language to the object
+-- those of the compilation of an input in this language to this object
 abbrev pub rows_added : List (Seen Kind) → Language → List ℕ → List Told
 rows_added os language object =
     rows_target (needs_target language os) (is_some (last_text (of (kind.DepArgumentPath ∷ [])) os))
@@ -117,7 +117,7 @@ abbrev pub rows_for : List (Seen Kind) → Language → Option (List ℕ) → Li
 rows_for os language None = []
 rows_for os language (Some object) = rows_added os language object
 
--- those of options that say this, where that is a record
+-- those of options with this outcome, if it is a record
 abbrev pub rows_recorded : List (Seen Kind) → Result Parsed Verdict → List Told
 rows_recorded os (Ok p) = rows_for os p.language (object_of p)
 rows_recorded os (Err said) = []
@@ -130,14 +130,14 @@ gnu_rows r = line_rows outer_ways r.outer ++ line_rows inner_ways r.inner ++ row
 
 -- ---- laws
 
--- the rows of a reading tell what it says
+-- the rows of a reading say what its outcome is
 abbrev pub GnuRowsTell : Type 0
 GnuRowsTell =
     (compiler : CCompilerKind) (plusplus : Bool) (tables : List (List (Row Kind))) (directory : List ℕ) (view : Viewed) (e : ExpandedWords) →
     let r = read_by compiler plusplus tables directory view e in
     Tells (gnu_rows r) r.outcome
 
--- the words that they were cut from are those of the given line, and then those of the inner one
+-- the words that rows were cut from are those of the given line, and then those of the inner one
 abbrev pub GnuRowsShareWords : Type 0
 GnuRowsShareWords =
     (compiler : CCompilerKind) (plusplus : Bool) (tables : List (List (Row Kind))) (directory : List ℕ) (view : Viewed) (e : ExpandedWords) →

@@ -33,7 +33,7 @@ value_at (Unknown w) = None
 value_at (Known f k v None) = None
 value_at (Known f k v (Some how)) = Some v
 
--- where the options of a line go and on which side of its flag a value stands there, and where the line came from
+-- where the options of a line go, on which side of its flag a value is then printed, and where the line comes from
 pub record Ways (K : Type 0) : Type 0 where
   pub goes : Seen K → Destination
   pub side : List ℕ → NormalizedDisposition
@@ -44,7 +44,7 @@ abbrev pub destination_unless : Option Verdict → Destination → Destination
 destination_unless None there = there
 destination_unless (Some verdict) there = destinations.Refused
 
--- the row of an option that was cut from these words, and of which this is said
+-- the row of an option that was cut from these words, with this index and this refusal
 abbrev pub row_of : {K : Type 0} → Ways K → List (List ℕ) → Option ℕ → Option Verdict → Seen K → Told
 row_of ways words at said o =
     let there = destination_unless said (ways.goes o) in
@@ -64,7 +64,7 @@ abbrev pub first_said : List (Option Verdict) → Option Verdict
 first_said [] = None
 first_said (said ∷ others) = said
 
--- the rows of options that were cut from these words, with their indices, of which this is said
+-- the rows of options that were cut from these words, with these indices and refusals
 abbrev pub rows_judged : {K : Type 0} → Ways K → List (List ℕ) → List (Option ℕ) → List (Option Verdict) → List (Seen K) → List Told
 rows_judged ways words ats said [] = []
 rows_judged ways words ats said (o ∷ os) =
@@ -85,7 +85,7 @@ row_dangling origin d = record {
   at = d.at;
 }
 
--- of an end, where it is such a flag
+-- of a dangling end, if there is one
 abbrev pub row_end : {K : Type 0} → Origin → Option (Dangled K) → List Told
 row_end origin None = []
 row_end origin (Some d) = row_dangling origin d ∷ []

@@ -21,7 +21,7 @@ use Rattle.scl_rows.specs.declared.destination.Destination.TheVariants as destin
 use Rattle.scl_rows.specs.declared.origin.Origin.{Origin}
 use Rattle.scl_rows.specs.declared.origin.Origin.TheVariants as origins
 
--- what becomes of an option whose words go to no list, by its kind
+-- the destination of an option whose words go to no list, by its kind
 abbrev pub unlisted_kind : Kind → Destination
 unlisted_kind kind.SuppressCompilation = destinations.Refused
 unlisted_kind kind.DoCompilation = destinations.CompileFlag
@@ -38,7 +38,7 @@ unlisted (Raw w) = raw_goes w
 unlisted (Unknown w) = destinations.Ignored
 unlisted (Known f k v how) = unlisted_kind k
 
--- the destination that a place is, and another where it is no list
+-- the destination of a place; another one if the place is no list
 abbrev pub destination_at : Place → Destination → Destination
 destination_at places.Common other = destinations.Common
 destination_at places.Unhashed other = destinations.Unhashed
@@ -59,20 +59,20 @@ outer_ways = record { goes = outer_goes; side = outer.side_of_flag; origin = ori
 abbrev pub inner_ways : Origin → Ways gnu.Kind
 inner_ways origin = record { goes = inner_goes; side = side_of_flag; origin = origin }
 
--- the rows of a reading: of the given line, of that behind `-Xclang`, and of that behind `-clang:`
+-- the rows of a reading: of the given line, of that after `-Xclang`, and of that after `-clang:`
 abbrev pub msvc_rows : MsvcRead → List Told
 msvc_rows r = line_rows outer_ways r.outer ++ line_rows (inner_ways origins.Xclang) r.xclang ++ line_rows (inner_ways origins.ClangColon) r.clang
 
 -- ---- laws
 
--- the rows of a reading tell what it says
+-- the rows of a reading say what its outcome is
 abbrev pub MsvcRowsTell : Type 0
 MsvcRowsTell =
     (is_clang : Bool) (directory : List ℕ) (view : Viewed) (environment : List (List ℕ)) (e : ExpandedWords) →
     let r = read_by is_clang directory view environment e in
     Tells (msvc_rows r) r.outcome
 
--- the words that they were cut from are those of the given line, and then those of the inner ones
+-- the words that rows were cut from are those of the given line, and then those of the inner ones
 abbrev pub MsvcRowsShareWords : Type 0
 MsvcRowsShareWords =
     (is_clang : Bool) (directory : List ℕ) (view : Viewed) (environment : List (List ℕ)) (e : ExpandedWords) →

@@ -17,7 +17,7 @@ use Rattle.scl_rows.specs.declared.destination.Destination.{Destination}
 use Rattle.scl_rows.specs.declared.destination.Destination.TheVariants as destinations
 use Rattle.scl_rows.specs.declared.origin.Origin.TheVariants as origins
 
--- the destination that a place is
+-- the destination of a place
 abbrev pub destination_at : Place → Destination
 destination_at places.Input = destinations.Input
 destination_at places.CompileFlag = destinations.CompileFlag
@@ -29,7 +29,7 @@ destination_at places.Dependency = destinations.Dependency
 destination_at places.Refused = destinations.Refused
 destination_at places.NotCompilation = destinations.Refused
 
--- where options go whose kinds go there
+-- where options go, by the places of their kinds
 abbrev pub ways : {K : Type 0} → (K → Place) → Ways K
 ways place = record { goes = λ o. destination_at (place_of place o); side = side_of_flag; origin = origins.Given }
 
@@ -39,7 +39,7 @@ small_rows place r = line_rows (ways place) r.outer
 
 -- ---- laws
 
--- the rows of a reading tell what it says, where kinds go to these places
+-- the rows of a reading say what its outcome is, by the places of kinds
 abbrev pub SmallRowsTell : Type 0 → Type 0
 SmallRowsTell K =
     (place : K → Place) (verdict : Seen K → Option Verdict) (flag_for : List ℕ → List ℕ) (own : List ℕ → Option (Row K)) (e : ExpandedWords) →

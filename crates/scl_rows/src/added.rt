@@ -1,4 +1,4 @@
-//! The rows that the rules add to those of options.
+//! The rows of what the rules add to a command.
 ghost use Rattle.std.specs.Prelude.{◌≡◌, ◌∷◌, [], IfOk, OnOk, ◌++◌, is_some, map};
 ghost use Rattle.scl_args.specs.Options.{last_flag, last_text};
 ghost use Rattle.scl_gnu_reading.specs.Kinds.{of};
@@ -19,7 +19,7 @@ use scl_text::records::{CompilerArguments, ParsedArguments};
 use scl_values::join_word;
 use std::alloc::Global;
 
-/// An added row of a flag with its value, as these words.
+/// An added row of a flag with its value, printed as these words.
 fn row_added(
     alloc: Global,
     destination: Destination,
@@ -60,7 +60,7 @@ fn row_joined(alloc: Global, flag: &'static str, value: &[u8], kind: Kind) -> Me
     row_added(alloc, Destination::Common, flag, value, kind, words)
 }
 
-/// Puts the row that says where the dependency file goes, unless that was said, behind others.
+/// Appends the row of the dependency file's path, unless the line has one.
 fn push_depfile(alloc: Global, rows: &mut Vec<Row>, has_path: bool, object: &[u8]) -> Mem<()>
     ensures { OnOk result (map told rows.new.items ≡ map told rows.old.items ++ rows_depfile has_path object.now) }
 {
@@ -71,7 +71,7 @@ fn push_depfile(alloc: Global, rows: &mut Vec<Row>, has_path: bool, object: &[u8
     Ok(())
 }
 
-/// The rows of the target and of the dependency file, where a target is needed.
+/// The rows of the target and of the dependency file, if a target is needed.
 fn target_rows(
     alloc: Global,
     options: &Options<ArgData>,
@@ -93,7 +93,7 @@ fn target_rows(
     Ok(rows)
 }
 
-/// The row that says where split debug information goes.
+/// The row of the split debug information's path.
 fn split_rows(alloc: Global, is_split: bool, object: &[u8]) -> Mem<Vec<Row>>
     ensures { IfOk result (λ rows. map told rows.items ≡ rows_split is_split object.now) }
 {
@@ -106,7 +106,7 @@ fn split_rows(alloc: Global, is_split: bool, object: &[u8]) -> Mem<Vec<Row>>
     Ok(rows)
 }
 
-/// The rows that are added to a compilation of an input in the language to the object.
+/// The rows that are added to the compilation of an input in this language to this object.
 fn rows_added(
     alloc: Global,
     options: &Options<ArgData>,
@@ -122,7 +122,7 @@ fn rows_added(
     Ok(rows)
 }
 
-/// The rows that are added to options that say this; none where that is no record.
+/// The rows that are added to options with this outcome; none if that is not a record.
 pub(crate) fn rows_recorded(
     alloc: Global,
     options: &Options<ArgData>,

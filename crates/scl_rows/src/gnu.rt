@@ -15,7 +15,7 @@ use scl_args::{Argument, Mem, NormalizedDisposition, ReadArg, ShortFlagsJoined, 
 use scl_gnu_reading::gcc::{ArgData, GnuReading, Kind, Place, inner_place_of, place_of};
 use std::alloc::Global;
 
-/// What becomes of an option whose words go to no list.
+/// The destination of an option whose words go to no list.
 fn unlisted_kind(kind: Kind) -> Destination
     ensures { result ≡ unlisted_kind kind }
 {
@@ -32,7 +32,7 @@ fn unlisted_kind(kind: Kind) -> Destination
     }
 }
 
-/// What becomes of a word that is no option.
+/// The destination of a raw word.
 pub(crate) fn raw_goes(word: &[u8]) -> Destination
     ensures { result ≡ raw_goes word.now }
 {
@@ -53,7 +53,7 @@ fn unlisted(option: &Argument<ArgData>) -> Destination
     }
 }
 
-/// The destination that a place is, and the other where it is no list.
+/// The destination of a place; `other` if the place is no list.
 fn destination_at(place: Place, other: Destination) -> Destination
     ensures { result ≡ destination_at place other }
 {
@@ -68,7 +68,7 @@ fn destination_at(place: Place, other: Destination) -> Destination
     }
 }
 
-/// The ways of outer options.
+/// Where outer options go.
 #[derive(Drop)]
 struct Outer;
 
@@ -99,7 +99,7 @@ impl Ways<ArgData> for Outer {
     }
 }
 
-/// The ways of inner options.
+/// Where inner options go.
 #[derive(Drop)]
 struct Inner;
 
@@ -130,8 +130,8 @@ impl Ways<ArgData> for Inner {
     }
 }
 
-/// The rows of a command line of Gcc or Clang: those of its options, then those of inner options, then those that the rules add
-/// to a compilation (docs/RULES.md, Rows of options). It fails only for want of memory.
+/// The rows of a command line of Gcc or Clang: those of its options, then those of inner options, then those that the rules
+/// add to a compilation (docs/RULES.md, Rows of options).
 pub fn gnu_rows(alloc: Global, reading: &GnuReading) -> Mem<Vec<Row>>
     ensures { IfOk result (λ rows. map told rows.items ≡ gnu_rows reading.now) }
 {

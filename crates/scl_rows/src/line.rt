@@ -20,14 +20,14 @@ use scl_text::{Dangling, ReadLine, word_count};
 use std::alloc::Global;
 use std::fmt::Debug;
 
-/// So many of the words, the first ones.
+/// The first `count` words.
 fn first_words(words: &[Vec<u8>], count: usize) -> &[Vec<u8>]
     ensures { words_of result.now ≡ take count (words_of words.now) }
 {
     &words[..count.min(words.len())]
 }
 
-/// What stands behind so many.
+/// What follows the first `count`.
 fn behind<T>(all: &[T], count: usize) -> &[T]
     ensures { result.now ≡ drop count all.now }
 {
@@ -43,7 +43,7 @@ fn copied(alloc: Global, said: &Option<Refusal>) -> Mem<Option<Refusal>>
     }
 }
 
-/// What is said first, copied.
+/// The first refusal, copied.
 fn first_said(alloc: Global, said: &[Option<Refusal>]) -> Mem<Option<Refusal>>
     ensures { IfOk result (λ refusal. option_map verdict_of refusal ≡ first_said (verdicts_of said.now)) }
 {
@@ -53,7 +53,7 @@ fn first_said(alloc: Global, said: &[Option<Refusal>]) -> Mem<Option<Refusal>>
     }
 }
 
-/// The rows of options that were cut from these words, with their indices, of which this is said.
+/// The rows of options that were cut from these words, with their indices and these refusals.
 fn rows_judged<T: ReadArg, W: Ways<T>>(
     alloc: Global,
     ways: &W,
@@ -116,7 +116,7 @@ fn dangling_row<K: Debug>(alloc: Global, origin: Origin, dangling: &Dangling<K>)
     })
 }
 
-/// Puts the row of an end, if there is one, behind others.
+/// Appends the row of a dangling end, if there is one.
 fn push_end<K: Debug>(
     alloc: Global,
     rows: &mut Vec<Row>,
@@ -147,7 +147,7 @@ where
     Ok(rows)
 }
 
-/// Puts the rows of a line behind others.
+/// Appends the rows of a line.
 pub(crate) fn push_line<T: ReadArg, W: Ways<T>>(
     alloc: Global,
     rows: &mut Vec<Row>,

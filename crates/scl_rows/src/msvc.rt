@@ -18,7 +18,7 @@ use scl_msvc_reading::msvc::{
 };
 use std::alloc::Global;
 
-/// What becomes of an option whose words go to no list.
+/// The destination of an option whose words go to no list.
 fn unlisted_kind(kind: Kind) -> Destination
     ensures { result ≡ unlisted_kind kind }
 {
@@ -45,7 +45,7 @@ fn unlisted(option: &Argument<ArgData>) -> Destination
     }
 }
 
-/// The destination that a place is, and the other where it is no list.
+/// The destination of a place; `other` if the place is no list.
 fn destination_at(place: Place, other: Destination) -> Destination
     ensures { result ≡ destination_at place other }
 {
@@ -59,7 +59,7 @@ fn destination_at(place: Place, other: Destination) -> Destination
     }
 }
 
-/// The ways of outer options.
+/// Where outer options go.
 #[derive(Drop)]
 struct Outer;
 
@@ -90,7 +90,7 @@ impl Ways<ArgData> for Outer {
     }
 }
 
-/// The ways of inner options, by the flag that hands them on.
+/// Where inner options go, by the flag of their line.
 #[derive(Drop)]
 struct Inner(Origin);
 
@@ -120,9 +120,8 @@ impl Ways<gcc::ArgData> for Inner {
     }
 }
 
-/// The rows of a command line of cl or clang-cl: those of its options, then those of the options behind `-Xclang`, then those
-/// of the options behind `-clang:`; none where its environment is refused (docs/RULES.md, Rows of options). It fails only for
-/// want of memory.
+/// The rows of a command line of cl or clang-cl (docs/RULES.md, Rows of options): those of its options, of the options after
+/// `-Xclang`, and of those after `-clang:`. None if its environment is refused.
 pub fn msvc_rows(alloc: Global, reading: &MsvcReading) -> Mem<Vec<Row>>
     ensures { IfOk result (λ rows. map told rows.items ≡ msvc_rows reading.now) }
 {

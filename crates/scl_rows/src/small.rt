@@ -13,7 +13,7 @@ use scl_small::{Place, Placed, Rules, SmallReading, place_of};
 use std::alloc::Global;
 use std::fmt::Debug;
 
-/// The destination that a place is.
+/// The destination of a place.
 fn destination_at(place: Place) -> Destination
     ensures { result ≡ destination_at place }
 {
@@ -30,7 +30,7 @@ fn destination_at(place: Place) -> Destination
     }
 }
 
-/// The ways of options that go to places.
+/// Where options go, by their places.
 #[derive(Drop)]
 struct ByPlace;
 
@@ -62,8 +62,7 @@ impl<T: Placed> Ways<T> for ByPlace {
     }
 }
 
-/// The rows of a command line of Diab or TaskingVX, those of its options (docs/RULES.md, Rows of options). It fails only for want
-/// of memory.
+/// The rows of a command line of Diab or TaskingVX, those of its options (docs/RULES.md, Rows of options).
 pub fn small_rows<T: Rules>(alloc: Global, reading: &SmallReading<T>) -> Mem<Vec<Row>>
 where
     T::Kind: Debug,

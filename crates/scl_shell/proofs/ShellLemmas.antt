@@ -12,12 +12,12 @@ use Rattle.scl_shell.specs.declared.split.Mode.TheVariants as mode
 abbrev pub Said : Type 0
 Said = Result (List (List ℕ)) ShellError
 
--- words before those that are said
+-- words before those of the rest
 abbrev pub before : List (List ℕ) → Said → Said
 before ws (Ok vs) = Ok (ws ++ vs)
 before ws (Err e) = Err e
 
--- what the end of a text says
+-- the result at the end of a text
 abbrev pub ended : Mode → Option (List ℕ) → Said
 ended mode.Plain begun = Ok (kept begun)
 ended mode.Escaped begun = Err errors.LastBackslash
@@ -25,7 +25,7 @@ ended mode.Single begun = Err errors.OpenQuote
 ended mode.Double begun = Err errors.OpenQuote
 ended mode.DoubleEscaped begun = Err errors.OpenQuote
 
--- what bytes that are read one by one say, where of a word this has begun
+-- the result of reading bytes one by one; a word may have begun with these
 abbrev pub read_from : Mode → Option (List ℕ) → List ℕ → Said
 read_from m begun [] = ended m begun
 read_from m begun (c ∷ cs) = before (closed (mark_of m c) begun) (read_from (mode_after m c) (begun_after (mark_of m c) c begun) cs)
@@ -44,7 +44,7 @@ differs a b h = grind arith
 pub apart : (a b : ℕ) → (a == b) ≡ false → a ≢ b
 apart a b h = grind arith
 
--- ---- what whole pieces are read as, whatever follows
+-- ---- how complete pieces are read, whatever follows
 
 read_single : (s t : List ℕ) (begun : Option (List ℕ)) (m : List ℕ) → HasNone 39 s → read_from mode.Single (with begun m) (s ++ 39 ∷ t) ≡ read_from mode.Plain (with begun (m ++ s)) t
 read_single [] t begun m h = rw append-nil (before-nil _)
@@ -60,7 +60,7 @@ read_inside _ _ t begun m (special c s i sp h) = rw (not_line_feed c sp, sp) (be
 read_inside _ _ t begun m (line_end s i h) = before-nil _ ∙ before-nil _ ∙ read_inside s i t begun m h
 read_inside _ _ t begun m (other c s i sp ne h) = rw (differs c 10 ne, sp) (before-nil _ ∙ before-nil _ ∙ rw (with-with (with begun m) (92 ∷ []) (c ∷ []), with-with begun m (92 ∷ c ∷ [])) (read_inside s i t begun (m ++ 92 ∷ c ∷ []) h ∙ rw append_assoc refl))
 
--- what pieces are read as, where this is said behind them
+-- how pieces are read, if this is the result of what follows
 abbrev pub joined_to : Option (List ℕ) → List Piece → (Option (List ℕ) → Said) → Said
 joined_to begun [] said = said begun
 joined_to begun (gap ∷ ps) said = before (kept begun) (joined_to None ps said)
@@ -98,7 +98,7 @@ pub words_read : (text : List ℕ) (words : List (List ℕ)) → AreWords text w
 words_read text words (ps, p, e) =
     ap (read_from mode.Plain None) (sym (append-nil text)) ∙ by_pieces text ps None [] p ∙ joined_to-end None ps ∙ ap (λ (ws : List (List ℕ)). let said : Said = Ok ws in said) (sym e)
 
--- ---- what broken texts are read as
+-- ---- how broken texts are read
 
 read_open_single : (s : List ℕ) (begun : Option (List ℕ)) → HasNone 39 s → read_from mode.Single begun s ≡ Err errors.OpenQuote
 read_open_single [] begun h = refl
@@ -116,7 +116,7 @@ broken_read _ _ (open_escape t s m ps p h) =
 
 -- ---- every text has words or is broken
 
--- bytes that are whole pieces before any others
+-- bytes that are complete pieces before any others
 abbrev IsFront : List ℕ → Type 0
 IsFront p = (t : List ℕ) (ps : List Piece) → ArePieces t ps → (qs : List Piece) × ArePieces (p ++ t) qs
 
@@ -133,7 +133,7 @@ told_behind : (p t : List ℕ) → IsFront p → Told t → Told (p ++ t)
 told_behind p t front (inl (ps, h)) = inl (front t ps h)
 told_behind p t front (inr (e, h)) = inr (e, broken_behind p t e front h)
 
--- where the next byte of a text stands, with what stands before it there
+-- the context of the next byte of a text, with the bytes before it in that context
 data At : Type 0 where
   outside : At
   behind_backslash : At
@@ -155,7 +155,7 @@ HasNone-push : (m : List ℕ) (c : ℕ) → c ≢ 39 → HasNone 39 m → HasNon
 HasNone-push _ c ne none = more c [] ne none
 HasNone-push _ c ne (more d s d_is_other h) = more d (s ++ c ∷ []) d_is_other (HasNone-push s c ne h)
 
--- an inside with more of it behind
+-- an inside with more of it after
 Inside-append : (s m u v : List ℕ) → Inside s m → Inside u v → Inside (s ++ u) (m ++ v)
 Inside-append _ _ u v nothing k = k
 Inside-append _ _ u v (one c s m a b h) k = one c (s ++ u) (m ++ v) a b (Inside-append s m u v h k)
@@ -197,7 +197,7 @@ told_double c t s m ih (inr d) (inl b) h =
 told_double c t s m ih (inr d) (inr b) h =
     rw (append_assoc s (c ∷ []) t) at (ih (in_double (s ++ c ∷ []) (m ++ c ∷ [])) (Inside-append s m (c ∷ []) (c ∷ []) h (one c [] [] (apart c 34 d) (apart c 92 b) nothing)))
 
--- an inside goes on behind a backslash and a byte
+-- an inside continues after a backslash and a byte
 told_on : (c : ℕ) (t s m v : List ℕ) → ((a : At) → ToldAt a t) → Inside s m → Inside (92 ∷ c ∷ []) v → Told (34 ∷ (s ++ 92 ∷ c ∷ t))
 told_on c t s m v ih h k = rw (append_assoc s (92 ∷ c ∷ []) t) at (ih (in_double (s ++ 92 ∷ c ∷ []) (m ++ v)) (Inside-append s m (92 ∷ c ∷ []) v h k))
 
@@ -219,7 +219,7 @@ told_at (c ∷ t) (in_single s) = λ h. told_single c t s (told_at t) (cases_Boo
 told_at (c ∷ t) (in_double s m) = λ h. told_double c t s m (told_at t) (cases_Bool (c == 34)) (cases_Bool (c == 92)) h
 told_at (c ∷ t) (in_double_behind_backslash s m) = λ h. told_double_escaped c t s m (told_at t) (cases_Bool (c == 10)) (cases_Bool (is_special c)) h
 
--- what is read is what the text says
+-- the result of reading is what the text says
 abbrev Means : List ℕ → Said → Type 0
 Means text (Ok words) = AreWords text words
 Means text (Err e) = IsBroken text e

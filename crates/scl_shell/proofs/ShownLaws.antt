@@ -1,4 +1,4 @@
--- What is shown can be seen, and is read back.
+-- What is shown is visible, and is read back.
 use Rattle.std.proofs.Common.{◌≡◌, ◌≢◌, ℕ, zero, suc, ◌+◌, ◌*◌, ◌/◌, ◌%◌, ◌<◌, ◌==◌, ◌||◌, ◌&&◌, Bool, true, false, not, cond, List, [], ◌∷◌, ◌++◌, length, get_or, refl, sym, ap, subst, ◌∙◌, arith, inl, inr, ◌⊎◌}
 use Rattle.std.proofs.lemmas.List.{append-nil}
 use Rattle.std.proofs.lemmas.List.Folds.{list_all-append}
@@ -111,7 +111,7 @@ shown_briefly_whole bytes = utf8_lossy-IsUtf8 (shown_briefly bytes) (visible_tex
 
 -- ---- quoted words
 
--- a text of characters that are no single quote has no byte of one
+-- a text of characters other than the single quote has no byte of one
 no_quote_inside : (c : ℕ) → c ≢ 39 → (k : ℕ) → k < length (encode_utf8 c) → get_or (encode_utf8 c) k 0 ≢ 39
 no_quote_inside c ne k l e = ne (inside_one c [] (encode_utf8 c) k (sym (append-nil (encode_utf8 c))) l (omega (arith, e)) ∙ e)
 

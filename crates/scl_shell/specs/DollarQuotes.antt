@@ -1,4 +1,4 @@
--- What stands between `$'` and `'` in a text of bash, zsh or ksh, and the bytes that it stands for.
+-- The inside of `$'..'` in a text of bash, zsh or ksh, and the bytes that it means.
 use Rattle.std.specs.Prelude.{◌≡◌, ◌≢◌, ◌<◌, ◌+◌, ◌*◌, ℕ, ◌==◌, ◌||◌, true, List, [], ◌∷◌}
 use Rattle.scl_shell.specs.ShellText.{single_quote, backslash}
 

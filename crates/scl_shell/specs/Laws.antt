@@ -18,11 +18,11 @@ BrokenTextsHaveNoWords = (text : List ℕ) (error : ShellError) → IsBroken tex
 abbrev pub QuotedWordsAreReadBack : Type 0
 QuotedWordsAreReadBack = (words : List (List ℕ)) → AreWords (quoted_text words) words
 
--- what stands in `$'..'` is read back, in bash, zsh and ksh
+-- the inside of `$'..'` is read back by bash, zsh and ksh
 abbrev pub DollarQuotesAreReadBack : Type 0
 DollarQuotesAreReadBack = (word : List ℕ) → list_all (λ byte. nat_lt byte 256) word ≡ true → InDollarQuotes (flat_map in_dollar_quotes word) word
 
--- what is shown can be seen: no byte in it is taken as a control
+-- what is shown is visible: no byte of it is taken as a control
 abbrev pub ShownIsVisible : Type 0
 ShownIsVisible = (bytes : List ℕ) → is_visible (shown bytes) ≡ true
 

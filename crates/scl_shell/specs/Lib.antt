@@ -1,8 +1,8 @@
--- What contracts of public functions cite.
+-- What the contracts of public functions cite.
 pub mod DollarQuotes
 pub mod Laws
 pub mod Quoted
 pub mod ShellText
 pub mod Shown
--- What only contracts of private functions cite: how the code reads a text byte by byte.
+-- What only the contracts of private functions cite: how the code reads a text byte by byte.
 pub mod ShellReader

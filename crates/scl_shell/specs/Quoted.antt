@@ -6,7 +6,7 @@ use Rattle.scl_shell.specs.ShellText.{single_quote, backslash}
 abbrev pub between : ℕ → ℕ → ℕ → Bool
 between low c high = nat_le low c && nat_le c high
 
--- letters, digits and `-_./=+,:@%`: bytes that stand for themselves wherever they stand in a shell's text
+-- letters, digits and `-_./=+,:@%`: bytes without a special meaning anywhere in a shell's text
 abbrev pub is_plain : ℕ → Bool
 is_plain c =
     between 97 c 122 || between 65 c 90 || between 48 c 57
@@ -16,7 +16,7 @@ is_plain c =
 abbrev pub is_bare : List ℕ → Bool
 is_bare word = not (length word == 0) && not (starts_with nat_eq word (61 ∷ [])) && list_all is_plain word
 
--- a byte inside single quotes: a single quote ends them, stands behind a backslash, and they open again
+-- a byte inside single quotes; a single quote becomes a closing quote, an escaped quote and an opening quote
 abbrev pub in_quotes : ℕ → List ℕ
 in_quotes c = cond (c == single_quote) (single_quote ∷ backslash ∷ single_quote ∷ single_quote ∷ []) (c ∷ [])
 
@@ -26,11 +26,11 @@ in_single_quotes word = single_quote ∷ (flat_map in_quotes word ++ single_quot
 abbrev pub quoted : List ℕ → List ℕ
 quoted word = cond (is_bare word) word (in_single_quotes word)
 
--- a word behind others
+-- a word after others
 abbrev pub quoted_next : List ℕ → List ℕ
 quoted_next word = 32 ∷ quoted word
 
--- the words, quoted, with a space between each two
+-- the words, quoted, separated by spaces
 abbrev pub quoted_text : List (List ℕ) → List ℕ
 quoted_text [] = []
 quoted_text (word ∷ words) = quoted word ++ flat_map quoted_next words

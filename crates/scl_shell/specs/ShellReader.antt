@@ -1,4 +1,4 @@
--- What `shell_words` makes of one byte.
+-- What `shell_words` does with one byte.
 use Rattle.std.specs.Prelude.{ℕ, ◌==◌, ◌||◌, cond, List, [], ◌∷◌, Option, None, Vec}
 use Rattle.std.specs.Option.{option_map}
 use Rattle.std.specs.declared.alloc.Global.{Global}
@@ -8,7 +8,7 @@ use Rattle.scl_shell.specs.declared.split.Mode.TheVariants as mode
 use Rattle.scl_shell.specs.declared.split.Mark.{Mark}
 use Rattle.scl_shell.specs.declared.split.Mark.TheVariants as mark
 
--- what a byte does, and what is read after it
+-- what a byte does, and how the next one is read
 abbrev pub mark_of : Mode → ℕ → Mark
 mark_of mode.Plain c = cond (c == backslash) mark.Vanishes (cond (c == single_quote || c == double_quote) mark.Opens (cond (is_blank c) mark.Separates mark.Stands))
 mark_of mode.Escaped c = cond (c == line_feed) mark.Vanishes mark.Stands
@@ -31,7 +31,7 @@ closed mark.Opens begun = []
 closed mark.Stands begun = []
 closed mark.StandsBehindBackslash begun = []
 
--- what of a word has begun behind a byte
+-- the part of a word that has begun after a byte
 abbrev pub begun_after : Mark → ℕ → Option (List ℕ) → Option (List ℕ)
 begun_after mark.Separates c begun = None
 begun_after mark.Vanishes c begun = begun

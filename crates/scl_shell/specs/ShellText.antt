@@ -1,4 +1,4 @@
--- A shell's text in which nothing is expanded, and its words, as bytes.
+-- A shell's text without expansions, and its words, as bytes.
 use Rattle.std.specs.Prelude.{◌≡◌, ◌≢◌, ℕ, ◌==◌, ◌||◌, Bool, true, false, List, [], ◌∷◌, ◌++◌, Option, None, Some}
 use Rattle.scl_shell.specs.declared.split.ShellError.{ShellError}
 use Rattle.scl_shell.specs.declared.split.ShellError.TheVariants as errors
@@ -19,7 +19,7 @@ backslash = 92
 abbrev pub is_blank : ℕ → Bool
 is_blank c = c == 32 || c == 9 || c == line_feed
 
--- the bytes before which a backslash in double quotes is taken away: `$`, the backquote, `"` and `\`
+-- the bytes before which a backslash in double quotes is dropped: `$`, the backquote, `"` and `\`
 abbrev pub is_special : ℕ → Bool
 is_special c = c == 36 || c == 96 || c == double_quote || c == backslash
 
@@ -28,7 +28,7 @@ pub data HasNone (quote : ℕ) : List ℕ → Type 0 where
   none : HasNone quote []
   more : (c : ℕ) (s : List ℕ) → c ≢ quote → HasNone quote s → HasNone quote (c ∷ s)
 
--- the inside of double quotes, and the bytes that it stands for
+-- the inside of double quotes, and the bytes that it means
 pub data Inside : List ℕ → List ℕ → Type 0 where
   nothing : Inside [] []
   one : (c : ℕ) (s m : List ℕ) → c ≢ double_quote → c ≢ backslash → Inside s m → Inside (c ∷ s) (c ∷ m)
@@ -36,7 +36,7 @@ pub data Inside : List ℕ → List ℕ → Type 0 where
   line_end : (s m : List ℕ) → Inside s m → Inside (backslash ∷ line_feed ∷ s) m
   other : (c : ℕ) (s m : List ℕ) → is_special c ≡ false → c ≢ line_feed → Inside s m → Inside (backslash ∷ c ∷ s) (backslash ∷ c ∷ m)
 
--- a piece of a text: a blank, or bytes that stand for these, of which a word is made
+-- a piece of a text: a blank, or bytes of a word that mean these
 pub data Piece : Type 0 where
   gap : Piece
   stands : List ℕ → Piece
@@ -62,7 +62,7 @@ abbrev pub kept : Option (List ℕ) → List (List ℕ)
 kept None = []
 kept (Some word) = word ∷ []
 
--- the words of pieces, where of the first this has begun: what stands between blanks, joined
+-- the words of pieces: what is between blanks, joined; the first word may have begun
 abbrev pub joined : Option (List ℕ) → List Piece → List (List ℕ)
 joined begun [] = kept begun
 joined begun (gap ∷ ps) = kept begun ++ joined None ps
@@ -72,7 +72,7 @@ joined begun (stands m ∷ ps) = joined (with begun m) ps
 abbrev pub AreWords : List ℕ → List (List ℕ) → Type 0
 AreWords text words = (ps : List Piece) × ArePieces text ps × (words ≡ joined None ps)
 
--- behind whole pieces a quote opens that nothing closes, or a backslash is the last byte
+-- after complete pieces a quote opens that nothing closes, or the last byte is a backslash
 pub data IsBroken : List ℕ → ShellError → Type 0 where
   last_backslash : (t : List ℕ) (ps : List Piece) → ArePieces t ps → IsBroken (t ++ backslash ∷ []) errors.LastBackslash
   open_single : (t s : List ℕ) (ps : List Piece) → ArePieces t ps → HasNone single_quote s → IsBroken (t ++ single_quote ∷ s) errors.OpenQuote

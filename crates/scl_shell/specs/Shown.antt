@@ -1,38 +1,38 @@
--- Bytes as a person reads them, on a terminal too.
+-- Bytes made visible for people and terminals.
 use Rattle.std.specs.Prelude.{ℕ, ◌+◌, ◌/◌, ◌%◌, ◌==◌, ◌||◌, ◌&&◌, Bool, not, cond, length, nat_lt, take, codes, List, [], ◌∷◌, ◌++◌}
 use Rattle.std.specs.List.{list_all, flat_map}
 use Rattle.std.specs.Str.{chars, is_utf8}
 use Rattle.scl_shell.specs.ShellText.{single_quote, backslash}
 use Rattle.scl_shell.specs.Quoted.{between, quoted}
 
--- the characters that a terminal obeys, or that turn or hide what stands beside them: controls (C0, DEL, C1), marks of direction
--- and of line ends, characters without a width, tags
+-- the characters that a terminal obeys, or that turn or hide what is beside them: controls (C0, DEL, C1), marks of direction
+-- and of line ends, characters without width, tags
 abbrev pub is_hidden : ℕ → Bool
 is_hidden c =
     between 0 c 0x1f || between 0x7f c 0x9f || c == 0x61c || between 0x200b c 0x200f || between 0x2028 c 0x202e
     || between 0x2060 c 0x206f || c == 0xfeff || between 0xfff9 c 0xfffb || between 0xe0000 c 0xe007f
 
--- bytes that are shown as they are: UTF-8 with no hidden character
+-- bytes that are shown unchanged: UTF-8 without hidden characters
 abbrev pub is_visible : List ℕ → Bool
 is_visible bytes = is_utf8 bytes && list_all (λ c. not (is_hidden c)) (chars bytes)
 
--- a byte that no one sees, by its three octal digits: `\033`
+-- a byte as its three octal digits: `\033`
 abbrev pub octal : ℕ → List ℕ
 octal byte = backslash ∷ (48 + byte / 64 % 8) ∷ (48 + byte / 8 % 8) ∷ (48 + byte % 8) ∷ []
 
--- space to `~` stand for themselves
+-- space to `~` are unchanged
 abbrev pub escaped : ℕ → List ℕ
 escaped byte = cond (between 32 byte 126) (byte ∷ []) (octal byte)
 
--- bytes as a person reads them: as they are, or where something in them can't be seen in ASCII alone
+-- bytes made visible: unchanged if they are visible, else in ASCII only
 abbrev pub shown : List ℕ → List ℕ
 shown bytes = cond (is_visible bytes) bytes (flat_map escaped bytes)
 
--- the most bytes of one text that a message repeats
+-- the most bytes of a text that a message repeats
 abbrev pub most_repeated : ℕ
 most_repeated = 200
 
--- the same in a message: of a long text the beginning
+-- the same in a message: of a long text only the first bytes
 abbrev pub shown_briefly : List ℕ → List ℕ
 shown_briefly bytes = shown (take most_repeated bytes) ++ cond (nat_lt most_repeated (length bytes)) (codes "..") []
 
@@ -43,7 +43,7 @@ in_dollar_quotes byte = cond (byte == single_quote || byte == backslash) (backsl
 abbrev pub dollar_quoted : List ℕ → List ℕ
 dollar_quoted word = 36 ∷ single_quote ∷ (flat_map in_dollar_quotes word ++ single_quote ∷ [])
 
--- a word for a terminal: quoted for any shell where it can be seen, else in `$'..'`
+-- a word for a terminal: quoted for any shell if it is visible, else in `$'..'`
 abbrev pub shown_word : List ℕ → List ℕ
 shown_word word = cond (is_visible word) (quoted word) (dollar_quoted word)
 
@@ -51,7 +51,7 @@ shown_word word = cond (is_visible word) (quoted word) (dollar_quoted word)
 abbrev pub shown_next : List ℕ → List ℕ
 shown_next word = 32 ∷ shown_word word
 
--- the words for a terminal, with a space between each two
+-- the words for a terminal, separated by spaces
 abbrev pub shown_text : List (List ℕ) → List ℕ
 shown_text [] = []
 shown_text (word ∷ words) = shown_word word ++ flat_map shown_next words

@@ -1,4 +1,4 @@
-//! The words of a POSIX shell's text in which nothing is expanded, and words quoted for a shell.
+//! The words of a POSIX shell's text without expansions, and words quoted for a shell.
 #![tactic(auto)]
 
 pub mod laws;

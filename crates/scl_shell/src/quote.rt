@@ -7,7 +7,7 @@ ghost use Rattle.scl_shell.specs.Quoted.{is_plain, is_bare, in_quotes, in_single
 use scl_values::Mem;
 use std::alloc::Global;
 
-/// Whether a byte stands for itself wherever it stands in a shell's text.
+/// Whether a byte has no special meaning anywhere in a shell's text.
 fn is_plain(byte: u8) -> bool
     ensures { result ≡ is_plain byte }
 {
@@ -51,8 +51,8 @@ fn push_single_quoted(text: &mut Vec<u8>, word: &[u8]) -> Mem<()>
     Ok(())
 }
 
-/// Puts a word behind a text, so that a shell reads it back: as it is where each of its bytes stands for itself everywhere, and
-/// else in single quotes.
+/// Appends a word so that a shell reads it back: unchanged if no byte of it has a special meaning anywhere, else in single
+/// quotes.
 pub fn push_quoted(text: &mut Vec<u8>, word: &[u8]) -> Mem<()>
     ensures { OnOk result (text.new.items ≡ text.old.items ++ quoted word.now) }
 {
@@ -63,7 +63,7 @@ pub fn push_quoted(text: &mut Vec<u8>, word: &[u8]) -> Mem<()>
     }
 }
 
-/// Puts a space and a word behind a text.
+/// Appends a space and a word.
 fn push_next(text: &mut Vec<u8>, word: &[u8]) -> Mem<()>
     ensures { OnOk result (text.new.items ≡ text.old.items ++ quoted_next word.now) }
 {
@@ -71,8 +71,8 @@ fn push_next(text: &mut Vec<u8>, word: &[u8]) -> Mem<()>
     push_quoted(text, word)
 }
 
-/// A program and its words, quoted for a shell, with a space between each two: what `shell_words` makes of the text are these
-/// words (`laws::of_quoted_words`). It fails only for want of memory.
+/// A program and its words, quoted for a shell, separated by spaces: `shell_words` of the text gives these words
+/// (`laws::of_quoted_words`).
 pub fn quoted_command(alloc: Global, program: &[u8], words: &[Vec<u8>]) -> Mem<Vec<u8>>
     ensures { IfOk result (λ text. text.items ≡ quoted_text (program.now ∷ words_of words.now)) }
 {

@@ -1,4 +1,4 @@
-//! A shell's text, split into words.
+//! Splitting a shell's text into words.
 ghost use Rattle.std.specs.Prelude.{◌≡◌, ◌++◌, OnOk, IfOk, IfErr, Some, [], ◌∷◌};
 ghost use Rattle.scl_values.specs.Words.{words_of};
 ghost use Rattle.scl_shell.specs.ShellText.{is_blank, is_special, kept, with, AreWords, IsBroken};
@@ -14,12 +14,12 @@ pub enum ShellError {
     /// A quote is not closed.
     #[error("a quote is not closed")]
     OpenQuote,
-    /// A backslash, outside quotes, is the last byte.
+    /// The last byte is a backslash, outside quotes.
     #[error("a backslash ends the text")]
     LastBackslash,
 }
 
-/// Where the next byte stands.
+/// The context of the next byte.
 #[derive(Clone, Copy)]
 pub(crate) enum Mode {
     Plain,
@@ -113,7 +113,7 @@ fn with_byte(alloc: Global, begun: Option<Vec<u8>>, byte: u8) -> Mem<Option<Vec<
     Ok(Some(word))
 }
 
-/// What of a word has begun behind a byte; a word that the byte ends is put behind the others.
+/// The part of a word that has begun after a byte; a word that the byte ends is appended to the others.
 fn take(
     alloc: Global,
     words: &mut Vec<Vec<u8>>,
@@ -139,11 +139,14 @@ fn take(
     }
 }
 
-/// The words of a shell's text in which nothing is expanded, as the `command` of a compile database has it: space, tab and LF
-/// separate words; a backslash takes the next byte as it is, and vanishes with a LF behind it; all in single quotes stands for
-/// itself; in double quotes a backslash is taken away before `$`, a backquote, `"` and `\` alone, and vanishes with a LF. All
-/// other bytes stand for themselves, `$`, `;` and `*` too. `OpenQuote` where a quote is not closed, `LastBackslash` where a
-/// backslash outside quotes is the last byte. The outer error is the refusal of memory.
+/// The words of a shell's text in which nothing is expanded, as a compile database has it in `command`. The errors are
+/// `OpenQuote` if a quote is not closed, and `LastBackslash` if the last byte is a backslash outside quotes. The rules:
+///
+/// - Space, tab and LF separate words.
+/// - A backslash takes the next byte as it is; with a LF after it both are dropped.
+/// - In single quotes every byte is itself.
+/// - In double quotes a backslash is dropped only before `$`, a backquote, `"` and `\`; with a LF after it both are dropped.
+/// - Every other byte is itself, `$`, `;` and `*` too.
 pub fn shell_words(alloc: Global, text: &[u8]) -> Mem<Result<Vec<Vec<u8>>, ShellError>>
     ensures words { IfOk result (λ said. IfOk said (λ words. AreWords text.now (words_of words.items))) }
     ensures broken { IfOk result (λ said. IfErr said (λ error. IsBroken text.now error)) }

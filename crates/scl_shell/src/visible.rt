@@ -1,4 +1,4 @@
-//! Bytes as a person reads them, on a terminal too.
+//! Bytes made visible for people and terminals.
 ghost use Rattle.std.specs.Prelude.{◌≡◌, ◌++◌, ◌∷◌, OnOk, IfOk, not, take};
 ghost use Rattle.std.specs.List.{list_all, flat_map};
 ghost use Rattle.std.specs.Str.{chars};
@@ -11,7 +11,7 @@ use scl_values::Mem;
 use std::alloc::Global;
 use std::str;
 
-/// Whether a terminal obeys a character, or it turns or hides what stands beside it.
+/// Whether a terminal obeys a character, or the character turns or hides what is beside it.
 pub fn is_hidden(c: char) -> bool
     ensures { result ≡ is_hidden c }
 {
@@ -35,7 +35,7 @@ fn has_none_hidden(text: &str) -> bool
     text.chars().all(|c| !is_hidden(c))
 }
 
-/// Whether bytes are shown as they are: they are UTF-8 with no hidden character.
+/// Whether bytes are shown unchanged: they are UTF-8 without hidden characters.
 #[tactic(auto, using(crate::proofs::ShownLaws::text_rules))]
 fn is_visible(bytes: &[u8]) -> bool
     ensures { result ≡ is_visible bytes.now }
@@ -75,7 +75,7 @@ fn push_all_escaped(text: &mut Vec<u8>, bytes: &[u8]) -> Mem<()>
     Ok(())
 }
 
-/// Puts bytes as a person reads them after a text.
+/// Appends bytes, made visible.
 fn push_shown(text: &mut Vec<u8>, bytes: &[u8]) -> Mem<()>
     ensures { OnOk result (text.new.items ≡ text.old.items ++ shown bytes.now) }
 {
@@ -86,9 +86,9 @@ fn push_shown(text: &mut Vec<u8>, bytes: &[u8]) -> Mem<()>
     }
 }
 
-/// Bytes as a person reads them: UTF-8 with no hidden character as it is; of any others each byte but space to `~` as a
-/// backslash and three octal digits. Hidden are control characters, marks of direction, and what has no width. The text has
-/// none (`laws::of_shown_bytes`).
+/// Bytes made visible. UTF-8 without hidden characters is unchanged; of any other bytes, each that is not from space to `~`
+/// is written as a backslash and three octal digits. Hidden are control characters, marks of direction, and characters
+/// without width. The text has none of them (`laws::of_shown_bytes`).
 #[tactic(auto, using(crate::proofs::ShownLaws::shown_whole))]
 pub fn shown(alloc: Global, bytes: &[u8]) -> Mem<String>
     ensures { IfOk result (λ text. string_bytes text ≡ shown bytes.now) }
@@ -98,10 +98,10 @@ pub fn shown(alloc: Global, bytes: &[u8]) -> Mem<String>
     String::from_utf8_lossy(alloc, &text)
 }
 
-/// The most bytes of one text that a message repeats.
+/// The most bytes of a text that a message repeats.
 const MOST_REPEATED: usize = 200;
 
-/// The beginning of a text that a message repeats: 200 bytes at most.
+/// The first 200 bytes of a text that a message repeats, or all of it.
 #[tactic(auto, using(std::proofs::lemmas::List::take_min))]
 pub fn beginning(bytes: &[u8]) -> &[u8]
     ensures { result.now ≡ take 200 bytes.now }
@@ -120,7 +120,8 @@ fn push_shown_briefly(text: &mut Vec<u8>, bytes: &[u8]) -> Mem<()>
     Ok(())
 }
 
-/// The same (`shown`) for a message, which repeats of a text 200 bytes at most: of a longer one these, and `..`.
+/// Bytes made visible (`shown`) in a message, which repeats at most 200 bytes of a text: of a longer one the first 200 and
+/// `..`.
 #[tactic(auto, using(crate::proofs::ShownLaws::shown_briefly_whole))]
 pub fn shown_briefly(alloc: Global, bytes: &[u8]) -> Mem<String>
     ensures { IfOk result (λ text. string_bytes text ≡ shown_briefly bytes.now) }
@@ -163,7 +164,7 @@ fn push_shown_word(text: &mut Vec<u8>, word: &[u8]) -> Mem<()>
     }
 }
 
-/// Puts a space and a word after a text.
+/// Appends a space and a word.
 fn push_shown_next(text: &mut Vec<u8>, word: &[u8]) -> Mem<()>
     ensures { OnOk result (text.new.items ≡ text.old.items ++ shown_next word.now) }
 {
@@ -182,8 +183,8 @@ fn shown_bytes(alloc: Global, program: &[u8], words: &[Vec<u8>]) -> Mem<Vec<u8>>
     Ok(text)
 }
 
-/// A program and its words for a terminal, with a space between each two: quoted for any shell where a word can be seen, else
-/// in `$'..'`, which bash, zsh and ksh read back, and dash does not (`laws::of_dollar_quotes`). It fails only for want of memory.
+/// A program and its words for a terminal, separated by spaces. A word that is visible is quoted for any shell; any other is
+/// in `$'..'`, which bash, zsh and ksh read back, but dash does not (`laws::of_dollar_quotes`).
 #[tactic(auto, using(crate::proofs::ShownLaws::shown_command_whole))]
 pub fn shown_command(alloc: Global, program: &[u8], words: &[Vec<u8>]) -> Mem<String>
     ensures { IfOk result (λ text. string_bytes text ≡ shown_text (program.now ∷ words_of words.now)) }
@@ -192,7 +193,7 @@ pub fn shown_command(alloc: Global, program: &[u8], words: &[Vec<u8>]) -> Mem<St
     String::from_utf8_lossy(alloc, &text)
 }
 
-/// Words for a terminal (`shown_command`). It fails only for want of memory.
+/// Words for a terminal (`shown_command`).
 pub fn shown_words(alloc: Global, words: &[Vec<u8>]) -> Mem<String>
     ensures { IfOk result (λ text. string_bytes text ≡ shown_text (words_of words.now)) }
 {

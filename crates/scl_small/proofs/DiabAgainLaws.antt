@@ -47,7 +47,7 @@ by_kind (Known f k v h) = refl
 same-kind : (a b : Kind) → kind_equal.ghosts.eq a b ≡ true → a ≡ b
 same-kind a b e = grind arith
 
--- ---- by any tables that keep what the builder's own words ask of them
+-- ---- by any tables that satisfy the conditions of the builder's own words
 
 module _ (tables : List (List (Row Kind))) (keep : keep_diab_words tables ≡ true) where
   parts : (keep_words kind_equal.ghosts.eq diab_words tables ≡ true) × (list_all compiles_bare (all_rows tables) ≡ true)
@@ -68,7 +68,7 @@ module _ (tables : List (List (Row Kind))) (keep : keep_diab_words tables ≡ tr
       (is-record place os b.0 p b.2)
       (subst (λ x. Reads (owner_in tables) false (x ∷ []) (plain.flag x kinds.DoCompilation ∷ [])) f.2 reads_flag)
 
--- ---- by the written one
+-- ---- by the written table
 
 keeps : keep_diab_words (rows ∷ []) ≡ true
 unfolding rows

@@ -1,4 +1,4 @@
--- What follows where tables keep what a builder's own words ask of them.
+-- What follows if tables satisfy the conditions of a builder's own words.
 use Rattle.std.proofs.Common.{◌≡◌, ℕ, Bool, true, false, ◌&&◌, List, [], ◌∷◌, None}
 use Rattle.std.proofs.lemmas.Bool.{and_parts}
 use Rattle.std.specs.List.{list_all}

@@ -73,7 +73,7 @@ module _ {K : Type 0} (place : K → Place) where
 
 -- ---- what was read
 
--- words that have a record have no empty either value, and their options passed the tests
+-- if words have a record, no option of an either row has an empty value, and their options passed the tests
 module _ {K : Type 0} (tables : List (List (Row K))) (verdict : Seen K → Option Verdict) (tested : List (Seen K) → Result Parsed Verdict) (words : List (List ℕ)) (p : Parsed) where
   abbrev options_of : List (Cut K)
   options_of = (cut (owner_in tables) false words).options

@@ -1,4 +1,4 @@
--- What a reading says is what its words say.
+-- The outcome of a reading is that of its words.
 use Rattle.std.proofs.Common.{◌≡◌, ℕ, false, List, Option, ap}
 use Rattle.std.specs.Prelude.{Result}
 use Rattle.scl_args.specs.Options.{◌>>=◌}

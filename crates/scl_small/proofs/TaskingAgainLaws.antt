@@ -36,7 +36,7 @@ no_inputs k = grind arith
 same-kind : (a b : Kind) → kind_equal.ghosts.eq a b ≡ true → a ≡ b
 same-kind a b e = grind arith
 
--- ---- by any tables that keep what the builder's own words ask of them
+-- ---- by any tables that satisfy the conditions of the builder's own words
 
 module _ (tables : List (List (Row Kind))) (keep : keep_tasking_words tables ≡ true) where
   owned : (is_owned kind_equal.ghosts.eq tables compile_word ≡ true) × ((is_owned kind_equal.ghosts.eq tables (apart_or_either (codes "-o") kinds.Output) && true) ≡ true)
@@ -59,7 +59,7 @@ module _ (tables : List (List (Row Kind))) (keep : keep_tasking_words tables ≡
       record-again place kinds.DoCompilation kinds.Output tables (words-pass kind_equal.ghosts.eq tasking_words tables keep) no_inputs reads_output words p object (codes "-c") r.0
       (is-record place os (codes "-c") p b.2) reads_compile
 
--- ---- by the written one
+-- ---- by the written table
 
 keeps : keep_tasking_words (rows ∷ []) ≡ true
 unfolding rows

@@ -3,7 +3,7 @@ use Rattle.std.specs.Prelude.{ℕ, List, [], ◌∷◌, ◌++◌, Option, None, 
 use Rattle.scl_text.specs.Commands.{command_by}
 use Rattle.scl_text.specs.Records.{Parsed}
 
--- the words of a record with this object file
+-- the words of a record's command with this object file
 abbrev pub command_words : Parsed → List ℕ → List (List ℕ)
 command_words p object = (p.compilation_flag ∷ p.input ∷ codes "-o" ∷ object ∷ []) ++ p.preprocessor_args ++ p.unhashed_args ++ p.common_args
 
@@ -16,7 +16,7 @@ diab_words p = (codes "-E" ∷ p.input ∷ []) ++ p.dependency_args ++ p.preproc
 abbrev pub diab_runs : Parsed → List (List (List ℕ))
 diab_runs p = diab_words p ∷ []
 
--- what both runs of TaskingVX end with
+-- the words at the end of both runs of TaskingVX
 abbrev pub input_and_list_words : Parsed → List (List ℕ)
 input_and_list_words p = p.input ∷ [] ++ p.preprocessor_args ++ p.common_args
 
@@ -28,6 +28,6 @@ depfile_runs (Some depfile) p = ((codes "-Em" ∷ codes "-o" ∷ depfile ∷ [])
 abbrev pub tasking_runs : Parsed → List (List (List ℕ))
 tasking_runs p = depfile_runs p.depfile p ++ ((codes "-E" ∷ []) ++ input_and_list_words p) ∷ []
 
--- the words of a record, none where it has no object file
+-- the words of a record's command, if it has an object file
 abbrev pub command : Parsed → Option (List (List ℕ))
 command p = command_by command_words p

@@ -1,4 +1,4 @@
--- What it is for a command of Diab to be read again.
+-- When a command of Diab is read again.
 use Rattle.std.specs.Prelude.{ℕ, List, [], ◌∷◌}
 use Rattle.scl_files.specs.Expand.{expand}
 use Rattle.scl_text.specs.Records.{Parsed}
@@ -9,6 +9,6 @@ use Rattle.scl_small.specs.DiabTable.{rows}
 use Rattle.scl_small.specs.ReadAgain.{CommandIsReadAgain}
 use Rattle.scl_small.specs.declared.diab.data.Kind.TheVariants as kinds
 
--- of a record of these words, whose response files, from the directory, are put in place
+-- the command of a record of these words, with their response files expanded from the directory
 abbrev pub DiabReadsAgain : List ℕ → List File → List (List ℕ) → Parsed → List (List ℕ) → Type 0
 DiabReadsAgain directory files words = CommandIsReadAgain place kinds.DoCompilation kinds.Output (rows ∷ []) (expand expansions.Diab directory files words)

@@ -1,4 +1,4 @@
--- What a command line says to Diab.
+-- The outcome of a command line, for Diab.
 use Rattle.std.specs.Prelude.{ℕ, List, Option, Some, Result, if◌then◌else◌}
 use Rattle.scl_values.specs.Row.{Row}
 use Rattle.scl_values.specs.Seen.{Seen}
@@ -28,18 +28,18 @@ place kinds.DepArgumentFlag = places.Dependency
 place kinds.DepArgument = places.Dependency
 place kinds.DepArgumentPath = places.Dependency
 
--- what one option says: a value that names a file is refused, then the kinds that are too hard
+-- the verdict of one option: a value that names a file is refused, then the kinds that are too hard
 abbrev pub verdict : Seen Kind → Option Verdict
 verdict o = if names_file o then Some unexpanded_file else refused_at place o
 
--- the fixed tests, and the record; the flag is the one that asked for the compilation
+-- the fixed tests, and the record; its flag is the one that requested the compilation
 abbrev pub tested : List (Seen Kind) → Result Parsed Verdict
 tested = tested_by place (λ flag. flag)
 
--- what the words say, where `own` gives a word's owner
+-- the outcome of the words; `own` gives a word's owner
 abbrev pub reading : (List ℕ → Option (Row Kind)) → List (List ℕ) → Result Parsed Verdict
 reading = reads verdict tested
 
--- the same of words whose response files, from the directory, are put in place
+-- the same for words with their response files expanded from the directory
 abbrev pub expanded_reading : (List ℕ → Option (Row Kind)) → List ℕ → List File → List (List ℕ) → Result Parsed Verdict
 expanded_reading own directory files words = reading own (expand expansions.Diab directory files words)

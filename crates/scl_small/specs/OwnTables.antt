@@ -1,4 +1,5 @@
--- Tables of one's own by which the commands of Diab and of TaskingVX are read again: what their rows keep, which computes.
+-- Tables of a caller's own by which the commands of Diab and TaskingVX are read again: the conditions on their rows, which
+-- can be computed.
 use Rattle.std.specs.Prelude.{Bool, not, ◌&&◌, ◌||◌, List, [], ◌∷◌, codes, IsTrue}
 use Rattle.std.specs.List.{list_all}
 use Rattle.scl_values.specs.Row.{Row, row, bare}
@@ -18,7 +19,7 @@ use Rattle.scl_small.specs.declared.tasking_vx.data.Kind.{Kind as TaskingKind}
 use Rattle.scl_small.specs.declared.tasking_vx.data.Kind.TheVariants as tasking_kinds
 use Rattle.scl_small.specs.declared.place.Place.TheVariants as places
 
--- whether these own words are owned as they are meant, and no printed option is cut otherwise (both checks of tables)
+-- whether these own words have the owners that are intended, and no printed option is cut differently (both checks of tables)
 abbrev pub keep_words : {K : Type 0} → (K → K → Bool) → List (OwnWord K) → List (List (Row K)) → Bool
 keep_words is_kind own tables =
     list_all (is_owned is_kind tables) own
@@ -27,7 +28,7 @@ keep_words is_kind own tables =
 
 -- ---- Diab
 
--- a flag that asks for a compilation takes no value
+-- a flag that requests a compilation takes no value
 abbrev pub compiles_bare : Row DiabKind → Bool
 compiles_bare row = not (place_equal.ghosts.eq (diab.place row.kind) places.CompileFlag) || is_bare row.shape
 
@@ -42,7 +43,7 @@ abbrev pub OwnDiabCommandsAreReadAgain : Type 0
 OwnDiabCommandsAreReadAgain = (tables : List (List (Row DiabKind))) → IsTrue (keep_diab_words tables) →
     CommandsAreReadAgain diab.place diab_kinds.DoCompilation diab_kinds.Output tables diab.reading
 
--- ---- TaskingVX, whose commands have the flag `-c` whatever flag asked for the compilation
+-- ---- TaskingVX: its commands have the flag `-c`, whichever flag requested the compilation
 
 abbrev pub compile_word : OwnWord TaskingKind
 compile_word = record { word = codes "-c"; rows = row (codes "-c") tasking_kinds.DoCompilation bare ∷ [] }

@@ -6,14 +6,14 @@ use Rattle.scl_small.specs.contracts.place.PlacePartialEq.TheImpl.{ghosts}
 use Rattle.scl_small.specs.declared.place.Place.{Place}
 use Rattle.scl_small.specs.declared.place.Place.TheVariants as places
 
--- the verdict that a place is, on an option with the flag
+-- the verdict of an option with this flag, if its place is one
 abbrev pub verdict_at : Place → List ℕ → Option Verdict
 verdict_at places.Refused flag = Some (because flag)
 verdict_at places.NotCompilation flag = Some NotCompilation
 verdict_at _ flag = None
 
 module _ {K : Type 0} (place : K → Place) where
-  -- where an option goes: a word that is none to the inputs, an unknown flag to the common words, any other by its kind
+  -- where an option goes: a raw word to the inputs, an unknown flag to the common words, any other by its kind
   abbrev pub place_of : Seen K → Place
   place_of (Raw w) = places.Input
   place_of (Unknown w) = places.Common

@@ -1,4 +1,4 @@
--- What a command line says to Diab or TaskingVX: a first verdict, and filters over the finished list of its options.
+-- The outcome of a command line, for Diab or TaskingVX: a first verdict, and filters over the finished list of its options.
 use Rattle.std.specs.Prelude.{ℕ, false, List, [], ◌∷◌, Option, None, Some, Result, Ok, Err, codes, ok_or}
 use Rattle.scl_values.specs.Row.{Row}
 use Rattle.scl_values.specs.Seen.{Seen}
@@ -15,11 +15,12 @@ use Rattle.scl_small.specs.declared.place.Place.{Place}
 use Rattle.scl_small.specs.declared.place.Place.TheVariants as places
 
 module _ {K : Type 0} (place : K → Place) where
-  -- the words of the options that go to the place, in order
+  -- the words of the options of this place, in order
   abbrev pub list_at : Place → List (Seen K) → List (List ℕ)
   list_at there os = list side_of_flag (goes_to place there) os
 
--- the options that words are cut into, where `own` gives a word's owner, are tested and recorded, where none is refused, each by itself
+-- the options that words are cut into, judged each by itself; if none is refused, they are tested and recorded; `own` gives a
+-- word's owner
 abbrev pub reads : {K : Type 0} → (Seen K → Option Verdict) → (List (Seen K) → Result Parsed Verdict) → (List ℕ → Option (Row K)) → List (List ℕ) → Result Parsed Verdict
 reads verdict tested own words = do
   options ← judged_cut (λ before. verdict) own false words
@@ -27,24 +28,24 @@ reads verdict tested own words = do
 
 -- ---- the fixed tests, and the record
 
--- the one input; several are refused with no text beside the reason
+-- the only input; several are refused without a text beside the reason
 abbrev pub the_only_input : List (List ℕ) → Result (List ℕ) Verdict
 the_only_input [] = Err no_input_file
 the_only_input (input ∷ []) = Ok input
 the_only_input (input ∷ other ∷ inputs) = Err (without_text (multiple_input_files (other ∷ inputs)))
 
--- the path of the object file: the one that was asked for, else the input with extension o
+-- the path of the object file: the one that is requested, else the input with extension o
 abbrev pub object_path : Option (List ℕ) → List ℕ → List ℕ
 object_path None input = with_extension input (codes "o")
 object_path (Some path) input = path
 
--- the path of the dependency file, if one was asked for: in place of an empty one the input with extension d
+-- the path of the dependency file, if one is requested; for an empty path the input with extension d
 abbrev pub dependency_path : Option (List ℕ) → List ℕ → Option (List ℕ)
 dependency_path None input = None
 dependency_path (Some []) input = Some (with_extension input (codes "d"))
 dependency_path (Some (byte ∷ path)) input = Some (byte ∷ path)
 
--- the record of a compilation with the flag, of an input in the language
+-- the record of a compilation with this flag, of an input in this language
 module _ {K : Type 0} (place : K → Place) where
   abbrev pub record_of : List (Seen K) → List ℕ → List ℕ → Language → Parsed
   record_of os flag input language = record (bare_record input language flag) {
@@ -55,14 +56,14 @@ module _ {K : Type 0} (place : K → Place) where
     common_args = list_at place places.Common os;
   }
 
-  -- the record of a compilation with the flag, where there is one input in a known language
+  -- the record of a compilation with this flag, if there is one input, in a known language
   abbrev pub recorded : List (Seen K) → List ℕ → Result Parsed Verdict
   recorded os flag = do
     input ← the_only_input (texts (goes_to place places.Input) os)
     language ← ok_or (language_of_file_name input) unknown_source_language
     Ok (record_of os flag input language)
 
-  -- the fixed tests, and the record, with the flag that stands in the command for the last that asks for a compilation
+  -- the fixed tests, and the record; the function gives the flag in the command, by the last flag that requests a compilation
   abbrev pub tested_by : (List ℕ → List ℕ) → List (Seen K) → Result Parsed Verdict
   tested_by flag_for os = do
     flag ← ok_or (last_flag (goes_to place places.CompileFlag) os) NotCompilation

@@ -6,7 +6,7 @@ use Rattle.scl_small.specs.declared.tasking_vx.data.ArgData.TheVariants as value
 use Rattle.scl_small.specs.declared.tasking_vx.data.Kind.{Kind}
 use Rattle.scl_small.specs.declared.tasking_vx.data.Kind.TheVariants as kinds
 
--- what each value is made of: its kind, and the word or the path that it holds, if it holds one
+-- a value's kind, and the word or path that it holds, if it holds one
 abbrev pub content : ArgData → Content Kind
 content values.TooHardFlag = nothing kinds.TooHardFlag
 content (values.TooHard w) = word kinds.TooHard w.items

@@ -39,8 +39,8 @@ impl CommandWords for Command {
     }
 }
 
-/// The compile command of a record that is handed over, whose outcome may be kept (docs/RULES.md, Diab and TaskingVX). The
-/// errors are `MissingObj`, exactly where the record has no output `obj`, and the refusal of memory. The view is not asked.
+/// The compile command of a record; its result can be cached (docs/RULES.md, Diab and TaskingVX). It takes ownership of the
+/// record. The error is `MissingObj` exactly if the record has no output `obj`, else `Memory`. The view is not used.
 pub fn generate_compile_commands_owned(
     alloc: Global,
     executable: &[u8],
@@ -63,8 +63,7 @@ pub fn generate_compile_commands_owned(
     )
 }
 
-/// The compile command of a record, whose outcome may be kept (docs/RULES.md, Diab and TaskingVX). The errors are
-/// `MissingObj`, exactly where the record has no output `obj`, and the refusal of memory. The view is not asked.
+/// What `generate_compile_commands_owned` gives, with a copy of the record; the errors are the same.
 pub fn generate_compile_commands(
     alloc: Global,
     executable: &[u8],

@@ -15,7 +15,7 @@ use scl_text::records::ParsedArguments;
 use scl_text::refusal::{Refusal, cannot_cache, one_input};
 use std::alloc::Global;
 
-/// The one input, refused without a text beside the reason.
+/// The only input; several are refused without a text beside the reason.
 fn input_of(alloc: Global, inputs: Vec<Vec<u8>>) -> Result<Vec<u8>, Stop>
     ensures { Gives (λ input. input.items) result (the_only_input (words_of inputs.items)) }
 {
@@ -26,7 +26,7 @@ fn input_of(alloc: Global, inputs: Vec<Vec<u8>>) -> Result<Vec<u8>, Stop>
     }
 }
 
-/// The record of options that are not refused: the fixed tests in their order, and what they find recorded.
+/// The record of options that are not refused: the fixed tests in order, and the record of what they find.
 pub(crate) fn read_options<T: Rules>(
     alloc: Global,
     options: Options<T>,
@@ -42,7 +42,7 @@ pub(crate) fn read_options<T: Rules>(
     Ok(record_of(alloc, options, T::compile_flag(flag), input, language)?)
 }
 
-/// The same, beside the options.
+/// The same, with copies of the options' words.
 pub(crate) fn read_beside<T: Rules>(
     alloc: Global,
     options: &Options<T>,

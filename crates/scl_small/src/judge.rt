@@ -13,22 +13,22 @@ use std::alloc::Global;
 
 /// What a compiler says of options of these values.
 pub trait Rules: Placed {
-    /// What one option says against caching.
+    /// The verdict of one option.
     ghost verdict: { Seen Self.Kind → Option Verdict };
 
-    /// The flag of the command, by the last that asks for a compilation.
+    /// The flag in the command, by the last flag that requests a compilation.
     ghost compile_flag_for: { List ℕ → List ℕ };
 
-    /// What is said against one option.
+    /// The refusal of one option, if it is refused.
     fn judge(option: &Argument<Self>) -> Option<Refusal>
         ensures { option_map verdict_of result ≡ verdict (seen Self.kind_of Self.word_of option.now) };
 
-    /// The flag of the command, where this one is the last that asks for a compilation.
+    /// The flag in the command, if this is the last flag that requests a compilation.
     fn compile_flag(flag: &'static str) -> &'static str
         ensures { result.now ≡ compile_flag_for flag.now };
 }
 
-/// Judges each option by itself.
+/// The judge of each option by itself.
 #[derive(Clone, Copy, Debug)]
 pub struct ByRules;
 

@@ -1,4 +1,4 @@
-//! What follows for the tables and commands of Diab and TaskingVX: each law is a clause of a function that does nothing.
+//! What follows for the tables and commands of Diab and TaskingVX. Each law is a clause of a function with an empty body.
 ghost use Rattle.std.specs.Prelude.{◌≡◌, ◌∷◌, [], true};
 ghost use Rattle.scl_args.specs.Options.{side_of_flag};
 ghost use Rattle.scl_args.specs.Checks.{PassChecks};
@@ -14,7 +14,7 @@ ghost use Rattle.scl_small.specs.declared.tasking_vx.data.Kind.TheVariants as ta
 ghost use Rattle.scl_small.specs.declared.place.Place.{Place};
 ghost use Rattle.scl_small.specs.contracts.place.PlacePartialEq.TheImpl as places;
 
-/// The law of `==`, which definitions cite: places of options that are equal are one.
+/// The law of `==`, which definitions cite: places of options that are equal are the same.
 pub fn of_equality()
     ensures places_are_told_apart { (a b : Place) → places.ghosts.eq a b ≡ true → a ≡ b }
 {}
@@ -25,12 +25,11 @@ pub fn of_tables()
     ensures tasking_table_passes_both_checks { PassChecks (tasking_table.rows ∷ []) every_kind side_of_flag }
 {}
 
-/// Laws of the records of Diab, of words whose response files are put in place, and of TaskingVX (docs/RULES.md, Cutting
-/// again):
+/// Laws of the records of Diab, of words with response files expanded, and of TaskingVX (docs/RULES.md, Cutting again):
 ///
 /// - `diab_has_objects`, `tasking_has_objects`: a record that was read has an object, and so a command;
-/// - `diab_has_no_empty`, `tasking_has_no_empty`: where a record was read, no option has an empty value that its row takes
-///   either way.
+/// - `diab_has_no_empty`, `tasking_has_no_empty`: if a command line has a record, no option has an empty value of an either
+///   row.
 pub fn of_records()
     ensures diab_has_objects { RecordsHaveObjects (diab_table.rows ∷ []) diab.reading }
     ensures tasking_has_objects { RecordsHaveObjects (tasking_table.rows ∷ []) tasking.reading }
@@ -38,22 +37,22 @@ pub fn of_records()
     ensures tasking_has_no_empty { LinesHaveNoEmpty (tasking_table.rows ∷ []) tasking.reading }
 {}
 
-/// Laws of the commands of records: each, cut again by its compiler's table, gives its own words, the carried options with
-/// unchanged values, and the input (docs/RULES.md, Cutting again).
+/// Laws of the commands of records (docs/RULES.md, Cutting again): each, cut again by its compiler's table, gives its own
+/// words, the carried options with unchanged values, and the input.
 pub fn of_commands()
     ensures diab_commands_are_read_again { CommandsAreReadAgain diab.place diab_kinds.DoCompilation diab_kinds.Output (diab_table.rows ∷ []) diab.reading }
     ensures tasking_commands_are_read_again { CommandsAreReadAgain tasking.place tasking_kinds.DoCompilation tasking_kinds.Output (tasking_table.rows ∷ []) tasking.reading }
 {}
 
-/// Laws of commands by tables of one's own (docs/RULES.md, Cutting again): where the tables keep what the builder's own words
-/// ask of them (`keep_diab_words`, `keep_tasking_words`, which compute), the command of each record by them, cut again by
+/// Laws of commands by a caller's own tables (docs/RULES.md, Cutting again). Suppose that `keep_diab_words` or
+/// `keep_tasking_words`, which can be computed, is true of the tables. Then the command of each record by them, cut again by
 /// them, gives its own words, the carried options with unchanged values, and the input.
 pub fn of_own_tables()
     ensures own_diab_commands_are_read_again { OwnDiabCommandsAreReadAgain }
     ensures own_tasking_commands_are_read_again { OwnTaskingCommandsAreReadAgain }
 {}
 
-/// The law of readings (docs/RULES.md, Diab and TaskingVX): what a reading says is what its words say.
+/// The law of readings (docs/RULES.md, Diab and TaskingVX): the outcome of a reading is that of its words.
 pub fn of_readings<K>()
     ensures readings_say { ReadingsSay K }
 {}

@@ -1,4 +1,4 @@
-//! From words to the answer.
+//! From words to the outcome.
 ghost use Rattle.std.specs.Prelude.{◌≡◌, IfOk, IsTrue};
 ghost use Rattle.scl_values.specs.Tables.{owner_in, tables_hold_values};
 ghost use Rattle.scl_values.specs.Words.{words_of};
@@ -27,7 +27,7 @@ fn parse<T: Rules, S: SearchableArgInfo<T> + Drop>(
     read_options(alloc, options)
 }
 
-/// What the words say, cut by the tables.
+/// The outcome of the words, cut by the tables.
 #[tactic(auto, using(scl_text::proofs::StopLemmas::outcome_given))]
 pub(crate) fn read_words<T: Rules, S: SearchableArgInfo<T> + Drop>(
     alloc: Global,

@@ -12,13 +12,13 @@ use scl_text::refusal::Refusal;
 /// Where an option goes, or how it ends the reading (docs/RULES.md, Diab and TaskingVX).
 #[derive(Clone, Copy, Debug, PartialEq, Eq)]
 pub enum Place {
-    /// The inputs.
+    /// It is an input.
     Input,
-    /// What asks for a compilation.
+    /// It requests a compilation.
     CompileFlag,
-    /// The path of the object file.
+    /// It gives the path of the object file.
     Output,
-    /// The path of the dependency file.
+    /// It gives the path of the dependency file.
     DepFile,
     /// The list of common words.
     Common,
@@ -26,9 +26,9 @@ pub enum Place {
     Preprocessor,
     /// The list of words about dependencies.
     Dependency,
-    /// A refusal by the flag.
+    /// It is refused, by its flag.
     Refused,
-    /// No compilation.
+    /// The line compiles nothing.
     NotCompilation,
 }
 
@@ -42,7 +42,7 @@ pub trait Placed: ExactArg + ReadArg {
         ensures { result ≡ place kind };
 }
 
-/// Where the option goes: a word that is none to the inputs, an unknown flag to the common words, any other by its kind.
+/// Where the option goes: a raw word to the inputs, an unknown flag to the common words, any other by its kind.
 pub fn place_of<T: Placed>(option: &Argument<T>) -> Place
     ensures { result ≡ place_of T.place (seen T.kind_of T.word_of option.now) }
 {
@@ -63,7 +63,7 @@ impl<T: Placed> Test<T> for Place {
     }
 }
 
-/// The refusal that an option's place is.
+/// The refusal of an option, if its place is one.
 pub(crate) fn refuse_by_place<T: Placed>(option: &Argument<T>) -> Option<Refusal>
     ensures { option_map verdict_of result ≡ refused_at T.place (seen T.kind_of T.word_of option.now) }
 {

@@ -22,7 +22,7 @@ fn diab_words(alloc: Global, parsed: &ParsedArguments) -> Mem<Vec<Vec<u8>>>
     Ok(words)
 }
 
-/// The words of Diab's one run.
+/// The words of Diab's only run.
 pub(crate) fn diab_runs(alloc: Global, parsed: &ParsedArguments) -> Mem<Vec<Vec<Vec<u8>>>>
     ensures { IfOk result (λ runs. runs_of runs.items ≡ diab_runs (parsed_of parsed.now)) }
 {
@@ -31,7 +31,7 @@ pub(crate) fn diab_runs(alloc: Global, parsed: &ParsedArguments) -> Mem<Vec<Vec<
     Ok(runs)
 }
 
-/// Puts the input and the lists behind words.
+/// Appends the input and the lists.
 fn push_input_and_lists(
     alloc: Global,
     words: &mut Vec<Vec<u8>>,
@@ -44,7 +44,7 @@ fn push_input_and_lists(
     push_words(alloc, words, &parsed.common_args)
 }
 
-/// Puts the run behind others that writes the dependency file, if the record has one.
+/// Appends the run that writes the dependency file, if the record has one.
 fn push_depfile_run(
     alloc: Global,
     runs: &mut Vec<Vec<Vec<u8>>>,
@@ -64,7 +64,7 @@ fn push_depfile_run(
     Ok(())
 }
 
-/// The words of TaskingVX's runs: that which writes the dependency file, if there is one, and the one that preprocesses.
+/// The words of TaskingVX's runs: the one that writes the dependency file, if there is one, and the one that preprocesses.
 pub(crate) fn tasking_runs(alloc: Global, parsed: &ParsedArguments) -> Mem<Vec<Vec<Vec<u8>>>>
     ensures { IfOk result (λ runs. runs_of runs.items ≡ tasking_runs (parsed_of parsed.now)) }
 {

@@ -1,4 +1,4 @@
-//! A command line of Diab or TaskingVX, read: all that is said of it is a function of this.
+//! A command line of Diab or TaskingVX, read once; all answers about it are functions of this.
 ghost use Rattle.std.specs.Prelude.{◌≡◌, IfOk, IsTrue};
 ghost use Rattle.scl_files.specs.Expanded.{expanded_of};
 ghost use Rattle.scl_text.specs.Records.{outcome_of, parsed_of};
@@ -40,7 +40,7 @@ fn record<T: Rules>(alloc: Global, line: &Line<T>) -> Result<ParsedArguments, St
     read_beside(alloc, line.options())
 }
 
-/// What the line says.
+/// The outcome of the line.
 #[tactic(auto, using(scl_text::proofs::StopLemmas::outcome_given))]
 fn outcome<T: Rules>(alloc: Global, line: &Line<T>) -> Mem<CompilerArguments<ParsedArguments>>
     ensures { IfOk result (λ answer. outcome_of answer ≡ outcome_by (tested_by T.place T.compile_flag_for) line.now) }
@@ -49,7 +49,7 @@ fn outcome<T: Rules>(alloc: Global, line: &Line<T>) -> Mem<CompilerArguments<Par
 }
 
 impl<T: Rules> SmallReading<T> {
-    /// Words in which response files were put in place, read by the tables handed in. It fails only if memory runs out.
+    /// The reading of expanded words, by these tables.
     pub fn read<S: SearchableArgInfo<T>>(
         alloc: Global,
         expanded: Expanded,
@@ -70,14 +70,14 @@ impl<T: Rules> SmallReading<T> {
         &self.outer
     }
 
-    /// What it says: the record, or why it is refused.
+    /// Its outcome: the record, or why it is refused.
     pub fn outcome(&self) -> &CompilerArguments<ParsedArguments>
         ensures { outcome_of result.now ≡ self.now.outcome }
     {
         &self.outcome
     }
 
-    /// What it says, and nothing else of it.
+    /// Its outcome; the rest of the reading is dropped.
     pub fn into_outcome(self) -> CompilerArguments<ParsedArguments>
         ensures { outcome_of result ≡ self.outcome }
     {

@@ -14,7 +14,7 @@ use scl_text::records::{ArtifactDescriptor, ParsedArguments};
 use std::alloc::Global;
 use std::collections::BTreeMap;
 
-/// The path of the object file: the one that was asked for, else the input with extension `o`.
+/// The path of the object file: the one that is requested, else the input with extension `o`.
 fn object_path(alloc: Global, output: Option<&[u8]>, input: &[u8]) -> Mem<Vec<u8>>
     ensures { IfOk result (λ path. path.items ≡ object_path (option_copied output.entry) input.now) }
 {
@@ -24,7 +24,7 @@ fn object_path(alloc: Global, output: Option<&[u8]>, input: &[u8]) -> Mem<Vec<u8
     }
 }
 
-/// The path of the dependency file, if there is one; an empty one is the input with extension `d`.
+/// The path of the dependency file, if one is requested; for an empty path the input with extension `d`.
 fn dependency_path(alloc: Global, depfile: Option<&[u8]>, input: &[u8]) -> Mem<Option<Vec<u8>>>
     ensures { IfOk result (λ path. path_of path ≡ dependency_path (option_copied depfile.entry) input.now) }
 {
@@ -44,7 +44,7 @@ fn outputs_of(alloc: Global, object: Vec<u8>) -> Mem<BTreeMap<String, ArtifactDe
     Ok(outputs)
 }
 
-/// The record of a compilation with the flag, of an input in the language.
+/// The record of a compilation with this flag, of an input in this language.
 pub(crate) fn record_of<T: Placed>(
     alloc: Global,
     options: Options<T>,
@@ -75,7 +75,7 @@ pub(crate) fn record_of<T: Placed>(
     })
 }
 
-/// The same, beside the options.
+/// The same, with copies of the options' words.
 pub(crate) fn record_beside<T: Placed>(
     alloc: Global,
     options: &Options<T>,

@@ -33,7 +33,7 @@ bits_half (suc w) v h l =
       | false ↦ λ e. omega arith
     ] refl
 
--- ---- the digits of a number say it, and no fewer would
+-- ---- `bits n` digits are enough for n, and no fewer
 
 record Digits (n b : ℕ) : Type 0 where
   enough : n < 2 ^ b

@@ -1,4 +1,4 @@
--- The way through a prefix tree that a word's bytes go.
+-- The way of a word's bytes through a prefix tree.
 use Rattle.std.proofs.Common.{◌≡◌, ◌≢◌, ℕ, zero, suc, ◌+◌, ◌*◌, ◌-◌, ◌<◌, ◌≤◌, Bool, true, false, nat_lt, nat_eq, ◌==◌, List, [], ◌∷◌, length, map, slice_index, slice_index_or, Option, None, Some, MatchOption, refl, sym, ap, subst, ◌∙◌, inl, inr, ◌⊎◌, arith}
 use Rattle.std.proofs.lemmas.Bool.Decides.{nat_tests}
 use Rattle.std.proofs.Math.Nat.{mul-le-mul_left}
@@ -29,7 +29,7 @@ InRange node k = (node.first_row ≤ k) × (k < node.end_row)
 abbrev pub Below : {K : Type 0} → List (Row K) → List Node → Node → ℕ → Type 0
 Below rows nodes node k = IsBelow rows (map group_of nodes) node.depth node.first_child node.end_child k
 
--- the row that was found is one that fits, and no other that fits is as long, but those that are left
+-- the row that was found fits, and no other row that fits is as long, except those that are left
 pub record Found {K : Type 0} (rows : List (Row K)) (word : List ℕ) (left : ℕ → Type 0) (row : Row K) : Type 0 where
   pub place : ℕ
   pub inside : place < length rows
@@ -37,7 +37,7 @@ pub record Found {K : Type 0} (rows : List (Row K)) (word : List ℕ) (left : �
   pub fit : fits row word ≡ true
   pub rest : (k : ℕ) (other : Row K) → k < length rows → k ≢ place → fits (slice_index_or rows k other) word ≡ true → (length (slice_index_or rows k other).flag < length row.flag) ⊎ left k
 
--- before a node's own row was tried, and behind that: what is left is among the node's rows, or below one of its children, and is longer
+-- before and after a node's own row is tried: what is left is among the node's rows, or below one of its children and longer
 abbrev pub Before : {K : Type 0} → List (Row K) → List ℕ → Node → Option (Row K) → Type 0
 Before {K} rows word node found = MatchOption found
     ((k : ℕ) (other : Row K) → k < length rows → fits (slice_index_or rows k other) word ≡ true → InRange node k)
@@ -210,7 +210,7 @@ module _ {K : Type 0} (rows : List (Row K)) (nodes : List Node) (node : Node) (i
 
 -- ---- the whole way
 
--- the row that was tried last, if it fits, and else what was found before
+-- the row that was tried last, if it fits, else what was found before
 abbrev pub longer_of : {K : Type 0} → Option (Bor (ArgRow K)) → Option (Row K) → Option (Row K)
 longer_of None found = found
 longer_of (Some row) found = Some (row_of row.now)

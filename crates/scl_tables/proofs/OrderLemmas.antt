@@ -96,7 +96,8 @@ prefix_not_after (x ∷ xs) (y ∷ ys) h =
       | Greater ↦ λ m. let e = h.0 in absurd (omega arith)
     ] (head x y)
 
--- a prefix of the key that comes before another list, which does not come after the key, is shorter than that list, and no longer than what the list shares with the key
+-- Take a prefix of the key that is less than a list, which is at most the key. It is shorter than that list, and no longer
+-- than what the list and the key share.
 pub prefix_before : (p r key : List ℕ) → IsPrefix p key → cmp p r ≡ Less → is_gt (cmp r key) ≡ false → (length p ≤ common_prefix_len nat_eq r key) × (length p < length r)
 prefix_before [] [] key h l g = absurd (cc)
 prefix_before [] (y ∷ r) key h l g = (omega arith, omega arith)
@@ -121,7 +122,7 @@ prefix_before (x ∷ p) (y ∷ r) (z ∷ key) h l g =
       | Greater ↦ λ m l'. absurd (cc)
     ] (head x y) l
 
--- a list that does not come after the key, and is no prefix of it, shares less than the key
+-- a list that is at most the key and no prefix of it shares less with it than the key's length
 pub shares_less : (r key : List ℕ) → is_gt (cmp r key) ≡ false → common_prefix_len nat_eq r key < length r → common_prefix_len nat_eq r key < length key
 shares_less [] key g l = absurd (omega arith)
 shares_less (y ∷ r) [] g l = absurd (cc)
@@ -143,7 +144,7 @@ common_none (x ∷ xs) (y ∷ ys) h = absurd (omega arith)
 pub common_end : (xs ys : List ℕ) (n : ℕ) → length ys ≤ n → common_prefix_len nat_eq xs (drop n ys) ≡ 0
 common_end xs ys n h = common_none xs (drop n ys) (omega (arith, length-drop n ys))
 
--- ---- the owner, by places
+-- ---- the owner, by indices
 
 pub owner_none : {K : Type 0} (rows : List (Row K)) (word : List ℕ) → ((k : ℕ) (d : Row K) → k < length rows → fits (slice_index_or rows k d) word ≡ false) → owner rows word ≡ None
 owner_none [] word h = refl
@@ -186,7 +187,8 @@ starts_prefix (y ∷ ys) (x ∷ xs) (suc n) h l =
 pub fits_prefix : {K : Type 0} (row : Row K) (word : List ℕ) (n : ℕ) → fits row word ≡ true → length row.flag ≤ n → IsPrefix row.flag (take n word)
 fits_prefix row word n h l = let parts = and_parts (starts_with nat_eq word row.flag) (joins row.shape (drop (length row.flag) word)) h in starts_prefix word row.flag n parts.0 l
 
--- ---- one round: the rows before place i do not come after the first n bytes of the word, the others do, and no row that fits is longer than n
+-- ---- one round: the rows before index i are at most the first n bytes of the word, the others are greater, and no row that
+-- fits is longer than n
 module _ {K : Type 0} (rows : List (Row K)) (table : is_table rows ≡ true) (word : List ℕ) (n i : ℕ)
     (above : (k : ℕ) (d : Row K) → i ≤ k → k < length rows → is_gt (cmp (slice_index_or rows k d).flag (take n word)) ≡ true)
     (short : (k : ℕ) (d : Row K) → k < length rows → fits (slice_index_or rows k d) word ≡ true → length (slice_index_or rows k d).flag ≤ n) where

@@ -28,7 +28,7 @@ starts-split (y ∷ w) (x ∷ f) h =
     let more : w ≡ f ++ drop (length f) w = starts-split w f ab.1 in
     cc
 
--- of two beginnings of a word the longer begins with the other
+-- of two prefixes of a word the longer begins with the other
 pub starts-longer : (w f g : List ℕ) → starts_with nat_eq w f ≡ true → starts_with nat_eq w g ≡ true → length f ≤ length g → starts_with nat_eq g f ≡ true
 starts-longer w [] g p q l = refl
 starts-longer w (x ∷ f) [] p q l = absurd (omega arith)

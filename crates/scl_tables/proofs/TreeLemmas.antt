@@ -16,7 +16,7 @@ use Rattle.scl_tables.specs.Probes.{bits}
 use Rattle.scl_tables.proofs.BitsLemmas.{bits_half}
 use Rattle.scl_tables.proofs.OrderLemmas.{cmp, head, rising}
 
--- what holds from one place up to another, and there, holds up to the next
+-- what holds from one index up to another, and at that one, holds up to the next
 pub one_more : (P : ℕ → Type 0) (first end : ℕ) → ((k : ℕ) → first ≤ k → k < end → P k) → P end → (k : ℕ) → first ≤ k → k < end + 1 → P k
 one_more P first end h p k l u =
     elim (k == end) as (λ b. (k == end) ≡ b → P k) [
@@ -24,14 +24,14 @@ one_more P first end h p k l u =
       | false ↦ λ e. h k l (grind (arith, nat_tests))
     ] refl
 
--- a flag at a place, by the row that was read there
+-- a flag at an index, from the row that was read there
 pub longer_there : {K : Type 0} (rows : List (ArgRow K)) (index depth : ℕ) (row : ArgRow K) → index < length rows → row ≡ slice_index_or rows index row
     → ((other : Row K) → depth < length (slice_index_or (map row_of rows) index other).flag) → depth < length (row_of row).flag
 longer_there {K = K} rows index depth row l is h =
     let P : Row K → Type 0 = λ r. depth < length r.flag in
     subst P (get_or-map row_of rows index row (row_of row) l ∙ sym (ap row_of is)) (h (row_of row))
 
--- ---- flags that rise behind their first bytes
+-- ---- flags that rise after their first bytes
 
 pub later_longer : (a b : List ℕ) (d : ℕ) → d ≤ length a → cmp (drop d a) (drop d b) ≡ Less → d < length b
 later_longer [] [] zero l h = absurd (cc)
@@ -62,7 +62,7 @@ module _ {K : Type 0} (rows : List (Row K)) (depth first end : ℕ) (rises : Ris
   pub longer_after : (j k : ℕ) (other : Row K) → first ≤ j → j < k → k < end → depth < length (slice_index_or rows k other).flag
   longer_after j k other f l e = later_longer (slice_index_or rows j other).flag (slice_index_or rows k other).flag depth (rises.long j other f (omega arith)) (rises.rise j k other f l e)
 
-  -- all rows go on where the first does
+  -- all rows are longer if the first is
   pub longer_all : ((other : Row K) → depth < length (slice_index_or rows first other).flag) → (k : ℕ) (other : Row K) → first ≤ k → k < end → depth < length (slice_index_or rows k other).flag
   longer_all h k other f e =
       elim (first == k) as (λ b. (first == k) ≡ b → depth < length (slice_index_or rows k other).flag) [
@@ -74,7 +74,7 @@ module _ {K : Type 0} (rows : List (Row K)) (depth first end : ℕ) (rises : Ris
       → slice_index (slice_index_or rows j other).flag depth ≤ slice_index (slice_index_or rows k other).flag depth
   bytes_rise j k other f l e long = (later_byte (slice_index_or rows j other).flag (slice_index_or rows k other).flag depth long (longer_after j k other f l e) (rises.rise j k other f l e)).0
 
-  -- the rows of a child rise behind one more byte
+  -- the rows of a child rise after one more byte
   pub child_rises : (s t byte : ℕ) → first ≤ s → s ≤ t → t ≤ end → ((k : ℕ) (other : Row K) → s ≤ k → k < t → depth < length (slice_index_or rows k other).flag)
       → ((k : ℕ) (other : Row K) → s ≤ k → k < t → slice_index (slice_index_or rows k other).flag depth ≡ byte) → RiseBehind rows (depth + 1) s t
   child_rises s t byte f o e long same = record {
@@ -89,7 +89,7 @@ module _ {K : Type 0} (rows : List (Row K)) (depth first end : ℕ) (rises : Ris
         subst P more ((later_byte (slice_index_or rows j other).flag (slice_index_or rows k other).flag depth at_j at_k (rises.rise j k other (omega arith) q (omega arith))).1 (same j other p (omega arith) ∙ sym (same k other (omega arith) r)));
   }
 
-  -- all rows go on with the byte with which the first and the last do
+  -- all rows have the byte next that the first and the last have
   pub shared_more : (byte : ℕ) → first < end → ((other : Row K) → depth < length (slice_index_or rows first other).flag)
       → ((other : Row K) → slice_index (slice_index_or rows first other).flag depth ≡ byte) → ((other : Row K) → slice_index (slice_index_or rows (end - 1) other).flag depth ≡ byte)
       → RiseBehind rows (depth + 1) first end
@@ -115,7 +115,7 @@ module _ {K : Type 0} (rows : List (Row K)) (depth first end : ℕ) (rises : Ris
       same : (k : ℕ) (other : Row K) → first ≤ k → k < end → slice_index (slice_index_or rows k other).flag depth ≡ byte
       same k other p q = let low = from_first k other p q in let high = to_last k other p q in omega (arith, low, high)
 
-  -- rows behind the last with a byte have greater ones
+  -- rows after the last with a byte have greater ones
   pub greater_behind : (s t byte : ℕ) → first ≤ s → s < t → ((other : Row K) → slice_index (slice_index_or rows s other).flag depth ≡ byte) → ((other : Row K) → depth < length (slice_index_or rows s other).flag)
       → ((other : Row K) → t < end → slice_index (slice_index_or rows t other).flag depth ≢ byte)
       → (k : ℕ) (other : Row K) → t ≤ k → k < end → byte < slice_index (slice_index_or rows k other).flag depth
@@ -198,7 +198,7 @@ module _ {K : Type 0} (rows : List (Row K)) (groups : List Group) (group : Group
 
 -- ---- a node's children, one after the other
 
--- the children for rows from one place up to the next that has none yet
+-- the children for rows from the first up to the next that has none yet
 pub record Growing {K : Type 0} (rows : List (Row K)) (old new : List Node) (depth first next end : ℕ) : Type 0 where
   pub grows : Grows rows old new
   pub from : first ≤ next
@@ -410,17 +410,17 @@ module _ {K : Type 0} (rows : List (Row K)) (old new : List Node) (grows : Grows
 pub same_group : (node : Node) (byte depth first end : ℕ) → node.byte ≡ byte → node.depth ≡ depth → node.first_row ≡ first → node.end_row ≡ end → group_of node ≡ record { byte = byte; depth = depth; first = first; end = end }
 same_group node byte depth first end b d f e = rw (b, d, f, e) refl
 
--- the rows of a node that was read at a place
+-- the rows of a node that was read at an index
 pub node_rises : {K : Type 0} (rows : List (Row K)) (nodes : List Node) (index : ℕ) (node : Node) → ((i : ℕ) (other : Group) → i < length nodes → RiseIn rows (slice_index_or (map group_of nodes) i other))
     → index < length nodes → node ≡ slice_index_or nodes index node → RiseIn rows (group_of node)
 node_rises rows nodes index node rise l is = subst (RiseIn rows) (get_or-map group_of nodes index node (group_of node) l ∙ sym (ap group_of is)) (rise index (group_of node) l)
 
--- ---- halving among the children
+-- ---- binary search among the children
 
 pub order_is : (x y : ℕ) (o : Ordering) → o ≡ nat_cmp x y → MatchOrdering o (x < y) (x ≡ y) (y < x)
 order_is x y o e = subst (λ o. MatchOrdering o (x < y) (x ≡ y) (y < x)) (sym e) (head x y)
 
--- a look at one of so many, of which at most half are left
+-- one look, after which at most half are left
 pub halved : (left all before after most : ℕ) → 0 < all → before + bits all ≤ most → after ≤ before + 1 → left ≤ all / 2 → after + bits left ≤ most
 halved left all before after most some b a l = let half = bits_half all left some l in omega (arith, half, b, a)
 

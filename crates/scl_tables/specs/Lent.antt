@@ -1,4 +1,4 @@
--- The nodes of a tree that are lent to it, or its own.
+-- The nodes of a tree: those of its table, or its own.
 use Rattle.std.specs.Prelude.{◌≡◌, List, Result, Ok}
 use Rattle.scl_tables.specs.declared.nodes.Node.{Node}
 use Rattle.scl_tables.specs.declared.nodes.Nodes.{Nodes}
@@ -8,7 +8,7 @@ abbrev pub nodes_in : Nodes → List Node
 nodes_in (Lent nodes) = nodes.now
 nodes_in (Built nodes) = nodes.items
 
--- the answer has these very nodes, and is no refusal of memory
+-- the result is exactly these nodes, and not a failed allocation
 abbrev pub GivesLent : {E : Type 0} → List Node → Result Nodes E → Type 0
 GivesLent lent (Ok (Lent nodes)) = nodes.now ≡ lent
 GivesLent lent _ = ⊥

@@ -6,14 +6,15 @@ use Rattle.std.specs.declared.cmp.Ordering.TheVariants.{Less}
 use Rattle.scl_values.specs.Row.{Row, fits}
 use Rattle.scl_tables.specs.declared.nodes.Node.{Node}
 
--- rows whose flags begin with the same bytes: the last of the bytes, how many they are, the first row and the one behind the last
+-- rows whose flags begin with the same bytes: the first byte after those of the parent, the number of bytes, the first row
+-- and the index after the last
 pub record Group : Type 0 where
   pub byte : ℕ
   pub depth : ℕ
   pub first : ℕ
   pub end : ℕ
 
--- what stands where no node does
+-- the node that is given if there is none at an index
 abbrev pub no_node : Node
 no_node = record { byte = 0; has_row = false; depth = 0; first_row = 0; end_row = 0; first_child = 0; end_child = 0 }
 
@@ -24,7 +25,7 @@ group_of node = record { byte = node.byte; depth = node.depth; first = node.firs
 abbrev pub whole : {K : Type 0} → List (Row K) → Group
 whole rows = record { byte = 0; depth = 0; first = 0; end = length rows }
 
--- the rows' flags have at least so many bytes, and rise strictly behind them
+-- the rows' flags have at least `depth` bytes, and rise strictly after these
 pub record RiseBehind {K : Type 0} (rows : List (Row K)) (depth first end : ℕ) : Type 0 where
   pub order : first ≤ end
   pub within : end ≤ length rows
@@ -35,7 +36,7 @@ pub record RiseBehind {K : Type 0} (rows : List (Row K)) (depth first end : ℕ)
 abbrev pub RiseIn : {K : Type 0} → List (Row K) → Group → Type 0
 RiseIn rows group = RiseBehind rows group.depth group.first group.end
 
--- a row is one of a child's: its flag goes on with the child's byte
+-- a row is one of a child's: its flag has the child's byte next
 pub record IsBelow {K : Type 0} (rows : List (Row K)) (groups : List Group) (depth low high k : ℕ) : Type 0 where
   pub child : ℕ
   pub from : low ≤ child
@@ -45,7 +46,8 @@ pub record IsBelow {K : Type 0} (rows : List (Row K)) (groups : List Group) (dep
   pub longer : (other : Row K) → depth < length (slice_index_or rows k other).flag
   pub byte : (other : Row K) (none : Group) → slice_index (slice_index_or rows k other).flag depth ≡ (slice_index_or groups child none).byte
 
--- the groups from one place to another are children that have the rows: deeper, in the order of their bytes, and no more than the rows
+-- the groups from one index to another are children that have the rows: deeper, in the order of their bytes, and no more than
+-- the rows
 pub record AreChildren {K : Type 0} (rows : List (Row K)) (groups : List Group) (depth low high first end : ℕ) : Type 0 where
   pub few : high + first ≤ low + end
   pub within : high ≤ length groups
@@ -53,32 +55,32 @@ pub record AreChildren {K : Type 0} (rows : List (Row K)) (groups : List Group) 
   pub rise : (i j : ℕ) (other : Group) → low ≤ i → i < j → j < high → (slice_index_or groups i other).byte < (slice_index_or groups j other).byte
   pub all_below : (k : ℕ) → first ≤ k → k < end → IsBelow rows groups depth low high k
 
--- where its first row is a node's own, the others are the children's, and else all are
+-- if a node has a row of its own, that is its first row, and its children have the others; else its children have all
 pub record IsNode {K : Type 0} (rows : List (Row K)) (groups : List Group) (node : Node) : Type 0 where
   pub own : node.has_row ≡ true → node.first_row < node.end_row
   pub short : node.has_row ≡ true → node.first_child < node.end_child → (other : Row K) → length (slice_index_or rows node.first_row other).flag ≤ node.depth
   pub others : ((node.has_row ≡ true) × AreChildren rows groups node.depth node.first_child node.end_child (node.first_row + 1) node.end_row)
       ⊎ AreChildren rows groups node.depth node.first_child node.end_child node.first_row node.end_row
 
--- a node without children, which has its row where that is the only one
+-- a node without children; it has a row of its own only if that is its only row
 pub record IsBare (node : Node) : Type 0 where
   pub single : node.has_row ≡ true → node.end_row ≡ node.first_row + 1
   pub childless : node.end_child ≡ 0
 
--- the nodes are a tree of the rows: the first has them all
+-- the nodes are a tree of the rows: the root has all of them
 pub record IsTree {K : Type 0} (rows : List (Row K)) (nodes : List Node) : Type 0 where
   pub some : 0 < length nodes
   pub root : (other : Node) → group_of (slice_index_or nodes 0 other) ≡ whole rows
   pub rise : (i : ℕ) (other : Group) → i < length nodes → RiseIn rows (slice_index_or (map group_of nodes) i other)
   pub is_node : (i : ℕ) (other : Node) → i < length nodes → IsNode rows (map group_of nodes) (slice_index_or nodes i other)
 
--- a node's rows are among them, and the flag of its own has all bytes on the way
+-- a node's rows are among the rows, and the flag of its own row has all bytes on the way
 pub record Lies {K : Type 0} (rows : List (Row K)) (node : Node) : Type 0 where
   pub order : node.first_row ≤ node.end_row
   pub within : node.end_row ≤ length rows
   pub long : node.has_row ≡ true → (other : Row K) → node.depth ≤ length (slice_index_or rows node.first_row other).flag
 
--- what a search asks of nodes: the first has all rows, and each has its rows itself or in its children
+-- what a search needs of nodes: the root has all rows, and each node has its rows itself or in its children
 pub record Leads {K : Type 0} (rows : List (Row K)) (nodes : List Node) : Type 0 where
   pub some : 0 < length nodes
   pub first : (other : Node) → (slice_index_or nodes 0 other).first_row ≡ 0
@@ -90,14 +92,14 @@ pub record Leads {K : Type 0} (rows : List (Row K)) (nodes : List Node) : Type 0
 abbrev pub Lead : {K : Type 0} → List (Row K) → List Node → Type 0
 Lead rows nodes = (length nodes ≡ 0) ⊎ Leads rows nodes
 
--- more bare nodes, of rows that rise, stand behind those that there were
+-- bare nodes, of rows that rise, were appended
 pub record Grows {K : Type 0} (rows : List (Row K)) (old new : List Node) : Type 0 where
   pub longer : length old ≤ length new
   pub keeps : (i : ℕ) (other : Node) → i < length old → slice_index_or new i other ≡ slice_index_or old i other
   pub rise : (i : ℕ) (other : Group) → length old ≤ i → i < length new → RiseIn rows (slice_index_or (map group_of new) i other)
   pub bare : (i : ℕ) (other : Node) → length old ≤ i → i < length new → IsBare (slice_index_or new i other)
 
--- ---- on the way that a word's bytes go
+-- ---- on the way of a word's bytes
 
 -- the node's own row fits the word
 pub record OwnFits {K : Type 0} (rows : List (Row K)) (node : Node) (word : List ℕ) (row : Row K) : Type 0 where

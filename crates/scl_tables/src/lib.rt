@@ -1,4 +1,4 @@
-//! Flag tables, prefix trees of them, and the search for the row that owns a word.
+//! Flag tables, their prefix trees, and the search for the row that owns a word.
 #![tactic(auto)]
 
 mod nodes;

@@ -1,4 +1,4 @@
-//! How the nodes of a prefix tree are made of a table's rows.
+//! Making the nodes of a prefix tree from a table's rows.
 ghost use Rattle.std.specs.Prelude.{◌≡◌, ℕ, ◌+◌, ◌<◌, ◌≤◌, ◌≢◌, ◌^◌, map, length, true, false, IsTrue, IfOk, slice_index, slice_index_or};
 ghost use Rattle.scl_values.specs.Row.{Row, row_of};
 ghost use Rattle.scl_values.specs.Tables.{is_table};
@@ -8,27 +8,27 @@ ghost use Rattle.scl_tables.specs.Lent.{nodes_in, GivesLent};
 use scl_values::{ArgRow, Mem};
 use std::alloc::Global;
 
-/// A node of a prefix tree. Its rows are those whose flags begin with the bytes on the way to it, which are all that
-/// they share where there are two rows or more.
+/// A node of a prefix tree. The flags of its rows begin with the bytes on the way to it; if it has two rows or more, they
+/// share no further byte.
 #[derive(Clone, Copy, Debug)]
 pub struct Node {
-    /// The byte on the way after those on the way to its parent.
+    /// The first byte on the way from its parent.
     pub byte: u8,
-    /// Whether the first of its rows is its own, and not of a child.
+    /// Whether its first row belongs to the node itself and not to a child.
     pub has_row: bool,
-    /// How many bytes are on the way.
+    /// The number of bytes on the way from the root.
     pub depth: usize,
     /// The index of its first row.
     pub first_row: usize,
-    /// The index after that of its last row.
+    /// The index after its last row.
     pub end_row: usize,
     /// The index of its first child.
     pub first_child: usize,
-    /// The index after that of its last child.
+    /// The index after its last child.
     pub end_child: usize,
 }
 
-/// Nodes, each by its byte, whether it has a row of its own, its depth, its rows and its children.
+/// Nodes: of each the byte, whether it has a row of its own, the depth, the rows and the children.
 #[macro_export]
 macro_rules! nodes {
     ($($byte:literal $has_row:literal $depth:literal $first_row:literal $end_row:literal $first_child:literal $end_child:literal),* $(,)?) => {
@@ -36,7 +36,7 @@ macro_rules! nodes {
     };
 }
 
-/// The nodes of a tree: those that stand beside a table's rows, or built ones.
+/// The nodes of a tree: written beside a table's rows, or built.
 #[derive(Drop)]
 pub(crate) enum Nodes<'a> {
     Lent(&'a [Node]),
@@ -54,7 +54,7 @@ impl<'a> Nodes<'a> {
     }
 }
 
-/// A node with these rows, and no children yet. A single row is its own.
+/// A node with these rows and no children yet. If it has one row, that is its own.
 fn bare_node(byte: u8, depth: usize, first_row: usize, end_row: usize) -> Node
     requires { first_row ≤ end_row }
     ensures byte { result.byte ≡ byte }
@@ -74,7 +74,7 @@ fn bare_node(byte: u8, depth: usize, first_row: usize, end_row: usize) -> Node
     }
 }
 
-/// The byte of a row's flag behind the first ones.
+/// The byte at this depth of a row's flag.
 fn byte_at<K>(rows: &[ArgRow<K>], index: usize, depth: usize) -> u8
     requires within { index < length rows.now }
     requires longer { (other : Row K) → depth < length (slice_index_or (map row_of rows.now) index other).flag }
@@ -91,7 +91,7 @@ fn flag_len<K>(rows: &[ArgRow<K>], index: usize) -> usize
     rows[index].flag().len()
 }
 
-/// How many bytes the rows' flags share where there are two or more, which is what the first and the last share.
+/// The number of bytes that the flags of two rows or more share: those that the first and the last share.
 fn shared_len<K>(rows: &[ArgRow<K>], depth: usize, first_row: usize, end_row: usize) -> usize
     requires some { first_row < end_row }
     requires rise { RiseBehind (map row_of rows.now) depth first_row end_row }
@@ -109,7 +109,7 @@ fn shared_len<K>(rows: &[ArgRow<K>], depth: usize, first_row: usize, end_row: us
     len
 }
 
-/// The child for a row and those behind it that go on with the same byte.
+/// The child that has this row and the following rows with the same byte.
 fn child_at<K>(rows: &[ArgRow<K>], node: &Node, first_row: usize) -> Node
     requires within { first_row < node.now.end_row }
     requires rows { node.now.end_row ≤ length rows.now }
@@ -134,7 +134,7 @@ fn child_at<K>(rows: &[ArgRow<K>], node: &Node, first_row: usize) -> Node
     bare_node(byte, depth, first_row, end_row)
 }
 
-/// Whether the node's first row is its own: its flag ends here, or it is the only one.
+/// Whether the node's first row is its own: its flag ends here, or it is the only row.
 fn has_own_row<K>(rows: &[ArgRow<K>], node: &Node) -> bool
     requires { node.now.end_row ≤ length rows.now }
     ensures some { IsTrue result → node.now.first_row < node.now.end_row }
@@ -145,7 +145,7 @@ fn has_own_row<K>(rows: &[ArgRow<K>], node: &Node) -> bool
         && (node.first_row + 1 == node.end_row || rows[node.first_row].flag().len() == node.depth)
 }
 
-/// The node with its children, which are added to the nodes.
+/// The node with its children, which are appended to the nodes.
 fn grown<K>(rows: &[ArgRow<K>], node: Node, nodes: &mut Vec<Node>) -> Mem<Node>
     requires { RiseIn (map row_of rows.now) (group_of node) }
     ensures same { IfOk result (λ grown. group_of grown ≡ group_of node) }
@@ -173,8 +173,9 @@ fn grown<K>(rows: &[ArgRow<K>], node: Node, nodes: &mut Vec<Node>) -> Mem<Node>
     })
 }
 
-/// The nodes of the tree of a table's rows: the first is the root, and a node's children stand side by side behind it.
-/// Any other node has a row of its own, or two children or more, so there are at most two for each row, and the root.
+/// The nodes of the tree of a table's rows. The first is the root; a node's children are side by side, after the node. Each
+/// node except the root has a row of its own or at least two children, so there are at most two nodes for each row, and the
+/// root.
 pub(crate) fn nodes_of<K>(alloc: Global, rows: &[ArgRow<K>]) -> Mem<Vec<Node>>
     requires { is_table (map row_of rows.now) ≡ true }
     ensures { IfOk result (λ nodes. IsTree (map row_of rows.now) nodes.items) }
@@ -192,7 +193,7 @@ pub(crate) fn nodes_of<K>(alloc: Global, rows: &[ArgRow<K>]) -> Mem<Vec<Node>>
     Ok(nodes)
 }
 
-/// The nodes of a tree of a table's rows: the lent ones, which ask for no memory, or built ones where none are lent.
+/// The nodes of the tree of a table's rows: those that the table carries, without allocation, or built ones.
 pub(crate) fn lent_or_built<'a, K>(
     alloc: Global,
     rows: &[ArgRow<K>],

@@ -1,4 +1,4 @@
-//! Rows that are looked at one by one, and the count of looks.
+//! Rows that are read one by one, and the count of looks.
 ghost use Rattle.std.specs.Prelude.{◌≡◌, ℕ, ◌<◌, ◌≤◌, List, map, length, is_some, true, IsTrue, IfOk, IfSome, OnSome, ◌↔◌, slice_index_or};
 ghost use Rattle.scl_values.specs.Row.{Row, row_of, row_at};
 ghost use Rattle.scl_values.specs.Tables.{is_table, owner_in, finds_ascii_delimiter};
@@ -13,8 +13,8 @@ use std::alloc::Global;
 use std::cmp::Ordering;
 use std::marker::Model;
 
-/// A count of looks at rows. It stays at its greatest value, can't be copied or set back, and only this module makes
-/// one (docs/RULES.md, Looks).
+/// A count of looks at rows. It stops at its greatest value and can't be copied or reset; only this module makes one
+/// (docs/RULES.md, Looks).
 #[derive(Drop)]
 pub struct Probes {
     looks: u64,
@@ -47,7 +47,7 @@ fn read<'s, X>(items: &'s [X], index: usize, probes: &mut Probes) -> &'s X
     &items[index]
 }
 
-/// Rows that are read one at a time, each read being counted (docs/RULES.md, Looks).
+/// Rows that are read one at a time; each read is counted (docs/RULES.md, Looks).
 #[derive(Drop)]
 pub struct RowStore<'a, K> {
     rows: &'a [ArgRow<K>],
@@ -63,7 +63,7 @@ impl<'a, K> Model for RowStore<'a, K> {
 }
 
 impl<'a, K> RowStore<'a, K> {
-    /// How many rows there are.
+    /// The number of rows.
     pub fn len(&self) -> usize
         ensures { result ≡ length self.now }
     {
@@ -77,7 +77,7 @@ impl<'a, K> RowStore<'a, K> {
         self.rows.is_empty()
     }
 
-    /// Reads the row at an index, counted from 0, and counts the read.
+    /// Reads the row at an index from 0, and counts the read.
     pub fn look(&self, index: usize, probes: &mut Probes) -> &'a ArgRow<K>
         requires { index < length self.now }
         ensures row { (other : Row K) → slice_index_or self.now index other ≡ row_of result.now }
@@ -88,8 +88,8 @@ impl<'a, K> RowStore<'a, K> {
     }
 }
 
-/// Rows whose flags rise strictly by bytes and whose delimiters are below 128, for values of type `T`
-/// (docs/RULES.md, Rows and tables). It carries the nodes of its prefix tree where they stand beside the rows.
+/// A table: rows for values of type `T`, whose flags rise strictly by bytes and whose delimiters are below 128
+/// (docs/RULES.md, Rows and tables). It carries the nodes of its prefix tree if they are written beside the rows.
 #[derive(Drop)]
 pub struct FlagTable<'a, T: ArgumentValue> {
     store: RowStore<'a, T::Kind>,
@@ -126,7 +126,7 @@ fn is_table<K>(rows: &[ArgRow<K>]) -> bool
 }
 
 impl<'a, T: ArgumentValue> FlagTable<'a, T> {
-    /// The table of the rows, or `None` where their flags do not rise strictly by bytes or a delimiter is 128 or more.
+    /// The table of these rows; `None` if their flags do not rise strictly by bytes or a delimiter is 128 or more.
     pub fn new(rows: &'a [ArgInfo<T>]) -> Option<FlagTable<'a, T>>
         ensures valid { is_some result ≡ is_table (map row_of rows.now) }
         ensures rows { IfSome result (λ table. table ≡ map row_of rows.now) }
@@ -141,8 +141,8 @@ impl<'a, T: ArgumentValue> FlagTable<'a, T> {
         }
     }
 
-    /// The table of the rows, which carries the nodes of their prefix tree (docs/RULES.md, Rows and tables). Both are
-    /// checked where a call is proved, and nothing is checked when it runs.
+    /// The table of these rows, with the nodes of their prefix tree (docs/RULES.md, Rows and tables). The caller's proof
+    /// checks both; nothing is checked at run time.
     #[tactic(auto, using(crate::proofs::CheckedLemmas::tree_leads))]
     pub fn with_nodes(rows: &'a [ArgInfo<T>], nodes: &'a [Node]) -> FlagTable<'a, T>
         requires table { is_table (map row_of rows.now) ≡ true }
@@ -164,7 +164,7 @@ impl<'a, T: ArgumentValue> FlagTable<'a, T> {
     }
 }
 
-/// Nodes of a prefix tree that are read one at a time, each read being counted (docs/RULES.md, Looks).
+/// Nodes of a prefix tree that are read one at a time; each read is counted (docs/RULES.md, Looks).
 #[derive(Drop)]
 pub(crate) struct NodeStore<'n> {
     nodes: &'n [Node],
@@ -180,7 +180,7 @@ impl<'n> Model for NodeStore<'n> {
 }
 
 impl<'n> NodeStore<'n> {
-    /// Reads the node at an index, counted from 0, and counts the read.
+    /// Reads the node at an index from 0, and counts the read.
     pub(crate) fn look(&self, index: usize, probes: &mut Probes) -> &'n Node
         requires { index < length self.now }
         ensures node { (other : Node) → slice_index_or self.now index other ≡ result.now }
@@ -191,7 +191,7 @@ impl<'n> NodeStore<'n> {
     }
 }
 
-/// The rows of a table as a prefix tree: an edge begins with a byte, and children stand in the order of these bytes
+/// A table's rows as a prefix tree: each edge begins with a byte, and children are in the order of these bytes
 /// (docs/RULES.md, Looks).
 #[derive(Drop)]
 pub struct FlagTree<'a, T: ArgumentValue> {
@@ -214,8 +214,7 @@ impl<'a, T: ArgumentValue> Model for FlagTree<'a, T> {
 }
 
 impl<'a, T: ArgumentValue> FlagTree<'a, T> {
-    /// The tree of a table's rows, by the nodes that the table carries, or by built ones where it carries none.
-    /// `AllocError` where memory for built nodes is refused.
+    /// The tree of a table's rows: of the nodes that the table carries, without allocation, or else of built ones.
     pub fn build(alloc: Global, table: &FlagTable<'a, T>) -> Mem<FlagTree<'a, T>>
         ensures rows { IfOk result (λ tree. tree ≡ table.now) }
     {
@@ -227,8 +226,8 @@ impl<'a, T: ArgumentValue> FlagTree<'a, T> {
         })
     }
 
-    /// The tree of a table's rows, by the nodes that stand beside them. Both are checked where a call is proved; nothing is
-    /// checked when it runs, and no memory is asked for.
+    /// The tree of these rows and the nodes beside them. The caller's proof checks both; nothing is checked at run time, and
+    /// nothing is allocated.
     #[tactic(auto, using(crate::proofs::CheckedLemmas::leads))]
     pub fn with_nodes(rows: &'a [ArgInfo<T>], nodes: &'a [Node]) -> FlagTree<'a, T>
         requires table { is_table (map row_of rows.now) ≡ true }
@@ -241,7 +240,7 @@ impl<'a, T: ArgumentValue> FlagTree<'a, T> {
         }
     }
 
-    /// The rows of the tree, and its nodes.
+    /// The tree's rows and its nodes.
     pub(crate) fn stores(&self) -> (&RowStore<'a, T::Kind>, NodeStore<'_>)
         ensures rows { result.0.now ≡ self.now }
         ensures nodes { Leads self.now result.1 }
@@ -252,21 +251,20 @@ impl<'a, T: ArgumentValue> FlagTree<'a, T> {
     }
 }
 
-/// What a word is looked up in: a table, or several (docs/RULES.md, Owners).
+/// Something in which words are looked up: one table or several (docs/RULES.md, Owners).
 pub trait SearchableArgInfo<T: ArgumentValue> {
     ghost tables: { Self → List (List (Row T.Kind)) };
 
-    /// The row with the longest flag among those that fit the key, and at one length the last table's; `None` only where
-    /// no row fits. Its delimiter, if it has one, is below 128. The looks that it takes are added to the count
-    /// (docs/RULES.md, Looks).
+    /// The row with the longest flag that fits the key, and of equally long flags the last table's; `None` only if no row
+    /// fits. The row has no delimiter, or one below 128. The looks are added to the count (docs/RULES.md, Looks).
     fn search_counted(&self, key: &[u8], probes: &mut Probes) -> Option<&ArgInfo<T>>
         ensures owner { row_at result ≡ owner_in (tables self.now) key.now }
         ensures delimiter { finds_ascii_delimiter (row_at result) ≡ true }
         ensures count { CountsUpTo probes.old probes.new (looks_in (tables self.now) key.now) }
         ensures rises { OnSome result (Rises probes.old probes.new) };
 
-    /// The row with the longest flag among those that fit the key, and at one length the last table's; `None` only where
-    /// no row fits (docs/RULES.md, Owners). Its delimiter, if it has one, is below 128.
+    /// The row with the longest flag that fits the key, and of equally long flags the last table's; `None` only if no row
+    /// fits (docs/RULES.md, Owners). The row has no delimiter, or one below 128.
     final fn search(&self, key: &[u8]) -> Option<&ArgInfo<T>>
         ensures owner { row_at result ≡ owner_in (tables self.now) key.now }
         ensures delimiter { finds_ascii_delimiter (row_at result) ≡ true }
@@ -275,7 +273,7 @@ pub trait SearchableArgInfo<T: ArgumentValue> {
         self.search_counted(key, &mut probes)
     }
 
-    /// Whether the tables are valid: true, since no other can be made.
+    /// Whether the tables are valid: always true, because no others can be made.
     final fn check(&self) -> bool
         ensures { IsTrue result }
     {
@@ -283,8 +281,8 @@ pub trait SearchableArgInfo<T: ArgumentValue> {
     }
 }
 
-/// How many looks a search for the key makes: none or more where it finds nothing, at least one where it finds a row, and
-/// never more than the bound (docs/RULES.md, Looks).
+/// The number of looks of a search for the key: at least one if it finds a row, and never more than the bound (docs/RULES.md,
+/// Looks).
 pub fn looks<T: ArgumentValue, S: SearchableArgInfo<T>>(table: &S, key: &[u8]) -> u64
     ensures bound { result ≤ looks_in (S.tables table.now) key.now }
     ensures some { OnSome (owner_in (S.tables table.now) key.now) (0 < result) }

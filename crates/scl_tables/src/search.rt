@@ -1,4 +1,4 @@
-//! The search for the row that owns a word, by halving.
+//! The search for the row that owns a word, by binary search.
 ghost use Rattle.std.specs.Prelude.{◌≡◌, ℕ, ◌+◌, ◌*◌, ◌<◌, ◌≤◌, length, nat_eq, OnSome, slice_index_or, true, false};
 ghost use Rattle.std.specs.Cmp.Lexicographic.{slice_cmp};
 ghost use Rattle.std.specs.Ordering.{nat_cmp, is_gt};
@@ -10,7 +10,7 @@ ghost use Rattle.std.specs.List.{common_prefix_len};
 use crate::rows::{Probes, RowStore};
 use scl_values::ArgRow;
 
-/// How many rows come before the key or are it, by bytes.
+/// The number of rows whose flags are at most the key, by bytes.
 fn rows_up_to<K>(rows: &RowStore<'_, K>, key: &[u8], probes: &mut Probes) -> usize
     requires { is_table rows.now ≡ true }
     ensures bound { result ≤ length rows.now }
@@ -33,7 +33,7 @@ fn rows_up_to<K>(rows: &RowStore<'_, K>, key: &[u8], probes: &mut Probes) -> usi
     low
 }
 
-/// How many bytes two words have in common at their beginning.
+/// The length of the common prefix of two words.
 fn common_len(a: &[u8], b: &[u8]) -> usize
     ensures { result ≡ common_prefix_len nat_eq a.now b.now }
 {
@@ -46,9 +46,9 @@ fn common_len(a: &[u8], b: &[u8]) -> usize
 
 /// The longest row that fits a word.
 ///
-/// The last row that is not above a beginning of the word either fits it, or shares so little with it that all
-/// fitting flags are shorter: then the beginning is cut down to what is shared, or to one byte less where its whole
-/// flag is shared, and the search goes on.
+/// Take the last row whose flag is at most a prefix of the word. Either it fits, or every fitting flag is shorter than what
+/// that flag and the prefix share. Then the search goes on with the shared part, or with one byte less if the shared part is
+/// the whole flag.
 pub(crate) fn longest_fit<'a, K>(
     rows: &RowStore<'a, K>,
     word: &[u8],

@@ -24,7 +24,7 @@ impl<'a, T: ArgumentValue, S: SearchableArgInfo<T>> SearchableArgInfo<T> for &'a
     }
 }
 
-/// Of two rows the one with the longer flag, and at one length the second.
+/// Of two rows the one with the longer flag; of equally long flags the second.
 pub(crate) fn longer<'a, K>(
     first: Option<&'a ArgRow<K>>,
     second: Option<&'a ArgRow<K>>,

@@ -1,4 +1,4 @@
-//! Any number of tables in one.
+//! Any number of tables as one.
 ghost use Rattle.std.specs.Prelude.{◌≡◌};
 
 use crate::rows::{Probes, SearchableArgInfo};
@@ -6,7 +6,7 @@ use crate::table::longer;
 use scl_values::{ArgInfo, ArgumentValue};
 use std::marker::Model;
 
-/// Any number of tables, or of whatever else is searched, in their order (docs/RULES.md, Owners).
+/// Any number of tables, or of other things that are searched, in their order (docs/RULES.md, Owners).
 #[derive(Drop)]
 pub struct Tables<S> {
     members: Vec<S>,
@@ -21,7 +21,7 @@ impl<S> Model for Tables<S> {
 }
 
 impl<S> Tables<S> {
-    /// The members of the list, in one; without members nothing is found. It takes no memory.
+    /// The members of the list as one; an empty list finds nothing. It allocates nothing.
     pub fn new(list: Vec<S>) -> Tables<S>
         ensures { result ≡ list.items }
     {

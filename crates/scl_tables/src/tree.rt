@@ -10,7 +10,7 @@ use crate::rows::{FlagTree, NodeStore, Probes, RowStore, SearchableArgInfo};
 use scl_values::{ArgInfo, ArgRow, ArgumentValue};
 use std::cmp::Ordering;
 
-/// The child for a byte, found by halving.
+/// The child for a byte, by binary search.
 fn child_for<'n>(
     nodes: &NodeStore<'n>,
     parent: &Node,
@@ -36,7 +36,7 @@ fn child_for<'n>(
     None
 }
 
-/// The node's own row, if it has one and that fits the word.
+/// The node's own row, if it has one and the row fits the word.
 fn own_fit<'a, K>(
     rows: &RowStore<'a, K>,
     node: &Node,
@@ -55,7 +55,7 @@ fn own_fit<'a, K>(
     if row.fits(word) { Some(row) } else { None }
 }
 
-/// The longest row that fits a word: the last that is met on the way that the word's bytes go.
+/// The longest row that fits a word: the last one met on the way of the word's bytes.
 fn deepest_fit<'a, K>(
     rows: &RowStore<'a, K>,
     nodes: &NodeStore<'_>,

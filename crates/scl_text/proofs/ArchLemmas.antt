@@ -28,7 +28,7 @@ same_word a b h = (bytes_eq-Decides a b).0 h
 same_as_itself : (a : List ℕ) → bytes_eq a a ≡ true
 same_as_itself a = (bytes_eq-Decides a a).1 refl
 
--- what is like a word that was seen is not new
+-- a word equal to one that was seen is not new
 filter-seen : (seen : List (List ℕ)) (word : List ℕ) (words : List (List ℕ)) → list_any (bytes_eq word) seen ≡ true → filter (is_new seen) (without_word word words) ≡ filter (is_new seen) words
 filter-seen seen word [] h = refl
 filter-seen seen word (other ∷ words) h =
@@ -40,7 +40,7 @@ filter-seen seen word (other ∷ words) h =
 pub new_words-seen : (seen : List (List ℕ)) (word : List ℕ) (words : List (List ℕ)) → list_any (bytes_eq word) seen ≡ true → new_words seen (word ∷ words) ≡ new_words seen words
 new_words-seen seen word words h = rw h (filter-seen seen word (distinct_words words) h)
 
--- a word is new beyond these and one more, where it is new and not that one
+-- a word is new after these and one more, if it is new after these and is not that one
 is_new-more : (seen : List (List ℕ)) (word other : List ℕ) → is_new (seen ++ word ∷ []) other ≡ not (list_any (bytes_eq other) seen || (bytes_eq other word || false))
 is_new-more seen word other = ap not (list_any-append (bytes_eq other) seen (word ∷ []))
 

@@ -11,13 +11,13 @@ use Rattle.scl_text.specs.declared.records.ParsedArguments.{ParsedArguments}
 use Rattle.scl_text.specs.declared.records.SingleCompileCommand.{SingleCompileCommand}
 use Rattle.scl_files.specs.Views.{Viewed}
 
--- what is kept by the command of a reading is kept by that of an answer with this outcome
+-- what holds of the command of a reading holds of that of an answer with this outcome
 pub parsed-kept : {E : Type 0} (command : Parsed → Option (List (List ℕ))) (promise : Parsed → List (List ℕ) → Type 0) (said : Result Parsed Verdict) → IfCommand command promise said →
     (r : Result (CompilerArguments ParsedArguments) E) → IfOk r (λ answer. outcome_of answer ≡ said) → IfOk r (λ answer. IfCommand command promise (outcome_of answer))
 parsed-kept command promise said kept (Ok answer) e = subst (IfCommand command promise) (sym e) kept
 parsed-kept command promise said kept (Err e) h = tt
 
--- what is kept by the command of a reading is kept by the words that are built of its record
+-- what holds of the command of a reading holds of the words that are built from its record
 pub words-kept : (command : Parsed → Option (List (List ℕ))) (promise : Parsed → List (List ℕ) → Type 0) (said : Result Parsed Verdict) → IfCommand command promise said →
     (p : Parsed) (words : List (List ℕ)) → command p ≡ Some words → said ≡ Ok p → promise p words
 words-kept command promise said kept p words w e =
@@ -25,7 +25,7 @@ words-kept command promise said kept p words w e =
     let P : Option (List (List ℕ)) → Type 0 = λ o. IfSome o (promise p) in
     subst P w at
 
--- what is kept by the command of each reading is kept by the words that a builder answers
+-- what holds of the command of each reading holds of the words that a builder gives
 pub built-kept : {E : Type 0} (command : Parsed → Option (List (List ℕ))) (promise : List (List ℕ) → List ℕ → List (List ℕ × List ℕ) → Viewed → Parsed → List (List ℕ) → Type 0)
     (said : List (List ℕ) → List ℕ → List (List ℕ × List ℕ) → Viewed → Result Parsed Verdict) →
     ((words : List (List ℕ)) (directory : List ℕ) (pairs : List (List ℕ × List ℕ)) (view : Viewed) → IfCommand command (promise words directory pairs view) (said words directory pairs view)) →
@@ -37,7 +37,7 @@ built-kept command promise said kept p executable env_vars cwd cacheable (Ok ans
     words-kept command (promise words directory pairs view) (said words directory pairs view) (kept words directory pairs view) p (words_of answer.0.arguments.items) is.words_are e
 built-kept command promise said kept p executable env_vars cwd cacheable (Err e) is = tt
 
--- what is kept by the words for the object of a record is kept by the command of a reading
+-- what holds of the words for the object of a record holds of the command of a reading
 module _ (words : Parsed → List ℕ → List (List ℕ)) (promise : Parsed → List ℕ → List (List ℕ) → Type 0) where
   for_object : (p : Parsed) (o : Option (List ℕ)) → ((object : List ℕ) → o ≡ Some object → promise p object (words p object)) →
       IfSome (option_map (words p) o) (λ command. IfSome o (λ object. promise p object command))

@@ -1,4 +1,4 @@
--- Records that are equal by the derived `==` hold the same.
+-- Records that are equal by the derived `==` have the same fields.
 use Rattle.std.proofs.Common.{rules, ◌≡◌, ℕ, true, false, Bool, ◌&&◌, List, [], ◌∷◌, Option, None, Some, Vec, String, Global, map, refl, ap}
 use mathlib.Core.Bool.{beq}
 use Rattle.std.specs.Prelude.{nat_eq, string_bytes}

@@ -8,7 +8,7 @@ use Rattle.scl_args.specs.Options.{first_verdict}
 use Rattle.scl_text.specs.FirstVerdicts.{HasNoVerdict, IsFirstVerdict, FirstVerdictIsFirst}
 
 module _ {K V : Type 0} (verdict : List (Seen K) → Seen K → Option V) where
-  -- the same of options that stand behind those in front
+  -- the same for options that follow those in front
   abbrev NoneBehind : List (Seen K) → List (Seen K) → Type 0
   NoneBehind front os = (before : List (Seen K)) (option : Seen K) (after : List (Seen K)) → os ≡ before ++ option ∷ after → verdict (front ++ before) option ≡ None
 
@@ -37,7 +37,7 @@ module _ {K V : Type 0} (verdict : List (Seen K) → Seen K → Option V) where
   abbrev Behind : List (Seen K) → List (Seen K) → Option V → Type 0
   Behind front os found = MatchOption found (NoneBehind front os) (FirstBehind front os)
 
-  -- an option that has no verdict in front of the others
+  -- an option without a verdict, before the others
   passed : (front : List (Seen K)) (o : Seen K) (os : List (Seen K)) (found : Option V) → verdict front o ≡ None → Behind (front ++ o ∷ []) os found → Behind front (o ∷ os) found
   passed front o os None none rest = one-more front o os none rest
   passed front o os (Some v) none rest = record {

@@ -31,7 +31,7 @@ first-refusal verdict before [] = refl
 first-refusal verdict before (o ∷ os) = ap (λ rest. option_or (verdict before o) rest) (first-refusal verdict (before ++ o ∷ []) os)
 
 module _ {K : Type 0} (own : List ℕ → Option (Row K)) (words : List (List ℕ)) (ats : List (Option ℕ)) (os : List (Seen K)) where
-  -- what is said of the end comes behind what is said of the options
+  -- the end is judged after the options
   end-behind : (said : Option Verdict) (dangles : Bool)
       → unless (option_or said (option_map (λ d. argument_parse) (dangled_by own dangles words ats))) (Ok os) ≡ unless said (if dangles then Err argument_parse else Ok os)
   end-behind (Some v) dangles = refl
@@ -55,14 +55,14 @@ pub line_none : {K : Type 0} (verdict : List (Seen K) → Seen K → Option Verd
 unfolding line_by
 line_none verdict own dashes ats = refl
 
--- ---- words that are handed on
+-- ---- words for an inner command line
 
 passed : {K : Type 0} (p : Seen K → Bool) (b : Bool) (o : Seen K) (os : List (Seen K)) (at : Option ℕ) (ats : List (Option ℕ)) → length (ats_passing p os ats) ≡ length (texts p os)
     → length ((if b then at ∷ [] else []) ++ ats_passing p os ats) ≡ length (map text_of (cond b (o ∷ filter p os) (filter p os)))
 passed p true o os at ats e = ap suc e
 passed p false o os at ats e = e
 
--- as many indices are handed on as words
+-- there are as many indices as words
 pub passing_count : {K : Type 0} (p : Seen K → Bool) (os : List (Seen K)) (ats : List (Option ℕ)) → length (ats_passing p os ats) ≡ length (texts p os)
 passing_count p [] ats = refl
 passing_count p (o ∷ os) ats = passed p (p o) o os (first_at ats) (drop 1 ats) (passing_count p os (drop 1 ats))

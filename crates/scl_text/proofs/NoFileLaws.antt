@@ -26,7 +26,7 @@ first-no (x ∷ xs) n = elim (is_slash x) as (λ b. FirstNo (if b then [] ∷ sl
   | false ↦ onto-no x xs (slice_split is_slash xs) n
 ]
 
--- ---- what stands at a place, cut and with more behind it
+-- ---- what is at a place, cut, and with more after it
 
 stem-no : (name : List ℕ) → No name → No (stem_of_name name)
 stem-no name n = elim (length (before_last is_dot name) == 0) as (λ b. No (if b then name else before_last is_dot name)) [ true ↦ n | false ↦ take-no _ name n ]
@@ -42,7 +42,7 @@ append-no (x ∷ a) b n m = n
 
 -- ---- places
 
--- the word has a first byte, which is not @
+-- the word has a first byte, and that is not @
 abbrev Led : List ℕ → Type 0
 Led [] = ⊥
 Led (x ∷ xs) = (x == 64) ≡ false

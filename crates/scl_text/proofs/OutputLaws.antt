@@ -1,4 +1,4 @@
--- Outputs that are put one after the other in the order of their names.
+-- Outputs that are added one by one, in the order of their names.
 use Rattle.std.proofs.Common.{◌≡◌, ℕ, Bool, true, false, ◌&&◌, List, [], ◌∷◌, ◌++◌, Option, None, Some, refl, ap, ◌∙◌, nat_cmp, Ordering, Less, Equal, Greater}
 use Rattle.std.specs.Ordering.{match_ordering}
 use Rattle.std.specs.Cmp.Lexicographic.{slice_cmp}
@@ -25,7 +25,7 @@ is_above Less = false
 is_above Equal = false
 is_above Greater = true
 
--- the name is above all of these
+-- the name is greater than all of these
 abbrev is_last : List ℕ → List Entry → Bool
 is_last name [] = true
 is_last name (entry other optional path ∷ es) = is_above (slice_cmp nat_cmp name other) && is_last name es
@@ -39,7 +39,7 @@ goes_on Less x y z h = absurd (false≢true h)
 goes_on Equal x y z h = absurd (false≢true h)
 goes_on Greater x y z h = refl
 
--- a name above all others is put last
+-- a name greater than all others is put last
 put_last : (before : List Entry) (name : List ℕ) (optional : Bool) (path : Option (List ℕ)) → is_last name before ≡ true →
     put_optional (listed before) name optional path ≡ listed (before ++ entry name optional path ∷ [])
 put_last [] name optional None h = refl
@@ -50,7 +50,7 @@ put_last (entry other o (Some q) ∷ before) name optional (Some p) h =
     goes_on (slice_cmp nat_cmp name other) _ _ _ (and_parts _ _ h).0
     ∙ ap (λ rest. artifact other q o ∷ rest) (put_last before name optional (Some p) (and_parts _ _ h).1)
 
--- outputs whose names rise are put in their order
+-- outputs whose names rise are put in order
 pub put_rising : (before es : List Entry) → rises before es ≡ true → put_all (listed before) es ≡ listed (before ++ es)
 put_rising before [] h = rw append-nil refl
 put_rising before (entry name optional path ∷ es) h =

@@ -24,14 +24,14 @@ map-match_ordering f Less x y z = refl
 map-match_ordering f Equal x y z = refl
 map-match_ordering f Greater x y z = refl
 
--- what an insertion makes of the outputs
+-- the outputs after an insertion
 pub put_entry : (es : List (String Global × ArtifactDescriptor)) (k : String Global) (v : ArtifactDescriptor) → map artifact_of (insert_entry text_cmp es k v) ≡ put_output (map artifact_of es) (artifact_of (k, v))
 put_entry [] k v = refl
 put_entry (e ∷ es) k v =
     map-match_ordering artifact_of (text_cmp k e.0) _ _ _
     ∙ ap (λ rest. match_ordering (text_cmp k e.0) (artifact_of (k, v) ∷ artifact_of e ∷ map artifact_of es) (artifact_of (e.0, v) ∷ map artifact_of es) (artifact_of e ∷ rest)) (put_entry es k v)
 
--- the path that a look-up by a name finds
+-- the path that a look-up by name finds
 pub path_at-artifacts : (es : List (String Global × ArtifactDescriptor)) (name : List ℕ) →
     path_at (map artifact_of es) name ≡ option_map (λ a. a.path.items) (lookup (is_at (λ k. slice_cmp nat_cmp name (string_bytes k))) es)
 path_at-artifacts [] name = refl
@@ -41,11 +41,11 @@ path_at-artifacts (e ∷ es) name =
       | false ↦ path_at-artifacts es name
     ])
 
--- the output has the same name, path and mark
+-- the output has the same name and path, and may be missing or not as the other
 abbrev pub IsCopied : String Global × ArtifactDescriptor → String Global × ArtifactDescriptor → Type 0
 IsCopied e f = (string_bytes f.0 ≡ string_bytes e.0) × ((f.1.path.items ≡ e.1.path.items) × (f.1.optional ≡ e.1.optional))
 
--- what a copy of the map has
+-- the entries of a copied map
 pub copied_entries : (es fs : List (String Global × ArtifactDescriptor)) → AllZip IsCopied es fs → map artifact_of fs ≡ map artifact_of es
 copied_entries [] [] h = refl
 copied_entries [] (f ∷ fs) h = absurd h

@@ -7,7 +7,7 @@ use Rattle.scl_text.specs.declared.stop.Stop.TheVariants as stops
 use Rattle.scl_text.specs.Records.{Parsed, Verdict, parsed_of, outcome_of}
 use Rattle.scl_text.specs.Stops.{Gives, answer_to}
 
--- what a reading gives is the outcome of its answer
+-- the result of a reading is the outcome of its answer
 pub outcome_given : (read : Result ParsedArguments Stop) (said : Result Parsed Verdict) → Gives parsed_of read said → IfOk (answer_to read) (λ answer. outcome_of answer ≡ said)
 outcome_given (Ok parsed) said gives = sym gives
 outcome_given (Err (stops.Refused (refusals.CannotCache reason text))) said gives = sym gives

@@ -23,6 +23,6 @@ pub record Builds (command : SingleCompileCommand) (executable : List ℕ) (word
 abbrev pub object_of : Parsed → Option (List ℕ)
 object_of p = path_at p.outputs (codes "obj")
 
--- the words of a record's command, where it has an object file, from its words for that file
+-- the words of a record's command, if it has an object file, from its words for that file
 abbrev pub command_by : (Parsed → List ℕ → List (List ℕ)) → Parsed → Option (List (List ℕ))
 command_by words p = option_map (words p) (object_of p)

@@ -12,13 +12,14 @@ use Rattle.scl_files.specs.Views.{Viewed}
 use Rattle.scl_text.specs.Reasons.{argument_parse, empty_value}
 use Rattle.scl_text.specs.Records.{Verdict}
 
--- the options that words are cut into, where `own` gives a word's owner: where none has an empty value that its row takes either way, none is refused and the last flag has its value
+-- the options that words are cut into, if none has an empty value of an either row, none is refused and the last flag has its
+-- value; `own` gives a word's owner
 abbrev pub judged_cut : {K : Type 0} → (List (Seen K) → Seen K → Option Verdict) → (List ℕ → Option (Row K)) → Bool → List (List ℕ) → Result (List (Seen K)) Verdict
 judged_cut verdict own dashes words =
     let c = cut own dashes words in
     judged (refusing_empty own empty_value verdict) argument_parse (map shown c.options) (is_dangling c.end)
 
--- what words with response files put in place are cut into by the tables, with `--` as the end of options or without
+-- what words with response files expanded are cut into by the tables; with dashes `--` ends the options
 abbrev pub cut_line : {K : Type 0} → ExpansionKind → List (List (Row K)) → Bool → List ℕ → Viewed → List (List ℕ) → Cutting K
 cut_line kind tables dashes directory view words = cut (owner_in tables) dashes (expand kind directory view.files words)
 

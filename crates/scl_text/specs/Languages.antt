@@ -64,7 +64,7 @@ language_of_extension extension = language_named extensions extension
 abbrev pub language_of_file_name : List ℕ → Option Language
 language_of_file_name path = option_and_then language_of_extension (extension path)
 
--- the texts that are read behind -x
+-- the texts that are read after -x
 abbrev pub read_texts : List Named
 read_texts =
     named "assembler" languages.Assembler

@@ -1,4 +1,5 @@
--- A command line, given or inner, cut and judged: its options, of each the given word that brought it and what is said against it, and its end.
+-- A command line, given or inner, cut and judged: its options, of each the given word from which it came and its refusal, and
+-- its end.
 use Rattle.std.specs.Prelude.{ℕ, Bool, true, false, List, [], ◌∷◌, ◌++◌, drop, length, map, Option, None, Some, Result, Ok, unwrap_or, if◌then◌else◌}
 use Rattle.std.specs.Option.{option_and_then, option_map, option_or}
 use Rattle.scl_args.specs.Empties.{refusing_empty}
@@ -14,9 +15,9 @@ use Rattle.scl_values.specs.Row.{Row}
 use Rattle.scl_values.specs.Seen.{Seen, shown}
 use Rattle.scl_values.specs.Spell.{spelled}
 
--- ---- which given word brought what
+-- ---- from which given word something came
 
--- of each option, the index that its first word has
+-- of each option, the index of its first word
 abbrev pub ats_cut : {K : Type 0} → List (Seen K) → List (Option ℕ) → List (Option ℕ)
 ats_cut [] ats = []
 ats_cut (o ∷ os) ats = first_at ats ∷ ats_cut os (drop (length (spelled o)) ats)
@@ -28,7 +29,8 @@ ats_passing p (o ∷ os) ats = (if p o then first_at ats ∷ [] else []) ++ ats_
 
 -- ---- lines
 
--- a last flag that lacks its value: its word, the flag and the kind of the row that owns it, and the given word that brought it
+-- a last flag without its value: its word, the flag and the kind of the row that owns it, and the given word from which it
+-- came
 pub record Dangled (K : Type 0) : Type 0 where
   pub word : List ℕ
   pub flag : Option (List ℕ)
@@ -41,19 +43,19 @@ pub record JudgedLine (K : Type 0) : Type 0 where
   pub refusals : List (Option Verdict)
   pub dangling : Option (Dangled K)
 
--- what is said against each option, judged after those before it
+-- the refusal of each option, judged given those before it
 abbrev pub refusals_after : {K : Type 0} → (List (Seen K) → Seen K → Option Verdict) → List (Seen K) → List (Seen K) → List (Option Verdict)
 refusals_after verdict before [] = []
 refusals_after verdict before (o ∷ os) = verdict before o ∷ refusals_after verdict (before ++ o ∷ []) os
 
--- the end of words of which the last is such a flag
+-- the end of words whose last word is such a flag
 abbrev pub dangled_by : {K : Type 0} → (List ℕ → Option (Row K)) → Bool → List (List ℕ) → List (Option ℕ) → Option (Dangled K)
 dangled_by own false words ats = None
 dangled_by own true words ats =
     let word = unwrap_or (last words) [] in
     Some (record { word = word; flag = option_map (λ row. row.flag) (own word); kind = option_map (λ row. row.kind) (own word); at = option_and_then (λ at. at) (last ats) })
 
--- the line of words that these given ones brought, cut where `own` gives a word's owner, with `--` as the end of options or without
+-- the line of words that came from these given ones; `own` gives a word's owner; with dashes `--` ends the options
 unfoldable pub line_by : {K : Type 0} → (List (Seen K) → Seen K → Option Verdict) → (List ℕ → Option (Row K)) → Bool → List (List ℕ) → List (Option ℕ) → JudgedLine K
 line_by verdict own dashes words ats =
     let c = cut own dashes words in
@@ -65,11 +67,11 @@ line_by verdict own dashes words ats =
       dangling = dangled_by own (is_dangling c.end) words ats;
     }
 
--- the line of no words
+-- the line without words
 abbrev pub no_line : {K : Type 0} → JudgedLine K
 no_line = record { options = []; ats = []; refusals = []; dangling = None }
 
--- ---- what is said against a line
+-- ---- refusals of a line
 
 abbrev pub first_some : {V : Type 0} → List (Option V) → Option V
 first_some [] = None
@@ -79,11 +81,11 @@ first_some (o ∷ os) = option_or o (first_some os)
 abbrev pub line_refusal : {K : Type 0} → JudgedLine K → Option Verdict
 line_refusal l = option_or (first_some l.refusals) (option_map (λ d. argument_parse) l.dangling)
 
--- its options, where nothing is said against it
+-- its options, if it is not refused
 abbrev pub line_options : {K : Type 0} → JudgedLine K → Result (List (Seen K)) Verdict
 line_options l = unless (line_refusal l) (Ok l.options)
 
--- ---- what the code keeps
+-- ---- what the code stores
 
 abbrev pub dangled_of : {K : Type 0} → Dangling K → Dangled K
 dangled_of d = record { word = d.word.items; flag = option_map (λ owner. owner.0.now) d.owner; kind = option_map (λ owner. owner.1) d.owner; at = d.at }

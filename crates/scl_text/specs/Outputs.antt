@@ -6,7 +6,7 @@ use Rattle.std.specs.Ordering.{nat_cmp, match_ordering}
 use Rattle.std.specs.Cmp.Lexicographic.{slice_cmp}
 use Rattle.scl_text.specs.Records.{Artifact, artifact}
 
--- the outputs with one more, at its place; one of the same name gives way
+-- the outputs with one more, at its place by name; it replaces one of the same name
 abbrev pub put_output : List Artifact → Artifact → List Artifact
 put_output [] a = a ∷ []
 put_output (b ∷ bs) a = match_ordering (slice_cmp nat_cmp a.name b.name) (a ∷ b ∷ bs) (record { name = b.name; path = a.path; optional = a.optional } ∷ bs) (b ∷ put_output bs a)

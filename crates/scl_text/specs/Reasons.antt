@@ -9,11 +9,11 @@ unexpanded_file = because (codes "@")
 abbrev pub empty_value : Verdict
 empty_value = because (codes "empty value")
 
--- with the text of the error that the last flag lacks its value
+-- with the text of the error of a last flag without its value
 abbrev pub argument_parse : Verdict
 argument_parse = CannotCache (codes "argument parse") (Some (codes "Unexpected end of args"))
 
--- with the inputs behind the first
+-- with the inputs after the first
 abbrev pub multiple_input_files : (later : List (List ℕ)) → Verdict
 multiple_input_files later = CannotCache (codes "multiple input files") (Some (quoted_list later))
 

@@ -1,4 +1,4 @@
--- The records as contracts see them, apart from how the code keeps them.
+-- Records, as contracts see them.
 use Rattle.std.specs.Prelude.{ℕ, Bool, false, not, List, [], ◌∷◌, Option, None, map, filter, Result, Ok, Err, string_bytes, String, Vec}
 use Rattle.std.specs.Option.{option_map}
 use Rattle.std.specs.Str.{bytes_eq}
@@ -22,7 +22,7 @@ pub record Artifact : Type 0 where
 abbrev pub artifact : List ℕ → List ℕ → Bool → Artifact
 artifact name path optional = record { name = name; path = path; optional = optional }
 
--- a command line as it was read; the outputs stand in the order of their names
+-- the record of a command line; the outputs are in the order of their names
 pub record Parsed : Type 0 where
   pub input : List ℕ
   pub double_dash_input : Bool
@@ -45,7 +45,7 @@ pub record Parsed : Type 0 where
   pub suppress_rewrite_includes_only : Bool
   pub too_hard_for_preprocessor_cache_mode : Option (List ℕ)
 
--- a record in which all but the input, its language and the compile flag is empty, no or `Auto`
+-- a record with an input, its language and the compile flag; all other fields are empty, false or `Auto`
 abbrev pub bare_record : List ℕ → Language → List ℕ → Parsed
 bare_record input language compilation_flag = record {
   input = input;
@@ -70,16 +70,17 @@ bare_record input language compilation_flag = record {
   too_hard_for_preprocessor_cache_mode = None;
 }
 
--- why a command line is not read: it can't be cached, for this reason, perhaps with a text beside it, or it is no compilation
+-- why a command line is refused: its result can't be cached, for this reason, perhaps with a text beside it; or it is no
+-- compilation
 pub data Verdict : Type 0 where
   CannotCache : (reason : List ℕ) (beside : Option (List ℕ)) → Verdict
   NotCompilation : Verdict
 
--- it can't be cached, for this reason, with no text beside it
+-- the result can't be cached, for this reason, without a text beside it
 abbrev pub because : List ℕ → Verdict
 because reason = CannotCache reason None
 
--- the bytes of a path that there may be
+-- the bytes of an optional path
 abbrev pub path_of : Option (Vec ℕ Global) → Option (List ℕ)
 path_of path = option_map (λ bytes. bytes.items) path
 
@@ -90,7 +91,7 @@ artifact_of entry = artifact (string_bytes entry.0) entry.1.path.items entry.1.o
 abbrev pub artifacts : BTreeMap (String Global) ArtifactDescriptor → List Artifact
 artifacts outputs = map artifact_of outputs.entries
 
--- what the code's record holds
+-- the code's record, as contracts see it
 abbrev pub parsed_of : ParsedArguments → Parsed
 parsed_of p = record {
   input = p.input.items;
@@ -115,27 +116,27 @@ parsed_of p = record {
   too_hard_for_preprocessor_cache_mode = path_of p.too_hard_for_preprocessor_cache_mode;
 }
 
--- the outcome that an answer stands for
+-- the outcome that an answer has
 abbrev pub outcome_of : CompilerArguments ParsedArguments → Result Parsed Verdict
 outcome_of (answers.Ok p) = Ok (parsed_of p)
 outcome_of (answers.CannotCache reason text) = Err (CannotCache reason.now (option_map string_bytes text))
 outcome_of answers.NotCompilation = Err NotCompilation
 
--- the second words of pairs of words; a last lone word is left out
+-- the second words of pairs of words; a last word without a partner is left out
 abbrev pub second_words : List (List ℕ) → List (List ℕ)
 second_words [] = []
 second_words (flag ∷ []) = []
 second_words (flag ∷ (value ∷ words)) = value ∷ second_words words
 
--- the words less those equal to this one
+-- the words that are not equal to this one
 abbrev pub without_word : List ℕ → List (List ℕ) → List (List ℕ)
 without_word word words = filter (λ other. not (bytes_eq other word)) words
 
--- the distinct words, each where it stands first
+-- the distinct words, each at its first occurrence
 abbrev pub distinct_words : List (List ℕ) → List (List ℕ)
 distinct_words [] = []
 distinct_words (word ∷ words) = word ∷ without_word word (distinct_words words)
 
--- the architectures that pairs of a flag and an architecture name
+-- the architectures of pairs of a flag and an architecture
 abbrev pub archs : List (List ℕ) → List (List ℕ)
 archs arch_args = distinct_words (second_words arch_args)

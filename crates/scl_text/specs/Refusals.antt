@@ -15,7 +15,7 @@ abbrev pub verdict_of : Refusal → Verdict
 verdict_of (refusals.CannotCache reason text) = CannotCache reason.now (option_map string_bytes text)
 verdict_of refusals.NotCompilation = NotCompilation
 
--- the verdict with no text beside its reason
+-- the verdict without the text beside its reason
 abbrev pub without_text : Verdict → Verdict
 without_text (CannotCache reason beside) = because reason
 without_text NotCompilation = NotCompilation
@@ -25,7 +25,7 @@ abbrev pub answer_of : Refusal → CompilerArguments ParsedArguments
 answer_of (refusals.CannotCache reason text) = answers.CannotCache reason text
 answer_of refusals.NotCompilation = answers.NotCompilation
 
--- the one input; several are refused with those behind the first beside the reason
+-- the only input; several are refused, with those after the first beside the reason
 abbrev pub the_input : List (List ℕ) → Result (List ℕ) Verdict
 the_input [] = Err no_input_file
 the_input (input ∷ []) = Ok input

@@ -43,8 +43,8 @@ fn is_among(word: &[u8], words: &[Vec<u8>]) -> bool
 }
 
 impl ParsedArguments {
-    /// The distinct second words of `arch_args`' pairs, each where it stands first; a last lone word
-    /// is left out (docs/RULES.md, Records). It fails only for want of memory.
+    /// The distinct second words of `arch_args`' pairs, each at its first occurrence. A last word without a partner is left
+    /// out (docs/RULES.md, Records).
     #[tactic(auto, using(crate::proofs::ArchLemmas::distinct_rules))]
     pub fn archs(&self, alloc: Global) -> Mem<Vec<Vec<u8>>>
         ensures { IfOk result (λ words. words_of words.items ≡ archs (words_of self.now.arch_args.items)) }

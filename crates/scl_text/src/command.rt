@@ -1,4 +1,4 @@
-//! What every builder of a command uses: words put behind words, copies, and the command of its parts.
+//! What every builder of a command uses: appending words, copies, and the command of its parts.
 ghost use Rattle.std.specs.Prelude.{◌≡◌, ◌↔◌, ◌++◌, ◌∷◌, [], false, OnOk, OnErr, IfOk, IsOk, Err, None};
 ghost use Rattle.std.specs.Option.{option_map};
 ghost use Rattle.std.specs.String.{string_bytes};
@@ -14,7 +14,7 @@ use crate::records::{Cacheable, CommandError, ParsedArguments, SingleCompileComm
 use scl_args::Mem;
 use std::alloc::Global;
 
-/// Puts a copy of a word behind those of a list. It fails only for want of memory, and leaves the list as it was.
+/// Appends a copy of a word. If it fails, the list is unchanged.
 pub fn push_word(alloc: Global, list: &mut Vec<Vec<u8>>, word: &[u8]) -> Mem<()>
     ensures ok { OnOk result (words_of list.new.items ≡ words_of list.old.items ++ word.now ∷ []) }
     ensures err { OnErr result (list.new.items ≡ list.old.items) }
@@ -23,7 +23,7 @@ pub fn push_word(alloc: Global, list: &mut Vec<Vec<u8>>, word: &[u8]) -> Mem<()>
     Ok(())
 }
 
-/// Puts copies of words behind those of a list. It fails only for want of memory; the first of them may stand there then.
+/// Appends copies of words. If it fails, the first of them may have been appended.
 pub fn push_words(alloc: Global, list: &mut Vec<Vec<u8>>, words: &[Vec<u8>]) -> Mem<()>
     ensures ok { OnOk result (words_of list.new.items ≡ words_of list.old.items ++ words_of words.now) }
     ensures err { OnErr result (HasFirstOf (words_of list.old.items) (words_of words.now) (words_of list.new.items)) }
@@ -34,7 +34,7 @@ pub fn push_words(alloc: Global, list: &mut Vec<Vec<u8>>, words: &[Vec<u8>]) -> 
     Ok(())
 }
 
-/// Copies of words. It fails only for want of memory.
+/// Copies of words.
 pub fn copy_words(alloc: Global, words: &[Vec<u8>]) -> Mem<Vec<Vec<u8>>>
     ensures { IfOk result (λ copies. words_of copies.items ≡ words_of words.now) }
 {
@@ -43,7 +43,7 @@ pub fn copy_words(alloc: Global, words: &[Vec<u8>]) -> Mem<Vec<Vec<u8>>>
     Ok(copies)
 }
 
-/// Puts words behind those of a list. It fails only for want of memory, and leaves the list as it was.
+/// Appends words. If it fails, the list is unchanged.
 pub fn append_words(list: &mut Vec<Vec<u8>>, words: Vec<Vec<u8>>) -> Mem<()>
     ensures ok { OnOk result (words_of list.new.items ≡ words_of list.old.items ++ words_of words.items) }
     ensures err { OnErr result (list.new.items ≡ list.old.items) }
@@ -52,8 +52,7 @@ pub fn append_words(list: &mut Vec<Vec<u8>>, words: Vec<Vec<u8>>) -> Mem<()>
     list.append(&mut words)
 }
 
-/// Puts `--` behind words, where an input stands behind it, and else does nothing. It fails only for want of memory, and
-/// leaves the list as it was.
+/// Appends `--` if an input follows it. If it fails, the list is unchanged.
 pub fn push_dashes(alloc: Global, list: &mut Vec<Vec<u8>>, is_behind_dashes: bool) -> Mem<()>
     ensures ok { OnOk result (words_of list.new.items ≡ words_of list.old.items ++ dash_words is_behind_dashes) }
     ensures err { OnErr result (list.new.items ≡ list.old.items) }
@@ -65,7 +64,7 @@ pub fn push_dashes(alloc: Global, list: &mut Vec<Vec<u8>>, is_behind_dashes: boo
     Ok(())
 }
 
-/// A copy of a text, where there is one. It fails only for want of memory, and where there is none not at all.
+/// A copy of a text, if there is one. Without a text it does not fail.
 pub fn copy_text(alloc: Global, text: &Option<String>) -> Mem<Option<String>>
     ensures copy { IfOk result (λ copy. option_map string_bytes copy ≡ option_map string_bytes text.now) }
     ensures none { option_map string_bytes text.now ≡ None → IsOk result }
@@ -76,7 +75,7 @@ pub fn copy_text(alloc: Global, text: &Option<String>) -> Mem<Option<String>>
     }
 }
 
-/// Copies of pairs of a key and a value. It fails only for want of memory.
+/// Copies of pairs of a key and a value.
 pub fn copy_pairs(alloc: Global, pairs: &[(Vec<u8>, Vec<u8>)]) -> Mem<Vec<(Vec<u8>, Vec<u8>)>>
     ensures { IfOk result (λ copies. pairs_of copies.items ≡ pairs_of pairs.now) }
 {
@@ -89,8 +88,7 @@ pub fn copy_pairs(alloc: Global, pairs: &[(Vec<u8>, Vec<u8>)]) -> Mem<Vec<(Vec<u
     Ok(copies)
 }
 
-/// The command of a program, its words, its environment and its directory, without a job server. It fails only for want of
-/// memory.
+/// The command of a program: its words, its environment and its directory, without a job server.
 pub fn single_command(
     alloc: Global,
     executable: &[u8],
@@ -109,7 +107,7 @@ pub fn single_command(
     })
 }
 
-/// What gives the words of a record's compile command.
+/// Makes the words of a record's compile command.
 pub trait CommandWords {
     ghost use Rattle.std.specs.Prelude.{ℕ, List};
     ghost use Rattle.scl_text.specs.Records.{Parsed};
@@ -117,13 +115,13 @@ pub trait CommandWords {
     /// The words of a record's command, for this object.
     ghost words: { Self → Parsed → List ℕ → List (List ℕ) };
 
-    /// The words that make this object file. It fails only for want of memory.
+    /// The words that make this object file.
     fn words(&self, alloc: Global, parsed: ParsedArguments, object: &[u8]) -> Mem<Vec<Vec<u8>>>
         ensures { IfOk result (λ made. words_of made.items ≡ words self.now (parsed_of parsed) object.now) };
 }
 
-/// The compile command of a record, and whether its outcome may be kept. The errors are `MissingObj`, exactly where the
-/// record has no output `obj`, and the refusal of memory.
+/// The compile command of a record, and whether its result can be cached. The error is `MissingObj` exactly if the record has
+/// no output `obj`, else `Memory`.
 pub fn compile_command<W: CommandWords>(
     alloc: Global,
     words: &W,

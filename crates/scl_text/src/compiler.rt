@@ -1,4 +1,4 @@
-//! What every compiler answers.
+//! The calls of every compiler.
 use crate::command::copy_words;
 use crate::records::{
     CCompilerKind, Cacheable, CommandError, CompilerArguments, ParsedArguments,
@@ -8,7 +8,8 @@ use scl_args::Mem;
 use scl_files::view::View;
 use std::alloc::Global;
 
-/// A compiler whose command lines are read and built. The ghost members are its own definitions (docs/RULES.md, Compilers).
+/// A compiler: its command lines are read, and its commands built. The ghost members are its definitions (docs/RULES.md,
+/// Compilers).
 pub trait CCompilerImpl {
     ghost use Rattle.std.specs.Prelude.{◌≡◌, ◌↔◌, ℕ, Bool, List, Option, None, Result, Ok, IfOk, IsOk};
     ghost use Rattle.std.specs.Option.{option_map};
@@ -22,10 +23,10 @@ pub trait CCompilerImpl {
     ghost use Rattle.scl_text.specs.declared.records.CCompilerKind.{CCompilerKind};
     ghost use Rattle.scl_text.specs.declared.records.Cacheable.{Cacheable};
 
-    /// What `kind` answers.
+    /// The result of `kind`.
     ghost kind_of: { Self → CCompilerKind };
 
-    /// What `plusplus` answers.
+    /// The result of `plusplus`.
     ghost plusplus_of: { Self → Bool };
 
     /// The text that `version` copies.
@@ -40,13 +41,13 @@ pub trait CCompilerImpl {
     /// The words of the command of a record, for this object.
     ghost command: { Self → Parsed → List ℕ → List (List ℕ) };
 
-    /// The environment that the command gets.
+    /// The environment of the command.
     ghost environment: { Self → List (List ℕ × List ℕ) → List (List ℕ × List ℕ) };
 
-    /// Whether the outcome of a record's command may be kept, by directory and view.
+    /// Whether the result of a record's command can be cached, by directory and view.
     ghost cacheable: { Self → Parsed → List ℕ → Viewed → Cacheable };
 
-    /// Of a command line (words, directory, environment, view), its record and these words: the words are read again as
+    /// Of a command line (words, directory, environment, view), its record and these words: the words are read again, and say
     /// what the command line says.
     ghost is_read_again: { Self → List (List ℕ) → List ℕ → List (List ℕ × List ℕ) → Viewed → Parsed → List (List ℕ) → Type 0 };
 
@@ -61,15 +62,14 @@ pub trait CCompilerImpl {
     fn plusplus(&self) -> bool
         ensures { result ≡ plusplus_of self.now };
 
-    /// A copy of its version, if it is known (docs/RULES.md, Compilers). It fails only for want of memory, and where no
-    /// version is known not at all.
+    /// A copy of its version, if it is known (docs/RULES.md, Compilers). If no version is known, it does not fail.
     fn version(&self, alloc: Global) -> Mem<Option<String>>
         ensures copy { IfOk result (λ version. option_map string_bytes version ≡ version_of self.now) }
         ensures none { version_of self.now ≡ None → IsOk result };
 
-    /// What the words of a command line, which are handed over, say; the directory and the view answer what they ask of
-    /// files. Where they have a record with an output `obj`, its command is read again (docs/RULES.md, Compilers, and
-    /// Cutting again). It fails only for want of memory.
+    /// The outcome of a command line. It takes ownership of the words; the directory and the view are for what they ask of
+    /// files. If the outcome is a record with an output `obj`, its command is read again (docs/RULES.md, Compilers, and
+    /// Cutting again).
     fn parse_arguments_owned(
         &self,
         alloc: Global,
@@ -81,7 +81,7 @@ pub trait CCompilerImpl {
         ensures outcome { IfOk result (λ answer. outcome_of answer ≡ reading self.now (words_of arguments.items) cwd.now (pairs_of env_vars.now) view.now) }
         ensures read_again { IfOk result (λ answer. IfCommand (command_by (command self.now)) (is_read_again self.now (words_of arguments.items) cwd.now (pairs_of env_vars.now) view.now) (outcome_of answer)) };
 
-    /// What `parse_arguments_owned` gives for copies of the words. It fails only for want of memory.
+    /// What `parse_arguments_owned` gives, with a copy of the words.
     fn parse_arguments(
         &self,
         alloc: Global,
@@ -97,9 +97,9 @@ pub trait CCompilerImpl {
         self.parse_arguments_owned(alloc, arguments, cwd, env_vars, view)
     }
 
-    /// The command of a record, which is handed over, and whether its outcome may be kept. The command of a record that was
-    /// read is read again (docs/RULES.md, Compilers, and Cutting again). The errors are `MissingObj`, exactly where the record
-    /// has no output `obj`, and the refusal of memory.
+    /// The command of a record, and whether its result can be cached. It takes ownership of the record. If the record is the
+    /// outcome of a command line, the command is read again (docs/RULES.md, Compilers, and Cutting again). The error is
+    /// `MissingObj` exactly if the record has no output `obj`, else `Memory`.
     fn generate_compile_commands_owned(
         &self,
         alloc: Global,
@@ -114,7 +114,7 @@ pub trait CCompilerImpl {
             reading self.now line directory pairs files ≡ Ok (parsed_of parsed) → is_read_again self.now line directory pairs files (parsed_of parsed) (words_of answer.0.arguments.items)) }
         ensures missing { (result ≡ Err CommandError.MissingObj) ↔ (object_of (parsed_of parsed) ≡ None) };
 
-    /// What `generate_compile_commands_owned` gives for a copy of the record, with the same errors.
+    /// What `generate_compile_commands_owned` gives, with a copy of the record; the errors are the same.
     fn generate_compile_commands(
         &self,
         alloc: Global,
@@ -133,15 +133,16 @@ pub trait CCompilerImpl {
         self.generate_compile_commands_owned(alloc, executable, parsed, cwd, env_vars, view)
     }
 
-    /// A copy of the assembler's digest, if it is known (docs/RULES.md, Compilers). It fails only for want of memory, and
-    /// where no digest is known not at all.
+    /// A copy of the assembler's digest, if it is known (docs/RULES.md, Compilers). If no digest is known, it does not fail.
     fn assembler_digest(&self, alloc: Global) -> Mem<Option<String>>
         ensures copy { IfOk result (λ digest. option_map string_bytes digest ≡ digest_of self.now) }
         ensures none { digest_of self.now ≡ None → IsOk result };
 
-    /// The words of the runs of the preprocessor for a record, in order: for a distant compiler or not, with macros left in
-    /// place where that is asked, for a cache of preprocessor runs or not (docs/RULES.md, Preprocessing). It fails only for
-    /// want of memory.
+    /// The words of the preprocessor's runs for a record, in order (docs/RULES.md, Preprocessing):
+    ///
+    /// - `may_dist`: for a distant compiler;
+    /// - `rewrite_includes_only`: macros are left in place, if the compiler can do so;
+    /// - `cache_mode`: for a cache of preprocessor runs.
     fn preprocess_passes(
         &self,
         alloc: Global,

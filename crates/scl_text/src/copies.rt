@@ -42,7 +42,7 @@ fn copy_outputs(
 }
 
 impl ParsedArguments {
-    /// A copy of the record. It fails only for want of memory.
+    /// A copy of the record.
     pub fn copy(&self, alloc: Global) -> Mem<ParsedArguments>
         ensures { IfOk result (λ copy. parsed_of copy ≡ parsed_of self.now) }
     {
@@ -73,8 +73,8 @@ impl ParsedArguments {
         })
     }
 
-    /// A copy of a record that has a command. The errors are `MissingObj`, exactly where the record has no output `obj`, and
-    /// the refusal of memory.
+    /// A copy of a record that has a command. The error is `MissingObj` exactly if the record has no output `obj`, else
+    /// `Memory`.
     pub fn copy_for_command(&self, alloc: Global) -> Result<ParsedArguments, CommandError>
         ensures copy { IfOk result (λ copy. parsed_of copy ≡ parsed_of self.now) }
         ensures missing { (result ≡ Err CommandError.MissingObj) ↔ (object_of (parsed_of self.now) ≡ None) }

@@ -17,7 +17,7 @@ use scl_args::{
 };
 use std::alloc::Global;
 
-/// What says why options are refused, each after those before it (docs/RULES.md, Lists of options).
+/// A judge says why options are refused; each is judged given those before it (docs/RULES.md, Lists of options).
 pub trait Judge<T: ArgumentValue> {
     ghost use Rattle.std.specs.Prelude.{◌≡◌, List, Option, IfOk, map};
     ghost use Rattle.std.specs.Option.{option_map};
@@ -25,10 +25,10 @@ pub trait Judge<T: ArgumentValue> {
     ghost use Rattle.scl_text.specs.Records.{Verdict};
     ghost use Rattle.scl_text.specs.Refusals.{verdict_of};
 
-    /// Why an option is refused, if it is, after those before it.
+    /// Why an option is refused, given those before it, if it is.
     ghost verdict: { Self → List (Seen T.Kind) → Seen T.Kind → Option Verdict };
 
-    /// Why the option is refused, if it is. It fails only for want of memory.
+    /// Why the option is refused, if it is.
     fn judge(
         &self,
         alloc: Global,
@@ -39,8 +39,8 @@ pub trait Judge<T: ArgumentValue> {
             ≡ verdict self.now (map (seen T.kind_of T.word_of) before.now) (seen T.kind_of T.word_of option.now)) };
 }
 
-/// The refusal of an option, after those before it: that of an empty value, where its row in the tables takes one either way,
-/// else the judge's (docs/RULES.md, Readings). It fails only for want of memory.
+/// The refusal of an option, given those before it: of an empty value if its row in the tables has an either shape, else the
+/// judge's (docs/RULES.md, Readings).
 pub fn refusal_of<T: ReadArg, S: SearchableArgInfo<T>, J: Judge<T>>(
     alloc: Global,
     judge: &J,
@@ -57,8 +57,8 @@ pub fn refusal_of<T: ReadArg, S: SearchableArgInfo<T>, J: Judge<T>>(
     judge.judge(alloc, before, option)
 }
 
-/// The refusal of the first option that is refused: for an empty value, where its row in the tables takes one either way,
-/// else by the judge (docs/RULES.md, Readings). It fails only for want of memory.
+/// The refusal of the first option that is refused: for an empty value of an either row, else by the judge (docs/RULES.md,
+/// Readings).
 fn first_refusal<T: ReadArg, S: SearchableArgInfo<T>, J: Judge<T>>(
     alloc: Global,
     judge: &J,
@@ -76,9 +76,9 @@ fn first_refusal<T: ReadArg, S: SearchableArgInfo<T>, J: Judge<T>>(
     Ok(None)
 }
 
-/// The finished list of the options that words were cut into by the tables; refused as the first option that is refused,
-/// for an empty value or by the judge, else for a last flag without its value (docs/RULES.md, Readings). It stops only so,
-/// or for want of memory.
+/// The finished list of the options that words were cut into by the tables. It is refused as its first refused option is, for
+/// an empty value or by the judge; else for a last flag without a value (docs/RULES.md, Readings). The only other error is a
+/// refused allocation.
 pub fn judge_all<T: ReadArg, S: SearchableArgInfo<T>, J: Judge<T>>(
     alloc: Global,
     judge: &J,

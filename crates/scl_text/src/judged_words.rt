@@ -14,8 +14,8 @@ use scl_files::expand::{ExpansionKind, expand_words};
 use scl_files::view::View;
 use std::alloc::Global;
 
-/// What words are cut into in which response files of the kind are put in place from the directory; nothing is judged
-/// (docs/RULES.md, Expansion, and Cutting). It fails only for want of memory.
+/// What the words are cut into, with response files of this kind expanded, from the directory. Nothing is judged
+/// (docs/RULES.md, Expansion, and Cutting).
 pub fn cut_line<T: ExactArg, S: SearchableArgInfo<T> + Drop>(
     alloc: Global,
     kind: ExpansionKind,
@@ -35,9 +35,9 @@ pub fn cut_line<T: ExactArg, S: SearchableArgInfo<T> + Drop>(
     cut_options(alloc, words, arg_info, double_dashes)
 }
 
-/// The options of words without response files, where none is refused and the last flag has its value; else the first
-/// refusal, of an empty value or the judge's, or that of a dangling end (docs/RULES.md, Readings). It stops only so, or for
-/// want of memory.
+/// The options of words without response files, if none is refused and the last flag has its value. Else the first refusal,
+/// for an empty value or by the judge, or that of a dangling end (docs/RULES.md, Readings). The only other error is a refused
+/// allocation.
 pub fn judge_cut<T: ExactArg + ReadArg, S: SearchableArgInfo<T> + Drop, J: Judge<T>>(
     alloc: Global,
     words: Vec<Vec<u8>>,
@@ -53,9 +53,9 @@ pub fn judge_cut<T: ExactArg + ReadArg, S: SearchableArgInfo<T> + Drop, J: Judge
     judge_all(alloc, judge, &arg_info, cut)
 }
 
-/// The options of words in which response files of the kind are put in place from the directory, where none is refused and
-/// the last flag has its value; else the first refusal, of an empty value or the judge's, or that of a dangling end
-/// (docs/RULES.md, Readings, and Expansion). It stops only so, or for want of memory.
+/// The options of words with response files of this kind expanded, from the directory, if none is refused and the last flag
+/// has its value. Else the first refusal, for an empty value or by the judge, or that of a dangling end (docs/RULES.md,
+/// Readings, and Expansion). The only other error is a refused allocation.
 pub fn judge_words<T: ExactArg + ReadArg, S: SearchableArgInfo<T> + Drop, J: Judge<T>>(
     alloc: Global,
     kind: ExpansionKind,

@@ -8,33 +8,33 @@ use scl_files::path::extension;
 /// A language of source files (docs/RULES.md, Languages).
 #[derive(Debug, Clone, Copy, PartialEq, Eq)]
 pub enum Language {
-    /// Assembler that is compiled as it stands.
+    /// Assembler that needs no preprocessor.
     Assembler,
-    /// Assembler that the C preprocessor runs over first.
+    /// Assembler that the C preprocessor runs on first.
     AssemblerToPreprocess,
     /// C.
     C,
-    /// A header that `-x c-header` calls one of C.
+    /// A C header, as `-x c-header` has it.
     CHeader,
-    /// A header with the extension `h`, which does not say of which language; no text of `-x` names it.
+    /// A header with the extension `h`, of any language; no text of `-x` names it.
     GenericHeader,
     /// C++.
     Cxx,
-    /// A header of C++.
+    /// A C++ header.
     CxxHeader,
-    /// A module interface of C++.
+    /// A C++ module interface.
     CxxModule,
     /// Objective-C.
     ObjectiveC,
-    /// A header that `-x objective-c-header` calls one of Objective-C.
+    /// An Objective-C header, as `-x objective-c-header` has it.
     ObjectiveCHeader,
     /// Objective-C++.
     ObjectiveCxx,
-    /// A header that `-x objective-c++-header` calls one of Objective-C++.
+    /// An Objective-C++ header, as `-x objective-c++-header` has it.
     ObjectiveCxxHeader,
     /// CUDA.
     Cuda,
-    /// Rust; neither gcc nor clang is given a text for it.
+    /// Rust; it has no text for `-x` of gcc or clang.
     Rust,
     /// HIP.
     Hip,
@@ -74,7 +74,7 @@ static EXTENSIONS: [(&'static str, Language); 30] = [
     ("hip", Language::Hip),
 ];
 
-/// The texts that are read behind `-x`.
+/// The texts that are read after `-x`.
 static READ_TEXTS: [(&'static str, Language); 15] = [
     ("assembler", Language::Assembler),
     ("assembler-with-cpp", Language::AssemblerToPreprocess),
@@ -105,7 +105,7 @@ fn language_named(rows: &[(&'static str, Language)], text: &[u8]) -> Option<Lang
 }
 
 impl Language {
-    /// The language of a file, by the extension of its name; `None` without an extension, or where the table has none such
+    /// The language of a file, by the extension of its name; `None` if it has no extension or the table does not have it
     /// (docs/RULES.md, Languages).
     pub fn from_file_name(path: &[u8]) -> Option<Language>
         ensures { result ≡ language_of_file_name path.now }
@@ -113,15 +113,15 @@ impl Language {
         language_named(&EXTENSIONS, extension(path)?)
     }
 
-    /// The language that a text behind `-x` names: a text that gcc or clang is given, or `rs`; `None` for any other text
-    /// (docs/RULES.md, Languages).
+    /// The language that a text after `-x` names: a text of gcc or clang, or `rs`; `None` for any other text (docs/RULES.md,
+    /// Languages).
     pub fn from_gcc_arg(text: &[u8]) -> Option<Language>
         ensures { result ≡ language_of_gcc_text text.now }
     {
         language_named(&READ_TEXTS, text)
     }
 
-    /// The text that gcc's `-x` takes for the language, if there is one (docs/RULES.md, Languages).
+    /// The text of the language for gcc's `-x`, if it has one (docs/RULES.md, Languages).
     pub fn to_gcc_arg(self) -> Option<&'static str>
         ensures { option_copied result ≡ gcc_text self }
     {
@@ -144,7 +144,7 @@ impl Language {
         }
     }
 
-    /// The text that clang's `-x` takes for the language: gcc's, but `cuda` for Cuda (docs/RULES.md, Languages).
+    /// The text of the language for clang's `-x`: gcc's, except `cuda` for Cuda (docs/RULES.md, Languages).
     pub fn to_clang_arg(self) -> Option<&'static str>
         ensures { option_copied result ≡ clang_text self }
     {
@@ -167,7 +167,7 @@ impl Language {
         }
     }
 
-    /// Whether the C preprocessor runs before the language is compiled: not for Assembler and Rust.
+    /// Whether the C preprocessor runs before the language is compiled: for all but Assembler and Rust.
     pub fn needs_c_preprocessing(self) -> bool
         ensures { result ≡ needs_c_preprocessing self }
     {

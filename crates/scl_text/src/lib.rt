@@ -1,4 +1,4 @@
-//! Languages, records, refusals and commands, with the paths, files and response files that they stand on.
+//! Languages, records, refusals and commands; and the paths, files and response files that they use.
 #![tactic(auto)]
 
 mod archs;

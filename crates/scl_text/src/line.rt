@@ -1,4 +1,4 @@
-//! A command line, given or inner, cut and judged: all that is said of its options.
+//! A command line, given or inner, cut and judged: its options, and what is said of them.
 ghost use Rattle.std.specs.Prelude.{◌≡◌, [], None, IfOk, IsTrue, drop, length, map, unwrap_or};
 ghost use Rattle.std.specs.Option.{option_and_then, option_copied, option_map};
 ghost use Rattle.scl_args.specs.Empties.{refusing_empty};
@@ -26,14 +26,14 @@ use scl_files::{Sourced, behind, first_at};
 use std::alloc::Global;
 use std::marker::Model;
 
-/// A last flag that lacks its value.
+/// A last flag without its value.
 #[derive(Debug, Drop)]
 pub struct Dangling<K> {
-    /// The word that it stands in.
+    /// The word that has the flag.
     pub word: Vec<u8>,
-    /// The flag and the kind of the row that owns it, if one does.
+    /// The flag and the kind of the row that owns the word, if one does.
     pub owner: Option<(&'static str, K)>,
-    /// The index of the given word that brought it, if one did.
+    /// The index of the given word from which the word came, if it came from one.
     pub at: Option<usize>,
 }
 
@@ -55,7 +55,7 @@ impl<T: ReadArg> Model for Line<T> {
     ghost view = { λ l. record { options = l.options; ats = l.ats.items; refusals = verdicts_of l.refusals.items; dangling = option_map dangled_of l.dangling } };
 }
 
-/// How many words the option was cut from.
+/// The number of words that the option was cut from.
 pub fn word_count<T: ArgumentValue>(option: &Argument<T>) -> usize
     ensures { result ≡ length (spelled (seen T.kind_of T.word_of option.now)) }
 {
@@ -76,7 +76,7 @@ pub fn word_count<T: ArgumentValue>(option: &Argument<T>) -> usize
     }
 }
 
-/// Of each option, the index that its first word has.
+/// Of each option, the index of its first word.
 fn ats_of<T: ArgumentValue>(
     alloc: Global,
     options: &[Argument<T>],
@@ -93,7 +93,7 @@ fn ats_of<T: ArgumentValue>(
     Ok(own)
 }
 
-/// Of each option, why it is refused after those before it, if it is.
+/// Of each option, why it is refused given those before it, if it is.
 fn refusals_of<T: ReadArg, S: SearchableArgInfo<T>, J: Judge<T>>(
     alloc: Global,
     arg_info: &S,
@@ -110,7 +110,7 @@ fn refusals_of<T: ReadArg, S: SearchableArgInfo<T>, J: Judge<T>>(
     Ok(refusals)
 }
 
-/// The last word, the empty one where there is none.
+/// The last word; the empty word if there is none.
 fn last_word(words: &[Vec<u8>]) -> &[u8]
     ensures { result.now ≡ unwrap_or (last (words_of words.now)) [] }
 {
@@ -131,7 +131,7 @@ fn last_at(ats: &[Option<usize>]) -> Option<usize>
     }
 }
 
-/// The end of words of which the last is a flag that lacks its value.
+/// The end of words whose last word is a flag without its value.
 fn dangling_of<T: ArgumentValue, S: SearchableArgInfo<T>>(
     arg_info: &S,
     at: Option<usize>,
@@ -147,7 +147,7 @@ fn dangling_of<T: ArgumentValue, S: SearchableArgInfo<T>>(
     Dangling { word, owner, at }
 }
 
-/// The end of words, where their last flag lacks its value.
+/// The end of words, if the last flag has no value.
 fn dangling_unless<T: ArgumentValue, S: SearchableArgInfo<T>>(
     alloc: Global,
     arg_info: &S,
@@ -176,7 +176,7 @@ fn first_some(alloc: Global, refusals: &[Option<Refusal>]) -> Mem<Option<Refusal
     Ok(None)
 }
 
-/// The refusal of an end.
+/// The refusal of a dangling end.
 fn end_refusal<K>(alloc: Global, dangling: &Option<Dangling<K>>) -> Mem<Option<Refusal>>
     ensures { IfOk result (λ refusal. option_map verdict_of refusal ≡ option_map (λ d. argument_parse) (option_map dangled_of dangling.now)) }
 {
@@ -207,7 +207,7 @@ fn ats_passing<T: ArgumentValue, P: Test<T>>(
 }
 
 impl<T: ReadArg> Line<T> {
-    /// The line of no words.
+    /// The line without words.
     pub fn none(alloc: Global) -> Line<T>
         ensures { result ≡ no_line }
     {
@@ -226,21 +226,21 @@ impl<T: ReadArg> Line<T> {
         &self.options
     }
 
-    /// Of each option, the index of the given word that brought it, if one did.
+    /// Of each option, the index of the given word from which it came, if it came from one.
     pub fn ats(&self) -> &[Option<usize>]
         ensures { result.now ≡ self.now.ats }
     {
         &self.ats
     }
 
-    /// Of each option, why it is refused after those before it, if it is.
+    /// Of each option, why it is refused given those before it, if it is.
     pub fn refusals(&self) -> &[Option<Refusal>]
         ensures { verdicts_of result.now ≡ self.now.refusals }
     {
         &self.refusals
     }
 
-    /// The last flag, where it lacks its value.
+    /// The last flag, if it has no value.
     pub fn dangling(&self) -> Option<&Dangling<T::Kind>>
         ensures { option_map (λ d. dangled_of d.now) result ≡ self.now.dangling }
     {
@@ -250,7 +250,7 @@ impl<T: ReadArg> Line<T> {
         }
     }
 
-    /// The first refusal, copied, if there is one. It fails only if memory runs out.
+    /// The first refusal, copied, if there is one.
     pub fn refusal(&self, alloc: Global) -> Mem<Option<Refusal>>
         ensures { IfOk result (λ refusal. option_map verdict_of refusal ≡ line_refusal self.now) }
     {
@@ -260,7 +260,7 @@ impl<T: ReadArg> Line<T> {
         }
     }
 
-    /// Stops with the first refusal, if there is one, or if memory runs out.
+    /// Stops with the first refusal, if there is one; else only if an allocation fails.
     pub fn check(&self, alloc: Global) -> Result<(), Stop>
         ensures { Gives (λ _. self.now.options) result (line_options self.now) }
     {
@@ -270,8 +270,7 @@ impl<T: ReadArg> Line<T> {
         }
     }
 
-    /// The words that options hand on, which are the texts of those that pass, with the options' indices. It fails only if
-    /// memory runs out.
+    /// The words for an inner command line: the texts of the options that pass, with the indices of these options.
     #[tactic(auto, using(crate::proofs::LineLaws::passing_count, crate::proofs::LineLaws::words_count))]
     pub fn handed_on<P: Test<T>>(&self, alloc: Global, test: &P) -> Mem<Sourced>
         ensures words { IfOk result (λ inner. words_of inner.words.items ≡ texts (P.passes test.now) self.now.options) }
@@ -285,8 +284,7 @@ impl<T: ReadArg> Line<T> {
 }
 
 impl<T: ExactArg + ReadArg> Line<T> {
-    /// Words that given ones brought, cut by the tables and judged: nothing stops at a refusal. It fails only if memory
-    /// runs out.
+    /// The line of these words, cut by the tables and judged. It does not stop at a refusal.
     #[tactic(auto, unfolding(crate::specs::Lines::line_by))]
     pub fn read<S: SearchableArgInfo<T>, J: Judge<T>>(
         alloc: Global,

@@ -12,8 +12,7 @@ use scl_files::path::with_extension;
 use std::alloc::Global;
 use std::collections::BTreeMap;
 
-/// Puts an output at its name, in place of one of that name (docs/RULES.md, Records). It fails only for want of memory, and
-/// leaves the outputs as they were.
+/// Adds an output; it replaces one of the same name (docs/RULES.md, Records). If it fails, the outputs are unchanged.
 #[tactic(auto, using(crate::proofs::OutputLemmas::put_entry))]
 pub fn put_output(
     alloc: Global,
@@ -40,8 +39,7 @@ pub fn output_path<'a>(
     Some(&outputs.get(name)?.path)
 }
 
-/// Puts an output at its name, if there is a path for it, and else does nothing (docs/RULES.md, Records). It fails only for
-/// want of memory, and leaves the outputs as they were.
+/// Adds an output if there is a path for it (docs/RULES.md, Records). If it fails, the outputs are unchanged.
 pub fn put_optional(
     alloc: Global,
     outputs: &mut BTreeMap<String, ArtifactDescriptor>,
@@ -59,7 +57,7 @@ pub fn put_optional(
     }
 }
 
-/// A copy of the path, if there is one. It fails only for want of memory, and where there is no path not at all.
+/// A copy of the path, if there is one. Without a path it does not fail.
 pub fn copy_path(alloc: Global, path: Option<&[u8]>) -> Mem<Option<Vec<u8>>>
     ensures copy { IfOk result (λ copy. path_of copy ≡ option_copied path.entry) }
     ensures none { path.entry ≡ None → IsOk result }
@@ -70,7 +68,7 @@ pub fn copy_path(alloc: Global, path: Option<&[u8]>) -> Mem<Option<Vec<u8>>>
     }
 }
 
-/// The path with this extension, if it is wanted. It fails only for want of memory, and where it is not wanted not at all.
+/// The path with this extension, if it is wanted; otherwise None, and it does not fail.
 pub fn with_extension_if(
     alloc: Global,
     is_wanted: bool,

@@ -1,4 +1,4 @@
-//! A command line, given or inner: its words with response files put in place, and what they are cut into.
+//! A command line, given or inner: its words with response files expanded, and what they are cut into.
 ghost use Rattle.std.specs.Prelude.{◌≡◌, IfOk, IsTrue};
 ghost use Rattle.scl_files.specs.Expanded.{expanded_of};
 ghost use Rattle.scl_values.specs.Tables.{owner_in, tables_hold_values};
@@ -12,7 +12,7 @@ use scl_files::Expanded;
 use std::alloc::Global;
 use std::marker::Model;
 
-/// A command line, given or inner, with response files put in place, cut and judged.
+/// A command line, given or inner, with response files expanded, cut and judged.
 #[derive(Drop)]
 pub struct ReadLine<T: ReadArg> {
     words: Vec<Vec<u8>>,
@@ -31,7 +31,7 @@ impl<T: ReadArg> Model for ReadLine<T> {
 }
 
 impl<T: ReadArg> ReadLine<T> {
-    /// The line of no words.
+    /// The line without words.
     pub fn none(alloc: Global) -> ReadLine<T>
         ensures { result ≡ nothing_read }
     {
@@ -43,7 +43,7 @@ impl<T: ReadArg> ReadLine<T> {
         }
     }
 
-    /// Its words, with response files put in place.
+    /// Its words, with response files expanded.
     pub fn words(&self) -> &[Vec<u8>]
         ensures { words_of result.now ≡ self.now.words }
     {
@@ -57,14 +57,14 @@ impl<T: ReadArg> ReadLine<T> {
         &self.line
     }
 
-    /// The texts of the response files that were put in place, in the order in which they were first opened, each once.
+    /// The texts of the response files that were expanded, in the order of their first opening, each once.
     pub fn texts(&self) -> &[Vec<u8>]
         ensures { words_of result.now ≡ self.now.texts }
     {
         &self.texts
     }
 
-    /// The paths of the response files that the view lacks, in order and as often as they are asked for.
+    /// The paths of the response files that the view does not have, in order and as often as they are asked for.
     pub fn lacked(&self) -> &[Vec<u8>]
         ensures { words_of result.now ≡ self.now.lacked }
     {
@@ -73,8 +73,7 @@ impl<T: ReadArg> ReadLine<T> {
 }
 
 impl<T: ExactArg + ReadArg> ReadLine<T> {
-    /// Words in which response files were put in place, cut by the tables and judged: nothing stops at a refusal. It fails
-    /// only if memory runs out.
+    /// The line of expanded words, cut by the tables and judged. It does not stop at a refusal.
     pub fn read<S: SearchableArgInfo<T>, J: Judge<T>>(
         alloc: Global,
         arg_info: &S,

@@ -1,9 +1,9 @@
 //! The reasons of refusals that several compilers share (docs/RULES.md, Readings).
 
-/// A value names a response file that was not put in its place.
+/// A value names a response file that was not expanded.
 pub const UNEXPANDED_FILE: &str = "@";
 
-/// A value is empty that its flag takes either way, joined or apart.
+/// The value of an either row is empty.
 pub const EMPTY_VALUE: &str = "empty value";
 
 /// The words can't be cut.
@@ -12,13 +12,13 @@ pub const ARGUMENT_PARSE: &str = "argument parse";
 /// The text beside `ARGUMENT_PARSE`: that of `ArgParseError::UnexpectedEndOfArgs`.
 pub const UNEXPECTED_END: &str = "Unexpected end of args";
 
-/// Several inputs are named.
+/// There are several inputs.
 pub const MULTIPLE_INPUT_FILES: &str = "multiple input files";
 
-/// No input is named.
+/// There is no input.
 pub const NO_INPUT_FILE: &str = "no input file";
 
-/// Nothing tells the input's language.
+/// The input's language is unknown.
 pub const UNKNOWN_SOURCE_LANGUAGE: &str = "unknown source language";
 
 /// The input has no file name.

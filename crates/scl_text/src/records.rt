@@ -18,12 +18,12 @@ pub enum ColorMode {
     Auto,
 }
 
-/// Whether the outcome of a command may be kept in the cache.
+/// Whether the result of a command can be cached.
 #[derive(Debug, Clone, Copy, PartialEq, Eq)]
 pub enum Cacheable {
-    /// It may be kept.
+    /// It can be cached.
     Yes,
-    /// It may not be kept.
+    /// It can't be cached.
     No,
 }
 
@@ -51,65 +51,64 @@ pub struct ArtifactDescriptor {
     pub optional: bool,
 }
 
-/// The outcome of reading a command line: what was read; or that it can't be cached, with a reason and
-/// perhaps a text beside it; or that it is no compilation (docs/RULES.md, Records).
+/// The outcome of reading a command line (docs/RULES.md, Records).
 #[derive(Debug, PartialEq, Eq, Drop)]
 pub enum CompilerArguments<T> {
     /// What was read.
     Ok(T),
-    /// The reason, and perhaps a text that tells more.
+    /// The result can't be cached: the reason, and perhaps a text with details.
     CannotCache(&'static str, Option<String>),
-    /// No compilation is asked for.
+    /// The line compiles nothing.
     NotCompilation,
 }
 
-/// A command line as it was read; paths and words are bytes (docs/RULES.md, Records).
+/// The record of a command line; paths and words are bytes (docs/RULES.md, Records).
 #[derive(Debug, PartialEq, Eq, Drop)]
 pub struct ParsedArguments {
-    /// The path of the one input.
+    /// The path of the only input.
     pub input: Vec<u8>,
-    /// Whether `--` stands before the input.
+    /// Whether `--` is before the input.
     pub double_dash_input: bool,
     /// The language of the input.
     pub language: Language,
-    /// The flag that asks for a compilation.
+    /// The flag that requests a compilation.
     pub compilation_flag: Vec<u8>,
-    /// The path of the dependency file, where the compiler keeps one here.
+    /// The path of the dependency file, if the compiler keeps one in this field.
     pub depfile: Option<Vec<u8>>,
     /// What the compilation makes, by name: `obj`, and others.
     pub outputs: BTreeMap<String, ArtifactDescriptor>,
-    /// The words about dependencies.
+    /// The words that request dependencies.
     pub dependency_args: Vec<Vec<u8>>,
     /// The words for the preprocessor.
     pub preprocessor_args: Vec<Vec<u8>>,
-    /// All other words that change the outcome.
+    /// All other words that change the result.
     pub common_args: Vec<Vec<u8>>,
     /// The words that name architectures.
     pub arch_args: Vec<Vec<u8>>,
-    /// The words that do not change the outcome.
+    /// The words that do not change the result.
     pub unhashed_args: Vec<Vec<u8>>,
-    /// Files that a distant compiler needs beside the input.
+    /// Files that a distant compiler needs besides the input.
     pub extra_dist_files: Vec<Vec<u8>>,
-    /// Files on whose contents the outcome depends, beside the input.
+    /// Files, besides the input, on whose contents the result depends.
     pub extra_hash_files: Vec<Vec<u8>>,
-    /// Whether the assembler is a program of its own.
+    /// Whether the assembler is a separate program.
     pub uses_external_assembler: bool,
-    /// Whether the included files are to be printed.
+    /// Whether the included files are printed.
     pub msvc_show_includes: bool,
-    /// Whether a flag said the language of the input.
+    /// Whether a flag gives the language of the input.
     pub msvc_explicit_language: bool,
-    /// Whether the program will write a profile of its runs.
+    /// Whether the compiled program writes a profile when it runs.
     pub profile_generate: bool,
     /// Whether messages are coloured.
     pub color_mode: ColorMode,
-    /// Whether no run of the preprocessor may leave macros in place.
+    /// Whether each run of the preprocessor must expand macros.
     pub suppress_rewrite_includes_only: bool,
-    /// The flag that hides from a cache of preprocessor runs what it asks of the preprocessor.
+    /// The flag whose request to the preprocessor a cache of preprocessor runs can't see.
     pub too_hard_for_preprocessor_cache_mode: Option<Vec<u8>>,
 }
 
 impl ParsedArguments {
-    /// A record of an input, its language and the compile flag, in which all else is empty, no or `Auto`.
+    /// A record with an input, its language and the compile flag. All other fields are empty, false or `Auto`.
     pub fn bare(
         alloc: Global,
         input: Vec<u8>,
@@ -143,25 +142,25 @@ impl ParsedArguments {
     }
 }
 
-/// A command to run: program, words, environment and directory in bytes; `share_jobserver` is no.
+/// A command to run: program, words, environment and directory in bytes; `share_jobserver` is false.
 #[derive(Debug, PartialEq, Eq, Drop)]
 pub struct SingleCompileCommand {
     /// The path of the program.
     pub executable: Vec<u8>,
-    /// The words behind the program.
+    /// The words after the program.
     pub arguments: Vec<Vec<u8>>,
     /// The keys and values of the environment, in order.
     pub env_vars: Vec<(Vec<u8>, Vec<u8>)>,
     /// The path of the directory to run in.
     pub cwd: Vec<u8>,
-    /// Whether it shares the job server of the caller: always no.
+    /// Whether it shares the job server of the caller: always false.
     pub share_jobserver: bool,
 }
 
-/// What a run of the preprocessor gave: its status, of which 0 alone is success, and both outputs in bytes.
+/// The result of a run of the preprocessor: its status, which is 0 on success, and both outputs in bytes.
 #[derive(Debug, PartialEq, Eq, Drop)]
 pub struct PassOutput {
-    /// The status that it ended with; any other than 0 is a failure.
+    /// Its exit status; any other than 0 is a failure.
     pub status: i32,
     /// The bytes of its output.
     pub stdout: Vec<u8>,
@@ -169,13 +168,13 @@ pub struct PassOutput {
     pub stderr: Vec<u8>,
 }
 
-/// Why there is no command: the record has no output `obj`, or memory was refused.
+/// Why there is no command: the record has no output `obj`, or an allocation failed.
 #[derive(Debug, PartialEq, Eq, Drop, Error)]
 pub enum CommandError {
     /// The record has no output `obj`.
     #[error("Missing object file output")]
     MissingObj,
-    /// Memory was refused.
+    /// A memory allocation failed.
     #[error("out of memory")]
     Memory,
 }

@@ -13,18 +13,18 @@ use crate::stop::Stop;
 use scl_args::{Mem, quote_list};
 use std::alloc::Global;
 
-/// Why a command line is refused: it can't be cached, with the reason and perhaps a text beside it, or it is no compilation
-/// (docs/RULES.md, Readings).
+/// Why a command line is refused (docs/RULES.md, Readings): its result can't be cached, with the reason and perhaps a text
+/// beside it; or it is no compilation.
 #[derive(Debug, PartialEq, Eq, Drop)]
 pub enum Refusal {
-    /// The reason, and perhaps a text that tells more.
+    /// The result can't be cached: the reason, and perhaps a text with details.
     CannotCache(&'static str, Option<String>),
-    /// No compilation is asked for.
+    /// The line compiles nothing.
     NotCompilation,
 }
 
 impl Refusal {
-    /// The answer that the refusal is, with its text beside the reason.
+    /// The refusal as an answer, with its text beside the reason.
     pub fn into_answer(self) -> CompilerArguments<ParsedArguments>
         ensures outcome { outcome_of result ≡ Err (verdict_of self) }
         ensures answer { result ≡ answer_of self }
@@ -35,7 +35,7 @@ impl Refusal {
         }
     }
 
-    /// A copy of it. It fails only if memory runs out.
+    /// A copy of it.
     pub fn copy(&self, alloc: Global) -> Mem<Refusal>
         ensures { IfOk result (λ copy. verdict_of copy ≡ verdict_of self.now) }
     {
@@ -68,8 +68,7 @@ pub fn cannot_cache(reason: &'static str) -> Refusal
     Refusal::CannotCache(reason, None)
 }
 
-/// The refusal of words whose last flag lacks its value, with that error's text beside the reason (docs/RULES.md, Readings).
-/// It fails only for want of memory.
+/// The refusal of words whose last flag has no value, with that error's text beside the reason (docs/RULES.md, Readings).
 pub fn argument_parse(alloc: Global) -> Mem<Refusal>
     ensures { IfOk result (λ refusal. verdict_of refusal ≡ argument_parse) }
 {
@@ -77,8 +76,8 @@ pub fn argument_parse(alloc: Global) -> Mem<Refusal>
     Ok(Refusal::CannotCache(ARGUMENT_PARSE, Some(text)))
 }
 
-/// The one input; refused where there is none, and where there are several, with the later ones beside the reason
-/// (docs/RULES.md, Readings). It stops only so, or for want of memory.
+/// The only input. It is refused if there is none, and if there are several, with the later ones beside the reason
+/// (docs/RULES.md, Readings). The only other error is a refused allocation.
 pub fn one_input(alloc: Global, inputs: Vec<Vec<u8>>) -> Result<Vec<u8>, Stop>
     ensures { Gives (λ input. input.items) result (the_input (words_of inputs.items)) }
 {

@@ -1,4 +1,4 @@
-//! Why a reading ends before its record.
+//! Why a reading ends without a record.
 ghost use Rattle.std.specs.Prelude.{◌≡◌};
 ghost use Rattle.scl_text.specs.Stops.{answer_to};
 
@@ -12,7 +12,7 @@ use std::alloc::{AllocError, AllocFailed};
 pub enum Stop {
     /// The command line is refused.
     Refused(Refusal),
-    /// Memory is wanting.
+    /// A memory allocation failed.
     Memory,
 }
 
@@ -49,8 +49,7 @@ impl<T: Drop> From<AllocFailed<T>> for Stop {
     }
 }
 
-/// The answer that a reading gives: its record, or what it is refused for, with the text beside the reason (docs/RULES.md,
-/// Readings). It fails only where memory was wanting.
+/// The answer of a reading: its record, or its refusal with the text beside the reason (docs/RULES.md, Readings).
 pub fn into_answer(read: Result<ParsedArguments, Stop>) -> Mem<CompilerArguments<ParsedArguments>>
     ensures { result ≡ answer_to read }
 {

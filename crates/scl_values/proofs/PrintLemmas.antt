@@ -67,7 +67,7 @@ pub words_few : {K : Type 0} (option : Seen K) (items : List (Result (Vec ℕ Gl
 words_few option items h =
     (words_some (spelled option) items (spelled_few option).0 h, omega (arith, (spelled_few option).1, words_bounded (spelled option) items h.1.0 h.1.1))
 
--- the items of an option that are shown as they are, are its words
+-- the items of an option, if they print as they are, are its words
 pub texts_are_words : {K T : Type 0} (is_path : T → Bool) (kind_of : T → K) (word_of : T → List ℕ) (option : Argument T) → map word_shown (items_shown (seen is_path word_of option)) ≡ spelled (seen kind_of word_of option)
 texts_are_words p k v (argument.Raw w) = refl
 texts_are_words p k v (argument.UnknownFlag w) = refl

@@ -1,4 +1,4 @@
--- What a search for a text says of the parts before and after its first place.
+-- What a search for a text says of the parts before and after the first match.
 use Rattle.std.proofs.Common.{◌≡◌, ℕ, zero, suc, ◌<◌, ◌≤◌, true, false, nat_eq, List, [], ◌∷◌, ◌++◌, length, take, drop, None, Some, refl, sym, ap, ◌∙◌, arith, ⊎_elim}
 use Rattle.std.proofs.lemmas.Bool.{cases_Bool}
 use Rattle.std.specs.List.{starts_with}
@@ -54,7 +54,7 @@ module _ (needle rest : List ℕ) where
   after_text_found (x ∷ xs) (suc i) lacks e =
       rw (starts_not needle (x ∷ xs) (lacks 0 (omega arith))) (after_text_found xs i (λ k h. lacks (suc k) (omega arith)) e)
 
--- the same, of what a search says
+-- the same, from the result of a search
 pub split_none : (needle s : List ℕ) → FindsText needle s None → (before_text needle s ≡ s) × (after_text needle s ≡ None)
 split_none needle s lacks = (before_text_none needle s lacks, after_text_none needle s lacks)
 

@@ -1,4 +1,4 @@
--- What values are made of, by what they hold: nothing, a word or a path.
+-- What values are made from, by what they hold: nothing, a word or a path.
 use Rattle.std.specs.Prelude.{ℕ, Bool, true, false, List, []}
 
 -- a value's kind, the word that it prints, and whether that is a path

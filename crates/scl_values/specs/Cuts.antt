@@ -5,7 +5,7 @@ use Rattle.scl_values.specs.declared.argument.ArgDisposition.{ArgDisposition}
 use Rattle.scl_values.specs.declared.argument.ArgDisposition.TheVariants as how
 use Rattle.scl_values.specs.Row.{Row, Shape, bare, apart, joined, either}
 
--- an option of a command line: a word that is none, an unknown flag, a flag that takes no value, or a flag with its value
+-- an option of a command line: a raw word, an unknown flag, a flag that takes no value, or a flag with its value
 pub data Cut (K : Type 0) : Type 0 where
   raw : List ℕ → Cut K
   unknown : List ℕ → Cut K
@@ -26,7 +26,8 @@ pub record Cutting (K : Type 0) : Type 0 where
   pub options : List (Cut K)
   pub end : End
 
--- what a word is cut into: an option, or the flag of an option whose value is the next word, with how it stands where no word is left, or the mark after which all words are raw
+-- What a word is cut into: an option; or a flag whose value is the next word, with its disposition, and that of an empty
+-- value if there is no next word; or the mark. After the mark all words are raw.
 pub data Piece (K : Type 0) : Type 0 where
   whole : Cut K → Piece K
   needs_value : Row K → ArgDisposition → Option ArgDisposition → Piece K
@@ -38,12 +39,12 @@ after_delimiter None rest = rest
 after_delimiter (Some d) [] = []
 after_delimiter (Some d) (x ∷ xs) = cond (d == x) xs (x ∷ xs)
 
--- how a flag alone in the last word has the empty value: only if there is no delimiter
+-- the disposition of the empty value of a flag that is the last word: only if there is no delimiter
 abbrev pub without_value : Option ℕ → Option ArgDisposition
 without_value None = Some (how.Concatenated None)
 without_value (Some d) = None
 
--- a word that begins with the row's flag, by the row's shape and the rest
+-- a word that begins with the row's flag: by the row's shape and the rest of the word
 abbrev pub piece_at : {K : Type 0} → Row K → Shape → List ℕ → Piece K
 piece_at row bare rest = whole (flag row)
 piece_at row apart rest = needs_value row how.Separated None
@@ -68,7 +69,7 @@ abbrev pub owned_piece : {K : Type 0} → Option (Row K) → List ℕ → Piece 
 owned_piece None word = whole (cond (starts_with_dash word) (unknown word) (raw word))
 owned_piece (Some row) word = piece_at row row.shape (drop (length row.flag) word)
 
--- a word in option place, where `own` gives its owner, and with dashes the mark ends the options
+-- a word where an option may begin: `own` gives its owner; with dashes the mark ends the options
 abbrev pub piece_of : {K : Type 0} → (List ℕ → Option (Row K)) → Bool → List ℕ → Piece K
 piece_of own dashes word = cond (dashes && bytes_eq word mark) ends_options (owned_piece (own word) word)
 
@@ -76,7 +77,7 @@ piece_of own dashes word = cond (dashes && bytes_eq word mark) ends_options (own
 abbrev pub before : {K : Type 0} → Cut K → Cutting K → Cutting K
 before first others = record { options = first ∷ others.options; end = others.end }
 
--- what is left where no word follows a flag
+-- what a last flag is cut into, after which there is no word
 abbrev pub last_piece : {K : Type 0} → Row K → Option ArgDisposition → Cutting K
 last_piece row None = record { options = []; end = dangling }
 last_piece row (Some d) = record { options = with_value row [] d ∷ []; end = clean }

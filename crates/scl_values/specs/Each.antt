@@ -1,4 +1,4 @@
--- Facts of each element of a list, or of one of them.
+-- Properties of each element of a list, or of one of them.
 use Rattle.std.specs.Prelude.{◌≡◌, List, [], ◌∷◌, ◌⊎◌}
 
 -- each element has the property

@@ -2,7 +2,7 @@
 use Rattle.std.specs.Prelude.{ℕ, Bool, not, ◌&&◌, ◌+◌, ◌/◌, ◌%◌, nat_le, nat_lt, ◌==◌, List, [], ◌∷◌, ◌++◌, if◌then◌else◌, codes}
 use Rattle.std.specs.List.{flat_map}
 
--- whether the byte stands for itself: 21 to 7E, hexadecimal, but the backslash
+-- whether the byte is written as it is: from 21 to 7E, hexadecimal, except the backslash
 abbrev pub is_plain : ℕ → Bool
 is_plain b = nat_le 0x21 b && nat_le b 0x7e && not (b == 0x5c)
 
@@ -18,15 +18,15 @@ escape b = if is_plain b then b ∷ [] else codes "\\x" ++ digit_of (b / 16) ∷
 abbrev pub escaped : List ℕ → List ℕ
 escaped word = flat_map escape word
 
--- a word between double quotes
+-- a word in double quotes
 abbrev pub quoted : List ℕ → List ℕ
 quoted word = codes "\"" ++ escaped word ++ codes "\""
 
--- words between double quotes, with a comma and a space before each
+-- words in double quotes, a comma and a space before each
 abbrev pub quoted_behind : List (List ℕ) → List ℕ
 quoted_behind words = flat_map (λ word. codes ", " ++ quoted word) words
 
--- words between double quotes, with a comma and a space between them, in brackets
+-- words in double quotes, separated by a comma and a space, in brackets
 abbrev pub quoted_list : List (List ℕ) → List ℕ
 quoted_list [] = codes "[" ++ codes "]"
 quoted_list (word ∷ words) = codes "[" ++ quoted word ++ quoted_behind words ++ codes "]"

@@ -3,7 +3,7 @@ use Rattle.std.specs.Prelude.{ℕ, Bool, true, false, List, []}
 use Rattle.scl_values.specs.declared.held.Held.{Held}
 use Rattle.scl_values.specs.declared.held.Held.TheVariants as held
 
--- the word, empty where nothing is held
+-- the word; empty if nothing is held
 abbrev pub word_held : Held → List ℕ
 word_held held.Nothing = []
 word_held (held.Word word) = word.now

@@ -1,4 +1,4 @@
--- What a printer has yet to print of an option.
+-- What a printer of an option still has to print.
 use Rattle.std.specs.Prelude.{ℕ, Bool, true, List, [], ◌∷◌}
 use Rattle.scl_values.specs.declared.left.Left.{Left}
 use Rattle.scl_values.specs.declared.left.Left.TheVariants as left

@@ -1,4 +1,4 @@
--- Rows of a flag table, and the words that they fit.
+-- Rows of a flag table, and which words they fit.
 use Rattle.std.specs.Prelude.{ℕ, Bool, true, false, ◌==◌, ◌&&◌, List, [], ◌∷◌, length, drop, nat_eq, Option, None, Some}
 use Rattle.std.specs.List.{starts_with}
 use denote.Ref.{Bor}
@@ -7,7 +7,7 @@ use Rattle.scl_values.specs.declared.argument.ArgDisposition.TheVariants as how
 use Rattle.scl_values.specs.declared.argument.ArgRow.{ArgRow}
 use Rattle.scl_values.specs.declared.argument.ArgRow.TheVariants as info
 
--- how a row takes its value: not at all, from the next word, from the rest of the word, or either way
+-- how a row takes its value: not at all, from the next word, from the rest of the word, or from either
 pub data Shape : Type 0 where
   bare : Shape
   apart : Shape
@@ -29,7 +29,7 @@ shape_of (how.CanBeConcatenated d) = either d
 shape_of (how.CanBeSeparated d) = either d
 shape_of (how.Concatenated d) = joined d
 
--- what a row of the program says
+-- a row of the program, as a row of the definitions
 abbrev pub row_of : {K : Type 0} → ArgRow K → Row K
 row_of (info.Flag flag kind) = record { flag = flag.now; kind = kind; shape = bare }
 row_of (info.TakeArg flag kind d) = record { flag = flag.now; kind = kind; shape = shape_of d }
@@ -39,12 +39,12 @@ abbrev pub row_at : {K : Type 0} → Option (Bor (ArgRow K)) → Option (Row K)
 row_at None = None
 row_at (Some row) = Some (row_of row.now)
 
--- whether a delimiter allows that the rest of a word begins with the byte
+-- whether a delimiter allows this byte as the first of the rest of a word
 abbrev pub allows : Option ℕ → ℕ → Bool
 allows None byte = true
 allows (Some d) byte = d == byte
 
--- whether a row of the shape joins the rest of a word, which follows its flag
+-- whether a row of this shape accepts the rest of a word after its flag
 abbrev pub joins : Shape → List ℕ → Bool
 joins s [] = true
 joins bare (x ∷ xs) = false
@@ -52,6 +52,6 @@ joins apart (x ∷ xs) = false
 joins (joined d) (x ∷ xs) = allows d x
 joins (either d) (x ∷ xs) = allows d x
 
--- whether the row fits the word: the word is its flag, or begins with it and the row joins the rest
+-- whether the row fits the word: the word is its flag, or begins with it and the row accepts the rest
 abbrev pub fits : {K : Type 0} → Row K → List ℕ → Bool
 fits row word = starts_with nat_eq word row.flag && joins row.shape (drop (length row.flag) word)

@@ -1,4 +1,4 @@
--- Options moved to a side, and the words that they print.
+-- Options whose values are moved to a side, and the words that options print.
 use Rattle.std.specs.Prelude.{◌≡◌, ℕ, ◌<◌, List, [], ◌∷◌, ◌++◌, length, Option, None, Some, Result, MatchResult, Vec}
 use Rattle.std.specs.declared.alloc.AllocError.{AllocError}
 use Rattle.std.specs.declared.alloc.Global.{Global}
@@ -10,7 +10,7 @@ use Rattle.scl_values.specs.declared.argument.Argument.{Argument}
 use Rattle.scl_values.specs.declared.argument.Argument.TheVariants as argument
 use Rattle.scl_values.specs.Seen.{Seen, Raw, Unknown, Known}
 
--- how the value stands on the side, where it may stand either way
+-- the disposition of a value that is moved to this side, if its row allows both
 abbrev pub normal_how : NormalizedDisposition → ArgDisposition → ArgDisposition
 normal_how s how.Separated = how.Separated
 normal_how side.Separated (how.CanBeConcatenated d) = how.Separated
@@ -32,21 +32,21 @@ flag_at (argument.UnknownFlag w) = None
 flag_at (argument.Flag name value) = Some name.now
 flag_at (argument.WithValue name value d) = Some name.now
 
--- what an option with a flag means
+-- the value with its kind, if the option has a flag
 abbrev pub data_at : {T : Type 0} → Argument T → Option T
 data_at (argument.Raw w) = None
 data_at (argument.UnknownFlag w) = None
 data_at (argument.Flag name value) = Some value
 data_at (argument.WithValue name value d) = Some value
 
--- the word of an option without a flag, or the flag
+-- the flag, or the word of an option without a flag
 abbrev pub head_of : {T : Type 0} → Argument T → List ℕ
 head_of (argument.Raw w) = w.items
 head_of (argument.UnknownFlag w) = w.items
 head_of (argument.Flag name value) = name.now
 head_of (argument.WithValue name value d) = name.now
 
--- the delimiter before the value, if there is a value
+-- the value with the delimiter before it; nothing if the value is empty
 abbrev pub delimited : Option ℕ → List ℕ → List ℕ
 delimited d [] = []
 delimited None (x ∷ xs) = x ∷ xs
@@ -66,7 +66,8 @@ spelled (Unknown w) = w ∷ []
 spelled (Known f k v None) = f ∷ []
 spelled (Known f k v (Some d)) = spell_value f v d
 
--- a call of `next` gave the first of the words that were left and left the others; or no memory was left, and it left none
+-- a call of `next` gave the first of the words that were left, and left the others; or an allocation failed, and none are
+-- left
 abbrev pub YieldsWords : {S : Type 0} → (S → List (List ℕ)) → S → Option (Result (Vec ℕ Global) AllocError) → S → Type 0
 YieldsWords rest s None t = (rest s ≡ []) × (rest t ≡ [])
 YieldsWords rest s (Some item) t = MatchResult item (λ w. rest s ≡ w.items ∷ rest t) (λ _. (0 < length (rest s)) × (rest t ≡ []))

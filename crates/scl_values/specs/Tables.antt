@@ -16,22 +16,22 @@ has_ascii_delimiter apart = true
 has_ascii_delimiter (joined d) = is_ascii_or_none d
 has_ascii_delimiter (either d) = is_ascii_or_none d
 
--- whether the row that was found, if one was, has an ASCII delimiter or none
+-- whether the row that was found, if there is one, has an ASCII delimiter or none
 abbrev pub finds_ascii_delimiter : {K : Type 0} → Option (Row K) → Bool
 finds_ascii_delimiter None = true
 finds_ascii_delimiter (Some row) = has_ascii_delimiter row.shape
 
--- whether the flag comes before the first row's, by bytes
+-- whether the flag is less than the first row's, by bytes
 abbrev pub comes_before : {K : Type 0} → List ℕ → List (Row K) → Bool
 comes_before flag [] = true
 comes_before flag (row ∷ rows) = is_lt (slice_cmp nat_cmp flag row.flag)
 
--- whether the flags rise strictly by bytes, and the delimiters are ASCII
+-- whether the flags rise strictly by bytes, and each delimiter is ASCII
 abbrev pub is_table : {K : Type 0} → List (Row K) → Bool
 is_table [] = true
 is_table (row ∷ rows) = has_ascii_delimiter row.shape && comes_before row.flag rows && is_table rows
 
--- of two rows the one with the longer flag, and at one length the second
+-- of two rows the one with the longer flag; of equally long flags the second
 abbrev pub longer : {K : Type 0} → Option (Row K) → Option (Row K) → Option (Row K)
 longer None other = other
 longer (Some row) None = Some row
@@ -46,7 +46,7 @@ longest (row ∷ rows) = longer (Some row) (longest rows)
 abbrev pub owner : {K : Type 0} → List (Row K) → List ℕ → Option (Row K)
 owner rows word = longest (filter (λ row. fits row word) rows)
 
--- the owner in several tables: the longest of the tables' owners, and at one length the last
+-- the owner in several tables: the longest of the tables' owners; of equally long ones the last
 abbrev pub owner_in : {K : Type 0} → List (List (Row K)) → List ℕ → Option (Row K)
 owner_in [] word = None
 owner_in (rows ∷ tables) word = longer (owner rows word) (owner_in tables word)

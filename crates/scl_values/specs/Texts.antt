@@ -20,13 +20,13 @@ use Rattle.scl_values.specs.Spell.{delimited}
 
 -- ---- how a value prints as a text
 
--- the word is not UTF-8, and the error holds it; or there was no memory
+-- the word is not UTF-8, and the error holds it; or an allocation failed
 abbrev pub IsNotText : List ℕ → ArgToStringError → Type 0
 IsNotText word (error.FailedPathTransform w) = ⊥
 IsNotText word (error.InvalidUnicode w) = (w.items ≡ word) × ¬ (IsUtf8 word)
 IsNotText word error.Memory = Unit {0}
 
--- the error holds the path, for which there is no text; or there was no memory
+-- the error holds the path, for which there is no text; or an allocation failed
 abbrev pub IsNotTransformed : List ℕ → ArgToStringError → Type 0
 IsNotTransformed path (error.FailedPathTransform w) = w.items ≡ path
 IsNotTransformed path (error.InvalidUnicode w) = ⊥
@@ -41,24 +41,25 @@ IsWantOfMemory error.Memory = Unit {0}
 abbrev pub IsWord : List ℕ → Result (String Global) ArgToStringError → Type 0
 IsWord word result = MatchResult result (λ printed. string_bytes printed ≡ word) (IsNotText word)
 
--- what a path prints: the closure's answer unchanged
+-- what a path prints: exactly what the closure gave
 abbrev pub IsAnswer : List ℕ → Option (String Global) → Result (String Global) ArgToStringError → Type 0
 IsAnswer path None result = MatchResult result (λ _. ⊥) (IsNotTransformed path)
 IsAnswer path (Some text) result = result ≡ Ok text
 
--- what a flag and a value print as one text, where the value alone prints so
+-- what a flag and a value print as one text, if the value by itself prints this
 abbrev pub IsJoined : List ℕ → Option ℕ → Result (String Global) ArgToStringError → Result (String Global) ArgToStringError → Type 0
 IsJoined flag d (Ok text) result = MatchResult result (λ printed. string_bytes printed ≡ flag ++ delimited d (string_bytes text)) IsWantOfMemory
 IsJoined flag d (Err e) result = result ≡ Err e
 
 -- ---- how an option prints as texts
 
--- an item of an option: a word alone, or behind a flag and, where its text is not empty, a delimiter; and whether the word is a path
+-- an item of an option: a word by itself; or a word after a flag, with a delimiter between them if the word's text is not
+-- empty. The Bool says whether the word is a path
 pub data Item : Type 0 where
   alone : Bool → List ℕ → Item
   behind : List ℕ → Option ℕ → Bool → List ℕ → Item
 
--- the item, where its word prints as it is
+-- the item, if its word prints as it is
 abbrev pub word_shown : Item → List ℕ
 word_shown (alone is_path word) = word
 word_shown (behind flag d is_path word) = flag ++ delimited d word
@@ -84,22 +85,22 @@ is_delimited_by_ascii (argument.UnknownFlag w) = true
 is_delimited_by_ascii (argument.Flag name value) = true
 is_delimited_by_ascii (argument.WithValue name value d) = has_ascii_delimiter (shape_of d)
 
--- a printer of an option's texts: the closure as it stands, and the items that are left
+-- a printer of an option's texts: the closure in its current state, and the items that are left
 pub record Printer (F : Type 0) : Type 0 where
   pub closure : F
   pub left : List Item
 
--- the printer of an option at its first item
+-- the printer of an option before its first item
 abbrev pub printer : {F : Type 0} → F → Seen Bool → Printer F
 printer f option = record { closure = f; left = items_shown option }
 
 module _ {F : Type 0} (calls : F → List ℕ → Option (String Global) → F → Type 0) where
-  -- what a value prints: a path what one call of the closure answers, any other value its word, without a call
+  -- what a value prints: of a path what one call of the closure gives; of any other value its word, without a call
   abbrev pub Prints : Bool → List ℕ → F → Result (String Global) ArgToStringError → F → Type 0
   Prints true path f result g = (answer : Option (String Global)) × calls f path answer g × IsAnswer path answer result
   Prints false word f result g = (g ≡ f) × IsWord word result
 
-  -- what a value prints behind its flag
+  -- what a value prints after its flag
   abbrev pub PrintsBehind : List ℕ → Option ℕ → Bool → List ℕ → F → Result (String Global) ArgToStringError → F → Type 0
   PrintsBehind flag d is_path word f result g = (value : Result (String Global) ArgToStringError) × Prints is_path word f value g × IsJoined flag d value result
 
@@ -107,7 +108,7 @@ module _ {F : Type 0} (calls : F → List ℕ → Option (String Global) → F �
   PrintsItem (alone is_path word) = Prints is_path word
   PrintsItem (behind flag d is_path word) = PrintsBehind flag d is_path word
 
-  -- the first item prints, and the others are left, or after an error nothing
+  -- the first item prints, and the others are left; after an error none are left
   abbrev pub PrintsFirst : List Item → F → Result (String Global) ArgToStringError → Printer F → Type 0
   PrintsFirst [] f result t = ⊥
   PrintsFirst (item ∷ items) f result t = PrintsItem item f result t.closure × (t.left ≡ (if is_ok result then items else []))
@@ -125,17 +126,17 @@ IsInvalidUnicode word (parse_error.InvalidUnicode w) = (w.items ≡ word) × ¬ 
 IsInvalidUnicode word (parse_error.Other reason) = ⊥
 IsInvalidUnicode word parse_error.Memory = ⊥
 
--- the text before the first place where the needle stands, or all of it
+-- the text before the first occurrence of the needle, or all of it
 abbrev pub before_text : List ℕ → List ℕ → List ℕ
 before_text needle [] = []
 before_text needle (x ∷ xs) = cond (starts_with nat_eq (x ∷ xs) needle) [] (x ∷ before_text needle xs)
 
--- the text after the first place where the needle stands, if it stands anywhere
+-- the text after the first occurrence of the needle, if there is one
 abbrev pub after_text : List ℕ → List ℕ → Option (List ℕ)
 after_text needle [] = cond (starts_with nat_eq [] needle) (Some []) None
 after_text needle (x ∷ xs) = cond (starts_with nat_eq (x ∷ xs) needle) (Some (drop (length needle) (x ∷ xs))) (after_text needle xs)
 
--- the word is text, split at the needle's first place; or it is no text, and the error holds it; or there was no memory
+-- the word is text, split at the first needle; or it is not text, and the error holds it; or an allocation failed
 abbrev pub IsSplitAt : List ℕ → List ℕ → Result (String Global × Option (String Global)) ArgParseError → Type 0
 IsSplitAt needle word result =
     MatchResult result

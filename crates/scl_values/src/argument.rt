@@ -1,27 +1,27 @@
-//! Rows of tables, options, and how values stand beside their flags.
+//! Rows of tables, options, and dispositions: whether a value is in the flag's word or in the next.
 ghost use Rattle.std.specs.Prelude.{◌≡◌};
 ghost use Rattle.scl_values.specs.Row.{row_of, shape_of, allows, joins, fits};
 ghost use Rattle.scl_values.specs.Tables.{is_ascii_or_none, has_ascii_delimiter};
 
 use crate::value::ArgumentValue;
 
-/// The byte between a flag and its value in one word, where there is one.
+/// The byte between a flag and its value in one word, if there is one.
 pub type Delimiter = Option<u8>;
 
-/// How a value stands beside its flag (docs/RULES.md, Rows and tables).
+/// The disposition of a value: in which word it is (docs/RULES.md, Rows and tables).
 #[derive(Clone, Copy, Debug, PartialEq, Eq)]
 pub enum ArgDisposition {
     /// The value is the next word.
     Separated,
-    /// The value is the next word, and could have stood in the flag's.
+    /// The value is the next word; the row also allows it in the flag's word.
     CanBeConcatenated(Delimiter),
-    /// The value is the rest of the flag's word, and could have stood in the next.
+    /// The value is the rest of the flag's word; the row also allows it in the next word.
     CanBeSeparated(Delimiter),
     /// The value is the rest of the flag's word.
     Concatenated(Delimiter),
 }
 
-/// The side to which an option that may stand either way is moved (docs/RULES.md, Printing).
+/// The side to which the value of an either row is moved (docs/RULES.md, Printing).
 #[derive(Clone, Copy, Debug, PartialEq, Eq)]
 pub enum NormalizedDisposition {
     /// Flag and value in two words.
@@ -39,7 +39,7 @@ pub enum Argument<T> {
     UnknownFlag(Vec<u8>),
     /// A flag that takes no value.
     Flag(&'static str, T),
-    /// A flag with its value, and how the value stands.
+    /// A flag with its value, and the value's disposition.
     WithValue(&'static str, T, ArgDisposition),
 }
 
@@ -48,7 +48,7 @@ pub enum Argument<T> {
 pub enum ArgRow<K> {
     /// A flag that takes no value.
     Flag(&'static str, K),
-    /// A flag that takes a value, and how the value stands beside it.
+    /// A flag that takes a value, and the disposition that its row allows.
     TakeArg(&'static str, K, ArgDisposition),
 }
 
@@ -56,7 +56,7 @@ pub enum ArgRow<K> {
 pub type ArgInfo<T> = ArgRow<<T as ArgumentValue>::Kind>;
 
 impl ArgDisposition {
-    /// Whether a row of this shape joins the rest of a word, which follows its flag.
+    /// Whether a row of this shape accepts `rest` after its flag in one word.
     fn joins(&self, rest: &[u8]) -> bool
         ensures { result ≡ joins (shape_of self.now) rest.now }
     {
@@ -132,7 +132,7 @@ impl<K> ArgRow<K> {
         }
     }
 
-    /// Whether the row fits the word: the word is the row's flag, or begins with it and the row joins the rest
+    /// Whether the row fits the word: the word is the row's flag, or begins with it and the row accepts the rest
     /// (docs/RULES.md, Owners).
     pub fn fits(&self, word: &[u8]) -> bool
         ensures { result ≡ fits (row_of self.now) word.now }

@@ -1,21 +1,21 @@
-//! What can go wrong with words, options and values.
+//! Errors of words, options and values.
 use crate::escaped::Escaped;
 use std::alloc::{AllocError, AllocFailed};
 use thiserror::Error;
 
-/// What can go wrong when words are cut into options, or made into values (docs/RULES.md, Texts).
+/// An error of cutting words into options, or of making a value from a word (docs/RULES.md, Texts).
 #[derive(Debug, PartialEq, Eq, Drop, Error)]
 pub enum ArgParseError {
-    /// The last flag lacks its value.
+    /// The last flag has no value.
     #[error("Unexpected end of args")]
     UnexpectedEndOfArgs,
     /// This word must be text, and is not UTF-8.
     #[error("String \"{}\" contained invalid unicode", Escaped(.0))]
     InvalidUnicode(Vec<u8>),
-    /// A value can't be made of its word, and why.
+    /// No value can be made from a word, and why.
     #[error("Arg-specific parsing failed: {0}")]
     Other(&'static str),
-    /// A request for memory was refused.
+    /// A memory allocation failed.
     #[error("out of memory")]
     Memory,
 }
@@ -42,19 +42,19 @@ impl From<AllocError> for ArgParseError {
     }
 }
 
-/// An option, a value or texts that were made of words, or why none were made.
+/// What was made from words (an option, a value, texts), or why it could not be made.
 pub type ArgParseResult<T> = Result<T, ArgParseError>;
 
-/// What can go wrong when an option is printed as texts (docs/RULES.md, Texts).
+/// An error of printing an option as texts (docs/RULES.md, Texts).
 #[derive(Debug, PartialEq, Eq, Drop, Error)]
 pub enum ArgToStringError {
-    /// The closure has no text for this path.
+    /// The closure gave no text for this path.
     #[error("Path \"{}\" could not be transformed", Escaped(.0))]
     FailedPathTransform(Vec<u8>),
     /// This word is not UTF-8.
     #[error("String \"{}\" contained invalid unicode", Escaped(.0))]
     InvalidUnicode(Vec<u8>),
-    /// A request for memory was refused.
+    /// A memory allocation failed.
     #[error("out of memory")]
     Memory,
 }
@@ -81,5 +81,5 @@ impl From<AllocError> for ArgToStringError {
     }
 }
 
-/// What printing an option as texts gives.
+/// The text of a word of an option, or why there is none.
 pub type ArgToStringResult = Result<String, ArgToStringError>;

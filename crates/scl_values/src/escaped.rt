@@ -25,8 +25,8 @@ impl fmt::Display for EscapedByte {
     }
 }
 
-/// A word in a message: bytes 21 to 7E, hexadecimal, but the backslash stand for themselves, any other as `\x` and two
-/// digits (docs/RULES.md, Messages).
+/// A word in a message. Bytes from 21 to 7E (hexadecimal), except the backslash, are written as they are, any other byte as
+/// `\x` and two digits (docs/RULES.md, Messages).
 #[derive(Drop)]
 pub struct Escaped<'a>(pub &'a [u8]);
 
@@ -41,14 +41,14 @@ impl fmt::Display for Escaped<'_> {
     }
 }
 
-/// The word, escaped, between double quotes (docs/RULES.md, Messages). It fails only for want of memory.
+/// The word, escaped, in double quotes (docs/RULES.md, Messages).
 pub fn quote_word(alloc: Global, word: &[u8]) -> Mem<String>
     ensures { IfOk result (λ text. string_bytes text ≡ quoted word.now) }
 {
     format!(in alloc; "\"{}\"", Escaped(word))
 }
 
-/// Appends each word, escaped and between double quotes, behind a comma and a space.
+/// Appends a comma, a space, and the escaped word in double quotes, for each word.
 fn push_behind(alloc: Global, text: &mut String, words: &[Vec<u8>]) -> Mem<()>
     ensures { OnOk result (string_bytes text.new ≡ string_bytes text.old ++ quoted_behind (words_of words.now)) }
 {
@@ -59,8 +59,7 @@ fn push_behind(alloc: Global, text: &mut String, words: &[Vec<u8>]) -> Mem<()>
     Ok(())
 }
 
-/// The words, each escaped and between double quotes, with `, ` between them and brackets around them. It fails only for
-/// want of memory.
+/// The list of the words, each escaped and in double quotes: separated by `, `, in brackets.
 pub fn quote_list(alloc: Global, words: &[Vec<u8>]) -> Mem<String>
     ensures { IfOk result (λ text. string_bytes text ≡ quoted_list (words_of words.now)) }
 {

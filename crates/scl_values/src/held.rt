@@ -21,7 +21,7 @@ pub enum Held<'a> {
 }
 
 impl<'a> Held<'a> {
-    /// The word, empty where nothing is held.
+    /// The word; empty if nothing is held.
     pub fn word(self) -> &'a [u8]
         ensures { result.now ≡ word_held self.entry }
     {
@@ -31,8 +31,10 @@ impl<'a> Held<'a> {
         }
     }
 
-    /// The word as a text: of a path what one call of `f` answers, and `FailedPathTransform` where that is None; else
-    /// `InvalidUnicode` where the word is not UTF-8; `Memory` where memory was refused (docs/RULES.md, Texts).
+    /// The word as a text (docs/RULES.md, Texts). Of a path it is what one call of `f` gives. The errors:
+    /// - `FailedPathTransform`: it is a path, and `f` gave None.
+    /// - `InvalidUnicode`: it is a word that is not UTF-8.
+    /// - `Memory`: an allocation failed.
     pub fn text<F: FnMut(&[u8]) -> Option<String>>(
         self,
         alloc: Global,
@@ -53,19 +55,19 @@ impl<'a> Held<'a> {
     }
 }
 
-/// A value whose kind, and what it holds, are at hand.
+/// A value from which its kind and what it holds can be read.
 pub trait ReadArg: ArgumentValue {
     /// The kind of the value's options.
     fn kind(&self) -> Self::Kind
         ensures { result ≡ Self.kind_of self.now };
 
-    /// What the value holds; nothing exactly where its kind holds no value, and an empty word may be held.
+    /// What the value holds: `Nothing` exactly if its kind holds no value. A word or path that is held may be empty.
     fn held(&self) -> Held<'_>
         ensures nothing { (result ≡ Held.Nothing) ↔ (Self.holds_value (Self.kind_of self.now) ≡ false) }
         ensures word { word_held result ≡ Self.word_of self.now }
         ensures path { is_path_held result ≡ Self.is_path self.now };
 
-    /// The value's word, empty where it holds none.
+    /// The value's word; empty if it holds none.
     fn word(&self) -> &[u8]
         ensures { result.now ≡ Self.word_of self.now }
     {
@@ -73,8 +75,7 @@ pub trait ReadArg: ArgumentValue {
     }
 }
 
-/// The value of a kind that holds none, where the word is empty; else the error `flag takes no value`
-/// (docs/RULES.md, Values).
+/// The value of a kind that holds none, if the word is empty; else the error `flag takes no value` (docs/RULES.md, Values).
 pub fn without_value<T: Drop>(value: T, word: &[u8]) -> ArgParseResult<T>
     ensures { MatchResult result (λ made. (made ≡ value) × (word.now ≡ [])) (λ error. IsNoValueError error × (word.now ≢ [])) }
 {

@@ -1,8 +1,8 @@
-//! What a type of values says of its kinds, from one list of them.
+//! The functions of a type of values that depend on its kinds, from one list of these.
 
-/// What a type of values says of its kinds (docs/DESIGN.md, Recipes): `kind of` a value, what is `held by` it, and what
-/// is `made of` a kind and a word. Called in an `impl` for the type, where `Kind` is its kinds' name, with those whose
-/// values hold nothing, a word and a path; of each there is a variant of the same name.
+/// The functions of a type of values that depend on its kinds (docs/DESIGN.md, Recipes). They are `kind of` a value, what is
+/// `held by` it, and what is `made of` a kind and a word. Called in an `impl` of the type, in a module that has `Kind`, with
+/// the kinds whose values hold nothing, a word, and a path. Each kind has a variant of the same name.
 #[macro_export]
 macro_rules! of_kinds {
     (kind of $value:expr; Nothing: $($flag:ident),*; Word: $($word:ident),*; Path: $($path:ident),*) => {

@@ -1,11 +1,11 @@
-//! What a printer has yet to print of an option.
+//! What a printer of an option still has to print.
 use crate::argument::Argument;
 
 #[derive(Drop)]
 pub(crate) enum Left<'a, T> {
     /// The whole option.
     Whole(&'a Argument<T>),
-    /// The value, in a word of its own behind the flag.
+    /// The value, in a word of its own after the flag.
     Value(&'a T),
     Nothing,
 }

@@ -1,7 +1,7 @@
-//! Rows of tables, a line each.
+//! Rows of tables, one in a line.
 
-/// The rows of a table, a line each: a flag, its kind by the name that it has in `Kind`, and, where it takes a value, how
-/// that stands beside it (`shapes`). Behind `PREFIX;` flags lack that prefix, up to a second `;`.
+/// The rows of a table, one in a line: a flag, the name of its variant of `Kind`, and, if it takes a value, its shape
+/// (`shapes`). After `PREFIX;`, up to a second `;`, flags are written without that prefix.
 #[macro_export]
 macro_rules! rows {
     ($($flag:literal $kind:ident $($shape:expr)?),* $(,)?) => {
@@ -15,7 +15,7 @@ macro_rules! rows {
     };
 }
 
-/// A row: a flag, its kind by the name that it has in `Kind`, and, where it takes a value, how that stands beside it.
+/// A row: a flag, the name of its variant of `Kind`, and, if it takes a value, its shape.
 #[macro_export]
 macro_rules! row {
     ($flag:expr, $kind:ident) => {

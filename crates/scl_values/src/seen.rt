@@ -1,4 +1,4 @@
-//! What is read of an option.
+//! What readings see of an option.
 ghost use Rattle.std.specs.Prelude.{◌≡◌};
 ghost use Rattle.scl_values.specs.Seen.{seen, flag_of, text_of};
 
@@ -7,7 +7,7 @@ use crate::held::ReadArg;
 use crate::value::ArgumentValue;
 
 impl<T: ArgumentValue> Argument<T> {
-    /// The flag, empty where the option has none.
+    /// The flag; empty if the option has none.
     pub fn flag(&self) -> &'static str
         ensures { result.now ≡ flag_of (seen T.kind_of T.word_of self.now) }
     {
@@ -17,7 +17,7 @@ impl<T: ArgumentValue> Argument<T> {
         }
     }
 
-    /// The word of an option without a flag, else the value's.
+    /// The option's word if it has no flag, else its value's word.
     pub fn text(&self) -> &[u8]
     where
         T: ReadArg,

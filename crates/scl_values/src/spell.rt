@@ -1,4 +1,4 @@
-//! Options as words: moving their values, and printing them.
+//! Options as words: moving values to a side, and printing.
 ghost use Rattle.std.specs.Prelude.{◌≡◌, ◌∷◌, ◌++◌, ◌<◌, ◌≤◌, ℕ, List, Result, Vec, length, IfOk};
 ghost use Rattle.std.specs.declared.alloc.AllocError.{AllocError};
 ghost use Rattle.std.specs.declared.alloc.Global.{Global};
@@ -17,7 +17,7 @@ use std::alloc::Global;
 use std::marker::Model;
 
 impl ArgDisposition {
-    /// How a value stands that is moved to the side where it may stand either way (docs/RULES.md, Printing).
+    /// The disposition of a value that is moved to this side, if its row allows both (docs/RULES.md, Printing).
     pub fn normalize(self, side: NormalizedDisposition) -> ArgDisposition
         ensures { result ≡ normal_how side self }
     {
@@ -33,7 +33,7 @@ impl ArgDisposition {
 }
 
 impl<T: ArgumentValue> Argument<T> {
-    /// Moves a value that may stand either way to the side: into the next word, or into the flag's. Nothing else changes
+    /// Moves the value to this side, into the next word or into the flag's, if its row allows both. Nothing else changes
     /// (docs/RULES.md, Printing).
     pub fn normalize(self, side: NormalizedDisposition) -> Argument<T>
         ensures normal { result ≡ normal side self }
@@ -47,7 +47,8 @@ impl<T: ArgumentValue> Argument<T> {
         }
     }
 
-    /// The words of the option, one or two (docs/RULES.md, Printing). Making the iterator takes no memory; each word does.
+    /// The words of the option, one or two (docs/RULES.md, Printing). Making the iterator allocates nothing; each word is
+    /// allocated when it is read.
     pub fn iter_os_strings(&self, alloc: Global) -> Iter<'_, T>
         ensures words { result ≡ spelled (seen T.kind_of T.word_of self.now) }
         ensures few { (items : List (Result (Vec ℕ Global) AllocError)) → Drains (YieldsWords (λ words. words)) result items
@@ -59,7 +60,7 @@ impl<T: ArgumentValue> Argument<T> {
         }
     }
 
-    /// The flag, or the word of an option without one. It fails only for want of memory.
+    /// The flag, or the word of an option without a flag.
     pub fn to_os_string(&self, alloc: Global) -> Mem<Vec<u8>>
         ensures { IfOk result (λ word. word.items ≡ head_of self.now) }
     {
@@ -73,7 +74,7 @@ impl<T: ArgumentValue> Argument<T> {
 }
 
 impl<T> Argument<T> {
-    /// The flag, where the option has one.
+    /// The flag, if the option has one.
     pub fn flag_str(&self) -> Option<&'static str>
         ensures { option_map (λ flag. flag.now) result ≡ flag_at self.now }
     {
@@ -83,7 +84,7 @@ impl<T> Argument<T> {
         }
     }
 
-    /// What the option means, where it has a flag.
+    /// The value with its kind, if the option has a flag.
     pub fn get_data(&self) -> Option<&T>
         ensures { option_map (λ value. value.now) result ≡ data_at self.now }
     {
@@ -94,7 +95,7 @@ impl<T> Argument<T> {
     }
 }
 
-/// The words of an option. After a word that got no memory there is none.
+/// The words of an option. After a failed allocation there are no more.
 #[derive(Drop)]
 pub struct Iter<'a, T: ArgumentValue> {
     alloc: Global,
@@ -110,8 +111,8 @@ impl<'a, T: ArgumentValue> Model for Iter<'a, T> {
     ghost view = { λ s. words_left T.kind_of T.word_of s.left };
 }
 
-/// The word of an option whose value is joined to its flag, behind the delimiter if there is one (docs/RULES.md,
-/// Printing). It fails only for want of memory.
+/// The word of an option whose value is joined to its flag, with the delimiter between them if the row has one
+/// (docs/RULES.md, Printing).
 pub fn join_value<T: ArgumentValue>(
     alloc: Global,
     flag: &str,
@@ -124,8 +125,7 @@ pub fn join_value<T: ArgumentValue>(
     join_word(alloc, flag, delimiter, value.as_slice())
 }
 
-/// The word of a flag that this value is joined to, behind the delimiter if there is one (docs/RULES.md, Printing). It
-/// fails only for want of memory.
+/// A flag and a value in one word, with the delimiter between them if there is one (docs/RULES.md, Printing).
 pub fn join_word(alloc: Global, flag: &str, delimiter: Delimiter, value: &[u8]) -> Mem<Vec<u8>>
     ensures { IfOk result (λ word. word.items ≡ flag.now ++ delimited delimiter value.now) }
 {
@@ -141,7 +141,7 @@ pub fn join_word(alloc: Global, flag: &str, delimiter: Delimiter, value: &[u8]) 
     Ok(word)
 }
 
-/// The first word of the option, and what is left behind it.
+/// The first word of the option, and what is left after it.
 fn first_word<'a, T: ArgumentValue>(
     alloc: Global,
     option: &'a Argument<T>,

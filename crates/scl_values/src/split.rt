@@ -1,12 +1,13 @@
-//! A value cut at a text.
+//! A value split at a text.
 ghost use Rattle.scl_values.specs.Texts.{IsSplitAt};
 
 use crate::error::ArgParseResult;
 use crate::value::FromArg;
 use std::alloc::Global;
 
-/// The text before the first `split`, and the text after it, if it occurs.
-/// `InvalidUnicode` with the bytes, where they are not UTF-8; `Memory` where memory was refused (docs/RULES.md, Texts).
+/// The text before the first `split`, and the text after it if `split` occurs (docs/RULES.md, Texts). The errors:
+/// - `InvalidUnicode`, with the bytes: they are not UTF-8.
+/// - `Memory`: an allocation failed.
 pub fn split_os_string_arg(
     alloc: Global,
     val: Vec<u8>,

@@ -18,9 +18,11 @@ use std::alloc::Global;
 use std::marker::Model;
 
 impl<T: ArgumentValue> Argument<T> {
-    /// The words of the option as texts, one or two; `f` gives the text of a path. An item is `FailedPathTransform` where
-    /// `f` answers None, `InvalidUnicode` where a word is not UTF-8, `Memory` where memory was refused; an error is the
-    /// last item. The option's delimiter, if it has one, is an ASCII byte (docs/RULES.md, Texts).
+    /// The words of the option as texts, one or two (docs/RULES.md, Texts). `f` gives the text of a path. A delimiter must be
+    /// an ASCII byte. An error is the last item:
+    /// - `FailedPathTransform`: `f` gave None.
+    /// - `InvalidUnicode`: a word is not UTF-8.
+    /// - `Memory`: an allocation failed.
     pub fn iter_strings<F: FnMut(&[u8]) -> Option<String>>(
         &self,
         alloc: Global,

@@ -1,4 +1,4 @@
-//! What values are: made of words, and printed as words and texts.
+//! Values: made from words, printed as words and as texts.
 ghost use Rattle.std.specs.Prelude.{◌≡◌, ℕ, List, [], IfOk, IsOkAnd, MatchResult, Result, Ok, Bool, true, false, ◌⊎◌};
 ghost use Rattle.std.specs.Fn.{CalledAt};
 ghost use Rattle.std.specs.String.{string_bytes};
@@ -10,33 +10,34 @@ use crate::memory::Mem;
 use std::alloc::Global;
 use std::str;
 
-/// A value that is made of a word.
+/// A value that is made from a word.
 pub trait FromArg: Sized {
     ghost use Rattle.scl_values.specs.declared.error.ArgParseError.{ArgParseError};
 
-    /// What may be made of a word, or which error comes.
+    /// The results of making a value from a word that are allowed.
     ghost process_gives: { List ℕ → Result Self ArgParseError → Type 0 };
 
-    /// The value that the word stands for; what errors come is the type's own to say (docs/RULES.md, Texts).
+    /// The value of the word. Each type says which errors there are (docs/RULES.md, Texts).
     fn process(alloc: Global, arg: Vec<u8>) -> ArgParseResult<Self>
         ensures { process_gives arg.items result };
 }
 
-/// A value that prints one word.
+/// A value that prints as one word.
 pub trait IntoArg {
-    /// The word that is printed.
+    /// The word that it prints as.
     ghost word_of: { Self → List ℕ };
 
-    /// Whether a closure says the value's text.
+    /// Whether its text comes from a closure.
     ghost is_path: { Self → Bool };
 
-    /// The value's word. It fails only for want of memory.
+    /// The word that the value prints as.
     fn into_arg_os_string(&self, alloc: Global) -> Mem<Vec<u8>>
         ensures { IfOk result (λ printed. printed.items ≡ word_of self.now) };
 
-    /// The value as a text: a path is what one call of `f` answers, and `FailedPathTransform` where that is None.
-    /// Any other value is its word, and `InvalidUnicode` where that is not UTF-8; `Memory` where memory was refused
-    /// (docs/RULES.md, Texts).
+    /// The value as a text (docs/RULES.md, Texts). Of a path it is what one call of `f` gives. The errors:
+    /// - `FailedPathTransform`: it is a path, and `f` gave None.
+    /// - `InvalidUnicode`: it is another value, and its word is not UTF-8.
+    /// - `Memory`: an allocation failed.
     fn into_arg_string<F: FnMut(&[u8]) -> Option<String>>(
         &self,
         alloc: Global,
@@ -47,38 +48,39 @@ pub trait IntoArg {
         ensures callable { F.IsAlwaysCallable f.new };
 }
 
-/// A value that a row of a table makes of a word.
+/// A value that a row of a table makes from a word.
 pub trait ArgumentValue: IntoArg + Drop {
-    /// What a row says of its values, with which one is made.
+    /// What a row says of its values: they are made by it.
     type Kind: Copy;
 
     ghost use Rattle.scl_values.specs.declared.error.ArgParseError.{ArgParseError};
 
-    /// What may be made of a kind and a word, or which error comes.
+    /// The results of making a value from a kind and a word that are allowed.
     ghost make_gives: { Self.Kind → List ℕ → Result Self ArgParseError → Type 0 };
 
     /// Whether values of the kind hold a word.
     ghost holds_value: { Self.Kind → Bool };
 
-    /// The kind that a value was made of.
+    /// The kind from which a value was made.
     ghost kind_of: { Self → Self.Kind };
 
-    /// The value of a kind, of a word that is empty where the option has none. What errors come is the type's own to
-    /// say, as `flag takes no value` where the kind holds none and the word is not empty (docs/RULES.md, Values).
+    /// The value of a kind and a word; the word is empty if the option has none. Each type says which errors there are, such
+    /// as `flag takes no value` if the kind holds none and the word is not empty (docs/RULES.md, Values).
     fn make(alloc: Global, kind: Self::Kind, word: Vec<u8>) -> ArgParseResult<Self>
         ensures { make_gives kind word.items result };
 }
 
-/// The law of values that print the word they were made of.
+/// The law of values that print the word that they were made from.
 pub trait ExactArg: ArgumentValue {
     ghost use Rattle.scl_values.specs.declared.error.ArgParseError.{ArgParseError};
 
-    /// A value is made of every word of a kind that holds one, and of the empty word of any other kind; it has both.
+    /// A kind that holds a word makes a value from each word, any other kind from the empty word. The value has both the kind
+    /// and the word.
     ghost exact: { (kind : Self.Kind) (word : List ℕ) (made : Result Self ArgParseError)
         → (Self.holds_value kind ≡ true) ⊎ (word ≡ []) → Self.make_gives kind word made
         → IsOkAnd made (λ value. (Self.kind_of value ≡ kind) × (Self.word_of value ≡ word)) };
 
-    /// A value that was made has the kind and the word that it was made of.
+    /// A value has the kind and the word that it was made from.
     ghost keeps: { (kind : Self.Kind) (word : List ℕ) (value : Self)
         → Self.make_gives kind word (Ok value) → (Self.kind_of value ≡ kind) × (Self.word_of value ≡ word) };
 }

@@ -1,6 +1,6 @@
-//! What is kept of a value that was added at a path.
+//! The entry of a value that was added at a path.
 
-/// A value at its path, with the node of the tree that the path leads to, and the place of the next older entry at that node.
+/// A value at its path, with the tree's node of that path, and the index of the next older entry at the node.
 #[derive(Drop)]
 pub(super) struct Entry<T> {
     pub(super) path: Vec<u8>,

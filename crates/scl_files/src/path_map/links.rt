@@ -8,7 +8,7 @@ use super::entry::Entry;
 use super::tree::PathTree;
 use std::collections::BTreeMap;
 
-/// Where the newest entry at the path stands.
+/// The index of the newest entry at the path.
 pub(super) fn place_of<T>(
     entries: &[Entry<T>],
     tree: &PathTree,
@@ -22,7 +22,7 @@ pub(super) fn place_of<T>(
     newest.get(&node).copied()
 }
 
-/// Lets a node lead to an older place, or to none.
+/// Makes an older entry the newest of a node, or leaves the node without entries.
 pub(super) fn lead_back(newest: &mut BTreeMap<usize, usize>, node: usize, older: Option<usize>)
     requires { IsSome (get nat_cmp newest.old node) }
     ensures { (q : ℕ) → get nat_cmp newest.new q ≡ (if is_eq (nat_cmp node q) then older else get nat_cmp newest.old q) }

@@ -1,4 +1,4 @@
-//! Values by paths, added and taken.
+//! Maps from paths to values, in which values are added and taken.
 ghost use Rattle.std.specs.Prelude.{OnOk, OnErr, MatchOption, ◌≡◌, ◌∷◌, [], is_some, IsTrue, ◌↔◌};
 ghost use Rattle.std.specs.Option.{option_copied};
 ghost use Rattle.scl_files.specs.PathMaps.{value_at, put_at};
@@ -11,8 +11,8 @@ use std::alloc::{AllocError, Global};
 use std::collections::BTreeMap;
 use std::marker::Model;
 
-/// Values by paths, the one added last on top. The entries stand in the order of adding, and
-/// `newest` leads from a node of the tree to the newest entry there.
+/// Values by paths; of one path the value added last counts. The entries are in the order of adding; `newest` gives the index
+/// of the newest entry at a node of the tree.
 #[derive(Drop)]
 pub(crate) struct PathMap<T> {
     entries: Vec<Entry<T>>,
@@ -64,7 +64,7 @@ impl<T> PathMap<T> {
         self.get(path).is_some()
     }
 
-    /// Adds a value beside those that were added at the path.
+    /// Adds a value at the path; those added before are kept below it.
     pub(crate) fn add(&mut self, path: Vec<u8>, value: T) -> Mem<()>
     where
         T: Drop,
@@ -89,7 +89,7 @@ impl<T> PathMap<T> {
         }
     }
 
-    /// Adds a value, or puts it in the place of the one that was added last at the path.
+    /// Adds a value, or replaces the one that was added last at the path.
     pub(crate) fn put(&mut self, path: Vec<u8>, value: T) -> Mem<()>
     where
         T: Drop,
@@ -105,7 +105,7 @@ impl<T> PathMap<T> {
         }
     }
 
-    /// Takes the value that was added last, and its path.
+    /// Removes the value that was added last, with its path.
     pub(crate) fn pop(&mut self) -> Option<(Vec<u8>, T)>
         ensures { MatchOption result ((self.old ≡ []) × (self.new ≡ [])) (λ e. self.old ≡ record { 0 = e.0.items; 1 = e.1 } ∷ self.new) }
     {

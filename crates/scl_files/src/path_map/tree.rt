@@ -8,9 +8,8 @@ use scl_values::Mem;
 use std::alloc::Global;
 use std::collections::BTreeMap;
 
-/// The nodes that paths lead to, by their starts and names: two paths lead to one node if they have
-/// the same components. Each name stands once, under its number; a step from a node is by such a
-/// number. Node 0 is the one that no part leads to.
+/// The nodes of paths, by their starts and names: two paths have the same node if they have the same components. Each name is
+/// stored once and has a number; a step from a node is by such a number. Node 0 is the node of no part.
 #[derive(Drop)]
 pub(super) struct PathTree {
     alloc: Global,
@@ -19,7 +18,7 @@ pub(super) struct PathTree {
 }
 
 impl PathTree {
-    /// A tree without nodes; it takes no memory yet.
+    /// A tree without nodes; it allocates nothing yet.
     pub(super) fn new(alloc: Global) -> PathTree
         ensures { IsTree result }
     {
@@ -37,7 +36,7 @@ impl PathTree {
         self.children.get(&(node, *number)).copied()
     }
 
-    /// The node that the path leads to.
+    /// The node of the path, if there is one.
     #[tactic(auto, using(crate::proofs::PathTreeLemmas::led_nowhere))]
     pub(super) fn find(&self, path: &[u8]) -> Option<usize>
         ensures { result ≡ node_at path.now self.now }
@@ -49,7 +48,7 @@ impl PathTree {
         Some(node)
     }
 
-    /// The number of a name, which is given one if it has none.
+    /// The number of a name; a new name gets the next one.
     fn number(&mut self, name: &[u8]) -> Mem<usize>
         requires { IsTree self.old }
         ensures tree { IsTree self.new }
@@ -66,7 +65,7 @@ impl PathTree {
         Ok(number)
     }
 
-    /// The child, which is made if there is none.
+    /// The child by a name; it is made if there is none.
     fn grow(&mut self, node: usize, name: &[u8]) -> Mem<usize>
         requires { IsTree self.old × (node ≤ btree_map_len self.old.children) }
         ensures tree { IsTree self.new }
@@ -83,8 +82,7 @@ impl PathTree {
         Ok(child)
     }
 
-    /// The node that the path leads to, which is made if there is none. Where memory is refused each
-    /// path leads where it led.
+    /// The node of the path; it is made if there is none. If an allocation fails, each path that had a node has the same one.
     pub(super) fn reach(&mut self, path: &[u8]) -> Mem<usize>
         requires { IsTree self.old }
         ensures tree { IsTree self.new }

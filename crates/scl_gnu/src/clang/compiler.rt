@@ -27,22 +27,22 @@ pub fn language_to_clang_arg(language: Language) -> Option<&'static str>
     language.to_clang_arg()
 }
 
-/// Clang, as its driver for C or for C++, Apple's or not, with its version and the digest of its assembler if they
-/// are known (docs/RULES.md, Clang).
+/// Clang, the C or the C++ driver, Apple's or not; its version and the digest of its assembler, if they are known
+/// (docs/RULES.md, Clang).
 #[derive(Debug, Drop)]
 pub struct Clang {
-    /// Whether it is the driver for C++.
+    /// Whether it is the C++ driver.
     pub clangplusplus: bool,
-    /// Whether it is Apple's, which has other versions.
+    /// Whether it is Apple's, whose versions are numbered differently.
     pub is_appleclang: bool,
-    /// The text of its version, if that is known.
+    /// The text of its version, if it is known.
     pub version: Option<String>,
-    /// The digest of its assembler, if that is known.
+    /// The digest of its assembler, if it is known.
     pub assembler_digest: Option<String>,
 }
 
 impl Clang {
-    /// Clang's driver for C, or for C++, which is not Apple's, and of which no version and no assembler is known.
+    /// Clang's C or C++ driver, not Apple's, with unknown version and assembler.
     pub fn new(clangplusplus: bool) -> Clang
         ensures driver { result.clangplusplus ≡ clangplusplus }
         ensures maker { result.is_appleclang ≡ false }
@@ -56,8 +56,8 @@ impl Clang {
         }
     }
 
-    /// Whether the version is at least `major`.0.0: false of Apple's clang, where no version is known, and where its
-    /// text names none (docs/RULES.md, Clang). The error is the refusal of memory; Apple's and an unknown version have none.
+    /// Whether the version is at least `major`.0.0. It is false for Apple's clang, for an unknown version, and for a text
+    /// without a version (docs/RULES.md, Clang). For Apple's and an unknown version it does not fail.
     pub fn is_minversion(&self, alloc: Global, major: u64) -> Mem<bool>
         ensures is_new { IfOk result (λ is_new. is_new ≡ is_minversion self.now.is_appleclang (option_map string_bytes self.now.version) major) }
         ensures apple { self.now.is_appleclang ≡ true → IsOk result }

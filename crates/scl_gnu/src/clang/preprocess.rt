@@ -15,8 +15,8 @@ use scl_text::language::Language;
 use scl_text::records::{CCompilerKind, ParsedArguments};
 use std::alloc::Global;
 
-/// The flags that leave out what may be ignored: lines, and white space where clang is new enough and the language is not
-/// assembler that is to be preprocessed.
+/// The flags that leave out ignorable output: line markers; and white space, if clang is new enough and the language is not
+/// assembler for the preprocessor.
 fn ignorable_flags(
     alloc: Global,
     clang: &Clang,

@@ -17,7 +17,7 @@ fn has_dot(text: &str) -> bool
     text.as_bytes().contains(&b'.')
 }
 
-/// The first part between spaces that holds a dot.
+/// The first part between spaces that has a dot.
 fn dotted_part(text: &str) -> Option<&str>
     ensures { option_copied result ≡ find has_dot (slice_split is_space text.now) }
 {
@@ -41,7 +41,7 @@ fn without_quotes(text: &str) -> &str
     kept
 }
 
-/// The semantic version that is written so, if there is one.
+/// The semantic version of this text, if it is one.
 fn read_version(alloc: Global, text: &str) -> Mem<Option<Version>>
     ensures { IfOk result (λ version. option_map parts_of version ≡ result_ok (version_parts text.now)) }
 {
@@ -57,7 +57,7 @@ fn read_version(alloc: Global, text: &str) -> Mem<Option<Version>>
     }
 }
 
-/// The version that a text names.
+/// The version that a text names, if it names one.
 fn version_in(alloc: Global, text: &str) -> Mem<Option<Version>>
     ensures { IfOk result (λ version. option_map parts_of version ≡ version_in text.now) }
 {

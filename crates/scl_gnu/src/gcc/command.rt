@@ -92,9 +92,9 @@ impl<'a> CommandWords for Command<'a> {
     }
 }
 
-/// The compile command of a record, which is handed over, and whose language word is what the closure answers; it may always
-/// be kept in the cache (docs/RULES.md, Gcc). The errors are `MissingObj`, exactly where the record has no output `obj`, and the
-/// refusal of memory. The kind and the view are not asked.
+/// The compile command of a record, with the closure's text for the language; its result can always be cached (docs/RULES.md,
+/// Gcc). It takes ownership of the record. The error is `MissingObj` exactly if the record has no output `obj`, else
+/// `Memory`. The kind and the view are not used.
 pub fn generate_compile_commands_owned<T: AsStr + Drop, F: Fn(Language) -> Option<T>>(
     alloc: Global,
     executable: &[u8],
@@ -123,7 +123,7 @@ pub fn generate_compile_commands_owned<T: AsStr + Drop, F: Fn(Language) -> Optio
     )
 }
 
-/// What `generate_compile_commands_owned` gives for a copy of the record, with the same errors.
+/// What `generate_compile_commands_owned` gives, with a copy of the record; the errors are the same.
 pub fn generate_compile_commands<T: AsStr + Drop, F: Fn(Language) -> Option<T>>(
     alloc: Global,
     executable: &[u8],

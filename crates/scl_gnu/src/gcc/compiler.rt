@@ -14,20 +14,19 @@ use scl_text::records::{
 use scl_text::view::View;
 use std::alloc::Global;
 
-/// Gcc, as its driver for C or for C++, with its version and the digest of its assembler if they are known
-/// (docs/RULES.md, Gcc).
+/// Gcc, the C or the C++ driver; its version and the digest of its assembler, if they are known (docs/RULES.md, Gcc).
 #[derive(Debug, Drop)]
 pub struct Gcc {
-    /// Whether it is the driver for C++.
+    /// Whether it is the C++ driver.
     pub gplusplus: bool,
-    /// Its version, if that is known.
+    /// Its version, if it is known.
     pub version: Option<String>,
-    /// The digest of its assembler, if that is known.
+    /// The digest of its assembler, if it is known.
     pub assembler_digest: Option<String>,
 }
 
 impl Gcc {
-    /// Gcc's driver for C, or for C++, of which no version and no assembler is known.
+    /// Gcc's C or C++ driver, with unknown version and assembler.
     pub fn new(gplusplus: bool) -> Gcc
         ensures driver { result.gplusplus ≡ gplusplus }
         ensures unknown { (result.version ≡ None) × (result.assembler_digest ≡ None) }

@@ -35,7 +35,7 @@ fn has_value(flag: &[u8]) -> bool
     matches!(flag, b"-MF" | b"-MT" | b"-MQ")
 }
 
-/// Whether one of the texts between commas asks for rules.
+/// Whether one of the texts between commas requests rules.
 fn some_asks(texts: &[u8]) -> bool
     ensures { result ≡ some_asks texts.now }
 {
@@ -97,7 +97,7 @@ fn flag_count(words: &[Vec<u8>]) -> usize
     }
 }
 
-/// How many words at the front make the preprocessor write one file.
+/// The number of words at the front that make the preprocessor write one file.
 #[tactic(auto, unfolding(crate::specs::OutputFiles::file_count))]
 fn file_count(words: &[Vec<u8>]) -> usize
     ensures { result ≡ file_count (words_of words.now) }
@@ -114,15 +114,15 @@ fn file_count(words: &[Vec<u8>]) -> usize
     if hands_on_rules(word) { 1 } else { 0 }
 }
 
-/// The words behind so many of these.
+/// The words after the first `count`.
 fn behind(words: &[Vec<u8>], count: usize) -> &[Vec<u8>]
     ensures { result.now ≡ drop count words.now }
 {
     words.get(count..).unwrap_or(&[])
 }
 
-/// The words without those that make the preprocessor write a file, as they stand for the preprocessor or among the common
-/// words (docs/RULES.md, Preprocessing). It fails only for want of memory.
+/// The words, of the preprocessor or common ones, without those that make the preprocessor write a file (docs/RULES.md,
+/// Preprocessing).
 #[tactic(auto, using(crate::proofs::OutputFileLemmas::left_first))]
 pub fn without_output_files(alloc: Global, words: &[Vec<u8>]) -> Mem<Vec<Vec<u8>>>
     ensures { IfOk result (λ kept. words_of kept.items ≡ without_output_files (words_of words.now)) }

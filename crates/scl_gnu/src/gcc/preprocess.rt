@@ -19,7 +19,7 @@ use std::alloc::Global;
 use std::borrow::CowSlice;
 use std::convert::AsStr;
 
-/// Puts the flags behind words that leave out what may be ignored, but not where lines are to be told apart.
+/// Appends the flags that leave out ignorable output, unless the run must keep line markers.
 fn push_ignoring(
     alloc: Global,
     words: &mut Vec<Vec<u8>>,
@@ -35,7 +35,7 @@ fn push_ignoring(
     Ok(())
 }
 
-/// Puts the flag behind words that leaves macros in place, if it is asked for and may stand.
+/// Appends the flag that leaves macros in place, if it is requested and allowed.
 fn push_rewriting(
     alloc: Global,
     words: &mut Vec<Vec<u8>>,
@@ -90,7 +90,7 @@ fn words_with(
     Ok(words)
 }
 
-/// The words of a run with the record's lists, without the unhashed words, and with these that name architectures.
+/// The words of a run with the record's lists, without the unhashed words, and with these words for architectures.
 fn run_words<'a>(
     alloc: Global,
     text: Option<&str>,
@@ -110,7 +110,7 @@ fn run_words<'a>(
     words_with(alloc, text, settings, lists, parsed)
 }
 
-/// The words of such a run that makes no file.
+/// The words of such a run, without those that make the preprocessor write a file.
 fn quiet_words<'a>(
     alloc: Global,
     text: Option<&str>,
@@ -142,7 +142,7 @@ fn arch_words(alloc: Global, arch: &[u8]) -> Mem<Vec<Vec<u8>>>
     Ok(words)
 }
 
-/// A run for one architecture, of which the last alone makes files.
+/// A run for one architecture; only the last one writes files.
 fn arch_run(
     alloc: Global,
     text: Option<&str>,
@@ -202,12 +202,14 @@ fn runs_with(
     Ok(runs)
 }
 
-/// The words of the runs of the preprocessor for a record, in order, whose language word is what the closure answers: one
-/// run, or one for each of several architectures, of which the last alone makes files. A run has the words of all lists but
-/// the unhashed ones. The words that may be ignored stand in a run that is neither for a distant compiler nor of a program
-/// that will write a profile; runs for several architectures are never for a distant one, whatever `may_dist` says. Only for
-/// Gcc and Clang has a run a flag that leaves macros in place (docs/RULES.md, Preprocessing). It fails only for want of
-/// memory.
+/// The words of the preprocessor's runs for a record, in order, with the closure's text for the language (docs/RULES.md,
+/// Preprocessing):
+///
+/// - One run; or, of several architectures, one for each, of which only the last writes files.
+/// - A run has the words of all lists except the unhashed ones.
+/// - Flags that leave out ignorable output are in it, unless it is for a distant compiler or for a program that writes a
+///   profile. A run for one of several architectures is never for a distant compiler, whatever `may_dist` is.
+/// - Only the runs of Gcc and Clang can have a flag that leaves macros in place.
 pub fn preprocess_passes<T: AsStr + Drop, F: Fn(Language) -> Option<T>>(
     alloc: Global,
     parsed: &ParsedArguments,
@@ -233,7 +235,7 @@ pub fn preprocess_passes<T: AsStr + Drop, F: Fn(Language) -> Option<T>>(
     )
 }
 
-/// The flags of every Gcc and Clang that leave out what may be ignored.
+/// The flags, the same for each Gcc and Clang, that leave out ignorable output.
 pub(crate) fn linemarker_flags(alloc: Global, cache_mode: bool) -> Mem<Vec<Vec<u8>>>
     ensures { IfOk result (λ made. words_of made.items ≡ linemarker_flags cache_mode) }
 {

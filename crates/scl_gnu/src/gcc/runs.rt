@@ -1,4 +1,4 @@
-//! The runs of the preprocessor for several architectures, made one.
+//! Joining the outputs of the preprocessor's runs for several architectures.
 ghost use Rattle.std.specs.Prelude.{◌≡◌, ◌++◌, not, find, IfOk, OnOk};
 ghost use Rattle.std.specs.Option.{option_map};
 ghost use Rattle.scl_gnu.specs.Runs.{arch_output, arch_outputs, output_of, succeeded, ended, line_feeds, header, section, sections, errors, join_passes};
@@ -7,7 +7,7 @@ use scl_args::Mem;
 use scl_text::records::PassOutput;
 use std::alloc::Global;
 
-/// How many line feeds a text has once it ends with one.
+/// The number of line feeds of a text, with one added at its end if it does not end with one.
 fn ended_line_feeds(text: &[u8]) -> usize
     ensures { result ≡ line_feeds (ended text.now) }
 {
@@ -19,7 +19,7 @@ fn ended_line_feeds(text: &[u8]) -> usize
     }
 }
 
-/// Puts a text behind another, with a line feed at its end if it has none.
+/// Appends a text, and a line feed if it does not end with one.
 fn push_ended(made: &mut Vec<u8>, text: &[u8]) -> Mem<()>
     ensures { OnOk result (made.new.items ≡ made.old.items ++ ended text.now) }
 {
@@ -30,7 +30,7 @@ fn push_ended(made: &mut Vec<u8>, text: &[u8]) -> Mem<()>
     Ok(())
 }
 
-/// Puts a line behind others that names an architecture and counts line feeds.
+/// Appends a line with an architecture and a number of line feeds.
 fn push_header(alloc: Global, made: &mut Vec<u8>, arch: &[u8], count: usize) -> Mem<()>
     ensures { OnOk result (made.new.items ≡ made.old.items ++ header arch.now count) }
 {
@@ -43,7 +43,7 @@ fn push_header(alloc: Global, made: &mut Vec<u8>, arch: &[u8], count: usize) -> 
     Ok(())
 }
 
-/// Puts the output of a run behind others, under a line that names its architecture and counts its lines.
+/// Appends the output of a run, after a line with its architecture and its number of lines.
 fn push_section(alloc: Global, made: &mut Vec<u8>, arch: &[u8], text: &[u8]) -> Mem<()>
     ensures { OnOk result (made.new.items ≡ made.old.items ++ section arch.now text.now) }
 {
@@ -51,7 +51,7 @@ fn push_section(alloc: Global, made: &mut Vec<u8>, arch: &[u8], text: &[u8]) -> 
     push_ended(made, text)
 }
 
-/// The outputs of the runs, one behind another.
+/// The outputs of the runs, one after the other.
 fn sections(alloc: Global, runs: &[(Vec<u8>, PassOutput)]) -> Mem<Vec<u8>>
     ensures { IfOk result (λ made. made.items ≡ sections (arch_outputs runs.now)) }
 {
@@ -85,9 +85,9 @@ fn first_failed(runs: &[(Vec<u8>, PassOutput)]) -> Option<&(Vec<u8>, PassOutput)
     None
 }
 
-/// The runs of the preprocessor for several architectures, made one: the outputs in order, each under a line that names
-/// its architecture; or, where a run failed, the first that did; with all error outputs (docs/RULES.md, Preprocessing). It
-/// fails only for want of memory.
+/// The outputs of the preprocessor's runs for several architectures, joined: in order, each after a line with its
+/// architecture. If a run failed, the output is that of the first failed run. All error outputs are joined in both cases
+/// (docs/RULES.md, Preprocessing).
 pub fn join_passes(alloc: Global, runs: Vec<(Vec<u8>, PassOutput)>) -> Mem<PassOutput>
     ensures { IfOk result (λ made. output_of made ≡ join_passes (arch_outputs runs.items)) }
 {

@@ -1,4 +1,4 @@
-//! What compile commands and runs of the preprocessor share: the language, the lists in their order, the input.
+//! What compile commands and runs of the preprocessor share: the language, the lists in order, the input.
 ghost use Rattle.std.specs.Prelude.{◌≡◌, ◌++◌, OnOk};
 ghost use Rattle.std.specs.Option.{option_copied};
 ghost use Rattle.scl_values.specs.Words.{words_of};
@@ -12,7 +12,7 @@ use scl_text::records::ParsedArguments;
 use std::alloc::Global;
 use std::borrow::CowSlice;
 
-/// The lists of a command, handed over, or of a run of the preprocessor, which mostly lends them.
+/// The lists of a command, owned, or of a run of the preprocessor, mostly borrowed.
 #[derive(Drop)]
 pub(super) struct Lists<'a> {
     pub preprocessor: CowSlice<'a, Vec<u8>>,
@@ -22,7 +22,7 @@ pub(super) struct Lists<'a> {
     pub arch: CowSlice<'a, Vec<u8>>,
 }
 
-/// Puts the flag and the text of a language behind words, if there is one.
+/// Appends the flag and the text of a language, if there is a text.
 pub(super) fn push_language(alloc: Global, words: &mut Vec<Vec<u8>>, text: Option<&str>) -> Mem<()>
     ensures { OnOk result (words_of words.new.items ≡ words_of words.old.items ++ language_words (option_copied text.entry)) }
 {
@@ -33,7 +33,7 @@ pub(super) fn push_language(alloc: Global, words: &mut Vec<Vec<u8>>, text: Optio
     Ok(())
 }
 
-/// Puts a list behind words: copies of its words where it is lent.
+/// Appends a list; if it is borrowed, copies of its words.
 fn push_list(alloc: Global, words: &mut Vec<Vec<u8>>, list: CowSlice<Vec<u8>>) -> Mem<()>
     ensures { OnOk result (words_of words.new.items ≡ words_of words.old.items ++ list_of list.entry) }
 {
@@ -43,7 +43,7 @@ fn push_list(alloc: Global, words: &mut Vec<Vec<u8>>, list: CowSlice<Vec<u8>>) -
     }
 }
 
-/// Puts the lists behind words, in their order.
+/// Appends the lists in order.
 pub(super) fn push_lists(alloc: Global, words: &mut Vec<Vec<u8>>, lists: Lists) -> Mem<()>
     ensures { OnOk result (words_of words.new.items ≡ words_of words.old.items ++ lists_of lists.entry) }
 {
@@ -54,7 +54,7 @@ pub(super) fn push_lists(alloc: Global, words: &mut Vec<Vec<u8>>, lists: Lists) 
     push_list(alloc, words, lists.arch)
 }
 
-/// Puts the input behind words, and `--` before it where it stands behind that.
+/// Appends the input, with `--` before it if the line has it there.
 pub(super) fn push_input(
     alloc: Global,
     words: &mut Vec<Vec<u8>>,

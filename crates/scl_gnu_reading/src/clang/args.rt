@@ -13,7 +13,8 @@ use scl_tables::{Node, nodes};
 use scl_values::rows;
 use std::alloc::Global;
 
-/// Clang's rows beside Gcc's, in the order of their flags' bytes (docs/RULES.md, Clang).
+/// Clang's own rows, in the order of their flags' bytes; its words are looked up in Gcc's table as well (docs/RULES.md,
+/// Clang).
 pub static ARGS: &[ArgInfo<ArgData>] = &rows![
     "--analyze" TooHardFlag,
     "--analyzer-output" TooHard APART,
@@ -262,7 +263,7 @@ static ARGS_NODES: &[Node] = &nodes![
     117 true 17 64 65 0 0,
 ];
 
-/// Clang's table; a word is searched in Gcc's table as well.
+/// Clang's table; Clang's words are looked up in Gcc's table as well.
 #[tactic(auto, unfolding(crate::specs::ClangRows::clang_rows))]
 pub fn table() -> FlagTable<'static, ArgData>
     ensures rows { result ≡ clang_rows }
@@ -271,8 +272,7 @@ pub fn table() -> FlagTable<'static, ArgData>
     FlagTable::with_nodes(ARGS, ARGS_NODES)
 }
 
-/// Prefix trees of Gcc's table and of Clang's; where both have a flag, Clang's row owns it (docs/RULES.md, Clang). The
-/// error is the refusal of memory.
+/// The prefix trees of Gcc's table and of Clang's. A flag that both have belongs to Clang's row (docs/RULES.md, Clang).
 pub fn trees(alloc: Global) -> Mem<Tables<FlagTree<'static, ArgData>>>
     ensures tables { IfOk result (λ trees. flat_map (λ tree. tree ∷ []) trees ≡ clang_tables) }
     ensures values { IfOk result (λ trees. IsTrue (tables_hold_values holds_value (flat_map (λ tree. tree ∷ []) trees))) }

@@ -1,4 +1,4 @@
-//! The words that are added to the lists of a command.
+//! Words that are added to the lists of a command.
 ghost use Rattle.std.specs.Prelude.{◌≡◌, ◌++◌, ◌∷◌, [], OnOk, IfOk, codes, is_some};
 ghost use Rattle.scl_files.specs.Paths.{with_extension};
 ghost use Rattle.scl_values.specs.Words.{words_of};
@@ -21,7 +21,7 @@ fn split_dwarf_word(alloc: Global, object: &[u8]) -> Mem<Vec<u8>>
     Ok(word)
 }
 
-/// Adds to the common words where the split debug information goes.
+/// Adds to the common words the path of the split debug information.
 pub(crate) fn add_split_dwarf(
     alloc: Global,
     common: &mut Vec<Vec<u8>>,
@@ -52,7 +52,7 @@ fn add_depfile(
     Ok(())
 }
 
-/// Adds to the words about dependencies the target and the file, where a target is needed.
+/// Adds to the words about dependencies the target and the file, if a target is needed.
 pub(crate) fn add_dependency(
     alloc: Global,
     dependency: &mut Vec<Vec<u8>>,

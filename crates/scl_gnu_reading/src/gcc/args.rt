@@ -10,7 +10,7 @@ use scl_args::{ArgInfo, FlagTable};
 use scl_tables::{Node, nodes};
 use scl_values::rows;
 
-/// The flag of an option that names an architecture.
+/// The flag of an option with an architecture.
 pub const ARCH_FLAG: &str = "-arch";
 
 /// Gcc's rows, in the order of their flags' bytes (docs/RULES.md, Gcc).

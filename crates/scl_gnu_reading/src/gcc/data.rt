@@ -9,79 +9,79 @@ use std::alloc::Global;
 /// What an option of Gcc or Clang means, apart from its value (docs/RULES.md, Gcc).
 #[derive(Debug, Clone, Copy, PartialEq, Eq)]
 pub enum Kind {
-    /// A flag by which a command line can't be cached, as `-E`.
+    /// A flag with which a command line can't be cached, such as `-E`.
     TooHardFlag,
-    /// An option with a value by which a command line can't be cached, as `@file`.
+    /// An option with a value with which a command line can't be cached, such as `@file`.
     TooHard,
-    /// `-fdiagnostics-color`: whether messages are coloured, as its value says.
+    /// `-fdiagnostics-color`: its value says whether messages are coloured.
     DiagnosticsColor,
     /// A flag that colours messages.
     DiagnosticsColorFlag,
-    /// A flag that keeps messages without colour.
+    /// A flag for messages without colour.
     NoDiagnosticsColorFlag,
     /// `-arch`: an architecture to compile for.
     Arch,
-    /// `--coverage`: the program counts what is run, and notes for that are an output.
+    /// `--coverage`: the compiled program counts what is run; notes for this are an output.
     Coverage,
-    /// `-ftest-coverage`: notes for counts of what is run are an output.
+    /// `-ftest-coverage`: notes for counting what is run are an output.
     TestCoverage,
-    /// Where the dependency file goes, as `-MF`.
+    /// The path of the dependency file, such as `-MF`.
     DepArgumentPath,
-    /// The target that the dependency file names, as `-MT`.
+    /// The target in the dependency file, such as `-MT`.
     DepTarget,
-    /// A flag that asks for a dependency file or its targets, as `-MD`.
+    /// A flag that requests a dependency file or its targets, such as `-MD`.
     NeedDepTarget,
-    /// `-c`: a compilation is asked for.
+    /// `-c`: requests a compilation.
     DoCompilation,
-    /// A file on whose contents the outcome depends, as `-fplugin` of Clang.
+    /// A file on whose contents the result depends, such as `-fplugin` of Clang.
     ExtraHashFile,
-    /// `-fmodule-file` of Clang: a file on whose contents the outcome depends, behind a name and `=` if there is one.
+    /// `-fmodule-file` of Clang: a file on whose contents the result depends, after a name and `=` if there is one.
     ExtraHashFileClangModuleFile,
     /// `-x`: the language of the input.
     Language,
-    /// `-gsplit-dwarf`: debug information in a file of its own, which is an output.
+    /// `-gsplit-dwarf`: debug information in a separate file, which is an output.
     SplitDwarf,
     /// `-o`: the path of the object.
     Output,
-    /// An option with a word that is kept among the common words, as `-D`.
+    /// An option with a word that goes to the common words, such as `-D`.
     PassThrough,
-    /// A flag that is kept among the common words.
+    /// A flag that goes to the common words.
     PassThroughFlag,
-    /// An option with a path that is kept among the common words, as `--sysroot`.
+    /// An option with a path that goes to the common words, such as `--sysroot`.
     PassThroughPath,
-    /// An option with a word for the preprocessor, as `-Xpreprocessor`.
+    /// An option with a word for the preprocessor, such as `-Xpreprocessor`.
     PreprocessorArgument,
-    /// A flag for the preprocessor, as `-nostdinc`.
+    /// A flag for the preprocessor, such as `-nostdinc`.
     PreprocessorArgumentFlag,
-    /// An option with a path for the preprocessor, as `-I`.
+    /// An option with a path for the preprocessor, such as `-I`.
     PreprocessorArgumentPath,
-    /// A flag by which the program will write a profile of its runs.
+    /// A flag with which the compiled program writes a profile when it runs.
     ProfileGenerate,
-    /// Where the profile of earlier runs is, a file or the directory of one, as `-fprofile-use` of Clang.
+    /// The path of a profile of earlier runs, a file or its directory, such as `-fprofile-use` of Clang.
     ClangProfileUse,
     /// `--serialize-diagnostics` of Gcc's table: a file of messages, which is an output.
     SerializeDiagnostics,
-    /// A flag that does not change the outcome, as `-pipe`.
+    /// A flag that does not change the result, such as `-pipe`.
     UnhashedFlag,
-    /// An option with a value that does not change the outcome, as `-parallel-jobs`.
+    /// An option with a value that does not change the result, such as `-parallel-jobs`.
     Unhashed,
-    /// A flag that warns of what the standard does not allow, as `-pedantic`.
+    /// A flag that warns of code the standard does not allow, such as `-pedantic`.
     PedanticFlag,
     /// `-std`: the standard of the language.
     Standard,
     /// `-Xclang`: a word of the inner command line.
     XClang,
-    /// A flag by which the module itself is the object, as `--precompile`.
+    /// A flag with which the module itself is the object, such as `--precompile`.
     ModuleOnlyFlag,
-    /// `-fmodule-output`: where a module goes, behind `=`.
+    /// `-fmodule-output`: the path of a module, after `=`.
     ClangModuleOutput,
-    /// A flag by which the compiler assembles by itself.
+    /// A flag with which the compiler assembles by itself.
     IntegratedAs,
-    /// A flag by which the assembler is a program of its own.
+    /// A flag with which the assembler is a separate program.
     NoIntegratedAs,
 }
 
-/// A kind with its value, a path, a word or none: each variant is of the kind of its name (docs/RULES.md, Gcc).
+/// A kind with its value: a path, a word or none. Each variant has the kind of the same name (docs/RULES.md, Gcc).
 #[derive(Debug, PartialEq, Eq, Drop)]
 pub enum ArgData {
     TooHardFlag,

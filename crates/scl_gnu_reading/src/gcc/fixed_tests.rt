@@ -1,4 +1,4 @@
-//! The tests that follow the verdicts of the options.
+//! The tests after the verdicts of the options.
 ghost use Rattle.std.specs.Prelude.{◌≡◌, ◌++◌, IfOk, codes, unwrap_or, [], ◌∷◌};
 ghost use Rattle.std.specs.Option.{option_copied};
 ghost use Rattle.scl_files.specs.Paths.{extension};
@@ -22,9 +22,9 @@ use std::alloc::Global;
 /// What the tests find.
 #[derive(Drop)]
 pub struct Finding {
-    /// The flag that asks for a compilation.
+    /// The flag that requests a compilation.
     pub compile_flag: &'static str,
-    /// The one input.
+    /// The only input.
     pub input: Vec<u8>,
     /// Its language.
     pub language: Language,
@@ -34,7 +34,7 @@ pub struct Finding {
     pub module_path: Option<Vec<u8>>,
 }
 
-/// The language for the driver: a C++ driver takes files of C for C++.
+/// The language for the driver: a C++ driver takes C files as C++.
 fn driven(plusplus: bool, language: Language) -> Language
     ensures { result ≡ driven plusplus language }
 {
@@ -116,8 +116,8 @@ fn module_path(
     module_path_of(alloc, text, input, object)
 }
 
-/// What the tests find, in their order, of options that are not refused; `plusplus` is set for a C++ driver (docs/RULES.md,
-/// Gcc). It stops at the first that refuses, or for want of memory.
+/// What the tests find, in order, in options that are not refused; `plusplus` is set for a C++ driver (docs/RULES.md, Gcc).
+/// It stops at the first test that refuses; the only other error is a refused allocation.
 pub fn apply_fixed_tests(
     alloc: Global,
     options: &Options<ArgData>,

@@ -1,4 +1,4 @@
-//! Files on whose contents the outcome of a compilation depends, as options name them.
+//! Files on whose contents the result of a compilation depends, as options name them.
 ghost use Rattle.std.specs.Prelude.{◌≡◌, ◌++◌, OnOk, OnErr, IfOk, map};
 ghost use Rattle.std.specs.Option.{option_map, option_to_list};
 ghost use Rattle.scl_values.specs.Seen.{seen};
@@ -13,18 +13,18 @@ use scl_args::{Argument, Mem, Options, ReadArg};
 use scl_text::view::View;
 use std::alloc::Global;
 
-/// How an option names a file on whose contents the outcome depends (docs/RULES.md, Gcc).
+/// How an option names a file on whose contents the result depends (docs/RULES.md, Gcc).
 #[derive(Clone, Copy, Debug, PartialEq, Eq)]
 pub enum HashRole {
     /// By its path.
     File,
-    /// By its path, behind a name and `=` if there is one.
+    /// By its path, after a name and `=` if there is one.
     Module,
-    /// By its path, or by the directory of `default.profdata`.
+    /// By its path, or by the directory that has `default.profdata`.
     Profile,
 }
 
-/// A value whose kind says how its options name files on whose contents the outcome depends (docs/RULES.md, Gcc).
+/// A value whose kind says how its options name files on whose contents the result depends (docs/RULES.md, Gcc).
 pub trait NamesHashed: ReadArg {
     ghost use Rattle.std.specs.Prelude.{Option};
     ghost use Rattle.scl_gnu_reading.specs.declared.gcc.hash_files.HashRole.{HashRole};
@@ -74,8 +74,8 @@ fn push_path<T: NamesHashed>(
     }
 }
 
-/// Puts the paths of the files that the options name, from the directory, behind others (docs/RULES.md, Gcc). It fails only
-/// for want of memory; the first of them may stand there then.
+/// Appends the paths, from the directory, of the files that the options name (docs/RULES.md, Gcc). If it fails, the first of
+/// them may have been appended.
 pub fn push_hashed<T: NamesHashed>(
     alloc: Global,
     paths: &mut Vec<Vec<u8>>,

@@ -1,4 +1,4 @@
-//! The paths of the files on whose contents the outcome of a compilation depends.
+//! The paths of the files on whose contents the result of a compilation depends.
 ghost use Rattle.std.specs.Prelude.{◌≡◌, ◌<◌, ◌++◌, IfOk, IfSome, length, map, position};
 ghost use Rattle.scl_values.specs.Words.{words_of};
 ghost use Rattle.scl_gnu_reading.specs.Kinds.{hashed};
@@ -27,8 +27,8 @@ fn module_path_in(text: &[u8]) -> &[u8]
     }
 }
 
-/// The path of the file that the value of `-fmodule-file` names: what stands behind its first `=`, else all
-/// of it (docs/RULES.md, Gcc). It fails only for want of memory.
+/// The path of the file that the value of `-fmodule-file` names: what follows its first `=`, else all of it (docs/RULES.md,
+/// Gcc).
 pub fn module_file_path(alloc: Global, value: &[u8]) -> Mem<Vec<u8>>
     ensures { IfOk result (λ path. path.items ≡ module_file_path value.now) }
 {
@@ -45,8 +45,8 @@ fn profile_in(alloc: Global, is_directory: bool, path: Vec<u8>) -> Mem<Vec<u8>>
     }
 }
 
-/// The path of the profile that the value of `-fprofile-use` names in a directory; at a directory of the view
-/// it is the file `default.profdata` in there (docs/RULES.md, Gcc). It fails only for want of memory.
+/// The path, from a directory, of the profile that the value of `-fprofile-use` names. If the view has a directory there, it
+/// is the file `default.profdata` in it (docs/RULES.md, Gcc).
 pub fn resolve_profile_use_path(
     alloc: Global,
     value: &[u8],
@@ -76,7 +76,7 @@ pub(crate) fn path_as(
     }
 }
 
-/// The paths of the files that the options name, from the directory: first the outer options, then the inner ones.
+/// The paths, from the directory, of the files that the options name: first the outer options, then the inner ones.
 pub(crate) fn hash_paths(
     alloc: Global,
     options: &Options<ArgData>,

@@ -1,4 +1,4 @@
-//! Inner command lines: words that options hand on to the compiler proper, behind `-Xclang`.
+//! Inner command lines: words for the compiler proper, each after `-Xclang`.
 
 mod judge;
 mod line;

@@ -2,7 +2,7 @@
 use super::data::ArgData;
 use scl_args::{Argument, Test, is_dashes};
 
-/// The words that are no options, but for `--`.
+/// The words that are no options, except `--`.
 pub(crate) struct Inputs;
 
 impl Test<ArgData> for Inputs {

@@ -1,4 +1,4 @@
-//! What an option says against caching.
+//! Which options prevent caching.
 ghost use Rattle.std.specs.Prelude.{◌≡◌, ◌∷◌, [], IfOk, map};
 ghost use Rattle.std.specs.Option.{option_map, option_copied};
 ghost use Rattle.scl_values.specs.Seen.{seen};
@@ -18,7 +18,7 @@ use scl_text::reasons::UNEXPANDED_FILE;
 use scl_text::refusal::{Refusal, cannot_cache};
 use std::alloc::Global;
 
-/// The refusal of an option by its flag, where its place is that of refused ones.
+/// The refusal of an option by its flag, if its kind is refused.
 pub(crate) fn judge_flag(place: Place, flag: &'static str) -> Option<Refusal>
     ensures { option_map verdict_of result ≡ flag_verdict place flag.now }
 {
@@ -102,10 +102,10 @@ fn judge_known(
     }
 }
 
-/// Judges options, where several architectures may be named or not.
+/// The judge of options.
 #[derive(Clone, Copy)]
 pub struct ByVerdict {
-    /// Whether they may.
+    /// Whether a line may name several architectures.
     pub multiarch: bool,
 }
 

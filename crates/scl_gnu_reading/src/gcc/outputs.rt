@@ -12,7 +12,7 @@ use scl_text::records::ArtifactDescriptor;
 use std::alloc::Global;
 use std::collections::BTreeMap;
 
-/// What the compilation makes, by name.
+/// The outputs of the compilation, by name.
 #[tactic(auto, using(crate::proofs::OutputLaws::put_in_order))]
 pub(crate) fn outputs_of(
     alloc: Global,

@@ -23,7 +23,7 @@ use scl_text::view::View;
 use scl_text::{ExpansionKind, Stop, judge_words};
 use std::alloc::Global;
 
-/// The options of a command line by the tables handed in, where none is refused.
+/// The options of a command line by these tables, if none is refused.
 fn judge_line<S: SearchableArgInfo<ArgData> + Drop>(
     alloc: Global,
     arguments: Vec<Vec<u8>>,
@@ -52,7 +52,7 @@ fn judge_line<S: SearchableArgInfo<ArgData> + Drop>(
     )
 }
 
-/// The record of options that are not refused, with the inner ones that they hand on.
+/// The record of options that are not refused, with the inner options in them.
 fn read_options(
     alloc: Global,
     options: Options<ArgData>,
@@ -86,11 +86,14 @@ fn parse<S: SearchableArgInfo<ArgData> + Drop>(
     read_options(alloc, options, cwd, plusplus, kind, view)
 }
 
-/// What a command line, whose words are handed over, says by the tables handed in: the record; or the first refusal in option
-/// order, on each option first that of an empty value; else that of a last flag without its value; else the same of the inner
-/// options; else that of the fixed tests, of which the first is `NotCompilation` (docs/RULES.md, Gcc, and Inner command
-/// lines). For `Clang`, `--` ends the options; where `plusplus` is set, files of C are taken for C++. Paths and words are
-/// bytes; the directory and the view answer what is asked of files. It fails only for want of memory.
+/// The outcome of a command line, by these tables (docs/RULES.md, Gcc, and Inner command lines). It takes ownership of the
+/// words. For `Clang`, `--` ends the options; if `plusplus` is set, C files are taken as C++. Paths and words are bytes; the
+/// directory and the view are for what is asked of files. The outcome is the record, or the first of these refusals:
+///
+/// - the first of an option, in order; of each option an empty value is tested first;
+/// - the last flag has no value;
+/// - the same two of the inner options;
+/// - the fixed tests, of which the first is `NotCompilation`.
 #[tactic(auto, using(scl_text::proofs::StopLemmas::outcome_given))]
 pub fn parse_arguments_owned<S: SearchableArgInfo<ArgData> + Drop>(
     alloc: Global,
@@ -107,7 +110,7 @@ pub fn parse_arguments_owned<S: SearchableArgInfo<ArgData> + Drop>(
     into_answer(parse(alloc, arguments, cwd, arg_info, plusplus, kind, view))
 }
 
-/// What `parse_arguments_owned` gives for copies of the words. It fails only for want of memory.
+/// What `parse_arguments_owned` gives, with a copy of the words.
 pub fn parse_arguments<S: SearchableArgInfo<ArgData> + Drop>(
     alloc: Global,
     arguments: &[Vec<u8>],

@@ -7,13 +7,12 @@ ghost use Rattle.scl_gnu_reading.specs.Places.{place, place_of, places_of};
 use super::data::{ArgData, Kind};
 use scl_args::{Argument, ReadArg, Test};
 
-/// Where the words of an option go: to a list of the command, or nowhere; or the option is refused
-/// (docs/RULES.md, Gcc).
+/// Where the words of an option go: to a list of the command, or to none; or the option is refused (docs/RULES.md, Gcc).
 #[derive(Clone, Copy, Debug, PartialEq, Eq)]
 pub enum Place {
     /// The list of common words.
     Common,
-    /// The list of words that are not hashed.
+    /// The list of words that do not change the result.
     Unhashed,
     /// The list of words that name architectures.
     Arch,
@@ -23,11 +22,11 @@ pub enum Place {
     Dependency,
     /// No list.
     Nowhere,
-    /// A refusal by the flag.
+    /// The option is refused, by its flag.
     Refused,
 }
 
-/// Where the words of options of the kind go: of outer options, and of inner ones, behind `-Xclang`.
+/// Where the words of options of the kind go: of outer options, and of inner ones, after `-Xclang`.
 pub(crate) fn places_of_kind(kind: Kind) -> (Place, Place)
     ensures { result ≡ places_of kind }
 {
@@ -77,7 +76,7 @@ pub(crate) fn place_of_kind(kind: Kind) -> Place
     places_of_kind(kind).0
 }
 
-/// Where the words of the option go: an unknown flag to the common words, a word that is no option nowhere.
+/// Where the words of the option go: of an unknown flag to the common words; of a raw word to no list.
 pub fn place_of(option: &Argument<ArgData>) -> Place
     ensures { result ≡ place_of (seen kind_of word_of option.now) }
 {

@@ -1,4 +1,4 @@
-//! A command line of Gcc or Clang, read: all that is said of it is a function of this.
+//! A command line of Gcc or Clang, read once; all answers about it are functions of this.
 ghost use Rattle.std.specs.Prelude.{◌≡◌, true, false, IfOk, IsTrue, MatchResult};
 ghost use Rattle.scl_files.specs.Expanded.{expanded_of};
 ghost use Rattle.scl_text.specs.Records.{outcome_of, parsed_of};
@@ -80,7 +80,7 @@ fn record(
     Ok(record_beside(alloc, options, inner, found, kind, cwd, view)?)
 }
 
-/// What the lines say.
+/// The outcome of the lines.
 #[tactic(auto, using(scl_text::proofs::StopLemmas::outcome_given))]
 fn outcome(
     alloc: Global,
@@ -97,8 +97,8 @@ fn outcome(
 }
 
 impl GnuReading {
-    /// Words in which response files were put in place, read by the tables handed in, where the inner line has at most `most`
-    /// words and openings of files; else `TooManyWords`. The outer error is the refusal of memory.
+    /// The reading of expanded words by these tables, if the inner line has at most `most` words and at most `most` openings
+    /// of files; else `TooManyWords`.
     pub fn read<S: SearchableArgInfo<ArgData>>(
         alloc: Global,
         expanded: Expanded,
@@ -131,14 +131,14 @@ impl GnuReading {
         }))
     }
 
-    /// Which of the two it is.
+    /// Gcc or Clang.
     pub fn kind(&self) -> CCompilerKind
         ensures { result ≡ self.now.compiler }
     {
         self.kind
     }
 
-    /// Whether it is the driver for C++.
+    /// Whether it is the C++ driver.
     pub fn plusplus(&self) -> bool
         ensures { result ≡ self.now.plusplus }
     {
@@ -152,28 +152,28 @@ impl GnuReading {
         &self.outer
     }
 
-    /// The words that it hands on, as they are handed on.
+    /// The words for the inner command line, before expansion.
     pub fn handed(&self) -> &[Vec<u8>]
         ensures { words_of result.now ≡ self.now.handed }
     {
         &self.handed
     }
 
-    /// The line that these are.
+    /// The inner command line.
     pub fn inner(&self) -> &ReadLine<ArgData>
         ensures { result.now ≡ self.now.inner }
     {
         &self.inner
     }
 
-    /// What it says: the record, or why it is refused.
+    /// Its outcome: the record, or why it is refused.
     pub fn outcome(&self) -> &CompilerArguments<ParsedArguments>
         ensures { outcome_of result.now ≡ self.now.outcome }
     {
         &self.outcome
     }
 
-    /// What it says, and nothing else of it.
+    /// Its outcome; the rest of the reading is dropped.
     pub fn into_outcome(self) -> CompilerArguments<ParsedArguments>
         ensures { outcome_of result ≡ self.outcome }
     {

@@ -23,7 +23,7 @@ use scl_text::records::{CCompilerKind, ColorMode, ParsedArguments};
 use scl_text::view::View;
 use std::alloc::Global;
 
-/// Whether the language has GNU's extensions, by the standard that was asked for.
+/// Whether the standard, or its absence, allows GNU's extensions.
 fn has_extensions(standard: Option<&[u8]>) -> bool
     ensures { result ≡ has_extensions (option_copied standard.entry) }
 {
@@ -40,7 +40,7 @@ pub fn needs_target(language: Language, options: &Options<ArgData>) -> bool
     language.needs_c_preprocessing() && options.any(&OfKinds(&[Kind::NeedDepTarget]))
 }
 
-/// The words that go there: those of the outer options, then those of the inner ones.
+/// The words of this place: those of the outer options, then those of the inner ones.
 fn all_words_at(
     alloc: Global,
     options: &Options<ArgData>,
@@ -68,7 +68,7 @@ fn dependency_words(
     Ok(words)
 }
 
-/// The two long lists, the preprocessor's words and the common ones. They take over the words of the outer options.
+/// The two long lists: the preprocessor's words and the common ones. They take ownership of the outer options' words.
 fn long_lists(
     alloc: Global,
     options: Options<ArgData>,
@@ -92,7 +92,7 @@ fn long_lists(
     Ok((preprocessor, common))
 }
 
-/// Whether includes that were rewritten would change what a pedantic Gcc says.
+/// Whether rewritten includes would change the messages of a pedantic Gcc.
 fn suppresses_rewritten_includes(kind: CCompilerKind, options: &Options<ArgData>) -> bool
     ensures { result ≡ suppresses_rewritten_includes kind options.now }
 {
@@ -101,7 +101,7 @@ fn suppresses_rewritten_includes(kind: CCompilerKind, options: &Options<ArgData>
         && has_extensions(options.last_text(&OfKinds(&[Kind::Standard])))
 }
 
-/// The two long lists as `long_lists` gives them, beside the options.
+/// The two long lists, as `long_lists` gives them, made of copies.
 fn copied_lists(
     alloc: Global,
     options: &Options<ArgData>,
@@ -119,7 +119,7 @@ fn copied_lists(
     Ok((preprocessor, common))
 }
 
-/// The record of the compilation that the tests found, but for its input and its two long lists.
+/// The record of the compilation that the tests found, without its input and its two long lists.
 fn short_record(
     alloc: Global,
     options: &Options<ArgData>,
@@ -179,7 +179,7 @@ pub(crate) fn record_of(
     })
 }
 
-/// The same, beside the options.
+/// The same record, made of copies of the options' words.
 pub(crate) fn record_beside(
     alloc: Global,
     options: &Options<ArgData>,

@@ -9,7 +9,7 @@ use super::data::{ArgData, Kind};
 use scl_args::{Argument, OfKinds, Options, Test};
 use scl_text::records::ColorMode;
 
-/// The colour that a value asks for.
+/// The colour mode that a value requests.
 fn color_named(value: &[u8]) -> ColorMode
     ensures { result ≡ color_named value.now }
 {
@@ -36,7 +36,7 @@ fn color_of(option: &Argument<ArgData>) -> ColorMode
     }
 }
 
-/// The colour that was asked for last.
+/// The colour mode that is requested last.
 pub(crate) fn color_mode(options: &Options<ArgData>) -> Option<ColorMode>
     ensures { result ≡ color_mode options.now }
 {
@@ -48,7 +48,7 @@ pub(crate) fn color_mode(options: &Options<ArgData>) -> Option<ColorMode>
     Some(color_of(options.last_by(&OfKinds(&kinds))?))
 }
 
-/// Whether the assembler that was asked for last is a program of its own.
+/// Whether the assembler that is requested last is a separate program.
 pub(crate) fn external_assembler(options: &Options<ArgData>) -> Option<bool>
     ensures { result ≡ external_assembler options.now }
 {
@@ -62,7 +62,7 @@ fn is_hiding_flag(flag: &str) -> bool
     flag == "-Wp" || flag == "-Xpreprocessor"
 }
 
-/// The options that hide from a cache of preprocessor runs what they ask of the preprocessor.
+/// The options whose requests to the preprocessor a cache of preprocessor runs can't see.
 struct Hiding;
 
 impl Test<ArgData> for Hiding {

@@ -58,7 +58,7 @@ impl CommandWords for Command {
     }
 }
 
-/// Whether the outcome may be kept: not where debug information would be added to a file.
+/// Whether the result can be cached: not if debug information would be appended to a file.
 fn cacheable(alloc: Global, parsed: &ParsedArguments, cwd: &[u8], view: &View) -> Mem<Cacheable>
     ensures { IfOk result (λ kept. kept ≡ cacheable (parsed_of parsed.now) cwd.now view.now) }
 {
@@ -72,9 +72,9 @@ fn cacheable(alloc: Global, parsed: &ParsedArguments, cwd: &[u8], view: &View) -
     }
 }
 
-/// The compile command of a record that is handed over, in the environment without `CL` and `_CL_`, and whether its outcome
-/// may be kept: not where debug information goes to a file that is there (docs/RULES.md, Msvc). The errors are `MissingObj`,
-/// exactly where the record has no output `obj`, and the refusal of memory.
+/// The compile command of a record, in the environment without `CL` and `_CL_`, and whether its result can be cached: not if
+/// debug information goes to a file that exists (docs/RULES.md, Msvc). It takes ownership of the record. The error is
+/// `MissingObj` exactly if the record has no output `obj`, else `Memory`.
 pub fn generate_compile_commands_owned(
     alloc: Global,
     executable: &[u8],
@@ -96,9 +96,7 @@ pub fn generate_compile_commands_owned(
     )
 }
 
-/// The compile command of a record, in the environment without `CL` and `_CL_`, and whether its outcome may be kept: not
-/// where debug information goes to a file that is there (docs/RULES.md, Msvc). The errors are `MissingObj`, exactly where
-/// the record has no output `obj`, and the refusal of memory.
+/// What `generate_compile_commands_owned` gives, with a copy of the record; the errors are the same.
 pub fn generate_compile_commands(
     alloc: Global,
     executable: &[u8],

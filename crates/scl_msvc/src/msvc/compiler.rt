@@ -21,20 +21,20 @@ use scl_text::stop::into_answer;
 use scl_text::view::View;
 use std::alloc::Global;
 
-/// Microsoft's cl, or clang-cl, with its version if it is known, and the prefix of the lines in which it names included
-/// files (docs/RULES.md, Msvc).
+/// Microsoft's cl, or clang-cl; its version, if it is known, and the prefix of the lines in which it prints the names of
+/// included files (docs/RULES.md, Msvc).
 #[derive(Debug, PartialEq, Eq, Drop)]
 pub struct Msvc {
-    /// The prefix of the lines in which it names included files.
+    /// The prefix of the lines in which it prints the names of included files.
     pub includes_prefix: String,
-    /// Whether it is clang-cl, and not cl.
+    /// Whether it is clang-cl; otherwise it is cl.
     pub is_clang: bool,
-    /// Its version, if that is known.
+    /// Its version, if it is known.
     pub version: Option<String>,
 }
 
 impl Msvc {
-    /// cl, or clang-cl, which names included files in lines with this prefix, and of which no version is known.
+    /// cl or clang-cl, with this prefix for the names of included files, and an unknown version.
     pub fn new(is_clang: bool, includes_prefix: String) -> Msvc
         ensures compiler { result.is_clang ≡ is_clang }
         ensures prefix { result.includes_prefix ≡ includes_prefix }
@@ -48,8 +48,8 @@ impl Msvc {
     }
 }
 
-/// What words that are handed over say between those that the environment gives, by Msvc's tables or trees, which are
-/// passed in, as `trees` gives them (docs/RULES.md, Msvc). It fails only for want of memory.
+/// The outcome of words, between those that the environment gives, by Msvc's tables or by trees from `trees` (docs/RULES.md,
+/// Msvc). It takes ownership of the words.
 #[tactic(auto, using(crate::proofs::EnvironmentLemmas::refusal_given))]
 pub fn parse_surrounded<S: SearchableArgInfo<ArgData> + Drop>(
     alloc: Global,

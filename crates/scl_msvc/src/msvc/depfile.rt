@@ -1,4 +1,4 @@
-//! The dependency file that clang-cl does not write, from what it says of included files.
+//! The dependency file that clang-cl does not write, made from the names of included files that it prints.
 ghost use Rattle.std.specs.Prelude.{◌≡◌, ◌++◌, IfOk, OnOk};
 ghost use Rattle.std.specs.Cmp.Lexicographic.{slice_cmp};
 ghost use Rattle.std.specs.List.Sorted.{IsStrictlySortedBy};
@@ -19,7 +19,7 @@ use std::collections::BTreeSet;
 use std::io::Write;
 use thiserror::Error;
 
-/// The text of a dependency file, and what is left of the error output that it was made from, both in bytes.
+/// The text of a dependency file, and the rest of the error output from which it was made, both in bytes.
 #[derive(Debug, PartialEq, Eq, Drop)]
 pub struct DepfileText {
     /// The bytes of the dependency file.
@@ -28,13 +28,13 @@ pub struct DepfileText {
     pub kept: Vec<u8>,
 }
 
-/// Why there is no text of a dependency file: the error output is not UTF-8, or memory was refused.
+/// Why there is no text of a dependency file: the error output is not UTF-8, or an allocation failed.
 #[derive(Debug, PartialEq, Eq, Drop, Error)]
 pub enum DepfileError {
-    /// There would be a text, and the error output is not UTF-8.
+    /// The error output is not UTF-8, and a text is wanted.
     #[error("error output is not UTF-8")]
     NotUtf8,
-    /// A request for memory was refused.
+    /// A memory allocation failed.
     #[error("out of memory")]
     Memory,
 }
@@ -50,7 +50,7 @@ impl From<AllocError> for DepfileError {
     }
 }
 
-/// The file that a line names behind the prefix, if no space stands in it.
+/// The file that a line names after the prefix, if the name has no space.
 fn name_in<'a>(line: &'a [u8], prefix: &[u8]) -> Option<&'a [u8]>
     ensures { option_copied result ≡ name_in prefix.now line.now }
 {
@@ -62,7 +62,7 @@ fn name_in<'a>(line: &'a [u8], prefix: &[u8]) -> Option<&'a [u8]>
     }
 }
 
-/// The files that the lines of an error output name, each where it is new, and all of them as a set.
+/// The files that the lines of an error output name, each at its first occurrence, and the set of all of them.
 fn gather(alloc: Global, stderr: &[u8], prefix: &[u8]) -> Mem<(Vec<Vec<u8>>, BTreeSet<Vec<u8>>)>
     ensures names { IfOk result (λ made. words_of made.0.items ≡ names prefix.now stderr.now) }
     ensures set { IfOk result (λ made. HasWords made.1 (words_of made.0.items)) }
@@ -88,7 +88,7 @@ fn in_order(alloc: Global, words: BTreeSet<Vec<u8>>) -> Mem<Vec<Vec<u8>>>
     words.into_iter().collect(alloc)
 }
 
-/// Puts each word behind a text, with this behind it.
+/// Appends each word, and this text after each.
 fn push_ended(text: &mut Vec<u8>, words: &[Vec<u8>], end: &[u8]) -> Mem<()>
     ensures { OnOk result (text.new.items ≡ text.old.items ++ ended_by end.now (words_of words.now)) }
 {
@@ -153,7 +153,7 @@ fn depfile_of(
     })
 }
 
-/// The object whose dependency file is to be written: that of a record for clang that has a dependency file.
+/// The object whose dependency file is wanted: that of a record for clang which has a dependency file.
 fn depfile_object(parsed: &ParsedArguments, is_clang: bool) -> Option<&[u8]>
     ensures { option_copied result ≡ depfile_object is_clang (parsed_of parsed.now) }
 {
@@ -164,10 +164,9 @@ fn depfile_object(parsed: &ParsedArguments, is_clang: bool) -> Option<&[u8]>
     }
 }
 
-/// The text of the dependency file, by the lines of the error output that begin with the prefix, and what is kept of that
-/// output; none but of a record for clang that has a dependency file and an output `obj` (docs/RULES.md, Dependency files).
-/// The errors are `NotUtf8`, exactly where there would be a text and the error output is not UTF-8, and else the refusal of
-/// memory.
+/// The text of the dependency file, from the lines of the error output that begin with the prefix, and the rest of that
+/// output. None unless the record is for clang, has a dependency file and an output `obj` (docs/RULES.md, Dependency files).
+/// The error is `NotUtf8` exactly if a text is wanted and the error output is not UTF-8, else `Memory`.
 pub fn depfile_text(
     alloc: Global,
     parsed: &ParsedArguments,
@@ -187,7 +186,7 @@ pub fn depfile_text(
     Ok(Some(made))
 }
 
-/// Writes the text of a dependency file whole, or tells how many of its bytes went out before the writer failed
+/// Writes the whole text of a dependency file. If a write fails, the fault says how many bytes the writer took before
 /// (docs/RULES.md, Dependency files).
 pub fn write_depfile<W: Write>(writer: &mut Counted<W>, text: &[u8]) -> Result<(), WriteFault>
     ensures { WriteEnds (W.contents writer.old.device) (W.contents writer.new.device) writer.old.failed writer.new.failed text.now result }

@@ -1,4 +1,4 @@
-//! What a command line has from its environment: words before and behind its own.
+//! What the environment adds to a command line: words before and after its own.
 ghost use Rattle.std.specs.Prelude.{◌≡◌, IfOk};
 ghost use Rattle.std.specs.Option.{option_copied, option_map};
 ghost use Rattle.scl_values.specs.Words.{words_of};
@@ -13,10 +13,10 @@ use scl_text::refusal::cannot_cache;
 use scl_text::{Stop, from_local_codepage, msvc_words};
 use std::alloc::Global;
 
-/// The variable whose words stand before those of a command line.
+/// The variable whose words come before those of a command line.
 const FRONT_VARIABLE: &[u8] = b"CL";
 
-/// The variable whose words stand behind those of a command line.
+/// The variable whose words come after those of a command line.
 const BACK_VARIABLE: &[u8] = b"_CL_";
 
 fn is_variable(key: &[u8]) -> bool
@@ -25,8 +25,8 @@ fn is_variable(key: &[u8]) -> bool
     key == FRONT_VARIABLE || key == BACK_VARIABLE
 }
 
-/// The environment of a compile command: the pairs whose key is neither `CL` nor `_CL_`, to the letter (docs/RULES.md,
-/// Msvc). It fails only for want of memory.
+/// The environment of a compile command: the pairs whose key is neither `CL` nor `_CL_`; upper and lower case differ
+/// (docs/RULES.md, Msvc).
 pub fn without_cl_env_vars(
     alloc: Global,
     env_vars: &[(Vec<u8>, Vec<u8>)],
@@ -62,7 +62,7 @@ pub(super) fn gives_words(env_vars: &[(Vec<u8>, Vec<u8>)]) -> bool
     value_of(env_vars, FRONT_VARIABLE).is_some() || value_of(env_vars, BACK_VARIABLE).is_some()
 }
 
-/// Puts `=` in the place of the first `#`.
+/// Replaces the first `#` by `=`.
 #[tactic(auto, using(crate::proofs::EnvironmentLemmas::equals_put))]
 fn put_equals(word: &mut [u8])
     ensures { word.new ≡ with_equals word.old }
@@ -89,7 +89,7 @@ fn words_in(alloc: Global, value: &[u8]) -> Mem<Option<Vec<Vec<u8>>>>
     Ok(Some(words))
 }
 
-/// The words of a variable; refused with this reason where its value is no text.
+/// The words of a variable; refused with this reason if its value is not a text.
 fn variable_words(
     alloc: Global,
     value: Option<&[u8]>,
@@ -103,8 +103,8 @@ fn variable_words(
     Ok(words_in(alloc, value)?.ok_or(cannot_cache(broken))?)
 }
 
-/// The words that an environment gives a command line: those of `CL`, which stand before its own, and those of `_CL_`, which
-/// stand behind them (docs/RULES.md, Msvc). It is refused where a value is no text, and stops else only for want of memory.
+/// The words that an environment adds to a command line: those of `CL` before its own, and those of `_CL_` after them
+/// (docs/RULES.md, Msvc). It is refused if a value is not a text; the only other error is a refused allocation.
 pub fn surroundings(
     alloc: Global,
     env_vars: &[(Vec<u8>, Vec<u8>)],
@@ -118,8 +118,8 @@ pub fn surroundings(
     Ok((front, back))
 }
 
-/// Words that are handed over, between those that the environment gives: of `CL` before and of `_CL_` behind them. Where it
-/// has neither they are the given ones, unmoved; refused where a value is no text.
+/// The given words between those that the environment adds: of `CL` before them and of `_CL_` after them. If there are
+/// neither, the given words are returned without a copy. It is refused if a value is not a text.
 #[tactic(auto, using(crate::proofs::EnvironmentLemmas::surrounded_by_none, crate::proofs::EnvironmentLemmas::surrounded_by_both, crate::proofs::EnvironmentLemmas::surrounded_stops))]
 pub(super) fn surround(
     alloc: Global,

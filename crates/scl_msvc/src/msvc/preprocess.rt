@@ -1,4 +1,4 @@
-//! The words of the one run of Msvc's preprocessor.
+//! The words of the only run of Msvc's preprocessor.
 ghost use Rattle.std.specs.Prelude.{◌≡◌, ◌++◌, IfOk, OnOk};
 ghost use Rattle.scl_values.specs.Words.{words_of};
 ghost use Rattle.scl_text.specs.Records.{parsed_of};
@@ -22,8 +22,8 @@ fn first_word(parsed: &ParsedArguments, may_dist: bool) -> &'static [u8]
     }
 }
 
-/// Puts the flag behind words by which clang names included files, where a dependency file is wanted and they are not
-/// named anyway.
+/// Appends the flag with which clang prints the names of included files, if a dependency file is wanted and the line does not
+/// print them anyway.
 fn push_shown(alloc: Global, words: &mut Vec<Vec<u8>>, parsed: &ParsedArguments) -> Mem<()>
     ensures { OnOk result (words_of words.new.items ≡ words_of words.old.items ++ shown_includes (parsed_of parsed.now).depfile parsed.now.msvc_show_includes) }
 {
@@ -33,7 +33,7 @@ fn push_shown(alloc: Global, words: &mut Vec<Vec<u8>>, parsed: &ParsedArguments)
     Ok(())
 }
 
-/// Puts the words behind others by which cl writes its own file of dependencies, if one is wanted.
+/// Appends the words with which cl writes its own file of dependencies, if one is wanted.
 fn push_written(alloc: Global, words: &mut Vec<Vec<u8>>, parsed: &ParsedArguments) -> Mem<()>
     ensures { OnOk result (words_of words.new.items ≡ words_of words.old.items ++ written_includes (parsed_of parsed.now).depfile) }
 {
@@ -44,7 +44,7 @@ fn push_written(alloc: Global, words: &mut Vec<Vec<u8>>, parsed: &ParsedArgument
     Ok(())
 }
 
-/// Puts the words behind others that ask for the names of included files.
+/// Appends the words that request the names of included files.
 fn push_includes(
     alloc: Global,
     words: &mut Vec<Vec<u8>>,
@@ -61,7 +61,7 @@ fn push_includes(
     }
 }
 
-/// Puts the flag behind words that leaves macros in place, if it is asked of clang.
+/// Appends the flag that leaves macros in place, if it is requested of clang.
 fn push_rewriting(
     alloc: Global,
     words: &mut Vec<Vec<u8>>,
@@ -76,7 +76,7 @@ fn push_rewriting(
     Ok(())
 }
 
-/// Copies of a record's lists for a run, which is not given the words that do not change the outcome.
+/// Copies of a record's lists for a run, without the words that do not change the result.
 fn lists_of_run(alloc: Global, parsed: &ParsedArguments) -> Mem<Lists>
     ensures { IfOk result (λ lists. lists_of lists ≡ run_lists (parsed_of parsed.now)) }
 {
@@ -107,7 +107,7 @@ fn preprocess_words(
     Ok(words)
 }
 
-/// The words of the one run.
+/// The words of the only run.
 pub(super) fn runs(
     alloc: Global,
     parsed: &ParsedArguments,

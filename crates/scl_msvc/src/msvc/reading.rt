@@ -13,7 +13,7 @@ use scl_text::view::View;
 use scl_text::{ExpansionKind, Sourced, Stop, TooManyWords, expand_line};
 use std::alloc::{AllocError, Global};
 
-/// The indices of words that stand between others, which no given word brought.
+/// The indices of words between others: those of the given words, and none for the others.
 fn ats_between(
     alloc: Global,
     front: usize,
@@ -72,9 +72,9 @@ fn read_between(
     }
 }
 
-/// A command line between the words that its environment gives it, read, where it and its inner lines have at most `most`
-/// words and openings of files each, else `TooManyWords`; where a variable is broken it is refused before (docs/RULES.md,
-/// Msvc). The outer error is the refusal of memory.
+/// The reading of a command line between the words that its environment adds, if it and each of its inner lines have at most
+/// `most` words and openings of files; else `TooManyWords`. If the value of a variable is not a text, it is refused before it
+/// is read (docs/RULES.md, Msvc).
 pub fn read_surrounded(
     alloc: Global,
     words: &[Vec<u8>],

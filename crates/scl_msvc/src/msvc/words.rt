@@ -1,4 +1,4 @@
-//! What compile commands and runs of the preprocessor share: the lists in their order, and the input.
+//! What compile commands and runs of the preprocessor share: the lists in order, and the input.
 ghost use Rattle.std.specs.Prelude.{◌≡◌, ◌++◌, IfOk, OnOk};
 ghost use Rattle.std.specs.Option.{option_copied};
 ghost use Rattle.scl_values.specs.Words.{words_of};
@@ -21,7 +21,7 @@ pub(super) struct Lists {
     pub common: Vec<Vec<u8>>,
 }
 
-/// Puts the lists behind words, in their order.
+/// Appends the lists in order.
 pub(super) fn append_lists(words: &mut Vec<Vec<u8>>, lists: Lists) -> Mem<()>
     ensures { OnOk result (words_of words.new.items ≡ words_of words.old.items ++ lists_of lists) }
 {
@@ -31,7 +31,7 @@ pub(super) fn append_lists(words: &mut Vec<Vec<u8>>, lists: Lists) -> Mem<()>
     append_words(words, lists.common)
 }
 
-/// The flag that says that an input has the language: there is one for C and one for C++.
+/// The flag that gives an input this language: there is one for C and one for C++.
 fn language_flag(language: Language) -> Option<&'static [u8]>
     ensures { option_copied result ≡ language_flag language }
 {
@@ -67,7 +67,7 @@ fn input_word(alloc: Global, parsed: &ParsedArguments) -> Mem<Vec<u8>>
     Ok(word)
 }
 
-/// Puts the input behind words, and `--` before it where it stands behind that.
+/// Appends the input, with `--` before it if the line has it there.
 pub(super) fn push_input(
     alloc: Global,
     words: &mut Vec<Vec<u8>>,

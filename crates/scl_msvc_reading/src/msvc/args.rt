@@ -1,4 +1,4 @@
-//! Msvc's two tables, and their trees.
+//! Msvc's two tables, and their prefix trees.
 ghost use Rattle.std.specs.Prelude.{◌≡◌, ◌∷◌, [], codes, IfOk, IsTrue};
 ghost use Rattle.std.specs.List.{flat_map};
 ghost use Rattle.scl_values.specs.Tables.{tables_hold_values};
@@ -12,7 +12,7 @@ use scl_tables::{Node, nodes};
 use scl_values::rows;
 use std::alloc::Global;
 
-// the rows whose flags begin with the prefix, in the order of their bytes, and that of response files
+// the rows whose flags begin with the prefix, in the order of their bytes, and the row of response files
 macro_rules! rows_behind {
     ($prefix:literal) => {
         rows![
@@ -278,7 +278,7 @@ macro_rules! rows_behind {
     };
 }
 
-/// The rows whose flags begin with `-`, in the order of their flags' bytes, and behind them that of response files, `@`
+/// The rows whose flags begin with `-`, in the order of their flags' bytes, and after them the row of response files, `@`
 /// (docs/RULES.md, Msvc).
 pub static ARGS: &[ArgInfo<ArgData>] = &rows_behind!("-");
 
@@ -623,8 +623,7 @@ pub fn slash_table() -> FlagTable<'static, ArgData>
     FlagTable::with_nodes(SLASH_ARGS, SLASH_ARGS_NODES)
 }
 
-/// Prefix trees of the table of flags that begin with `-` and of that of flags that begin with `/` (docs/RULES.md, Msvc).
-/// The error is the refusal of memory.
+/// The prefix trees of the table of flags that begin with `-` and of that of flags that begin with `/` (docs/RULES.md, Msvc).
 #[tactic(auto, using(crate::proofs::TableLaws::msvc_tables_hold_values))]
 pub fn trees(alloc: Global) -> Mem<Tables<FlagTree<'static, ArgData>>>
     ensures tables { IfOk result (λ trees. flat_map (λ tree. tree ∷ []) trees ≡ msvc_tables) }

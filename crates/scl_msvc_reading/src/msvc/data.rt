@@ -13,11 +13,11 @@ pub enum Kind {
     TooHardFlag,
     /// A word whose flag is refused.
     TooHard,
-    /// A path whose flag is refused, as that of a response file.
+    /// An option with a path whose flag is refused, such as a response file.
     TooHardPath,
-    /// A flag with which nothing is compiled.
+    /// A flag that suppresses compilation.
     SuppressCompilation,
-    /// A flag that asks for a compilation.
+    /// A flag that requests a compilation.
     DoCompilation,
     /// The path of the object, or its folder.
     Output,
@@ -25,21 +25,21 @@ pub enum Kind {
     CInput,
     /// The path of an input in C++.
     CxxInput,
-    /// The language of all inputs, which clang-cl alone takes.
+    /// The language of all inputs; only for clang-cl.
     ClangLanguage,
-    /// A module's file, behind its name and `=` or alone, which clang-cl alone takes; it is hashed.
+    /// A module's file, after its name and `=` or without these; only for clang-cl. It is hashed.
     ClangModuleFile,
     /// The path of the module that is made.
     ClangModuleOutput,
     /// The path of a file that is hashed.
     ExtraHashFile,
-    /// A flag with which cl puts debug information into a file of its own.
+    /// A flag with which cl writes debug information into a separate file.
     DebugInfo,
     /// The path of the file of debug information.
     ProgramDatabase,
     /// The path of the dependency file.
     DepFile,
-    /// A flag with which included files are named.
+    /// A flag that prints the names of included files.
     ShowIncludes,
     /// A word for the preprocessor.
     PreprocessorArgument,
@@ -47,23 +47,23 @@ pub enum Kind {
     PreprocessorArgumentPath,
     /// The path of a folder of external includes.
     ExternalIncludePath,
-    /// A flag that is kept among the common words.
+    /// A flag that goes to the common words.
     PassThrough,
-    /// An option with a path that is kept among the common words.
+    /// An option with a path that goes to the common words.
     PassThroughWithPath,
-    /// An option with a word that is kept among the common words.
+    /// An option with a word that goes to the common words.
     PassThroughWithSuffix,
-    /// A word of the inner command line behind `-Xclang`.
+    /// A word of the inner command line after `-Xclang`.
     XClang,
-    /// A word of the inner command line behind `-clang:`.
+    /// A word of the inner command line after `-clang:`.
     Clang,
-    /// A flag that is left out of the command.
+    /// A flag that is not part of the command.
     Ignore,
-    /// A word that is left out of the command with its flag.
+    /// An option with a word that is not part of the command.
     IgnoreWithSuffix,
 }
 
-/// A kind with its value, a path, a word or none: each variant is of the kind of its name (docs/RULES.md, Msvc).
+/// A kind with its value: a path, a word or none. Each variant has the kind of the same name (docs/RULES.md, Msvc).
 #[derive(Debug, PartialEq, Eq, Drop)]
 pub enum ArgData {
     TooHardFlag,

@@ -1,4 +1,4 @@
-//! The tests that follow the verdicts of the options.
+//! The tests after the verdicts of the options.
 ghost use Rattle.std.specs.Prelude.{◌≡◌, IfOk, codes};
 ghost use Rattle.std.specs.Option.{option_copied, option_map};
 ghost use Rattle.scl_values.specs.Words.{words_of};
@@ -30,7 +30,8 @@ pub(crate) struct Finding {
     pub(crate) program_database: Option<Vec<u8>>,
 }
 
-/// Why a module is refused: its output is not named, or that of no module is, or a flag says another language.
+/// Why a module is refused: it has no output path, or there is such a path without a module, or a flag gives the input another
+/// language.
 fn judge_module(is_compiled: bool, is_named: bool, has_language: bool) -> Option<Refusal>
     ensures { option_map verdict_of result ≡ module_verdict is_compiled is_named has_language }
 {
@@ -43,7 +44,7 @@ fn judge_module(is_compiled: bool, is_named: bool, has_language: bool) -> Option
     refuse_if(is_compiled && has_language, "-x c++-module with /Tc or /Tp")
 }
 
-/// The one input, where nothing stands against it; of several no more is asked.
+/// The only input. Several inputs are refused; else this refusal counts, if there is one.
 fn input_unless(
     alloc: Global,
     refusal: Option<Refusal>,
@@ -79,7 +80,7 @@ fn names_folder(path: &[u8]) -> bool
     path.ends_with(b"/") || path.ends_with(b"\\")
 }
 
-/// The path, with this extension where it has none.
+/// The path, with this extension if it has none.
 fn with_default_extension(alloc: Global, path: &[u8], default: &[u8]) -> Mem<Vec<u8>>
     ensures { IfOk result (λ whole. whole.items ≡ with_default_extension path.now default.now) }
 {
@@ -89,7 +90,7 @@ fn with_default_extension(alloc: Global, path: &[u8], default: &[u8]) -> Mem<Vec
     }
 }
 
-/// The object of the input in the folder, under the input's file name.
+/// The object in the folder, with the input's file name.
 fn object_in(alloc: Global, folder: &[u8], input: &[u8]) -> Mem<Option<Vec<u8>>>
     ensures { IfOk result (λ object. path_of object ≡ option_map (λ name. with_extension (join folder.now name) (codes "obj")) (file_name input.now)) }
 {
@@ -110,7 +111,7 @@ fn object_path(alloc: Global, output: Option<&[u8]>, input: &[u8]) -> Mem<Option
     }
 }
 
-/// Where debug information goes, if it goes to a file of its own; that must be named.
+/// The path of debug information, if it goes to a separate file; then the line must have it.
 fn program_database(
     alloc: Global,
     is_apart: bool,
@@ -129,7 +130,7 @@ fn program_database(
     }
 }
 
-/// The tests in their order.
+/// The tests, in order.
 pub(crate) fn apply_fixed_tests(
     alloc: Global,
     options: &Options<ArgData>,

@@ -1,4 +1,4 @@
-//! Files on whose contents the outcome of a compilation depends.
+//! Files on whose contents the result of a compilation depends.
 ghost use Rattle.std.specs.Prelude.{◌≡◌, IfOk, map};
 ghost use Rattle.scl_values.specs.Words.{words_of};
 ghost use Rattle.scl_gnu_reading.specs.Recordings.{hash_path};
@@ -26,7 +26,7 @@ impl NamesHashed for ArgData {
     }
 }
 
-/// The paths of the files that the options name, from the directory: the outer options, then the inner ones.
+/// The paths, from the directory, of the files that the options name: first of the outer options, then of the inner ones.
 pub(crate) fn hash_paths(
     alloc: Global,
     options: &Options<ArgData>,

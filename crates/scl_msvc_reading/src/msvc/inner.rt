@@ -1,4 +1,4 @@
-//! Inner command lines: words that options hand on to clang, behind `-Xclang` or joined to `-clang:`.
+//! Inner command lines: words for clang, each after `-Xclang` or joined to `-clang:`.
 
 mod judge;
 mod options;

@@ -1,4 +1,4 @@
-//! The inputs of a command line, and what their flags say of their language.
+//! The inputs of a command line, and their languages by flags.
 ghost use Rattle.std.specs.Prelude.{◌≡◌};
 ghost use Rattle.scl_values.specs.Seen.{seen};
 ghost use Rattle.scl_msvc_reading.specs.Data.{kind_of, word_of};
@@ -8,10 +8,10 @@ use super::data::{ArgData, Kind};
 use scl_args::{Argument, OfKinds, Options, ReadArg, Test, is_dashes};
 use scl_text::language::Language;
 
-/// The kinds of options that name an input and say its language.
+/// The kinds of options that give an input with its language.
 const LANGUAGE_INPUTS: [Kind; 2] = [Kind::CInput, Kind::CxxInput];
 
-/// The words that are no options, but for `--`, and the values of flags that name an input.
+/// The words that are no options, except `--`, and the values of flags that give an input.
 pub(crate) struct Inputs;
 
 impl Test<ArgData> for Inputs {
@@ -51,14 +51,14 @@ fn language_said(option: &Argument<ArgData>) -> Option<Language>
     }
 }
 
-/// Whether a flag says the language of an input.
+/// Whether a flag gives the language of an input.
 pub(crate) fn has_explicit_language(options: &Options<ArgData>) -> bool
     ensures { result ≡ any language_inputs options.now }
 {
     options.any(&OfKinds(&LANGUAGE_INPUTS))
 }
 
-/// The language of the input, as its flag says.
+/// The language of the input that a flag gives.
 pub(crate) fn explicit_language(options: &Options<ArgData>) -> Option<Language>
     ensures { result ≡ explicit_language options.now }
 {

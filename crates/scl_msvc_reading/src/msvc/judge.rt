@@ -1,4 +1,4 @@
-//! What an option says against caching.
+//! Which options prevent caching.
 ghost use Rattle.std.specs.Prelude.{◌≡◌};
 ghost use Rattle.std.specs.Option.{option_map};
 ghost use Rattle.std.specs.Bool.{then_some};
@@ -15,7 +15,7 @@ use scl_text::reasons::NO_INPUT_FILE;
 use scl_text::refusal::{Refusal, cannot_cache};
 use std::alloc::Global;
 
-/// The refusal for this reason, where there is one.
+/// The refusal for this reason, if it is refused.
 pub(crate) fn refuse_if(is_refused: bool, reason: &'static str) -> Option<Refusal>
     ensures { option_map verdict_of result ≡ then_some is_refused (because reason.now) }
 {
@@ -26,7 +26,7 @@ pub(crate) fn refuse_if(is_refused: bool, reason: &'static str) -> Option<Refusa
     }
 }
 
-/// The refusal of an option by its flag, where its place is that of refused ones.
+/// The refusal of an option by its flag, if its kind is refused.
 pub(crate) fn judge_flag(place: Place, flag: &'static str) -> Option<Refusal>
     ensures { option_map verdict_of result ≡ flag_verdict place flag.now }
 {
@@ -72,7 +72,7 @@ fn judge_known(is_clang: bool, flag: &'static str, value: &ArgData) -> Option<Re
     }
 }
 
-/// Judges the options of cl, or of clang-cl.
+/// The judge of the options of cl, or of clang-cl.
 #[derive(Clone, Copy)]
 pub struct ByVerdict {
     /// Whether it is clang-cl.

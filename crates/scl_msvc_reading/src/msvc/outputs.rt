@@ -13,7 +13,8 @@ use scl_text::records::ArtifactDescriptor;
 use std::alloc::Global;
 use std::collections::BTreeMap;
 
-/// The outputs of the compilation that the tests found, by their names; those made of type libraries may be missing.
+/// The outputs of the compilation that the tests found, in the order of their names; those made from type libraries may be
+/// missing.
 #[tactic(auto, using(crate::proofs::OutputLaws::put_in_order))]
 pub(crate) fn outputs_of(
     alloc: Global,

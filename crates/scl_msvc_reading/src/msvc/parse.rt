@@ -20,7 +20,7 @@ use scl_text::view::View;
 use scl_text::{ExpansionKind, Stop, judge_words};
 use std::alloc::Global;
 
-/// The record of options that are not refused, with the inner ones that they hand on.
+/// The record of options that are not refused, with the inner options in them.
 fn read_options(
     alloc: Global,
     options: Options<ArgData>,
@@ -66,11 +66,14 @@ fn parse<S: SearchableArgInfo<ArgData> + Drop>(
     read_options(alloc, options, cwd, is_clang, view)
 }
 
-/// What a command line of cl, or of clang-cl, whose words are handed over, says: the record; or the first refusal in option
-/// order, on each option first that of an empty value; else that of a last flag without its value; else the same of the inner
-/// options, those behind `-Xclang` before those behind `-clang:`; else that of the fixed tests, the first of which is
-/// `NotCompilation` (docs/RULES.md, Msvc). Paths and words are bytes; the directory and the view answer what is asked of
-/// files. The error is the refusal of memory.
+/// The outcome of a command line of cl, or of clang-cl (docs/RULES.md, Msvc). It takes ownership of the words. Paths and
+/// words are bytes; the directory and the view are for what is asked of files. The outcome is the record, or the first of
+/// these refusals:
+///
+/// - the first of an option, in order; of each option an empty value is tested first;
+/// - the last flag has no value;
+/// - the same two of the inner options, those after `-Xclang` before those after `-clang:`;
+/// - the fixed tests, of which the first is `NotCompilation`.
 pub fn parse_arguments_owned(
     alloc: Global,
     arguments: Vec<Vec<u8>>,
@@ -83,8 +86,7 @@ pub fn parse_arguments_owned(
     parse_arguments_by(alloc, arguments, cwd, trees(alloc)?, is_clang, view)
 }
 
-/// What `parse_arguments_owned` gives, by Msvc's tables or trees, which are passed in, as `trees` gives them. It fails only
-/// for want of memory.
+/// What `parse_arguments_owned` gives, by Msvc's tables or by trees from `trees`.
 #[tactic(auto, using(scl_text::proofs::StopLemmas::outcome_given))]
 pub fn parse_arguments_by<S: SearchableArgInfo<ArgData> + Drop>(
     alloc: Global,
@@ -100,11 +102,7 @@ pub fn parse_arguments_by<S: SearchableArgInfo<ArgData> + Drop>(
     into_answer(parse(alloc, arguments, cwd, arg_info, is_clang, view))
 }
 
-/// What a command line of cl, or of clang-cl, says: the record; or the first refusal in option order, on each option first
-/// that of an empty value; else that of a last flag without its value; else the same of the inner options, those behind
-/// `-Xclang` before those behind `-clang:`; else that of the fixed tests, the first of which is `NotCompilation`
-/// (docs/RULES.md, Msvc). Paths and words are bytes; the directory and the view answer what is asked of files. The error is
-/// the refusal of memory.
+/// What `parse_arguments_owned` gives, with a copy of the words.
 pub fn parse_arguments(
     alloc: Global,
     arguments: &[Vec<u8>],

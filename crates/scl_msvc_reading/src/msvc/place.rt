@@ -7,13 +7,12 @@ ghost use Rattle.scl_msvc_reading.specs.Places.{place, place_of, side_of_flag};
 use super::data::{ArgData, Kind};
 use scl_args::{Argument, NormalizedDisposition, ReadArg, Sides, Test};
 
-/// Where the words of an option go: to a list of the command, or nowhere; or the option is refused
-/// (docs/RULES.md, Msvc).
+/// Where the words of an option go: to a list of the command, or to none; or the option is refused (docs/RULES.md, Msvc).
 #[derive(Clone, Copy, Debug, PartialEq, Eq)]
 pub enum Place {
     /// The list of common words.
     Common,
-    /// The list of words that are not hashed.
+    /// The list of words that do not change the result.
     Unhashed,
     /// The list of words for the preprocessor.
     Preprocessor,
@@ -21,7 +20,7 @@ pub enum Place {
     Dependency,
     /// No list.
     Nowhere,
-    /// A refusal by the flag.
+    /// The option is refused, by its flag.
     Refused,
 }
 
@@ -59,7 +58,7 @@ pub(crate) fn place_of_kind(kind: Kind) -> Place
     }
 }
 
-/// Where the words of the option go: an unknown flag to the common words, a word that is no option nowhere.
+/// Where the words of the option go: of an unknown flag to the common words; of a raw word to no list.
 pub fn place_of(option: &Argument<ArgData>) -> Place
     ensures { result ≡ place_of (seen kind_of word_of option.now) }
 {
@@ -80,7 +79,7 @@ impl Test<ArgData> for Place {
     }
 }
 
-/// Flags stand together with their values, but those of folders of external includes.
+/// Flags are joined to their values, except those of folders of external includes.
 #[derive(Clone, Copy)]
 pub struct ExternalIncludesApart;
 

@@ -1,4 +1,4 @@
-//! A command line of cl or clang-cl, read: all that is said of it is a function of this.
+//! A command line of cl or clang-cl, read once; all answers about it are functions of this.
 ghost use Rattle.std.specs.Prelude.{◌≡◌, true, false, IfOk, MatchResult};
 ghost use Rattle.scl_files.specs.Expanded.{expanded_of};
 ghost use Rattle.scl_text.specs.Records.{outcome_of, parsed_of};
@@ -63,7 +63,7 @@ fn outer_line(alloc: Global, is_clang: bool, expanded: Expanded) -> Mem<ReadLine
     ReadLine::read(alloc, &trees, is_clang, &ByVerdict { is_clang }, expanded)
 }
 
-/// The line behind the options of these kinds, where it has at most so many words and openings of files.
+/// The line of the words in the options of these kinds, if it has at most `most` words and openings of files.
 fn line_behind(
     alloc: Global,
     outer: &Line<ArgData>,
@@ -79,7 +79,7 @@ fn line_behind(
     gcc::read_inner_line(alloc, &ByInnerVerdict, handed, cwd, view, most)
 }
 
-/// The inner lines of a line: behind `-Xclang`, behind `-clang:`, and of the words that either hands on.
+/// The inner lines of a line: of the words after `-Xclang`, of those after `-clang:`, and of both together.
 #[derive(Drop)]
 struct InnerLines {
     xclang: ReadLine<gcc::ArgData>,
@@ -88,7 +88,7 @@ struct InnerLines {
     either: ReadLine<gcc::ArgData>,
 }
 
-/// The inner lines, where each has at most so many words and openings of files.
+/// The inner lines, if each has at most `most` words and openings of files.
 fn inner_lines(
     alloc: Global,
     outer: &Line<ArgData>,
@@ -145,7 +145,7 @@ fn record(
     Ok(record_beside(alloc, options, &inner, found, cwd, view)?)
 }
 
-/// What the lines say.
+/// The outcome of the lines.
 #[tactic(auto, using(scl_text::proofs::StopLemmas::outcome_given))]
 fn outcome(
     alloc: Global,
@@ -162,8 +162,8 @@ fn outcome(
 }
 
 impl MsvcReading {
-    /// Words in which response files were put in place, some of which the environment gave, read, where each inner line has at
-    /// most `most` words and openings of files; else `TooManyWords`. The outer error is the refusal of memory.
+    /// The reading of expanded words, some of which the environment gave, if each inner line has at most `most` words and
+    /// openings of files; else `TooManyWords`.
     pub fn read(
         alloc: Global,
         environment: Vec<Vec<u8>>,
@@ -195,7 +195,7 @@ impl MsvcReading {
         }))
     }
 
-    /// A command line of which nothing is read, since it is refused before.
+    /// A reading without words, of a line that is refused before they are read.
     pub fn refused(
         alloc: Global,
         is_clang: bool,
@@ -222,56 +222,56 @@ impl MsvcReading {
         self.is_clang
     }
 
-    /// The words that the environment gave it.
+    /// The words from the environment.
     pub fn environment(&self) -> &[Vec<u8>]
         ensures { words_of result.now ≡ self.now.environment }
     {
         &self.environment
     }
 
-    /// The given line, with the words of the environment.
+    /// The given line, with the words from the environment.
     pub fn outer(&self) -> &ReadLine<ArgData>
         ensures { result.now ≡ self.now.outer }
     {
         &self.outer
     }
 
-    /// The line behind `-Xclang`.
+    /// The line of the words after `-Xclang`.
     pub fn xclang(&self) -> &ReadLine<gcc::ArgData>
         ensures { result.now ≡ self.now.xclang }
     {
         &self.xclang
     }
 
-    /// The line behind `-clang:`.
+    /// The line of the words after `-clang:`.
     pub fn clang(&self) -> &ReadLine<gcc::ArgData>
         ensures { result.now ≡ self.now.clang }
     {
         &self.clang
     }
 
-    /// The words that either hands on, in order, as they are handed on.
+    /// The words for both inner lines, in order, before expansion.
     pub fn handed(&self) -> &[Vec<u8>]
         ensures { words_of result.now ≡ self.now.handed }
     {
         &self.handed
     }
 
-    /// The line that these are.
+    /// The line of these words together.
     pub fn inner(&self) -> &ReadLine<gcc::ArgData>
         ensures { result.now ≡ self.now.inner }
     {
         &self.inner
     }
 
-    /// What it says: the record, or why it is refused.
+    /// Its outcome: the record, or why it is refused.
     pub fn outcome(&self) -> &CompilerArguments<ParsedArguments>
         ensures { outcome_of result.now ≡ self.now.outcome }
     {
         &self.outcome
     }
 
-    /// What it says, and nothing else of it.
+    /// Its outcome; the rest of the reading is dropped.
     pub fn into_outcome(self) -> CompilerArguments<ParsedArguments>
         ensures { outcome_of result ≡ self.outcome }
     {

@@ -20,7 +20,7 @@ use scl_text::records::ParsedArguments;
 use scl_text::view::View;
 use std::alloc::Global;
 
-/// The words that go there: those of the outer options, then those of the inner ones.
+/// The words of this place: those of the outer options, then those of the inner ones.
 fn all_words_at(
     alloc: Global,
     options: &Options<ArgData>,
@@ -34,7 +34,7 @@ fn all_words_at(
     Ok(words)
 }
 
-/// The two long lists, the preprocessor's words and the common ones. They take over the words of the outer options.
+/// The two long lists: the preprocessor's words and the common ones. They take ownership of the outer options' words.
 fn long_lists(
     alloc: Global,
     options: Options<ArgData>,
@@ -54,7 +54,7 @@ fn long_lists(
     Ok((preprocessor, common))
 }
 
-/// Whether the program will write a profile of its runs; inner options alone ask for it.
+/// Whether the compiled program writes a profile when it runs; only inner options request it.
 fn writes_profile(inner: &InnerOptions<'_>) -> bool
     ensures { result ≡ writes_profile (inner_of inner.now) }
 {
@@ -62,7 +62,7 @@ fn writes_profile(inner: &InnerOptions<'_>) -> bool
     inner.xclang.any(&profile) || inner.clang.any(&profile)
 }
 
-/// The record of the compilation that the tests found, but for its input and its two long lists.
+/// The record of the compilation that the tests found, without its input and its two long lists.
 fn short_record(
     alloc: Global,
     options: &Options<ArgData>,
@@ -115,7 +115,7 @@ pub(crate) fn record_of(
     })
 }
 
-/// The same, beside the options.
+/// The same record, made of copies of the options' words.
 pub(crate) fn record_beside(
     alloc: Global,
     options: &Options<ArgData>,

@@ -10,7 +10,7 @@ use scl_args::{ArgInfo, FlagTable};
 use scl_tables::{Node, nodes};
 use scl_values::rows;
 
-/// Diab's flags, in rising order by bytes (docs/RULES.md, Diab and TaskingVX).
+/// Diab's rows, in the order of their flags' bytes (docs/RULES.md, Diab and TaskingVX).
 pub static ARGS: &[ArgInfo<ArgData>] = &rows![
     "-" TooHardFlag,
     "-##" TooHardFlag,

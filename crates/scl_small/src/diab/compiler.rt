@@ -13,15 +13,15 @@ use scl_text::records::{
 use scl_text::{CCompilerImpl, Mem, View};
 use std::alloc::Global;
 
-/// Diab, and its version, if that is known (docs/RULES.md, Diab and TaskingVX).
+/// Diab, and its version if it is known (docs/RULES.md, Diab and TaskingVX).
 #[derive(Debug, Drop)]
 pub struct Diab {
-    /// Its version, if that is known.
+    /// Its version, if it is known.
     pub version: Option<String>,
 }
 
 impl Diab {
-    /// Diab, of which no version is known.
+    /// Diab with an unknown version.
     pub fn new() -> Diab
         ensures { result.version ≡ None }
     {

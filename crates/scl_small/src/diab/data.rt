@@ -6,18 +6,18 @@ use scl_args::{
 use scl_values::of_kinds;
 use std::alloc::Global;
 
-/// What Diab's options mean, without their values (docs/RULES.md, Diab and TaskingVX).
+/// What an option of Diab means, apart from its value (docs/RULES.md, Diab and TaskingVX).
 #[derive(Clone, Copy, Debug, PartialEq, Eq)]
 pub enum Kind {
-    /// A flag by which the command line can't be cached.
+    /// A flag with which a command line can't be cached.
     TooHardFlag,
-    /// A flag with a value by which the command line can't be cached.
+    /// An option with a value with which a command line can't be cached.
     TooHard,
-    /// The flag that asks for a compilation.
+    /// The flag that requests a compilation.
     DoCompilation,
     /// The path of the object file.
     Output,
-    /// A word that changes the outcome.
+    /// A word that changes the result.
     PassThrough,
     /// A word for the preprocessor.
     PreprocessorArgument,
@@ -31,7 +31,7 @@ pub enum Kind {
     DepArgumentPath,
 }
 
-/// A kind with its value, a path, a word or none: each variant is of the kind of its name (docs/RULES.md, Diab and
+/// A kind with its value: a path, a word or none. Each variant has the kind of the same name (docs/RULES.md, Diab and
 /// TaskingVX).
 #[derive(Debug, PartialEq, Eq, Drop)]
 pub enum ArgData {

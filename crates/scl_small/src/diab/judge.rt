@@ -1,4 +1,4 @@
-//! What Diab says of one option, and the flag of its command.
+//! Diab's verdict of one option, and the flag in its command.
 use super::data::ArgData;
 use crate::judge::Rules;
 use crate::place::refuse_by_place;

@@ -1,4 +1,4 @@
-//! From words to Diab's answer.
+//! From words to Diab's outcome.
 ghost use Rattle.std.specs.Prelude.{◌≡◌, IfOk, IsTrue};
 ghost use Rattle.scl_values.specs.Tables.{owner_in, tables_hold_values};
 ghost use Rattle.scl_values.specs.Words.{words_of};
@@ -14,8 +14,8 @@ use scl_text::records::{CompilerArguments, ParsedArguments};
 use scl_text::{ExpansionKind, Mem, View, expand_words};
 use std::alloc::Global;
 
-/// What words without response files say to Diab, cut by tables whose value rows have kinds that hold values: the
-/// record, or the first refusal (docs/RULES.md, Diab and TaskingVX). It fails only for want of memory.
+/// The outcome, for Diab, of words without response files (docs/RULES.md, Diab and TaskingVX): the record, or the first
+/// refusal. The kinds of the tables' rows that take a value must hold one.
 pub fn parse_words<S: SearchableArgInfo<ArgData> + Drop>(
     alloc: Global,
     words: Vec<Vec<u8>>,
@@ -27,9 +27,9 @@ pub fn parse_words<S: SearchableArgInfo<ArgData> + Drop>(
     read_words::<ArgData, S>(alloc, words, arg_info)
 }
 
-/// What words that are handed over say to Diab, with the response files of the view, looked up from the directory, put in
-/// place, cut by tables whose value rows have kinds that hold values: the record, or the first refusal (docs/RULES.md, Diab
-/// and TaskingVX). It fails only for want of memory.
+/// The outcome, for Diab, of words with the view's response files expanded, from the directory (docs/RULES.md, Diab and
+/// TaskingVX): the record, or the first refusal. The kinds of the tables' rows that take a value must hold one. It takes
+/// ownership of the words.
 pub fn parse_arguments_owned<S: SearchableArgInfo<ArgData> + Drop>(
     alloc: Global,
     arguments: Vec<Vec<u8>>,
@@ -44,9 +44,7 @@ pub fn parse_arguments_owned<S: SearchableArgInfo<ArgData> + Drop>(
     parse_words(alloc, words, arg_info)
 }
 
-/// What words say to Diab, with the response files of the view, looked up from the directory, put in place, cut by
-/// tables whose value rows have kinds that hold values: the record, or the first refusal (docs/RULES.md, Diab and TaskingVX).
-/// It fails only for want of memory.
+/// What `parse_arguments_owned` gives, with a copy of the words.
 pub fn parse_arguments<S: SearchableArgInfo<ArgData> + Drop>(
     alloc: Global,
     arguments: &[Vec<u8>],

@@ -1,4 +1,4 @@
-//! What TaskingVX says of one option, and the flag of its command.
+//! TaskingVX's verdict of one option, and the flag in its command.
 use super::data::ArgData;
 use crate::judge::Rules;
 use crate::place::refuse_by_place;

@@ -1,4 +1,4 @@
-//! From words to TaskingVX's answer.
+//! From words to TaskingVX's outcome.
 ghost use Rattle.std.specs.Prelude.{◌≡◌, IfOk, IsTrue};
 ghost use Rattle.scl_values.specs.Tables.{owner_in, tables_hold_values};
 ghost use Rattle.scl_values.specs.Words.{words_of};
@@ -14,9 +14,9 @@ use scl_text::records::{CompilerArguments, ParsedArguments};
 use scl_text::{Mem, View};
 use std::alloc::Global;
 
-/// What words that are handed over say to TaskingVX, cut by tables whose value rows have kinds that hold values: the record,
-/// or the first refusal (docs/RULES.md, Diab and TaskingVX). It expands no response files, so directory and view are not
-/// asked. It fails only for want of memory.
+/// The outcome, for TaskingVX, of words (docs/RULES.md, Diab and TaskingVX): the record, or the first refusal. The kinds of
+/// the tables' rows that take a value must hold one. It takes ownership of the words. Response files are not expanded, so
+/// directory and view are not used.
 pub fn parse_arguments_owned<S: SearchableArgInfo<ArgData> + Drop>(
     alloc: Global,
     arguments: Vec<Vec<u8>>,
@@ -30,9 +30,7 @@ pub fn parse_arguments_owned<S: SearchableArgInfo<ArgData> + Drop>(
     read_words::<ArgData, S>(alloc, arguments, arg_info)
 }
 
-/// What words say to TaskingVX, cut by tables whose value rows have kinds that hold values: the record, or the first
-/// refusal (docs/RULES.md, Diab and TaskingVX). It expands no response files, so directory and view are not asked. It fails
-/// only for want of memory.
+/// What `parse_arguments_owned` gives, with a copy of the words.
 pub fn parse_arguments<S: SearchableArgInfo<ArgData> + Drop>(
     alloc: Global,
     arguments: &[Vec<u8>],

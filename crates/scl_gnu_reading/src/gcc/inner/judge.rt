@@ -1,4 +1,4 @@
-//! What an inner option says against caching.
+//! Which inner options prevent caching.
 ghost use Rattle.std.specs.Prelude.{◌≡◌, IfOk, Some, map};
 ghost use Rattle.std.specs.Option.{option_map};
 ghost use Rattle.scl_args.specs.Options.{last};
@@ -15,7 +15,7 @@ use scl_text::Judge;
 use scl_text::refusal::Refusal;
 use std::alloc::Global;
 
-/// The word, or the empty text where it is not UTF-8.
+/// The word; the empty text if it is not UTF-8.
 #[tactic(auto, using(crate::proofs::InnerLemmas::text_rules))]
 fn text_or_empty(word: &[u8]) -> &str
     ensures { result.now ≡ text_or_empty word.now }
@@ -26,7 +26,7 @@ fn text_or_empty(word: &[u8]) -> &str
     }
 }
 
-/// The refusal for this reason, with the word beside it, or the empty text where it is not UTF-8.
+/// The refusal for this reason, with the word beside it; the empty text if the word is not UTF-8.
 fn refuse_word(alloc: Global, reason: &'static str, word: &[u8]) -> Mem<Refusal>
     ensures { IfOk result (λ refusal. Some (verdict_of refusal) ≡ word_refusal reason.now word.now) }
 {
@@ -34,7 +34,7 @@ fn refuse_word(alloc: Global, reason: &'static str, word: &[u8]) -> Mem<Refusal>
     Ok(Refusal::CannotCache(reason, Some(text)))
 }
 
-/// Whether a word that is no option may stand behind these options: it is an argument of the plugin that the last names.
+/// Whether a raw word may follow these options: it is an argument of the plugin that the last one names.
 fn takes_raw(before: &[Argument<ArgData>]) -> bool
     ensures { result ≡ takes_raw (last (map (seen kind_of word_of) before.now)) }
 {
@@ -54,7 +54,7 @@ fn judge_raw(alloc: Global, is_taken: bool, word: &[u8]) -> Mem<Option<Refusal>>
     Ok(Some(refuse_word(alloc, reason, word)?))
 }
 
-/// Judges inner options.
+/// The judge of inner options.
 #[derive(Clone, Copy)]
 pub struct ByInnerVerdict;
 

@@ -14,7 +14,7 @@ use scl_text::view::View;
 use scl_text::{Expanded, ExpansionKind, Judge, ReadLine, Sourced, TooManyWords, expand_line};
 use std::alloc::Global;
 
-/// The line of words in which response files were put in place.
+/// The line of expanded words.
 fn cut_inner<J: Judge<ArgData>>(
     alloc: Global,
     judge: &J,
@@ -26,9 +26,9 @@ fn cut_inner<J: Judge<ArgData>>(
     ReadLine::read(alloc, &trees, false, judge, expanded)
 }
 
-/// The inner command line of words that are handed on, with response files put in place, cut by Clang's tables, in which `--`
-/// ends no options, and judged (docs/RULES.md, Inner command lines); `TooManyWords` where it has more than `most` words or
-/// openings of files. The outer error is the refusal of memory.
+/// The inner command line of these words, with response files expanded, cut by Clang's tables and judged; `--` does not end
+/// options (docs/RULES.md, Inner command lines). If it has more than `most` words or openings of files, the result is
+/// `TooManyWords`.
 pub fn read_inner_line<J: Judge<ArgData>>(
     alloc: Global,
     judge: &J,

@@ -10,9 +10,9 @@ use scl_text::view::View;
 use scl_text::{ExpansionKind, Judge, Stop, judge_words};
 use std::alloc::Global;
 
-/// The options of an inner command line, whose words are cut by Clang's tables, and in which `--` ends no options; or the
-/// first refusal, of an empty value or the judge's, or that of a last flag without its value (docs/RULES.md, Inner command
-/// lines). The directory and the view answer what is asked of response files. It stops only so, or for want of memory.
+/// The options of an inner command line, cut by Clang's tables; `--` does not end options. Or the first refusal, for an empty
+/// value or by the judge, or that of a last flag without a value (docs/RULES.md, Inner command lines). The directory and the
+/// view are for response files. The only other error is a refused allocation.
 pub fn read_inner<J: Judge<ArgData>>(
     alloc: Global,
     words: Vec<Vec<u8>>,

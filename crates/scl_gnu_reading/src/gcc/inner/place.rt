@@ -15,7 +15,7 @@ pub(crate) fn inner_place_of_kind(kind: Kind) -> Place
     places_of_kind(kind).1
 }
 
-/// Where the words of the inner option go: a word that is no option to the common words; an unknown flag is refused.
+/// Where the words of the inner option go: of a raw word to the common words; an unknown flag is refused.
 pub fn inner_place_of(option: &Argument<ArgData>) -> Place
     ensures { result ≡ inner_place_of (seen kind_of word_of option.now) }
 {
@@ -28,7 +28,7 @@ pub fn inner_place_of(option: &Argument<ArgData>) -> Place
     }
 }
 
-/// The test that inner options whose words go there pass.
+/// The test for inner options whose words go to this place.
 #[derive(Clone, Copy)]
 pub(crate) struct Inside(pub(crate) Place);
 

@@ -1,4 +1,4 @@
-//! The words that hand inner options on.
+//! Words of inner options, each after `-Xclang`.
 ghost use Rattle.std.specs.Prelude.{◌≡◌, ◌++◌, OnOk};
 ghost use Rattle.scl_values.specs.Words.{words_of};
 ghost use Rattle.scl_gnu_reading.specs.Inners.{inner_words_at};
@@ -10,7 +10,7 @@ use scl_args::{Mem, Options, ShortFlagsJoined};
 use scl_text::command::push_word;
 use std::alloc::Global;
 
-/// Puts the words of the inner options that go there, each behind `-Xclang`, behind others.
+/// Appends the words of the inner options of this place, each after `-Xclang`.
 pub(crate) fn push_inner(
     alloc: Global,
     words: &mut Vec<Vec<u8>>,

@@ -19,7 +19,7 @@ loop-round-preserved g c =
     read-more holds fails line c.args.most c.args.rounds c.loop-round.round c.follow.new.view c.read_once.new.view c.follow.new.self c.read_once.new.leads way (c.loop-round.round + 1) refl
     (rw (c.in-Ok-None.is, c.in-Ok-None.field-0-is) at c.in_ok-reading.ensures)
 
--- ---- a read in between fails, or too many files name each the next
+-- ---- a read fails in between, or a chain has too many files
 
 pub returns-in-Err-clause-end : goal.returns-in-Err-clause-end
 returns-in-Err-clause-end g c =

@@ -1,4 +1,4 @@
-//! What an inner option says against caching.
+//! Which inner options prevent caching.
 use super::place::inner_place_of_kind;
 use crate::msvc::judge::judge_flag;
 use scl_args::{Argument, Mem, ReadArg};
@@ -7,7 +7,7 @@ use scl_text::Judge;
 use scl_text::refusal::Refusal;
 use std::alloc::Global;
 
-/// Judges inner options.
+/// The judge of inner options.
 #[derive(Clone, Copy)]
 pub struct ByInnerVerdict;
 

@@ -17,7 +17,7 @@ pub(crate) struct InnerOptions<'a> {
     pub(crate) clang: &'a Options<gcc::ArgData>,
 }
 
-/// The options of an inner command line, whose words are the values of the options of a kind.
+/// The options of an inner command line; its words are the values of the options of this kind.
 fn inner_options(
     alloc: Global,
     options: &Options<ArgData>,
@@ -31,7 +31,7 @@ fn inner_options(
     gcc::read_inner(alloc, words, cwd, &ByInnerVerdict, view)
 }
 
-/// The options of the two inner command lines; or the first refusal of one of them, that behind `-Xclang` first.
+/// The options of the two inner command lines; or the first refusal, of the line after `-Xclang` first.
 pub(crate) fn both_inner(
     alloc: Global,
     options: &Options<ArgData>,

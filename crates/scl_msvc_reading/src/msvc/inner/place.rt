@@ -51,7 +51,7 @@ pub(crate) fn inner_place_of_kind(kind: Kind) -> Place
     }
 }
 
-/// Where the words of the inner option go: a word without an owner to the common words.
+/// Where the words of the inner option go; a word without an owner goes to the common words.
 pub fn inner_place_of(option: &Argument<ArgData>) -> Place
     ensures { result ≡ inner_place_of (seen kind_of word_of option.now) }
 {
@@ -63,7 +63,7 @@ pub fn inner_place_of(option: &Argument<ArgData>) -> Place
     }
 }
 
-/// The test that inner options whose words go there pass.
+/// The test for inner options whose words go to this place.
 #[derive(Clone, Copy)]
 pub(crate) struct Inside(pub(crate) Place);
 

@@ -1,4 +1,4 @@
-//! The words that hand inner options on.
+//! Words of inner options, each with its wrapper.
 ghost use Rattle.std.specs.Prelude.{◌≡◌, ◌++◌, IfOk, OnOk, codes};
 ghost use Rattle.std.specs.List.{flat_map};
 ghost use Rattle.scl_values.specs.Words.{words_of};
@@ -21,7 +21,7 @@ fn inner_list(alloc: Global, inner: &Options<gcc::ArgData>, there: Place) -> Mem
     inner.list(alloc, &ShortFlagsJoined, &Inside(there))
 }
 
-/// Puts words behind others, each behind `-Xclang`.
+/// Appends words, each after `-Xclang`.
 fn push_behind_xclang(alloc: Global, words: &mut Vec<Vec<u8>>, inner: Vec<Vec<u8>>) -> Mem<()>
     ensures { OnOk result (words_of words.new.items ≡ words_of words.old.items ++ flat_map (wrapped_apart (codes "-Xclang")) (words_of inner.items)) }
 {
@@ -32,7 +32,7 @@ fn push_behind_xclang(alloc: Global, words: &mut Vec<Vec<u8>>, inner: Vec<Vec<u8
     Ok(())
 }
 
-/// Puts words behind others, each joined to `-clang:`.
+/// Appends words, each joined to `-clang:`.
 #[tactic(auto, using(crate::proofs::InnerLemmas::undelimited))]
 fn push_joined_to_clang(alloc: Global, words: &mut Vec<Vec<u8>>, inner: Vec<Vec<u8>>) -> Mem<()>
     ensures { OnOk result (words_of words.new.items ≡ words_of words.old.items ++ flat_map (wrapped_joined (codes "-clang:")) (words_of inner.items)) }
@@ -43,7 +43,7 @@ fn push_joined_to_clang(alloc: Global, words: &mut Vec<Vec<u8>>, inner: Vec<Vec<
     Ok(())
 }
 
-/// Puts the words of the inner options that go there, each with the flag that hands it on, behind others.
+/// Appends the words of the inner options of this place, each with the flag of its inner line.
 pub(crate) fn push_inner(
     alloc: Global,
     words: &mut Vec<Vec<u8>>,

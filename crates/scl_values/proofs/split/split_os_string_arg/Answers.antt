@@ -1,4 +1,4 @@
--- The parts are those of the search in the text, whose bytes are the word's.
+-- The parts are those of a search in the text, whose bytes are the word's.
 use Rattle.std.proofs.Common.{sym, ap, subst, ◌∙◌, ℕ, List, Some}
 use Rattle.std.specs.Str.{IsUtf8}
 use Rattle.std.proofs.lemmas.Str.{IsUtf8-string_bytes}
