@@ -4,8 +4,8 @@
  * call changes. All else in this header is C that is compiled into the client: it writes a request's text, and fills structs
  * from an answer's rows. So the structs are the client's own, and a client runs with each library of its protocol.
  *
- * - Rows that this header does not know are passed over. Where they are `key` or `keep`, or a row that it knows has more than it
- *   knows, nothing may be kept: has_unknown is true, and is_cacheable false.
+ * - Rows that this header does not know are passed over. But if a row `key` or `keep` is not known, or a row has more fields than
+ *   are known, nothing may be kept: has_unknown is true, and is_cacheable false.
  * - SCL_NEWER tells that one side does not know what the other says: the library a line `setting`, or this header the answer,
  *   as of another protocol. Then run the given words, and keep nothing.
  *
@@ -109,6 +109,7 @@ typedef struct scl_request {
     bool wants_questions;       /* it is told what the answer asks of files that were not handed in */
     bool wants_hazards;         /* the hazards of the command line are told */
     bool wants_options;         /* it is told what became of each option */
+    bool wants_key;             /* the rows of the key are told */
     scl_bytes version;          /* the text of the compiler's version, in UTF-8 (docs/PROTOCOL.md, `setting version`) */
     scl_bytes catalogue;        /* the text of the catalogue of hazards; empty: the built-in one */
     scl_words settings;         /* more lines `setting`: what stands behind that word, as `bound 10` */
@@ -151,6 +152,35 @@ typedef struct scl_runs {
     size_t len;
 } scl_runs;
 
+/* The rows of a key (docs/PROTOCOL.md, A key). */
+enum scl_key_kind {
+    SCL_KEY_IS,
+    SCL_KEY_OUTPUT,
+    SCL_KEY_DIRECTORY,
+    SCL_KEY_COMPILER,
+    SCL_KEY_PLAN,
+    SCL_KEY_ENV,
+    SCL_KEY_UNSET,
+    SCL_KEY_FILE,
+    SCL_KEY_MAYBE,
+    SCL_KEY_REGULAR,
+    SCL_KEY_RUN,
+    SCL_KEY_RUN_ELSE,
+    SCL_KEY_PCH,
+    SCL_KEY_SOURCES,
+    SCL_KEY_SOURCES_IF_SHOWN,
+    SCL_KEY_TIMES,
+    SCL_KEY_REFUSE_IF_SHOWN
+};
+
+/* A row of a key: scl_key_at gives it. */
+typedef struct scl_key_row {
+    uint32_t kind;    /* scl_key_kind */
+    scl_words fields; /* after the row's name */
+    bool is_asked;    /* its answer goes into the key */
+    bool is_named;    /* of the row itself only the name goes into the key, and not the fields */
+} scl_key_row;
+
 /* What was read (docs/RULES.md, Records). */
 typedef struct scl_record {
     uint32_t language, color;
@@ -171,7 +201,7 @@ typedef struct scl_questions {
 /* What an outcome does not have is empty, or false. Each text has a NUL behind it, which its length does not count. */
 typedef struct scl_answer {
     uint32_t outcome;
-    bool is_cacheable; /* whether the outcome of the command may be kept */
+    bool is_cacheable; /* whether the outcome of the command may be kept; false if there is a row `keep` */
     bool has_text;
     scl_bytes reason;      /* SCL_CANNOT_CACHE */
     scl_bytes text;        /* beside the reason, where has_text */
@@ -187,9 +217,11 @@ typedef struct scl_answer {
     size_t at;          /* where has_at: the index of the word that is refused, or by which nothing is compiled */
     scl_bytes sentence; /* SCL_CANNOT_CACHE: what the reason means */
     scl_runs options;   /* the fields of each row `option` */
+    scl_runs key;       /* the fields of each row `key`, in order: scl_key_at */
+    scl_runs keep;      /* the fields of each row `keep`: `no`, a reason, a word */
 } scl_answer;
 
-/* The memory for an answer: its texts, its words, its pairs, its outputs, and its runs and options. */
+/* The memory for an answer: its texts, its words, its pairs, its outputs, and its runs, options and rows of a key. */
 typedef struct scl_room {
     uint8_t *bytes;
     size_t bytes_len;
@@ -392,8 +424,25 @@ static inline scl_sizes scl_usual_sizes(const scl_request *request) {
     it.pairs = request->environment.len;
     it.outputs = 4;
     it.runs = request->wants_runs ? 2 : 0;
+    if (request->wants_key) {
+        it.runs += 48;
+        it.bytes += 4096;
+        it.slots += 160;
+    }
     for (i = 0; i < request->words.len; i++) it.bytes += times * (request->words.at[i].len + 1);
     for (i = 0; i < it.pairs; i++) it.bytes += request->environment.at[i].key.len + request->environment.at[i].value.len + 2;
+    return it;
+}
+
+/* The row of the key at this place, which must be below answer->key.len. */
+static inline scl_key_row scl_key_at(const scl_answer *answer, size_t place) {
+    scl_words row = answer->key.at[place];
+    size_t named = row.len ? 1 : 0;
+    scl_key_row it;
+    it.kind = scl_key_kind_of(named ? row.at[0] : scl_no_bytes[0]); /* (the empty name is not known) */
+    it.fields = scl_words_of(row.at + named, row.len - named);
+    it.is_asked = it.kind != SCL_KEY_IS && it.kind != SCL_KEY_OUTPUT;
+    it.is_named = it.kind == SCL_KEY_PLAN || it.kind == SCL_KEY_RUN || it.kind == SCL_KEY_RUN_ELSE || it.kind == SCL_KEY_PCH;
     return it;
 }
 

@@ -25,12 +25,16 @@ SWITCHES = {"double-dash-input": "double_dash_input", "external-assembler": "use
             "no-rewrite-includes-only": "suppress_rewrite_includes_only"}
 QUESTIONS = {"file": "files", "dir": "directories", "exists": "existing"}
 # How many fields a row has at most that says what may be kept.
-MOST_FIELDS = {"hazard": 1, "key": -1, "keep": -1, "cacheable": 1, "output": 3, "environment": 2, "language": 1, "color": 1, **dict.fromkeys([*LISTS, *TEXTS, "arg"], 1),
+MOST_FIELDS = {"hazard": 1, "cacheable": 1, "output": 3, "environment": 2, "language": 1, "color": 1, **dict.fromkeys([*LISTS, *TEXTS, "arg"], 1),
                **dict.fromkeys(SWITCHES, 0)}
+# How many fields a row of a key has at least and at most after its name (docs/PROTOCOL.md, A key).
+KEYS = {b"is": (1, None), b"output": (2, 3), b"directory": (0, 0), b"compiler": (0, 0), b"plan": (0, None), b"env": (1, 1), b"unset": (1, 1),
+        b"file": (1, 1), b"maybe": (1, 1), b"regular": (1, 1), b"run": (0, None), b"run-else": (0, None), b"pch": (0, None), b"sources": (0, 0),
+        b"sources-if-shown": (1, 1), b"times": (0, 0), b"refuse-if-shown": (1, 1)}
 # Wishes, and the lines of a request that say them.
 SETTINGS = {"is_multiarch": b"multiarch", "may_dist": b"setting may-dist", "rewrite_includes_only": b"setting rewrite-includes-only",
             "cache_mode": b"setting cache-mode"}
-WISHES = [*SETTINGS, "wants_runs", "wants_questions", "wants_hazards", "wants_options"]
+WISHES = [*SETTINGS, "wants_runs", "wants_questions", "wants_hazards", "wants_options", "wants_key"]
 
 
 class TooManyWords(Exception):
@@ -125,6 +129,11 @@ def _record(of):
         lists=SimpleNamespace(**{member: _words(of, row) for row, member in LISTS.items()}))
 
 
+def _is_known_key(name=b"", *fields):
+    least, most = KEYS.get(name, (1, 0))
+    return least <= len(fields) <= (len(fields) if most is None else most)
+
+
 def _answer(outcome, of, wishes):
     wanted = {row: of.get(row, []) if wishes.get(f"wants_{row}s") else [] for row in ("run", "hazard", "option")}
     asked = {row: [it[1] for it in of.get("wants", []) if it[0] == row.encode()] if wishes.get("wants_questions") else [] for row in QUESTIONS}
@@ -132,17 +141,20 @@ def _answer(outcome, of, wishes):
               "questions": SimpleNamespace(**{member: asked[row] for row, member in QUESTIONS.items()})}
     if outcome != COMPILED:
         return SimpleNamespace(**shared, reason=_first(of, "reason", b""), text=_first(of, "because"), sentence=_first(of, "sentence", b""))
+    key = of.get("key", []) if wishes.get("wants_key") else []
     has_unknown = any(len(fields) > MOST_FIELDS.get(name, len(fields)) for name, them in of.items() for fields in them)
+    has_unknown = has_unknown or not all(_is_known_key(*it) for it in key) or any(len(it) != 3 or it[0] != b"no" for it in of.get("keep", []))
     return SimpleNamespace(
-        **shared, command=_words(of, "arg"), is_cacheable=_first(of, "cacheable") == b"yes" and not has_unknown, has_unknown=has_unknown,
+        **shared, command=_words(of, "arg"), is_cacheable=_first(of, "cacheable") == b"yes" and not has_unknown and "keep" not in of,
+        has_unknown=has_unknown, key=key, keep=of.get("keep", []),
         environment=[tuple(pair) for pair in of.get("environment", [])], record=_record(of), runs=wanted["run"], hazards=[it[0].decode() for it in wanted["hazard"]])
 
 
 def ask(compiler, words, *given, catalogue=None, **named):
     """The answer to the words behind a program; request says what else may be given. Words, paths and names are bytes, environment
     and files pairs of bytes, and most_words bounds words, and how often files are opened: 0 is 1,000,000. Wishes are those of
-    scl_request: is_multiarch, wants_runs, may_dist, rewrite_includes_only, cache_mode, wants_questions, wants_hazards and
-    wants_options. A catalogue is the text of one in the place of the built-in one."""
+    scl_request: is_multiarch, wants_runs, may_dist, rewrite_includes_only, cache_mode, wants_questions, wants_hazards,
+    wants_options and wants_key. A catalogue is the text of one in the place of the built-in one."""
     try:
         text = describe(request(compiler, words, *given, **named), catalogue)
     except BadCatalogue:

@@ -187,6 +187,8 @@ static inline size_t scl_read_field(scl_bytes field, uint8_t *to) {
 enum scl_row_kind {
     SCL_ROW_WORD,   /* one word more of a list */
     SCL_ROW_FIELDS, /* one list more of lists */
+    SCL_ROW_KEY,    /* the same, of a name that is known */
+    SCL_ROW_KEEP,   /* the same; nothing is kept */
     SCL_ROW_TEXT,
     SCL_ROW_YES, /* it has no field */
     SCL_ROW_PAIR,
@@ -218,6 +220,7 @@ enum { SCL_OUTCOMES = 4, SCL_IN_COMPILED = 1, SCL_IN_CANNOT_CACHE = 2, SCL_IN_AL
 static const scl_known_row scl_known_rows[] = {
     {"arg", SCL_ROW_WORD, 0, SCL_AT(command), 0, 0},
     {"option", SCL_ROW_FIELDS, 0, SCL_AT(options), 0, SCL_WISH(wants_options)},
+    {"key", SCL_ROW_KEY, 0, SCL_AT(key), 0, SCL_WISH(wants_key)},
     {"common", SCL_ROW_WORD, 0, SCL_AT(record.lists.common), 0, 0},
     {"preprocessor", SCL_ROW_WORD, 0, SCL_AT(record.lists.preprocessor), 0, 0},
     {"environment", SCL_ROW_PAIR, 0, 0, 0, 0},
@@ -232,6 +235,7 @@ static const scl_known_row scl_known_rows[] = {
     {"unhashed", SCL_ROW_WORD, 0, SCL_AT(record.lists.unhashed), 0, 0},
     {"dist", SCL_ROW_WORD, 0, SCL_AT(record.lists.dist_files), 0, 0},
     {"hash", SCL_ROW_WORD, 0, SCL_AT(record.lists.hash_files), 0, 0},
+    {"keep", SCL_ROW_KEEP, 0, SCL_AT(keep), 0, 0},
     {"version", SCL_ROW_VERSION, SCL_IN_ALL, 0, 0, 0},
     {"cacheable", SCL_ROW_CACHEABLE, SCL_IN_COMPILED, SCL_AT(is_cacheable), 0, 0},
     {"input", SCL_ROW_TEXT, SCL_IN_COMPILED, SCL_AT(record.input), 0, 0},
@@ -264,6 +268,40 @@ static const char *const scl_language_names[] = {"Assembler", "AssemblerToPrepro
 static const char *const scl_color_names[] = {"off", "on", "auto"};
 enum { SCL_LANGUAGES = 15, SCL_COLORS = 3 };
 
+/* The rows of a key, in the order of their kinds, with how many fields may follow the name. */
+typedef struct scl_known_key {
+    const char *name;
+    size_t least, most;
+} scl_known_key;
+static const scl_known_key scl_known_keys[] = {
+    {"is", 1, SIZE_MAX}, {"output", 2, 3}, {"directory", 0, 0},       {"compiler", 0, 0},        {"plan", 0, SIZE_MAX},       {"env", 1, 1},
+    {"unset", 1, 1},     {"file", 1, 1},   {"maybe", 1, 1},           {"regular", 1, 1},         {"run", 0, SIZE_MAX},        {"run-else", 0, SIZE_MAX},
+    {"pch", 0, SIZE_MAX}, {"sources", 0, 0}, {"sources-if-shown", 1, 1}, {"times", 0, 0},       {"refuse-if-shown", 1, 1},
+};
+enum { SCL_KEYS = sizeof scl_known_keys / sizeof *scl_known_keys }; /* (a kind that is not known) */
+
+/* The kind of a row of a key; SCL_KEYS if the name is not known. */
+static inline uint32_t scl_key_kind_of(scl_bytes name) {
+    uint32_t kind;
+    for (kind = 0; kind < SCL_KEYS && !scl_is(name, scl_known_keys[kind].name); kind++) {}
+    return kind;
+}
+
+/* Whether a row with these fields is known: a row `key`, or a row `keep`. */
+static inline bool scl_knows_fields(unsigned kind, scl_bytes fields) {
+    scl_bytes name = scl_no_bytes[0], field;
+    size_t more = 0;
+    uint32_t key;
+    if (!scl_next_field(&fields, &name)) return false;
+    while (scl_next_field(&fields, &field)) more++;
+    if (kind == SCL_ROW_KEEP) return scl_is(name, "no") && more == 2;
+    key = scl_key_kind_of(name);
+    return key < SCL_KEYS && more >= scl_known_keys[key].least && more <= scl_known_keys[key].most;
+}
+
+/* Whether a row is a list of its fields. */
+static inline bool scl_has_fields(unsigned kind) { return kind >= SCL_ROW_FIELDS && kind <= SCL_ROW_KEEP; }
+
 /* What of an answer stands there. */
 static inline void *scl_member(scl_answer *answer, size_t at) { return SCL_CAST(char *, answer) + at; }
 
@@ -275,7 +313,7 @@ static inline scl_answer scl_no_answer(void) {
     for (i = 0; i < SCL_KNOWN_ROWS; i++) {
         void *at = scl_member(&it, scl_known_rows[i].at);
         if (scl_known_rows[i].kind == SCL_ROW_WORD) *SCL_TO(scl_words *, at) = scl_words_of(scl_no_bytes, 0);
-        if (scl_known_rows[i].kind == SCL_ROW_FIELDS) *SCL_TO(scl_runs *, at) = scl_runs_of(scl_no_runs, 0);
+        if (scl_has_fields(scl_known_rows[i].kind)) *SCL_TO(scl_runs *, at) = scl_runs_of(scl_no_runs, 0);
         if (scl_known_rows[i].kind == SCL_ROW_TEXT) *SCL_TO(scl_bytes *, at) = scl_no_bytes[0];
     }
     it.environment = scl_pairs_of(scl_no_pairs, 0);
@@ -291,6 +329,7 @@ typedef struct scl_taking {
     scl_room room;
     bool is_told;                  /* in the room */
     bool is_broken;                /* a row is none of this protocol */
+    bool is_kept_never;            /* there is a row `keep` */
     scl_sizes sizes;               /* taken so far */
     size_t counts[SCL_KNOWN_ROWS]; /* of each row */
     size_t starts[SCL_KNOWN_ROWS]; /* where the first of a list stands, in the slots or the runs */
@@ -381,6 +420,12 @@ static inline void scl_take_known(scl_taking *t, size_t i, scl_bytes *row) {
     void *at = scl_member(&t->answer, it->at);
     switch (it->kind) {
     case SCL_ROW_WORD: scl_take_slot(t, t->starts[i] + t->counts[i], scl_take_field(t, row)); break;
+    case SCL_ROW_KEY:
+    case SCL_ROW_KEEP:
+        if (!scl_knows_fields(it->kind, *row)) t->answer.has_unknown = true;
+        if (it->kind == SCL_ROW_KEEP) t->is_kept_never = true;
+        scl_take_fields(t, t->starts[i] + t->counts[i], row);
+        break;
     case SCL_ROW_FIELDS: scl_take_fields(t, t->starts[i] + t->counts[i], row); break;
     case SCL_ROW_TEXT: *SCL_TO(scl_bytes *, at) = scl_take_field(t, row); break;
     case SCL_ROW_YES: break;
@@ -403,10 +448,7 @@ static inline void scl_take_row(scl_taking *t, scl_bytes row) {
     size_t i = 0, wish;
     if (scl_is(name, "wants") && scl_next_field(&row, &kind)) name.len += kind.len + 1;
     while (i < SCL_KNOWN_ROWS && !scl_is(name, scl_known_rows[i].name)) i++;
-    if (i == SCL_KNOWN_ROWS) {
-        if (scl_is(name, "key") || scl_is(name, "keep")) t->answer.has_unknown = true;
-        return;
-    }
+    if (i == SCL_KNOWN_ROWS) return;
     wish = scl_known_rows[i].wish;
     if (!wish || *SCL_TO(const bool *, SCL_TO(const void *, SCL_CAST(const char *, t->request) + wish))) scl_take_known(t, i, &row);
 }
@@ -417,10 +459,11 @@ static inline void scl_take_rows(scl_taking *t) {
     t->answer = scl_no_answer();
     t->answer.outcome = outcome;
     memset(&t->sizes, 0, sizeof t->sizes);
+    t->is_kept_never = false;
     memset(t->counts, 0, sizeof t->counts);
     while (scl_next_row(&rows, &row)) scl_take_row(t, row);
     if (rows.len) t->is_broken = true;
-    if (t->answer.has_unknown) t->answer.is_cacheable = false;
+    if (t->answer.has_unknown || t->is_kept_never) t->answer.is_cacheable = false;
 }
 
 /* Counts the rows of a description: SCL_OK, SCL_TOO_MANY_WORDS or SCL_NEWER. */
@@ -438,7 +481,7 @@ static inline int32_t scl_count(scl_taking *t, const scl_request *request, scl_b
         size_t *of = scl_known_rows[i].kind == SCL_ROW_WORD ? &t->listed : &runs;
         if (scl_known_rows[i].once && t->counts[i] != (scl_known_rows[i].once >> t->answer.outcome & 1)) t->is_broken = true;
         t->starts[i] = *of;
-        if (scl_known_rows[i].kind <= SCL_ROW_FIELDS) *of += t->counts[i];
+        if (scl_known_rows[i].kind <= SCL_ROW_KEEP) *of += t->counts[i];
     }
     if (t->is_broken) return SCL_NEWER;
     return t->answer.outcome == SCL_OUTCOMES - 1 ? SCL_TOO_MANY_WORDS : SCL_OK;
@@ -454,7 +497,7 @@ static inline void scl_tell(scl_taking *t, scl_room room, scl_answer *answer) {
         void *at = scl_member(&t->answer, scl_known_rows[i].at);
         if (!t->counts[i]) continue;
         if (scl_known_rows[i].kind == SCL_ROW_WORD) *SCL_TO(scl_words *, at) = scl_words_of(room.slots + t->starts[i], t->counts[i]);
-        if (scl_known_rows[i].kind == SCL_ROW_FIELDS) *SCL_TO(scl_runs *, at) = scl_runs_of(room.runs + t->starts[i], t->counts[i]);
+        if (scl_has_fields(scl_known_rows[i].kind)) *SCL_TO(scl_runs *, at) = scl_runs_of(room.runs + t->starts[i], t->counts[i]);
     }
     t->answer.environment = scl_pairs_of(room.pairs, t->sizes.pairs);
     t->answer.record.outputs.at = t->sizes.outputs ? room.outputs : scl_no_outputs;

@@ -54,7 +54,8 @@ def rows_of(answer):
     rows = record_rows(answer.record) if answer.outcome == scl.COMPILED else {}
     if answer.outcome == scl.COMPILED:
         rows.update({"run": answer.runs, "environment": [list(pair) for pair in answer.environment], "hazard": [[it.encode()] for it in answer.hazards],
-                     "arg": [[it] for it in answer.command], "cacheable": [[b"yes" if answer.is_cacheable else b"no"]]})
+                     "arg": [[it] for it in answer.command], "cacheable": [[b"yes" if answer.is_cacheable else b"no"]],
+                     "key": answer.key, "keep": answer.keep})
     if answer.outcome == scl.CANNOT_CACHE:
         rows.update({"reason": [[answer.reason]], "because": [] if answer.text is None else [[answer.text]], "sentence": [[answer.sentence]]})
     kinds = {"file": answer.questions.files, "dir": answer.questions.directories, "exists": answer.questions.existing}
@@ -69,7 +70,7 @@ def differs(request, name, told, said):
 def check_ask(name, words, named, said):
     """scl.ask tells the rows of describe; gives how it is answered."""
     try:
-        answer = scl.ask(name, words, b"/w", **named, wants_runs=True, wants_questions=True, wants_hazards=True, wants_options=True)
+        answer = scl.ask(name, words, b"/w", **named, wants_runs=True, wants_questions=True, wants_hazards=True, wants_options=True, wants_key=True)
     except scl.TooManyWords:
         if "too-many-words" not in said:
             differs(named, "too-many-words", True, said)
@@ -107,6 +108,8 @@ def main(ccline, describe, told, count, seed):
         if scl.describe(request) != said:
             differs(request, "scl_describe", scl.describe(request), said)
         rows = rows_in(said)
+        if "keep" in rows:
+            rows["cacheable"] = [[b"no"]]
         kinds[check_ask(name, words, named, rows)] += 1
         check_told(request, structs, rows)
         hazards += len(rows.get("hazard", []))

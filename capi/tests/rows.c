@@ -97,8 +97,10 @@ typedef struct list {
 
 static list lists[] = {{.row = "arg"}, {.row = "dependency"}, {.row = "preprocessor"}, {.row = "common"}, {.row = "arch"}, {.row = "unhashed"}, {.row = "dist"},
                        {.row = "hash"}, {.row = "hazard"}, {.row = "wants file"}, {.row = "wants dir"}, {.row = "wants exists"}, {.row = "run"}, {.row = "option"},
-                       {.row = "environment"}, {.row = "output"}};
-enum { LISTS = sizeof lists / sizeof *lists, RUN = 12, OPTION, ENVIRONMENT, OUTPUT };
+                       {.row = "environment"}, {.row = "output"}, {.row = "key"}, {.row = "keep"}};
+enum { LISTS = sizeof lists / sizeof *lists, RUN = 12, OPTION, ENVIRONMENT, OUTPUT, KEY, KEEP };
+static uint32_t key_kinds[MOST];
+static size_t unknown_keys, unknown_keeps;
 static const char *const singles[] = {"input", "compilation-flag", "depfile", "too-hard", "reason", "because", "sentence"};
 enum { SINGLES = sizeof singles / sizeof *singles };
 static scl_bytes texts[SINGLES];
@@ -109,7 +111,7 @@ static const char *const languages[] = {"Assembler", "AssemblerToPreprocess", "C
 static const char *const colors[] = {"off", "on", "auto"};
 static unsigned has_text, has_yes;
 static size_t outcome, language, color, at;
-static bool is_kept, has_unknown, is_optional[MOST];
+static bool is_kept, is_optional[MOST];
 static size_t wrong, wrong_times; /* a row that does not stand once, and how often it does */
 
 static void add_row(const char *name, scl_bytes field) {
@@ -122,11 +124,20 @@ static void add_row(const char *name, scl_bytes field) {
 /* A run and an option of a word w: w, and behind it w once more for each of its first bits. */
 static size_t times_of(scl_bytes word) { return 1 + word.len % 3; }
 
+/* How many fields the name of a row of a key has after it. */
+static size_t key_fields(size_t which) {
+    const scl_known_key *it = &scl_known_keys[key_kinds[which]];
+    return it->least + (it->most > it->least ? lists[KEY].words[which].len % 2 : 0);
+}
+
 static void add_listed(size_t which) {
     list *of = &lists[which];
     scl_bytes word = of->words[of->put];
+    size_t fields = which == KEY ? key_fields(of->put) : which == RUN || which == OPTION ? times_of(word) : which >= ENVIRONMENT ? 2 : 1;
     add(&said, of->row);
-    for (size_t i = 0; i < (which == RUN || which == OPTION ? times_of(word) : which >= ENVIRONMENT ? 2 : 1); i++) {
+    if (which == KEY) add(&said, " "), add(&said, scl_known_keys[key_kinds[of->put]].name);
+    if (which == KEEP) add(&said, " no");
+    for (size_t i = 0; i < fields; i++) {
         add(&said, " ");
         add_field(&said, word);
     }
@@ -139,9 +150,10 @@ static void add_unknown(void) {
     static const char *const names[] = {"keys", "notes", "", "wants device", "hazards", "version-of", "arg2", "key", "keep"};
     size_t which = below(8 * sizeof names / sizeof *names);
     if (which >= sizeof names / sizeof *names) return;
-    if (which > 6) has_unknown = true;
-    if (which < 7 || outcome == 0) add_row(names[which], below(2) ? random_bytes() : scl_text("\xff b\\"));
-    else has_unknown = false;
+    if (which > 6 && outcome) return;
+    unknown_keys += which == 7;
+    unknown_keeps += which == 8;
+    add_row(names[which], which < 7 && below(2) ? random_bytes() : scl_text("\xff b\\"));
 }
 
 /* A row of an outcome that stands alone. */
@@ -180,7 +192,7 @@ static void make_answer(void) {
     color = below(3);
     is_kept = below(2);
     at = below(2) ? 0 : 1 + below(100000);
-    has_unknown = false;
+    unknown_keys = unknown_keeps = 0;
     has_yes = outcome ? 0 : (unsigned)below(1u << YESES);
     has_text = outcome == 0 ? 3 + 4 * (unsigned)below(4) : outcome == 1 ? 16 + 32 * (unsigned)below(4) : 0;
     for (size_t i = 0; i < SINGLES; i++) texts[i] = random_bytes();
@@ -189,7 +201,8 @@ static void make_answer(void) {
         lists[i].put = 0;
         for (size_t k = 0; k < lists[i].len; k++) lists[i].words[k] = random_bytes();
     }
-    for (size_t i = 0; i < MOST; i++) is_optional[i] = below(2);
+    for (size_t i = 0; i < MOST; i++) is_optional[i] = below(2), key_kinds[i] = (uint32_t)below(SCL_KEYS);
+    if (below(4)) lists[KEEP].len = 0;
 }
 
 static void write_answer(void) {
@@ -228,6 +241,27 @@ static void check_runs(const char *what, scl_runs told, const list *of, bool is_
     }
 }
 
+/* The rows of a key in order, with unknown ones among them; and the rows `keep`. */
+static void check_key(const scl_answer *a, const scl_request *r) {
+    size_t put = 0, unknown = 0;
+    for (size_t i = 0; i < a->key.len; i++) {
+        scl_key_row it = scl_key_at(a, i);
+        bool is_asked = it.kind > SCL_KEY_OUTPUT;
+        if (it.kind == SCL_KEYS && ++unknown) continue;
+        if (put == lists[KEY].len || it.kind != key_kinds[put] || it.is_asked != is_asked || it.fields.len != key_fields(put)) FAIL("row %zu of the key is another", i);
+        for (size_t k = 0; k < it.fields.len; k++)
+            if (!is_same(it.fields.at[k], lists[KEY].words[put])) FAIL("row %zu of the key has another field", i);
+        put++;
+    }
+    if (r->wants_key ? put != lists[KEY].len || unknown != unknown_keys : a->key.len) FAIL("the key has %zu rows", a->key.len);
+    if (a->keep.len != lists[KEEP].len + unknown_keeps) FAIL("%zu rows `keep`", a->keep.len);
+    put = 0;
+    for (size_t i = 0; i < a->keep.len; i++) {
+        scl_words it = a->keep.at[i];
+        if (it.len == 3 && (put == lists[KEEP].len || !is_same(it.at[2], lists[KEEP].words[put++]))) FAIL("a row `keep` is another");
+    }
+}
+
 static void check_lists(const scl_answer *a, const scl_request *r) {
     const scl_words words[] = {a->command, a->record.lists.dependency, a->record.lists.preprocessor, a->record.lists.common, a->record.lists.arch,
                                a->record.lists.unhashed, a->record.lists.dist_files, a->record.lists.hash_files, a->hazards, a->questions.files,
@@ -235,6 +269,7 @@ static void check_lists(const scl_answer *a, const scl_request *r) {
     for (size_t i = 0; i < RUN; i++) check_words(lists[i].row, words[i], &lists[i], i < 8 || (i == 8 ? r->wants_hazards : r->wants_questions));
     check_runs("run", a->runs, &lists[RUN], r->wants_runs);
     check_runs("option", a->options, &lists[OPTION], r->wants_options);
+    check_key(a, r);
     if (a->environment.len != lists[ENVIRONMENT].len || a->record.outputs.len != lists[OUTPUT].len) FAIL("pairs or outputs are missing");
     for (size_t i = 0; i < a->environment.len; i++)
         if (!is_same(a->environment.at[i].key, lists[ENVIRONMENT].words[i]) || !is_same(a->environment.at[i].value, lists[ENVIRONMENT].words[i])) FAIL("a pair is another");
@@ -254,7 +289,8 @@ static void check_told(const scl_answer *a, const scl_request *r) {
         if (yes[i] != (has_yes >> i & 1)) FAIL("%s is %d", yeses[i], yes[i]);
     if (a->record.has_depfile != (has_text >> 2 & 1) || a->record.has_too_hard != (has_text >> 3 & 1) || a->has_text != (has_text >> 5 & 1)) FAIL("what there is is told otherwise");
     if (a->outcome != outcome || (outcome == 0 && (a->record.language != language || a->record.color != color))) FAIL("outcome, language or colour is another");
-    if (a->is_cacheable != (outcome == 0 && is_kept && !has_unknown) || a->has_unknown != has_unknown) FAIL("what may be kept is told otherwise");
+    bool has_unknown = unknown_keeps || (unknown_keys && r->wants_key);
+    if (a->is_cacheable != (outcome == 0 && is_kept && !has_unknown && !lists[KEEP].len) || a->has_unknown != has_unknown) FAIL("what may be kept is told otherwise");
     if (a->has_at != (at > 0) || a->at != (at ? at - 1 : 0)) FAIL("the index is another");
     check_lists(a, r);
 }
@@ -312,7 +348,7 @@ static const scl_request *random_request(void) {
     if (below(2)) r->existing.at = words, r->existing.len = below(MOST + 1);
     r->most_words = below(3) ? 0 : (size_t)next();
     r->is_multiarch = below(2), r->wants_runs = below(2), r->may_dist = below(2), r->rewrite_includes_only = below(2), r->cache_mode = below(2);
-    r->wants_questions = below(2), r->wants_hazards = below(4), r->wants_options = below(2);
+    r->wants_questions = below(2), r->wants_hazards = below(4), r->wants_options = below(2), r->wants_key = below(2);
     if (below(2)) r->version = random_bytes();
     if (!below(4)) r->catalogue = scl_text("# c");
     return r;
@@ -383,6 +419,8 @@ static void check_sound(const scl_given *given) {
     for (size_t i = 0; i < sizeof words / sizeof *words; i++) is_sound = is_sound && are_sound(given, words[i]);
     for (size_t i = 0; i < a->runs.len; i++) is_sound = is_sound && are_sound(given, a->runs.at[i]);
     for (size_t i = 0; i < a->options.len; i++) is_sound = is_sound && are_sound(given, a->options.at[i]);
+    for (size_t i = 0; i < a->key.len; i++) is_sound = is_sound && are_sound(given, a->key.at[i]);
+    for (size_t i = 0; i < a->keep.len; i++) is_sound = is_sound && are_sound(given, a->keep.at[i]);
     for (size_t i = 0; i < a->record.outputs.len; i++) is_sound = is_sound && !a->record.outputs.at[i].path.at[a->record.outputs.at[i].path.len];
     for (size_t i = 0; i < a->environment.len; i++) is_sound = is_sound && !a->environment.at[i].value.at[a->environment.at[i].value.len];
     if (!is_sound || (a->is_cacheable && a->has_unknown)) FAIL("a broken answer is told unsoundly");

@@ -56,7 +56,7 @@ static void take_line(scl_request *r, scl_bytes line) {
     else if (begins(line, "exists ")) existing[r->existing.len++] = kept(behind(line, 7));
     else if (begins(line, "setting ")) take_setting(r, behind(line, 8));
     else if (scl_is(line, "multiarch")) r->is_multiarch = true;
-    else if (scl_is(line, "wants-less")) r->wants_runs = r->wants_questions = r->wants_hazards = r->wants_options = false;
+    else if (scl_is(line, "wants-less")) r->wants_runs = r->wants_questions = r->wants_hazards = r->wants_options = r->wants_key = false;
     else fail("no such line");
 }
 
@@ -65,7 +65,7 @@ static scl_request blank(void) {
     memset(&r, 0, sizeof r);
     r.words.at = words, r.directories.at = directories, r.existing.at = existing, r.settings.at = settings;
     r.environment.at = variables, r.files.at = files;
-    r.wants_runs = r.wants_questions = r.wants_hazards = r.wants_options = true;
+    r.wants_runs = r.wants_questions = r.wants_hazards = r.wants_options = r.wants_key = true;
     return r;
 }
 
@@ -135,6 +135,8 @@ static void put_answer(scl_writer *to, const scl_answer *a) {
     for (size_t i = 0; i < a->runs.len; i++) put_fields(to, "run", a->runs.at[i]);
     for (size_t i = 0; i < a->environment.len; i++) put_two(to, "environment", a->environment.at[i].key, a->environment.at[i].value, false);
     for (size_t i = 0; i < a->options.len; i++) put_fields(to, "option", a->options.at[i]);
+    for (size_t i = 0; i < a->key.len; i++) put_fields(to, "key", a->key.at[i]);
+    for (size_t i = 0; i < a->keep.len; i++) put_fields(to, "keep", a->keep.at[i]);
     scl_put_words(to, "hazard ", a->hazards);
     scl_put_words(to, "wants file ", a->questions.files);
     scl_put_words(to, "wants dir ", a->questions.directories);

@@ -31,6 +31,9 @@ use Rattle.scl_reader.specs.AnswersGiven.{answer_of, HasParts}
 use Rattle.scl_reader.specs.Questions.{Questions, questions_of}
 use Rattle.scl_describe.specs.Settings.{Settings}
 use Rattle.scl_reader.specs.Within.{has_at_most}
+use Rattle.scl_key.specs.Told.{RunWords}
+use Rattle.scl_describe.specs.Keepings.{kept_entries, run_words_by}
+use Rattle.scl_describe.proofs.KeepingLaws.{each-both, kept-beside}
 use Rattle.scl_describe.specs.Descriptions.{version_entry, runs_entry, pair_fields, environment_entry, hazards_entry, compiled_entries, runs_for, outcome_entries, question_entries, answer_entries, description, IsDescription, too_many_entries, command_entries, DescriptionsReadBack}
 use Rattle.scl_describe.specs.DescriptionsGiven.{AreOf, entries_given, outcome_given}
 
@@ -39,15 +42,16 @@ behind_text start whole all rows h k = h ∙ ap (λ t. t ++ rows) k
 
 -- ---- what the code gives
 
-outcome-is : (s : Settings) (r : Request) (executable cwd : List ℕ) (answer : CompilerArguments Compilation) → answer_of answer ≡ answer_to r
+outcome-is : (s : Settings) (r : Request) (hazards : List Hazard) (executable cwd : List ℕ) (answer : CompilerArguments Compilation) → answer_of answer ≡ answer_to r
     → HasParts (reading_by r.compiler r) executable (environment_by r.compiler r.environment) cwd answer
-    → outcome_given (runs_for s r.compiler) (refused_at (rows_by r)) answer ≡ outcome_entries s r (answer_to r) (reading_by r.compiler r)
-outcome-is s r executable cwd (outcomes.Ok compilation) e parts =
-    ap (λ env. compiled_entries (runs_for s r.compiler (parsed_of compilation.parsed)) env (parsed_of compilation.parsed)) parts.1.env_vars_are
-    ∙ ap (λ said. outcome_entries s r (answer_of (outcomes.Ok compilation)) said) (sym parts.0)
-    ∙ ap (λ a. outcome_entries s r a (reading_by r.compiler r)) e
-outcome-is s r executable cwd (outcomes.CannotCache reason text) e parts = ap (λ a. outcome_entries s r a (reading_by r.compiler r)) e
-outcome-is s r executable cwd outcomes.NotCompilation e parts = ap (λ a. outcome_entries s r a (reading_by r.compiler r)) e
+    → outcome_given (runs_for s r.compiler) r.compiler (run_words_by r.words hazards) (refused_at (rows_by r)) answer ≡ outcome_entries s r hazards (answer_to r) (reading_by r.compiler r)
+outcome-is s r hazards executable cwd (outcomes.Ok compilation) e parts =
+    let p : Parsed = parsed_of compilation.parsed in
+    ap (λ env. compiled_entries (runs_for s r.compiler p) env (kept_entries compilation.cacheable r.compiler (run_words_by r.words hazards) env p) p) parts.1.env_vars_are
+    ∙ ap (λ said. outcome_entries s r hazards (answer_of (outcomes.Ok compilation)) said) (sym parts.0)
+    ∙ ap (λ a. outcome_entries s r hazards a (reading_by r.compiler r)) e
+outcome-is s r hazards executable cwd (outcomes.CannotCache reason text) e parts = ap (λ a. outcome_entries s r hazards a (reading_by r.compiler r)) e
+outcome-is s r hazards executable cwd outcomes.NotCompilation e parts = ap (λ a. outcome_entries s r hazards a (reading_by r.compiler r)) e
 
 -- what is told of a kind's name is its name
 name-is : (flag : Option (List ℕ)) (name : List ℕ) → unwrap_or (unless_owned flag name) name ≡ name
@@ -64,29 +68,30 @@ abbrev all_entries : List Entry → Entry → List Hazard → Questions → List
 all_entries outcome options hazards asks = version_entry ∷ [] ++ outcome ++ (options ∷ hazards_entry hazards ∷ question_entries asks)
 
 entries-are : (catalogue : Catalogue) (s : Settings) (r : Request) (found : Findings) → AreOf (known_by catalogue s.version) r found
-    → entries_given (runs_for s r.compiler) found ≡ answer_entries catalogue s r (map kind_name found.rows.items)
+    → entries_given (runs_for s r.compiler) r.compiler (run_words_by r.words found.hazards.items) found ≡ answer_entries catalogue s r (map kind_name found.rows.items)
 entries-are catalogue s r found are =
     let runs : Parsed → List (List (List ℕ)) = runs_for s r.compiler in
     let kinds : List (List ℕ) = map kind_name found.rows.items in
-    let outcome : outcome_given runs (refused_at (map told found.rows.items)) found.answer ≡ outcome_entries s r (answer_to r) (reading_by r.compiler r) =
-    ap (λ rows. outcome_given runs (refused_at rows) found.answer) are.rows ∙ outcome-is s r [] r.directory found.answer are.answer are.parts in
+    let there : List Hazard → List Entry = λ hazards. outcome_entries s r hazards (answer_to r) (reading_by r.compiler r) in
+    let words : RunWords = run_words_by r.words found.hazards.items in
+    let outcome : outcome_given runs r.compiler words (refused_at (map told found.rows.items)) found.answer ≡ there found.hazards.items =
+    ap (λ rows. outcome_given runs r.compiler words (refused_at rows) found.answer) are.rows ∙ outcome-is s r found.hazards.items [] r.directory found.answer are.answer are.parts in
     let options : options_given found.rows.items ≡ options_entry kinds (rows_by r) =
     ap (entry (codes "option")) (options-are found.rows.items) ∙ ap (options_entry kinds) are.rows in
-    let outcome_is : List Entry = outcome_entries s r (answer_to r) (reading_by r.compiler r) in
     let options_is : Entry = options_entry kinds (rows_by r) in
     ap (λ es. all_entries es (options_given found.rows.items) found.hazards.items (given found.questions)) outcome
-    ∙ ap (λ e. all_entries outcome_is e found.hazards.items (given found.questions)) options
-    ∙ ap (λ hazards. all_entries outcome_is options_is hazards (given found.questions)) are.hazards
-    ∙ ap (all_entries outcome_is options_is (hazards_by (known_by catalogue s.version) r)) are.questions
+    ∙ ap (λ e. all_entries (there found.hazards.items) e found.hazards.items (given found.questions)) options
+    ∙ ap (λ hazards. all_entries (there hazards) options_is hazards (given found.questions)) are.hazards
+    ∙ ap (all_entries (there (hazards_by (known_by catalogue s.version) r)) options_is (hazards_by (known_by catalogue s.version) r)) are.questions
 
 -- the text of an answer and the rows behind it are a description
 pub is-description : (catalogue : Catalogue) (s : Settings) (r : Request) (text : List ℕ) (found : Findings) → has_at_most s.bound r ≡ true → AreOf (known_by catalogue s.version) r found
-    → text ≡ text_of (answer_of found.answer) ++ entries_text (entries_given (runs_for s r.compiler) found) → IsDescription catalogue s r text
+    → text ≡ text_of (answer_of found.answer) ++ entries_text (entries_given (runs_for s r.compiler) r.compiler (run_words_by r.words found.hazards.items) found) → IsDescription catalogue s r text
 is-description catalogue s r text found within are is =
     let kinds : List (List ℕ) = map kind_name found.rows.items in (
       kinds,
       is
-          ∙ ap (λ a. text_of a ++ entries_text (entries_given (runs_for s r.compiler) found)) are.answer
+          ∙ ap (λ a. text_of a ++ entries_text (entries_given (runs_for s r.compiler) r.compiler (run_words_by r.words found.hazards.items) found)) are.answer
           ∙ ap (λ es. text_of (answer_to r) ++ entries_text es) (entries-are catalogue s r found are)
           ∙ ap (λ b. cond b (text_of (answer_to r) ++ entries_text (answer_entries catalogue s r kinds)) (entries_text too_many_entries)) (sym within),
     )
@@ -121,11 +126,16 @@ in_order before after p = before ++ record_entries p ++ after
 
 pub descriptions-back : DescriptionsReadBack
 descriptions-back catalogue s r kinds words kept p within compiles reads are =
-    let after : List Entry = runs_entry (runs_for s r.compiler p) ∷ environment_entry (environment_by r.compiler r.environment) ∷ [] in
-    let asks : List Entry = options_entry kinds (rows_by r) ∷ hazards_entry (hazards_by (known_by catalogue s.version) r) ∷ question_entries (questions_of r) in
+    let environment : List (List ℕ × List ℕ) = environment_by r.compiler r.environment in
+    let hazards : List Hazard = hazards_by (known_by catalogue s.version) r in
+    let keeping : List Entry = kept_entries kept r.compiler (run_words_by r.words hazards) environment p in
+    let after : List Entry = runs_entry (runs_for s r.compiler p) ∷ environment_entry environment ∷ keeping in
+    let asks : List Entry = options_entry kinds (rows_by r) ∷ hazards_entry hazards ∷ question_entries (questions_of r) in
     let before : List Entry = command_entries words kept ++ version_entry ∷ [] in
-    let outcome : outcome_entries s r (answer_to r) (reading_by r.compiler r) ≡ record_entries p ++ after =
-    ap (λ a. outcome_entries s r a (reading_by r.compiler r)) compiles ∙ ap (outcome_entries s r (compiled words kept)) reads in
+    let outcome : outcome_entries s r hazards (answer_to r) (reading_by r.compiler r) ≡ record_entries p ++ after =
+    ap (λ a. outcome_entries s r hazards a (reading_by r.compiler r)) compiles ∙ ap (outcome_entries s r hazards (compiled words kept)) reads in
+    let beside : Each IsBeside (after ++ asks) =
+    each-both IsBeside after asks (refl, (refl, kept-beside kept r.compiler (run_words_by r.words hazards) environment p)) (refl, (refl, (refl, (refl, (refl, tt))))) in
     let entries : command_entries words kept ++ answer_entries catalogue s r kinds ≡ in_order before (after ++ asks) p =
     ap (λ es. command_entries words kept ++ (version_entry ∷ [] ++ es ++ asks)) outcome
     ∙ ap (λ es. command_entries words kept ++ (version_entry ∷ es)) (append_assoc (record_entries p) after asks)
@@ -138,7 +148,7 @@ descriptions-back catalogue s r kinds words kept p within compiles reads are =
     ∙ sym (flat_map-append entry_text (command_entries words kept) (answer_entries catalogue s r kinds))
     ∙ ap entries_text entries in
     ap record_in text
-    ∙ description-back-among before (after ++ asks) p (command-beside words kept) (refl, (refl, (refl, (refl, (refl, (refl, (refl, tt))))))) (subst (λ es. Each IsRow (rows_of es)) entries are)
+    ∙ description-back-among before (after ++ asks) p (command-beside words kept) beside (subst (λ es. Each IsRow (rows_of es)) entries are)
 
 -- ---- one more row
 

@@ -1,5 +1,5 @@
 -- What is found of the reading of a request's line is what is described of the request.
-use Rattle.std.proofs.Common.{◌≡◌, ℕ, true, false, List, [], Result, Ok, subst, sym, refl}
+use Rattle.std.proofs.Common.{◌≡◌, ◌++◌, ℕ, true, false, List, [], Result, Ok, subst, sym, refl}
 use Rattle.scl_catalogue.specs.Form.{Catalogue}
 use Rattle.scl_description.specs.Lines.{lines_of}
 use Rattle.scl_description.specs.Rows.{entries_text}
@@ -11,7 +11,10 @@ use Rattle.scl_reader.specs.Within.{has_at_most}
 use Rattle.scl_reader.specs.declared.reading.Reading.{Reading}
 use Rattle.scl_cl.specs.Requests.{request_in}
 use Rattle.scl_describe.specs.Descriptions.{DescribesBytes, IsDescription, IsDescriptionOf, runs_for, too_many_entries}
-use Rattle.scl_describe.specs.DescriptionsGiven.{AreFound, AreOf, IsTextOf}
+use Rattle.scl_cl.specs.AnswerTexts.{text_of}
+use Rattle.scl_reader.specs.AnswersGiven.{answer_of}
+use Rattle.scl_describe.specs.Keepings.{run_words_by}
+use Rattle.scl_describe.specs.DescriptionsGiven.{AreFound, AreOf, IsTextOf, entries_given}
 use Rattle.scl_describe.specs.Hazards.{known_by}
 use Rattle.scl_describe.specs.Settings.{Settings, settings_in, request_lines}
 use Rattle.scl_describe.specs.declared.described.Findings.{Findings}
@@ -27,12 +30,13 @@ module _ (catalogue : Catalogue) (s : Settings) (request : Request) (line : Give
   there = asked_for request.compiler
 
   pub is_described : (reading : Reading) (text : List ℕ) → (has_at_most s.bound (there line) ≡ true) × (reading ≡ read_of (there line))
-      → IsTextOf (known_by catalogue s.version) (runs_for s request.compiler) reading line text → IsDescription catalogue s request text
+      → IsTextOf (known_by catalogue s.version) (runs_for s request.compiler) request.compiler reading line text → IsDescription catalogue s request text
   is_described reading text read its =
       let found : Findings = its.found in
-      let On : Given → Type 0 = λ g. (has_at_most s.bound (there g) ≡ true) × AreFound (known_by catalogue s.version) (read_of (there g)) g found in
-      let here : On (given_in request) = subst On is_its (read.0, subst (λ r. AreFound (known_by catalogue s.version) r line found) read.1 its.are_found) in
-      is-description catalogue s request text found here.0 (found-of (known_by catalogue s.version) request found here.1) its.is
+      let IsIn : Given → Type 0 = λ g. text ≡ text_of (answer_of found.answer) ++ entries_text (entries_given (runs_for s request.compiler) request.compiler (run_words_by g.words found.hazards.items) found) in
+      let On : Given → Type 0 = λ g. (has_at_most s.bound (there g) ≡ true) × (AreFound (known_by catalogue s.version) (read_of (there g)) g found × IsIn g) in
+      let here : On (given_in request) = subst On is_its (read.0, (subst (λ r. AreFound (known_by catalogue s.version) r line found) read.1 its.are_found, its.is)) in
+      is-description catalogue s request text found here.0 (found-of (known_by catalogue s.version) request found here.1.0) here.1.1
 
   pub is_too_long : (text : List ℕ) → has_at_most s.bound (there line) ≡ false → text ≡ entries_text too_many_entries → IsDescription catalogue s request text
   is_too_long text within is = too-long catalogue s request text (subst (λ g. has_at_most s.bound (there g) ≡ false) is_its within) is

@@ -4,3 +4,5 @@ pub mod DescriptionLaws
 pub mod RowLaws
 pub mod FindingLaws
 pub mod DecidedLaws
+pub mod KeepingLaws
+pub mod VersionLaws

@@ -20,6 +20,7 @@ use Rattle.scl_reader.specs.Answers.{Answer, compiled, cannot_cache, not_compila
 use Rattle.scl_describe.specs.OptionLines.{index_entry, options_entry}
 use Rattle.scl_describe.specs.OptionRows.{rows_by}
 use Rattle.scl_describe.specs.Hazards.{hazards_by, known_by}
+use Rattle.scl_describe.specs.Keepings.{kept_entries, run_words_by}
 use Rattle.scl_reader.specs.Questions.{Questions, questions_of}
 use Rattle.scl_describe.specs.Settings.{Settings, settings_in, request_lines}
 use Rattle.scl_reader.specs.Within.{has_at_most}
@@ -40,9 +41,9 @@ runs_entry runs = entry (codes "run") runs
 abbrev pub environment_entry : List (List ℕ × List ℕ) → Entry
 environment_entry pairs = entry (codes "environment") (map pair_fields pairs)
 
--- the record, the runs of the preprocessor, and the environment of the command
-abbrev pub compiled_entries : (runs : List (List (List ℕ))) → (environment : List (List ℕ × List ℕ)) → Parsed → List Entry
-compiled_entries runs environment p = record_entries p ++ (runs_entry runs ∷ environment_entry environment ∷ [])
+-- the record, the runs of the preprocessor, the environment of the command, and what is said of keeping its outcome
+abbrev pub compiled_entries : (runs : List (List (List ℕ))) → (environment : List (List ℕ × List ℕ)) → (kept : List Entry) → Parsed → List Entry
+compiled_entries runs environment kept p = record_entries p ++ (runs_entry runs ∷ environment_entry environment ∷ kept)
 
 -- ---- where there is none
 
@@ -81,18 +82,27 @@ question_entries q = wants_entry (codes "file") q.files ∷ wants_entry (codes "
 abbrev pub runs_for : Settings → Compiler → Parsed → List (List (List ℕ))
 runs_for s compiler p = runs_with s.version compiler s.may_dist s.rewrite_includes_only s.cache_mode p
 
-abbrev pub outcome_entries : Settings → Request → Answer → Result Parsed Verdict → List Entry
-outcome_entries s request (compiled words kept) (Ok p) = compiled_entries (runs_for s request.compiler p) (environment_by request.compiler request.environment) p
-outcome_entries s request (compiled words kept) (Err v) = []
-outcome_entries s request (cannot_cache reason beside) r = refused_entries reason beside (refused_at (rows_by request))
-outcome_entries s request not_compilation r = undone_entries (refused_at (rows_by request))
+-- the rows of a record that a request's line is read as, whose outcome may be kept or not, if these hazards are known
+abbrev pub record_rows : Settings → Request → List Hazard → Cacheable → Parsed → List Entry
+record_rows s request hazards kept p =
+    let environment : List (List ℕ × List ℕ) = environment_by request.compiler request.environment in
+    compiled_entries (runs_for s request.compiler p) environment (kept_entries kept request.compiler (run_words_by request.words hazards) environment p) p
 
--- the rows behind the answer's lines, with the names of the kinds of flags
-abbrev pub answer_entries : Catalogue → Settings → Request → List (List ℕ) → List Entry
-answer_entries catalogue s request kinds =
+abbrev pub outcome_entries : Settings → Request → List Hazard → Answer → Result Parsed Verdict → List Entry
+outcome_entries s request hazards (compiled words kept) (Ok p) = record_rows s request hazards kept p
+outcome_entries s request hazards (compiled words kept) (Err v) = []
+outcome_entries s request hazards (cannot_cache reason beside) r = refused_entries reason beside (refused_at (rows_by request))
+outcome_entries s request hazards not_compilation r = undone_entries (refused_at (rows_by request))
+
+-- the rows after the answer's lines, with the hazards and the names of the kinds of flags
+abbrev pub entries_with : Settings → Request → List Hazard → List (List ℕ) → List Entry
+entries_with s request hazards kinds =
     version_entry ∷ []
-    ++ outcome_entries s request (answer_to request) (reading_by request.compiler request)
-    ++ (options_entry kinds (rows_by request) ∷ hazards_entry (hazards_by (known_by catalogue s.version) request) ∷ question_entries (questions_of request))
+    ++ outcome_entries s request hazards (answer_to request) (reading_by request.compiler request)
+    ++ (options_entry kinds (rows_by request) ∷ hazards_entry hazards ∷ question_entries (questions_of request))
+
+abbrev pub answer_entries : Catalogue → Settings → Request → List (List ℕ) → List Entry
+answer_entries catalogue s request kinds = entries_with s request (hazards_by (known_by catalogue s.version) request) kinds
 
 -- where a command line has more words than the bound
 abbrev pub too_many_entries : List Entry

@@ -9,6 +9,8 @@ use Rattle.scl_text.specs.declared.records.CompilerArguments.TheVariants as outc
 use Rattle.scl_cl.specs.AnswerTexts.{text_of}
 use Rattle.scl_description.specs.Rows.{Entry, entries_text}
 use Rattle.scl_hazards.specs.Hazards.{Known}
+use Rattle.scl_key.specs.Told.{RunWords}
+use Rattle.scl_reader.specs.declared.compiler.Compiler.{Compiler}
 use Rattle.scl_reader.specs.declared.kept.Compilation.{Compilation}
 use Rattle.scl_describe.specs.declared.described.Findings.{Findings}
 use Rattle.scl_reader.specs.Answers.{answer_to, environment_by, reading_by}
@@ -22,22 +24,26 @@ use Rattle.scl_describe.specs.OptionRows.{rows_by, rows_in}
 use Rattle.scl_reader.specs.Questions.{questions_in, questions_of}
 use Rattle.scl_reader.specs.QuestionsGiven.{given}
 use Rattle.scl_reader.specs.CommandLines.{Given, Request}
+use Rattle.scl_describe.specs.Keepings.{kept_entries, run_words_by}
 use Rattle.scl_describe.specs.Descriptions.{compiled_entries, hazards_entry, question_entries, refused_entries, undone_entries, version_entry}
 
--- the rows of a compilation, with runs of the preprocessor for its record
-abbrev pub compilation_entries : (Parsed → List (List (List ℕ))) → Compilation → List Entry
-compilation_entries runs compilation = compiled_entries (runs (parsed_of compilation.parsed)) (pairs_of compilation.command.env_vars.items) (parsed_of compilation.parsed)
+-- the rows of a compilation by a compiler, with runs of the preprocessor for its record and the words that run at a miss
+abbrev pub compilation_entries : (Parsed → List (List (List ℕ))) → Compiler → RunWords → Compilation → List Entry
+compilation_entries runs compiler words compilation =
+    let environment : List (List ℕ × List ℕ) = pairs_of compilation.command.env_vars.items in
+    let p : Parsed = parsed_of compilation.parsed in
+    compiled_entries (runs p) environment (kept_entries compilation.cacheable compiler words environment p) p
 
-abbrev pub outcome_given : (Parsed → List (List (List ℕ))) → Option ℕ → CompilerArguments Compilation → List Entry
-outcome_given runs at (outcomes.Ok compilation) = compilation_entries runs compilation
-outcome_given runs at (outcomes.CannotCache reason text) = refused_entries reason.now (option_map string_bytes text) at
-outcome_given runs at outcomes.NotCompilation = undone_entries at
+abbrev pub outcome_given : (Parsed → List (List (List ℕ))) → Compiler → RunWords → Option ℕ → CompilerArguments Compilation → List Entry
+outcome_given runs compiler words at (outcomes.Ok compilation) = compilation_entries runs compiler words compilation
+outcome_given runs compiler words at (outcomes.CannotCache reason text) = refused_entries reason.now (option_map string_bytes text) at
+outcome_given runs compiler words at outcomes.NotCompilation = undone_entries at
 
--- the rows behind the answer's lines
-abbrev pub entries_given : (Parsed → List (List (List ℕ))) → Findings → List Entry
-entries_given runs found =
+-- the rows after the answer's lines
+abbrev pub entries_given : (Parsed → List (List (List ℕ))) → Compiler → RunWords → Findings → List Entry
+entries_given runs compiler words found =
     version_entry ∷ []
-    ++ outcome_given runs (refused_at (map told found.rows.items)) found.answer
+    ++ outcome_given runs compiler words (refused_at (map told found.rows.items)) found.answer
     ++ (options_given found.rows.items ∷ hazards_entry found.hazards.items ∷ question_entries (given found.questions))
 
 -- these are the findings of a request whose program has the empty name, by what is known of its compiler
@@ -55,8 +61,8 @@ pub record AreFound (known : Known) (reading : Reading) (line : Given) (found : 
   pub hazards : found.hazards.items ≡ hazards_in known line reading
   pub questions : given found.questions ≡ questions_in line reading
 
--- the text is that of a reading's answer, and the rows of what is found of the reading
-pub record IsTextOf (known : Known) (runs : Parsed → List (List (List ℕ))) (reading : Reading) (line : Given) (text : List ℕ) : Type 0 where
+-- the text is that of the answer to a compiler's reading, and the rows of what is found of the reading
+pub record IsTextOf (known : Known) (runs : Parsed → List (List (List ℕ))) (compiler : Compiler) (reading : Reading) (line : Given) (text : List ℕ) : Type 0 where
   pub found : Findings
   pub are_found : AreFound known reading line found
-  pub is : text ≡ text_of (answer_of found.answer) ++ entries_text (entries_given runs found)
+  pub is : text ≡ text_of (answer_of found.answer) ++ entries_text (entries_given runs compiler (run_words_by line.words found.hazards.items) found)

@@ -1,8 +1,9 @@
 -- The hazards of a request's command line.
-use Rattle.std.specs.Prelude.{ℕ, Bool, List, Option, None, Some}
+use Rattle.std.specs.Prelude.{ℕ, Bool, List, ◌∷◌, ◌++◌, Option, None, Some}
 use Rattle.scl_catalogue.specs.Form.{Catalogue}
 use Rattle.scl_catalogue.specs.declared.case.Version.{Version}
 use Rattle.scl_catalogue_text.specs.Reading.{version_read}
+use Rattle.scl_description.specs.Lines.{cut_at}
 use Rattle.scl_hazards.specs.ClangClHazards.{msvc_hazards}
 use Rattle.scl_hazards.specs.GnuHazards.{gnu_hazards}
 use Rattle.scl_hazards.specs.Hazards.{Hazard, Known}
@@ -14,10 +15,22 @@ use Rattle.scl_reader.specs.Reads.{read_of}
 use Rattle.scl_reader.specs.declared.reading.Reading.{Reading}
 use Rattle.scl_reader.specs.declared.reading.Reading.TheVariants.{Gnu, Msvc, Diab, Tasking}
 
--- the version that a text is; each is meant where it is none
+abbrev pub with_minor : List ℕ → List ℕ → Option (List ℕ × List ℕ) → List ℕ
+with_minor text major None = text
+with_minor text major (Some parts) = major ++ 46 ∷ parts.0
+
+abbrev pub before_second_dot : List ℕ → Option (List ℕ × List ℕ) → List ℕ
+before_second_dot text None = text
+before_second_dot text (Some parts) = with_minor text parts.0 (cut_at 46 parts.1)
+
+-- what of a version's text counts: what stands before its second dot
+abbrev pub major_and_minor : List ℕ → List ℕ
+major_and_minor text = before_second_dot text (cut_at 46 text)
+
+-- the version that a text names; if it names none, every version is meant
 abbrev pub version_told : Option (List ℕ) → Option Version
 version_told None = None
-version_told (Some text) = version_read text
+version_told (Some text) = version_read (major_and_minor text)
 
 -- what a catalogue knows of a compiler whose version has this text, if it is known
 abbrev pub known_by : Catalogue → Option (List ℕ) → Known

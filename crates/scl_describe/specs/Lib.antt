@@ -8,3 +8,4 @@ pub mod OptionLines
 pub mod Descriptions
 pub mod DescriptionsGiven
 pub mod Abouts
+pub mod Keepings

@@ -3,9 +3,10 @@ ghost use Rattle.std.specs.Prelude.{◌≡◌};
 ghost use Rattle.std.specs.Option.{option_copied};
 ghost use Rattle.scl_catalogue.specs.Views.{catalogue_of};
 ghost use Rattle.scl_describe.specs.Abouts.{known_for};
-ghost use Rattle.scl_describe.specs.Hazards.{known_by, version_told};
+ghost use Rattle.scl_describe.specs.Hazards.{known_by, major_and_minor, version_told};
 
 use scl_catalogue_text::version;
+use scl_description::cut_at;
 use scl_hazards::{Catalogue, Known, Version};
 use scl_reader::is_apple;
 
@@ -14,17 +15,30 @@ use scl_reader::is_apple;
 pub struct About<'a> {
     /// What is known of compilers.
     pub catalogue: Catalogue<'a>,
-    /// The text of its version, where that is told: a number such as `14` or `14.0.6`, of which the first two count for hazards,
+    /// The text of its version, if it is told: numbers such as `14` or `14.0.6`, of which the first two count for hazards,
     /// or a text in which Apple's clang names itself.
     pub version: Option<&'a str>,
 }
 
-/// The version that a text is; each is meant where it is none.
+/// What of a version's text counts: what stands before its second dot.
+fn major_and_minor(text: &[u8]) -> &[u8]
+    ensures { result.now ≡ major_and_minor text.now }
+{
+    let Some((major, rest)) = cut_at(b'.', text) else {
+        return text;
+    };
+    let Some((minor, _)) = cut_at(b'.', rest) else {
+        return text;
+    };
+    &text[..major.len() + 1 + minor.len()]
+}
+
+/// The version that a text names; if it names none, every version is meant.
 fn version_told(text: Option<&str>) -> Option<Version>
     ensures { result ≡ version_told (option_copied text.entry) }
 {
     match text {
-        Some(text) => version(text.as_bytes()),
+        Some(text) => version(major_and_minor(text.as_bytes())),
         None => None,
     }
 }

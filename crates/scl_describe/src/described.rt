@@ -12,13 +12,17 @@ ghost use Rattle.scl_reader.specs.AnswersGiven.{answer_of};
 ghost use Rattle.scl_reader.specs.QuestionsGiven.{given};
 ghost use Rattle.scl_describe.specs.SettingsRead.{settings_by};
 ghost use Rattle.scl_describe.specs.Descriptions.{runs_entry, pair_fields, environment_entry, hazards_entry, wants_entry, question_entries, refused_entries, runs_for, too_many_entries, undone_entries, version_entry};
+ghost use Rattle.scl_key.specs.Views.{run_words_of};
+ghost use Rattle.scl_describe.specs.Keepings.{run_words_by};
 ghost use Rattle.scl_describe.specs.DescriptionsGiven.{compilation_entries, entries_given, outcome_given};
 
+use crate::keeping::{push_kept, run_words_by};
 use crate::option_lines::{push_index, push_options};
 use crate::settings::Settings;
 use scl_cl::answer_text;
 use scl_description::{push_maybe, push_record, push_row, push_row_of, push_word, push_yes};
 use scl_hazards::Hazard;
+use scl_key::RunWords;
 use scl_reader::{Compilation, Compiler, Questions};
 use scl_reasons::sentence;
 use scl_rows::{Row, refused_at};
@@ -112,14 +116,16 @@ fn push_compilation(
     text: &mut Vec<u8>,
     compiler: Compiler,
     settings: &Settings,
+    words: RunWords<'_>,
     compilation: &Compilation,
 ) -> Mem<()>
-    ensures { OnOk result (text.new.items ≡ text.old.items ++ entries_text (compilation_entries (runs_for (settings_by settings.now) compiler) compilation.now)) }
+    ensures { OnOk result (text.new.items ≡ text.old.items ++ entries_text (compilation_entries (runs_for (settings_by settings.now) compiler) compiler (run_words_of words.entry) compilation.now)) }
 {
     push_record(text, &compilation.parsed)?;
     let runs = settings_runs(alloc, compiler, settings, &compilation.parsed)?;
     push_runs(text, &runs)?;
     push_environment(text, &compilation.command.env_vars)?;
+    push_kept(alloc, text, compiler, words, compilation)?;
     Ok(())
 }
 
@@ -153,14 +159,15 @@ fn push_outcome(
     text: &mut Vec<u8>,
     compiler: Compiler,
     settings: &Settings,
+    words: RunWords<'_>,
     findings: &Findings<'_>,
 ) -> Mem<()>
-    ensures { OnOk result (text.new.items ≡ text.old.items ++ entries_text (outcome_given (runs_for (settings_by settings.now) compiler) (refused_at (map told findings.now.rows.items)) findings.now.answer)) }
+    ensures { OnOk result (text.new.items ≡ text.old.items ++ entries_text (outcome_given (runs_for (settings_by settings.now) compiler) compiler (run_words_of words.entry) (refused_at (map told findings.now.rows.items)) findings.now.answer)) }
 {
     let at = refused_at(&findings.rows);
     match &findings.answer {
         CompilerArguments::Ok(compilation) => {
-            push_compilation(alloc, text, compiler, settings, compilation)
+            push_compilation(alloc, text, compiler, settings, words, compilation)
         }
         CompilerArguments::CannotCache(reason, because) => {
             push_refusal(alloc, text, reason, because.as_deref(), at)
@@ -187,18 +194,20 @@ fn push_version(text: &mut Vec<u8>) -> Mem<()>
     push_word(text, "version", b"1")
 }
 
-/// The text of an answer and the rows behind it.
+/// The text of the answer to a line of these words, and the rows after it.
 pub(crate) fn description_text(
     alloc: Global,
     compiler: Compiler,
     settings: &Settings,
+    words: &[Vec<u8>],
     findings: &Findings<'_>,
 ) -> Mem<Vec<u8>>
-    ensures { IfOk result (λ text. text.items ≡ text_of (answer_of findings.now.answer) ++ entries_text (entries_given (runs_for (settings_by settings.now) compiler) findings.now)) }
+    ensures { IfOk result (λ text. text.items ≡ text_of (answer_of findings.now.answer) ++ entries_text (entries_given (runs_for (settings_by settings.now) compiler) compiler (run_words_by (words_of words.now) findings.now.hazards.items) findings.now)) }
 {
+    let words = run_words_by(words, &findings.hazards);
     let mut text = answer_text(alloc, &findings.answer)?;
     push_version(&mut text)?;
-    push_outcome(alloc, &mut text, compiler, settings, findings)?;
+    push_outcome(alloc, &mut text, compiler, settings, words, findings)?;
     push_options(alloc, &mut text, &findings.rows)?;
     push_hazards(&mut text, &findings.hazards)?;
     push_questions(&mut text, &findings.questions)?;

@@ -79,10 +79,10 @@ fn reading_text(
     reading: Reading,
     line: &CommandLine<'_>,
 ) -> Mem<Vec<u8>>
-    ensures { IfOk result (λ text. IsTextOf known.now (runs_for (settings_by settings.now) compiler) reading (given_by line.now) text.items) }
+    ensures { IfOk result (λ text. IsTextOf known.now (runs_for (settings_by settings.now) compiler) compiler reading (given_by line.now) text.items) }
 {
     let findings = findings_of(alloc, known, reading, line)?;
-    let text = description_text(alloc, compiler, settings, &findings)?;
+    let text = description_text(alloc, compiler, settings, line.words, &findings)?;
     Ok(text)
 }
 

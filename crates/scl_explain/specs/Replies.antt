@@ -1,8 +1,7 @@
 -- What the program writes of a command line, by its answer and the hazards of its command.
 use Rattle.std.specs.Prelude.{◌≡◌, ◌&&◌, ℕ, Bool, true, false, List, [], ◌∷◌, ◌++◌, codes, if◌then◌else◌}
 use Rattle.std.specs.List.{flat_map, list_any}
-use Rattle.scl_catalogue.specs.declared.entry.Danger.{Danger}
-use Rattle.scl_catalogue.specs.declared.entry.Danger.TheVariants as dangers
+use Rattle.scl_describe.specs.Keepings.{concerns_files}
 use Rattle.scl_hazards.specs.Hazards.{Hazard}
 use Rattle.scl_reader.specs.Answers.{Answer, compiled, cannot_cache, not_compilation}
 use Rattle.scl_explain.specs.CommandTexts.{command_text}
@@ -22,13 +21,6 @@ hazards_text hazards = flat_map hazard_line hazards
 abbrev pub IsChecked : Form → List Hazard → List ℕ → Type 0
 IsChecked (form.Text paint) hazards text = text ≡ hazards_text hazards
 IsChecked form.Json hazards text = Unit {0}
-
--- what is made differs, and not only what is said of it
-abbrev pub concerns_files : Danger → Bool
-concerns_files dangers.Object = true
-concerns_files dangers.Failure = true
-concerns_files dangers.SideFile = true
-concerns_files dangers.Messages = false
 
 abbrev pub some_concern_files : List Hazard → Bool
 some_concern_files hazards = list_any (λ hazard. concerns_files hazard.danger) hazards

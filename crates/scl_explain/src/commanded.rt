@@ -2,7 +2,7 @@
 ghost use Rattle.std.specs.Prelude.{◌≡◌, ◌⊎◌, IfOk};
 ghost use Rattle.scl_reader.specs.AnswersGiven.{answer_of};
 ghost use Rattle.scl_describe.specs.Abouts.{known_for};
-ghost use Rattle.scl_explain.specs.Replies.{command_written, concerns_files, is_barred, some_concern_files};
+ghost use Rattle.scl_explain.specs.Replies.{command_written, is_barred, some_concern_files};
 ghost use Rattle.scl_explain.specs.Said.{IsCommanded, IsSaid, IsUnread};
 
 use crate::answered::{Answered, answer_case};
@@ -14,8 +14,8 @@ use crate::reply::{Reply, unread};
 use crate::report::Report;
 use crate::status::Ending;
 use crate::words::{WordForm, command_text};
-use scl_describe::About;
-use scl_hazards::{Danger, Hazard};
+use scl_describe::{About, concerns_files};
+use scl_hazards::Hazard;
 use scl_load::Disk;
 use scl_reader::{Compilation, CompilerArguments, Mem};
 use std::alloc::Global;
@@ -28,16 +28,6 @@ pub struct CommandForm {
     pub words: WordForm,
     /// Whether none is written where a hazard is named that concerns more than messages.
     pub is_strict: bool,
-}
-
-/// Whether what is made differs, and not only what is said of it.
-fn concerns_files(danger: Danger) -> bool
-    ensures { result ≡ concerns_files danger }
-{
-    match danger {
-        Danger::Object | Danger::Failure | Danger::SideFile => true,
-        Danger::Messages => false,
-    }
 }
 
 /// Whether a hazard concerns files.

@@ -1,0 +1,47 @@
+-- What is said of keeping what a command line makes.
+use Rattle.std.specs.Prelude.{ℕ, Bool, true, false, nat_eq, List, [], ◌∷◌, codes, find, Option, None, Some, if◌then◌else◌}
+use Rattle.std.specs.List.{list_any, starts_with}
+use Rattle.std.specs.Option.{option_map}
+use Rattle.scl_catalogue.specs.declared.entry.Danger.{Danger}
+use Rattle.scl_catalogue.specs.declared.entry.Danger.TheVariants as dangers
+use Rattle.scl_text.specs.declared.records.Cacheable.{Cacheable}
+use Rattle.scl_text.specs.declared.records.Cacheable.TheVariants as cacheable
+use Rattle.scl_text.specs.Records.{Parsed}
+use Rattle.scl_hazards.specs.Hazards.{Hazard}
+use Rattle.scl_reader.specs.declared.compiler.Compiler.{Compiler}
+use Rattle.scl_description.specs.Rows.{Entry}
+use Rattle.scl_key.specs.Keys.{keeping_entries, keeping_of}
+use Rattle.scl_key.specs.Told.{RunWords, built, given, hazardous}
+
+-- the files that are made differ, and not only what is said
+abbrev pub concerns_files : Danger → Bool
+concerns_files dangers.Object = true
+concerns_files dangers.Failure = true
+concerns_files dangers.SideFile = true
+concerns_files dangers.Messages = false
+
+-- the first hazard that concerns files
+abbrev pub barring : List Hazard → Option Hazard
+barring hazards = find (λ hazard. concerns_files hazard.danger) hazards
+
+abbrev pub names_response_file : List ℕ → Bool
+names_response_file word = starts_with nat_eq word (codes "@")
+
+-- What is run if no hazard concerns files: the built words if there is none, else the given ones. These are a key only if no file
+-- has a part of them.
+abbrev pub words_despite : (words : List (List ℕ)) → List Hazard → RunWords
+words_despite words [] = built
+words_despite words (hazard ∷ hazards) = if list_any names_response_file words then hazardous hazard.name else given words []
+
+abbrev pub words_unless : Option (List ℕ) → RunWords → RunWords
+words_unless None words = words
+words_unless (Some hazard) words = hazardous hazard
+
+-- the words that a cache runs at a miss of a command line of these words, with these hazards
+abbrev pub run_words_by : (words : List (List ℕ)) → List Hazard → RunWords
+run_words_by words hazards = words_unless (option_map (λ hazard. hazard.name) (barring hazards)) (words_despite words hazards)
+
+-- the rows of a record's key, or of why it has none; there are none of a command line that may not be kept
+abbrev pub kept_entries : Cacheable → Compiler → RunWords → (environment : List (List ℕ × List ℕ)) → Parsed → List Entry
+kept_entries cacheable.Yes compiler words environment p = keeping_entries (keeping_of compiler environment words p)
+kept_entries cacheable.No compiler words environment p = []

@@ -1,0 +1,4 @@
+pub mod PartLaws
+pub mod RecordLaws
+pub mod KeyLaws
+pub mod HitLaws

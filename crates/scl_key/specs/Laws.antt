@@ -1,0 +1,133 @@
+-- What a key is worth.
+use Rattle.std.specs.Prelude.{◌≡◌, ℕ, Bool, true, false, List, [], ◌∷◌, ◌++◌, map, codes, find, Option, None, Some, unwrap_or, if◌then◌else◌}
+use Rattle.std.specs.List.{flat_map}
+use Rattle.std.specs.Str.{bytes_eq}
+use Rattle.scl_text.specs.Records.{Artifact, Parsed}
+use Rattle.scl_values.specs.Each.{Each}
+use Rattle.scl_description.specs.Rows.{IsRow, row_text, rows_in, rows_of, rests_at, entries_text}
+use Rattle.scl_description.specs.Records.{first_field, output_back}
+use Rattle.scl_reader.specs.declared.compiler.Compiler.{Compiler}
+use Rattle.scl_reader.specs.Answers.{command_by}
+use Rattle.scl_key.specs.declared.part.Ask.{Ask}
+use Rattle.scl_key.specs.declared.part.Ask.TheVariants as asks
+use Rattle.scl_key.specs.Given.{shows}
+use Rattle.scl_key.specs.Keys.{key_of}
+use Rattle.scl_key.specs.Parts.{Part, is, output, directory, compiler, plan, asked, run, run_else, pch, sources, times, ask_name, hashed, is_asked, key_entries}
+use Rattle.scl_key.specs.Told.{RunWords, built, given, hazardous, flat_pairs, key_record, run_words_fields, told}
+
+-- ---- rows are read back
+
+abbrev pub all_asks : List Ask
+all_asks = asks.Env ∷ asks.Unset ∷ asks.File ∷ asks.Maybe ∷ asks.Regular ∷ asks.SourcesIfShown ∷ asks.RefuseIfShown ∷ []
+
+abbrev pub ask_back : List ℕ → Ask
+ask_back name = unwrap_or (find (λ ask. bytes_eq (ask_name ask) name) all_asks) asks.Env
+
+-- the part of a name and of what stands behind it
+abbrev pub part_named : List ℕ → List (List ℕ) → Part
+part_named name rest =
+    if bytes_eq name (codes "is") then is rest
+    else (if bytes_eq name (codes "output") then output (output_back rest)
+    else (if bytes_eq name (codes "directory") then directory
+    else (if bytes_eq name (codes "compiler") then compiler
+    else (if bytes_eq name (codes "plan") then plan rest
+    else (if bytes_eq name (codes "run") then run rest
+    else (if bytes_eq name (codes "run-else") then run_else rest
+    else (if bytes_eq name (codes "pch") then pch rest
+    else (if bytes_eq name (codes "sources") then sources
+    else (if bytes_eq name (codes "times") then times
+    else asked (ask_back name) (first_field rest))))))))))
+
+abbrev pub part_back : List (List ℕ) → Part
+part_back [] = directory
+part_back (name ∷ rest) = part_named name rest
+
+-- the key that the rows of a text are of
+abbrev pub key_in : List ℕ → List Part
+key_in text = map part_back (rests_at (rows_in text) (codes "key"))
+
+-- A key is read back from its rows: so two keys of one text are one.
+abbrev pub KeysReadBack : Type 0
+KeysReadBack = (key : List Part) → Each IsRow (rows_of (key_entries key)) → key_in (entries_text (key_entries key)) ≡ key
+
+-- ---- keys decide commands
+
+-- a record with the words of the preprocessor of another
+abbrev pub with_shown_of : Parsed → Parsed → Parsed
+with_shown_of p q = record q { preprocessor_args = p.preprocessor_args }
+
+-- the words that are run at a miss, if there are any
+abbrev pub ran_with : RunWords → Option (List (List ℕ)) → Option (List (List ℕ))
+ran_with built command = command
+ran_with (given words files) command = Some words
+ran_with (hazardous hazard) command = None
+
+abbrev pub ran : Compiler → RunWords → Parsed → Option (List (List ℕ))
+ran c words p = ran_with words (command_by c p)
+
+-- two command lines, each of a compiler, with an environment and what is run of it, are one but for words that runs show
+pub record AreOne (a b : Compiler) (e f : List (List ℕ × List ℕ)) (r s : RunWords) (p q : Parsed) : Type 0 where
+  pub compiler_is : a ≡ b
+  pub environment_is : flat_pairs e ≡ flat_pairs f
+  pub run_words_are : run_words_fields r ≡ run_words_fields s
+  pub record_is : key_record a p ≡ key_record a q
+  pub outputs_are : p.outputs ≡ q.outputs
+  pub hash_files_are : p.extra_hash_files ≡ q.extra_hash_files
+  pub shows_is : shows a p ≡ shows b q
+  pub command_is : command_by a p ≡ command_by a (with_shown_of p q)
+  pub what_runs_is : ran a r p ≡ ran a s (with_shown_of p q)
+  pub words_are_unless_shown : shows a p ≡ false → p.preprocessor_args ≡ q.preprocessor_args
+
+-- Two command lines of which the same is told are by one compiler, and have one record and command, but for words that runs show:
+-- for all eight compilers.
+abbrev pub KeysDecideCommands : Type 0
+KeysDecideCommands = (a b : Compiler) (e f : List (List ℕ × List ℕ)) (r s : RunWords) (p q : Parsed) → told a e r p ≡ told b f s q → AreOne a b e f r s p q
+
+-- ---- hits are right
+
+-- a machine with its compilers and files at one moment: what a part that asks is answered there, and what a compiler makes there of
+-- words with an environment
+pub record World : Type 0 where
+  pub answer : Compiler → Part → List ℕ
+  pub outcome : Compiler → (environment : List (List ℕ)) → (words : Option (List (List ℕ))) → List (List ℕ)
+
+abbrev pub answered : World → Compiler → Part → List (List ℕ)
+answered v c part = if is_asked part then v.answer c part ∷ [] else []
+
+abbrev pub answers : World → Compiler → List Part → List (List ℕ)
+answers v c key = flat_map (answered v c) key
+
+-- what a cache hashes there for a key, in order: of each part its row, or what of it is hashed, and the answer if it asks
+abbrev pub material : World → Compiler → List Part → List (List ℕ)
+material v c key = flat_map (λ part. row_text (hashed part) ∷ answered v c part) key
+
+-- two compilations by one compiler, each in its world, are alike as far as a key tells
+pub record AreAlike (v w : World) (c : Compiler) (e f : List (List ℕ × List ℕ)) (r s : RunWords) (p q : Parsed) : Type 0 where
+  pub environment_is : flat_pairs e ≡ flat_pairs f
+  pub run_words_are : run_words_fields r ≡ run_words_fields s
+  pub record_is : key_record c p ≡ key_record c q
+  pub words_are_unless_shown : shows c p ≡ false → p.preprocessor_args ≡ q.preprocessor_args
+  pub answers_are : answers v c (key_of c e r p) ≡ answers w c (key_of c f s q)
+
+-- Compilers are well-behaved in two worlds: of compilations that are alike they make the same files. This is what is assumed of them.
+abbrev pub AreWellBehaved : World → World → Type 0
+AreWellBehaved v w =
+    (c : Compiler) (e f : List (List ℕ × List ℕ)) (r s : RunWords) (p q : Parsed)
+    → AreAlike v w c e f r s p q
+    → v.outcome c (flat_pairs e) (ran c r p) ≡ w.outcome c (flat_pairs f) (ran c s q)
+
+-- each row of what is hashed of a key can be written
+abbrev pub CanBeHashed : List Part → Type 0
+CanBeHashed key = Each (λ part. IsRow (hashed part)) key
+
+-- where what is hashed is one, so are the outcomes
+abbrev pub AHitIsRight : World → World → Type 0
+AHitIsRight v w =
+    (a b : Compiler) (e f : List (List ℕ × List ℕ)) (r s : RunWords) (p q : Parsed)
+    → CanBeHashed (key_of a e r p) → CanBeHashed (key_of b f s q)
+    → material v a (key_of a e r p) ≡ material w b (key_of b f s q)
+    → v.outcome a (flat_pairs e) (ran a r p) ≡ w.outcome b (flat_pairs f) (ran b s q)
+
+-- A hit gives what a compilation would give: what was made in one world is what would be made in the other.
+abbrev pub HitsAreRight : Type 0
+HitsAreRight = (v w : World) → AreWellBehaved v w → AHitIsRight v w

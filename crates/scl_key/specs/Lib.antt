@@ -1,0 +1,12 @@
+pub mod Effects
+pub mod Families
+pub mod Given
+pub mod GivenViews
+pub mod Parts
+pub mod Told
+pub mod Made
+pub mod Reads
+pub mod Runs
+pub mod Keys
+pub mod Views
+pub mod Laws

@@ -1,0 +1,65 @@
+-- The files that the words of a command may read, by what the words hold.
+use Rattle.std.specs.Prelude.{ℕ, Bool, false, nat_eq, not, List, [], ◌∷◌, ◌++◌, drop, map, filter, codes, Option, if◌then◌else◌}
+use Rattle.std.specs.List.{flat_map, list_any, starts_with}
+use Rattle.std.specs.Option.{option_to_list}
+use Rattle.scl_files.specs.Paths.{with_extension}
+use Rattle.scl_text.specs.Commands.{object_of}
+use Rattle.scl_text.specs.Records.{Parsed}
+use Rattle.scl_reader.specs.declared.compiler.Compiler.{Compiler}
+use Rattle.scl_key.specs.declared.effect.Effect.{Effect}
+use Rattle.scl_key.specs.declared.effect.Effect.TheVariants as effects
+use Rattle.scl_key.specs.Effects.{effect_of, is_comma, is_plain, suffixes}
+use Rattle.scl_key.specs.Families.{is_clang}
+use Rattle.scl_key.specs.Given.{headers, macro_files}
+
+-- a text, and what stands behind each of its `=`
+abbrev pub with_values : List ℕ → List (List ℕ)
+with_values text = text ∷ suffixes 61 text
+
+-- what stands before the first comma
+abbrev pub until_comma : List ℕ → List ℕ
+until_comma [] = []
+until_comma (byte ∷ bytes) = if is_comma byte then [] else byte ∷ until_comma bytes
+
+-- the parts between commas, where there are any
+abbrev pub comma_parts : List ℕ → List (List ℕ)
+comma_parts text = if list_any is_comma text then map until_comma (text ∷ suffixes 44 text) else []
+
+-- what a word may hold that names a file: itself and each part between commas, and what stands behind each `=` of those
+abbrev pub values : List ℕ → List (List ℕ)
+values word = with_values word ++ flat_map with_values (comma_parts word)
+
+abbrev pub without_at : List ℕ → List ℕ
+without_at value = if starts_with nat_eq value (codes "@") then drop 1 value else value
+
+abbrev pub is_path : List ℕ → Bool
+is_path [] = false
+is_path (byte ∷ bytes) = not (nat_eq byte 45)
+
+-- the paths that a word may name: none of a word that is known to read nothing
+abbrev pub paths_in : List ℕ → List (List ℕ)
+paths_in word = if is_plain (effect_of word) then [] else filter is_path (map without_at (values word))
+
+-- the profile that a word makes the compiler read, if it has a name that the word does not say
+abbrev pub profile_by : Option (List ℕ) → Effect → List (List ℕ)
+profile_by object effects.Plain = []
+profile_by object effects.Exact = []
+profile_by object effects.Macros = []
+profile_by object effects.WritesUnnamed = []
+profile_by object effects.TextHides = []
+profile_by object effects.ReadsCounts = map (λ path. with_extension path (codes "gcda")) (option_to_list object)
+profile_by object effects.ReadsSamples = codes "fbdata.afdo" ∷ []
+
+abbrev pub profiles : Parsed → List (List ℕ)
+profiles p = flat_map (λ word. profile_by (object_of p) (effect_of word)) p.common_args
+
+-- what clang may read in the place of a header that is included first
+abbrev pub precompiled : List ℕ → List (List ℕ)
+precompiled header = (header ++ codes ".pch") ∷ (header ++ codes ".gch") ∷ []
+
+abbrev pub precompiled_headers : Compiler → Parsed → List (List ℕ)
+precompiled_headers compiler p = if is_clang compiler then flat_map precompiled (headers p) else []
+
+-- all files that may be read, and need not be there
+abbrev pub files_perhaps : Compiler → Parsed → List (List ℕ)
+files_perhaps compiler p = flat_map paths_in p.common_args ++ flat_map paths_in p.unhashed_args ++ macro_files p ++ profiles p ++ precompiled_headers compiler p

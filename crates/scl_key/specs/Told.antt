@@ -1,0 +1,65 @@
+-- What of a command line is hashed as it stands: made from the whole record, less what runs show.
+use Rattle.std.specs.Prelude.{ℕ, Bool, true, false, List, [], ◌∷◌, ◌++◌, map, codes, None, if◌then◌else◌}
+use Rattle.std.specs.List.{flat_map}
+use Rattle.scl_text.specs.Records.{Parsed}
+use Rattle.scl_description.specs.Rows.{Entry, entry_rows}
+use Rattle.scl_description.specs.Records.{record_entries}
+use Rattle.scl_reader.specs.declared.compiler.Compiler.{Compiler}
+use Rattle.scl_reader.specs.Compilers.{name_of}
+use Rattle.scl_key.specs.Given.{shows}
+use Rattle.scl_key.specs.Parts.{Part, is}
+
+-- which words a cache runs at a miss
+pub data RunWords : Type 0 where
+  -- those of the built command
+  built : RunWords
+  -- the given ones, with the response files that they name
+  given : (words files : List (List ℕ)) → RunWords
+  -- none whose outcome may be kept, because of this hazard
+  hazardous : (hazard : List ℕ) → RunWords
+
+-- the record, less what runs show, and what no command takes
+abbrev pub key_record : Compiler → Parsed → Parsed
+key_record compiler p = record p {
+  preprocessor_args = if shows compiler p then [] else p.preprocessor_args;
+  extra_dist_files = [];
+  too_hard_for_preprocessor_cache_mode = None;
+}
+
+abbrev pub yes_or_no : Bool → List ℕ
+yes_or_no true = codes "yes"
+yes_or_no false = codes "no"
+
+-- keys and values, one behind the other
+abbrev pub flat_pairs : List (List ℕ × List ℕ) → List (List ℕ)
+flat_pairs [] = []
+flat_pairs (pair ∷ pairs) = pair.0 ∷ pair.1 ∷ flat_pairs pairs
+
+abbrev pub run_words_fields : RunWords → List (List ℕ)
+run_words_fields built = codes "built" ∷ []
+run_words_fields (given words files) = codes "given" ∷ words
+run_words_fields (hazardous hazard) = codes "none" ∷ hazard ∷ []
+
+-- the facts beside the record, where runs show the words of the preprocessor or do not
+abbrev pub facts_shown : Compiler → (environment : List (List ℕ × List ℕ)) → RunWords → Bool → List Part
+facts_shown compiler environment words is_shown =
+    is (codes "version" ∷ codes "1" ∷ [])
+    ∷ is (codes "compiler" ∷ name_of compiler ∷ [])
+    ∷ is (codes "shown" ∷ yes_or_no is_shown ∷ [])
+    ∷ is (codes "run-words" ∷ run_words_fields words)
+    ∷ is (codes "environment" ∷ flat_pairs environment)
+    ∷ []
+
+abbrev pub facts : Compiler → (environment : List (List ℕ × List ℕ)) → RunWords → Parsed → List Part
+facts compiler environment words p = facts_shown compiler environment words (shows compiler p)
+
+-- the rows of an entry of a record
+unfoldable pub told_entry : Entry → List Part
+told_entry e = map is (entry_rows e)
+
+abbrev pub told_entries : List Entry → List Part
+told_entries entries = flat_map told_entry entries
+
+-- the parts that are facts
+abbrev pub told : Compiler → (environment : List (List ℕ × List ℕ)) → RunWords → Parsed → List Part
+told compiler environment words p = facts compiler environment words p ++ told_entries (record_entries (key_record compiler p))

@@ -1,0 +1,376 @@
+//! The key of a command line, or why there is none.
+ghost use Rattle.std.specs.Prelude.{◌≡◌, ◌++◌, ◌∷◌, [], map, if◌then◌else◌, IfOk, OnOk};
+ghost use Rattle.std.specs.List.{list_all};
+ghost use Rattle.scl_values.specs.Words.{words_of};
+ghost use Rattle.scl_text.specs.Commands.{pairs_of};
+ghost use Rattle.scl_text.specs.Records.{parsed_of};
+ghost use Rattle.scl_description.specs.Rows.{entries_text};
+ghost use Rattle.scl_key.specs.Effects.{effect_of, is_plain};
+ghost use Rattle.scl_key.specs.Given.{headers};
+ghost use Rattle.scl_key.specs.Keys.{asked_each, asked_parts, assembler_reading, file_parts, keeping_entries, key_of, keeping_of, named_each, precompiled_parts, reading, refusals, response_files, searched, source_parts, stamps_times, telling_of, text_is_enough, text_parts};
+ghost use Rattle.scl_key.specs.Made.{made};
+ghost use Rattle.scl_key.specs.Parts.{asked, output, times};
+ghost use Rattle.scl_key.specs.Runs.{is_assembler};
+ghost use Rattle.scl_key.specs.Views.{outputs_of, parts_of, run_words_of};
+ghost use Rattle.scl_key.specs.Views.{keeping_of as keeping_told};
+ghost use Rattle.scl_key.specs.declared.part.Ask.TheVariants as Ask;
+
+use crate::effect::effect_of;
+use crate::family::{folder_variables, is_clang, is_gcc, unset_variables, variables};
+use crate::given::{Brings, shows, values_of};
+use crate::made::made;
+use crate::no_key::{NoKey, no_keys, push_no_rows};
+use crate::part::{Ask, Output, Part, push_key};
+use crate::reads::files_perhaps;
+use crate::runs::{is_among, is_assembler, is_header, push_plans, push_runs};
+use crate::told::{RunWords, push_told};
+use scl_reader::Compiler;
+use scl_text::Mem;
+use scl_text::command::push_word;
+use scl_text::language::Language;
+use scl_text::records::ParsedArguments;
+use std::alloc::Global;
+
+/// What is said of keeping what a command line makes (docs/RULES.md, Keys).
+#[derive(Debug, PartialEq, Eq, Drop)]
+pub enum Keeping {
+    /// It may be kept, under this key.
+    Under(Vec<Part>),
+    /// No key can be right, for these reasons.
+    Not(Vec<NoKey>),
+}
+
+/// What in a text says that a source has more than the text: its columns, names, lines, or whether a message is an error.
+const TELLING: &str =
+    "__builtin_(COLUMN|LINE|FILE|source_location)|diagnostic[ \t]+error|__has_embed|#[ \t]*embed";
+
+/// The same for Clang, which names what has no name by its column.
+const CLANG_TELLING: &str =
+    "__builtin_(COLUMN|LINE|FILE|source_location|dump_struct)|__PRETTY_FUNCTION__|diagnostic[ \t]+error|__has_embed|#[ \t]*embed";
+
+/// What in a text reads a file that nobody names, or may: an assembler's directives, and its macros that make such.
+const READING: &str =
+    "(^|[^])A-Za-z0-9_.$]|\\\\[nt])\\.inc(bin|lude)([^A-Za-z0-9_]|$)|^[ \t]*#[ \t]*embed|\\.[A-Za-z0-9_]*\\\\\\\\[A-Za-z0-9_(@]";
+
+/// The same in assembler.
+const ASSEMBLER_READING: &str =
+    "(^|[^])A-Za-z0-9_.$]|\\\\[nt])\\.inc(bin|lude)([^A-Za-z0-9_]|$)|\\.[A-Za-z0-9_]*\\\\[A-Za-z0-9_(@]";
+
+/// The word by which clang's precompiled header stores no times.
+const NO_TIMES: &[u8] = b"-fno-pch-timestamp";
+
+/// Appends what is asked of a name.
+fn push_asked(alloc: Global, parts: &mut Vec<Part>, ask: Ask, name: &[u8]) -> Mem<()>
+    ensures { OnOk result (parts_of parts.new.items ≡ parts_of parts.old.items ++ asked ask name.now ∷ []) }
+{
+    let name = Vec::from_slice(alloc, name)?;
+    parts.push(Part::Asked(ask, name))?;
+    Ok(())
+}
+
+/// Appends what is asked of each name.
+fn push_asked_each(alloc: Global, parts: &mut Vec<Part>, ask: Ask, names: &[Vec<u8>]) -> Mem<()>
+    ensures { OnOk result (parts_of parts.new.items ≡ parts_of parts.old.items ++ asked_each ask (words_of names.now)) }
+{
+    for name in names {
+        push_asked(alloc, parts, ask, name)?;
+    }
+    Ok(())
+}
+
+/// Appends what is asked of each of these values.
+fn push_asked_values(alloc: Global, parts: &mut Vec<Part>, ask: Ask, values: &[&[u8]]) -> Mem<()>
+    ensures { OnOk result (parts_of parts.new.items ≡ parts_of parts.old.items ++ asked_each ask (map (λ value. value.now) values.now)) }
+{
+    for value in values {
+        push_asked(alloc, parts, ask, value)?;
+    }
+    Ok(())
+}
+
+/// Appends what is asked of each variable.
+fn push_asked_variables(
+    alloc: Global,
+    parts: &mut Vec<Part>,
+    ask: Ask,
+    variables: &[&'static str],
+) -> Mem<()>
+    ensures { OnOk result (parts_of parts.new.items ≡ parts_of parts.old.items ++ asked_each ask (map (λ name. name.now) variables.now)) }
+{
+    for variable in variables {
+        push_asked(alloc, parts, ask, variable.as_bytes())?;
+    }
+    Ok(())
+}
+
+/// The response files that the given words name, where those are run.
+fn response_files<'a>(words: RunWords<'a>) -> &'a [Vec<u8>]
+    ensures { words_of result.now ≡ response_files (run_words_of words.entry) }
+{
+    match words {
+        RunWords::Given(_, files) => files,
+        RunWords::Built | RunWords::Hazardous(_) => &[],
+    }
+}
+
+/// Appends names, each behind what it is.
+fn push_named_each(alloc: Global, words: &mut Vec<Vec<u8>>, what: &str, names: &[&[u8]]) -> Mem<()>
+    ensures { OnOk result (words_of words.new.items ≡ words_of words.old.items ++ named_each what.now (map (λ name. name.now) names.now)) }
+{
+    for name in names {
+        push_word(alloc, words, what.as_bytes())?;
+        push_word(alloc, words, name)?;
+    }
+    Ok(())
+}
+
+/// Appends variables, each behind what it is.
+fn push_named_variables(
+    alloc: Global,
+    words: &mut Vec<Vec<u8>>,
+    what: &str,
+    names: &[&'static str],
+) -> Mem<()>
+    ensures { OnOk result (words_of words.new.items ≡ words_of words.old.items ++ named_each what.now (map (λ name. name.now) names.now)) }
+{
+    for name in names {
+        push_word(alloc, words, what.as_bytes())?;
+        push_word(alloc, words, name.as_bytes())?;
+    }
+    Ok(())
+}
+
+/// Where Gcc searches what it may read in the place of the first header.
+fn searched(alloc: Global, parsed: &ParsedArguments) -> Mem<Vec<Vec<u8>>>
+    ensures { IfOk result (λ words. words_of words.items ≡ searched (parsed_of parsed.now)) }
+{
+    let mut words = Vec::new(alloc);
+    let given = parsed.preprocessor_args.as_slice();
+    let headers = values_of(alloc, Brings::Header, given)?;
+    let folders = values_of(alloc, Brings::Folder, given)?;
+    push_named_each(alloc, &mut words, "header", &headers)?;
+    push_named_each(alloc, &mut words, "beside", &[parsed.input.as_slice()])?;
+    push_named_each(alloc, &mut words, "folder", &folders)?;
+    push_named_variables(alloc, &mut words, "variable", folder_variables())?;
+    Ok(words)
+}
+
+/// Appends what Gcc may read in the place of the first header.
+fn push_precompiled(
+    alloc: Global,
+    parts: &mut Vec<Part>,
+    compiler: Compiler,
+    parsed: &ParsedArguments,
+) -> Mem<()>
+    ensures { OnOk result (parts_of parts.new.items ≡ parts_of parts.old.items ++ precompiled_parts compiler (parsed_of parsed.now)) }
+{
+    if is_gcc(compiler) {
+        parts.push(Part::Pch(searched(alloc, parsed)?))?;
+    }
+    Ok(())
+}
+
+fn are_plain(words: &[Vec<u8>]) -> bool
+    ensures { result ≡ list_all (λ word. is_plain (effect_of word)) (words_of words.now) }
+{
+    for word in words {
+        if !effect_of(word).is_plain() {
+            return false;
+        }
+    }
+    true
+}
+
+/// Whether the outcome has nothing of the sources that the text of a run lacks.
+fn text_is_enough(alloc: Global, compiler: Compiler, parsed: &ParsedArguments) -> Mem<bool>
+    ensures { IfOk result (λ is. is ≡ text_is_enough compiler (parsed_of parsed.now)) }
+{
+    Ok(shows(alloc, compiler, parsed)? && are_plain(&parsed.common_args))
+}
+
+fn telling_of(compiler: Compiler) -> &'static str
+    ensures { result.now ≡ telling_of compiler }
+{
+    if is_clang(compiler) {
+        CLANG_TELLING
+    } else {
+        TELLING
+    }
+}
+
+/// Appends the sources.
+fn push_sources(
+    alloc: Global,
+    parts: &mut Vec<Part>,
+    compiler: Compiler,
+    parsed: &ParsedArguments,
+) -> Mem<()>
+    ensures { OnOk result (parts_of parts.new.items ≡ parts_of parts.old.items ++ source_parts compiler (parsed_of parsed.now)) }
+{
+    if text_is_enough(alloc, compiler, parsed)? {
+        push_asked(
+            alloc,
+            parts,
+            Ask::SourcesIfShown,
+            telling_of(compiler).as_bytes(),
+        )
+    } else {
+        parts.push(Part::Sources)?;
+        Ok(())
+    }
+}
+
+fn stamps_times(compiler: Compiler, parsed: &ParsedArguments) -> bool
+    ensures { result ≡ stamps_times compiler (parsed_of parsed.now) }
+{
+    is_clang(compiler) && is_header(parsed.language) && !is_among(NO_TIMES, &parsed.common_args)
+}
+
+/// Appends the times of the sources, where the outcome has them.
+fn push_times(parts: &mut Vec<Part>, compiler: Compiler, parsed: &ParsedArguments) -> Mem<()>
+    ensures { OnOk result (parts_of parts.new.items ≡ parts_of parts.old.items ++ (if stamps_times compiler (parsed_of parsed.now) then times ∷ [] else [])) }
+{
+    if stamps_times(compiler, parsed) {
+        parts.push(Part::Times)?;
+    }
+    Ok(())
+}
+
+/// What no text may have.
+fn refused(language: Language) -> &'static str
+    ensures { result.now ≡ (if is_assembler language then assembler_reading else reading) }
+{
+    if is_assembler(language) {
+        ASSEMBLER_READING
+    } else {
+        READING
+    }
+}
+
+/// Appends what no text may have.
+fn push_refusals(alloc: Global, parts: &mut Vec<Part>, parsed: &ParsedArguments) -> Mem<()>
+    ensures { OnOk result (parts_of parts.new.items ≡ parts_of parts.old.items ++ refusals (parsed_of parsed.now)) }
+{
+    let pattern = refused(parsed.language);
+    push_asked(alloc, parts, Ask::RefuseIfShown, pattern.as_bytes())
+}
+
+/// Appends what is asked of variables and files.
+fn push_files(
+    alloc: Global,
+    parts: &mut Vec<Part>,
+    compiler: Compiler,
+    words: RunWords<'_>,
+    parsed: &ParsedArguments,
+) -> Mem<()>
+    ensures { OnOk result (parts_of parts.new.items ≡ parts_of parts.old.items ++ file_parts compiler (run_words_of words.entry) (parsed_of parsed.now)) }
+{
+    push_asked_variables(alloc, parts, Ask::Env, variables(compiler))?;
+    push_asked_variables(alloc, parts, Ask::Unset, unset_variables(compiler))?;
+    push_asked_each(alloc, parts, Ask::File, &parsed.extra_hash_files)?;
+    push_asked_each(alloc, parts, Ask::File, response_files(words))?;
+    let paths = files_perhaps(alloc, compiler, parsed)?;
+    push_asked_each(alloc, parts, Ask::Maybe, &paths)
+}
+
+/// Appends what must be a regular file, if anything.
+fn push_regular(alloc: Global, parts: &mut Vec<Part>, parsed: &ParsedArguments) -> Mem<()>
+    ensures { OnOk result (parts_of parts.new.items ≡ parts_of parts.old.items ++ asked_each Ask.Regular ((parsed_of parsed.now).input ∷ headers (parsed_of parsed.now))) }
+{
+    push_asked(alloc, parts, Ask::Regular, &parsed.input)?;
+    let headers = values_of(alloc, Brings::Header, &parsed.preprocessor_args)?;
+    push_asked_values(alloc, parts, Ask::Regular, &headers)
+}
+
+/// Appends what is asked of texts.
+fn push_texts(
+    alloc: Global,
+    parts: &mut Vec<Part>,
+    compiler: Compiler,
+    parsed: &ParsedArguments,
+) -> Mem<()>
+    ensures { OnOk result (parts_of parts.new.items ≡ parts_of parts.old.items ++ text_parts compiler (parsed_of parsed.now)) }
+{
+    push_runs(alloc, parts, compiler, parsed)?;
+    push_precompiled(alloc, parts, compiler, parsed)?;
+    push_sources(alloc, parts, compiler, parsed)?;
+    push_times(parts, compiler, parsed)?;
+    push_refusals(alloc, parts, parsed)
+}
+
+/// Appends the parts that ask.
+fn push_asking(
+    alloc: Global,
+    parts: &mut Vec<Part>,
+    compiler: Compiler,
+    words: RunWords<'_>,
+    parsed: &ParsedArguments,
+) -> Mem<()>
+    ensures { OnOk result (parts_of parts.new.items ≡ parts_of parts.old.items ++ asked_parts compiler (run_words_of words.entry) (parsed_of parsed.now)) }
+{
+    parts.push(Part::Directory)?;
+    parts.push(Part::Compiler)?;
+    push_plans(alloc, parts, compiler, parsed)?;
+    push_files(alloc, parts, compiler, words, parsed)?;
+    push_regular(alloc, parts, parsed)?;
+    push_texts(alloc, parts, compiler, parsed)
+}
+
+/// Appends the files that come out.
+fn push_outputs(alloc: Global, parts: &mut Vec<Part>, outputs: &[Output]) -> Mem<()>
+    ensures { OnOk result (parts_of parts.new.items ≡ parts_of parts.old.items ++ map output (outputs_of outputs.now)) }
+{
+    for one in outputs {
+        parts.push(Part::Output(one.copy(alloc)?))?;
+    }
+    Ok(())
+}
+
+/// The key of a record, with these outputs.
+fn key_with(
+    alloc: Global,
+    compiler: Compiler,
+    environment: &[(Vec<u8>, Vec<u8>)],
+    words: RunWords<'_>,
+    parsed: &ParsedArguments,
+    outputs: &[Output],
+) -> Mem<Vec<Part>>
+    requires outputs { outputs_of outputs.now ≡ made (parsed_of parsed.now) }
+    ensures { IfOk result (λ key. parts_of key.items ≡ key_of compiler (pairs_of environment.now) (run_words_of words.entry) (parsed_of parsed.now)) }
+{
+    let mut parts = Vec::new(alloc);
+    push_told(alloc, &mut parts, compiler, environment, words, parsed)?;
+    push_outputs(alloc, &mut parts, outputs)?;
+    push_asking(alloc, &mut parts, compiler, words, parsed)?;
+    Ok(parts)
+}
+
+/// The key of a record that this compiler read, or why there is none: with the environment that its command gets, and the
+/// words that a cache runs at a miss (docs/RULES.md, Keys). It fails only for want of memory.
+pub fn key_of(
+    alloc: Global,
+    compiler: Compiler,
+    environment: &[(Vec<u8>, Vec<u8>)],
+    words: RunWords<'_>,
+    parsed: &ParsedArguments,
+) -> Mem<Keeping>
+    ensures { IfOk result (λ keeping. keeping_told keeping ≡ keeping_of compiler (pairs_of environment.now) (run_words_of words.entry) (parsed_of parsed.now)) }
+{
+    let outputs = made(alloc, parsed)?;
+    let why = no_keys(alloc, compiler, words, parsed, &outputs)?;
+    if !why.is_empty() {
+        return Ok(Keeping::Not(why));
+    }
+    let key = key_with(alloc, compiler, environment, words, parsed, &outputs)?;
+    Ok(Keeping::Under(key))
+}
+
+/// Appends the rows of a key, `key ..`, or of why there is none, `keep no REASON W`. It fails only for want of memory.
+pub fn push_keeping(text: &mut Vec<u8>, keeping: &Keeping) -> Mem<()>
+    ensures { OnOk result (text.new.items ≡ text.old.items ++ entries_text (keeping_entries (keeping_told keeping.now))) }
+{
+    match keeping {
+        Keeping::Under(key) => push_key(text, key),
+        Keeping::Not(why) => push_no_rows(text, why),
+    }
+}

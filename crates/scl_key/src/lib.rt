@@ -1,0 +1,21 @@
+//! The key of a command line: what a cache hashes as it stands, and what it asks and hashes.
+#![tactic(auto)]
+
+mod effect;
+mod family;
+mod given;
+mod key;
+pub mod laws;
+mod made;
+mod no_key;
+mod part;
+mod reads;
+mod runs;
+mod told;
+
+pub use effect::Effect;
+pub use given::{Brings, shows};
+pub use key::{Keeping, key_of, push_keeping};
+pub use no_key::{NoKey, Reason};
+pub use part::{Ask, Output, Part, push_key};
+pub use told::RunWords;

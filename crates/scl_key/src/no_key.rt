@@ -1,0 +1,377 @@
+//! Why there is no key.
+ghost use Rattle.std.specs.Prelude.{◌≡◌, ◌++◌, ◌∷◌, [], map, filter, drop, codes, false, IfOk, OnOk};
+ghost use Rattle.std.specs.List.{flat_map, list_any};
+ghost use Rattle.scl_values.specs.Words.{words_of};
+ghost use Rattle.scl_text.specs.Records.{parsed_of};
+ghost use Rattle.scl_description.specs.Rows.{entries_text, entry_text, row_entry};
+ghost use Rattle.scl_files.specs.Paths.{same_path};
+ghost use Rattle.scl_key.specs.Effects.{assembler_effect, assembler_words, behind, suffixes, writes_unnamed};
+ghost use Rattle.scl_key.specs.Keys.{asks_for_rules, hazards, hides_file, is_no_file, lost_files, no_key, no_key_by, no_key_entry, no_keys, no_keys_by_words, reason_name, reason_of, repeated, unnamed, unnamed_by};
+ghost use Rattle.scl_key.specs.Made.{dependency_files, made};
+ghost use Rattle.scl_key.specs.Views.{no_key_of, no_keys_of, outputs_of, paths_of, run_words_of};
+ghost use Rattle.scl_key.specs.declared.no_key.Reason.TheVariants as Reason;
+
+use crate::effect::{Effect, assembler_effect, assembler_words, effect_of, push_behind};
+use crate::family::notes_by_runs;
+use crate::made::{dependency_files, handed_file};
+use crate::part::Output;
+use crate::reads::push_values;
+use crate::told::RunWords;
+use scl_description::push_row;
+use scl_files::path::same_path;
+use scl_reader::Compiler;
+use scl_text::Mem;
+use scl_text::command::{push_word, push_words};
+use scl_text::records::ParsedArguments;
+use std::alloc::Global;
+
+/// Why nothing may be kept of what a command line makes (docs/RULES.md, Keys).
+#[derive(Debug, Clone, Copy, PartialEq, Eq)]
+pub enum Reason {
+    /// A file is written that no row names.
+    WritesUnnamed,
+    /// The text of a run is not that of what is compiled.
+    TextHides,
+    /// An output is no file of a folder.
+    OutputIsNoFile,
+    /// Two outputs have one path.
+    OnePathTwice,
+    /// The built command has a hazard, and the given words are not known to make the outputs.
+    Hazard,
+}
+
+/// Why there is no key: the reason, and the word, path or hazard.
+#[derive(Debug, PartialEq, Eq, Drop)]
+pub struct NoKey {
+    /// The reason.
+    pub reason: Reason,
+    /// The word, path or hazard.
+    pub word: Vec<u8>,
+}
+
+/// The path by which standard output is meant.
+const STANDARD_OUTPUT: &[u8] = b"-";
+
+impl Reason {
+    /// Its name in rows.
+    pub fn name(self) -> &'static str
+        ensures { result.now ≡ reason_name self }
+    {
+        match self {
+            Reason::WritesUnnamed => "writes-unnamed",
+            Reason::TextHides => "text-hides",
+            Reason::OutputIsNoFile => "output-is-no-file",
+            Reason::OnePathTwice => "one-path-twice",
+            Reason::Hazard => "hazard",
+        }
+    }
+}
+
+impl Effect {
+    /// Whether a file is written that no row names.
+    fn writes_unnamed(self) -> bool
+        ensures { result ≡ writes_unnamed self }
+    {
+        match self {
+            Effect::WritesUnnamed => true,
+            Effect::Plain
+            | Effect::Exact
+            | Effect::Macros
+            | Effect::TextHides
+            | Effect::ReadsCounts
+            | Effect::ReadsSamples => false,
+        }
+    }
+
+    /// Why there is no key for a word that does this.
+    fn reason(self) -> Option<Reason>
+        ensures { result ≡ reason_of self }
+    {
+        match self {
+            Effect::WritesUnnamed => Some(Reason::WritesUnnamed),
+            Effect::TextHides => Some(Reason::TextHides),
+            Effect::Plain
+            | Effect::Exact
+            | Effect::Macros
+            | Effect::ReadsCounts
+            | Effect::ReadsSamples => None,
+        }
+    }
+}
+
+/// Appends a reason with its word.
+fn push_no(alloc: Global, why: &mut Vec<NoKey>, reason: Reason, word: &[u8]) -> Mem<()>
+    ensures { OnOk result (no_keys_of why.new.items ≡ no_keys_of why.old.items ++ no_key reason word.now ∷ []) }
+{
+    let word = Vec::from_slice(alloc, word)?;
+    why.push(NoKey { reason, word })?;
+    Ok(())
+}
+
+/// Appends a reason with each word.
+fn push_each(alloc: Global, why: &mut Vec<NoKey>, reason: Reason, words: &[Vec<u8>]) -> Mem<()>
+    ensures { OnOk result (no_keys_of why.new.items ≡ no_keys_of why.old.items ++ map (no_key reason) (words_of words.now)) }
+{
+    for word in words {
+        push_no(alloc, why, reason, word)?;
+    }
+    Ok(())
+}
+
+/// Appends why there is no key for what a word does.
+fn push_by_word(alloc: Global, why: &mut Vec<NoKey>, word: &[u8]) -> Mem<()>
+    ensures { OnOk result (no_keys_of why.new.items ≡ no_keys_of why.old.items ++ no_key_by word.now) }
+{
+    match effect_of(word).reason() {
+        Some(reason) => push_no(alloc, why, reason, word),
+        None => Ok(()),
+    }
+}
+
+/// Appends why there is no key for what words do.
+fn push_by_words(alloc: Global, why: &mut Vec<NoKey>, words: &[Vec<u8>]) -> Mem<()>
+    ensures { OnOk result (no_keys_of why.new.items ≡ no_keys_of why.old.items ++ flat_map no_key_by (words_of words.now)) }
+{
+    for word in words {
+        push_by_word(alloc, why, word)?;
+    }
+    Ok(())
+}
+
+fn asks_for_rules(text: &[u8]) -> bool
+    ensures { result ≡ asks_for_rules text.now }
+{
+    text.starts_with(b"-M")
+}
+
+/// Whether what stands behind a comma of a word asks for rules.
+fn some_asks(word: &[u8]) -> bool
+    ensures { result ≡ list_any asks_for_rules (suffixes 44 word.now) }
+{
+    for (at, byte) in word.iter().enumerate() {
+        if *byte == b',' && asks_for_rules(&word[at + 1..]) {
+            return true;
+        }
+    }
+    false
+}
+
+/// Whether a word asks the preprocessor for rules, in another way than by one file.
+fn hides_file(word: &[u8]) -> bool
+    ensures { result ≡ hides_file word.now }
+{
+    word.starts_with(b"-Wp,") && some_asks(word) && handed_file(word).is_none()
+}
+
+/// Appends those of words for the assembler that write a file.
+fn push_writing(alloc: Global, unnamed: &mut Vec<Vec<u8>>, words: &[&[u8]]) -> Mem<()>
+    ensures { OnOk result (words_of unnamed.new.items ≡ words_of unnamed.old.items ++ filter (λ word. writes_unnamed (assembler_effect word)) (map (λ word. word.now) words.now)) }
+{
+    for word in words {
+        if assembler_effect(word).writes_unnamed() {
+            push_word(alloc, unnamed, word)?;
+        }
+    }
+    Ok(())
+}
+
+/// Appends the words for the assembler that write a file.
+fn push_assembler(alloc: Global, unnamed: &mut Vec<Vec<u8>>, words: &[Vec<u8>]) -> Mem<()>
+    ensures { OnOk result (words_of unnamed.new.items ≡ words_of unnamed.old.items ++ filter (λ word. writes_unnamed (assembler_effect word)) (assembler_words (words_of words.now))) }
+{
+    let handed = assembler_words(alloc, words)?;
+    push_writing(alloc, unnamed, &handed)
+}
+
+/// Appends the words that ask the preprocessor for rules, in another way than by one file.
+fn push_hiding(alloc: Global, unnamed: &mut Vec<Vec<u8>>, words: &[Vec<u8>]) -> Mem<()>
+    ensures { OnOk result (words_of unnamed.new.items ≡ words_of unnamed.old.items ++ filter hides_file (words_of words.now)) }
+{
+    for word in words {
+        if hides_file(word) {
+            push_word(alloc, unnamed, word)?;
+        }
+    }
+    Ok(())
+}
+
+/// Appends those words that ask for rules.
+fn push_asking(alloc: Global, unnamed: &mut Vec<Vec<u8>>, words: &[&[u8]]) -> Mem<()>
+    ensures { OnOk result (words_of unnamed.new.items ≡ words_of unnamed.old.items ++ filter asks_for_rules (map (λ word. word.now) words.now)) }
+{
+    for word in words {
+        if asks_for_rules(word) {
+            push_word(alloc, unnamed, word)?;
+        }
+    }
+    Ok(())
+}
+
+/// Appends the words behind `-Xpreprocessor` that ask for rules.
+fn push_behind_flag(alloc: Global, unnamed: &mut Vec<Vec<u8>>, words: &[Vec<u8>]) -> Mem<()>
+    ensures { OnOk result (words_of unnamed.new.items ≡ words_of unnamed.old.items ++ filter asks_for_rules (behind (codes "-Xpreprocessor") false (words_of words.now))) }
+{
+    let mut found = Vec::new(alloc);
+    push_behind(&mut found, b"-Xpreprocessor", words)?;
+    push_asking(alloc, unnamed, &found)
+}
+
+/// Appends the words that write a file that no row names: of the assembler, and of the preprocessor.
+fn push_unnamed_by(alloc: Global, unnamed: &mut Vec<Vec<u8>>, words: &[Vec<u8>]) -> Mem<()>
+    ensures { OnOk result (words_of unnamed.new.items ≡ words_of unnamed.old.items ++ unnamed_by (words_of words.now)) }
+{
+    push_assembler(alloc, unnamed, words)?;
+    push_hiding(alloc, unnamed, words)?;
+    push_behind_flag(alloc, unnamed, words)
+}
+
+/// Appends the files of dependencies but for the first.
+fn push_second_files(alloc: Global, unnamed: &mut Vec<Vec<u8>>, parsed: &ParsedArguments) -> Mem<()>
+    ensures { OnOk result (words_of unnamed.new.items ≡ words_of unnamed.old.items ++ drop 1 (dependency_files (parsed_of parsed.now))) }
+{
+    let files = dependency_files(alloc, parsed)?;
+    match files.as_slice() {
+        [] => Ok(()),
+        [_, others @ ..] => push_values(alloc, unnamed, others),
+    }
+}
+
+/// Appends a second file of dependencies, and each that the command does not write.
+fn push_lost_files(
+    alloc: Global,
+    unnamed: &mut Vec<Vec<u8>>,
+    compiler: Compiler,
+    parsed: &ParsedArguments,
+) -> Mem<()>
+    ensures { OnOk result (words_of unnamed.new.items ≡ words_of unnamed.old.items ++ lost_files compiler (parsed_of parsed.now)) }
+{
+    push_second_files(alloc, unnamed, parsed)?;
+    if !notes_by_runs(compiler) {
+        return Ok(());
+    }
+    push_words(alloc, unnamed, &parsed.dependency_args)?;
+    match parsed.depfile.as_deref() {
+        Some(depfile) => push_word(alloc, unnamed, depfile),
+        None => Ok(()),
+    }
+}
+
+/// What is written, and no row names.
+fn unnamed(alloc: Global, compiler: Compiler, parsed: &ParsedArguments) -> Mem<Vec<Vec<u8>>>
+    ensures { IfOk result (λ words. words_of words.items ≡ unnamed compiler (parsed_of parsed.now)) }
+{
+    let mut words = Vec::new(alloc);
+    push_unnamed_by(alloc, &mut words, &parsed.preprocessor_args)?;
+    push_unnamed_by(alloc, &mut words, &parsed.common_args)?;
+    push_unnamed_by(alloc, &mut words, &parsed.unhashed_args)?;
+    push_lost_files(alloc, &mut words, compiler, parsed)?;
+    Ok(words)
+}
+
+fn is_no_file(path: &[u8]) -> bool
+    ensures { result ≡ is_no_file path.now }
+{
+    path == STANDARD_OUTPUT || path.starts_with(b"/dev/") || path.starts_with(b"/proc/")
+}
+
+/// Appends the outputs that are no files.
+fn push_no_files(alloc: Global, why: &mut Vec<NoKey>, outputs: &[Output]) -> Mem<()>
+    ensures { OnOk result (no_keys_of why.new.items ≡ no_keys_of why.old.items ++ map (no_key Reason.OutputIsNoFile) (filter is_no_file (paths_of outputs.now))) }
+{
+    for output in outputs {
+        if is_no_file(&output.path) {
+            push_no(alloc, why, Reason::OutputIsNoFile, &output.path)?;
+        }
+    }
+    Ok(())
+}
+
+fn has_path(path: &[u8], outputs: &[Output]) -> bool
+    ensures { result ≡ list_any (same_path path.now) (paths_of outputs.now) }
+{
+    for output in outputs {
+        if same_path(path, &output.path) {
+            return true;
+        }
+    }
+    false
+}
+
+/// Appends the paths that are named again.
+fn push_repeated(alloc: Global, why: &mut Vec<NoKey>, outputs: &[Output]) -> Mem<()>
+    ensures { OnOk result (no_keys_of why.new.items ≡ no_keys_of why.old.items ++ map (no_key Reason.OnePathTwice) (repeated (paths_of outputs.now))) }
+{
+    let mut rest = outputs;
+    while let [output, others @ ..] = rest {
+        if has_path(&output.path, others) {
+            push_no(alloc, why, Reason::OnePathTwice, &output.path)?;
+        }
+        rest = others;
+    }
+    Ok(())
+}
+
+/// Appends the hazard for which no words can be run.
+fn push_hazard(alloc: Global, why: &mut Vec<NoKey>, words: RunWords<'_>) -> Mem<()>
+    ensures { OnOk result (no_keys_of why.new.items ≡ no_keys_of why.old.items ++ hazards (run_words_of words.entry)) }
+{
+    match words {
+        RunWords::Built | RunWords::Given(_, _) => Ok(()),
+        RunWords::Hazardous(hazard) => push_no(alloc, why, Reason::Hazard, hazard),
+    }
+}
+
+/// Appends why there is no key for what the words of a record do.
+fn push_by_record(alloc: Global, why: &mut Vec<NoKey>, parsed: &ParsedArguments) -> Mem<()>
+    ensures { OnOk result (no_keys_of why.new.items ≡ no_keys_of why.old.items ++ no_keys_by_words (parsed_of parsed.now)) }
+{
+    push_by_words(alloc, why, &parsed.preprocessor_args)?;
+    push_by_words(alloc, why, &parsed.common_args)?;
+    push_by_words(alloc, why, &parsed.unhashed_args)?;
+    push_by_words(alloc, why, &parsed.dependency_args)
+}
+
+/// Why there is no key, with these outputs. It fails only for want of memory.
+pub(crate) fn no_keys(
+    alloc: Global,
+    compiler: Compiler,
+    words: RunWords<'_>,
+    parsed: &ParsedArguments,
+    outputs: &[Output],
+) -> Mem<Vec<NoKey>>
+    requires outputs { outputs_of outputs.now ≡ made (parsed_of parsed.now) }
+    ensures { IfOk result (λ why. no_keys_of why.items ≡ no_keys compiler (run_words_of words.entry) (parsed_of parsed.now)) }
+{
+    let mut why = Vec::new(alloc);
+    push_hazard(alloc, &mut why, words)?;
+    push_by_record(alloc, &mut why, parsed)?;
+    let unnamed = unnamed(alloc, compiler, parsed)?;
+    push_each(alloc, &mut why, Reason::WritesUnnamed, &unnamed)?;
+    push_no_files(alloc, &mut why, outputs)?;
+    push_repeated(alloc, &mut why, outputs)?;
+    Ok(why)
+}
+
+/// Appends the row of a reason and of its word.
+fn push_no_fields(text: &mut Vec<u8>, reason: &str, word: &[u8]) -> Mem<()>
+    ensures { OnOk result (text.new.items ≡ text.old.items ++ entry_text (row_entry (codes "keep") (codes "no" ∷ reason.now ∷ word.now ∷ []))) }
+{
+    push_row(text, "keep", &[b"no", reason.as_bytes(), word])
+}
+
+/// Appends a row `keep no REASON W`.
+fn push_no_row(text: &mut Vec<u8>, why: &NoKey) -> Mem<()>
+    ensures { OnOk result (text.new.items ≡ text.old.items ++ entry_text (no_key_entry (no_key_of why.now))) }
+{
+    push_no_fields(text, why.reason.name(), &why.word)
+}
+
+/// Appends a row `keep no REASON W` for each reason.
+pub(crate) fn push_no_rows(text: &mut Vec<u8>, why: &[NoKey]) -> Mem<()>
+    ensures { OnOk result (text.new.items ≡ text.old.items ++ entries_text (map no_key_entry (no_keys_of why.now))) }
+{
+    for one in why {
+        push_no_row(text, one)?;
+    }
+    Ok(())
+}

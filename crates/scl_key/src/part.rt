@@ -1,0 +1,193 @@
+//! The parts of a key, and their rows.
+ghost use Rattle.std.specs.Prelude.{◌≡◌, ◌++◌, ◌∷◌, [], map, codes, IfOk, OnOk};
+ghost use Rattle.scl_files.specs.Characters.{space};
+ghost use Rattle.scl_values.specs.Escaped.{escaped};
+ghost use Rattle.scl_values.specs.Words.{words_of};
+ghost use Rattle.scl_description.specs.Records.{output_rest};
+ghost use Rattle.scl_description.specs.Rows.{entries_text, entry_text, fields_behind, row_entry};
+ghost use Rattle.scl_key.specs.Parts.{ask_name, fields, is_asked, key_entries, part_entry};
+ghost use Rattle.scl_key.specs.Views.{output_of, part_of, parts_of};
+
+use scl_description::{push_field, push_row, push_row_of, push_word};
+use scl_text::Mem;
+use std::alloc::Global;
+
+/// What is asked of a name (docs/RULES.md, Keys).
+#[derive(Debug, Clone, Copy, PartialEq, Eq)]
+pub enum Ask {
+    /// The value of a variable, or that it is not set.
+    Env,
+    /// That a variable is not set: where it is, nothing is kept.
+    Unset,
+    /// The bytes of a file: where there is none, nothing is kept.
+    File,
+    /// The bytes of a file, or that there is none.
+    Maybe,
+    /// That there is nothing but a regular file, if anything: else nothing is kept, and nothing is run first.
+    Regular,
+    /// The sources, where a text has this pattern.
+    SourcesIfShown,
+    /// That no text has this pattern: where one does, nothing is kept.
+    RefuseIfShown,
+}
+
+/// A file that comes out.
+#[derive(Debug, PartialEq, Eq, Drop)]
+pub struct Output {
+    /// Its name.
+    pub name: Vec<u8>,
+    /// Its path.
+    pub path: Vec<u8>,
+    /// Whether it may be missing.
+    pub optional: bool,
+}
+
+/// What a cache hashes as it stands, or what it asks and hashes (docs/RULES.md, Keys).
+#[derive(Debug, PartialEq, Eq, Drop)]
+pub enum Part {
+    /// A fact, with its name in front.
+    Is(Vec<Vec<u8>>),
+    /// A file that comes out.
+    Output(Output),
+    /// The name of the directory.
+    Directory,
+    /// The name by which the compiler is called, its bytes and those of its libraries.
+    Compiler,
+    /// What the compiler says by `-###` that it would run for these words, and the bytes of what it names there.
+    Plan(Vec<Vec<u8>>),
+    /// What is asked of a name: a variable, a path or a pattern.
+    Asked(Ask, Vec<u8>),
+    /// What the compiler writes for these words.
+    Run(Vec<Vec<u8>>),
+    /// The same, where a run before it failed.
+    RunElse(Vec<Vec<u8>>),
+    /// The precompiled headers that a search meets: pairs of what is said, `header`, `beside`, `folder` or `variable`, and a
+    /// name.
+    Pch(Vec<Vec<u8>>),
+    /// Names and bytes of the files that the runs' line markers name, and of the input.
+    Sources,
+    /// Their sizes and times.
+    Times,
+}
+
+impl Output {
+    /// A copy. It fails only for want of memory.
+    pub(crate) fn copy(&self, alloc: Global) -> Mem<Output>
+        ensures { IfOk result (λ copy. output_of copy ≡ output_of self.now) }
+    {
+        Ok(Output {
+            name: Vec::from_slice(alloc, &self.name)?,
+            path: Vec::from_slice(alloc, &self.path)?,
+            optional: self.optional,
+        })
+    }
+}
+
+impl Ask {
+    /// Its name in rows.
+    pub fn name(self) -> &'static str
+        ensures { result.now ≡ ask_name self }
+    {
+        match self {
+            Ask::Env => "env",
+            Ask::Unset => "unset",
+            Ask::File => "file",
+            Ask::Maybe => "maybe",
+            Ask::Regular => "regular",
+            Ask::SourcesIfShown => "sources-if-shown",
+            Ask::RefuseIfShown => "refuse-if-shown",
+        }
+    }
+}
+
+impl Part {
+    /// Whether its answer goes into the key; the row of any other is hashed as it stands, and that is all.
+    pub fn is_asked(&self) -> bool
+        ensures { result ≡ is_asked (part_of self.now) }
+    {
+        match self {
+            Part::Is(_) | Part::Output(_) => false,
+            Part::Directory
+            | Part::Compiler
+            | Part::Plan(_)
+            | Part::Asked(_, _)
+            | Part::Run(_)
+            | Part::RunElse(_)
+            | Part::Pch(_)
+            | Part::Sources
+            | Part::Times => true,
+        }
+    }
+}
+
+/// Appends fields, each behind a space.
+fn push_all_behind(text: &mut Vec<u8>, words: &[Vec<u8>]) -> Mem<()>
+    ensures { OnOk result (text.new.items ≡ text.old.items ++ fields_behind (words_of words.now)) }
+{
+    for word in words {
+        text.push(b' ')?;
+        push_field(text, word)?;
+    }
+    Ok(())
+}
+
+/// Appends the row `key NAME W ..`.
+#[tactic(auto, unfolding(scl_description::specs::Rows::entry_text))]
+fn push_named(text: &mut Vec<u8>, name: &str, words: &[Vec<u8>]) -> Mem<()>
+    ensures { OnOk result (text.new.items ≡ text.old.items ++ entry_text (row_entry (codes "key") (name.now ∷ words_of words.now))) }
+{
+    push_field(text, b"key")?;
+    text.push(b' ')?;
+    push_field(text, name.as_bytes())?;
+    push_all_behind(text, words)?;
+    text.push(b'\n')?;
+    Ok(())
+}
+
+/// Appends the row of an output.
+fn push_output(text: &mut Vec<u8>, output: &Output) -> Mem<()>
+    ensures { OnOk result (text.new.items ≡ text.old.items ++ entry_text (row_entry (codes "key") (codes "output" ∷ output_rest (output_of output.now)))) }
+{
+    let (name, path) = (output.name.as_slice(), output.path.as_slice());
+    if output.optional {
+        push_row(text, "key", &[b"output", name, path, b"optional"])
+    } else {
+        push_row(text, "key", &[b"output", name, path])
+    }
+}
+
+/// Appends the row of what is asked of a name.
+fn push_asked(text: &mut Vec<u8>, ask: &str, name: &[u8]) -> Mem<()>
+    ensures { OnOk result (text.new.items ≡ text.old.items ++ entry_text (row_entry (codes "key") (ask.now ∷ name.now ∷ []))) }
+{
+    push_row(text, "key", &[ask.as_bytes(), name])
+}
+
+/// Appends the row of a part.
+fn push_part(text: &mut Vec<u8>, part: &Part) -> Mem<()>
+    ensures { OnOk result (text.new.items ≡ text.old.items ++ entry_text (part_entry (part_of part.now))) }
+{
+    match part {
+        Part::Is(row) => push_named(text, "is", row),
+        Part::Output(output) => push_output(text, output),
+        Part::Directory => push_word(text, "key", b"directory"),
+        Part::Compiler => push_word(text, "key", b"compiler"),
+        Part::Plan(words) => push_named(text, "plan", words),
+        Part::Asked(ask, name) => push_asked(text, ask.name(), name),
+        Part::Run(words) => push_named(text, "run", words),
+        Part::RunElse(words) => push_named(text, "run-else", words),
+        Part::Pch(searched) => push_named(text, "pch", searched),
+        Part::Sources => push_word(text, "key", b"sources"),
+        Part::Times => push_word(text, "key", b"times"),
+    }
+}
+
+/// Appends the rows `key` of a key. It fails only for want of memory.
+pub fn push_key(text: &mut Vec<u8>, key: &[Part]) -> Mem<()>
+    ensures { OnOk result (text.new.items ≡ text.old.items ++ entries_text (key_entries (parts_of key.now))) }
+{
+    for part in key {
+        push_part(text, part)?;
+    }
+    Ok(())
+}

@@ -1,0 +1,262 @@
+//! The files that the words of a command may read, by what the words hold.
+ghost use Rattle.std.specs.Prelude.{◌≡◌, ◌++◌, ◌∷◌, [], map, filter, IfOk, OnOk};
+ghost use Rattle.std.specs.List.{flat_map};
+ghost use Rattle.std.specs.Option.{option_copied};
+ghost use Rattle.scl_values.specs.Words.{words_of};
+ghost use Rattle.scl_text.specs.Records.{parsed_of};
+ghost use Rattle.scl_key.specs.Effects.{effect_of};
+ghost use Rattle.scl_key.specs.Given.{macro_files};
+ghost use Rattle.scl_key.specs.Reads.{comma_parts, files_perhaps, is_path, paths_in, precompiled, precompiled_headers, profile_by, profiles, until_comma, values, with_values, without_at};
+
+use crate::effect::{Effect, effect_of, has_comma, push_suffixes};
+use crate::family::is_clang;
+use crate::given::{Brings, values_of};
+use scl_files::path::with_extension;
+use scl_reader::Compiler;
+use scl_text::Mem;
+use scl_text::command::push_word;
+use scl_text::outputs::output_path;
+use scl_text::records::ParsedArguments;
+use std::alloc::Global;
+
+/// Appends a text, and what stands behind each of its `=`.
+fn push_with_values<'a>(values: &mut Vec<&'a [u8]>, text: &'a [u8]) -> Mem<()>
+    ensures { OnOk result (map (λ value. value.now) values.new.items ≡ map (λ value. value.now) values.old.items ++ with_values text.now) }
+{
+    values.push(text)?;
+    push_suffixes(values, b'=', text)
+}
+
+/// What stands before the first comma.
+fn until_comma(text: &[u8]) -> &[u8]
+    ensures { result.now ≡ until_comma text.now }
+{
+    for (at, byte) in text.iter().enumerate() {
+        if *byte == b',' {
+            return &text[..at];
+        }
+    }
+    text
+}
+
+/// Appends what stands before the first comma of each of these.
+fn push_until_comma<'a>(parts: &mut Vec<&'a [u8]>, texts: &[&'a [u8]]) -> Mem<()>
+    ensures { OnOk result (map (λ part. part.now) parts.new.items ≡ map (λ part. part.now) parts.old.items ++ map until_comma (map (λ text. text.now) texts.now)) }
+{
+    for text in texts {
+        parts.push(until_comma(text))?;
+    }
+    Ok(())
+}
+
+/// The parts between commas, where there are any.
+fn comma_parts<'a>(alloc: Global, text: &'a [u8]) -> Mem<Vec<&'a [u8]>>
+    ensures { IfOk result (λ parts. map (λ part. part.now) parts.items ≡ comma_parts text.now) }
+{
+    let mut parts = Vec::new(alloc);
+    if has_comma(text) {
+        let mut texts = Vec::new(alloc);
+        texts.push(text)?;
+        push_suffixes(&mut texts, b',', text)?;
+        push_until_comma(&mut parts, &texts)?;
+    }
+    Ok(parts)
+}
+
+/// Appends each text, and what stands behind each of its `=`.
+fn push_all_with_values<'a>(values: &mut Vec<&'a [u8]>, texts: &[&'a [u8]]) -> Mem<()>
+    ensures { OnOk result (map (λ value. value.now) values.new.items ≡ map (λ value. value.now) values.old.items ++ flat_map with_values (map (λ text. text.now) texts.now)) }
+{
+    for text in texts {
+        push_with_values(values, text)?;
+    }
+    Ok(())
+}
+
+/// What a word may hold that names a file.
+fn values<'a>(alloc: Global, word: &'a [u8]) -> Mem<Vec<&'a [u8]>>
+    ensures { IfOk result (λ found. map (λ value. value.now) found.items ≡ values word.now) }
+{
+    let mut found = Vec::new(alloc);
+    push_with_values(&mut found, word)?;
+    let parts = comma_parts(alloc, word)?;
+    push_all_with_values(&mut found, &parts)?;
+    Ok(found)
+}
+
+fn without_at(value: &[u8]) -> &[u8]
+    ensures { result.now ≡ without_at value.now }
+{
+    value.strip_prefix(b"@").unwrap_or(value)
+}
+
+fn is_path(value: &[u8]) -> bool
+    ensures { result ≡ is_path value.now }
+{
+    match value {
+        [] => false,
+        [byte, ..] => *byte != b'-',
+    }
+}
+
+/// Appends the values that may be paths.
+fn push_those_that_are(alloc: Global, paths: &mut Vec<Vec<u8>>, values: &[&[u8]]) -> Mem<()>
+    ensures { OnOk result (words_of paths.new.items ≡ words_of paths.old.items ++ filter is_path (map without_at (map (λ value. value.now) values.now))) }
+{
+    for value in values {
+        let path = without_at(value);
+        if is_path(path) {
+            push_word(alloc, paths, path)?;
+        }
+    }
+    Ok(())
+}
+
+/// Appends the paths that a word may name.
+fn push_paths_in(alloc: Global, paths: &mut Vec<Vec<u8>>, word: &[u8]) -> Mem<()>
+    ensures { OnOk result (words_of paths.new.items ≡ words_of paths.old.items ++ paths_in word.now) }
+{
+    if effect_of(word).is_plain() {
+        return Ok(());
+    }
+    let values = values(alloc, word)?;
+    push_those_that_are(alloc, paths, &values)
+}
+
+/// Appends the paths that words may name.
+fn push_paths(alloc: Global, paths: &mut Vec<Vec<u8>>, words: &[Vec<u8>]) -> Mem<()>
+    ensures { OnOk result (words_of paths.new.items ≡ words_of paths.old.items ++ flat_map paths_in (words_of words.now)) }
+{
+    for word in words {
+        push_paths_in(alloc, paths, word)?;
+    }
+    Ok(())
+}
+
+/// Appends the profile that a word makes the compiler read, if it has a name that the word does not say.
+fn push_profile(
+    alloc: Global,
+    paths: &mut Vec<Vec<u8>>,
+    object: Option<&[u8]>,
+    effect: Effect,
+) -> Mem<()>
+    ensures { OnOk result (words_of paths.new.items ≡ words_of paths.old.items ++ profile_by (option_copied object.entry) effect) }
+{
+    match effect {
+        Effect::ReadsCounts => match object {
+            Some(object) => {
+                paths.push(with_extension(alloc, object, b"gcda")?)?;
+                Ok(())
+            }
+            None => Ok(()),
+        },
+        Effect::ReadsSamples => push_word(alloc, paths, b"fbdata.afdo"),
+        Effect::Plain
+        | Effect::Exact
+        | Effect::Macros
+        | Effect::WritesUnnamed
+        | Effect::TextHides => Ok(()),
+    }
+}
+
+/// Appends the profiles that words make the compiler read.
+fn push_profiles_of(
+    alloc: Global,
+    paths: &mut Vec<Vec<u8>>,
+    object: Option<&[u8]>,
+    words: &[Vec<u8>],
+) -> Mem<()>
+    ensures { OnOk result (words_of paths.new.items ≡ words_of paths.old.items ++ flat_map (λ word. profile_by (option_copied object.entry) (effect_of word)) (words_of words.now)) }
+{
+    for word in words {
+        push_profile(alloc, paths, object, effect_of(word))?;
+    }
+    Ok(())
+}
+
+/// Appends the profiles that the common words make the compiler read.
+fn push_profiles(alloc: Global, paths: &mut Vec<Vec<u8>>, parsed: &ParsedArguments) -> Mem<()>
+    ensures { OnOk result (words_of paths.new.items ≡ words_of paths.old.items ++ profiles (parsed_of parsed.now)) }
+{
+    let object = output_path(&parsed.outputs, "obj");
+    push_profiles_of(alloc, paths, object, &parsed.common_args)
+}
+
+/// Appends values, each with this text behind it.
+fn push_with(alloc: Global, paths: &mut Vec<Vec<u8>>, header: &[u8], text: &[u8]) -> Mem<()>
+    ensures { OnOk result (words_of paths.new.items ≡ words_of paths.old.items ++ (header.now ++ text.now) ∷ []) }
+{
+    let mut path = Vec::from_slice(alloc, header)?;
+    path.extend_from_slice(text)?;
+    paths.push(path)?;
+    Ok(())
+}
+
+/// Appends what clang may read in the place of a header that is included first.
+fn push_precompiled(alloc: Global, paths: &mut Vec<Vec<u8>>, header: &[u8]) -> Mem<()>
+    ensures { OnOk result (words_of paths.new.items ≡ words_of paths.old.items ++ precompiled header.now) }
+{
+    push_with(alloc, paths, header, b".pch")?;
+    push_with(alloc, paths, header, b".gch")
+}
+
+/// Appends what clang may read in the place of each of these headers.
+fn push_all_precompiled(alloc: Global, paths: &mut Vec<Vec<u8>>, headers: &[&[u8]]) -> Mem<()>
+    ensures { OnOk result (words_of paths.new.items ≡ words_of paths.old.items ++ flat_map precompiled (map (λ header. header.now) headers.now)) }
+{
+    for header in headers {
+        push_precompiled(alloc, paths, header)?;
+    }
+    Ok(())
+}
+
+/// Appends what clang may read in the place of headers that are included first.
+fn push_precompiled_headers(
+    alloc: Global,
+    paths: &mut Vec<Vec<u8>>,
+    compiler: Compiler,
+    parsed: &ParsedArguments,
+) -> Mem<()>
+    ensures { OnOk result (words_of paths.new.items ≡ words_of paths.old.items ++ precompiled_headers compiler (parsed_of parsed.now)) }
+{
+    if !is_clang(compiler) {
+        return Ok(());
+    }
+    let headers = values_of(alloc, Brings::Header, &parsed.preprocessor_args)?;
+    push_all_precompiled(alloc, paths, &headers)
+}
+
+/// Appends values.
+pub(crate) fn push_values(alloc: Global, paths: &mut Vec<Vec<u8>>, values: &[&[u8]]) -> Mem<()>
+    ensures { OnOk result (words_of paths.new.items ≡ words_of paths.old.items ++ map (λ value. value.now) values.now) }
+{
+    for value in values {
+        push_word(alloc, paths, value)?;
+    }
+    Ok(())
+}
+
+/// Appends the files of which the macros alone are read.
+fn push_macro_files(alloc: Global, paths: &mut Vec<Vec<u8>>, parsed: &ParsedArguments) -> Mem<()>
+    ensures { OnOk result (words_of paths.new.items ≡ words_of paths.old.items ++ macro_files (parsed_of parsed.now)) }
+{
+    let files = values_of(alloc, Brings::MacroFile, &parsed.preprocessor_args)?;
+    push_values(alloc, paths, &files)
+}
+
+/// All files that may be read, and need not be there. It fails only for want of memory.
+pub(crate) fn files_perhaps(
+    alloc: Global,
+    compiler: Compiler,
+    parsed: &ParsedArguments,
+) -> Mem<Vec<Vec<u8>>>
+    ensures { IfOk result (λ paths. words_of paths.items ≡ files_perhaps compiler (parsed_of parsed.now)) }
+{
+    let mut paths = Vec::new(alloc);
+    push_paths(alloc, &mut paths, &parsed.common_args)?;
+    push_paths(alloc, &mut paths, &parsed.unhashed_args)?;
+    push_macro_files(alloc, &mut paths, parsed)?;
+    push_profiles(alloc, &mut paths, parsed)?;
+    push_precompiled_headers(alloc, &mut paths, compiler, parsed)?;
+    Ok(paths)
+}
