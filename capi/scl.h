@@ -219,6 +219,7 @@ typedef struct scl_answer {
     scl_runs options;   /* the fields of each row `option` */
     scl_runs key;       /* the fields of each row `key`, in order: scl_key_at */
     scl_runs keep;      /* the fields of each row `keep`: `no`, a reason, a word */
+    scl_runs direct;    /* the fields of each row `direct`, in order */
 } scl_answer;
 
 /* The memory for an answer: its texts, its words, its pairs, its outputs, and its runs, options and rows of a key. */

@@ -236,6 +236,7 @@ static const scl_known_row scl_known_rows[] = {
     {"dist", SCL_ROW_WORD, 0, SCL_AT(record.lists.dist_files), 0, 0},
     {"hash", SCL_ROW_WORD, 0, SCL_AT(record.lists.hash_files), 0, 0},
     {"keep", SCL_ROW_KEEP, 0, SCL_AT(keep), 0, 0},
+    {"direct", SCL_ROW_FIELDS, 0, SCL_AT(direct), 0, SCL_WISH(wants_key)},
     {"version", SCL_ROW_VERSION, SCL_IN_ALL, 0, 0, 0},
     {"cacheable", SCL_ROW_CACHEABLE, SCL_IN_COMPILED, SCL_AT(is_cacheable), 0, 0},
     {"input", SCL_ROW_TEXT, SCL_IN_COMPILED, SCL_AT(record.input), 0, 0},

@@ -1,4 +1,4 @@
--- The description of the answer to a request: the answer's lines, and behind them rows of what was read.
+-- The description of the answer to a request: the answer's lines, and after them rows of what was read.
 use Rattle.std.specs.Prelude.{◌≡◌, ℕ, true, List, [], ◌∷◌, ◌++◌, map, codes, Option, Result, Ok, Err, unwrap_or, if◌then◌else◌}
 use Rattle.scl_catalogue.specs.Form.{Catalogue}
 use Rattle.scl_values.specs.Each.{Each}

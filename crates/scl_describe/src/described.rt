@@ -1,4 +1,4 @@
-//! The text of a description: the answer's lines, and behind them rows of what was read.
+//! The text of a description: the answer's lines, and after them rows of what was read.
 ghost use Rattle.std.specs.Prelude.{◌≡◌, ◌++◌, codes, map, IfOk, OnOk};
 ghost use Rattle.std.specs.Option.{option_copied};
 ghost use Rattle.scl_values.specs.Words.{words_of};
@@ -214,7 +214,7 @@ pub(crate) fn description_text(
     Ok(text)
 }
 
-/// The text where a command line has too many words.
+/// The text if a command line has too many words.
 pub(crate) fn too_many_words(alloc: Global) -> Mem<Vec<u8>>
     ensures { IfOk result (λ text. text.items ≡ entries_text too_many_entries) }
 {

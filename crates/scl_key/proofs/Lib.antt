@@ -2,3 +2,4 @@ pub mod PartLaws
 pub mod RecordLaws
 pub mod KeyLaws
 pub mod HitLaws
+pub mod DirectLaws

@@ -173,6 +173,18 @@ known_effect word = option_or (whole_effect whole_words word) (option_or (valued
 abbrev pub effect_of : List ℕ → Effect
 effect_of word = unwrap_or (known_effect word) Exact
 
+-- a word, and what it does
+pub record Judged : Type 0 where
+  pub word : List ℕ
+  pub effect : Effect
+
+abbrev pub judged : List ℕ → Effect → Judged
+judged word effect = record { word = word; effect = effect }
+
+-- the words, each with what it does
+abbrev pub judged_in : List (List ℕ) → List Judged
+judged_in words = map (λ word. judged word (effect_of word)) words
+
 -- what a word for the assembler does
 abbrev pub assembler_effect : List ℕ → Effect
 assembler_effect word = unwrap_or (front_effect assembler_fronts word) Exact
@@ -211,16 +223,16 @@ writes_unnamed ReadsSamples = false
 abbrev pub is_comma : ℕ → Bool
 is_comma byte = nat_eq byte 44
 
--- what stands behind each such byte of a text
+-- what stands after each such byte of a text
 abbrev pub suffixes : ℕ → List ℕ → List (List ℕ)
 suffixes mark [] = []
 suffixes mark (byte ∷ bytes) = if nat_eq byte mark then bytes ∷ suffixes mark bytes else suffixes mark bytes
 
--- the words that a word hands to the assembler, each with those behind it
+-- the words that a word hands to the assembler, each with those after it
 abbrev pub handed_words : List ℕ → List (List ℕ)
 handed_words word = if starts_with nat_eq word (codes "-Wa,") then suffixes 44 word else []
 
--- the words behind each word that is this flag
+-- the words after each word that is this flag
 abbrev pub behind : (flag : List ℕ) → (is_behind : Bool) → List (List ℕ) → List (List ℕ)
 behind flag is_behind [] = []
 behind flag true (word ∷ words) = word ∷ behind flag false words

@@ -2,7 +2,8 @@
 ghost use Rattle.std.specs.Prelude.{◌≡◌, ◌++◌, map, IfOk, OnOk, false};
 ghost use Rattle.std.specs.List.{flat_map, list_any};
 ghost use Rattle.scl_values.specs.Words.{words_of};
-ghost use Rattle.scl_key.specs.Effects.{assembler_effect, assembler_words, behind, effect_of, front_effect, fronts, handed_words, has_equals, is_comma, is_plain, keeps_macros, known_effect, rows_of, suffixes, valued_effect, whole_effect, whole_words, writes_unnamed};
+ghost use Rattle.scl_key.specs.Effects.{assembler_effect, assembler_words, behind, effect_of, front_effect, fronts, handed_words, has_equals, is_comma, is_plain, judged_in, keeps_macros, known_effect, rows_of, suffixes, valued_effect, whole_effect, whole_words, writes_unnamed};
+ghost use Rattle.scl_key.specs.JudgedViews.{all_judged};
 
 use scl_text::Mem;
 use std::alloc::Global;
@@ -162,7 +163,7 @@ fn whole_effect(rows: &[(&'static str, Effect)], word: &[u8]) -> Option<Effect>
 }
 
 /// What the first row says with whose text the word begins.
-fn front_effect(rows: &[(&'static str, Effect)], word: &[u8]) -> Option<Effect>
+pub(crate) fn front_effect(rows: &[(&'static str, Effect)], word: &[u8]) -> Option<Effect>
     ensures { result ≡ front_effect (rows_of rows.now) word.now }
 {
     for (text, effect) in rows {
@@ -240,6 +241,27 @@ pub(crate) fn effect_of(word: &[u8]) -> Effect
     known_effect(word).unwrap_or(Effect::Exact)
 }
 
+/// A word, and what it does.
+#[derive(Debug, Clone, Copy)]
+pub(crate) struct Judged<'a> {
+    pub(crate) word: &'a [u8],
+    pub(crate) effect: Effect,
+}
+
+/// The words, each with what it does.
+pub(crate) fn judged_words<'a>(alloc: Global, words: &'a [Vec<u8>]) -> Mem<Vec<Judged<'a>>>
+    ensures { IfOk result (λ found. all_judged found.items ≡ judged_in (words_of words.now)) }
+{
+    let mut found = Vec::new(alloc);
+    for word in words {
+        found.push(Judged {
+            word,
+            effect: effect_of(word),
+        })?;
+    }
+    Ok(found)
+}
+
 /// What a word for the assembler does.
 pub(crate) fn assembler_effect(word: &[u8]) -> Effect
     ensures { result ≡ assembler_effect word.now }
@@ -279,7 +301,7 @@ impl Effect {
     }
 }
 
-/// Appends what stands behind each such byte of a text.
+/// Appends what stands after each such byte of a text.
 pub(crate) fn push_suffixes<'a>(found: &mut Vec<&'a [u8]>, mark: u8, text: &'a [u8]) -> Mem<()>
     ensures { OnOk result (map (λ word. word.now) found.new.items ≡ map (λ word. word.now) found.old.items ++ suffixes mark text.now) }
 {
@@ -291,7 +313,7 @@ pub(crate) fn push_suffixes<'a>(found: &mut Vec<&'a [u8]>, mark: u8, text: &'a [
     Ok(())
 }
 
-/// Appends the words that a word hands to the assembler, each with those behind it.
+/// Appends the words that a word hands to the assembler, each with those after it.
 fn push_handed<'a>(found: &mut Vec<&'a [u8]>, word: &'a [u8]) -> Mem<()>
     ensures { OnOk result (map (λ word. word.now) found.new.items ≡ map (λ word. word.now) found.old.items ++ handed_words word.now) }
 {
@@ -312,7 +334,7 @@ fn push_all_handed<'a>(found: &mut Vec<&'a [u8]>, words: &'a [Vec<u8>]) -> Mem<(
     Ok(())
 }
 
-/// Appends the words behind each word that is this flag.
+/// Appends the words after each word that is this flag.
 pub(crate) fn push_behind<'a>(
     found: &mut Vec<&'a [u8]>,
     flag: &[u8],
@@ -332,7 +354,7 @@ pub(crate) fn push_behind<'a>(
     Ok(())
 }
 
-/// The words for the assembler among words of a command. It fails only for want of memory.
+/// The words for the assembler among words of a command.
 pub(crate) fn assembler_words<'a>(alloc: Global, words: &'a [Vec<u8>]) -> Mem<Vec<&'a [u8]>>
     ensures { IfOk result (λ found. map (λ word. word.now) found.items ≡ assembler_words (words_of words.now)) }
 {
