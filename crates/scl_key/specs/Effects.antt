@@ -104,6 +104,11 @@ fronts =
     ∷ row "-mcpu=" Plain
     ∷ row "-msse" Plain
     ∷ row "-mavx" Plain
+    ∷ row "--include" TextHides
+    ∷ row "-iprefix" TextHides
+    ∷ row "-iwithprefix" TextHides
+    ∷ row "-Wp,-I" TextHides
+    ∷ row "-Wp,-i" TextHides
     ∷ row "-Wa," Exact
     ∷ row "-Wp," Exact
     ∷ row "-Wl," Exact

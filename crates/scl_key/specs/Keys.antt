@@ -74,10 +74,10 @@ stamps_times c p = is_clang c && (is_header p.language && not (list_any (λ word
 
 -- what in a text reads a file that nobody names, or may: an assembler's directives, and its macros that make such
 abbrev pub reading : List ℕ
-reading = codes "(^|[^])A-Za-z0-9_.$]|\\\\[nt])\\.inc(bin|lude)([^A-Za-z0-9_]|$)|^[ \t]*#[ \t]*embed|\\.[A-Za-z0-9_]*\\\\\\\\[A-Za-z0-9_(@]"
+reading = codes "(^|[^])A-Za-z0-9_.$]|\\\\[nt])\\.[Ii][Nn][Cc]([Bb][Ii][Nn]|[Ll][Uu][Dd][Ee])([^A-Za-z0-9_]|$)|^[ \t]*#[ \t]*embed|\\.[A-Za-z0-9_]*\\\\\\\\[A-Za-z0-9_(@]"
 
 abbrev pub assembler_reading : List ℕ
-assembler_reading = codes "(^|[^])A-Za-z0-9_.$]|\\\\[nt])\\.inc(bin|lude)([^A-Za-z0-9_]|$)|\\.[A-Za-z0-9_]*\\\\[A-Za-z0-9_(@]"
+assembler_reading = codes "(^|[^])A-Za-z0-9_.$]|\\\\[nt])\\.[Ii][Nn][Cc]([Bb][Ii][Nn]|[Ll][Uu][Dd][Ee])([^A-Za-z0-9_]|$)|\\.[A-Za-z0-9_]*\\\\[A-Za-z0-9_(@]"
 
 abbrev pub refusals : Parsed → List Part
 refusals p = asked asks.RefuseIfShown (if is_assembler p.language then assembler_reading else reading) ∷ []

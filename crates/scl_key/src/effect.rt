@@ -19,7 +19,7 @@ pub enum Effect {
     Macros,
     /// A file is written that no row names.
     WritesUnnamed,
-    /// The text is not that of what is compiled.
+    /// The text is not that of what is compiled, or may not be: a precompiled header may be read in a place that no row names.
     TextHides,
     /// The counts of a profile are read that stand beside the object.
     ReadsCounts,
@@ -93,7 +93,7 @@ static WHOLE_WORDS: [(&'static str, Effect); 58] = [
 static VALUED_WORDS: [(&'static str, Effect); 1] = [("-fopt-info", Effect::WritesUnnamed)];
 
 /// Beginnings of words; the first that fits says.
-static FRONTS: [(&'static str, Effect); 45] = [
+static FRONTS: [(&'static str, Effect); 50] = [
     ("-D", Effect::Plain),
     ("-U", Effect::Plain),
     ("-O", Effect::Plain),
@@ -107,6 +107,11 @@ static FRONTS: [(&'static str, Effect); 45] = [
     ("-mcpu=", Effect::Plain),
     ("-msse", Effect::Plain),
     ("-mavx", Effect::Plain),
+    ("--include", Effect::TextHides),
+    ("-iprefix", Effect::TextHides),
+    ("-iwithprefix", Effect::TextHides),
+    ("-Wp,-I", Effect::TextHides),
+    ("-Wp,-i", Effect::TextHides),
     ("-Wa,", Effect::Exact),
     ("-Wp,", Effect::Exact),
     ("-Wl,", Effect::Exact),

@@ -54,11 +54,11 @@ const CLANG_TELLING: &str =
 
 /// What in a text reads a file that nobody names, or may: an assembler's directives, and its macros that make such.
 const READING: &str =
-    "(^|[^])A-Za-z0-9_.$]|\\\\[nt])\\.inc(bin|lude)([^A-Za-z0-9_]|$)|^[ \t]*#[ \t]*embed|\\.[A-Za-z0-9_]*\\\\\\\\[A-Za-z0-9_(@]";
+    "(^|[^])A-Za-z0-9_.$]|\\\\[nt])\\.[Ii][Nn][Cc]([Bb][Ii][Nn]|[Ll][Uu][Dd][Ee])([^A-Za-z0-9_]|$)|^[ \t]*#[ \t]*embed|\\.[A-Za-z0-9_]*\\\\\\\\[A-Za-z0-9_(@]";
 
 /// The same in assembler.
 const ASSEMBLER_READING: &str =
-    "(^|[^])A-Za-z0-9_.$]|\\\\[nt])\\.inc(bin|lude)([^A-Za-z0-9_]|$)|\\.[A-Za-z0-9_]*\\\\[A-Za-z0-9_(@]";
+    "(^|[^])A-Za-z0-9_.$]|\\\\[nt])\\.[Ii][Nn][Cc]([Bb][Ii][Nn]|[Ll][Uu][Dd][Ee])([^A-Za-z0-9_]|$)|\\.[A-Za-z0-9_]*\\\\[A-Za-z0-9_(@]";
 
 /// The word by which clang's precompiled header stores no times.
 const NO_TIMES: &[u8] = b"-fno-pch-timestamp";
