@@ -201,7 +201,7 @@ typedef struct scl_questions {
 /* What an outcome does not have is empty, or false. Each text has a NUL behind it, which its length does not count. */
 typedef struct scl_answer {
     uint32_t outcome;
-    bool is_cacheable; /* whether the outcome of the command may be kept; false if there is a row `keep` */
+    bool is_cacheable; /* whether the outcome of the command may be kept; false if there is a row `keep`, and not `keep yes` */
     bool has_text;
     scl_bytes reason;      /* SCL_CANNOT_CACHE */
     scl_bytes text;        /* beside the reason, where has_text */
@@ -218,7 +218,8 @@ typedef struct scl_answer {
     scl_bytes sentence; /* SCL_CANNOT_CACHE: what the reason means */
     scl_runs options;   /* the fields of each row `option` */
     scl_runs key;       /* the fields of each row `key`, in order: scl_key_at */
-    scl_runs keep;      /* the fields of each row `keep`: `no`, a reason, a word */
+    scl_runs keep;      /* the fields of each row `keep` but `keep yes`: `no`, a reason, a word; or `unknown`, a word */
+    scl_runs direct;    /* the fields of each row `direct`, in order */
 } scl_answer;
 
 /* The memory for an answer: its texts, its words, its pairs, its outputs, and its runs, options and rows of a key. */

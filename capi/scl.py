@@ -1,16 +1,19 @@
 """What a compiler's command line asks for, and the command to run in its place: run(text) and describe(text) answer a
 request's text, rows(text) takes a description apart, and ask(..) answers words, pairs and files as bytes. All but rows
-call libscl.so.1 (or the file that SCL_LIBRARY names).
+call libscl.so.1: the file that SCL_LIBRARY names, or the one beside this file, or the one that the loader finds.
 
     >>> scl.ask(b"gcc", [b"-c", b"a.c"]).command
     [b'-x', b'c', b'-c', b'-o', b'a.o', b'-fdiagnostics-color=always', b'a.c']
 
 They answer as the proved library does; this file, which writes requests and reads rows, is proved by nothing. Rows that it does
 not know are passed over; where they may say that nothing is kept, is_cacheable is False."""
+from __future__ import annotations
+
 import ctypes as c
 import os
 import re
-from types import SimpleNamespace
+from dataclasses import dataclass, field as _member
+from typing import Any, Callable, Dict, Iterable, List, Tuple
 
 PROTOCOL = 1
 OK, SHORT, BAD, NO_MEMORY, TOO_MANY_WORDS, NEWER, BAD_CATALOGUE = range(7)
@@ -52,7 +55,7 @@ class Newer(Exception):
 class BadLine(Exception):
     """A line of a request breaks a rule; `number` counts from 1."""
 
-    def __init__(self, number):
+    def __init__(self, number: int) -> None:
         super().__init__(f"bad line {number}")
         self.number = number
 
@@ -61,15 +64,89 @@ class BadCatalogue(BadLine):
     """A line of a catalogue is wrong; `number` is that of the first, from 1."""
 
 
-_lib = c.CDLL(os.environ.get("SCL_LIBRARY", f"libscl.so.{PROTOCOL}"))
-_ROOM = [c.c_char_p, c.c_size_t, c.POINTER(c.c_char), c.c_size_t, c.POINTER(c.c_size_t)]
+@dataclass
+class Questions:
+    """Paths whose presence could change the answer: of response files, of directories, and of what may exist."""
+
+    files: list[bytes]
+    directories: list[bytes]
+    existing: list[bytes]
+
+
+@dataclass
+class Lists:
+    """The lists of a record."""
+
+    dependency: list[bytes]
+    preprocessor: list[bytes]
+    common: list[bytes]
+    arch: list[bytes]
+    unhashed: list[bytes]
+    dist_files: list[bytes]
+    hash_files: list[bytes]
+
+
+@dataclass
+class Record:
+    """What was read. An output has a name, a path, and whether it is optional."""
+
+    language: str
+    color: str
+    input: bytes
+    compilation_flag: bytes
+    depfile: bytes | None
+    too_hard: bytes | None
+    double_dash_input: bool
+    uses_external_assembler: bool
+    show_includes: bool
+    explicit_language: bool
+    profile_generate: bool
+    suppress_rewrite_includes_only: bool
+    outputs: list[tuple[bytes, bytes, bool]]
+    lists: Lists
+
+
+@dataclass
+class Answer:
+    """An answer. What its outcome does not have is empty, False or None, and so is what was not wished for."""
+
+    outcome: int  # COMPILED, CANNOT_CACHE or NOT_COMPILATION
+    at: int | None  # the index of the word that is refused, or by which nothing is compiled
+    options: list[list[bytes]]
+    questions: Questions
+    reason: bytes = b""
+    text: bytes | None = None
+    sentence: bytes = b""
+    command: list[bytes] = _member(default_factory=list)  # the words behind the program
+    is_cacheable: bool = False
+    has_unknown: bool = False  # the answer says more than this file knows of what decides whether an outcome is kept
+    key: list[list[bytes]] = _member(default_factory=list)
+    keep: list[list[bytes]] = _member(default_factory=list)
+    direct: list[list[bytes]] = _member(default_factory=list)  # with `wants_key`
+    environment: list[tuple[bytes, bytes]] = _member(default_factory=list)
+    record: Record | None = None
+    runs: list[list[bytes]] = _member(default_factory=list)
+    hazards: list[str] = _member(default_factory=list)
+
+
+_Pairs = Iterable[Tuple[bytes, bytes]]
+_Rows = Dict[str, List[List[bytes]]]  # the fields of each row, by its name
+
+
+def _library() -> str:
+    beside = os.path.join(os.path.dirname(os.path.abspath(__file__)), f"libscl.so.{PROTOCOL}")
+    return os.environ.get("SCL_LIBRARY") or (beside if os.path.exists(beside) else f"libscl.so.{PROTOCOL}")
+
+
+_lib = c.CDLL(_library())
+_ROOM: list[Any] = [c.c_char_p, c.c_size_t, c.POINTER(c.c_char), c.c_size_t, c.POINTER(c.c_size_t)]
 for _call, _types in ((_lib.scl_run, _ROOM), (_lib.scl_describe, _ROOM), (_lib.scl_describe_with, [c.c_char_p, c.c_size_t, *_ROOM])):
     _call.argtypes, _call.restype = _types, c.c_int32
 if _lib.scl_version() != PROTOCOL:
     raise ImportError(f"scl.py is of protocol {PROTOCOL}, and the library of {_lib.scl_version()}")
 
 
-def _respond(call, request, *before):
+def _respond(call: Callable[..., int], request: bytes, *before: Any) -> bytes:
     size, wanted = 4096 + 8 * len(request), c.c_size_t()
     room = c.create_string_buffer(size)
     while (status := call(*before, request, len(request), room, len(room), c.byref(wanted))) == SHORT:
@@ -79,30 +156,31 @@ def _respond(call, request, *before):
     return room.raw[: wanted.value]
 
 
-def run(request):
+def run(request: bytes) -> bytes:
     """The text of the answer to a request's text, both as bytes."""
     return _respond(_lib.scl_run, request)
 
 
-def describe(request, catalogue=None):
+def describe(request: bytes, catalogue: bytes | None = None) -> bytes:
     """The text of the description of the answer to a request's text, both as bytes; with the hazards of a catalogue's text, if there is
     one."""
     return _respond(_lib.scl_describe, request) if catalogue is None else _respond(_lib.scl_describe_with, request, catalogue, len(catalogue))
 
 
-def field(it):
+def field(it: bytes) -> bytes:
     """Bytes as they stand in a request or a row."""
     if not isinstance(it, bytes):
         raise TypeError(f"wanted are bytes, not {it!r}")
     return re.sub(rb"[^!-\[\]-~]", lambda byte: b"\\x%02x" % ord(byte[0]), it)
 
 
-def rows(description):
+def rows(description: bytes) -> list[list[bytes]]:
     """The rows of a description's text, in order: the fields of each, as bytes, of which the first is its name."""
     return [[re.sub(rb"\\x(..)", lambda it: bytes.fromhex(it[1].decode()), field) for field in line.split(b" ")] for line in description.split(b"\n")[:-1]]
 
 
-def request(compiler, words, directory=b"", environment=(), files=(), directories=(), existing=(), most_words=0, version=b"", settings=(), **wishes):
+def request(compiler: bytes, words: Iterable[bytes], directory: bytes = b"", environment: _Pairs = (), files: _Pairs = (), directories: Iterable[bytes] = (),
+            existing: Iterable[bytes] = (), most_words: int = 0, version: bytes = b"", settings: Iterable[bytes] = (), **wishes: bool) -> bytes:
     """The text of a request."""
     lines = [b"compiler " + field(compiler), b"cwd " + field(directory)]
     lines += [b"%s %s" % (name, field(it)) for name, them in ((b"word", words), (b"dir", directories), (b"exists", existing)) for it in them]
@@ -113,44 +191,52 @@ def request(compiler, words, directory=b"", environment=(), files=(), directorie
     return b"\n".join(lines) + b"\n"
 
 
-def _first(of, name, otherwise=None):
-    return of[name][0][0] if name in of else otherwise
+def _text(of: _Rows, name: str) -> bytes | None:
+    return of[name][0][0] if name in of else None
 
 
-def _words(of, name):
+def _words(of: _Rows, name: str) -> list[bytes]:
     return [fields[0] for fields in of.get(name, [])]
 
 
-def _record(of):
-    return SimpleNamespace(
-        language=_first(of, "language").decode(), color=_first(of, "color").decode(), **{member: _first(of, row) for row, member in TEXTS.items()},
-        **{member: row in of for row, member in SWITCHES.items()},
+def _record(of: _Rows) -> Record:
+    texts: dict[str, Any] = {member: _text(of, row) for row, member in TEXTS.items()}
+    switches: dict[str, Any] = {member: row in of for row, member in SWITCHES.items()}
+    return Record(
+        language=(_text(of, "language") or b"").decode(), color=(_text(of, "color") or b"").decode(), **texts, **switches,
         outputs=[(name, path, bool(rest)) for name, path, *rest in of.get("output", [])],
-        lists=SimpleNamespace(**{member: _words(of, row) for row, member in LISTS.items()}))
+        lists=Lists(**{member: _words(of, row) for row, member in LISTS.items()}))
 
 
-def _is_known_key(name=b"", *fields):
+def _is_known_key(name: bytes = b"", *fields: bytes) -> bool:
     least, most = KEYS.get(name, (1, 0))
     return least <= len(fields) <= (len(fields) if most is None else most)
 
 
-def _answer(outcome, of, wishes):
+def _is_known_keep(what: bytes = b"", *fields: bytes) -> bool:
+    return (what, len(fields)) in ((b"no", 2), (b"unknown", 1))
+
+
+def _answer(outcome: int, of: _Rows, wishes: dict[str, Any]) -> Answer:
     wanted = {row: of.get(row, []) if wishes.get(f"wants_{row}s") else [] for row in ("run", "hazard", "option")}
     asked = {row: [it[1] for it in of.get("wants", []) if it[0] == row.encode()] if wishes.get("wants_questions") else [] for row in QUESTIONS}
-    shared = {"outcome": outcome, "at": int(_first(of, "at")) if "at" in of else None, "options": wanted["option"],
-              "questions": SimpleNamespace(**{member: asked[row] for row, member in QUESTIONS.items()})}
+    at = _text(of, "at")
+    answer = Answer(outcome, None if at is None else int(at), wanted["option"], Questions(**{member: asked[row] for row, member in QUESTIONS.items()}))
     if outcome != COMPILED:
-        return SimpleNamespace(**shared, reason=_first(of, "reason", b""), text=_first(of, "because"), sentence=_first(of, "sentence", b""))
-    key = of.get("key", []) if wishes.get("wants_key") else []
+        answer.reason, answer.text, answer.sentence = _text(of, "reason") or b"", _text(of, "because"), _text(of, "sentence") or b""
+        return answer
+    answer.keep = [it for it in of.get("keep", []) if it != [b"yes"]]
+    if wishes.get("wants_key"):
+        answer.key, answer.direct = of.get("key", []), of.get("direct", [])
     has_unknown = any(len(fields) > MOST_FIELDS.get(name, len(fields)) for name, them in of.items() for fields in them)
-    has_unknown = has_unknown or not all(_is_known_key(*it) for it in key) or any(len(it) != 3 or it[0] != b"no" for it in of.get("keep", []))
-    return SimpleNamespace(
-        **shared, command=_words(of, "arg"), is_cacheable=_first(of, "cacheable") == b"yes" and not has_unknown and "keep" not in of,
-        has_unknown=has_unknown, key=key, keep=of.get("keep", []),
-        environment=[tuple(pair) for pair in of.get("environment", [])], record=_record(of), runs=wanted["run"], hazards=[it[0].decode() for it in wanted["hazard"]])
+    answer.has_unknown = has_unknown or not all(_is_known_key(*it) for it in answer.key) or not all(_is_known_keep(*it) for it in answer.keep)
+    answer.is_cacheable = _text(of, "cacheable") == b"yes" and not answer.has_unknown and not answer.keep
+    answer.command, answer.environment, answer.record = _words(of, "arg"), [(key, value) for key, value, *_ in of.get("environment", [])], _record(of)
+    answer.runs, answer.hazards = wanted["run"], [it[0].decode() for it in wanted["hazard"]]
+    return answer
 
 
-def ask(compiler, words, *given, catalogue=None, **named):
+def ask(compiler: bytes, words: Iterable[bytes], *given: Any, catalogue: bytes | None = None, **named: Any) -> Answer:
     """The answer to the words behind a program; request says what else may be given. Words, paths and names are bytes, environment
     and files pairs of bytes, and most_words bounds words, and how often files are opened: 0 is 1,000,000. Wishes are those of
     scl_request: is_multiarch, wants_runs, may_dist, rewrite_includes_only, cache_mode, wants_questions, wants_hazards,
@@ -162,11 +248,11 @@ def ask(compiler, words, *given, catalogue=None, **named):
     except BadLine as bad:
         raise UnknownCompiler(compiler) if bad.number == 1 else Newer(f"line {bad.number}") from None
     (first, *_), *others = rows(text)
-    of = {}
+    of: _Rows = {}
     for name, *fields in others:
         of.setdefault(name.decode(errors="replace"), []).append(fields)
     if first == b"too-many-words":
         raise TooManyWords
-    if first not in OUTCOMES or _first(of, "version") != b"%d" % PROTOCOL:
+    if first not in OUTCOMES or _text(of, "version") != b"%d" % PROTOCOL:
         raise Newer("the answer")
     return _answer(OUTCOMES[first], of, named)

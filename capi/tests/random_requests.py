@@ -55,7 +55,7 @@ def rows_of(answer):
     if answer.outcome == scl.COMPILED:
         rows.update({"run": answer.runs, "environment": [list(pair) for pair in answer.environment], "hazard": [[it.encode()] for it in answer.hazards],
                      "arg": [[it] for it in answer.command], "cacheable": [[b"yes" if answer.is_cacheable else b"no"]],
-                     "key": answer.key, "keep": answer.keep})
+                     "key": answer.key, "keep": answer.keep, "direct": answer.direct})
     if answer.outcome == scl.CANNOT_CACHE:
         rows.update({"reason": [[answer.reason]], "because": [] if answer.text is None else [[answer.text]], "sentence": [[answer.sentence]]})
     kinds = {"file": answer.questions.files, "dir": answer.questions.directories, "exists": answer.questions.existing}
@@ -108,7 +108,8 @@ def main(ccline, describe, told, count, seed):
         if scl.describe(request) != said:
             differs(request, "scl_describe", scl.describe(request), said)
         rows = rows_in(said)
-        if "keep" in rows:
+        rows["keep"] = [it for it in rows.get("keep", []) if it != [b"yes"]]
+        if rows["keep"]:
             rows["cacheable"] = [[b"no"]]
         kinds[check_ask(name, words, named, rows)] += 1
         check_told(request, structs, rows)

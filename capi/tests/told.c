@@ -137,6 +137,7 @@ static void put_answer(scl_writer *to, const scl_answer *a) {
     for (size_t i = 0; i < a->options.len; i++) put_fields(to, "option", a->options.at[i]);
     for (size_t i = 0; i < a->key.len; i++) put_fields(to, "key", a->key.at[i]);
     for (size_t i = 0; i < a->keep.len; i++) put_fields(to, "keep", a->keep.at[i]);
+    for (size_t i = 0; i < a->direct.len; i++) put_fields(to, "direct", a->direct.at[i]);
     scl_put_words(to, "hazard ", a->hazards);
     scl_put_words(to, "wants file ", a->questions.files);
     scl_put_words(to, "wants dir ", a->questions.directories);

@@ -5,7 +5,8 @@ use bumpalo::Bump;
 use scl_catalogue_default::built_in_entries;
 use scl_catalogue_text::{ReadError, read};
 use scl_cl::{Counted, Outcome, serve_each};
-use scl_describe::{Catalogue, Descriptions, Entry, describe};
+use scl_describe::{Catalogue, Descriptions, Entry, Tables, describe};
+use scl_effects_default::plain_names;
 use std::io::{self, ErrorKind};
 use std::process::ExitCode;
 use std::{env, fs};
@@ -80,21 +81,23 @@ fn tell(rt: &HostRuntime, outcome: Outcome) -> u8 {
     outcome.status()
 }
 
-/// Describes what standard input asks, with the hazards of a catalogue, and gives the status.
+/// Describes what standard input asks, by a catalogue, and gives the status.
 fn describe_by(rt: &HostRuntime, catalogue: &Catalogue<'_>, is_batch: bool) -> u8 {
+    let tables = Tables {
+        catalogue: *catalogue,
+        plain: plain_names(),
+    };
     let mut reader = Counted::new(rt.stdin());
     let mut writer = Counted::new(rt.stdout());
     let outcome = if is_batch {
         serve_each(
             rt.alloc(),
-            &Descriptions {
-                catalogue: *catalogue,
-            },
+            &Descriptions { tables },
             &mut reader,
             &mut writer,
         )
     } else {
-        describe(rt.alloc(), catalogue, &mut reader, &mut writer)
+        describe(rt.alloc(), &tables, &mut reader, &mut writer)
     };
     tell(rt, outcome)
 }

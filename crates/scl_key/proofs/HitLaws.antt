@@ -32,7 +32,7 @@ abbrev head_row : List (List (List ℕ)) → List (List ℕ)
 head_row [] = []
 head_row (row ∷ rows) = row
 
-one-row : (a b : List (List ℕ)) → IsRow a → IsRow b → row_text a ≡ row_text b → a ≡ b
+pub one-row : (a b : List (List ℕ)) → IsRow a → IsRow b → row_text a ≡ row_text b → a ≡ b
 one-row a b first second e = ap head_row (sym (first-row a first) ∙ ap (λ t. rows_in (t ++ 10 ∷ [])) e ∙ first-row b second)
 
 -- whether a part asks, by what is hashed of its row
@@ -69,23 +69,23 @@ record Both (a b : List (List (List ℕ))) (c d : List (List ℕ)) : Type 0 wher
   pub rows : a ≡ b
   pub others : c ≡ d
 
-abbrev head_text : List (List ℕ) → List ℕ
+abbrev pub head_text : List (List ℕ) → List ℕ
 head_text [] = []
 head_text (text ∷ texts) = text
 
-abbrev tail_texts : List (List ℕ) → List (List ℕ)
+abbrev pub tail_texts : List (List ℕ) → List (List ℕ)
 tail_texts [] = []
 tail_texts (text ∷ texts) = texts
 
-abbrev is_none : List (List ℕ) → Bool
+abbrev pub is_none : List (List ℕ) → Bool
 is_none [] = true
 is_none (text ∷ texts) = false
 
-abbrev answered_by : Bool → List ℕ → List (List ℕ)
+abbrev pub answered_by : Bool → List ℕ → List (List ℕ)
 answered_by asks answer = cond asks (answer ∷ []) []
 
 -- an answer, if there is one, in front of texts
-front : (b c : Bool) (x y : List ℕ) (xs ys : List (List ℕ)) → b ≡ c → answered_by b x ++ xs ≡ answered_by c y ++ ys → (answered_by b x ≡ answered_by c y) × (xs ≡ ys)
+pub front : (b c : Bool) (x y : List ℕ) (xs ys : List (List ℕ)) → b ≡ c → answered_by b x ++ xs ≡ answered_by c y ++ ys → (answered_by b x ≡ answered_by c y) × (xs ≡ ys)
 front true true x y xs ys e h = (ap (λ t. head_text t ∷ []) h, ap tail_texts h)
 front false false x y xs ys e h = (refl, h)
 front true false x y xs ys e h = absurd (let no : true ≡ false = e in cc)
@@ -218,7 +218,7 @@ no-facts-asking c r p =
     (no-facts-asked asks.Regular (p.input ∷ headers p)))
     (no-facts-texts c p)
 
-facts-of-key : (c : Compiler) (e : List (List ℕ × List ℕ)) (r : RunWords) (p : Parsed) → facts_in (key_of c e r p) ≡ facts_in (told c e r p)
+pub facts-of-key : (c : Compiler) (e : List (List ℕ × List ℕ)) (r : RunWords) (p : Parsed) → facts_in (key_of c e r p) ≡ facts_in (told c e r p)
 facts-of-key c e r p =
     flat_map-append fact_of (told c e r p ++ map output (made p)) (asked_parts c r p)
     ∙ ap (λ rows. facts_in (told c e r p ++ map output (made p)) ++ rows) (no-facts-asking c r p)

@@ -34,7 +34,7 @@ asked-back ask name = elim ask as (λ a. part_back (fields (asked a name)) ≡ a
   | asks.RefuseIfShown ↦ refl
 ]
 
-part-back : (part : Part) → part_back (fields part) ≡ part
+pub part-back : (part : Part) → part_back (fields part) ≡ part
 part-back (is row) = refl
 part-back (output made) = ap output (output-given made)
 part-back directory = refl

@@ -12,7 +12,7 @@ use Rattle.scl_text.specs.declared.language.Language.TheVariants as languages
 use Rattle.scl_key.specs.contracts.given.BringsPartialEq.TheImpl.{ghosts}
 use Rattle.scl_key.specs.declared.given.Brings.{Brings}
 use Rattle.scl_key.specs.declared.given.Brings.TheVariants.{Folder, Header, MacroFile, Other, Unknown}
-use Rattle.scl_key.specs.Effects.{effect_of, keeps_macros}
+use Rattle.scl_key.specs.Effects.{judged_in, keeps_macros}
 use Rattle.scl_key.specs.Families.{is_gnu}
 
 -- a flag with a value, and what that brings in
@@ -54,7 +54,7 @@ pub record Given : Type 0 where
 abbrev pub given : Brings → List ℕ → Given
 given brings value = record { brings = brings; value = value }
 
--- what the next word brings in, where this one is a flag that has its value there
+-- what the next word brings in, if this one is a flag that has its value there
 abbrev pub awaited_by : List Flag → List ℕ → Option Brings
 awaited_by rows word = option_map (λ row. row.brings) (find (λ row. bytes_eq row.text word) rows)
 
@@ -69,7 +69,7 @@ given_or (Some g) word = g
 abbrev pub given_by : List ℕ → Given
 given_by word = if is_lone_flag word then given Other word else given_or (joined_by flags word) word
 
--- what a word brings in: as a value, where one is awaited; nothing by itself, where it is a flag that has its value behind it
+-- what a word brings in: as a value, where one is awaited; nothing by itself, where it is a flag that has its value after it
 abbrev pub given_unless : Option Brings → List ℕ → List Given
 given_unless None word = given_by word ∷ []
 given_unless (Some brings) word = []
@@ -78,7 +78,7 @@ abbrev pub given_now : Option Brings → List ℕ → List Given
 given_now (Some brings) word = given brings word ∷ []
 given_now None word = given_unless (awaited_by flags word) word
 
--- what is awaited behind a word
+-- what is awaited after a word
 abbrev pub awaited_next : Option Brings → List ℕ → Option Brings
 awaited_next (Some brings) word = None
 awaited_next None word = awaited_by flags word
@@ -106,9 +106,13 @@ is_known MacroFile = true
 is_known Other = true
 is_known Unknown = false
 
+-- the values among these that bring in this
+abbrev pub values_among : Brings → List Given → List (List ℕ)
+values_among brings gs = map (λ g. g.value) (filter (λ g. ghosts.eq g.brings brings) gs)
+
 -- the values that bring in this
 abbrev pub values_of : Brings → List (List ℕ) → List (List ℕ)
-values_of brings words = map (λ g. g.value) (filter (λ g. ghosts.eq g.brings brings) (given_in words))
+values_of brings words = values_among brings (given_in words)
 
 abbrev pub folders : Parsed → List (List ℕ)
 folders p = values_of Folder p.preprocessor_args
@@ -141,8 +145,12 @@ is_text languages.Hip = false
 
 -- macros come into the outcome
 abbrev pub has_macros : Parsed → Bool
-has_macros p = list_any (λ word. keeps_macros (effect_of word)) p.common_args
+has_macros p = list_any (λ j. keeps_macros j.effect) (judged_in p.common_args)
+
+-- the same of a language, whether macros come into the outcome, and what is brought in
+abbrev pub shows_by : Compiler → Language → (macros : Bool) → List Given → Bool
+shows_by compiler language macros gs = is_gnu compiler && (is_text language && (not macros && list_all (λ g. is_known g.brings) gs))
 
 -- Each run shows all that the words of the preprocessor bring in: so they are no part of the key.
 abbrev pub shows : Compiler → Parsed → Bool
-shows compiler p = is_gnu compiler && (is_text p.language && (not (has_macros p) && list_all (λ g. is_known g.brings) (given_in p.preprocessor_args)))
+shows compiler p = shows_by compiler p.language (has_macros p) (given_in p.preprocessor_args)

@@ -10,10 +10,11 @@ use Rattle.scl_reader.specs.declared.compiler.Compiler.{Compiler}
 use Rattle.scl_key.specs.declared.effect.Effect.{Effect}
 use Rattle.scl_key.specs.declared.effect.Effect.TheVariants as effects
 use Rattle.scl_key.specs.declared.no_key.Reason.{Reason}
-use Rattle.scl_key.specs.declared.no_key.Reason.TheVariants.{WritesUnnamed, TextHides, OutputIsNoFile, OnePathTwice, Hazard}
+use Rattle.scl_key.specs.declared.no_key.Reason.TheVariants.{WritesUnnamed, TextHides, OutputIsNoFile, OnePathTwice, Hazard, Effect as EffectBars}
 use Rattle.scl_key.specs.declared.part.Ask.{Ask}
 use Rattle.scl_key.specs.declared.part.Ask.TheVariants as asks
-use Rattle.scl_key.specs.Effects.{assembler_effect, assembler_words, behind, effect_of, is_plain, suffixes, writes_unnamed}
+use Rattle.scl_key.specs.Directs.{Direct, directs, direct_entries}
+use Rattle.scl_key.specs.Effects.{Judged, assembler_effect, assembler_words, behind, is_plain, judged_in, suffixes, writes_unnamed}
 use Rattle.scl_key.specs.Families.{folder_variables, is_clang, is_gcc, notes_by_runs, unset_variables, variables}
 use Rattle.scl_key.specs.Given.{folders, headers, shows}
 use Rattle.scl_key.specs.Made.{dependency_files, handed_file, made}
@@ -28,13 +29,13 @@ use Rattle.scl_key.specs.Told.{RunWords, given, built, hazardous, told}
 abbrev pub asked_each : Ask → List (List ℕ) → List Part
 asked_each ask names = map (asked ask) names
 
--- the response files that the given words name, where those are run
+-- the response files that the given words name, if those are run
 abbrev pub response_files : RunWords → List (List ℕ)
 response_files built = []
 response_files (given words files) = files
 response_files (hazardous hazard) = []
 
--- names, each behind what it is
+-- names, each after what it is
 abbrev pub named_each : List ℕ → List (List ℕ) → List (List ℕ)
 named_each what names = flat_map (λ name. what ∷ name ∷ []) names
 
@@ -52,7 +53,7 @@ precompiled_parts c p =
 
 -- the outcome has nothing of the sources that the text of a run lacks
 abbrev pub text_is_enough : Compiler → Parsed → Bool
-text_is_enough c p = shows c p && list_all (λ word. is_plain (effect_of word)) p.common_args
+text_is_enough c p = shows c p && list_all (λ j. is_plain j.effect) (judged_in p.common_args)
 
 -- what in a text says that a source has more than the text: its columns, names, lines, or whether a message is an error
 abbrev pub telling : List ℕ
@@ -73,10 +74,10 @@ stamps_times c p = is_clang c && (is_header p.language && not (list_any (λ word
 
 -- what in a text reads a file that nobody names, or may: an assembler's directives, and its macros that make such
 abbrev pub reading : List ℕ
-reading = codes "(^|[^])A-Za-z0-9_.$]|\\\\[nt])\\.inc(bin|lude)([^A-Za-z0-9_]|$)|^[ \t]*#[ \t]*embed|\\.[A-Za-z0-9_]*\\\\\\\\[A-Za-z0-9_(@]"
+reading = codes "(^|[^])A-Za-z0-9_.$]|\\\\[nt])\\.[Ii][Nn][Cc]([Bb][Ii][Nn]|[Ll][Uu][Dd][Ee])([^A-Za-z0-9_]|$)|^[ \t]*#[ \t]*embed|\\.[A-Za-z0-9_]*\\\\\\\\[A-Za-z0-9_(@]"
 
 abbrev pub assembler_reading : List ℕ
-assembler_reading = codes "(^|[^])A-Za-z0-9_.$]|\\\\[nt])\\.inc(bin|lude)([^A-Za-z0-9_]|$)|\\.[A-Za-z0-9_]*\\\\[A-Za-z0-9_(@]"
+assembler_reading = codes "(^|[^])A-Za-z0-9_.$]|\\\\[nt])\\.[Ii][Nn][Cc]([Bb][Ii][Nn]|[Ll][Uu][Dd][Ee])([^A-Za-z0-9_]|$)|\\.[A-Za-z0-9_]*\\\\[A-Za-z0-9_(@]"
 
 abbrev pub refusals : Parsed → List Part
 refusals p = asked asks.RefuseIfShown (if is_assembler p.language then assembler_reading else reading) ∷ []
@@ -90,7 +91,7 @@ file_parts c words p =
     ++ asked_each asks.File (response_files words)
     ++ asked_each asks.Maybe (files_perhaps c p)
 
--- what is asked of texts: the runs, and behind them what asks of what these write
+-- what is asked of texts: the runs, and after them what asks of what these write
 abbrev pub text_parts : Compiler → Parsed → List Part
 text_parts c p = run_parts c p ++ precompiled_parts c p ++ source_parts c p ++ (if stamps_times c p then times ∷ [] else []) ++ refusals p
 
@@ -119,6 +120,7 @@ reason_name TextHides = codes "text-hides"
 reason_name OutputIsNoFile = codes "output-is-no-file"
 reason_name OnePathTwice = codes "one-path-twice"
 reason_name Hazard = codes "hazard"
+reason_name EffectBars = codes "effect"
 
 -- why there is no key for what a word does
 abbrev pub reason_of : Effect → Option Reason
@@ -130,8 +132,8 @@ reason_of effects.TextHides = Some TextHides
 reason_of effects.ReadsCounts = None
 reason_of effects.ReadsSamples = None
 
-abbrev pub no_key_by : List ℕ → List NoKey
-no_key_by word = map (λ reason. no_key reason word) (option_to_list (reason_of (effect_of word)))
+abbrev pub no_key_by : Judged → List NoKey
+no_key_by j = map (λ reason. no_key reason j.word) (option_to_list (reason_of j.effect))
 
 abbrev pub asks_for_rules : List ℕ → Bool
 asks_for_rules text = starts_with nat_eq text (codes "-M")
@@ -174,7 +176,10 @@ hazards (hazardous hazard) = no_key Hazard hazard ∷ []
 -- what the words of a record do
 abbrev pub no_keys_by_words : Parsed → List NoKey
 no_keys_by_words p =
-    flat_map no_key_by p.preprocessor_args ++ flat_map no_key_by p.common_args ++ flat_map no_key_by p.unhashed_args ++ flat_map no_key_by p.dependency_args
+    flat_map no_key_by (judged_in p.preprocessor_args)
+    ++ flat_map no_key_by (judged_in p.common_args)
+    ++ flat_map no_key_by (judged_in p.unhashed_args)
+    ++ flat_map no_key_by (judged_in p.dependency_args)
 
 abbrev pub no_keys : Compiler → RunWords → Parsed → List NoKey
 no_keys c words p =
@@ -187,16 +192,17 @@ no_keys c words p =
 -- ---- what is said of a command line
 
 pub data Keeping : Type 0 where
-  under : (key : List Part) → Keeping
+  -- under this key; with what direct mode needs, if it may be used
+  under : (key : List Part) (direct : List Direct) → Keeping
   not_kept : (why : List NoKey) → Keeping
 
-abbrev pub keeping_by : List NoKey → List Part → Keeping
-keeping_by [] key = under key
-keeping_by (why ∷ others) key = not_kept (why ∷ others)
+abbrev pub keeping_by : List NoKey → List Part → List Direct → Keeping
+keeping_by [] key direct = under key direct
+keeping_by (why ∷ others) key direct = not_kept (why ∷ others)
 
 -- its key, or why there is none
 abbrev pub keeping_of : Compiler → (environment : List (List ℕ × List ℕ)) → RunWords → Parsed → Keeping
-keeping_of c environment words p = keeping_by (no_keys c words p) (key_of c environment words p)
+keeping_of c environment words p = keeping_by (no_keys c words p) (key_of c environment words p) (directs c p)
 
 -- ---- rows
 
@@ -204,5 +210,5 @@ abbrev pub no_key_entry : NoKey → Entry
 no_key_entry n = row_entry (codes "keep") (codes "no" ∷ reason_name n.reason ∷ n.word ∷ [])
 
 abbrev pub keeping_entries : Keeping → List Entry
-keeping_entries (under key) = key_entries key
+keeping_entries (under key direct) = key_entries key ++ direct_entries direct
 keeping_entries (not_kept why) = map no_key_entry why

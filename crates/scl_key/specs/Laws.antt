@@ -10,9 +10,10 @@ use Rattle.scl_reader.specs.declared.compiler.Compiler.{Compiler}
 use Rattle.scl_reader.specs.Answers.{command_by}
 use Rattle.scl_key.specs.declared.part.Ask.{Ask}
 use Rattle.scl_key.specs.declared.part.Ask.TheVariants as asks
+use Rattle.scl_key.specs.Directs.{Direct, env, search, first, named, refuse_if_read, direct_fields, directs, may_direct}
 use Rattle.scl_key.specs.Given.{shows}
 use Rattle.scl_key.specs.Keys.{key_of}
-use Rattle.scl_key.specs.Parts.{Part, is, output, directory, compiler, plan, asked, run, run_else, pch, sources, times, ask_name, hashed, is_asked, key_entries}
+use Rattle.scl_key.specs.Parts.{Part, is, output, directory, compiler, plan, asked, run, run_else, pch, sources, times, ask_name, fields, hashed, is_asked, key_entries}
 use Rattle.scl_key.specs.Told.{RunWords, built, given, hazardous, flat_pairs, key_record, run_words_fields, told}
 
 -- ---- rows are read back
@@ -23,7 +24,7 @@ all_asks = asks.Env ∷ asks.Unset ∷ asks.File ∷ asks.Maybe ∷ asks.Regular
 abbrev pub ask_back : List ℕ → Ask
 ask_back name = unwrap_or (find (λ ask. bytes_eq (ask_name ask) name) all_asks) asks.Env
 
--- the part of a name and of what stands behind it
+-- the part of a name and of what stands after it
 abbrev pub part_named : List ℕ → List (List ℕ) → Part
 part_named name rest =
     if bytes_eq name (codes "is") then is rest
@@ -131,3 +132,83 @@ AHitIsRight v w =
 -- A hit gives what a compilation would give: what was made in one world is what would be made in the other.
 abbrev pub HitsAreRight : Type 0
 HitsAreRight = (v w : World) → AreWellBehaved v w → AHitIsRight v w
+
+-- ---- direct mode
+
+-- an answer that needs no run of the compiler
+abbrev pub is_early_ask : Ask → Bool
+is_early_ask asks.Env = true
+is_early_ask asks.Unset = true
+is_early_ask asks.File = true
+is_early_ask asks.Maybe = true
+is_early_ask asks.Regular = true
+is_early_ask asks.SourcesIfShown = false
+is_early_ask asks.RefuseIfShown = false
+
+abbrev pub is_early : Part → Bool
+is_early (is row) = false
+is_early (output made) = false
+is_early directory = true
+is_early compiler = true
+is_early (plan words) = true
+is_early (asked ask name) = is_early_ask ask
+is_early (run words) = false
+is_early (run_else words) = false
+is_early (pch searched) = false
+is_early sources = false
+is_early times = false
+
+-- what a cache hashes of a key before any run: each row with all its fields, and the answer if it needs no run
+abbrev pub early : World → Compiler → List Part → List (List ℕ)
+early v c key = flat_map (λ part. row_text (fields part) ∷ (if is_early part then v.answer c part ∷ [] else [])) key
+
+-- the value of a variable that a row `direct` names
+abbrev pub valued : World → Compiler → Direct → List (List ℕ)
+valued v c (env name) = v.answer c (asked asks.Env name) ∷ []
+valued v c (search words) = []
+valued v c (first header) = []
+valued v c (named pattern) = []
+valued v c (refuse_if_read pattern) = []
+
+-- what it hashes of the rows `direct`: each row, and the value of a variable. Both together are the first key.
+abbrev pub valued_rows : World → Compiler → List Direct → List (List ℕ)
+valued_rows v c rows = flat_map (λ row. row_text (direct_fields row) ∷ valued v c row) rows
+
+-- what stands in a list for a key, with its rows `direct`: names of files, and how these are
+abbrev pub Listing : Type 0
+Listing = Compiler → List Part → List Direct → List (List ℕ)
+
+-- Of two worlds and what their lists have: where direct mode may be used, the first key and the list decide all answers. This is
+-- what is assumed of compilers, and of how a cache makes lists.
+abbrev pub AreDecided : World → World → Listing → Listing → Type 0
+AreDecided v w l m =
+    (c : Compiler) (e : List (List ℕ × List ℕ)) (r : RunWords) (p : Parsed)
+    → may_direct c p ≡ true
+    → early v c (key_of c e r p) ≡ early w c (key_of c e r p)
+    → valued_rows v c (directs c p) ≡ valued_rows w c (directs c p)
+    → l c (key_of c e r p) (directs c p) ≡ m c (key_of c e r p) (directs c p)
+    → answers v c (key_of c e r p) ≡ answers w c (key_of c e r p)
+
+-- each row of a first key can be written
+abbrev pub CanBeFirst : List Part → List Direct → Type 0
+CanBeFirst key rows = Each (λ part. IsRow (fields part)) key × Each (λ row. IsRow (direct_fields row)) rows
+
+-- a key that was found by its first key and a list is that which runs would give, and what was kept under it is what would be made
+pub record IsRight (v w : World) (a b : Compiler) (e f : List (List ℕ × List ℕ)) (r s : RunWords) (p q : Parsed) : Type 0 where
+  pub key_is : material v a (key_of a e r p) ≡ material w b (key_of b f s q)
+  pub outcome_is : v.outcome a (flat_pairs e) (ran a r p) ≡ w.outcome b (flat_pairs f) (ran b s q)
+
+abbrev pub ADirectHitIsRight : World → World → Listing → Listing → Type 0
+ADirectHitIsRight v w l m =
+    (a b : Compiler) (e f : List (List ℕ × List ℕ)) (r s : RunWords) (p q : Parsed)
+    → may_direct a p ≡ true
+    → CanBeHashed (key_of a e r p) → CanBeHashed (key_of b f s q)
+    → CanBeFirst (key_of a e r p) (directs a p) → CanBeFirst (key_of b f s q) (directs b q)
+    → early v a (key_of a e r p) ≡ early w b (key_of b f s q)
+    → valued_rows v a (directs a p) ≡ valued_rows w b (directs b q)
+    → l a (key_of a e r p) (directs a p) ≡ m b (key_of b f s q) (directs b q)
+    → IsRight v w a b e f r s p q
+
+-- Direct hits are right: where the first key is one, and a list is as it was, the key is that which runs would give.
+abbrev pub DirectHitsAreRight : Type 0
+DirectHitsAreRight = (v w : World) (l m : Listing) → AreWellBehaved v w → AreDecided v w l m → ADirectHitIsRight v w l m

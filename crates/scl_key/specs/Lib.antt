@@ -1,4 +1,5 @@
 pub mod Effects
+pub mod JudgedViews
 pub mod Families
 pub mod Given
 pub mod GivenViews
@@ -7,6 +8,8 @@ pub mod Told
 pub mod Made
 pub mod Reads
 pub mod Runs
+pub mod Directs
+pub mod Doings
 pub mod Keys
 pub mod Views
 pub mod Laws

@@ -42,7 +42,7 @@ ask_name asks.RefuseIfShown = codes "refuse-if-shown"
 
 -- ---- rows
 
--- the fields behind the first of a part's row
+-- the fields after the first of a part's row
 abbrev pub fields : Part → List (List ℕ)
 fields (is row) = codes "is" ∷ row
 fields (output made) = codes "output" ∷ output_rest made

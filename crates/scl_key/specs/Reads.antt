@@ -8,11 +8,11 @@ use Rattle.scl_text.specs.Records.{Parsed}
 use Rattle.scl_reader.specs.declared.compiler.Compiler.{Compiler}
 use Rattle.scl_key.specs.declared.effect.Effect.{Effect}
 use Rattle.scl_key.specs.declared.effect.Effect.TheVariants as effects
-use Rattle.scl_key.specs.Effects.{effect_of, is_comma, is_plain, suffixes}
+use Rattle.scl_key.specs.Effects.{Judged, is_comma, is_plain, judged_in, suffixes}
 use Rattle.scl_key.specs.Families.{is_clang}
 use Rattle.scl_key.specs.Given.{headers, macro_files}
 
--- a text, and what stands behind each of its `=`
+-- a text, and what stands after each of its `=`
 abbrev pub with_values : List ℕ → List (List ℕ)
 with_values text = text ∷ suffixes 61 text
 
@@ -21,11 +21,11 @@ abbrev pub until_comma : List ℕ → List ℕ
 until_comma [] = []
 until_comma (byte ∷ bytes) = if is_comma byte then [] else byte ∷ until_comma bytes
 
--- the parts between commas, where there are any
+-- the parts between commas, if there are any
 abbrev pub comma_parts : List ℕ → List (List ℕ)
 comma_parts text = if list_any is_comma text then map until_comma (text ∷ suffixes 44 text) else []
 
--- what a word may hold that names a file: itself and each part between commas, and what stands behind each `=` of those
+-- what a word may hold that names a file: itself and each part between commas, and what stands after each `=` of those
 abbrev pub values : List ℕ → List (List ℕ)
 values word = with_values word ++ flat_map with_values (comma_parts word)
 
@@ -37,8 +37,8 @@ is_path [] = false
 is_path (byte ∷ bytes) = not (nat_eq byte 45)
 
 -- the paths that a word may name: none of a word that is known to read nothing
-abbrev pub paths_in : List ℕ → List (List ℕ)
-paths_in word = if is_plain (effect_of word) then [] else filter is_path (map without_at (values word))
+abbrev pub paths_by : Judged → List (List ℕ)
+paths_by j = if is_plain j.effect then [] else filter is_path (map without_at (values j.word))
 
 -- the profile that a word makes the compiler read, if it has a name that the word does not say
 abbrev pub profile_by : Option (List ℕ) → Effect → List (List ℕ)
@@ -51,7 +51,7 @@ profile_by object effects.ReadsCounts = map (λ path. with_extension path (codes
 profile_by object effects.ReadsSamples = codes "fbdata.afdo" ∷ []
 
 abbrev pub profiles : Parsed → List (List ℕ)
-profiles p = flat_map (λ word. profile_by (object_of p) (effect_of word)) p.common_args
+profiles p = flat_map (λ j. profile_by (object_of p) j.effect) (judged_in p.common_args)
 
 -- what clang may read in the place of a header that is included first
 abbrev pub precompiled : List ℕ → List (List ℕ)
@@ -62,4 +62,5 @@ precompiled_headers compiler p = if is_clang compiler then flat_map precompiled 
 
 -- all files that may be read, and need not be there
 abbrev pub files_perhaps : Compiler → Parsed → List (List ℕ)
-files_perhaps compiler p = flat_map paths_in p.common_args ++ flat_map paths_in p.unhashed_args ++ macro_files p ++ profiles p ++ precompiled_headers compiler p
+files_perhaps compiler p =
+    flat_map paths_by (judged_in p.common_args) ++ flat_map paths_by (judged_in p.unhashed_args) ++ macro_files p ++ profiles p ++ precompiled_headers compiler p

@@ -30,7 +30,7 @@ abbrev pub yes_or_no : Bool → List ℕ
 yes_or_no true = codes "yes"
 yes_or_no false = codes "no"
 
--- keys and values, one behind the other
+-- keys and values, one after the other
 abbrev pub flat_pairs : List (List ℕ × List ℕ) → List (List ℕ)
 flat_pairs [] = []
 flat_pairs (pair ∷ pairs) = pair.0 ∷ pair.1 ∷ flat_pairs pairs

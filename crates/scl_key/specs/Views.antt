@@ -2,6 +2,8 @@
 use Rattle.std.specs.Prelude.{List, map, ℕ}
 use Rattle.scl_text.specs.Records.{Artifact, artifact}
 use Rattle.scl_values.specs.Words.{words_of}
+use Rattle.scl_key.specs.declared.direct.Direct as declared_direct
+use Rattle.scl_key.specs.declared.direct.Direct.TheVariants as directs
 use Rattle.scl_key.specs.declared.key.Keeping as declared_keeping
 use Rattle.scl_key.specs.declared.key.Keeping.TheVariants as keepings
 use Rattle.scl_key.specs.declared.no_key.NoKey as declared_no_key
@@ -10,6 +12,7 @@ use Rattle.scl_key.specs.declared.part.Part as declared_part
 use Rattle.scl_key.specs.declared.part.Part.TheVariants as parts
 use Rattle.scl_key.specs.declared.told.RunWords as declared_words
 use Rattle.scl_key.specs.declared.told.RunWords.TheVariants as run_words
+use Rattle.scl_key.specs.Directs.{Direct, env, search, first, named, refuse_if_read}
 use Rattle.scl_key.specs.Keys.{Keeping, under, not_kept, NoKey, no_key}
 use Rattle.scl_key.specs.Parts.{Part, is, output, directory, compiler, plan, asked, run, run_else, pch, sources, times}
 use Rattle.scl_key.specs.Told.{RunWords, built, given, hazardous}
@@ -39,6 +42,16 @@ part_of parts.Times = times
 abbrev pub parts_of : List declared_part.Part → List Part
 parts_of ps = map part_of ps
 
+abbrev pub direct_of : declared_direct.Direct → Direct
+direct_of (directs.Env name) = env name.now
+direct_of (directs.Search words) = search (words_of words.items)
+direct_of (directs.First header) = first header.items
+direct_of (directs.Named pattern) = named pattern.now
+direct_of (directs.RefuseIfRead pattern) = refuse_if_read pattern.now
+
+abbrev pub directs_of : List declared_direct.Direct → List Direct
+directs_of ds = map direct_of ds
+
 abbrev pub run_words_of : declared_words.RunWords → RunWords
 run_words_of run_words.Built = built
 run_words_of (run_words.Given words files) = given (words_of words.now) (words_of files.now)
@@ -51,5 +64,5 @@ abbrev pub no_keys_of : List declared_no_key.NoKey → List NoKey
 no_keys_of why = map no_key_of why
 
 abbrev pub keeping_of : declared_keeping.Keeping → Keeping
-keeping_of (keepings.Under key) = under (parts_of key.items)
+keeping_of (keepings.Under key direct) = under (parts_of key.items) (directs_of direct.items)
 keeping_of (keepings.Not why) = not_kept (no_keys_of why.items)

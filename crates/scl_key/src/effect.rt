@@ -2,7 +2,8 @@
 ghost use Rattle.std.specs.Prelude.{◌≡◌, ◌++◌, map, IfOk, OnOk, false};
 ghost use Rattle.std.specs.List.{flat_map, list_any};
 ghost use Rattle.scl_values.specs.Words.{words_of};
-ghost use Rattle.scl_key.specs.Effects.{assembler_effect, assembler_words, behind, effect_of, front_effect, fronts, handed_words, has_equals, is_comma, is_plain, keeps_macros, known_effect, rows_of, suffixes, valued_effect, whole_effect, whole_words, writes_unnamed};
+ghost use Rattle.scl_key.specs.Effects.{assembler_effect, assembler_words, behind, effect_of, front_effect, fronts, handed_words, is_comma, is_plain, judged_in, keeps_macros, known_effect, rows_of, suffixes, whole_effect, whole_words, writes_unnamed};
+ghost use Rattle.scl_key.specs.JudgedViews.{all_judged};
 
 use scl_text::Mem;
 use std::alloc::Global;
@@ -18,7 +19,7 @@ pub enum Effect {
     Macros,
     /// A file is written that no row names.
     WritesUnnamed,
-    /// The text is not that of what is compiled.
+    /// The text is not that of what is compiled, or may not be: a precompiled header may be read in a place that no row names.
     TextHides,
     /// The counts of a profile are read that stand beside the object.
     ReadsCounts,
@@ -27,7 +28,7 @@ pub enum Effect {
 }
 
 /// Words.
-static WHOLE_WORDS: [(&'static str, Effect); 58] = [
+static WHOLE_WORDS: [(&'static str, Effect); 56] = [
     ("-ansi", Effect::Plain),
     ("-c", Effect::Plain),
     ("-pipe", Effect::Plain),
@@ -73,9 +74,7 @@ static WHOLE_WORDS: [(&'static str, Effect); 58] = [
     ("-MG", Effect::TextHides),
     ("-da", Effect::WritesUnnamed),
     ("-dumpdir", Effect::WritesUnnamed),
-    ("-coverage", Effect::WritesUnnamed),
     ("-wrapper", Effect::WritesUnnamed),
-    ("-emit-interface-stubs", Effect::WritesUnnamed),
     ("-dependency-file", Effect::WritesUnnamed),
     ("-dependency-dot", Effect::WritesUnnamed),
     ("-header-include-file", Effect::WritesUnnamed),
@@ -88,11 +87,8 @@ static WHOLE_WORDS: [(&'static str, Effect); 58] = [
     ("-fdiagnostics-format=sarif-file", Effect::WritesUnnamed),
 ];
 
-/// Beginnings of words that have a `=` besides.
-static VALUED_WORDS: [(&'static str, Effect); 1] = [("-fopt-info", Effect::WritesUnnamed)];
-
 /// Beginnings of words; the first that fits says.
-static FRONTS: [(&'static str, Effect); 45] = [
+static FRONTS: [(&'static str, Effect); 39] = [
     ("-D", Effect::Plain),
     ("-U", Effect::Plain),
     ("-O", Effect::Plain),
@@ -106,24 +102,18 @@ static FRONTS: [(&'static str, Effect); 45] = [
     ("-mcpu=", Effect::Plain),
     ("-msse", Effect::Plain),
     ("-mavx", Effect::Plain),
+    ("--include", Effect::TextHides),
+    ("-iprefix", Effect::TextHides),
+    ("-iwithprefix", Effect::TextHides),
+    ("-Wp,-I", Effect::TextHides),
+    ("-Wp,-i", Effect::TextHides),
     ("-Wa,", Effect::Exact),
     ("-Wp,", Effect::Exact),
     ("-Wl,", Effect::Exact),
     ("-Werror", Effect::Exact),
     ("-W", Effect::Plain),
-    ("-aux-info", Effect::WritesUnnamed),
-    ("-fdump-", Effect::WritesUnnamed),
-    ("-fsave-optimization-record", Effect::WritesUnnamed),
-    ("-foptimization-record-", Effect::WritesUnnamed),
     ("-fcallgraph-info", Effect::WritesUnnamed),
-    ("-fprofile-note=", Effect::WritesUnnamed),
-    ("-fprofile-dir", Effect::WritesUnnamed),
     ("-fprofile-update-dir", Effect::WritesUnnamed),
-    ("-fproc-stat-report", Effect::WritesUnnamed),
-    ("-fcompare-debug", Effect::WritesUnnamed),
-    ("-fcrash-diagnostics-dir", Effect::WritesUnnamed),
-    ("-fdeps-", Effect::WritesUnnamed),
-    ("-ftime-trace", Effect::WritesUnnamed),
     ("-gen-cdb-", Effect::WritesUnnamed),
     ("-info-output-file=", Effect::WritesUnnamed),
     ("-print-", Effect::WritesUnnamed),
@@ -141,11 +131,9 @@ static FRONTS: [(&'static str, Effect); 45] = [
 ];
 
 /// Beginnings of words for the assembler.
-static ASSEMBLER_FRONTS: [(&'static str, Effect); 5] = [
-    ("-a", Effect::WritesUnnamed),
+static ASSEMBLER_FRONTS: [(&'static str, Effect); 3] = [
     ("-o", Effect::WritesUnnamed),
     ("-MD", Effect::WritesUnnamed),
-    ("--MD", Effect::WritesUnnamed),
     ("--listing", Effect::WritesUnnamed),
 ];
 
@@ -162,7 +150,7 @@ fn whole_effect(rows: &[(&'static str, Effect)], word: &[u8]) -> Option<Effect>
 }
 
 /// What the first row says with whose text the word begins.
-fn front_effect(rows: &[(&'static str, Effect)], word: &[u8]) -> Option<Effect>
+pub(crate) fn front_effect(rows: &[(&'static str, Effect)], word: &[u8]) -> Option<Effect>
     ensures { result ≡ front_effect (rows_of rows.now) word.now }
 {
     for (text, effect) in rows {
@@ -171,17 +159,6 @@ fn front_effect(rows: &[(&'static str, Effect)], word: &[u8]) -> Option<Effect>
         }
     }
     None
-}
-
-fn has_equals(word: &[u8]) -> bool
-    ensures { result ≡ has_equals word.now }
-{
-    for byte in word {
-        if *byte == b'=' {
-            return true;
-        }
-    }
-    false
 }
 
 /// Whether a text has a comma.
@@ -194,16 +171,6 @@ pub(crate) fn has_comma(text: &[u8]) -> bool
         }
     }
     false
-}
-
-fn valued_effect(word: &[u8]) -> Option<Effect>
-    ensures { result ≡ valued_effect word.now }
-{
-    if has_equals(word) {
-        front_effect(&VALUED_WORDS, word)
-    } else {
-        None
-    }
 }
 
 #[tactic(auto, unfolding(crate::specs::Effects::whole_words))]
@@ -227,9 +194,6 @@ fn known_effect(word: &[u8]) -> Option<Effect>
     if let Some(effect) = whole_effect(whole_words(), word) {
         return Some(effect);
     }
-    if let Some(effect) = valued_effect(word) {
-        return Some(effect);
-    }
     front_effect(fronts(), word)
 }
 
@@ -238,6 +202,27 @@ pub(crate) fn effect_of(word: &[u8]) -> Effect
     ensures { result ≡ effect_of word.now }
 {
     known_effect(word).unwrap_or(Effect::Exact)
+}
+
+/// A word, and what it does.
+#[derive(Debug, Clone, Copy)]
+pub(crate) struct Judged<'a> {
+    pub(crate) word: &'a [u8],
+    pub(crate) effect: Effect,
+}
+
+/// The words, each with what it does.
+pub(crate) fn judged_words<'a>(alloc: Global, words: &'a [Vec<u8>]) -> Mem<Vec<Judged<'a>>>
+    ensures { IfOk result (λ found. all_judged found.items ≡ judged_in (words_of words.now)) }
+{
+    let mut found = Vec::new(alloc);
+    for word in words {
+        found.push(Judged {
+            word,
+            effect: effect_of(word),
+        })?;
+    }
+    Ok(found)
 }
 
 /// What a word for the assembler does.
@@ -279,7 +264,7 @@ impl Effect {
     }
 }
 
-/// Appends what stands behind each such byte of a text.
+/// Appends what stands after each such byte of a text.
 pub(crate) fn push_suffixes<'a>(found: &mut Vec<&'a [u8]>, mark: u8, text: &'a [u8]) -> Mem<()>
     ensures { OnOk result (map (λ word. word.now) found.new.items ≡ map (λ word. word.now) found.old.items ++ suffixes mark text.now) }
 {
@@ -291,7 +276,7 @@ pub(crate) fn push_suffixes<'a>(found: &mut Vec<&'a [u8]>, mark: u8, text: &'a [
     Ok(())
 }
 
-/// Appends the words that a word hands to the assembler, each with those behind it.
+/// Appends the words that a word hands to the assembler, each with those after it.
 fn push_handed<'a>(found: &mut Vec<&'a [u8]>, word: &'a [u8]) -> Mem<()>
     ensures { OnOk result (map (λ word. word.now) found.new.items ≡ map (λ word. word.now) found.old.items ++ handed_words word.now) }
 {
@@ -312,7 +297,7 @@ fn push_all_handed<'a>(found: &mut Vec<&'a [u8]>, words: &'a [Vec<u8>]) -> Mem<(
     Ok(())
 }
 
-/// Appends the words behind each word that is this flag.
+/// Appends the words after each word that is this flag.
 pub(crate) fn push_behind<'a>(
     found: &mut Vec<&'a [u8]>,
     flag: &[u8],
@@ -332,7 +317,7 @@ pub(crate) fn push_behind<'a>(
     Ok(())
 }
 
-/// The words for the assembler among words of a command. It fails only for want of memory.
+/// The words for the assembler among words of a command.
 pub(crate) fn assembler_words<'a>(alloc: Global, words: &'a [Vec<u8>]) -> Mem<Vec<&'a [u8]>>
     ensures { IfOk result (λ found. map (λ word. word.now) found.items ≡ assembler_words (words_of words.now)) }
 {

@@ -1,14 +1,15 @@
 //! The words of the preprocessor: what each brings in, and whether the text of a run has all of that.
-ghost use Rattle.std.specs.Prelude.{◌≡◌, ◌++◌, map, filter, drop, IfOk, OnOk};
-ghost use Rattle.std.specs.List.{list_all};
+ghost use Rattle.std.specs.Prelude.{◌≡◌, ◌++◌, map, drop, IfOk, OnOk};
+ghost use Rattle.std.specs.List.{list_all, list_any};
 ghost use Rattle.std.specs.Option.{option_map};
 ghost use Rattle.scl_values.specs.Words.{words_of};
 ghost use Rattle.scl_text.specs.Records.{parsed_of};
-ghost use Rattle.scl_key.specs.Given.{awaited_by, awaited_next, flags, flags_of, given_by, given_in, given_last, given_now, given_unless, has_macros, is_known, is_lone_flag, is_text, joined_by, shows, values_of};
+ghost use Rattle.scl_key.specs.Given.{awaited_by, awaited_next, flags, flags_of, given_by, given_in, given_last, given_now, given_unless, has_macros, is_known, is_lone_flag, is_text, joined_by, shows, shows_by, values_among};
 ghost use Rattle.scl_key.specs.GivenViews.{given_of, all_given};
-ghost use Rattle.scl_key.specs.contracts.given.BringsPartialEq.TheImpl.{ghosts};
+ghost use Rattle.scl_key.specs.Effects.{judged_in, keeps_macros};
+ghost use Rattle.scl_key.specs.JudgedViews.{all_judged};
 
-use crate::effect::effect_of;
+use crate::effect::{Judged, judged_words};
 use crate::family::is_gnu;
 use scl_reader::Compiler;
 use scl_text::Mem;
@@ -23,7 +24,7 @@ pub enum Brings {
     Folder,
     /// A header that is included first.
     Header,
-    /// A file of which the macros alone are read.
+    /// A file of which only the macros are read.
     MacroFile,
     /// What else the text of a run shows.
     Other,
@@ -59,8 +60,8 @@ const NO_INCLUDES: &[u8] = b"-nostdinc";
 /// The flag by which no folder of the system is searched for headers of C++.
 const NO_CXX_INCLUDES: &[u8] = b"-nostdinc++";
 
-/// What the next word brings in, where this one is a flag that has its value there.
-fn awaited_by(flags: &[(&'static str, Brings)], word: &[u8]) -> Option<Brings>
+/// What the next word brings in, if this one is a flag that has its value there.
+pub(crate) fn awaited_by(flags: &[(&'static str, Brings)], word: &[u8]) -> Option<Brings>
     ensures { result ≡ awaited_by (flags_of flags.now) word.now }
 {
     for (flag, brings) in flags {
@@ -71,7 +72,7 @@ fn awaited_by(flags: &[(&'static str, Brings)], word: &[u8]) -> Option<Brings>
     None
 }
 
-/// The bytes behind so many of these.
+/// The bytes after this many.
 fn behind(word: &[u8], count: usize) -> &[u8]
     ensures { result.now ≡ drop count word.now }
 {
@@ -94,7 +95,7 @@ fn joined_by<'a>(flags: &[(&'static str, Brings)], word: &'a [u8]) -> Option<Giv
 }
 
 #[tactic(auto, unfolding(crate::specs::Given::flags))]
-fn all_flags() -> &'static [(&'static str, Brings)]
+pub(crate) fn all_flags() -> &'static [(&'static str, Brings)]
     ensures { flags_of result.now ≡ flags }
 {
     &FLAGS
@@ -107,8 +108,8 @@ fn is_lone_flag(word: &[u8]) -> bool
     word == NO_INCLUDES || word == NO_CXX_INCLUDES
 }
 
-/// What a word brings in that has no value behind it.
-fn given_by(word: &[u8]) -> Given<'_>
+/// What a word brings in that has no value after it.
+pub(crate) fn given_by(word: &[u8]) -> Given<'_>
     ensures { given_of result ≡ given_by word.now }
 {
     if is_lone_flag(word) {
@@ -126,8 +127,8 @@ fn given_by(word: &[u8]) -> Given<'_>
     }
 }
 
-/// What is awaited behind a word.
-fn awaited_next(awaited: Option<Brings>, word: &[u8]) -> Option<Brings>
+/// What is awaited after a word.
+pub(crate) fn awaited_next(awaited: Option<Brings>, word: &[u8]) -> Option<Brings>
     ensures { result ≡ awaited_next awaited word.now }
 {
     match awaited {
@@ -136,7 +137,7 @@ fn awaited_next(awaited: Option<Brings>, word: &[u8]) -> Option<Brings>
     }
 }
 
-/// Appends what a word brings in that is no flag with its value behind it.
+/// Appends what a word brings in that is no flag with its value after it.
 fn push_unless<'a>(given: &mut Vec<Given<'a>>, awaited: Option<Brings>, word: &'a [u8]) -> Mem<()>
     ensures { OnOk result (all_given given.new.items ≡ all_given given.old.items ++ given_unless awaited word.now) }
 {
@@ -175,7 +176,7 @@ fn push_last(given: &mut Vec<Given<'_>>, awaited: Option<Brings>) -> Mem<()>
     Ok(())
 }
 
-/// What the words of the preprocessor bring in. It fails only for want of memory.
+/// What the words of the preprocessor bring in.
 fn given_in<'a>(alloc: Global, words: &'a [Vec<u8>]) -> Mem<Vec<Given<'a>>>
     ensures { IfOk result (λ given. all_given given.items ≡ given_in (words_of words.now)) }
 {
@@ -202,8 +203,12 @@ impl Brings {
 }
 
 /// The values that bring in this.
-fn values_among<'a>(alloc: Global, brings: Brings, given: &[Given<'a>]) -> Mem<Vec<&'a [u8]>>
-    ensures { IfOk result (λ values. map (λ value. value.now) values.items ≡ map (λ g. g.value) (filter (λ g. ghosts.eq g.brings brings) (all_given given.now))) }
+pub(crate) fn values_among<'a>(
+    alloc: Global,
+    brings: Brings,
+    given: &[Given<'a>],
+) -> Mem<Vec<&'a [u8]>>
+    ensures { IfOk result (λ values. map (λ value. value.now) values.items ≡ values_among brings (all_given given.now)) }
 {
     let mut values = Vec::new(alloc);
     for one in given {
@@ -214,20 +219,8 @@ fn values_among<'a>(alloc: Global, brings: Brings, given: &[Given<'a>]) -> Mem<V
     Ok(values)
 }
 
-/// The values that bring in this, among the words of the preprocessor.
-pub(crate) fn values_of<'a>(
-    alloc: Global,
-    brings: Brings,
-    words: &'a [Vec<u8>],
-) -> Mem<Vec<&'a [u8]>>
-    ensures { IfOk result (λ values. map (λ value. value.now) values.items ≡ values_of brings (words_of words.now)) }
-{
-    let given = given_in(alloc, words)?;
-    values_among(alloc, brings, &given)
-}
-
 /// Whether what is compiled is a text that a run shows: no header, of which macros are kept, and no assembler.
-fn is_text(language: Language) -> bool
+pub(crate) fn is_text(language: Language) -> bool
     ensures { result ≡ is_text language }
 {
     match language {
@@ -246,12 +239,12 @@ fn is_text(language: Language) -> bool
     }
 }
 
-/// Whether macros come into the outcome.
-pub(crate) fn has_macros(parsed: &ParsedArguments) -> bool
-    ensures { result ≡ has_macros (parsed_of parsed.now) }
+/// Whether one of these words brings macros into the outcome.
+fn has_macros(common: &[Judged<'_>]) -> bool
+    ensures { result ≡ list_any (λ j. keeps_macros j.effect) (all_judged common.now) }
 {
-    for word in parsed.common_args.iter() {
-        if effect_of(word).keeps_macros() {
+    for one in common {
+        if one.effect.keeps_macros() {
             return true;
         }
     }
@@ -259,7 +252,7 @@ pub(crate) fn has_macros(parsed: &ParsedArguments) -> bool
 }
 
 /// Whether the text of a run has all of these.
-fn all_known(given: &[Given<'_>]) -> bool
+pub(crate) fn all_known(given: &[Given<'_>]) -> bool
     ensures { result ≡ list_all (λ g. is_known g.brings) (all_given given.now) }
 {
     for one in given {
@@ -270,21 +263,45 @@ fn all_known(given: &[Given<'_>]) -> bool
     true
 }
 
-/// Whether the text of a run has all that the words bring in.
-fn are_known(alloc: Global, words: &[Vec<u8>]) -> Mem<bool>
-    ensures { IfOk result (λ are. are ≡ list_all (λ g. is_known g.brings) (given_in (words_of words.now))) }
+/// Whether each run shows all that the words of the preprocessor bring in, so that they are no part of the key.
+fn shows(compiler: Compiler, language: Language, macros: bool, given: &[Given<'_>]) -> bool
+    ensures { result ≡ shows_by compiler language macros (all_given given.now) }
 {
-    let given = given_in(alloc, words)?;
-    Ok(all_known(&given))
+    is_gnu(compiler) && is_text(language) && !macros && all_known(given)
 }
 
-/// Whether each run shows all that the words of the preprocessor bring in, so that they are no part of the key (docs/RULES.md,
-/// Keys). It fails only for want of memory.
-pub fn shows(alloc: Global, compiler: Compiler, parsed: &ParsedArguments) -> Mem<bool>
-    ensures { IfOk result (λ are. are ≡ shows compiler (parsed_of parsed.now)) }
+/// What is known of a record.
+#[derive(Drop)]
+pub(crate) struct Known<'a> {
+    /// The common words, each with what it does.
+    pub(crate) common: Vec<Judged<'a>>,
+    /// What the words of the preprocessor bring in.
+    pub(crate) given: Vec<Given<'a>>,
+    /// Whether macros come into the outcome.
+    pub(crate) has_macros: bool,
+    /// Whether each run shows all that the words of the preprocessor bring in, so that they are no part of the key.
+    pub(crate) is_shown: bool,
+}
+
+/// What is known of a record. It is computed once for each key.
+pub(crate) fn known_of<'a>(
+    alloc: Global,
+    compiler: Compiler,
+    parsed: &'a ParsedArguments,
+) -> Mem<Known<'a>>
+    ensures common { IfOk result (λ known. all_judged known.common.items ≡ judged_in (parsed_of parsed.now).common_args) }
+    ensures given { IfOk result (λ known. all_given known.given.items ≡ given_in (parsed_of parsed.now).preprocessor_args) }
+    ensures macros { IfOk result (λ known. known.has_macros ≡ has_macros (parsed_of parsed.now)) }
+    ensures shown { IfOk result (λ known. known.is_shown ≡ shows compiler (parsed_of parsed.now)) }
 {
-    if !is_gnu(compiler) || !is_text(parsed.language) || has_macros(parsed) {
-        return Ok(false);
-    }
-    are_known(alloc, &parsed.preprocessor_args)
+    let common = judged_words(alloc, &parsed.common_args)?;
+    let given = given_in(alloc, &parsed.preprocessor_args)?;
+    let macros = has_macros(&common);
+    let is_shown = shows(compiler, parsed.language, macros, &given);
+    Ok(Known {
+        common,
+        given,
+        has_macros: macros,
+        is_shown,
+    })
 }

@@ -5,19 +5,23 @@ ghost use Rattle.scl_values.specs.Words.{words_of};
 ghost use Rattle.scl_text.specs.Commands.{pairs_of};
 ghost use Rattle.scl_text.specs.Records.{parsed_of};
 ghost use Rattle.scl_description.specs.Rows.{entries_text};
-ghost use Rattle.scl_key.specs.Effects.{effect_of, is_plain};
-ghost use Rattle.scl_key.specs.Given.{headers};
-ghost use Rattle.scl_key.specs.Keys.{asked_each, asked_parts, assembler_reading, file_parts, keeping_entries, key_of, keeping_of, named_each, precompiled_parts, reading, refusals, response_files, searched, source_parts, stamps_times, telling_of, text_is_enough, text_parts};
+ghost use Rattle.scl_key.specs.Directs.{direct_entries, directs};
+ghost use Rattle.scl_key.specs.Effects.{is_plain, judged_in};
+ghost use Rattle.scl_key.specs.Given.{given_in, has_macros, headers, shows};
+ghost use Rattle.scl_key.specs.GivenViews.{all_given};
+ghost use Rattle.scl_key.specs.JudgedViews.{all_judged};
+ghost use Rattle.scl_key.specs.Keys.{asked_each, asked_parts, assembler_reading, file_parts, keeping_entries, key_of, keeping_of, named_each, precompiled_parts, reading, refusals, response_files, searched, stamps_times, telling_of, text_parts, under};
 ghost use Rattle.scl_key.specs.Made.{made};
-ghost use Rattle.scl_key.specs.Parts.{asked, output, times};
+ghost use Rattle.scl_key.specs.Parts.{asked, key_entries, output, sources, times};
 ghost use Rattle.scl_key.specs.Runs.{is_assembler};
-ghost use Rattle.scl_key.specs.Views.{outputs_of, parts_of, run_words_of};
+ghost use Rattle.scl_key.specs.Views.{directs_of, outputs_of, parts_of, run_words_of};
 ghost use Rattle.scl_key.specs.Views.{keeping_of as keeping_told};
 ghost use Rattle.scl_key.specs.declared.part.Ask.TheVariants as Ask;
 
-use crate::effect::effect_of;
+use crate::direct::{Direct, directs, push_directs};
+use crate::effect::Judged;
 use crate::family::{folder_variables, is_clang, is_gcc, unset_variables, variables};
-use crate::given::{Brings, shows, values_of};
+use crate::given::{Brings, Given, Known, known_of, values_among};
 use crate::made::made;
 use crate::no_key::{NoKey, no_keys, push_no_rows};
 use crate::part::{Ask, Output, Part, push_key};
@@ -34,8 +38,8 @@ use std::alloc::Global;
 /// What is said of keeping what a command line makes (docs/RULES.md, Keys).
 #[derive(Debug, PartialEq, Eq, Drop)]
 pub enum Keeping {
-    /// It may be kept, under this key.
-    Under(Vec<Part>),
+    /// It may be kept, under this key; with what direct mode needs, if it may be used.
+    Under(Vec<Part>, Vec<Direct>),
     /// No key can be right, for these reasons.
     Not(Vec<NoKey>),
 }
@@ -50,11 +54,11 @@ const CLANG_TELLING: &str =
 
 /// What in a text reads a file that nobody names, or may: an assembler's directives, and its macros that make such.
 const READING: &str =
-    "(^|[^])A-Za-z0-9_.$]|\\\\[nt])\\.inc(bin|lude)([^A-Za-z0-9_]|$)|^[ \t]*#[ \t]*embed|\\.[A-Za-z0-9_]*\\\\\\\\[A-Za-z0-9_(@]";
+    "(^|[^])A-Za-z0-9_.$]|\\\\[nt])\\.[Ii][Nn][Cc]([Bb][Ii][Nn]|[Ll][Uu][Dd][Ee])([^A-Za-z0-9_]|$)|^[ \t]*#[ \t]*embed|\\.[A-Za-z0-9_]*\\\\\\\\[A-Za-z0-9_(@]";
 
 /// The same in assembler.
 const ASSEMBLER_READING: &str =
-    "(^|[^])A-Za-z0-9_.$]|\\\\[nt])\\.inc(bin|lude)([^A-Za-z0-9_]|$)|\\.[A-Za-z0-9_]*\\\\[A-Za-z0-9_(@]";
+    "(^|[^])A-Za-z0-9_.$]|\\\\[nt])\\.[Ii][Nn][Cc]([Bb][Ii][Nn]|[Ll][Uu][Dd][Ee])([^A-Za-z0-9_]|$)|\\.[A-Za-z0-9_]*\\\\[A-Za-z0-9_(@]";
 
 /// The word by which clang's precompiled header stores no times.
 const NO_TIMES: &[u8] = b"-fno-pch-timestamp";
@@ -103,7 +107,7 @@ fn push_asked_variables(
     Ok(())
 }
 
-/// The response files that the given words name, where those are run.
+/// The response files that the given words name, if those are run.
 fn response_files<'a>(words: RunWords<'a>) -> &'a [Vec<u8>]
     ensures { words_of result.now ≡ response_files (run_words_of words.entry) }
 {
@@ -113,7 +117,7 @@ fn response_files<'a>(words: RunWords<'a>) -> &'a [Vec<u8>]
     }
 }
 
-/// Appends names, each behind what it is.
+/// Appends names, each after what it is.
 fn push_named_each(alloc: Global, words: &mut Vec<Vec<u8>>, what: &str, names: &[&[u8]]) -> Mem<()>
     ensures { OnOk result (words_of words.new.items ≡ words_of words.old.items ++ named_each what.now (map (λ name. name.now) names.now)) }
 {
@@ -124,7 +128,7 @@ fn push_named_each(alloc: Global, words: &mut Vec<Vec<u8>>, what: &str, names: &
     Ok(())
 }
 
-/// Appends variables, each behind what it is.
+/// Appends variables, each after what it is.
 fn push_named_variables(
     alloc: Global,
     words: &mut Vec<Vec<u8>>,
@@ -141,13 +145,13 @@ fn push_named_variables(
 }
 
 /// Where Gcc searches what it may read in the place of the first header.
-fn searched(alloc: Global, parsed: &ParsedArguments) -> Mem<Vec<Vec<u8>>>
+fn searched(alloc: Global, given: &[Given<'_>], parsed: &ParsedArguments) -> Mem<Vec<Vec<u8>>>
+    requires given { all_given given.now ≡ given_in (parsed_of parsed.now).preprocessor_args }
     ensures { IfOk result (λ words. words_of words.items ≡ searched (parsed_of parsed.now)) }
 {
     let mut words = Vec::new(alloc);
-    let given = parsed.preprocessor_args.as_slice();
-    let headers = values_of(alloc, Brings::Header, given)?;
-    let folders = values_of(alloc, Brings::Folder, given)?;
+    let headers = values_among(alloc, Brings::Header, given)?;
+    let folders = values_among(alloc, Brings::Folder, given)?;
     push_named_each(alloc, &mut words, "header", &headers)?;
     push_named_each(alloc, &mut words, "beside", &[parsed.input.as_slice()])?;
     push_named_each(alloc, &mut words, "folder", &folders)?;
@@ -160,32 +164,27 @@ fn push_precompiled(
     alloc: Global,
     parts: &mut Vec<Part>,
     compiler: Compiler,
+    given: &[Given<'_>],
     parsed: &ParsedArguments,
 ) -> Mem<()>
+    requires given { all_given given.now ≡ given_in (parsed_of parsed.now).preprocessor_args }
     ensures { OnOk result (parts_of parts.new.items ≡ parts_of parts.old.items ++ precompiled_parts compiler (parsed_of parsed.now)) }
 {
     if is_gcc(compiler) {
-        parts.push(Part::Pch(searched(alloc, parsed)?))?;
+        parts.push(Part::Pch(searched(alloc, given, parsed)?))?;
     }
     Ok(())
 }
 
-fn are_plain(words: &[Vec<u8>]) -> bool
-    ensures { result ≡ list_all (λ word. is_plain (effect_of word)) (words_of words.now) }
+fn are_plain(words: &[Judged<'_>]) -> bool
+    ensures { result ≡ list_all (λ j. is_plain j.effect) (all_judged words.now) }
 {
-    for word in words {
-        if !effect_of(word).is_plain() {
+    for one in words {
+        if !one.effect.is_plain() {
             return false;
         }
     }
     true
-}
-
-/// Whether the outcome has nothing of the sources that the text of a run lacks.
-fn text_is_enough(alloc: Global, compiler: Compiler, parsed: &ParsedArguments) -> Mem<bool>
-    ensures { IfOk result (λ is. is ≡ text_is_enough compiler (parsed_of parsed.now)) }
-{
-    Ok(shows(alloc, compiler, parsed)? && are_plain(&parsed.common_args))
 }
 
 fn telling_of(compiler: Compiler) -> &'static str
@@ -203,11 +202,11 @@ fn push_sources(
     alloc: Global,
     parts: &mut Vec<Part>,
     compiler: Compiler,
-    parsed: &ParsedArguments,
+    text_is_enough: bool,
 ) -> Mem<()>
-    ensures { OnOk result (parts_of parts.new.items ≡ parts_of parts.old.items ++ source_parts compiler (parsed_of parsed.now)) }
+    ensures { OnOk result (parts_of parts.new.items ≡ parts_of parts.old.items ++ (if text_is_enough then asked Ask.SourcesIfShown (telling_of compiler) ∷ [] else sources ∷ [])) }
 {
-    if text_is_enough(alloc, compiler, parsed)? {
+    if text_is_enough {
         push_asked(
             alloc,
             parts,
@@ -226,7 +225,7 @@ fn stamps_times(compiler: Compiler, parsed: &ParsedArguments) -> bool
     is_clang(compiler) && is_header(parsed.language) && !is_among(NO_TIMES, &parsed.common_args)
 }
 
-/// Appends the times of the sources, where the outcome has them.
+/// Appends the times of the sources, if the outcome has them.
 fn push_times(parts: &mut Vec<Part>, compiler: Compiler, parsed: &ParsedArguments) -> Mem<()>
     ensures { OnOk result (parts_of parts.new.items ≡ parts_of parts.old.items ++ (if stamps_times compiler (parsed_of parsed.now) then times ∷ [] else [])) }
 {
@@ -261,24 +260,33 @@ fn push_files(
     parts: &mut Vec<Part>,
     compiler: Compiler,
     words: RunWords<'_>,
+    known: &Known<'_>,
     parsed: &ParsedArguments,
 ) -> Mem<()>
+    requires common { all_judged known.now.common.items ≡ judged_in (parsed_of parsed.now).common_args }
+    requires given { all_given known.now.given.items ≡ given_in (parsed_of parsed.now).preprocessor_args }
     ensures { OnOk result (parts_of parts.new.items ≡ parts_of parts.old.items ++ file_parts compiler (run_words_of words.entry) (parsed_of parsed.now)) }
 {
     push_asked_variables(alloc, parts, Ask::Env, variables(compiler))?;
     push_asked_variables(alloc, parts, Ask::Unset, unset_variables(compiler))?;
     push_asked_each(alloc, parts, Ask::File, &parsed.extra_hash_files)?;
     push_asked_each(alloc, parts, Ask::File, response_files(words))?;
-    let paths = files_perhaps(alloc, compiler, parsed)?;
+    let paths = files_perhaps(alloc, compiler, known, parsed)?;
     push_asked_each(alloc, parts, Ask::Maybe, &paths)
 }
 
 /// Appends what must be a regular file, if anything.
-fn push_regular(alloc: Global, parts: &mut Vec<Part>, parsed: &ParsedArguments) -> Mem<()>
+fn push_regular(
+    alloc: Global,
+    parts: &mut Vec<Part>,
+    given: &[Given<'_>],
+    parsed: &ParsedArguments,
+) -> Mem<()>
+    requires given { all_given given.now ≡ given_in (parsed_of parsed.now).preprocessor_args }
     ensures { OnOk result (parts_of parts.new.items ≡ parts_of parts.old.items ++ asked_each Ask.Regular ((parsed_of parsed.now).input ∷ headers (parsed_of parsed.now))) }
 {
     push_asked(alloc, parts, Ask::Regular, &parsed.input)?;
-    let headers = values_of(alloc, Brings::Header, &parsed.preprocessor_args)?;
+    let headers = values_among(alloc, Brings::Header, given)?;
     push_asked_values(alloc, parts, Ask::Regular, &headers)
 }
 
@@ -287,13 +295,19 @@ fn push_texts(
     alloc: Global,
     parts: &mut Vec<Part>,
     compiler: Compiler,
+    known: &Known<'_>,
     parsed: &ParsedArguments,
 ) -> Mem<()>
+    requires common { all_judged known.now.common.items ≡ judged_in (parsed_of parsed.now).common_args }
+    requires given { all_given known.now.given.items ≡ given_in (parsed_of parsed.now).preprocessor_args }
+    requires macros { known.now.has_macros ≡ has_macros (parsed_of parsed.now) }
+    requires shown { known.now.is_shown ≡ shows compiler (parsed_of parsed.now) }
     ensures { OnOk result (parts_of parts.new.items ≡ parts_of parts.old.items ++ text_parts compiler (parsed_of parsed.now)) }
 {
-    push_runs(alloc, parts, compiler, parsed)?;
-    push_precompiled(alloc, parts, compiler, parsed)?;
-    push_sources(alloc, parts, compiler, parsed)?;
+    push_runs(alloc, parts, compiler, known.has_macros, parsed)?;
+    push_precompiled(alloc, parts, compiler, &known.given, parsed)?;
+    let text_is_enough = known.is_shown && are_plain(&known.common);
+    push_sources(alloc, parts, compiler, text_is_enough)?;
     push_times(parts, compiler, parsed)?;
     push_refusals(alloc, parts, parsed)
 }
@@ -304,16 +318,21 @@ fn push_asking(
     parts: &mut Vec<Part>,
     compiler: Compiler,
     words: RunWords<'_>,
+    known: &Known<'_>,
     parsed: &ParsedArguments,
 ) -> Mem<()>
+    requires common { all_judged known.now.common.items ≡ judged_in (parsed_of parsed.now).common_args }
+    requires given { all_given known.now.given.items ≡ given_in (parsed_of parsed.now).preprocessor_args }
+    requires macros { known.now.has_macros ≡ has_macros (parsed_of parsed.now) }
+    requires shown { known.now.is_shown ≡ shows compiler (parsed_of parsed.now) }
     ensures { OnOk result (parts_of parts.new.items ≡ parts_of parts.old.items ++ asked_parts compiler (run_words_of words.entry) (parsed_of parsed.now)) }
 {
     parts.push(Part::Directory)?;
     parts.push(Part::Compiler)?;
     push_plans(alloc, parts, compiler, parsed)?;
-    push_files(alloc, parts, compiler, words, parsed)?;
-    push_regular(alloc, parts, parsed)?;
-    push_texts(alloc, parts, compiler, parsed)
+    push_files(alloc, parts, compiler, words, known, parsed)?;
+    push_regular(alloc, parts, &known.given, parsed)?;
+    push_texts(alloc, parts, compiler, known, parsed)
 }
 
 /// Appends the files that come out.
@@ -332,21 +351,81 @@ fn key_with(
     compiler: Compiler,
     environment: &[(Vec<u8>, Vec<u8>)],
     words: RunWords<'_>,
+    known: &Known<'_>,
     parsed: &ParsedArguments,
     outputs: &[Output],
 ) -> Mem<Vec<Part>>
+    requires common { all_judged known.now.common.items ≡ judged_in (parsed_of parsed.now).common_args }
+    requires given { all_given known.now.given.items ≡ given_in (parsed_of parsed.now).preprocessor_args }
+    requires macros { known.now.has_macros ≡ has_macros (parsed_of parsed.now) }
+    requires shown { known.now.is_shown ≡ shows compiler (parsed_of parsed.now) }
     requires outputs { outputs_of outputs.now ≡ made (parsed_of parsed.now) }
     ensures { IfOk result (λ key. parts_of key.items ≡ key_of compiler (pairs_of environment.now) (run_words_of words.entry) (parsed_of parsed.now)) }
 {
     let mut parts = Vec::new(alloc);
-    push_told(alloc, &mut parts, compiler, environment, words, parsed)?;
+    push_told(
+        alloc,
+        &mut parts,
+        compiler,
+        environment,
+        words,
+        known.is_shown,
+        parsed,
+    )?;
     push_outputs(alloc, &mut parts, outputs)?;
-    push_asking(alloc, &mut parts, compiler, words, parsed)?;
+    push_asking(alloc, &mut parts, compiler, words, known, parsed)?;
     Ok(parts)
 }
 
+/// The key of a record, with these outputs, and what direct mode needs.
+fn kept(
+    alloc: Global,
+    compiler: Compiler,
+    environment: &[(Vec<u8>, Vec<u8>)],
+    words: RunWords<'_>,
+    known: &Known<'_>,
+    parsed: &ParsedArguments,
+    outputs: &[Output],
+) -> Mem<Keeping>
+    requires common { all_judged known.now.common.items ≡ judged_in (parsed_of parsed.now).common_args }
+    requires given { all_given known.now.given.items ≡ given_in (parsed_of parsed.now).preprocessor_args }
+    requires macros { known.now.has_macros ≡ has_macros (parsed_of parsed.now) }
+    requires shown { known.now.is_shown ≡ shows compiler (parsed_of parsed.now) }
+    requires outputs { outputs_of outputs.now ≡ made (parsed_of parsed.now) }
+    ensures { IfOk result (λ keeping. keeping_told keeping ≡ under (key_of compiler (pairs_of environment.now) (run_words_of words.entry) (parsed_of parsed.now)) (directs compiler (parsed_of parsed.now))) }
+{
+    let key = key_with(alloc, compiler, environment, words, known, parsed, outputs)?;
+    let direct = directs(alloc, compiler, known, parsed)?;
+    Ok(Keeping::Under(key, direct))
+}
+
+/// The key of a record, with these outputs, or why there is none.
+fn kept_unless(
+    alloc: Global,
+    compiler: Compiler,
+    environment: &[(Vec<u8>, Vec<u8>)],
+    words: RunWords<'_>,
+    known: &Known<'_>,
+    parsed: &ParsedArguments,
+    outputs: &[Output],
+) -> Mem<Keeping>
+    requires common { all_judged known.now.common.items ≡ judged_in (parsed_of parsed.now).common_args }
+    requires given { all_given known.now.given.items ≡ given_in (parsed_of parsed.now).preprocessor_args }
+    requires macros { known.now.has_macros ≡ has_macros (parsed_of parsed.now) }
+    requires shown { known.now.is_shown ≡ shows compiler (parsed_of parsed.now) }
+    requires outputs { outputs_of outputs.now ≡ made (parsed_of parsed.now) }
+    ensures { IfOk result (λ keeping. keeping_told keeping ≡ keeping_of compiler (pairs_of environment.now) (run_words_of words.entry) (parsed_of parsed.now)) }
+{
+    let why = no_keys(alloc, compiler, words, &known.common, parsed, outputs)?;
+    if !why.is_empty() {
+        return Ok(Keeping::Not(why));
+    }
+    let keeping = kept(alloc, compiler, environment, words, known, parsed, outputs)?;
+    Ok(keeping)
+}
+
 /// The key of a record that this compiler read, or why there is none: with the environment that its command gets, and the
-/// words that a cache runs at a miss (docs/RULES.md, Keys). It fails only for want of memory.
+/// words that a cache runs at a miss (docs/RULES.md, Keys).
 pub fn key_of(
     alloc: Global,
     compiler: Compiler,
@@ -356,21 +435,34 @@ pub fn key_of(
 ) -> Mem<Keeping>
     ensures { IfOk result (λ keeping. keeping_told keeping ≡ keeping_of compiler (pairs_of environment.now) (run_words_of words.entry) (parsed_of parsed.now)) }
 {
+    let known = known_of(alloc, compiler, parsed)?;
     let outputs = made(alloc, parsed)?;
-    let why = no_keys(alloc, compiler, words, parsed, &outputs)?;
-    if !why.is_empty() {
-        return Ok(Keeping::Not(why));
-    }
-    let key = key_with(alloc, compiler, environment, words, parsed, &outputs)?;
-    Ok(Keeping::Under(key))
+    let keeping = kept_unless(
+        alloc,
+        compiler,
+        environment,
+        words,
+        &known,
+        parsed,
+        &outputs,
+    )?;
+    Ok(keeping)
 }
 
-/// Appends the rows of a key, `key ..`, or of why there is none, `keep no REASON W`. It fails only for want of memory.
+/// Appends the rows of a key, and those of direct mode.
+fn push_under(text: &mut Vec<u8>, key: &[Part], direct: &[Direct]) -> Mem<()>
+    ensures { OnOk result (text.new.items ≡ text.old.items ++ entries_text (key_entries (parts_of key.now) ++ direct_entries (directs_of direct.now))) }
+{
+    push_key(text, key)?;
+    push_directs(text, direct)
+}
+
+/// Appends the rows of a key, `key ..` and `direct ..`, or of why there is none, `keep no REASON W`.
 pub fn push_keeping(text: &mut Vec<u8>, keeping: &Keeping) -> Mem<()>
     ensures { OnOk result (text.new.items ≡ text.old.items ++ entries_text (keeping_entries (keeping_told keeping.now))) }
 {
     match keeping {
-        Keeping::Under(key) => push_key(text, key),
+        Keeping::Under(key, direct) => push_under(text, key, direct),
         Keeping::Not(why) => push_no_rows(text, why),
     }
 }

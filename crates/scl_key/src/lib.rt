@@ -1,6 +1,8 @@
 //! The key of a command line: what a cache hashes as it stands, and what it asks and hashes.
 #![tactic(auto)]
 
+mod direct;
+mod doings;
 mod effect;
 mod family;
 mod given;
@@ -13,8 +15,10 @@ mod reads;
 mod runs;
 mod told;
 
+pub use direct::Direct;
+pub use doings::with_effects;
 pub use effect::Effect;
-pub use given::{Brings, shows};
+pub use given::Brings;
 pub use key::{Keeping, key_of, push_keeping};
 pub use no_key::{NoKey, Reason};
 pub use part::{Ask, Output, Part, push_key};

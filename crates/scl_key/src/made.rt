@@ -73,7 +73,7 @@ fn push_named<'a>(alloc: Global, files: &mut Vec<&'a [u8]>, words: &'a [Vec<u8>]
     push_some(files, last_of(&named))
 }
 
-/// Appends the file that the words about dependencies name last, where one is written.
+/// Appends the file that the words about dependencies name last, if one is written.
 fn push_written<'a>(
     alloc: Global,
     files: &mut Vec<&'a [u8]>,
@@ -88,7 +88,7 @@ fn push_written<'a>(
     }
 }
 
-/// The files of dependencies. It fails only for want of memory.
+/// The files of dependencies.
 pub(crate) fn dependency_files<'a>(alloc: Global, parsed: &'a ParsedArguments) -> Mem<Vec<&'a [u8]>>
     ensures { IfOk result (λ files. map (λ file. file.now) files.items ≡ dependency_files (parsed_of parsed.now)) }
 {
@@ -164,7 +164,7 @@ fn push_lacking(
     Ok(())
 }
 
-/// All files that come out. It fails only for want of memory.
+/// All files that come out.
 pub(crate) fn made(alloc: Global, parsed: &ParsedArguments) -> Mem<Vec<Output>>
     ensures { IfOk result (λ outputs. outputs_of outputs.items ≡ made (parsed_of parsed.now)) }
 {

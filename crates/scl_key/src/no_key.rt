@@ -5,13 +5,14 @@ ghost use Rattle.scl_values.specs.Words.{words_of};
 ghost use Rattle.scl_text.specs.Records.{parsed_of};
 ghost use Rattle.scl_description.specs.Rows.{entries_text, entry_text, row_entry};
 ghost use Rattle.scl_files.specs.Paths.{same_path};
-ghost use Rattle.scl_key.specs.Effects.{assembler_effect, assembler_words, behind, suffixes, writes_unnamed};
+ghost use Rattle.scl_key.specs.Effects.{assembler_effect, assembler_words, behind, judged, judged_in, suffixes, writes_unnamed};
+ghost use Rattle.scl_key.specs.JudgedViews.{all_judged};
 ghost use Rattle.scl_key.specs.Keys.{asks_for_rules, hazards, hides_file, is_no_file, lost_files, no_key, no_key_by, no_key_entry, no_keys, no_keys_by_words, reason_name, reason_of, repeated, unnamed, unnamed_by};
 ghost use Rattle.scl_key.specs.Made.{dependency_files, made};
 ghost use Rattle.scl_key.specs.Views.{no_key_of, no_keys_of, outputs_of, paths_of, run_words_of};
 ghost use Rattle.scl_key.specs.declared.no_key.Reason.TheVariants as Reason;
 
-use crate::effect::{Effect, assembler_effect, assembler_words, effect_of, push_behind};
+use crate::effect::{Effect, Judged, assembler_effect, assembler_words, judged_words, push_behind};
 use crate::family::notes_by_runs;
 use crate::made::{dependency_files, handed_file};
 use crate::part::Output;
@@ -38,6 +39,8 @@ pub enum Reason {
     OnePathTwice,
     /// The built command has a hazard, and the given words are not known to make the outputs.
     Hazard,
+    /// The compiler reads, writes, asks or loads what no row of a key can stand for.
+    Effect,
 }
 
 /// Why there is no key: the reason, and the word, path or hazard.
@@ -63,6 +66,7 @@ impl Reason {
             Reason::OutputIsNoFile => "output-is-no-file",
             Reason::OnePathTwice => "one-path-twice",
             Reason::Hazard => "hazard",
+            Reason::Effect => "effect",
         }
     }
 }
@@ -118,24 +122,32 @@ fn push_each(alloc: Global, why: &mut Vec<NoKey>, reason: Reason, words: &[Vec<u
     Ok(())
 }
 
-/// Appends why there is no key for what a word does.
-fn push_by_word(alloc: Global, why: &mut Vec<NoKey>, word: &[u8]) -> Mem<()>
-    ensures { OnOk result (no_keys_of why.new.items ≡ no_keys_of why.old.items ++ no_key_by word.now) }
+/// Appends why there is no key for what a word with this effect does.
+fn push_by_effect(alloc: Global, why: &mut Vec<NoKey>, effect: Effect, word: &[u8]) -> Mem<()>
+    ensures { OnOk result (no_keys_of why.new.items ≡ no_keys_of why.old.items ++ no_key_by (judged word.now effect)) }
 {
-    match effect_of(word).reason() {
+    match effect.reason() {
         Some(reason) => push_no(alloc, why, reason, word),
         None => Ok(()),
     }
 }
 
 /// Appends why there is no key for what words do.
-fn push_by_words(alloc: Global, why: &mut Vec<NoKey>, words: &[Vec<u8>]) -> Mem<()>
-    ensures { OnOk result (no_keys_of why.new.items ≡ no_keys_of why.old.items ++ flat_map no_key_by (words_of words.now)) }
+fn push_by_effects(alloc: Global, why: &mut Vec<NoKey>, words: &[Judged<'_>]) -> Mem<()>
+    ensures { OnOk result (no_keys_of why.new.items ≡ no_keys_of why.old.items ++ flat_map no_key_by (all_judged words.now)) }
 {
-    for word in words {
-        push_by_word(alloc, why, word)?;
+    for one in words {
+        push_by_effect(alloc, why, one.effect, one.word)?;
     }
     Ok(())
+}
+
+/// Appends why there is no key for words of which nothing is known.
+fn push_by_words(alloc: Global, why: &mut Vec<NoKey>, words: &[Vec<u8>]) -> Mem<()>
+    ensures { OnOk result (no_keys_of why.new.items ≡ no_keys_of why.old.items ++ flat_map no_key_by (judged_in (words_of words.now))) }
+{
+    let words = judged_words(alloc, words)?;
+    push_by_effects(alloc, why, &words)
 }
 
 fn asks_for_rules(text: &[u8]) -> bool
@@ -144,7 +156,7 @@ fn asks_for_rules(text: &[u8]) -> bool
     text.starts_with(b"-M")
 }
 
-/// Whether what stands behind a comma of a word asks for rules.
+/// Whether what stands after a comma of a word asks for rules.
 fn some_asks(word: &[u8]) -> bool
     ensures { result ≡ list_any asks_for_rules (suffixes 44 word.now) }
 {
@@ -207,7 +219,7 @@ fn push_asking(alloc: Global, unnamed: &mut Vec<Vec<u8>>, words: &[&[u8]]) -> Me
     Ok(())
 }
 
-/// Appends the words behind `-Xpreprocessor` that ask for rules.
+/// Appends the words after `-Xpreprocessor` that ask for rules.
 fn push_behind_flag(alloc: Global, unnamed: &mut Vec<Vec<u8>>, words: &[Vec<u8>]) -> Mem<()>
     ensures { OnOk result (words_of unnamed.new.items ≡ words_of unnamed.old.items ++ filter asks_for_rules (behind (codes "-Xpreprocessor") false (words_of words.now))) }
 {
@@ -268,7 +280,7 @@ fn unnamed(alloc: Global, compiler: Compiler, parsed: &ParsedArguments) -> Mem<V
     Ok(words)
 }
 
-fn is_no_file(path: &[u8]) -> bool
+pub(crate) fn is_no_file(path: &[u8]) -> bool
     ensures { result ≡ is_no_file path.now }
 {
     path == STANDARD_OUTPUT || path.starts_with(b"/dev/") || path.starts_with(b"/proc/")
@@ -286,7 +298,7 @@ fn push_no_files(alloc: Global, why: &mut Vec<NoKey>, outputs: &[Output]) -> Mem
     Ok(())
 }
 
-fn has_path(path: &[u8], outputs: &[Output]) -> bool
+pub(crate) fn has_path(path: &[u8], outputs: &[Output]) -> bool
     ensures { result ≡ list_any (same_path path.now) (paths_of outputs.now) }
 {
     for output in outputs {
@@ -322,29 +334,37 @@ fn push_hazard(alloc: Global, why: &mut Vec<NoKey>, words: RunWords<'_>) -> Mem<
 }
 
 /// Appends why there is no key for what the words of a record do.
-fn push_by_record(alloc: Global, why: &mut Vec<NoKey>, parsed: &ParsedArguments) -> Mem<()>
+fn push_by_record(
+    alloc: Global,
+    why: &mut Vec<NoKey>,
+    common: &[Judged<'_>],
+    parsed: &ParsedArguments,
+) -> Mem<()>
+    requires common { all_judged common.now ≡ judged_in (parsed_of parsed.now).common_args }
     ensures { OnOk result (no_keys_of why.new.items ≡ no_keys_of why.old.items ++ no_keys_by_words (parsed_of parsed.now)) }
 {
     push_by_words(alloc, why, &parsed.preprocessor_args)?;
-    push_by_words(alloc, why, &parsed.common_args)?;
+    push_by_effects(alloc, why, common)?;
     push_by_words(alloc, why, &parsed.unhashed_args)?;
     push_by_words(alloc, why, &parsed.dependency_args)
 }
 
-/// Why there is no key, with these outputs. It fails only for want of memory.
+/// Why there is no key, with these outputs.
 pub(crate) fn no_keys(
     alloc: Global,
     compiler: Compiler,
     words: RunWords<'_>,
+    common: &[Judged<'_>],
     parsed: &ParsedArguments,
     outputs: &[Output],
 ) -> Mem<Vec<NoKey>>
+    requires common { all_judged common.now ≡ judged_in (parsed_of parsed.now).common_args }
     requires outputs { outputs_of outputs.now ≡ made (parsed_of parsed.now) }
     ensures { IfOk result (λ why. no_keys_of why.items ≡ no_keys compiler (run_words_of words.entry) (parsed_of parsed.now)) }
 {
     let mut why = Vec::new(alloc);
     push_hazard(alloc, &mut why, words)?;
-    push_by_record(alloc, &mut why, parsed)?;
+    push_by_record(alloc, &mut why, common, parsed)?;
     let unnamed = unnamed(alloc, compiler, parsed)?;
     push_each(alloc, &mut why, Reason::WritesUnnamed, &unnamed)?;
     push_no_files(alloc, &mut why, outputs)?;

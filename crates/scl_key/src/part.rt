@@ -17,17 +17,17 @@ use std::alloc::Global;
 pub enum Ask {
     /// The value of a variable, or that it is not set.
     Env,
-    /// That a variable is not set: where it is, nothing is kept.
+    /// That a variable is not set: if it is, nothing is kept.
     Unset,
-    /// The bytes of a file: where there is none, nothing is kept.
+    /// The bytes of a file: if there is none, nothing is kept.
     File,
     /// The bytes of a file, or that there is none.
     Maybe,
     /// That there is nothing but a regular file, if anything: else nothing is kept, and nothing is run first.
     Regular,
-    /// The sources, where a text has this pattern.
+    /// The sources, if a text has this pattern.
     SourcesIfShown,
-    /// That no text has this pattern: where one does, nothing is kept.
+    /// That no text has this pattern: if one does, nothing is kept.
     RefuseIfShown,
 }
 
@@ -59,7 +59,7 @@ pub enum Part {
     Asked(Ask, Vec<u8>),
     /// What the compiler writes for these words.
     Run(Vec<Vec<u8>>),
-    /// The same, where a run before it failed.
+    /// The same, if a run before it failed.
     RunElse(Vec<Vec<u8>>),
     /// The precompiled headers that a search meets: pairs of what is said, `header`, `beside`, `folder` or `variable`, and a
     /// name.
@@ -71,7 +71,7 @@ pub enum Part {
 }
 
 impl Output {
-    /// A copy. It fails only for want of memory.
+    /// A copy.
     pub(crate) fn copy(&self, alloc: Global) -> Mem<Output>
         ensures { IfOk result (λ copy. output_of copy ≡ output_of self.now) }
     {
@@ -120,7 +120,7 @@ impl Part {
     }
 }
 
-/// Appends fields, each behind a space.
+/// Appends fields, each after a space.
 fn push_all_behind(text: &mut Vec<u8>, words: &[Vec<u8>]) -> Mem<()>
     ensures { OnOk result (text.new.items ≡ text.old.items ++ fields_behind (words_of words.now)) }
 {
@@ -131,12 +131,12 @@ fn push_all_behind(text: &mut Vec<u8>, words: &[Vec<u8>]) -> Mem<()>
     Ok(())
 }
 
-/// Appends the row `key NAME W ..`.
+/// Appends the row `KIND NAME W ..`.
 #[tactic(auto, unfolding(scl_description::specs::Rows::entry_text))]
-fn push_named(text: &mut Vec<u8>, name: &str, words: &[Vec<u8>]) -> Mem<()>
-    ensures { OnOk result (text.new.items ≡ text.old.items ++ entry_text (row_entry (codes "key") (name.now ∷ words_of words.now))) }
+pub(crate) fn push_named(text: &mut Vec<u8>, kind: &str, name: &str, words: &[Vec<u8>]) -> Mem<()>
+    ensures { OnOk result (text.new.items ≡ text.old.items ++ entry_text (row_entry kind.now (name.now ∷ words_of words.now))) }
 {
-    push_field(text, b"key")?;
+    push_field(text, kind.as_bytes())?;
     text.push(b' ')?;
     push_field(text, name.as_bytes())?;
     push_all_behind(text, words)?;
@@ -168,21 +168,21 @@ fn push_part(text: &mut Vec<u8>, part: &Part) -> Mem<()>
     ensures { OnOk result (text.new.items ≡ text.old.items ++ entry_text (part_entry (part_of part.now))) }
 {
     match part {
-        Part::Is(row) => push_named(text, "is", row),
+        Part::Is(row) => push_named(text, "key", "is", row),
         Part::Output(output) => push_output(text, output),
         Part::Directory => push_word(text, "key", b"directory"),
         Part::Compiler => push_word(text, "key", b"compiler"),
-        Part::Plan(words) => push_named(text, "plan", words),
+        Part::Plan(words) => push_named(text, "key", "plan", words),
         Part::Asked(ask, name) => push_asked(text, ask.name(), name),
-        Part::Run(words) => push_named(text, "run", words),
-        Part::RunElse(words) => push_named(text, "run-else", words),
-        Part::Pch(searched) => push_named(text, "pch", searched),
+        Part::Run(words) => push_named(text, "key", "run", words),
+        Part::RunElse(words) => push_named(text, "key", "run-else", words),
+        Part::Pch(searched) => push_named(text, "key", "pch", searched),
         Part::Sources => push_word(text, "key", b"sources"),
         Part::Times => push_word(text, "key", b"times"),
     }
 }
 
-/// Appends the rows `key` of a key. It fails only for want of memory.
+/// Appends the rows `key` of a key.
 pub fn push_key(text: &mut Vec<u8>, key: &[Part]) -> Mem<()>
     ensures { OnOk result (text.new.items ≡ text.old.items ++ entries_text (key_entries (parts_of key.now))) }
 {

@@ -1,16 +1,21 @@
 //! The files that the words of a command may read, by what the words hold.
-ghost use Rattle.std.specs.Prelude.{◌≡◌, ◌++◌, ◌∷◌, [], map, filter, IfOk, OnOk};
+ghost use Rattle.std.specs.Prelude.{◌≡◌, ◌++◌, ◌∷◌, [], map, filter, if◌then◌else◌, IfOk, OnOk};
 ghost use Rattle.std.specs.List.{flat_map};
 ghost use Rattle.std.specs.Option.{option_copied};
 ghost use Rattle.scl_values.specs.Words.{words_of};
+ghost use Rattle.scl_text.specs.Commands.{object_of};
 ghost use Rattle.scl_text.specs.Records.{parsed_of};
-ghost use Rattle.scl_key.specs.Effects.{effect_of};
-ghost use Rattle.scl_key.specs.Given.{macro_files};
-ghost use Rattle.scl_key.specs.Reads.{comma_parts, files_perhaps, is_path, paths_in, precompiled, precompiled_headers, profile_by, profiles, until_comma, values, with_values, without_at};
+ghost use Rattle.scl_key.specs.Effects.{judged, judged_in};
+ghost use Rattle.scl_key.specs.Families.{is_clang};
+ghost use Rattle.scl_key.specs.Given.{given_in, values_among};
+ghost use Rattle.scl_key.specs.GivenViews.{all_given};
+ghost use Rattle.scl_key.specs.JudgedViews.{all_judged};
+ghost use Rattle.scl_key.specs.Reads.{comma_parts, files_perhaps, is_path, paths_by, precompiled, profile_by, until_comma, values, with_values, without_at};
+ghost use Rattle.scl_key.specs.declared.given.Brings.TheVariants as Brings;
 
-use crate::effect::{Effect, effect_of, has_comma, push_suffixes};
+use crate::effect::{Effect, Judged, has_comma, judged_words, push_suffixes};
 use crate::family::is_clang;
-use crate::given::{Brings, values_of};
+use crate::given::{Brings, Given, Known, values_among};
 use scl_files::path::with_extension;
 use scl_reader::Compiler;
 use scl_text::Mem;
@@ -19,7 +24,7 @@ use scl_text::outputs::output_path;
 use scl_text::records::ParsedArguments;
 use std::alloc::Global;
 
-/// Appends a text, and what stands behind each of its `=`.
+/// Appends a text, and what stands after each of its `=`.
 fn push_with_values<'a>(values: &mut Vec<&'a [u8]>, text: &'a [u8]) -> Mem<()>
     ensures { OnOk result (map (λ value. value.now) values.new.items ≡ map (λ value. value.now) values.old.items ++ with_values text.now) }
 {
@@ -49,7 +54,7 @@ fn push_until_comma<'a>(parts: &mut Vec<&'a [u8]>, texts: &[&'a [u8]]) -> Mem<()
     Ok(())
 }
 
-/// The parts between commas, where there are any.
+/// The parts between commas, if there are any.
 fn comma_parts<'a>(alloc: Global, text: &'a [u8]) -> Mem<Vec<&'a [u8]>>
     ensures { IfOk result (λ parts. map (λ part. part.now) parts.items ≡ comma_parts text.now) }
 {
@@ -63,7 +68,7 @@ fn comma_parts<'a>(alloc: Global, text: &'a [u8]) -> Mem<Vec<&'a [u8]>>
     Ok(parts)
 }
 
-/// Appends each text, and what stands behind each of its `=`.
+/// Appends each text, and what stands after each of its `=`.
 fn push_all_with_values<'a>(values: &mut Vec<&'a [u8]>, texts: &[&'a [u8]]) -> Mem<()>
     ensures { OnOk result (map (λ value. value.now) values.new.items ≡ map (λ value. value.now) values.old.items ++ flat_map with_values (map (λ text. text.now) texts.now)) }
 {
@@ -90,7 +95,7 @@ fn without_at(value: &[u8]) -> &[u8]
     value.strip_prefix(b"@").unwrap_or(value)
 }
 
-fn is_path(value: &[u8]) -> bool
+pub(crate) fn is_path(value: &[u8]) -> bool
     ensures { result ≡ is_path value.now }
 {
     match value {
@@ -112,11 +117,11 @@ fn push_those_that_are(alloc: Global, paths: &mut Vec<Vec<u8>>, values: &[&[u8]]
     Ok(())
 }
 
-/// Appends the paths that a word may name.
-fn push_paths_in(alloc: Global, paths: &mut Vec<Vec<u8>>, word: &[u8]) -> Mem<()>
-    ensures { OnOk result (words_of paths.new.items ≡ words_of paths.old.items ++ paths_in word.now) }
+/// Appends the paths that a word with this effect may name.
+fn push_paths_by(alloc: Global, paths: &mut Vec<Vec<u8>>, effect: Effect, word: &[u8]) -> Mem<()>
+    ensures { OnOk result (words_of paths.new.items ≡ words_of paths.old.items ++ paths_by (judged word.now effect)) }
 {
-    if effect_of(word).is_plain() {
+    if effect.is_plain() {
         return Ok(());
     }
     let values = values(alloc, word)?;
@@ -124,11 +129,11 @@ fn push_paths_in(alloc: Global, paths: &mut Vec<Vec<u8>>, word: &[u8]) -> Mem<()
 }
 
 /// Appends the paths that words may name.
-fn push_paths(alloc: Global, paths: &mut Vec<Vec<u8>>, words: &[Vec<u8>]) -> Mem<()>
-    ensures { OnOk result (words_of paths.new.items ≡ words_of paths.old.items ++ flat_map paths_in (words_of words.now)) }
+fn push_paths(alloc: Global, paths: &mut Vec<Vec<u8>>, words: &[Judged<'_>]) -> Mem<()>
+    ensures { OnOk result (words_of paths.new.items ≡ words_of paths.old.items ++ flat_map paths_by (all_judged words.now)) }
 {
-    for word in words {
-        push_paths_in(alloc, paths, word)?;
+    for one in words {
+        push_paths_by(alloc, paths, one.effect, one.word)?;
     }
     Ok(())
 }
@@ -164,25 +169,30 @@ fn push_profiles_of(
     alloc: Global,
     paths: &mut Vec<Vec<u8>>,
     object: Option<&[u8]>,
-    words: &[Vec<u8>],
+    words: &[Judged<'_>],
 ) -> Mem<()>
-    ensures { OnOk result (words_of paths.new.items ≡ words_of paths.old.items ++ flat_map (λ word. profile_by (option_copied object.entry) (effect_of word)) (words_of words.now)) }
+    ensures { OnOk result (words_of paths.new.items ≡ words_of paths.old.items ++ flat_map (λ j. profile_by (option_copied object.entry) j.effect) (all_judged words.now)) }
 {
-    for word in words {
-        push_profile(alloc, paths, object, effect_of(word))?;
+    for one in words {
+        push_profile(alloc, paths, object, one.effect)?;
     }
     Ok(())
 }
 
 /// Appends the profiles that the common words make the compiler read.
-fn push_profiles(alloc: Global, paths: &mut Vec<Vec<u8>>, parsed: &ParsedArguments) -> Mem<()>
-    ensures { OnOk result (words_of paths.new.items ≡ words_of paths.old.items ++ profiles (parsed_of parsed.now)) }
+fn push_profiles(
+    alloc: Global,
+    paths: &mut Vec<Vec<u8>>,
+    common: &[Judged<'_>],
+    parsed: &ParsedArguments,
+) -> Mem<()>
+    ensures { OnOk result (words_of paths.new.items ≡ words_of paths.old.items ++ flat_map (λ j. profile_by (object_of (parsed_of parsed.now)) j.effect) (all_judged common.now)) }
 {
     let object = output_path(&parsed.outputs, "obj");
-    push_profiles_of(alloc, paths, object, &parsed.common_args)
+    push_profiles_of(alloc, paths, object, common)
 }
 
-/// Appends values, each with this text behind it.
+/// Appends values, each with this text after it.
 fn push_with(alloc: Global, paths: &mut Vec<Vec<u8>>, header: &[u8], text: &[u8]) -> Mem<()>
     ensures { OnOk result (words_of paths.new.items ≡ words_of paths.old.items ++ (header.now ++ text.now) ∷ []) }
 {
@@ -215,14 +225,14 @@ fn push_precompiled_headers(
     alloc: Global,
     paths: &mut Vec<Vec<u8>>,
     compiler: Compiler,
-    parsed: &ParsedArguments,
+    given: &[Given<'_>],
 ) -> Mem<()>
-    ensures { OnOk result (words_of paths.new.items ≡ words_of paths.old.items ++ precompiled_headers compiler (parsed_of parsed.now)) }
+    ensures { OnOk result (words_of paths.new.items ≡ words_of paths.old.items ++ (if is_clang compiler then flat_map precompiled (values_among Brings.Header (all_given given.now)) else [])) }
 {
     if !is_clang(compiler) {
         return Ok(());
     }
-    let headers = values_of(alloc, Brings::Header, &parsed.preprocessor_args)?;
+    let headers = values_among(alloc, Brings::Header, given)?;
     push_all_precompiled(alloc, paths, &headers)
 }
 
@@ -236,27 +246,31 @@ pub(crate) fn push_values(alloc: Global, paths: &mut Vec<Vec<u8>>, values: &[&[u
     Ok(())
 }
 
-/// Appends the files of which the macros alone are read.
-fn push_macro_files(alloc: Global, paths: &mut Vec<Vec<u8>>, parsed: &ParsedArguments) -> Mem<()>
-    ensures { OnOk result (words_of paths.new.items ≡ words_of paths.old.items ++ macro_files (parsed_of parsed.now)) }
+/// Appends the files of which only the macros are read.
+fn push_macro_files(alloc: Global, paths: &mut Vec<Vec<u8>>, given: &[Given<'_>]) -> Mem<()>
+    ensures { OnOk result (words_of paths.new.items ≡ words_of paths.old.items ++ values_among Brings.MacroFile (all_given given.now)) }
 {
-    let files = values_of(alloc, Brings::MacroFile, &parsed.preprocessor_args)?;
+    let files = values_among(alloc, Brings::MacroFile, given)?;
     push_values(alloc, paths, &files)
 }
 
-/// All files that may be read, and need not be there. It fails only for want of memory.
+/// All files that may be read, and need not be there.
 pub(crate) fn files_perhaps(
     alloc: Global,
     compiler: Compiler,
+    known: &Known<'_>,
     parsed: &ParsedArguments,
 ) -> Mem<Vec<Vec<u8>>>
+    requires common { all_judged known.now.common.items ≡ judged_in (parsed_of parsed.now).common_args }
+    requires given { all_given known.now.given.items ≡ given_in (parsed_of parsed.now).preprocessor_args }
     ensures { IfOk result (λ paths. words_of paths.items ≡ files_perhaps compiler (parsed_of parsed.now)) }
 {
     let mut paths = Vec::new(alloc);
-    push_paths(alloc, &mut paths, &parsed.common_args)?;
-    push_paths(alloc, &mut paths, &parsed.unhashed_args)?;
-    push_macro_files(alloc, &mut paths, parsed)?;
-    push_profiles(alloc, &mut paths, parsed)?;
-    push_precompiled_headers(alloc, &mut paths, compiler, parsed)?;
+    push_paths(alloc, &mut paths, &known.common)?;
+    let unhashed = judged_words(alloc, &parsed.unhashed_args)?;
+    push_paths(alloc, &mut paths, &unhashed)?;
+    push_macro_files(alloc, &mut paths, &known.given)?;
+    push_profiles(alloc, &mut paths, &known.common, parsed)?;
+    push_precompiled_headers(alloc, &mut paths, compiler, &known.given)?;
     Ok(paths)
 }

@@ -7,12 +7,12 @@ ghost use Rattle.scl_values.specs.Words.{words_of};
 ghost use Rattle.scl_text.specs.Commands.{command_by as command_with};
 ghost use Rattle.scl_text.specs.Records.{parsed_of, without_word};
 ghost use Rattle.scl_text.specs.Runs.{runs_of};
+ghost use Rattle.scl_key.specs.Given.{has_macros};
 ghost use Rattle.scl_key.specs.Parts.{plan, run, run_else};
 ghost use Rattle.scl_key.specs.Runs.{is_assembler, is_header, key_runs, macro_words, marked_runs, noted, noted_handed, noted_words, noting_record, plan_record, plans, run_parts, runs_else, shown_record, silent_record};
 ghost use Rattle.scl_key.specs.Views.{parts_of};
 
 use crate::family::is_gnu;
-use crate::given::has_macros;
 use crate::made::handed_file;
 use crate::part::Part;
 use scl_gnu::clang::Clang;
@@ -32,7 +32,7 @@ const OWN_FILE: &[u8] = b"\x00";
 const DEPENDENCY_FILE: &[u8] = b"-MF";
 
 /// The flag by which a precompiled header is named in place of its text.
-const HIDES_HEADER: &[u8] = b"-fpch-preprocess";
+pub(crate) const HIDES_HEADER: &[u8] = b"-fpch-preprocess";
 
 /// Whether it is a header or a module, whose macros are kept for others.
 pub(crate) fn is_header(language: Language) -> bool
@@ -181,7 +181,7 @@ pub(crate) fn is_among(word: &[u8], words: &[Vec<u8>]) -> bool
     false
 }
 
-/// Appends the words about dependencies, where they name a file.
+/// Appends the words about dependencies, if they name a file.
 fn push_noted_words(alloc: Global, noted: &mut Vec<Vec<u8>>, words: &[Vec<u8>]) -> Mem<()>
     ensures { OnOk result (words_of noted.new.items ≡ words_of noted.old.items ++ noted_words (words_of words.now)) }
 {
@@ -231,12 +231,13 @@ fn dependency_words(alloc: Global, parsed: &ParsedArguments) -> Mem<Vec<Vec<u8>>
 
 // ---- the runs
 
-/// The words by which runs tell macros, where these count.
-fn macro_words(alloc: Global, parsed: &ParsedArguments) -> Mem<Vec<Vec<u8>>>
+/// The words by which runs tell macros, if these count.
+fn macro_words(alloc: Global, macros: bool, parsed: &ParsedArguments) -> Mem<Vec<Vec<u8>>>
+    requires macros { macros ≡ has_macros (parsed_of parsed.now) }
     ensures { IfOk result (λ words. words_of words.items ≡ macro_words (parsed_of parsed.now)) }
 {
     let mut words = Vec::new(alloc);
-    if is_header(parsed.language) || has_macros(parsed) {
+    if is_header(parsed.language) || macros {
         push_word(alloc, &mut words, b"-dD")?;
     }
     Ok(words)
@@ -274,7 +275,7 @@ fn without_word(alloc: Global, word: &[u8], words: &[Vec<u8>]) -> Mem<Vec<Vec<u8
 }
 
 /// The words of the runs for a record, which keep their line markers.
-fn marked_runs(
+pub(crate) fn marked_runs(
     alloc: Global,
     compiler: Compiler,
     parsed: &ParsedArguments,
@@ -285,11 +286,12 @@ fn marked_runs(
 }
 
 /// The record of the runs of Gcc and Clang that show the text of each header.
-fn shown_record(alloc: Global, parsed: &ParsedArguments) -> Mem<ParsedArguments>
+fn shown_record(alloc: Global, macros: bool, parsed: &ParsedArguments) -> Mem<ParsedArguments>
+    requires macros { macros ≡ has_macros (parsed_of parsed.now) }
     ensures { IfOk result (λ shown. parsed_of shown ≡ shown_record (noting_record (macro_words (parsed_of parsed.now)) (parsed_of parsed.now))) }
 {
-    let macros = macro_words(alloc, parsed)?;
-    let mut shown = noting_record(alloc, macros, parsed)?;
+    let words = macro_words(alloc, macros, parsed)?;
+    let mut shown = noting_record(alloc, words, parsed)?;
     shown.common_args = without_word(alloc, HIDES_HEADER, &shown.common_args)?;
     Ok(shown)
 }
@@ -304,11 +306,17 @@ fn silent_record(alloc: Global, parsed: &ParsedArguments) -> Mem<ParsedArguments
     Ok(silent)
 }
 
-fn key_runs(alloc: Global, compiler: Compiler, parsed: &ParsedArguments) -> Mem<Vec<Vec<Vec<u8>>>>
+fn key_runs(
+    alloc: Global,
+    compiler: Compiler,
+    macros: bool,
+    parsed: &ParsedArguments,
+) -> Mem<Vec<Vec<Vec<u8>>>>
+    requires macros { macros ≡ has_macros (parsed_of parsed.now) }
     ensures { IfOk result (λ runs. runs_of runs.items ≡ key_runs compiler (parsed_of parsed.now)) }
 {
     let changed = if is_gnu(compiler) {
-        shown_record(alloc, parsed)?
+        shown_record(alloc, macros, parsed)?
     } else {
         silent_record(alloc, parsed)?
     };
@@ -327,7 +335,7 @@ fn naming_runs(
     marked_runs(alloc, compiler, &noting)
 }
 
-/// The runs where a header of which no text is left is named in its place.
+/// The runs for a header that is named without its text in its place.
 fn runs_else(alloc: Global, compiler: Compiler, parsed: &ParsedArguments) -> Mem<Vec<Vec<Vec<u8>>>>
     ensures { IfOk result (λ runs. runs_of runs.items ≡ runs_else compiler (parsed_of parsed.now)) }
 {
@@ -348,7 +356,7 @@ fn push_each_run(alloc: Global, parts: &mut Vec<Part>, runs: &[Vec<Vec<u8>>]) ->
     Ok(())
 }
 
-/// Appends runs where others failed.
+/// Appends runs for the case that others failed.
 fn push_each_else(alloc: Global, parts: &mut Vec<Part>, runs: &[Vec<Vec<u8>>]) -> Mem<()>
     ensures { OnOk result (parts_of parts.new.items ≡ parts_of parts.old.items ++ map run_else (runs_of runs.now)) }
 {
@@ -363,11 +371,13 @@ pub(crate) fn push_runs(
     alloc: Global,
     parts: &mut Vec<Part>,
     compiler: Compiler,
+    macros: bool,
     parsed: &ParsedArguments,
 ) -> Mem<()>
+    requires macros { macros ≡ has_macros (parsed_of parsed.now) }
     ensures { OnOk result (parts_of parts.new.items ≡ parts_of parts.old.items ++ run_parts compiler (parsed_of parsed.now)) }
 {
-    let runs = key_runs(alloc, compiler, parsed)?;
+    let runs = key_runs(alloc, compiler, macros, parsed)?;
     push_each_run(alloc, parts, &runs)?;
     let runs = runs_else(alloc, compiler, parsed)?;
     push_each_else(alloc, parts, &runs)

@@ -6,11 +6,11 @@ ghost use Rattle.scl_text.specs.Commands.{pairs_of};
 ghost use Rattle.scl_text.specs.Records.{artifact, artifacts, parsed_of};
 ghost use Rattle.scl_description.specs.Rows.{lone, maybe_entry, row_entry, words_entry, yes_entry};
 ghost use Rattle.scl_description.specs.Records.{color_text, language_text, list_entries, output_entries, output_rest, outputs_entry, record_entries, source_entries, switch_entries};
+ghost use Rattle.scl_key.specs.Given.{shows};
 ghost use Rattle.scl_key.specs.Parts.{is};
 ghost use Rattle.scl_key.specs.Told.{facts_shown, flat_pairs, key_record, run_words_fields, told, told_entries, told_entry, yes_or_no};
 ghost use Rattle.scl_key.specs.Views.{parts_of, run_words_of};
 
-use crate::given::shows;
 use crate::part::Part;
 use scl_reader::Compiler;
 use scl_text::Mem;
@@ -78,7 +78,7 @@ fn push_is(alloc: Global, parts: &mut Vec<Part>, name: &str, fields: &[&[u8]]) -
     Ok(())
 }
 
-/// Appends the fact of a name and of the word behind it.
+/// Appends the fact of a name and of the word after it.
 #[tactic(auto, unfolding(crate::specs::Told::told_entry))]
 fn push_one(alloc: Global, parts: &mut Vec<Part>, name: &str, word: &[u8]) -> Mem<()>
     ensures { OnOk result (parts_of parts.new.items ≡ parts_of parts.old.items ++ told_entry (row_entry name.now (lone word.now))) }
@@ -108,7 +108,7 @@ fn push_maybe(alloc: Global, parts: &mut Vec<Part>, name: &str, word: Option<&[u
     }
 }
 
-/// Appends the fact of a name alone, where it holds.
+/// Appends the fact of a name only, if it holds.
 #[tactic(auto, unfolding(crate::specs::Told::told_entry))]
 fn push_yes(alloc: Global, parts: &mut Vec<Part>, name: &str, holds: bool) -> Mem<()>
     ensures { OnOk result (parts_of parts.new.items ≡ parts_of parts.old.items ++ told_entry (yes_entry name.now holds)) }
@@ -314,11 +314,12 @@ pub(crate) fn push_told(
     compiler: Compiler,
     environment: &[(Vec<u8>, Vec<u8>)],
     words: RunWords<'_>,
+    is_shown: bool,
     parsed: &ParsedArguments,
 ) -> Mem<()>
+    requires shown { is_shown ≡ shows compiler (parsed_of parsed.now) }
     ensures { OnOk result (parts_of parts.new.items ≡ parts_of parts.old.items ++ told compiler (pairs_of environment.now) (run_words_of words.entry) (parsed_of parsed.now)) }
 {
-    let is_shown = shows(alloc, compiler, parsed)?;
     push_facts(alloc, parts, compiler, environment, words, is_shown)?;
     let preprocessor: &[Vec<u8>] = if is_shown {
         &[]

@@ -1,10 +1,8 @@
 use Rattle.std.proofs.Common.{◌≡◌, drop}
 use Rattle.std.specs.List.{list_any}
-use Rattle.scl_values.specs.Words.{words_of}
-use Rattle.scl_text.specs.Records.{parsed_of}
-use Rattle.scl_key.specs.Given.{has_macros}
-use Rattle.scl_key.specs.Effects.{effect_of, keeps_macros}
+use Rattle.scl_key.specs.Effects.{keeps_macros}
+use Rattle.scl_key.specs.JudgedViews.{all_judged}
 use Rattle.scl_key.proofs.given.has_macros.Given as goal
 
-abbrev pub invariant-loop-word : goal.invariant-loop-word
-invariant-loop-word l = list_any (λ word. keeps_macros (effect_of word)) (words_of (drop l.word-index l.parsed.common_args.items)) ≡ has_macros (parsed_of l.parsed)
+abbrev pub invariant-loop-one : goal.invariant-loop-one
+invariant-loop-one l = list_any (λ j. keeps_macros j.effect) (all_judged (drop l.one-index l.common)) ≡ list_any (λ j. keeps_macros j.effect) (all_judged l.common)

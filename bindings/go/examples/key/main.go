@@ -1,0 +1,31 @@
+// The key of `gcc -c a.c -O2`: which rows a cache hashes as they are, and which it looks up and hashes with their answer
+// (docs/CACHE.md). Of a row `by name` the fields say where to look, and only the name is hashed.
+package main
+
+import (
+	"fmt"
+	"log"
+	"scl"
+	"strings"
+)
+
+func main() {
+	answer, err := (&scl.Request{Compiler: "gcc", Words: []string{"-c", "a.c", "-O2"}}).Ask()
+	if err != nil {
+		log.Fatal(err)
+	}
+	if !answer.IsCacheable || len(answer.Fields("key")) == 0 {
+		fmt.Println("keep nothing")
+		return
+	}
+	for _, row := range answer.Fields("key") {
+		switch row[0] {
+		case "is", "output":
+			fmt.Println("hash", strings.Join(row, " "))
+		case "plan", "run", "run-else", "pch":
+			fmt.Println("look up", row[0]+", by name")
+		default:
+			fmt.Println("look up", row[0])
+		}
+	}
+}

@@ -1,0 +1,117 @@
+// Asks `describe --batch`, one process for many requests, by the text protocol (docs/PROTOCOL.md). There is no native module.
+//
+//     const scl = new Scl();                        // the program `describe` on PATH, or new Scl("/path/to/describe")
+//     const answer = await scl.ask({compiler: "gcc", words: ["-c", "a.c"]});
+//     scl.close();
+//
+// Words and paths are strings or Buffers; the fields of an answer are Buffers, as words may be any bytes. Nothing is proved of this file.
+import {spawn} from "node:child_process";
+
+const PROTOCOL = "1";
+const OUTCOMES = ["ok", "cannot-cache", "not-compilation", "too-many-words"];
+// The rows that decide what is kept, and how many fields each has at most. A row with more may say: keep nothing.
+const MOST_FIELDS = {arg: 1, hazard: 1, cacheable: 1, output: 3, environment: 2, language: 1, color: 1, dependency: 1, preprocessor: 1, common: 1, arch: 1,
+  unhashed: 1, dist: 1, hash: 1, input: 1, "compilation-flag": 1, depfile: 1, "too-hard": 1, "double-dash-input": 0, "external-assembler": 0,
+  "show-includes": 0, "explicit-language": 0, "profile-generate": 0, "no-rewrite-includes-only": 0};
+// The rows of a key, and how many fields may follow the name.
+const KEYS = {is: [1, Infinity], output: [2, 3], directory: [0, 0], compiler: [0, 0], plan: [0, Infinity], env: [1, 1], unset: [1, 1], file: [1, 1],
+  maybe: [1, 1], regular: [1, 1], run: [0, Infinity], "run-else": [0, Infinity], pch: [0, Infinity], sources: [0, 0], "sources-if-shown": [1, 1],
+  times: [0, 0], "refuse-if-shown": [1, 1]};
+
+// The rows `keep`, and how many fields each has.
+const KEPT = {yes: 1, no: 3, unknown: 2};
+
+const field = (it) => Buffer.from(it).toString("latin1").replace(/[^!-[\]-~]/g, (byte) => "\\x" + byte.charCodeAt(0).toString(16).padStart(2, "0"));
+const bytes = (it) => Buffer.from(it.replace(/\\x(..)/g, (_, digits) => String.fromCharCode(parseInt(digits, 16))), "latin1");
+
+/** The text of a request. */
+export function request({compiler, words = [], directory = "", environment = [], files = [], directories = [], existing = [], settings = []}) {
+  const pairs = (name, them) => them.map(([key, value]) => `${name} ${field(key)}\t${field(value)}`);
+  const lines = [`compiler ${field(compiler)}`, `cwd ${field(directory)}`, ...words.map((it) => `word ${field(it)}`), ...pairs("env", environment),
+    ...pairs("file", files), ...directories.map((it) => `dir ${field(it)}`), ...existing.map((it) => `exists ${field(it)}`),
+    ...settings.map((it) => `setting ${it}`)];
+  return lines.map((it) => it + "\n").join("");
+}
+
+function isKnown({name, fields}) {
+  if (name === "keep") return KEPT[String(fields[0])] === fields.length;
+  if (name !== "key") return !Object.hasOwn(MOST_FIELDS, name) || fields.length <= MOST_FIELDS[name];
+  const key = String(fields[0]), [least, most] = Object.hasOwn(KEYS, key) ? KEYS[key] : [1, 0];
+  return fields.length > least && fields.length - 1 <= most;
+}
+
+/** An answer: its outcome, and its rows, each with a name and fields. */
+export class Answer {
+  constructor(text) {
+    const [outcome, ...lines] = text.split("\n");
+    this.outcome = outcome.split(" ")[0];
+    this.rows = lines.map((line) => line.split(" ")).map(([name, ...fields]) => ({name, fields: fields.map(bytes)}));
+    if (!OUTCOMES.includes(this.outcome) || String(this.word("version")) !== PROTOCOL) throw new Error(`not known here: ${outcome}`);
+    const cacheable = String(this.word("cacheable")) === "yes";
+    this.isCacheable = cacheable && this.rows.every(isKnown) && this.words("keep").every((it) => String(it) === "yes");
+  }
+
+  /** The fields of each row of this name. */
+  fields(name) {
+    return this.rows.filter((row) => row.name === name).map((row) => row.fields);
+  }
+
+  /** The first field of each row of this name. */
+  words(name) {
+    return this.fields(name).map((fields) => fields[0]);
+  }
+
+  /** The first field of the first row of this name. */
+  word(name) {
+    return this.words(name)[0];
+  }
+}
+
+// What a status of the program means (docs/PROTOCOL.md, Statuses).
+const STATUSES = {3: "out of memory", 65: "a bad catalogue"};
+
+/** A running `describe --batch`; its other words may name a catalogue. */
+export class Scl {
+  #process;
+  #text = "";
+  #waiting = [];
+
+  constructor(program = "describe", words = []) {
+    this.#process = spawn(program, [...words, "--batch"], {stdio: ["pipe", "pipe", "inherit"]});
+    this.#process.stdout.setEncoding("latin1").on("data", (more) => this.#take(more));
+    this.#process.stdin.on("error", () => {});
+    this.#process.on("error", (error) => this.#fail(error)).on("close", (status) => this.#fail(new Error(STATUSES[status] ?? `${program} ended, status ${status}`)));
+  }
+
+  /** The answer to a request. It throws where a line of the request is bad, or the answer is not known here. */
+  ask(given) {
+    return new Promise((resolve, reject) => {
+      this.#waiting.push({resolve, reject});
+      this.#process.stdin.write(request(given) + "end\n");
+    });
+  }
+
+  close() {
+    this.#process.stdin.end();
+  }
+
+  #fail(error) {
+    for (const {reject} of this.#waiting.splice(0)) reject(error);
+  }
+
+  // (each description ends in a line `end`, and no row has that name)
+  #take(more) {
+    const texts = (this.#text + more).split(/(?<=^|\n)end\n/);
+    this.#text = texts.pop();
+    for (const text of texts) {
+      const {resolve, reject} = this.#waiting.shift();
+      const bad = /^bad-line (\d+)$/m.exec(text);
+      try {
+        if (bad) throw new Error(bad[1] === "1" ? "no such compiler" : "not known to this library");
+        resolve(new Answer(text.trimEnd()));
+      } catch (error) {
+        reject(error);
+      }
+    }
+  }
+}

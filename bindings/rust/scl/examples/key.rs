@@ -1,0 +1,35 @@
+//! The key of `gcc -c a.c -O2`: which rows a cache hashes as they are, and which it looks up and hashes with their answer
+//! (docs/CACHE.md). Of a row `by name` the fields say where to look, and only the name is hashed.
+use scl::Request;
+
+fn main() -> Result<(), scl::Error> {
+    let answer = Request::new("gcc").words(["-c", "a.c", "-O2"]).ask()?;
+    if !answer.is_cacheable() || answer.key().next().is_none() {
+        println!("keep nothing");
+        return Ok(());
+    }
+    for row in answer.key() {
+        let name = String::from_utf8_lossy(&row.name);
+        if row.is_asked() {
+            println!(
+                "look up {name}{}",
+                if row.is_named() { ", by name" } else { "" }
+            );
+        } else {
+            let fields: Vec<_> = row
+                .fields
+                .iter()
+                .map(|field| String::from_utf8_lossy(field))
+                .collect();
+            println!(
+                "{}",
+                ["hash", &name]
+                    .into_iter()
+                    .chain(fields.iter().map(|it| &**it))
+                    .collect::<Vec<_>>()
+                    .join(" ")
+            );
+        }
+    }
+    Ok(())
+}

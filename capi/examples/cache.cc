@@ -1,0 +1,699 @@
+// cache COMPILER WORD ..: a compiler cache on libscl. It knows no flag of any compiler: rows `key` of an answer say
+// what to hash and what to look up (docs/PROTOCOL.md, A key). docs/CACHE.md goes through the same steps in Python.
+//
+//   c++ -std=c++17 -O2 -static cache.cc $(pkg-config --cflags --libs scl) -o cache
+//   cache gcc -c a.c     cmake -DCMAKE_C_COMPILER_LAUNCHER=$PWD/cache ..
+//   cache --stats        what it did, and how often
+//   cache --why          the rows of the last miss that the miss before it of the same output did not have
+//
+// CACHE names its folder (~/.cache/scl), CACHE_SIZE its bytes at most (5e9), CACHE_LOG a file for a line a call.
+// Status: the compiler's; 64: called wrongly; 126, 127: the compiler can't be started, or is not there.
+#include <algorithm>
+#include <fcntl.h>
+#include <filesystem>
+#include <fstream>
+#include <list>
+#include <map>
+#include <regex.h>
+#include <set>
+#include <sys/mman.h>
+#include <sys/stat.h>
+#include <sys/wait.h>
+#include <unistd.h>
+#include "scl.hpp"
+
+namespace fs = std::filesystem;
+using Bytes = std::string;
+using Words = std::vector<Bytes>;
+struct KeepNothing { Bytes why; };  // thrown: the given words are run, and nothing is kept
+static void need(bool it, const Bytes &why) { if (!it) throw KeepNothing{why}; }
+
+// ---- texts
+
+static Words operator+(Words all, const Words &more) { return all.insert(all.end(), more.begin(), more.end()), all; }
+static bool has(const Words &all, const Bytes &it) { return std::find(all.begin(), all.end(), it) != all.end(); }
+
+// FNV-1a of 128 bits: good against chance. It is none against malice, but who can write sources can write objects.
+static Bytes sum_of(const Bytes &text) {
+    __extension__ typedef unsigned __int128 Wide;
+    Wide sum = Wide(0x6c62272e07bb0142) << 64 | 0x62b821756295c58d;
+    for (uint8_t byte : text) sum = (sum ^ byte) * (Wide(1) << 88 | 0x13b);
+    return std::to_string(uint64_t(sum >> 64)) + "." + std::to_string(uint64_t(sum));
+}
+
+// A list as one text, each part after its length; and back.
+static Bytes packed(const Words &parts) {
+    Bytes all;
+    for (const Bytes &it : parts) all += std::to_string(it.size()) + ":" + it;
+    return all;
+}
+static Words unpacked(const Bytes &text) {
+    Words all;
+    for (size_t at = 0, colon; (colon = text.find(':', at)) != Bytes::npos; at = colon + 1 + all.back().size())
+        all.push_back(text.substr(colon + 1, std::stoul(text.substr(at, colon - at))));
+    return all;
+}
+
+static Words split(const Bytes &text, const char *separators) {
+    Words all;
+    for (size_t at = 0, end; at <= text.size(); at = end + 1) {
+        end = std::min(text.find_first_of(separators, at), text.size());
+        all.push_back(text.substr(at, end - at));
+    }
+    return all;
+}
+
+// Where an extended regular expression is found, from `begin` on; `^` and `$` match at each line.
+static bool find(const Bytes &pattern, const Bytes &text, size_t &begin, size_t &end) {
+    static std::map<Bytes, regex_t> known;
+    const auto [it, is_new] = known.try_emplace(pattern);
+    need(!is_new || !regcomp(&it->second, pattern.c_str(), REG_EXTENDED | REG_NEWLINE), "a pattern that is none");
+    const int flags = REG_STARTEND | (begin && text[begin - 1] != '\n' ? REG_NOTBOL : 0);
+    regmatch_t found = {regoff_t(begin), regoff_t(text.size())};
+    if (regexec(&it->second, text.c_str(), 1, &found, flags)) return false;
+    begin = size_t(found.rm_so), end = size_t(found.rm_eo);
+    return true;
+}
+static bool matches(const Bytes &text, const Bytes &pattern) {
+    size_t begin = 0, end;
+    return find(pattern, text, begin, end);
+}
+static Bytes without(const Bytes &pattern, Bytes text) {
+    for (size_t at = 0, end; find(pattern, text, at, end);) text.erase(at, end - at);
+    return text;
+}
+
+// Adds the byte that stands at a backslash as a number, as \101 or \x41; `at` is set to its end. False: it is none.
+static bool read_number(const Bytes &text, size_t &at, Bytes &all) {
+    const Bytes near = text.substr(at, 12);
+    unsigned byte;
+    for (const char *form : {"\\x{%x}%n", "\\x%x%n", "\\u00%2x%n", "\\%3o%n"}) {
+        int len = 0;
+        if (sscanf(near.c_str(), form, &byte, &len) < 1 || !len) continue;
+        return all += char(byte), at += size_t(len) - 1, true;
+    }
+    return false;
+}
+
+// What stands between two quotes, as compilers write it. `at` is the first quote, and then the second one.
+static Bytes unquoted(const Bytes &text, size_t &at) {
+    Bytes all;
+    while (++at < text.size() && text[at] != '"')
+        if (text[at] != '\\' || !read_number(text, at, all)) all += text[text[at] == '\\' ? ++at : at];
+    return all;
+}
+
+// A text as an assembler gets it: strings side by side are joined, and bytes written as numbers are read.
+static Bytes as_assembled(const Bytes &text) {
+    Bytes all;
+    for (size_t at = 0; at < text.size(); at++) {
+        const size_t next = text[at] == '"' ? text.find_first_not_of(" \t\n\v\f\r", at + 1) : Bytes::npos;
+        if (next < text.size() && text[next] == '"') at = next;
+        else if (text[at] != '\\' || !read_number(text, at, all)) all += text[at];
+    }
+    return all;
+}
+
+// ---- files
+
+static std::error_code ignored;
+static bool is_file(const Bytes &path) { return fs::is_regular_file(path, ignored); }
+static bool is_folder(const Bytes &path) { return fs::is_directory(path, ignored); }
+static Bytes whole(const Bytes &path) { return fs::absolute(path).lexically_normal().string(); }
+static Bytes name_of(const Bytes &path) { return fs::path(path).filename().string(); }
+static Bytes folder_of(const Bytes &path) { return fs::path(path).parent_path().string(); }
+static Bytes inside(const Bytes &folder, const Bytes &name) { return (fs::path(folder) / name).string(); }
+static Words files_in(const Bytes &folder) {
+    std::set<Bytes> all;
+    for (const auto &it : fs::directory_iterator(folder, ignored)) all.insert(it.path().string());
+    return Words(all.begin(), all.end());
+}
+static Bytes content(const Bytes &path) {
+    std::ifstream file(path, std::ios::binary);
+    Bytes text(is_file(path) ? fs::file_size(path) : 0, 0);
+    need(is_file(path) && file.read(&text[0], std::streamsize(text.size())), "can't be read: " + path);
+    return text;
+}
+
+// Writes another file first, and renames it: nobody sees a part of it, and a link is replaced, not followed.
+static bool write_file(const Bytes &path, const Bytes &text) {
+    const Bytes part = path + "." + std::to_string(getpid());
+    const int file = open(part.c_str(), O_WRONLY | O_CREAT | O_EXCL | O_CLOEXEC, 0666);
+    if (file < 0) return false;
+    const bool is_whole = write(file, text.data(), text.size()) == ssize_t(text.size());
+    if (!close(file) && is_whole && !rename(part.c_str(), path.c_str())) return true;
+    return unlink(part.c_str()), false;
+}
+
+static int64_t nanoseconds(const timespec &it) { return int64_t(it.tv_sec) * 1000000000 + it.tv_nsec; }
+static int64_t now() { timespec it; return clock_gettime(CLOCK_REALTIME, &it), nanoseconds(it); }
+static const int64_t started = now() - 10000000;  // (clocks of file systems are coarse)
+
+// What changes with a file, and when it last changed. If there is none, `text` is empty.
+struct Stamp {
+    Bytes size_and_time, text;
+    int64_t changed = 0;
+    explicit Stamp(const Bytes &path) {
+        struct stat it;
+        if (stat(path.c_str(), &it)) return;
+        const int64_t written = nanoseconds(it.st_mtim), set = nanoseconds(it.st_ctim);
+        size_and_time = packed({std::to_string(it.st_size), std::to_string(written)});
+        text = size_and_time + packed({std::to_string(it.st_ino), std::to_string(set)});
+        changed = std::max(written, set);
+    }
+    // A file that has only just changed may change again within the same time.
+    bool is_settled() const { return changed < started - 2000000000; }
+};
+
+// ---- the store: lists by name. Before each stands its sum: one that is broken is as good as none
+
+static Bytes store;
+static Bytes place_of(const Bytes &name) { return store + "/" + name.substr(0, 2) + "/" + name; }
+static bool get(const Bytes &name, Words &parts) {
+    const Bytes path = place_of(name), text = is_file(path) ? content(path) : "";
+    const size_t end = std::min(text.find(' '), text.size());
+    if (text.empty() || sum_of(text.substr(end + 1)) != text.substr(0, end)) return false;
+    fs::last_write_time(path, fs::file_time_type::clock::now(), ignored);  // (what was not used for longest goes first)
+    return parts = unpacked(text.substr(end + 1)), true;
+}
+static void put(const Bytes &name, const Words &parts) {
+    fs::create_directories(folder_of(place_of(name)), ignored);
+    write_file(place_of(name), sum_of(packed(parts)) + " " + packed(parts));
+}
+
+// What a slow look at a file gives: remembered by the file's stamp.
+template <class Look> static Words remembered(const Bytes &what, const Bytes &path, Look look) {
+    const Stamp is(path);
+    const Bytes name = sum_of(packed({what, path, is.text}));
+    Words found;
+    if (get(name, found)) return found;
+    found = look(path);
+    if (is.is_settled()) put(name, found);
+    return found;
+}
+
+// If the store is too large, what was not used for longest goes, until four fifths are left.
+static void remove_oldest() {
+    std::vector<std::tuple<fs::file_time_type, double, fs::path>> all;
+    double size = 0, limit = getenv("CACHE_SIZE") ? atof(getenv("CACHE_SIZE")) : 5e9;
+    for (const auto &it : fs::recursive_directory_iterator(store, ignored)) {
+        if (!it.is_regular_file(ignored)) continue;
+        all.emplace_back(it.last_write_time(ignored), it.file_size(ignored), it.path());
+        size += std::get<1>(all.back());
+    }
+    std::sort(all.begin(), all.end());
+    for (size_t i = 0; i < all.size() && size > limit * (i ? 0.8 : 1); size -= std::get<1>(all[i++]))
+        fs::remove(std::get<2>(all[i]), ignored);
+}
+
+// ---- programs
+
+struct Ran { int status; Bytes out, err; };
+
+// Runs the words, and takes what they write. A quiet program gets an empty standard input, and may get a variable.
+static Ran run(const Words &words, bool is_quiet, const char *variable = nullptr, const Bytes &value = "") {
+    std::vector<char *> all;
+    for (const Bytes &it : words) all.push_back(const_cast<char *>(it.c_str()));
+    for (const Bytes &it : words) need(it.find('\0') == Bytes::npos, "a word holds a NUL");
+    all.push_back(nullptr);
+    const int out = memfd_create("out", MFD_CLOEXEC), err = memfd_create("err", MFD_CLOEXEC);
+    const pid_t child = fork();
+    if (!child) {
+        if (variable) setenv(variable, value.c_str(), 1);
+        if (is_quiet) dup2(open("/dev/null", O_RDONLY), 0);
+        dup2(out, 1), dup2(err, 2);
+        execvp(all[0], all.data());
+        _exit(errno == ENOENT ? 127 : 126);
+    }
+    int status = 0;
+    need(waitpid(child, &status, 0) == child, "a program can't be started");
+    const auto taken = [](int file) { return content("/proc/self/fd/" + std::to_string(file)); };
+    return {WIFEXITED(status) ? WEXITSTATUS(status) : 128 + WTERMSIG(status), taken(out), taken(err)};
+}
+
+static Bytes value_of(const Bytes &name) { return getenv(name.c_str()) ? Bytes("=") + getenv(name.c_str()) : "-"; }
+
+// The file of a program; empty: there is none.
+static Bytes program_of(const Bytes &name) {
+    for (const Bytes &folder : split(name.find('/') != Bytes::npos ? "" : value_of("PATH").substr(1), ":"))
+        if (const Bytes file = inside(folder, name); is_file(file) && !access(file.c_str(), X_OK)) return file;
+    return "";
+}
+
+static Bytes sum_of_file(const Bytes &path) {
+    return remembered("bytes", path, [](const Bytes &it) { return Words{sum_of(content(it))}; }).at(0);
+}
+
+// The bytes of a program and of its libraries. Which these are is asked once, while the program, the loader's list and
+// its variables stay as they are. A library that newly stands earlier in a folder that the program names is not seen.
+static Bytes sum_of_program(const Bytes &path) {
+    const Bytes loader = value_of("LD_LIBRARY_PATH") + value_of("LD_PRELOAD") + Stamp("/etc/ld.so.cache").text;
+    const auto ask_for = [](const Bytes &program) { return split(run({"ldd", program}, true).out, " \t\n"); };
+    Bytes sums = sum_of_file(path);
+    for (const Bytes &word : remembered(loader, path, ask_for)) if (word[0] == '/') sums += sum_of_file(word);
+    return sums;
+}
+
+// ---- 1. ask
+
+// The name by which the library knows the compiler: the first on the way of its links, as c++ may be a link to clang++.
+static Bytes served_name(const Bytes &compiler) {
+    static const Bytes served = "(^|[-/])(gcc|g[+][+]|clang|clang[+][+]|cl|clang-cl|diab|tasking)(-[0-9.]+)?$";
+    Bytes path = compiler;
+    for (int links = 0; links < 40; links++) {
+        size_t begin = 0, end;
+        if (find(served, path, begin, end)) return without("^[-/]|-[0-9.]+$", path.substr(begin));
+        if (!links) path = program_of(compiler);
+        path = inside(folder_of(path), fs::read_symlink(path, ignored).string());
+    }
+    throw KeepNothing{"the compiler's name"};
+}
+
+static Words words_of(const scl::Words &list) { return Words(list.begin(), list.end()); }
+
+// Asks until the answer wants nothing that is there.
+static scl::Answer ask(const Bytes &compiler, char **words) {
+    std::list<Bytes> texts = {fs::current_path().string(), served_name(compiler)};  // the request has views of them
+    scl::Request request(texts.back());
+    request.set_directory(texts.front());
+    request.raw().wants_questions = request.raw().wants_key = true;
+    for (; *words; words++) request.add_word(*words);
+    for (;;) {
+        const size_t count = texts.size();
+        scl::Answer answer = request.ask();
+        need(bool(answer), scl::sentence(answer.status()));
+        for (const Bytes &path : words_of(answer.wanted_files()))
+            if (is_file(path)) request.add_file(texts.emplace_back(path), texts.emplace_back(content(path)));
+        for (const Bytes &path : words_of(answer.wanted_directories()))
+            if (is_folder(path)) request.add_directory(texts.emplace_back(path));
+        for (const Bytes &path : words_of(answer.wanted_existing()))
+            if (fs::exists(fs::symlink_status(path, ignored))) request.add_existing(texts.emplace_back(path));
+        if (count == texts.size()) return answer;
+    }
+}
+
+struct Row { uint32_t kind; bool is_asked, is_named; Words fields; Bytes name, text, sum; };  // `sum`: of its answer
+struct Output { Bytes path; bool is_optional; };
+
+// A command line of which something may be kept.
+struct Line {
+    Bytes compiler, input;
+    Words command;              // what a miss runs
+    std::vector<Row> rows;
+    std::vector<Words> direct;
+    std::vector<Output> outputs;
+    Words made;                 // the outputs' whole paths
+    bool has_colors, has_else = false;
+
+    Line(const Bytes &program, const scl::Answer &answer) : compiler(program), command(words_of(answer.command())) {
+        Bytes why(answer.reason());
+        for (const scl::Words &row : answer.keep()) why += packed(words_of(row));
+        need(answer.is_cacheable() && answer.key_size(), why.empty() ? "no key" : why);
+        for (size_t i = 0; i < answer.key_size(); i++) take(answer.key_at(i), scl_key_at(&answer.raw(), i).kind);
+        const scl_runs &rest = answer.raw().direct;
+        for (size_t i = 0; i < rest.len; i++) direct.push_back(words_of(scl::words(rest.at[i])));
+        has_colors = isatty(2) || answer.record().color == SCL_COLOR_ON;
+        for (const Output &output : outputs) {
+            struct stat it;
+            const bool is_own = lstat(output.path.c_str(), &it) || (S_ISREG(it.st_mode) && it.st_nlink == 1);
+            need(is_own, "an output is no file, or has two names: " + output.path);
+            made.push_back(whole(output.path));
+        }
+    }
+    void take(const scl::KeyRow &row, uint32_t kind) {
+        const Words it = words_of(row.fields);
+        const Bytes name(row.name);
+        rows.push_back({kind, row.is_asked, row.is_named, it, name, packed(Words{name} + it), ""});
+        if (kind == SCL_KEY_OUTPUT) outputs.push_back({it[1], it.size() > 2});
+        if (kind == SCL_KEY_IS && it[0] == "input") input = it[1];
+        if (kind == SCL_KEY_IS && it[0] == "run-words" && it[1] == "given") command.assign(it.begin() + 2, it.end());
+        has_else = has_else || kind == SCL_KEY_RUN_ELSE;
+    }
+};
+
+// ---- 2. hash the rows, 3. answer them
+
+struct Key {
+    Line line;
+    std::map<Bytes, Bytes> seen;    // the files that were read, and their stamps then
+    Words texts, sources, first;    // what runs wrote; the files that they name; those that they name before other text
+    Words looked;                   // where a precompiled header was looked for
+    bool has_failed = false;
+    explicit Key(const Line &it) : line(it) {}
+
+    // Of some rows only the name is hashed: their fields say what to start, and where to look.
+    Bytes sum() {
+        Bytes sums;
+        for (Row &row : line.rows) {
+            if (row.is_asked && row.sum.empty()) row.sum = sum_of(answer(row));
+            sums += sum_of(row.is_named ? row.name : row.text) + row.sum;
+        }
+        return sum_of(sums);
+    }
+    Bytes answer(const Row &row) {
+        const Bytes it = row.fields.empty() ? "" : row.fields[0];
+        switch (row.kind) {
+        case SCL_KEY_DIRECTORY: return directory();
+        case SCL_KEY_COMPILER: return name_of(line.compiler) + sum_of_program(program_of(line.compiler));
+        case SCL_KEY_PLAN: return plan(row.fields);
+        case SCL_KEY_ENV: return value_of(it);
+        case SCL_KEY_UNSET: return need(value_of(it) == "-", "set: " + it), "";
+        case SCL_KEY_FILE: return need(is_file(it), "no file: " + it), read(it);
+        case SCL_KEY_MAYBE: return has(line.made, whole(it)) ? "" : read(it);  // what the command writes, it does not read
+        case SCL_KEY_REGULAR: return note(it), "";
+        case SCL_KEY_RUN: return preprocessed(row.fields);
+        case SCL_KEY_RUN_ELSE: return has_failed ? with_loaded(preprocessed(row.fields)) : "-";
+        case SCL_KEY_PCH: return read_all(precompiled(row.fields));
+        case SCL_KEY_SOURCES: return read_all(all_sources());
+        case SCL_KEY_SOURCES_IF_SHOWN: return is_shown(it) ? read_all(all_sources()) : "-";
+        case SCL_KEY_TIMES: return stamps_of_sources();
+        case SCL_KEY_REFUSE_IF_SHOWN: return refuse_if_shown(it), "";
+        default: throw KeepNothing{"a row that is not known"};
+        }
+    }
+
+    // A pipe or a device can be read once only, and /dev/stdin may be a file.
+    void note(const Bytes &path) {
+        const Bytes it = whole(path);
+        const bool is_usual = is_file(path) || is_folder(path) || !fs::exists(path, ignored);
+        need(is_usual && it.rfind("/dev/", 0) && it.rfind("/proc/", 0), "no regular file: " + path);
+        if (!is_folder(path) && !has(line.made, it)) seen.emplace(path, Stamp(path).text);
+    }
+    Bytes read(const Bytes &path) {
+        note(path);
+        return is_file(path) ? "=" + content(path) : is_folder(path) ? "/" : "-";
+    }
+    Bytes read_all(const Words &paths) {
+        Bytes sums;
+        for (const Bytes &path : paths) sums += sum_of(path) + sum_of(read(path));
+        return sums;
+    }
+    bool is_as_it_was() const {
+        return std::all_of(seen.begin(), seen.end(), [](const auto &it) {
+            const Stamp is(it.first);
+            return is.text == it.second && is.changed < started;
+        });
+    }
+
+    static Bytes directory() {
+        const char *named = getenv("PWD");
+        return named && *named == '/' && fs::equivalent(named, ".", ignored) ? named : fs::current_path().string();
+    }
+    Words all_sources() const { return has(sources, line.input) ? sources : sources + Words{line.input}; }
+    Bytes stamps_of_sources() const {
+        Bytes all;
+        for (const Bytes &path : sources) all += packed({path, Stamp(path).size_and_time});
+        return all;
+    }
+    bool is_shown(const Bytes &pattern) const {
+        return std::any_of(texts.begin(), texts.end(), [&](const Bytes &it) { return matches(it, pattern); });
+    }
+    void refuse_if_shown(const Bytes &pattern) const {
+        for (const Bytes &it : sources.empty() ? texts + Words{content(line.input)} : texts)
+            need(!matches(as_assembled(it), pattern), "shown: " + pattern);
+    }
+
+    // What the driver would start, and the bytes of each program and file that it names.
+    Bytes plan(const Words &words) {
+        static const Bytes word = "\"([^\"\\\n]|\\\\.)*\"|[^ \"\n]+";
+        const Bytes own = store + "/scl-plan";
+        fs::create_directories(own, ignored);
+        const Ran ran = run(Words{line.compiler, "-###"} + words, true, "TMPDIR", own);
+        need(!ran.status, "the plan fails");
+        Bytes text = without("[^ =\"\n]*/scl-plan/[^ \"\n]*", ran.err), sums;  // (names of temporary files)
+        std::set<Bytes> files;
+        for (size_t at = 0, end; find(word, text, at, end); at = end) {
+            const bool is_program = at > 1 && text[at - 1] == ' ' && text[at - 2] == '\n';
+            const Bytes name = text[at] == '"' ? unquoted(text, at) : text.substr(at, end - at);
+            files.insert({is_program ? program_of(name) : name, name.substr(name.find('=') + 1)});
+        }
+        for (const Bytes &path : files) {
+            if (!is_file(path) || path == line.input || has(line.made, whole(path))) continue;
+            note(path);
+            sums += sum_of(path) + sum_of_program(path);
+        }
+        return text + sums;
+    }
+
+    // What the preprocessor writes, also into a file of the cache's own.
+    Bytes preprocessed(Words words) {
+        const Bytes own = store + "/own." + std::to_string(getpid());
+        std::replace(words.begin(), words.end(), Bytes(1, '\0'), own);
+        const Ran ran = run(Words{line.compiler} + words, true);
+        const Bytes written = is_file(own) ? content(own) : "";
+        unlink(own.c_str());
+        if (ran.status && line.has_else && !has_failed) return has_failed = true, "failed";
+        need(!ran.status, "a run fails");
+        texts.push_back(ran.out);
+        take_markers(ran.out);
+        return ran.out + sum_of(written);
+    }
+
+    // A line marker is `# N "P" FLAGS` or `#line N "P"`. The flag 1 stands where a file begins that is included.
+    void take_markers(const Bytes &text) {
+        static const Bytes marker = "^#(line)? [0-9]+ \"([^\"\\\n]|\\\\.)*\"[ 0-9]*$";
+        static const Bytes other = "^[ \t]*([^# \t\n]|#[^ ldu]|# [^0-9])";  // (no blank line, marker or macro)
+        size_t begin = 0, text_begins = 0, end;
+        need(matches(text, marker) || !matches(text, "[^ \t\r\f\v]"), "a run hides its sources");
+        if (!find(other, text, text_begins, end)) text_begins = text.size();
+        for (; find(marker, text, begin, end); begin = end) {
+            size_t quote = text.find('"', begin);
+            const Bytes name = unquoted(text, quote), flags = text.substr(quote, end - quote);
+            if (matches(name, "^<|//$")) continue;
+            if (!has(sources, name)) note(name), sources.push_back(name);
+            if (begin < text_begins && matches(flags, " 1")) first.push_back(name);
+        }
+    }
+
+    // What a run wrote, and the precompiled headers that it loaded.
+    Bytes with_loaded(const Bytes &answer) {
+        const Bytes &text = texts.back();
+        Words all;
+        for (size_t at = 0, end; find("^#pragma GCC pch_preprocess ", text, at, end); at = end)
+            all.push_back(unquoted(text, end));
+        return answer + read_all(all);
+    }
+
+    // The precompiled headers that a search can find (docs/PROTOCOL.md, A key): files, and files of folders.
+    Words precompiled(const Words &pairs) {
+        Words headers = first, folders, all;
+        for (size_t i = 0; i + 1 < pairs.size(); i += 2) {
+            const Bytes &what = pairs[i], &name = pairs[i + 1];
+            if (what == "header") headers.push_back(name);
+            if (what == "folder") folders.push_back(name);
+            if (what == "beside") folders.push_back(folder_of(name));
+            if (what == "variable" && getenv(name.c_str())) folders = folders + split(getenv(name.c_str()), ":");
+        }
+        std::set<Bytes> paths;
+        for (const Bytes &header : headers) folders.push_back(folder_of(header));
+        for (const Bytes &header : headers + sources) paths.insert(header + ".gch");
+        for (const Bytes &header : headers)
+            for (size_t at = 0; at <= header.size(); at = std::min(header.find('/', at), header.size()) + 1)
+                for (const Bytes &folder : folders) paths.insert(inside(folder, header.substr(at)) + ".gch");
+        for (const Bytes &path : paths)
+            for (const Bytes &it : Words{path} + files_in(path)) if (!has(line.made, whole(it))) looked.push_back(it);
+        for (const Bytes &path : looked) if (fs::exists(path, ignored) && !is_folder(path)) all.push_back(path);
+        return all;
+    }
+};
+
+// ---- 4. direct mode: lists of how files were, by which the key is known without a run
+
+struct Direct {
+    Key &key;
+    Bytes first;    // the first key; empty: the mode is not used
+
+    explicit Direct(Key &it) : key(it) {
+        Bytes sums;
+        for (Row &row : key.line.rows) {
+            if (row.is_asked && row.kind < SCL_KEY_RUN) row.sum = sum_of(key.answer(row));
+            sums += sum_of(row.text) + row.sum;
+        }
+        for (const Words &row : key.line.direct) {
+            if (row.size() < 2 || !has({"env", "search", "first", "named", "refuse-if-read"}, row[0])) return;
+            sums += sum_of(packed(row)) + sum_of(row[0] == "env" ? value_of(row[1]) : "");
+        }
+        if (!key.line.direct.empty()) first = sum_of(sums);
+    }
+    // The fields of all rows of a name.
+    Words rows(const Bytes &name) const {
+        Words all;
+        for (const Words &row : key.line.direct) if (row[0] == name) all.insert(all.end(), row.begin() + 1, row.end());
+        return all;
+    }
+
+    // How a thing is: `=P` the bytes of a file, or a folder's names; `?P` whether P is a file; `@P` what P is.
+    static Bytes look(const Bytes &question) {
+        const Bytes path = question.substr(1);
+        if (question[0] == '@') return fs::canonical(path, ignored).string();
+        if (question[0] == '=' && is_folder(path)) return packed(files_in(path));
+        return !is_file(path) ? "none" : question[0] == '?' ? "file" : sum_of(content(path));
+    }
+    // The key of a list that is as it was; empty: there is none.
+    Bytes find_key() const {
+        for (char slot = '0'; slot < '8'; slot++) {
+            Words list;
+            size_t at = 1;
+            if (first.empty() || !get(first + slot, list)) continue;
+            while (at < list.size() && look(list[at]) == list[at + 1]) at += 2;
+            if (at >= list.size()) return list[0];
+        }
+        return "";
+    }
+    // The list of how all is now; none, if there is what no list can say.
+    Words list_of(const Bytes &sum) const try {
+        Words list = {sum};
+        if (first.empty()) return {};
+        for (const Bytes &it : questions()) {
+            need(it[0] != '=' || Stamp(it.substr(1)).is_settled(), "too young");
+            list.insert(list.end(), {it, look(it)});
+        }
+        return list;
+    } catch (const KeepNothing &) { return {}; }
+    void keep(const Words &list) const {
+        if (!list.empty() && key.is_as_it_was()) put(first + char('0' + sum_of(packed(list)).back() % 8), list);
+    }
+
+    std::set<Bytes> questions() const {
+        std::set<Bytes> all;
+        const Bytes patterns = packed(rows("named") + rows("refuse-if-read"));
+        const Words searched = folders();
+        const auto ask_for = [&](const Bytes &name, const Bytes &beside) {
+            for (const Bytes &folder : searched + Words{beside}) all.insert("?" + inside(folder, name));
+        };
+        for (const Bytes &path : searched) all.insert("@" + path);
+        for (const Bytes &path : key.looked) all.insert("=" + path);
+        for (const Bytes &header : rows("first")) ask_for(header, "");
+        for (const Bytes &path : key.all_sources()) {
+            const Words names = remembered(patterns, path, [&](const Bytes &it) { return names_in(it); });
+            need(names.at(0) == "names", "a source has what no list can say");
+            all.insert("=" + path);
+            for (size_t i = 1; i < names.size(); i++) ask_for(names[i], folder_of(path));
+        }
+        return all;
+    }
+    // The names that a source includes or asks for, after the word `names`.
+    Words names_in(const Bytes &path) const {
+        const Bytes text = without("\\\\[ \t\r\v\f]*\n", content(path));
+        Words all = {"names"};
+        for (const Bytes &pattern : rows("refuse-if-read")) if (matches(text, pattern)) return {"refused"};
+        for (const Bytes &pattern : rows("named"))
+            for (size_t at = 0, end; find(pattern, text, at, end); at = end) {
+                const size_t from = text.find_first_of("<\"", at) + 1;
+                all.push_back(text.substr(from, end - from - 1));
+            }
+        return all;
+    }
+    // The folders in which the compiler looks for headers, as it says itself.
+    Words folders() const {
+        const Ran ran = run(Words{key.line.compiler} + rows("search"), true, "LC_ALL", "C");
+        Words all;
+        bool is_begun = false, is_ended = false;
+        for (const Bytes &line : split(ran.err, "\n")) {
+            need(!is_begun || !matches(line, "\\((framework directory|headermap)\\)"), "folders of another kind");
+            if (line == "End of search list.") is_ended = is_begun;
+            if (is_begun && !is_ended && line[0] == ' ') all.push_back(line.substr(1));
+            if (matches(line, "search starts here:$")) is_begun = true;
+            if (matches(line, "^ignoring .* directory \".*\"$")) all.push_back(split(line, "\"").at(1));
+        }
+        need(!ran.status && is_ended, "the folders of a search are not known");
+        return all;
+    }
+};
+
+// ---- 5. a miss: compile, and keep what came, if all is as it was
+
+// Built commands force colours.
+static void show(const Bytes &messages, const Line &line) {
+    const Bytes it = line.has_colors ? messages : without("\x1b\\[[0-9;]*[mK]", messages);
+    fwrite(it.data(), 1, it.size(), stderr);
+}
+
+struct Compiled { int status; bool is_kept; };
+static Compiled compile(const Key &key, const Bytes &name) {
+    const Line &line = key.line;
+    Words parts, before;
+    for (const Output &it : line.outputs) before.push_back(Stamp(it.path).text);
+    const Ran ran = run(Words{line.compiler} + line.command, false);
+    fwrite(ran.out.data(), 1, ran.out.size(), stdout);
+    show(ran.err, line);
+    bool is_kept = !ran.status && ran.out.empty() && key.is_as_it_was();
+    for (size_t i = 0; i < before.size(); i++) {
+        const Output &it = line.outputs[i];
+        const bool is_written = is_file(it.path) && Stamp(it.path).text != before[i];
+        if (is_written) parts.insert(parts.end(), {it.path, content(it.path)});
+        is_kept = is_kept && (is_written || it.is_optional);
+    }
+    if (is_kept) put(name, Words{ran.err} + parts);
+    return {ran.status, is_kept};
+}
+
+// ---- 6. a hit: put back what was kept. False: there is no whole entry
+
+static bool restore(const Line &line, const Bytes &name) {
+    Words parts;
+    if (name.empty() || !get(name, parts)) return false;
+    for (size_t i = 1; i + 1 < parts.size(); i += 2)
+        for (const Output &it : line.outputs)
+            if (it.path == parts[i]) need(write_file(it.path, parts[i + 1]), "can't be written: " + it.path);
+    show(parts.at(0), line);
+    return true;
+}
+
+// ---- what is told of the cache
+
+// A byte a call, and at each 64th a look at the size.
+static void count(const Bytes &what, const Bytes &why, char **words) {
+    std::ofstream(store + "/counts", std::ios::app) << what[0];
+    if (fs::file_size(store + "/counts", ignored) % 64 == 0) remove_oldest();
+    if (!getenv("CACHE_LOG")) return;
+    Bytes line = what + " " + why + " |";
+    for (; *words; words++) line += Bytes(" ") + *words;
+    std::ofstream(getenv("CACHE_LOG"), std::ios::app) << line + "\n";
+}
+static int print_counts() {
+    const Bytes all = is_file(store + "/counts") ? content(store + "/counts") : "";
+    for (const char *what : {"direct", "hit", "miss", "unkept", "given"})
+        printf("%s %td\n", what, std::count(all.begin(), all.end(), *what));
+    return 0;
+}
+// Writes down the rows that the last miss of the same output did not have, or with another answer.
+static void note_why(const Line &line) {
+    const Bytes name = sum_of("why " + whole(line.outputs.at(0).path));
+    Words now, before;
+    get(name, before);
+    std::ofstream why(store + "/why");
+    for (const Row &row : line.rows) {
+        now.push_back(row.text + row.sum);
+        if (!has(before, now.back())) why << row.name << " " << (row.fields.empty() ? "" : row.fields[0]) << "\n";
+    }
+    put(name, now);
+}
+
+static int call(char **words) try {
+    Key key(Line(words[0], ask(words[0], words + 1)));
+    const Direct direct(key);
+    if (restore(key.line, direct.find_key())) return count("direct", direct.first, words), 0;
+    const Bytes name = key.sum();
+    const Words list = direct.list_of(name);
+    const bool is_hit = restore(key.line, name);
+    if (!is_hit) note_why(key.line);
+    const Compiled it = is_hit ? Compiled{0, true} : compile(key, name);
+    if (it.is_kept) direct.keep(list);
+    return count(is_hit ? "hit" : it.is_kept ? "miss" : "unkept", name, words), it.status;
+} catch (const KeepNothing &it) {
+    count("given", it.why, words);
+    execvp(words[0], words);
+    const int status = errno == ENOENT ? 127 : 126;
+    return perror(words[0]), status;
+}
+
+int main(int number, char **words) {
+    const Bytes first = number > 1 ? words[1] : "-", home = getenv("HOME") ? getenv("HOME") : "/tmp";
+    store = whole(getenv("CACHE") ? getenv("CACHE") : home + "/.cache/scl");
+    fs::create_directories(store, ignored);
+    if (first == "--stats") return print_counts();
+    if (first == "--why") return printf("%s", is_file(store + "/why") ? content(store + "/why").c_str() : ""), 0;
+    if (first[0] == '-') return fprintf(stderr, "usage: cache COMPILER WORD .. | cache --stats | cache --why\n"), 64;
+    return call(words + 1);
+}

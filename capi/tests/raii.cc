@@ -1,0 +1,32 @@
+// The classes of scl.hpp: memory is given back once, also after moves, and an answer that is none is empty. Run under the sanitizers.
+#include <algorithm>
+#include <cassert>
+#include <cstdio>
+#include <string>
+#include <vector>
+#include "scl.hpp"
+
+static scl::Answer asked(std::string_view word) {
+    scl::Request request("gcc", {"-c", "a.c"});
+    request.add_word(word);
+    request.raw().wants_key = true;
+    return request.ask();
+}
+
+int main() {
+    const std::string word = "-DTEXT=a b";
+    scl::Answer answer = asked(word);
+    const std::vector<std::string_view> words(answer.command().begin(), answer.command().end());
+    assert(words.size() == answer.command().size() && std::count(words.begin(), words.end(), word) == 1);
+    assert(answer.outputs().size() == 1 && answer.outputs()[0].path == "a.o" && !answer.outputs()[0].is_optional);
+    assert(answer.key_size() > 1 && answer.key_at(0).name == "is" && !answer.key_at(0).is_asked);
+
+    scl::Answer moved = std::move(answer);
+    assert(moved && moved.is_cacheable() && moved.command()[0] == "-x");
+    moved = asked("-E");
+    assert(moved.is_refused() && moved.reason() == "-E" && moved.command().empty());
+    moved = scl::Request("rustc").ask();
+    assert(!moved && moved.status() == scl::Status::no_such_compiler && !moved.is_cacheable());
+    assert(moved.command().empty() && moved.hazards().empty() && moved.input().empty() && !moved.key_size());
+    std::puts("the classes of scl.hpp give their memory back");
+}

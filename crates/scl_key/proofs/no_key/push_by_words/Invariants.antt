@@ -1,9 +1,0 @@
-use Rattle.std.proofs.Common.{◌≡◌, ◌++◌, take}
-use Rattle.std.specs.List.{flat_map}
-use Rattle.scl_values.specs.Words.{words_of}
-use Rattle.scl_key.specs.Views.{no_keys_of}
-use Rattle.scl_key.specs.Keys.{no_key_by}
-use Rattle.scl_key.proofs.no_key.push_by_words.Given as goal
-
-abbrev pub invariant-loop-word : goal.invariant-loop-word
-invariant-loop-word l = no_keys_of l.why.items ≡ no_keys_of l.initial.why.items ++ flat_map no_key_by (words_of (take l.word-index l.words))

@@ -1,0 +1,191 @@
+-- Direct mode: what a cache needs to find a key without a run of the compiler.
+use Rattle.std.specs.Prelude.{ℕ, Bool, true, false, nat_eq, ◌&&◌, ◌||◌, not, List, [], ◌∷◌, ◌++◌, map, codes, Option, None, Some, unwrap_or, if◌then◌else◌}
+use Rattle.std.specs.List.{list_all, list_any, starts_with}
+use Rattle.std.specs.Str.{bytes_eq}
+use Rattle.scl_gnu.specs.OutputFiles.{without_output_files}
+use Rattle.scl_text.specs.Languages.{needs_c_preprocessing}
+use Rattle.scl_text.specs.Records.{Parsed}
+use Rattle.scl_text.specs.declared.language.Language.{Language}
+use Rattle.scl_description.specs.Rows.{Entry, row_entry}
+use Rattle.scl_reader.specs.declared.compiler.Compiler.{Compiler}
+use Rattle.scl_key.specs.declared.effect.Effect.{Effect}
+use Rattle.scl_key.specs.declared.effect.Effect.TheVariants.{Plain, Exact}
+use Rattle.scl_key.specs.declared.given.Brings.{Brings}
+use Rattle.scl_key.specs.declared.given.Brings.TheVariants.{Folder, Header, MacroFile, Other, Unknown}
+use Rattle.scl_key.specs.Effects.{Judged, Row, front_effect, is_plain, judged_in, row}
+use Rattle.scl_key.specs.Families.{is_gnu}
+use Rattle.scl_key.specs.Given.{awaited_by, awaited_next, flags, given_by, given_in, headers, is_known, is_text, macro_files}
+use Rattle.scl_key.specs.Reads.{is_path}
+use Rattle.scl_key.specs.Runs.{hides_header, is_assembler, marked_runs}
+
+-- what a cache asks or does
+pub data Direct : Type 0 where
+  -- a variable whose value belongs in the first key
+  env : (name : List ℕ) → Direct
+  -- words with which the compiler names the folders that a run searches
+  search : (words : List (List ℕ)) → Direct
+  -- a header that words name, or that no word names
+  first : (header : List ℕ) → Direct
+  -- the pattern of what names a file in a source
+  named : (pattern : List ℕ) → Direct
+  -- a pattern that no source may have
+  refuse_if_read : (pattern : List ℕ) → Direct
+
+-- ---- rows
+
+abbrev pub direct_fields : Direct → List (List ℕ)
+direct_fields (env name) = codes "env" ∷ name ∷ []
+direct_fields (search words) = codes "search" ∷ words
+direct_fields (first header) = codes "first" ∷ header ∷ []
+direct_fields (named pattern) = codes "named" ∷ pattern ∷ []
+direct_fields (refuse_if_read pattern) = codes "refuse-if-read" ∷ pattern ∷ []
+
+abbrev pub direct_entry : Direct → Entry
+direct_entry d = row_entry (codes "direct") (direct_fields d)
+
+-- rows `direct`
+abbrev pub direct_entries : List Direct → List Entry
+direct_entries ds = map direct_entry ds
+
+-- ---- where the mode may be used
+
+-- Beginnings of words that are not plain, and what they do in a run of the preprocessor: it reads nothing more because of them
+-- (Plain), or it may (Exact). The first with which a word begins says.
+unfoldable pub run_fronts : List Row
+run_fronts =
+    row "-g" Plain
+    ∷ row "-Wa," Plain
+    ∷ row "-Werror" Plain
+    ∷ row "-Wp,-MD," Plain
+    ∷ row "-Wp,-MMD," Plain
+    ∷ row "-fmodul" Exact
+    ∷ row "-fimplicit-modul" Exact
+    ∷ row "-fprebuilt-modul" Exact
+    ∷ row "-fbuiltin-modul" Exact
+    ∷ row "-fsystem-modul" Exact
+    ∷ row "-fplugin" Exact
+    ∷ row "-fpass-plugin" Exact
+    ∷ row "-fapinotes" Exact
+    ∷ row "-fpch" Exact
+    ∷ row "-fms-" Exact
+    ∷ row "-fembed-" Exact
+    ∷ row "-finclude" Exact
+    ∷ row "-f" Plain
+    ∷ row "-module" Exact
+    ∷ row "-m" Plain
+    ∷ row "--param" Plain
+    ∷ row "--target=" Plain
+    ∷ row "-target" Plain
+    ∷ row "--sysroot" Plain
+    ∷ row "-stdlib=" Plain
+    ∷ row "--gcc-toolchain=" Plain
+    ∷ row "-arch" Plain
+    ∷ row "-Xclang" Plain
+    ∷ row "-Xassembler" Plain
+    ∷ row "-pedantic-errors" Plain
+    ∷ row "-Qunused-arguments" Plain
+    ∷ row "-trigraphs" Plain
+    ∷ row "-undef" Plain
+    ∷ []
+
+-- a value of the word before it, and no name of a file of words
+abbrev pub is_value : List ℕ → Bool
+is_value word = is_path word && not (starts_with nat_eq word (codes "@"))
+
+-- a run reads nothing more because of the word
+abbrev pub is_quiet : Judged → Bool
+is_quiet j = is_plain j.effect || (is_value j.word || is_plain (unwrap_or (front_effect run_fronts j.word) Exact))
+
+-- a run names each file of which it shows the text
+abbrev pub names_sources : Language → Bool
+names_sources language = is_text language || (is_assembler language && needs_c_preprocessing language)
+
+-- the files that its markers name, and those that stand where it searches, are all that a run reads
+abbrev pub may_direct : Compiler → Parsed → Bool
+may_direct compiler p =
+    is_gnu compiler
+    && (names_sources p.language
+    && (not (list_any (λ word. bytes_eq word hides_header) p.common_args)
+    && (list_all (λ g. is_known g.brings) (given_in p.preprocessor_args) && list_all is_quiet (judged_in p.common_args))))
+
+-- ---- what is searched
+
+-- the value says where a run searches
+abbrev pub is_searched : Brings → Bool
+is_searched Folder = true
+is_searched Header = false
+is_searched MacroFile = false
+is_searched Other = true
+is_searched Unknown = false
+
+-- what a word brings in, or belongs to
+abbrev pub brought : Option Brings → List ℕ → Brings
+brought (Some brings) word = brings
+brought None word = unwrap_or (awaited_by flags word) (given_by word).brings
+
+-- the words of the preprocessor that say where a run searches
+abbrev pub search_words : (awaited : Option Brings) → List (List ℕ) → List (List ℕ)
+search_words awaited [] = []
+search_words awaited (word ∷ words) =
+    if is_searched (brought awaited word) then word ∷ search_words (awaited_next awaited word) words else search_words (awaited_next awaited word) words
+
+-- The record of a run that names the folders that it searches. It reads its input from standard input.
+abbrev pub search_record : Parsed → Parsed
+search_record p = record p {
+  input = codes "-";
+  double_dash_input = false;
+  dependency_args = [];
+  preprocessor_args = codes "-v" ∷ search_words None p.preprocessor_args;
+  common_args = without_output_files p.common_args;
+}
+
+-- ---- all of it
+
+-- variables by which a run reads more, or another time
+abbrev pub direct_variables : List (List ℕ)
+direct_variables =
+    codes "CPATH"
+    ∷ codes "C_INCLUDE_PATH"
+    ∷ codes "CPLUS_INCLUDE_PATH"
+    ∷ codes "OBJC_INCLUDE_PATH"
+    ∷ codes "OBJCPLUS_INCLUDE_PATH"
+    ∷ codes "SOURCE_DATE_EPOCH"
+    ∷ []
+
+-- headers that no word and no source names: gcc includes them before all others
+abbrev pub implied : List (List ℕ)
+implied = codes "stdc-predef.h" ∷ []
+
+-- What names a file in a source: its name stands after the first `<` or `"` of what is found, and ends before the last byte.
+abbrev pub naming : List ℕ
+naming = codes "(include|import)(_next)?[^!-~\n]*\\(?[^!-~\n]*(<[^>\n]*>|\"[^\"\n]*\")"
+
+-- What reads the time, or what no name in a source says: macros of time, bytes of a file, pragmas, trigraphs and digraphs, an
+-- included name that is a macro, a directive after a comment, and a name that is asked for by a macro.
+abbrev pub unseen : List (List ℕ)
+unseen =
+    codes "__(DATE|TIME|TIMESTAMP)__"
+    ∷ codes "__has_embed|#[^!-~\n]*embed"
+    ∷ codes "ragma.*(dependency|module|pch_preprocess|include_alias)"
+    ∷ codes "\\?\\?[/=]"
+    ∷ codes "%:[^!-~\n]*[a-z/]"
+    ∷ codes "^[^!-~\n]*#[^!-~\n]*(include|include_next|import)([^!-~\n]+[A-Za-z_$]|[^!-~\n]*/)"
+    ∷ codes "\\*/[^!-~\n]*#"
+    ∷ codes "#[^!-~\n]*/[*]"
+    ∷ codes "__has_include(_next)?[^!-~\n]*(\\([^!-~\n]*[!#-;=-~]|/)"
+    ∷ codes "define[^!-~\n].*__has_include(_next)?[^!-~\n]*([!-')-~]|$)"
+    ∷ []
+
+abbrev pub directs_if : Bool → Compiler → Parsed → List Direct
+directs_if may c p =
+    if may
+    then map env direct_variables
+    ++ map search (marked_runs c (search_record p))
+    ++ map first implied
+    ++ map first (headers p ++ macro_files p)
+    ++ named naming ∷ map refuse_if_read unseen
+    else []
+
+-- what a cache needs in direct mode; nothing if the mode may not be used
+abbrev pub directs : Compiler → Parsed → List Direct
+directs c p = directs_if (may_direct c p) c p

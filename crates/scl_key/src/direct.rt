@@ -1,0 +1,400 @@
+//! Direct mode: what a cache needs to find a key without a run of the compiler.
+ghost use Rattle.std.specs.Prelude.{◌≡◌, ◌++◌, ◌∷◌, [], map, codes, true, None, IfOk, OnOk};
+ghost use Rattle.std.specs.List.{list_all};
+ghost use Rattle.scl_values.specs.Words.{words_of};
+ghost use Rattle.scl_text.specs.Records.{parsed_of};
+ghost use Rattle.scl_text.specs.Runs.{runs_of};
+ghost use Rattle.scl_description.specs.Rows.{entries_text, entry_text, row_entry};
+ghost use Rattle.scl_key.specs.Directs.{brought, direct_entries, direct_entry, direct_variables, directs, directs_if, first, implied, is_quiet, is_searched, is_value, may_direct, named, names_sources, naming, refuse_if_read, run_fronts, search, search_record, search_words, unseen};
+ghost use Rattle.scl_key.specs.Directs.{env as env_asked};
+ghost use Rattle.scl_key.specs.Effects.{judged, judged_in, rows_of};
+ghost use Rattle.scl_key.specs.Given.{given_in, values_among};
+ghost use Rattle.scl_key.specs.GivenViews.{all_given};
+ghost use Rattle.scl_key.specs.JudgedViews.{all_judged};
+ghost use Rattle.scl_key.specs.Runs.{marked_runs};
+ghost use Rattle.scl_key.specs.Views.{direct_of, directs_of};
+ghost use Rattle.scl_key.specs.declared.given.Brings.TheVariants as Brings;
+
+use crate::effect::{Effect, Judged, front_effect};
+use crate::family::is_gnu;
+use crate::given::{
+    Brings, Given, Known, all_flags, all_known, awaited_by, awaited_next, given_by, is_text,
+    values_among,
+};
+use crate::part::push_named;
+use crate::reads::is_path;
+use crate::runs::{HIDES_HEADER, is_among, is_assembler, marked_runs};
+use scl_description::push_row;
+use scl_gnu::gcc::without_output_files;
+use scl_reader::Compiler;
+use scl_text::Mem;
+use scl_text::command::{copy_words, push_word};
+use scl_text::language::Language;
+use scl_text::records::ParsedArguments;
+use std::alloc::Global;
+
+/// What a cache asks or does in direct mode (docs/RULES.md, Keys).
+#[derive(Debug, PartialEq, Eq, Drop)]
+pub enum Direct {
+    /// A variable whose value belongs in the first key.
+    Env(&'static str),
+    /// Words with which the compiler names the folders that a run searches.
+    Search(Vec<Vec<u8>>),
+    /// A header that words name, or that no word names.
+    First(Vec<u8>),
+    /// The pattern of what names a file in a source: the name stands after the first `<` or `"` of what is found, and ends
+    /// before the last byte.
+    Named(&'static str),
+    /// A pattern that no source may have: if one has it, no list is stored.
+    RefuseIfRead(&'static str),
+}
+
+/// Beginnings of words that are not plain, and what they do in a run of the preprocessor: it reads nothing more because of them
+/// (`Plain`), or it may (`Exact`). The first with which a word begins says.
+static RUN_FRONTS: [(&'static str, Effect); 33] = [
+    ("-g", Effect::Plain),
+    ("-Wa,", Effect::Plain),
+    ("-Werror", Effect::Plain),
+    ("-Wp,-MD,", Effect::Plain),
+    ("-Wp,-MMD,", Effect::Plain),
+    ("-fmodul", Effect::Exact),
+    ("-fimplicit-modul", Effect::Exact),
+    ("-fprebuilt-modul", Effect::Exact),
+    ("-fbuiltin-modul", Effect::Exact),
+    ("-fsystem-modul", Effect::Exact),
+    ("-fplugin", Effect::Exact),
+    ("-fpass-plugin", Effect::Exact),
+    ("-fapinotes", Effect::Exact),
+    ("-fpch", Effect::Exact),
+    ("-fms-", Effect::Exact),
+    ("-fembed-", Effect::Exact),
+    ("-finclude", Effect::Exact),
+    ("-f", Effect::Plain),
+    ("-module", Effect::Exact),
+    ("-m", Effect::Plain),
+    ("--param", Effect::Plain),
+    ("--target=", Effect::Plain),
+    ("-target", Effect::Plain),
+    ("--sysroot", Effect::Plain),
+    ("-stdlib=", Effect::Plain),
+    ("--gcc-toolchain=", Effect::Plain),
+    ("-arch", Effect::Plain),
+    ("-Xclang", Effect::Plain),
+    ("-Xassembler", Effect::Plain),
+    ("-pedantic-errors", Effect::Plain),
+    ("-Qunused-arguments", Effect::Plain),
+    ("-trigraphs", Effect::Plain),
+    ("-undef", Effect::Plain),
+];
+
+/// Variables by which a run reads more, or another time.
+static VARIABLES: [&'static str; 6] = [
+    "CPATH",
+    "C_INCLUDE_PATH",
+    "CPLUS_INCLUDE_PATH",
+    "OBJC_INCLUDE_PATH",
+    "OBJCPLUS_INCLUDE_PATH",
+    "SOURCE_DATE_EPOCH",
+];
+
+/// Headers that no word and no source names: gcc includes them before all others.
+static IMPLIED: [&'static str; 1] = ["stdc-predef.h"];
+
+/// What names a file in a source.
+const NAMING: &str = "(include|import)(_next)?[^!-~\n]*\\(?[^!-~\n]*(<[^>\n]*>|\"[^\"\n]*\")";
+
+/// What reads the time, or what no name in a source says: macros of time, bytes of a file, pragmas, trigraphs and digraphs, an
+/// included name that is a macro, a directive after a comment, and a name that is asked for by a macro.
+static UNSEEN: [&'static str; 10] = [
+    "__(DATE|TIME|TIMESTAMP)__",
+    "__has_embed|#[^!-~\n]*embed",
+    "ragma.*(dependency|module|pch_preprocess|include_alias)",
+    "\\?\\?[/=]",
+    "%:[^!-~\n]*[a-z/]",
+    "^[^!-~\n]*#[^!-~\n]*(include|include_next|import)([^!-~\n]+[A-Za-z_$]|[^!-~\n]*/)",
+    "\\*/[^!-~\n]*#",
+    "#[^!-~\n]*/[*]",
+    "__has_include(_next)?[^!-~\n]*(\\([^!-~\n]*[!#-;=-~]|/)",
+    "define[^!-~\n].*__has_include(_next)?[^!-~\n]*([!-')-~]|$)",
+];
+
+#[tactic(auto, unfolding(crate::specs::Directs::run_fronts))]
+fn run_fronts() -> &'static [(&'static str, Effect)]
+    ensures { rows_of result.now ≡ run_fronts }
+{
+    &RUN_FRONTS
+}
+
+fn variables() -> &'static [&'static str]
+    ensures { map (λ name. name.now) result.now ≡ direct_variables }
+{
+    &VARIABLES
+}
+
+fn implied() -> &'static [&'static str]
+    ensures { map (λ header. header.now) result.now ≡ implied }
+{
+    &IMPLIED
+}
+
+fn unseen() -> &'static [&'static str]
+    ensures { map (λ pattern. pattern.now) result.now ≡ unseen }
+{
+    &UNSEEN
+}
+
+// ---- where the mode may be used
+
+/// Whether a word is a value of the word before it, and no name of a file of words.
+fn is_value(word: &[u8]) -> bool
+    ensures { result ≡ is_value word.now }
+{
+    is_path(word) && !word.starts_with(b"@")
+}
+
+/// Whether a run reads nothing more because of a word with this effect.
+fn is_quiet(effect: Effect, word: &[u8]) -> bool
+    ensures { result ≡ is_quiet (judged word.now effect) }
+{
+    effect.is_plain()
+        || is_value(word)
+        || front_effect(run_fronts(), word)
+            .unwrap_or(Effect::Exact)
+            .is_plain()
+}
+
+fn are_quiet(words: &[Judged<'_>]) -> bool
+    ensures { result ≡ list_all is_quiet (all_judged words.now) }
+{
+    for one in words {
+        if !is_quiet(one.effect, one.word) {
+            return false;
+        }
+    }
+    true
+}
+
+/// Whether a run names each file of which it shows the text.
+fn names_sources(language: Language) -> bool
+    ensures { result ≡ names_sources language }
+{
+    is_text(language) || is_assembler(language) && language.needs_c_preprocessing()
+}
+
+/// Whether the files that its markers name, and those that stand where it searches, are all that a run reads.
+fn may_direct(compiler: Compiler, known: &Known<'_>, parsed: &ParsedArguments) -> bool
+    requires common { all_judged known.now.common.items ≡ judged_in (parsed_of parsed.now).common_args }
+    requires given { all_given known.now.given.items ≡ given_in (parsed_of parsed.now).preprocessor_args }
+    ensures { result ≡ may_direct compiler (parsed_of parsed.now) }
+{
+    is_gnu(compiler)
+        && names_sources(parsed.language)
+        && !is_among(HIDES_HEADER, &parsed.common_args)
+        && all_known(&known.given)
+        && are_quiet(&known.common)
+}
+
+// ---- what is searched
+
+impl Brings {
+    /// Whether the value says where a run searches.
+    fn is_searched(self) -> bool
+        ensures { result ≡ is_searched self }
+    {
+        match self {
+            Brings::Folder | Brings::Other => true,
+            Brings::Header | Brings::MacroFile | Brings::Unknown => false,
+        }
+    }
+}
+
+/// What a word brings in, or belongs to.
+fn brought(awaited: Option<Brings>, word: &[u8]) -> Brings
+    ensures { result ≡ brought awaited word.now }
+{
+    match awaited {
+        Some(brings) => brings,
+        None => match awaited_by(all_flags(), word) {
+            Some(brings) => brings,
+            None => given_by(word).brings,
+        },
+    }
+}
+
+/// Appends the words of the preprocessor that say where a run searches.
+fn push_search_words(alloc: Global, found: &mut Vec<Vec<u8>>, words: &[Vec<u8>]) -> Mem<()>
+    ensures { OnOk result (words_of found.new.items ≡ words_of found.old.items ++ search_words None (words_of words.now)) }
+{
+    let mut awaited = None;
+    for word in words {
+        if brought(awaited, word).is_searched() {
+            push_word(alloc, found, word)?;
+        }
+        awaited = awaited_next(awaited, word);
+    }
+    Ok(())
+}
+
+/// The record of a run that names the folders that it searches.
+fn search_record(alloc: Global, parsed: &ParsedArguments) -> Mem<ParsedArguments>
+    ensures { IfOk result (λ searching. parsed_of searching ≡ search_record (parsed_of parsed.now)) }
+{
+    let mut words = Vec::new(alloc);
+    push_word(alloc, &mut words, b"-v")?;
+    push_search_words(alloc, &mut words, &parsed.preprocessor_args)?;
+    let mut searching = parsed.copy(alloc)?;
+    searching.input = Vec::from_slice(alloc, b"-")?;
+    searching.double_dash_input = false;
+    searching.dependency_args = Vec::new(alloc);
+    searching.preprocessor_args = words;
+    searching.common_args = without_output_files(alloc, &parsed.common_args)?;
+    Ok(searching)
+}
+
+/// The words of the runs that name the folders that they search.
+fn searches(alloc: Global, compiler: Compiler, parsed: &ParsedArguments) -> Mem<Vec<Vec<Vec<u8>>>>
+    ensures { IfOk result (λ runs. runs_of runs.items ≡ marked_runs compiler (search_record (parsed_of parsed.now))) }
+{
+    let searching = search_record(alloc, parsed)?;
+    marked_runs(alloc, compiler, &searching)
+}
+
+// ---- all of it
+
+/// Appends variables.
+fn push_variables(rows: &mut Vec<Direct>, names: &[&'static str]) -> Mem<()>
+    ensures { OnOk result (directs_of rows.new.items ≡ directs_of rows.old.items ++ map env_asked (map (λ name. name.now) names.now)) }
+{
+    for name in names {
+        rows.push(Direct::Env(*name))?;
+    }
+    Ok(())
+}
+
+/// Appends what names folders.
+fn push_searches(alloc: Global, rows: &mut Vec<Direct>, runs: &[Vec<Vec<u8>>]) -> Mem<()>
+    ensures { OnOk result (directs_of rows.new.items ≡ directs_of rows.old.items ++ map search (runs_of runs.now)) }
+{
+    for one in runs {
+        rows.push(Direct::Search(copy_words(alloc, one)?))?;
+    }
+    Ok(())
+}
+
+/// Appends headers that words name.
+fn push_first(alloc: Global, rows: &mut Vec<Direct>, headers: &[&[u8]]) -> Mem<()>
+    ensures { OnOk result (directs_of rows.new.items ≡ directs_of rows.old.items ++ map first (map (λ header. header.now) headers.now)) }
+{
+    for header in headers {
+        rows.push(Direct::First(Vec::from_slice(alloc, header)?))?;
+    }
+    Ok(())
+}
+
+/// Appends headers that no word names.
+fn push_implied(alloc: Global, rows: &mut Vec<Direct>, headers: &[&'static str]) -> Mem<()>
+    ensures { OnOk result (directs_of rows.new.items ≡ directs_of rows.old.items ++ map first (map (λ header. header.now) headers.now)) }
+{
+    for header in headers {
+        rows.push(Direct::First(Vec::from_slice(alloc, header.as_bytes())?))?;
+    }
+    Ok(())
+}
+
+/// Appends what no source may have.
+fn push_unseen(rows: &mut Vec<Direct>, patterns: &[&'static str]) -> Mem<()>
+    ensures { OnOk result (directs_of rows.new.items ≡ directs_of rows.old.items ++ map refuse_if_read (map (λ pattern. pattern.now) patterns.now)) }
+{
+    for pattern in patterns {
+        rows.push(Direct::RefuseIfRead(*pattern))?;
+    }
+    Ok(())
+}
+
+/// Appends the headers, and the files of macros, that words name.
+fn push_all_first(alloc: Global, rows: &mut Vec<Direct>, given: &[Given<'_>]) -> Mem<()>
+    ensures { OnOk result (directs_of rows.new.items ≡ directs_of rows.old.items ++ map first (values_among Brings.Header (all_given given.now) ++ values_among Brings.MacroFile (all_given given.now))) }
+{
+    let headers = values_among(alloc, Brings::Header, given)?;
+    push_first(alloc, rows, &headers)?;
+    let files = values_among(alloc, Brings::MacroFile, given)?;
+    push_first(alloc, rows, &files)
+}
+
+/// Appends what is searched in sources.
+fn push_patterns(rows: &mut Vec<Direct>) -> Mem<()>
+    ensures { OnOk result (directs_of rows.new.items ≡ directs_of rows.old.items ++ named naming ∷ map refuse_if_read unseen) }
+{
+    rows.push(Direct::Named(NAMING))?;
+    push_unseen(rows, unseen())
+}
+
+/// What a cache needs if the mode may be used.
+fn all_directs(
+    alloc: Global,
+    compiler: Compiler,
+    given: &[Given<'_>],
+    parsed: &ParsedArguments,
+) -> Mem<Vec<Direct>>
+    requires given { all_given given.now ≡ given_in (parsed_of parsed.now).preprocessor_args }
+    ensures { IfOk result (λ rows. directs_of rows.items ≡ directs_if true compiler (parsed_of parsed.now)) }
+{
+    let mut rows = Vec::new(alloc);
+    push_variables(&mut rows, variables())?;
+    let runs = searches(alloc, compiler, parsed)?;
+    push_searches(alloc, &mut rows, &runs)?;
+    push_implied(alloc, &mut rows, implied())?;
+    push_all_first(alloc, &mut rows, given)?;
+    push_patterns(&mut rows)?;
+    Ok(rows)
+}
+
+/// What a cache needs in direct mode; nothing if the mode may not be used.
+pub(crate) fn directs(
+    alloc: Global,
+    compiler: Compiler,
+    known: &Known<'_>,
+    parsed: &ParsedArguments,
+) -> Mem<Vec<Direct>>
+    requires common { all_judged known.now.common.items ≡ judged_in (parsed_of parsed.now).common_args }
+    requires given { all_given known.now.given.items ≡ given_in (parsed_of parsed.now).preprocessor_args }
+    ensures { IfOk result (λ rows. directs_of rows.items ≡ directs compiler (parsed_of parsed.now)) }
+{
+    if may_direct(compiler, known, parsed) {
+        all_directs(alloc, compiler, &known.given, parsed)
+    } else {
+        Ok(Vec::new(alloc))
+    }
+}
+
+// ---- rows
+
+/// Appends the row `direct NAME TEXT`.
+fn push_text(text: &mut Vec<u8>, name: &str, value: &[u8]) -> Mem<()>
+    ensures { OnOk result (text.new.items ≡ text.old.items ++ entry_text (row_entry (codes "direct") (name.now ∷ value.now ∷ []))) }
+{
+    push_row(text, "direct", &[name.as_bytes(), value])
+}
+
+/// Appends a row `direct`.
+fn push_one(text: &mut Vec<u8>, direct: &Direct) -> Mem<()>
+    ensures { OnOk result (text.new.items ≡ text.old.items ++ entry_text (direct_entry (direct_of direct.now))) }
+{
+    match direct {
+        Direct::Env(name) => push_text(text, "env", name.as_bytes()),
+        Direct::Search(words) => push_named(text, "direct", "search", words),
+        Direct::First(header) => push_text(text, "first", header),
+        Direct::Named(pattern) => push_text(text, "named", pattern.as_bytes()),
+        Direct::RefuseIfRead(pattern) => push_text(text, "refuse-if-read", pattern.as_bytes()),
+    }
+}
+
+/// Appends rows `direct`.
+pub(crate) fn push_directs(text: &mut Vec<u8>, rows: &[Direct]) -> Mem<()>
+    ensures { OnOk result (text.new.items ≡ text.old.items ++ entries_text (direct_entries (directs_of rows.now))) }
+{
+    for row in rows {
+        push_one(text, row)?;
+    }
+    Ok(())
+}
