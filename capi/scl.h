@@ -59,8 +59,8 @@ uint32_t scl_version(void);
 int32_t scl_run(const uint8_t *request, size_t request_len, uint8_t *room, size_t room_len, size_t *wanted);
 
 /* The same with a description of the answer (docs/PROTOCOL.md, A description), as describe writes it; the request may have
- * lines `setting`, and without one words, and openings of files, are bounded by 1,000,000. SCL_NEWER: the bad line is one of a
- * setting, and *wanted its number. */
+ * lines `setting`. Without `setting bound` it may have 1,000,000 words, and open files as often. SCL_NEWER: the bad line is one
+ * of a setting, and *wanted its number. */
 int32_t scl_describe(const uint8_t *request, size_t request_len, uint8_t *room, size_t room_len, size_t *wanted);
 
 /* The same with the hazards of a catalogue whose text is handed in (catalogue/README.md). SCL_BAD_CATALOGUE: *wanted is the
@@ -201,7 +201,7 @@ typedef struct scl_questions {
 /* What an outcome does not have is empty, or false. Each text has a NUL behind it, which its length does not count. */
 typedef struct scl_answer {
     uint32_t outcome;
-    bool is_cacheable; /* whether the outcome of the command may be kept; false if there is a row `keep` */
+    bool is_cacheable; /* whether the outcome of the command may be kept; false if there is a row `keep`, and not `keep yes` */
     bool has_text;
     scl_bytes reason;      /* SCL_CANNOT_CACHE */
     scl_bytes text;        /* beside the reason, where has_text */
@@ -218,8 +218,11 @@ typedef struct scl_answer {
     scl_bytes sentence; /* SCL_CANNOT_CACHE: what the reason means */
     scl_runs options;   /* the fields of each row `option` */
     scl_runs key;       /* the fields of each row `key`, in order: scl_key_at */
-    scl_runs keep;      /* the fields of each row `keep`: `no`, a reason, a word */
+    scl_runs keep;      /* the fields of each row `keep` but `keep yes`: `no`, a reason, a word; or `unknown`, a word */
     scl_runs direct;    /* the fields of each row `direct`, in order */
+    scl_words reads, writes, loads;    /* SCL_COMPILED: files that options read, write and load beside compiling (docs/EFFECTS.md) */
+    scl_words reads_like, writes_like; /* the beginnings of names of such files, where more is not known */
+    scl_words asks;                    /* what options ask of the machine: processor, directory */
 } scl_answer;
 
 /* The memory for an answer: its texts, its words, its pairs, its outputs, and its runs, options and rows of a key. */

@@ -26,6 +26,7 @@ TEXTS = {"input": "input", "compilation-flag": "compilation_flag", "depfile": "d
 SWITCHES = {"double-dash-input": "double_dash_input", "external-assembler": "uses_external_assembler", "show-includes": "show_includes",
             "explicit-language": "explicit_language", "profile-generate": "profile_generate",
             "no-rewrite-includes-only": "suppress_rewrite_includes_only"}
+EFFECTS = {"reads": "reads", "writes": "writes", "loads": "loads", "reads-like": "reads_like", "writes-like": "writes_like", "asks": "asks"}
 QUESTIONS = {"file": "files", "dir": "directories", "exists": "existing"}
 # How many fields a row has at most that says what may be kept.
 MOST_FIELDS = {"hazard": 1, "cacheable": 1, "output": 3, "environment": 2, "language": 1, "color": 1, **dict.fromkeys([*LISTS, *TEXTS, "arg"], 1),
@@ -123,6 +124,12 @@ class Answer:
     key: list[list[bytes]] = _member(default_factory=list)
     keep: list[list[bytes]] = _member(default_factory=list)
     direct: list[list[bytes]] = _member(default_factory=list)  # with `wants_key`
+    reads: list[bytes] = _member(default_factory=list)  # files that options read, write and load beside compiling
+    writes: list[bytes] = _member(default_factory=list)
+    loads: list[bytes] = _member(default_factory=list)
+    reads_like: list[bytes] = _member(default_factory=list)  # the beginnings of names of such files, where more is not known
+    writes_like: list[bytes] = _member(default_factory=list)
+    asks: list[bytes] = _member(default_factory=list)  # what options ask of the machine: processor, directory
     environment: list[tuple[bytes, bytes]] = _member(default_factory=list)
     record: Record | None = None
     runs: list[list[bytes]] = _member(default_factory=list)
@@ -213,6 +220,10 @@ def _is_known_key(name: bytes = b"", *fields: bytes) -> bool:
     return least <= len(fields) <= (len(fields) if most is None else most)
 
 
+def _is_known_keep(what: bytes = b"", *fields: bytes) -> bool:
+    return (what, len(fields)) in ((b"no", 2), (b"unknown", 1))
+
+
 def _answer(outcome: int, of: _Rows, wishes: dict[str, Any]) -> Answer:
     wanted = {row: of.get(row, []) if wishes.get(f"wants_{row}s") else [] for row in ("run", "hazard", "option")}
     asked = {row: [it[1] for it in of.get("wants", []) if it[0] == row.encode()] if wishes.get("wants_questions") else [] for row in QUESTIONS}
@@ -221,14 +232,16 @@ def _answer(outcome: int, of: _Rows, wishes: dict[str, Any]) -> Answer:
     if outcome != COMPILED:
         answer.reason, answer.text, answer.sentence = _text(of, "reason") or b"", _text(of, "because"), _text(of, "sentence") or b""
         return answer
-    answer.keep = of.get("keep", [])
+    answer.keep = [it for it in of.get("keep", []) if it != [b"yes"]]
     if wishes.get("wants_key"):
         answer.key, answer.direct = of.get("key", []), of.get("direct", [])
     has_unknown = any(len(fields) > MOST_FIELDS.get(name, len(fields)) for name, them in of.items() for fields in them)
-    answer.has_unknown = has_unknown or not all(_is_known_key(*it) for it in answer.key) or any(len(it) != 3 or it[0] != b"no" for it in answer.keep)
+    answer.has_unknown = has_unknown or not all(_is_known_key(*it) for it in answer.key) or not all(_is_known_keep(*it) for it in answer.keep)
     answer.is_cacheable = _text(of, "cacheable") == b"yes" and not answer.has_unknown and not answer.keep
     answer.command, answer.environment, answer.record = _words(of, "arg"), [(key, value) for key, value, *_ in of.get("environment", [])], _record(of)
     answer.runs, answer.hazards = wanted["run"], [it[0].decode() for it in wanted["hazard"]]
+    for row, member in EFFECTS.items():
+        setattr(answer, member, _words(of, row))
     return answer
 
 

@@ -237,6 +237,12 @@ static const scl_known_row scl_known_rows[] = {
     {"hash", SCL_ROW_WORD, 0, SCL_AT(record.lists.hash_files), 0, 0},
     {"keep", SCL_ROW_KEEP, 0, SCL_AT(keep), 0, 0},
     {"direct", SCL_ROW_FIELDS, 0, SCL_AT(direct), 0, SCL_WISH(wants_key)},
+    {"reads", SCL_ROW_WORD, 0, SCL_AT(reads), 0, 0},
+    {"writes", SCL_ROW_WORD, 0, SCL_AT(writes), 0, 0},
+    {"loads", SCL_ROW_WORD, 0, SCL_AT(loads), 0, 0},
+    {"reads-like", SCL_ROW_WORD, 0, SCL_AT(reads_like), 0, 0},
+    {"writes-like", SCL_ROW_WORD, 0, SCL_AT(writes_like), 0, 0},
+    {"asks", SCL_ROW_WORD, 0, SCL_AT(asks), 0, 0},
     {"version", SCL_ROW_VERSION, SCL_IN_ALL, 0, 0, 0},
     {"cacheable", SCL_ROW_CACHEABLE, SCL_IN_COMPILED, SCL_AT(is_cacheable), 0, 0},
     {"input", SCL_ROW_TEXT, SCL_IN_COMPILED, SCL_AT(record.input), 0, 0},
@@ -295,7 +301,7 @@ static inline bool scl_knows_fields(unsigned kind, scl_bytes fields) {
     uint32_t key;
     if (!scl_next_field(&fields, &name)) return false;
     while (scl_next_field(&fields, &field)) more++;
-    if (kind == SCL_ROW_KEEP) return scl_is(name, "no") && more == 2;
+    if (kind == SCL_ROW_KEEP) return (scl_is(name, "no") && more == 2) || (scl_is(name, "unknown") && more == 1);
     key = scl_key_kind_of(name);
     return key < SCL_KEYS && more >= scl_known_keys[key].least && more <= scl_known_keys[key].most;
 }
@@ -330,7 +336,7 @@ typedef struct scl_taking {
     scl_room room;
     bool is_told;                  /* in the room */
     bool is_broken;                /* a row is none of this protocol */
-    bool is_kept_never;            /* there is a row `keep` */
+    bool is_kept_never;            /* there is a row `keep`, and not `keep yes` */
     scl_sizes sizes;               /* taken so far */
     size_t counts[SCL_KNOWN_ROWS]; /* of each row */
     size_t starts[SCL_KNOWN_ROWS]; /* where the first of a list stands, in the slots or the runs */
@@ -449,7 +455,7 @@ static inline void scl_take_row(scl_taking *t, scl_bytes row) {
     size_t i = 0, wish;
     if (scl_is(name, "wants") && scl_next_field(&row, &kind)) name.len += kind.len + 1;
     while (i < SCL_KNOWN_ROWS && !scl_is(name, scl_known_rows[i].name)) i++;
-    if (i == SCL_KNOWN_ROWS) return;
+    if (i == SCL_KNOWN_ROWS || (scl_known_rows[i].kind == SCL_ROW_KEEP && scl_is(row, "yes"))) return;
     wish = scl_known_rows[i].wish;
     if (!wish || *SCL_TO(const bool *, SCL_TO(const void *, SCL_CAST(const char *, t->request) + wish))) scl_take_known(t, i, &row);
 }

@@ -4,7 +4,7 @@
 DESCRIBE names the program `describe`, CACHE a folder. CACHE_LOG may name a file, for a line a call: hit, miss, unkept
 or given, and why. Status: the compiler's; 64: called wrongly; 127: the compiler can't be started. The first line has a
 variable so that Python does not change the language of the compiler's messages."""
-import hashlib, io, os, pathlib, re, shutil, subprocess, sys, tempfile, time, zipfile
+import hashlib, marshal, os, pathlib, re, shutil, subprocess, sys, tempfile, time
 from os.path import abspath, dirname, exists, isdir, isfile, join
 ENV, STARTED = os.environb, time.time_ns() - 10**7  # (clocks of file systems are coarse)
 WORDS, STORE = list(map(os.fsencode, sys.argv[1:])), ENV.get(b"CACHE")
@@ -56,7 +56,7 @@ def answer(row, rows):
         case [b"env", name]: return b"=" + ENV[name] if name in ENV else b"-"
         case [b"unset", name]: return need(name not in ENV, b"set: " + name)
         case [b"file", path]: return need(isfile(path), b"no file: " + path) + read(path)
-        case [b"maybe", path]: return read(path)
+        case [b"maybe", path]: return b"" if abspath(path) in made else read(path)  # (what it writes, it does not read)
         case [b"regular", path]: return note(path)
         case [b"run", *words]: return run(words) or need(any(it[0] == b"run-else" for it in rows), "no run") + b"-"
         case [b"run-else", *words]: return b"-" if texts else run(words) + need(texts, "no run") + loaded()
@@ -128,38 +128,43 @@ def compile_and_keep(entry, rows, outputs):
     done = subprocess.run([WORDS[0], *words], capture_output=True)
     sys.stdout.buffer.write(done.stdout)
     show(done.stderr, rows)
-    written = {name: path for name, path, *_ in outputs if stamp(path) not in (None, before[path])}
-    is_whole = done.returncode == 0 and not done.stdout and all(more or name in written for name, _, *more in outputs)
+    written = [path for _, path, *_ in outputs if stamp(path) not in (None, before[path])]
+    is_whole = done.returncode == 0 and not done.stdout and all(more or path in written for _, path, *more in outputs)
     is_kept = is_whole and all(stamp(path) == was and (not was or was[3] < STARTED) for path, was in seen.items())
-    if is_kept: keep(entry, {b"messages": done.stderr, **{name: content(path) for name, path in written.items()}})
+    if is_kept: keep(entry, (done.stderr, {path: content(path) for path in written}))
     log("miss" if is_kept else "unkept", entry[-64:].decode())
     sys.exit(done.returncode)
 def keep(entry, parts):
-    with zipfile.ZipFile(packed := io.BytesIO(), "w") as file:
-        for name in parts: file.writestr(os.fsdecode(name), parts[name])
-    write(entry, packed.getvalue())
+    try: write(entry, digest(packed := marshal.dumps(parts)) + packed)
+    except OSError: pass  # the store may be full: the next call is a miss again
 def write(path, data):  # by another name first, so that nobody sees a part; a link is replaced, not followed
-    with open(part := b"%s.%d" % (path, os.getpid()), "xb") as file: file.write(data)
-    os.replace(part, path)
+    part = b"%s.%d" % (path, os.getpid())
+    try:
+        with open(part, "xb") as file: file.write(data)
+        os.replace(part, path)
+    finally:
+        if exists(part): os.remove(part)
 def show(messages, rows):  # built commands force colours
     is_plain = not sys.stderr.isatty() and [b"color", b"on"] not in rows
     sys.stderr.buffer.write(re.sub(rb"\x1b\[[\d;]*[mK]", b"", messages) if is_plain else messages)
 
 # ---- 5. A hit: put back what was kept. What is no whole entry is a miss
 def restored(entry, rows, outputs):
-    try:
-        with zipfile.ZipFile(os.fsdecode(entry)) as file: kept = {it.encode(): file.read(it) for it in file.namelist()}
-    except (OSError, zipfile.BadZipFile): return False
-    try: [write(path, kept[name]) for name, path, *_ in outputs if name in kept]
-    except OSError as error: raise KeepNothing(error)  # the compiler says it in its words
+    kept = content(entry) if isfile(entry) else b""
+    if digest(kept[32:]) != kept[:32]: return False
+    messages, files = marshal.loads(kept[32:])
+    for _, path, *_ in outputs:
+        if path in files: write(path, files[path])
     log("hit", entry[-64:].decode())
-    return show(kept[b"messages"], rows) or True
+    return show(messages, rows) or True
 
 # ---- tools
 def content(path): return pathlib.Path(os.fsdecode(path)).read_bytes()
 def stamp(path):
     it = os.stat(path) if exists(path) else None
     return it and (it.st_size, it.st_mtime_ns, it.st_ino, it.st_ctime_ns)
+def is_own(path):  # a link would be replaced, where a compiler writes through it
+    return not os.path.lexists(path) or isfile(path) and not os.path.islink(path) and os.stat(path).st_nlink == 1
 def which(name): return os.fsencode(shutil.which(name) or b"")
 def quiet(words, more={}):
     return subprocess.run(words, stdin=subprocess.DEVNULL, capture_output=True, env={**ENV, **more})
@@ -169,15 +174,15 @@ def stop(text, status): sys.exit(print(text, file=sys.stderr) or status)
 if not WORDS or b"DESCRIBE" not in ENV or not STORE or not isdir(STORE): stop(__doc__, 64)
 try:
     rows = described()
-    key, never = ([row[1:] for row in rows if row[0] == name] for name in (b"key", b"keep"))
-    why = [*never, *(row[1:] for row in rows if row[0] == b"reason"), [b"no key"]]
-    need(key and not never and [b"version", b"1"] in rows, b" ".join(why[0]))
+    key, may = ([row[1:] for row in rows if row[0] == name] for name in (b"key", b"keep"))
+    why = [*(it for it in may if it != [b"yes"]), *(row[1:] for row in rows if row[0] == b"reason"), [b"no key"]]
+    need(key and may == [[b"yes"]] and [b"version", b"1"] in rows, b" ".join(why[0]))
     outputs = [row[1:] for row in key if row[0] == b"output"]
     made.update(abspath(path) for _, path, *_ in outputs)
-    for _, path, *_ in outputs: need(not os.path.islink(path) and (isfile(path) or not exists(path)), path)
+    for _, path, *_ in outputs: need(is_own(path), b"an output is no file, or has two names: " + path)
     entry = join(STORE, key_of(key))
     if restored(entry, rows, outputs): sys.exit()
     compile_and_keep(entry, rows, outputs)
-except KeepNothing as why: log("given", why)
+except (KeepNothing, OSError) as why: log("given", why)  # what can't be written, the compiler says in its words
 try: os.execvp(WORDS[0], WORDS)
 except OSError as error: stop(f"cache.py: {sys.argv[1]}: {error.strerror}", 127)

@@ -44,10 +44,18 @@ var keys = map[string]struct{ least, most int }{"is": {1, many}, "output": {2, 3
 	"env": {1, 1}, "unset": {1, 1}, "file": {1, 1}, "maybe": {1, 1}, "regular": {1, 1}, "run": {0, many}, "run-else": {0, many}, "pch": {0, many},
 	"sources": {0, 0}, "sources-if-shown": {1, 1}, "times": {0, 0}, "refuse-if-shown": {1, 1}}
 
+// kept has the rows `keep`, and how many fields each has.
+var kept = map[string]int{"yes": 1, "no": 3, "unknown": 2}
+
+// isRefusal says whether the row tells that nothing is kept.
+func (r Row) isRefusal() bool {
+	return r.Name == "keep" && (len(r.Fields) == 0 || r.Fields[0] != "yes")
+}
+
 func (r Row) isKnown() bool {
 	switch r.Name {
 	case "keep":
-		return len(r.Fields) == 3 && r.Fields[0] == "no"
+		return len(r.Fields) > 0 && len(r.Fields) == kept[r.Fields[0]]
 	case "key":
 		if len(r.Fields) == 0 {
 			return false
@@ -85,9 +93,9 @@ func answerOf(text string) (*Answer, error) {
 	default:
 		return nil, ErrNewer
 	}
-	answer.IsCacheable = answer.Word("cacheable") == "yes" && len(answer.Fields("keep")) == 0
+	answer.IsCacheable = answer.Word("cacheable") == "yes"
 	for _, row := range answer.Rows {
-		answer.IsCacheable = answer.IsCacheable && row.isKnown()
+		answer.IsCacheable = answer.IsCacheable && row.isKnown() && !row.isRefusal()
 	}
 	return answer, nil
 }

@@ -32,7 +32,7 @@ func TestFieldsAreRead(t *testing.T) {
 
 func TestWhatIsNotKnownIsNotKept(t *testing.T) {
 	for rows, isKept := range map[string]bool{"": true, "notes a b c\nkey env A\n": true, "key what A\n": false, "key env\n": false, "key env A B\n": false,
-		"keep no hazard x\n": false, "keep not\n": false, "hazard a b\n": false} {
+		"keep yes\n": true, "keep yes x\n": false, "keep unknown x\n": false, "keep no hazard x\n": false, "keep not\n": false, "hazard a b\n": false} {
 		if told(rows).IsCacheable != isKept {
 			t.Errorf("%q: %v", rows, !isKept)
 		}

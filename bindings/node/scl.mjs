@@ -18,6 +18,9 @@ const KEYS = {is: [1, Infinity], output: [2, 3], directory: [0, 0], compiler: [0
   maybe: [1, 1], regular: [1, 1], run: [0, Infinity], "run-else": [0, Infinity], pch: [0, Infinity], sources: [0, 0], "sources-if-shown": [1, 1],
   times: [0, 0], "refuse-if-shown": [1, 1]};
 
+// The rows `keep`, and how many fields each has.
+const KEPT = {yes: 1, no: 3, unknown: 2};
+
 const field = (it) => Buffer.from(it).toString("latin1").replace(/[^!-[\]-~]/g, (byte) => "\\x" + byte.charCodeAt(0).toString(16).padStart(2, "0"));
 const bytes = (it) => Buffer.from(it.replace(/\\x(..)/g, (_, digits) => String.fromCharCode(parseInt(digits, 16))), "latin1");
 
@@ -31,7 +34,7 @@ export function request({compiler, words = [], directory = "", environment = [],
 }
 
 function isKnown({name, fields}) {
-  if (name === "keep") return fields.length === 3 && fields[0].equals(Buffer.from("no"));
+  if (name === "keep") return KEPT[String(fields[0])] === fields.length;
   if (name !== "key") return !Object.hasOwn(MOST_FIELDS, name) || fields.length <= MOST_FIELDS[name];
   const key = String(fields[0]), [least, most] = Object.hasOwn(KEYS, key) ? KEYS[key] : [1, 0];
   return fields.length > least && fields.length - 1 <= most;
@@ -45,7 +48,7 @@ export class Answer {
     this.rows = lines.map((line) => line.split(" ")).map(([name, ...fields]) => ({name, fields: fields.map(bytes)}));
     if (!OUTCOMES.includes(this.outcome) || String(this.word("version")) !== PROTOCOL) throw new Error(`not known here: ${outcome}`);
     const cacheable = String(this.word("cacheable")) === "yes";
-    this.isCacheable = cacheable && this.rows.every(isKnown) && !this.fields("keep").length;
+    this.isCacheable = cacheable && this.rows.every(isKnown) && this.words("keep").every((it) => String(it) === "yes");
   }
 
   /** The fields of each row of this name. */

@@ -25,13 +25,16 @@
 namespace fs = std::filesystem;
 using Bytes = std::string;
 using Words = std::vector<Bytes>;
-struct KeepNothing { Bytes why; };  // thrown: the given words are run, and nothing is kept
-static void need(bool it, const Bytes &why) { if (!it) throw KeepNothing{why}; }
+
+// Thrown: the given words are run, and nothing is kept.
+struct KeepNothing : std::runtime_error { using runtime_error::runtime_error; };
+static void need(bool it, const Bytes &why) { if (!it) throw KeepNothing(why); }
 
 // ---- texts
 
 static Words operator+(Words all, const Words &more) { return all.insert(all.end(), more.begin(), more.end()), all; }
 static bool has(const Words &all, const Bytes &it) { return std::find(all.begin(), all.end(), it) != all.end(); }
+static Words words_of(const scl::Words &list) { return Words(list.begin(), list.end()); }
 
 // FNV-1a of 128 bits: good against chance. It is none against malice, but who can write sources can write objects.
 static Bytes sum_of(const Bytes &text) {
@@ -54,65 +57,54 @@ static Words unpacked(const Bytes &text) {
     return all;
 }
 
-static Words split(const Bytes &text, const char *separators) {
-    Words all;
-    for (size_t at = 0, end; at <= text.size(); at = end + 1) {
-        end = std::min(text.find_first_of(separators, at), text.size());
-        all.push_back(text.substr(at, end - at));
-    }
-    return all;
-}
-
-// Where an extended regular expression is found, from `begin` on; `^` and `$` match at each line.
-static bool find(const Bytes &pattern, const Bytes &text, size_t &begin, size_t &end) {
+// What an extended regular expression matches in a text, and what stands between; `^` and `$` match at each line.
+struct Cut { Words found, between; };
+static Cut cut(const Bytes &text, const Bytes &pattern, size_t most = SIZE_MAX) {
     static std::map<Bytes, regex_t> known;
     const auto [it, is_new] = known.try_emplace(pattern);
     need(!is_new || !regcomp(&it->second, pattern.c_str(), REG_EXTENDED | REG_NEWLINE), "a pattern that is none");
-    const int flags = REG_STARTEND | (begin && text[begin - 1] != '\n' ? REG_NOTBOL : 0);
-    regmatch_t found = {regoff_t(begin), regoff_t(text.size())};
-    if (regexec(&it->second, text.c_str(), 1, &found, flags)) return false;
-    begin = size_t(found.rm_so), end = size_t(found.rm_eo);
-    return true;
-}
-static bool matches(const Bytes &text, const Bytes &pattern) {
-    size_t begin = 0, end;
-    return find(pattern, text, begin, end);
-}
-static Bytes without(const Bytes &pattern, Bytes text) {
-    for (size_t at = 0, end; find(pattern, text, at, end);) text.erase(at, end - at);
-    return text;
-}
-
-// Adds the byte that stands at a backslash as a number, as \101 or \x41; `at` is set to its end. False: it is none.
-static bool read_number(const Bytes &text, size_t &at, Bytes &all) {
-    const Bytes near = text.substr(at, 12);
-    unsigned byte;
-    for (const char *form : {"\\x{%x}%n", "\\x%x%n", "\\u00%2x%n", "\\%3o%n"}) {
-        int len = 0;
-        if (sscanf(near.c_str(), form, &byte, &len) < 1 || !len) continue;
-        return all += char(byte), at += size_t(len) - 1, true;
+    Cut all;
+    size_t from = 0;
+    while (all.found.size() < most) {
+        regmatch_t at = {regoff_t(from), regoff_t(text.size())};
+        const int flags = REG_STARTEND | (from && text[from - 1] != '\n' ? REG_NOTBOL : 0);
+        if (regexec(&it->second, text.c_str(), 1, &at, flags)) break;
+        all.between.push_back(text.substr(from, size_t(at.rm_so) - from));
+        all.found.push_back(text.substr(size_t(at.rm_so), size_t(at.rm_eo - at.rm_so)));
+        from = size_t(at.rm_eo);
     }
-    return false;
+    all.between.push_back(text.substr(from));
+    return all;
 }
-
-// What stands between two quotes, as compilers write it. `at` is the first quote, and then the second one.
-static Bytes unquoted(const Bytes &text, size_t &at) {
+static bool matches(const Bytes &text, const Bytes &pattern) { return !cut(text, pattern, 1).found.empty(); }
+static Bytes without(const Bytes &text, const Bytes &pattern) {
     Bytes all;
-    while (++at < text.size() && text[at] != '"')
-        if (text[at] != '\\' || !read_number(text, at, all)) all += text[text[at] == '\\' ? ++at : at];
+    for (const Bytes &it : cut(text, pattern).between) all += it;
     return all;
 }
 
-// A text as an assembler gets it: strings side by side are joined, and bytes written as numbers are read.
-static Bytes as_assembled(const Bytes &text) {
+// A text with bytes that are written as numbers, as \101, \x41, \x{41} or \u0041, read. In a string, so is \" or \\.
+static Bytes unescaped(const Bytes &text, bool is_string) {
     Bytes all;
     for (size_t at = 0; at < text.size(); at++) {
-        const size_t next = text[at] == '"' ? text.find_first_not_of(" \t\n\v\f\r", at + 1) : Bytes::npos;
-        if (next < text.size() && text[next] == '"') at = next;
-        else if (text[at] != '\\' || !read_number(text, at, all)) all += text[at];
+        unsigned byte = 0;
+        int len = 0;
+        for (const char *form : {"\\x{%x}%n", "\\x%x%n", "\\u00%2x%n", "\\%3o%n"})
+            if (text[at] == '\\' && !len) sscanf(text.substr(at, 12).c_str(), form, &byte, &len);
+        if (is_string && text[at] == '\\' && !len) at++;
+        all += len ? char(byte) : text[at];
+        at += len ? size_t(len) - 1 : 0;
     }
     return all;
 }
+// What stands between the first quote and the last one, as compilers write it.
+static const Bytes string_pattern = "\"([^\"\\\n]|\\\\.)*\"";
+static Bytes unquoted(const Bytes &text) {
+    const size_t begin = text.find('"') + 1;
+    return unescaped(text.substr(begin, text.rfind('"') - begin), true);
+}
+// A text as an assembler gets it: strings side by side are joined.
+static Bytes as_assembled(const Bytes &text) { return unescaped(without(text, "\"[ \t\n\v\f\r]*\""), false); }
 
 // ---- files
 
@@ -120,7 +112,6 @@ static std::error_code ignored;
 static bool is_file(const Bytes &path) { return fs::is_regular_file(path, ignored); }
 static bool is_folder(const Bytes &path) { return fs::is_directory(path, ignored); }
 static Bytes whole(const Bytes &path) { return fs::absolute(path).lexically_normal().string(); }
-static Bytes name_of(const Bytes &path) { return fs::path(path).filename().string(); }
 static Bytes folder_of(const Bytes &path) { return fs::path(path).parent_path().string(); }
 static Bytes inside(const Bytes &folder, const Bytes &name) { return (fs::path(folder) / name).string(); }
 static Words files_in(const Bytes &folder) {
@@ -185,11 +176,11 @@ static void put(const Bytes &name, const Words &parts) {
 template <class Look> static Words remembered(const Bytes &what, const Bytes &path, Look look) {
     const Stamp is(path);
     const Bytes name = sum_of(packed({what, path, is.text}));
-    Words found;
-    if (get(name, found)) return found;
-    found = look(path);
-    if (is.is_settled()) put(name, found);
-    return found;
+    Words parts;
+    if (get(name, parts)) return parts;
+    parts = look(path);
+    if (is.is_settled()) put(name, parts);
+    return parts;
 }
 
 // If the store is too large, what was not used for longest goes, until four fifths are left.
@@ -210,16 +201,16 @@ static void remove_oldest() {
 
 struct Ran { int status; Bytes out, err; };
 
-// Runs the words, and takes what they write. A quiet program gets an empty standard input, and may get a variable.
-static Ran run(const Words &words, bool is_quiet, const char *variable = nullptr, const Bytes &value = "") {
+// Runs the words, and takes what they write. A quiet program gets an empty standard input; one may get a variable.
+static Ran run(const Words &words, bool is_quiet, Bytes variable = "") {
     std::vector<char *> all;
-    for (const Bytes &it : words) all.push_back(const_cast<char *>(it.c_str()));
     for (const Bytes &it : words) need(it.find('\0') == Bytes::npos, "a word holds a NUL");
+    for (const Bytes &it : words) all.push_back(const_cast<char *>(it.c_str()));
     all.push_back(nullptr);
     const int out = memfd_create("out", MFD_CLOEXEC), err = memfd_create("err", MFD_CLOEXEC);
     const pid_t child = fork();
     if (!child) {
-        if (variable) setenv(variable, value.c_str(), 1);
+        if (!variable.empty()) putenv(&variable[0]);
         if (is_quiet) dup2(open("/dev/null", O_RDONLY), 0);
         dup2(out, 1), dup2(err, 2);
         execvp(all[0], all.data());
@@ -235,7 +226,7 @@ static Bytes value_of(const Bytes &name) { return getenv(name.c_str()) ? Bytes("
 
 // The file of a program; empty: there is none.
 static Bytes program_of(const Bytes &name) {
-    for (const Bytes &folder : split(name.find('/') != Bytes::npos ? "" : value_of("PATH").substr(1), ":"))
+    for (const Bytes &folder : cut(name.find('/') != Bytes::npos ? "" : value_of("PATH").substr(1), ":").between)
         if (const Bytes file = inside(folder, name); is_file(file) && !access(file.c_str(), X_OK)) return file;
     return "";
 }
@@ -248,9 +239,9 @@ static Bytes sum_of_file(const Bytes &path) {
 // its variables stay as they are. A library that newly stands earlier in a folder that the program names is not seen.
 static Bytes sum_of_program(const Bytes &path) {
     const Bytes loader = value_of("LD_LIBRARY_PATH") + value_of("LD_PRELOAD") + Stamp("/etc/ld.so.cache").text;
-    const auto ask_for = [](const Bytes &program) { return split(run({"ldd", program}, true).out, " \t\n"); };
+    const auto ask_for = [](const Bytes &program) { return cut(run({"ldd", program}, true).out, "/[^ \n]+").found; };
     Bytes sums = sum_of_file(path);
-    for (const Bytes &word : remembered(loader, path, ask_for)) if (word[0] == '/') sums += sum_of_file(word);
+    for (const Bytes &library : remembered(loader, path, ask_for)) sums += sum_of_file(library);
     return sums;
 }
 
@@ -261,15 +252,12 @@ static Bytes served_name(const Bytes &compiler) {
     static const Bytes served = "(^|[-/])(gcc|g[+][+]|clang|clang[+][+]|cl|clang-cl|diab|tasking)(-[0-9.]+)?$";
     Bytes path = compiler;
     for (int links = 0; links < 40; links++) {
-        size_t begin = 0, end;
-        if (find(served, path, begin, end)) return without("^[-/]|-[0-9.]+$", path.substr(begin));
+        if (const Words name = cut(path, served).found; !name.empty()) return without(name[0], "^[-/]|-[0-9.]+$");
         if (!links) path = program_of(compiler);
         path = inside(folder_of(path), fs::read_symlink(path, ignored).string());
     }
-    throw KeepNothing{"the compiler's name"};
+    throw KeepNothing("the compiler's name");
 }
-
-static Words words_of(const scl::Words &list) { return Words(list.begin(), list.end()); }
 
 // Asks until the answer wants nothing that is there.
 static scl::Answer ask(const Bytes &compiler, char **words) {
@@ -292,83 +280,82 @@ static scl::Answer ask(const Bytes &compiler, char **words) {
     }
 }
 
-struct Row { uint32_t kind; bool is_asked, is_named; Words fields; Bytes name, text, sum; };  // `sum`: of its answer
-struct Output { Bytes name, path; bool is_optional; };
-
-// A command line of which something may be kept.
-struct Line {
-    Bytes compiler, input;
-    Words command;              // what a miss runs
-    std::vector<Row> rows;
-    std::vector<Words> direct;
-    std::vector<Output> outputs;
-    Words made;                 // the outputs' whole paths
-    bool has_colors, has_else = false;
-
-    Line(const Bytes &program, const scl::Answer &answer) : compiler(program), command(words_of(answer.command())) {
-        Bytes why(answer.reason());
-        for (const scl::Words &row : answer.keep()) why += packed(words_of(row));
-        need(answer.is_cacheable() && answer.key_size(), why.empty() ? "no key" : why);
-        for (size_t i = 0; i < answer.key_size(); i++) take(answer.key_at(i), scl_key_at(&answer.raw(), i).kind);
-        const scl_runs &rest = answer.raw().direct;
-        for (size_t i = 0; i < rest.len; i++) direct.push_back(words_of(scl::words(rest.at[i])));
-        has_colors = isatty(2) || answer.record().color == SCL_COLOR_ON;
-        for (const Output &output : outputs) {
-            struct stat it;
-            const bool is_own = lstat(output.path.c_str(), &it) || (S_ISREG(it.st_mode) && it.st_nlink == 1);
-            need(is_own, "an output is no file, or has two names: " + output.path);
-            made.push_back(whole(output.path));
-        }
-    }
-    void take(const scl::KeyRow &row, uint32_t kind) {
-        const Words it = words_of(row.fields);
-        const Bytes name(row.name);
-        rows.push_back({kind, row.is_asked, row.is_named, it, name, packed(Words{name} + it), ""});
-        if (kind == SCL_KEY_OUTPUT) outputs.push_back({it[0], it[1], it.size() > 2});
-        if (kind == SCL_KEY_IS && it[0] == "input") input = it[1];
-        if (kind == SCL_KEY_IS && it[0] == "run-words" && it[1] == "given") command.assign(it.begin() + 2, it.end());
-        has_else = has_else || kind == SCL_KEY_RUN_ELSE;
-    }
+struct Row {
+    scl_key_row is;
+    Words words;    // the name, and the fields
+    Bytes sum;      // of the answer
 };
 
 // ---- 2. hash the rows, 3. answer them
 
 struct Key {
-    Line line;
+    Bytes compiler, input;
+    scl::Answer said;
+    Words command;                  // what a miss runs
+    std::vector<Row> rows;
+    std::vector<Words> direct;
+    std::map<Bytes, bool> outputs;  // whether each may lack
+    std::set<Bytes> made;           // the outputs' whole paths
+    bool has_colors, has_else = false, has_failed = false;
     std::map<Bytes, Bytes> seen;    // the files that were read, and their stamps then
     Words texts, sources, first;    // what runs wrote; the files that they name; those that they name before other text
     Words looked;                   // where a precompiled header was looked for
-    bool has_failed = false;
-    explicit Key(const Line &it) : line(it) {}
+
+    Key(const Bytes &program, scl::Answer &&answer) : compiler(program), said(std::move(answer)) {
+        Bytes why(said.reason());
+        for (const scl::Words &row : said.keep()) why += packed(words_of(row));
+        need(said.is_cacheable() && said.key_size(), why.empty() ? "no key" : why);
+        command = words_of(said.command());
+        has_colors = isatty(2) || said.record().color == SCL_COLOR_ON;
+        const scl::Lists key(said.raw().key.at, said.raw().key.len), rest(said.raw().direct.at, said.raw().direct.len);
+        for (size_t i = 0; i < key.size(); i++) take({scl_key_at(&said.raw(), i), words_of(key[i]), ""});
+        for (const scl::Words &row : rest) direct.push_back(words_of(row));
+        for (const auto &[path, may_lack] : outputs) {
+            struct stat it;
+            const bool is_own = lstat(path.c_str(), &it) || (S_ISREG(it.st_mode) && it.st_nlink == 1);
+            need(is_own, "an output is no file, or has two names: " + path);
+            made.insert(whole(path));
+        }
+    }
+    void take(const Row &row) {
+        const Words &it = row.words;
+        rows.push_back(row);
+        if (row.is.kind == SCL_KEY_OUTPUT) outputs[it[2]] = it.size() > 3;
+        if (row.is.kind == SCL_KEY_RUN_ELSE) has_else = true;
+        if (row.is.kind != SCL_KEY_IS || it.size() < 3) return;
+        if (it[1] == "input") input = it[2];
+        if (it[1] == "run-words" && it[2] == "given") command.assign(it.begin() + 3, it.end());
+    }
 
     // Of some rows only the name is hashed: their fields say what to start, and where to look.
     Bytes sum() {
         Bytes sums;
-        for (Row &row : line.rows) {
-            if (row.is_asked && row.sum.empty()) row.sum = sum_of(answer(row));
-            sums += sum_of(row.is_named ? row.name : row.text) + row.sum;
+        for (Row &row : rows) {
+            if (row.is.is_asked && row.sum.empty()) row.sum = sum_of(answer(row));
+            sums += sum_of(row.is.is_named ? row.words[0] : packed(row.words)) + row.sum;
         }
         return sum_of(sums);
     }
     Bytes answer(const Row &row) {
-        const Bytes it = row.fields.empty() ? "" : row.fields[0];
-        switch (row.kind) {
+        const Words fields(row.words.begin() + 1, row.words.end());
+        const Bytes it = fields.empty() ? "" : fields[0];
+        switch (row.is.kind) {
         case SCL_KEY_DIRECTORY: return directory();
-        case SCL_KEY_COMPILER: return name_of(line.compiler) + sum_of_program(program_of(line.compiler));
-        case SCL_KEY_PLAN: return plan(row.fields);
+        case SCL_KEY_COMPILER: return fs::path(compiler).filename().string() + sum_of_program(program_of(compiler));
+        case SCL_KEY_PLAN: return plan(fields);
         case SCL_KEY_ENV: return value_of(it);
         case SCL_KEY_UNSET: return need(value_of(it) == "-", "set: " + it), "";
         case SCL_KEY_FILE: return need(is_file(it), "no file: " + it), read(it);
-        case SCL_KEY_MAYBE: return read(it);
+        case SCL_KEY_MAYBE: return made.count(whole(it)) ? "" : read(it);  // what the command writes, it does not read
         case SCL_KEY_REGULAR: return note(it), "";
-        case SCL_KEY_RUN: return preprocessed(row.fields);
-        case SCL_KEY_RUN_ELSE: return has_failed ? with_loaded(preprocessed(row.fields)) : "-";
-        case SCL_KEY_PCH: return read_all(precompiled(row.fields));
+        case SCL_KEY_RUN: return preprocessed(fields);
+        case SCL_KEY_RUN_ELSE: return has_failed ? preprocessed(fields) : "-";
+        case SCL_KEY_PCH: return read_all(precompiled(fields));
         case SCL_KEY_SOURCES: return read_all(all_sources());
         case SCL_KEY_SOURCES_IF_SHOWN: return is_shown(it) ? read_all(all_sources()) : "-";
         case SCL_KEY_TIMES: return stamps_of_sources();
         case SCL_KEY_REFUSE_IF_SHOWN: return refuse_if_shown(it), "";
-        default: throw KeepNothing{"a row that is not known"};
+        default: throw KeepNothing("a row that is not known");
         }
     }
 
@@ -377,7 +364,7 @@ struct Key {
         const Bytes it = whole(path);
         const bool is_usual = is_file(path) || is_folder(path) || !fs::exists(path, ignored);
         need(is_usual && it.rfind("/dev/", 0) && it.rfind("/proc/", 0), "no regular file: " + path);
-        if (!is_folder(path) && !has(line.made, it)) seen.emplace(path, Stamp(path).text);
+        if (!is_folder(path) && !made.count(it)) seen.emplace(path, Stamp(path).text);
     }
     Bytes read(const Bytes &path) {
         note(path);
@@ -399,7 +386,7 @@ struct Key {
         const char *named = getenv("PWD");
         return named && *named == '/' && fs::equivalent(named, ".", ignored) ? named : fs::current_path().string();
     }
-    Words all_sources() const { return has(sources, line.input) ? sources : sources + Words{line.input}; }
+    Words all_sources() const { return has(sources, input) ? sources : sources + Words{input}; }
     Bytes stamps_of_sources() const {
         Bytes all;
         for (const Bytes &path : sources) all += packed({path, Stamp(path).size_and_time});
@@ -409,26 +396,26 @@ struct Key {
         return std::any_of(texts.begin(), texts.end(), [&](const Bytes &it) { return matches(it, pattern); });
     }
     void refuse_if_shown(const Bytes &pattern) const {
-        for (const Bytes &it : sources.empty() ? texts + Words{content(line.input)} : texts)
+        for (const Bytes &it : sources.empty() ? texts + Words{content(input)} : texts)
             need(!matches(as_assembled(it), pattern), "shown: " + pattern);
     }
 
     // What the driver would start, and the bytes of each program and file that it names.
     Bytes plan(const Words &words) {
-        static const Bytes word = "\"([^\"\\\n]|\\\\.)*\"|[^ \"\n]+";
         const Bytes own = store + "/scl-plan";
         fs::create_directories(own, ignored);
-        const Ran ran = run(Words{line.compiler, "-###"} + words, true, "TMPDIR", own);
+        const Ran ran = run(Words{compiler, "-###"} + words, true, "TMPDIR=" + own);
         need(!ran.status, "the plan fails");
-        Bytes text = without("[^ =\"\n]*/scl-plan/[^ \"\n]*", ran.err), sums;  // (names of temporary files)
-        std::set<Bytes> files;
-        for (size_t at = 0, end; find(word, text, at, end); at = end) {
-            const bool is_program = at > 1 && text[at - 1] == ' ' && text[at - 2] == '\n';
-            const Bytes name = text[at] == '"' ? unquoted(text, at) : text.substr(at, end - at);
-            files.insert({is_program ? program_of(name) : name, name.substr(name.find('=') + 1)});
+        Bytes text = without(ran.err, "[^ =\"\n]*/scl-plan/[^ \"\n]*"), sums;  // (names of temporary files)
+        std::set<Bytes> paths;
+        for (const Bytes &it : cut(text, "^ (" + string_pattern + "|[^ \"\n]+)").found)
+            paths.insert(program_of(it[1] == '"' ? unquoted(it) : it.substr(1)));
+        for (const Bytes &it : cut(text, string_pattern + "|[^ \"\n]+").found) {
+            const Bytes word = it[0] == '"' ? unquoted(it) : it;
+            paths.insert({word, word.substr(word.find('=') + 1)});
         }
-        for (const Bytes &path : files) {
-            if (!is_file(path) || path == line.input || has(line.made, whole(path))) continue;
+        for (const Bytes &path : paths) {
+            if (!is_file(path) || path == input || made.count(whole(path))) continue;
             note(path);
             sums += sum_of(path) + sum_of_program(path);
         }
@@ -439,39 +426,37 @@ struct Key {
     Bytes preprocessed(Words words) {
         const Bytes own = store + "/own." + std::to_string(getpid());
         std::replace(words.begin(), words.end(), Bytes(1, '\0'), own);
-        const Ran ran = run(Words{line.compiler} + words, true);
+        const Ran ran = run(Words{compiler} + words, true);
         const Bytes written = is_file(own) ? content(own) : "";
         unlink(own.c_str());
-        if (ran.status && line.has_else && !has_failed) return has_failed = true, "failed";
+        if (ran.status && has_else && !has_failed) return has_failed = true, "failed";
         need(!ran.status, "a run fails");
         texts.push_back(ran.out);
         take_markers(ran.out);
-        return ran.out + sum_of(written);
+        return ran.out + sum_of(written) + (has_failed ? read_all(loaded()) : "");
     }
 
     // A line marker is `# N "P" FLAGS` or `#line N "P"`. The flag 1 stands where a file begins that is included.
     void take_markers(const Bytes &text) {
-        static const Bytes marker = "^#(line)? [0-9]+ \"([^\"\\\n]|\\\\.)*\"[ 0-9]*$";
+        static const Bytes marker = "^#(line)? [0-9]+ " + string_pattern + "[ 0-9]*$";
         static const Bytes other = "^[ \t]*([^# \t\n]|#[^ ldu]|# [^0-9])";  // (no blank line, marker or macro)
-        size_t begin = 0, text_begins = 0, end;
-        need(matches(text, marker) || !matches(text, "[^ \t\r\f\v]"), "a run hides its sources");
-        if (!find(other, text, text_begins, end)) text_begins = text.size();
-        for (; find(marker, text, begin, end); begin = end) {
-            size_t quote = text.find('"', begin);
-            const Bytes name = unquoted(text, quote), flags = text.substr(quote, end - quote);
+        const Words markers = cut(text, marker).found;
+        const size_t before = cut(cut(text, other, 1).between[0], marker).found.size();
+        need(!markers.empty() || !matches(text, "[^ \t\r\f\v]"), "a run hides its sources");
+        for (size_t i = 0; i < markers.size(); i++) {
+            const Bytes name = unquoted(markers[i]);
             if (matches(name, "^<|//$")) continue;
             if (!has(sources, name)) note(name), sources.push_back(name);
-            if (begin < text_begins && matches(flags, " 1")) first.push_back(name);
+            if (i < before && matches(markers[i], "\"[ 0-9]* 1[ 0-9]*$")) first.push_back(name);
         }
     }
 
-    // What a run wrote, and the precompiled headers that it loaded.
-    Bytes with_loaded(const Bytes &answer) {
-        const Bytes &text = texts.back();
+    // The precompiled headers that the last run loaded.
+    Words loaded() const {
         Words all;
-        for (size_t at = 0, end; find("^#pragma GCC pch_preprocess ", text, at, end); at = end)
-            all.push_back(unquoted(text, end));
-        return answer + read_all(all);
+        for (const Bytes &it : cut(texts.back(), "^#pragma GCC pch_preprocess " + string_pattern).found)
+            all.push_back(unquoted(it));
+        return all;
     }
 
     // The precompiled headers that a search can find (docs/PROTOCOL.md, A key): files, and files of folders.
@@ -482,7 +467,7 @@ struct Key {
             if (what == "header") headers.push_back(name);
             if (what == "folder") folders.push_back(name);
             if (what == "beside") folders.push_back(folder_of(name));
-            if (what == "variable" && getenv(name.c_str())) folders = folders + split(getenv(name.c_str()), ":");
+            if (what == "variable" && getenv(name.c_str())) folders = folders + cut(getenv(name.c_str()), ":").between;
         }
         std::set<Bytes> paths;
         for (const Bytes &header : headers) folders.push_back(folder_of(header));
@@ -491,7 +476,7 @@ struct Key {
             for (size_t at = 0; at <= header.size(); at = std::min(header.find('/', at), header.size()) + 1)
                 for (const Bytes &folder : folders) paths.insert(inside(folder, header.substr(at)) + ".gch");
         for (const Bytes &path : paths)
-            for (const Bytes &it : Words{path} + files_in(path)) if (!has(line.made, whole(it))) looked.push_back(it);
+            for (const Bytes &it : Words{path} + files_in(path)) if (!made.count(whole(it))) looked.push_back(it);
         for (const Bytes &path : looked) if (fs::exists(path, ignored) && !is_folder(path)) all.push_back(path);
         return all;
     }
@@ -505,20 +490,20 @@ struct Direct {
 
     explicit Direct(Key &it) : key(it) {
         Bytes sums;
-        for (Row &row : key.line.rows) {
-            if (row.is_asked && row.kind < SCL_KEY_RUN) row.sum = sum_of(key.answer(row));
-            sums += sum_of(row.text) + row.sum;
+        for (Row &row : key.rows) {
+            if (row.is.is_asked && row.is.kind < SCL_KEY_RUN) row.sum = sum_of(key.answer(row));
+            sums += sum_of(packed(row.words)) + row.sum;
         }
-        for (const Words &row : key.line.direct) {
+        for (const Words &row : key.direct) {
             if (row.size() < 2 || !has({"env", "search", "first", "named", "refuse-if-read"}, row[0])) return;
             sums += sum_of(packed(row)) + sum_of(row[0] == "env" ? value_of(row[1]) : "");
         }
-        if (!key.line.direct.empty()) first = sum_of(sums);
+        if (!key.direct.empty()) first = sum_of(sums);
     }
     // The fields of all rows of a name.
     Words rows(const Bytes &name) const {
         Words all;
-        for (const Words &row : key.line.direct) if (row[0] == name) all.insert(all.end(), row.begin() + 1, row.end());
+        for (const Words &row : key.direct) if (row[0] == name) all.insert(all.end(), row.begin() + 1, row.end());
         return all;
     }
 
@@ -531,10 +516,10 @@ struct Direct {
     }
     // The key of a list that is as it was; empty: there is none.
     Bytes find_key() const {
-        for (char slot = '0'; slot < '8'; slot++) {
+        for (char slot = '0'; slot < '8' && !first.empty(); slot++) {
             Words list;
             size_t at = 1;
-            if (first.empty() || !get(first + slot, list)) continue;
+            if (!get(first + slot, list)) continue;
             while (at < list.size() && look(list[at]) == list[at + 1]) at += 2;
             if (at >= list.size()) return list[0];
         }
@@ -574,29 +559,28 @@ struct Direct {
     }
     // The names that a source includes or asks for, after the word `names`.
     Words names_in(const Bytes &path) const {
-        const Bytes text = without("\\\\[ \t\r\v\f]*\n", content(path));
+        const Bytes text = without(content(path), "\\\\[ \t\r\v\f]*\n");
         Words all = {"names"};
         for (const Bytes &pattern : rows("refuse-if-read")) if (matches(text, pattern)) return {"refused"};
         for (const Bytes &pattern : rows("named"))
-            for (size_t at = 0, end; find(pattern, text, at, end); at = end) {
-                const size_t from = text.find_first_of("<\"", at) + 1;
-                all.push_back(text.substr(from, end - from - 1));
+            for (const Bytes &it : cut(text, pattern).found) {
+                const size_t from = it.find_first_of("<\"") + 1;
+                all.push_back(it.substr(from, it.size() - from - 1));
             }
         return all;
     }
     // The folders in which the compiler looks for headers, as it says itself.
     Words folders() const {
-        const Ran ran = run(Words{key.line.compiler} + rows("search"), true, "LC_ALL", "C");
+        const Ran ran = run(Words{key.compiler} + rows("search"), true, "LC_ALL=C");
+        const Cut list = cut(ran.err, "search starts here:$|^End of search list[.]$");
+        need(!ran.status && list.found.size() > 1 && list.found.back()[0] == 'E', "no list of folders");
         Words all;
-        bool is_begun = false, is_ended = false;
-        for (const Bytes &line : split(ran.err, "\n")) {
-            need(!is_begun || !matches(line, "\\((framework directory|headermap)\\)"), "folders of another kind");
-            if (line == "End of search list.") is_ended = is_begun;
-            if (is_begun && !is_ended && line[0] == ' ') all.push_back(line.substr(1));
-            if (matches(line, "search starts here:$")) is_begun = true;
-            if (matches(line, "^ignoring .* directory \".*\"$")) all.push_back(split(line, "\"").at(1));
+        for (size_t i = 1; i < list.found.size(); i++) {
+            need(!matches(list.between[i], "\\((framework directory|headermap)\\)$"), "a folder of another kind");
+            for (const Bytes &line : cut(list.between[i], "^ .*$").found) all.push_back(line.substr(1));
         }
-        need(!ran.status && is_ended, "the folders of a search are not known");
+        for (const Bytes &line : cut(ran.err, "^ignoring .* directory \".*\"$").found)
+            all.push_back(cut(line, "\"").between.at(1));
         return all;
     }
 };
@@ -604,39 +588,37 @@ struct Direct {
 // ---- 5. a miss: compile, and keep what came, if all is as it was
 
 // Built commands force colours.
-static void show(const Bytes &messages, const Line &line) {
-    const Bytes it = line.has_colors ? messages : without("\x1b\\[[0-9;]*[mK]", messages);
+static void show(const Bytes &messages, const Key &key) {
+    const Bytes it = key.has_colors ? messages : without(messages, "\x1b\\[[0-9;]*[mK]");
     fwrite(it.data(), 1, it.size(), stderr);
 }
 
-struct Compiled { int status; bool is_kept; };
-static Compiled compile(const Key &key, const Bytes &name) {
-    const Line &line = key.line;
-    Words parts, before;
-    for (const Output &it : line.outputs) before.push_back(Stamp(it.path).text);
-    const Ran ran = run(Words{line.compiler} + line.command, false);
+// The compiler's status.
+static int compile(const Key &key, const Bytes &name, bool &is_kept) {
+    std::map<Bytes, Bytes> before;
+    Words parts;
+    for (const auto &it : key.outputs) before[it.first] = Stamp(it.first).text;
+    const Ran ran = run(Words{key.compiler} + key.command, false);
     fwrite(ran.out.data(), 1, ran.out.size(), stdout);
-    show(ran.err, line);
-    bool is_kept = !ran.status && ran.out.empty() && key.is_as_it_was();
-    for (size_t i = 0; i < before.size(); i++) {
-        const Output &it = line.outputs[i];
-        const bool is_written = is_file(it.path) && Stamp(it.path).text != before[i];
-        if (is_written) parts.insert(parts.end(), {it.name, content(it.path)});
-        is_kept = is_kept && (is_written || it.is_optional);
+    show(ran.err, key);
+    is_kept = !ran.status && ran.out.empty() && key.is_as_it_was();
+    for (const auto &[path, may_lack] : key.outputs) {
+        const bool is_written = is_file(path) && Stamp(path).text != before[path];
+        if (is_written) parts.insert(parts.end(), {path, content(path)});
+        is_kept = is_kept && (is_written || may_lack);
     }
     if (is_kept) put(name, Words{ran.err} + parts);
-    return {ran.status, is_kept};
+    return ran.status;
 }
 
 // ---- 6. a hit: put back what was kept. False: there is no whole entry
 
-static bool restore(const Line &line, const Bytes &name) {
+static bool restore(const Key &key, const Bytes &name) {
     Words parts;
     if (name.empty() || !get(name, parts)) return false;
     for (size_t i = 1; i + 1 < parts.size(); i += 2)
-        for (const Output &it : line.outputs)
-            if (it.name == parts[i]) need(write_file(it.path, parts[i + 1]), "can't be written: " + it.path);
-    show(parts.at(0), line);
+        if (key.outputs.count(parts[i])) need(write_file(parts[i], parts[i + 1]), "can't be written: " + parts[i]);
+    show(parts.at(0), key);
     return true;
 }
 
@@ -658,31 +640,32 @@ static int print_counts() {
     return 0;
 }
 // Writes down the rows that the last miss of the same output did not have, or with another answer.
-static void note_why(const Line &line) {
-    const Bytes name = sum_of("why " + whole(line.outputs.at(0).path));
+static void note_why(const Key &key) {
+    const Bytes name = sum_of("why " + *key.made.begin());
     Words now, before;
     get(name, before);
     std::ofstream why(store + "/why");
-    for (const Row &row : line.rows) {
-        now.push_back(row.text + row.sum);
-        if (!has(before, now.back())) why << row.name << " " << (row.fields.empty() ? "" : row.fields[0]) << "\n";
+    for (const Row &row : key.rows) {
+        now.push_back(packed(row.words) + row.sum);
+        if (!has(before, now.back())) why << row.words[0] << " " << (row.words.size() > 1 ? row.words[1] : "") << "\n";
     }
     put(name, now);
 }
 
 static int call(char **words) try {
-    Key key(Line(words[0], ask(words[0], words + 1)));
+    Key key(words[0], ask(words[0], words + 1));
     const Direct direct(key);
-    if (restore(key.line, direct.find_key())) return count("direct", direct.first, words), 0;
+    if (restore(key, direct.find_key())) return count("direct", direct.first, words), 0;
     const Bytes name = key.sum();
+    if (restore(key, name)) return direct.keep(direct.list_of(name)), count("hit", name, words), 0;
     const Words list = direct.list_of(name);
-    const bool is_hit = restore(key.line, name);
-    if (!is_hit) note_why(key.line);
-    const Compiled it = is_hit ? Compiled{0, true} : compile(key, name);
-    if (it.is_kept) direct.keep(list);
-    return count(is_hit ? "hit" : it.is_kept ? "miss" : "unkept", name, words), it.status;
-} catch (const KeepNothing &it) {
-    count("given", it.why, words);
+    note_why(key);
+    bool is_kept = false;
+    const int status = compile(key, name, is_kept);
+    if (is_kept) direct.keep(list);
+    return count(is_kept ? "miss" : "unkept", name, words), status;
+} catch (const std::exception &it) {
+    count("given", it.what(), words);
     execvp(words[0], words);
     const int status = errno == ENOENT ? 127 : 126;
     return perror(words[0]), status;

@@ -56,6 +56,7 @@ def rows_of(answer):
         rows.update({"run": answer.runs, "environment": [list(pair) for pair in answer.environment], "hazard": [[it.encode()] for it in answer.hazards],
                      "arg": [[it] for it in answer.command], "cacheable": [[b"yes" if answer.is_cacheable else b"no"]],
                      "key": answer.key, "keep": answer.keep, "direct": answer.direct})
+        rows.update({name: [[it] for it in getattr(answer, of)] for name, of in scl.EFFECTS.items()})
     if answer.outcome == scl.CANNOT_CACHE:
         rows.update({"reason": [[answer.reason]], "because": [] if answer.text is None else [[answer.text]], "sentence": [[answer.sentence]]})
     kinds = {"file": answer.questions.files, "dir": answer.questions.directories, "exists": answer.questions.existing}
@@ -108,8 +109,9 @@ def main(ccline, describe, told, count, seed):
         if scl.describe(request) != said:
             differs(request, "scl_describe", scl.describe(request), said)
         rows = rows_in(said)
-        if "keep" in rows:
-            rows["cacheable"] = [[b"no"]]
+        kept = [it for it in rows.pop("keep", []) if it != [b"yes"]]
+        if kept:
+            rows["keep"], rows["cacheable"] = kept, [[b"no"]]
         kinds[check_ask(name, words, named, rows)] += 1
         check_told(request, structs, rows)
         hazards += len(rows.get("hazard", []))

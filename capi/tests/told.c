@@ -138,6 +138,12 @@ static void put_answer(scl_writer *to, const scl_answer *a) {
     for (size_t i = 0; i < a->key.len; i++) put_fields(to, "key", a->key.at[i]);
     for (size_t i = 0; i < a->keep.len; i++) put_fields(to, "keep", a->keep.at[i]);
     for (size_t i = 0; i < a->direct.len; i++) put_fields(to, "direct", a->direct.at[i]);
+    scl_put_words(to, "reads ", a->reads);
+    scl_put_words(to, "writes ", a->writes);
+    scl_put_words(to, "loads ", a->loads);
+    scl_put_words(to, "reads-like ", a->reads_like);
+    scl_put_words(to, "writes-like ", a->writes_like);
+    scl_put_words(to, "asks ", a->asks);
     scl_put_words(to, "hazard ", a->hazards);
     scl_put_words(to, "wants file ", a->questions.files);
     scl_put_words(to, "wants dir ", a->questions.directories);

@@ -20,7 +20,7 @@ async function answered(words) {
 }
 
 function decision(answer) {
-  const [keep] = answer.fields("keep"), names = answer.words("key").map(String);
+  const [keep] = answer.fields("keep").filter(([what]) => String(what) !== "yes"), names = answer.words("key").map(String);
   if (answer.outcome === "cannot-cache") return `run it as given: ${answer.word("reason")}`;
   if (keep) return `run it as given: ${keep.slice(1).join(" ")}`;
   if (!answer.isCacheable || !names.length) return "run it as given";

@@ -5,7 +5,8 @@ use bumpalo::Bump;
 use scl_catalogue_default::built_in_entries;
 use scl_catalogue_text::{ReadError, read};
 use scl_cl::{Counted, Outcome, serve_each};
-use scl_describe::{Catalogue, Descriptions, Entry, describe};
+use scl_describe::{Catalogue, Descriptions, Entry, Tables, describe};
+use scl_effects_default::plain_names;
 use std::io::{self, ErrorKind};
 use std::process::ExitCode;
 use std::{env, fs};
@@ -18,7 +19,7 @@ usage: describe [--catalogue FILE]            one request on standard input, its
        describe [--catalogue FILE] --batch    many requests, each ended by a line `end`; so is each description
        describe --help | --version
 
-Hazards are those of the catalogue FILE (catalogue/README.md), or of the built-in one.
+Hazards and effects of options are those of the catalogue FILE (catalogue/README.md), or of the built-in one.
 
 example: printf 'compiler gcc\\nword -c\\nword a.c\\n' | describe
 
@@ -80,21 +81,23 @@ fn tell(rt: &HostRuntime, outcome: Outcome) -> u8 {
     outcome.status()
 }
 
-/// Describes what standard input asks, with the hazards of a catalogue, and gives the status.
+/// Describes what standard input asks, by a catalogue, and gives the status.
 fn describe_by(rt: &HostRuntime, catalogue: &Catalogue<'_>, is_batch: bool) -> u8 {
+    let tables = Tables {
+        catalogue: *catalogue,
+        plain: plain_names(),
+    };
     let mut reader = Counted::new(rt.stdin());
     let mut writer = Counted::new(rt.stdout());
     let outcome = if is_batch {
         serve_each(
             rt.alloc(),
-            &Descriptions {
-                catalogue: *catalogue,
-            },
+            &Descriptions { tables },
             &mut reader,
             &mut writer,
         )
     } else {
-        describe(rt.alloc(), catalogue, &mut reader, &mut writer)
+        describe(rt.alloc(), &tables, &mut reader, &mut writer)
     };
     tell(rt, outcome)
 }

@@ -1,12 +1,14 @@
 //! The answers to the entries of a compile database.
-use crate::arguments::{variables, working_directory};
+use crate::arguments::working_directory;
 use crate::disk::SystemDisk;
 use crate::fault::{Fault, warn};
 use crate::file::{name_of, read_file};
-use crate::options::DatabaseArguments;
+use crate::one::variables_of;
+use crate::options::{DatabaseArguments, Settings};
 use crate::progress::Progress;
+use scl_cl::MOST;
 use scl_describe::About;
-use scl_explain::{Counts, Ending};
+use scl_explain::{Counts, Ending, EntryKind};
 use scl_report::{Batch, Database, ending_of_counts};
 use std::io::{self, BufWriter, Write};
 
@@ -48,32 +50,52 @@ fn answer_database(
     Ok(ending)
 }
 
+/// The database at a path; none where the file is none, which is told.
+pub fn database_at(rt: &HostRuntime, path: &str) -> Result<Option<Database>, Fault> {
+    let bytes = read_file(rt, path)?;
+    match Database::of_text(rt.alloc(), &bytes)? {
+        Ok(database) => Ok(Some(database)),
+        Err(error) => {
+            let name = name_of(rt, path)?;
+            let line = format!(in rt.alloc(); "{name}: {error}")?;
+            warn(rt, &line);
+            Ok(None)
+        }
+    }
+}
+
+/// How entries are answered of which this is asked.
+pub fn batch_of<'a>(
+    rt: &HostRuntime,
+    about: About<'a>,
+    settings: &Settings,
+    json: bool,
+    only: Option<EntryKind>,
+) -> Result<Batch<'a>, Fault> {
+    Ok(Batch {
+        about,
+        named: settings.compiler,
+        base: working_directory(rt)?,
+        env_vars: variables_of(rt, settings)?,
+        multiarch: settings.multiarch,
+        may_dist: settings.may_dist,
+        bound: settings.bound.unwrap_or(MOST),
+        json,
+        only,
+    })
+}
+
 /// Answers each entry of a database.
 pub fn database<'a>(
     rt: &HostRuntime,
     about: About<'a>,
     asked: &DatabaseArguments,
 ) -> Result<Ending, Fault> {
-    let alloc = rt.alloc();
-    let path = asked.path.as_str();
-    let bytes = read_file(rt, path)?;
-    let database = match Database::of_text(alloc, &bytes)? {
-        Ok(database) => database,
-        Err(error) => {
-            let name = name_of(rt, path)?;
-            let line = format!(in alloc; "{name}: {error}")?;
-            warn(rt, &line);
-            return Ok(Ending::BadDatabase);
+    match database_at(rt, asked.path.as_str())? {
+        Some(database) => {
+            let batch = batch_of(rt, about, &asked.settings, asked.json, asked.only)?;
+            answer_database(rt, &batch, &database)
         }
-    };
-    let batch = Batch {
-        about,
-        named: asked.compiler,
-        base: working_directory(rt)?,
-        env_vars: variables(rt)?,
-        multiarch: asked.multiarch,
-        json: asked.json,
-        only: asked.only,
-    };
-    answer_database(rt, &batch, &database)
+        None => Ok(Ending::BadDatabase),
+    }
 }

@@ -2,11 +2,12 @@
 use crate::fault::{Fault, warn};
 use crate::file::{name_of, read_file};
 use crate::options::{KnownArguments, Wanted};
-use crate::{batch, one};
+use crate::{batch, diff, one, why};
 use bumpalo::Bump;
 use scl_catalogue_default::built_in_entries;
 use scl_catalogue_text::{BadLine, ReadError, read};
 use scl_describe::{About, Catalogue, Entry};
+use scl_effects_default::plain_names;
 use scl_explain::Ending;
 use scl_reader::is_apple;
 
@@ -18,7 +19,10 @@ fn answer(rt: &HostRuntime, about: About<'_>, wanted: &Wanted) -> Result<Ending,
         Wanted::Command(asked) => one::command(rt, &about, asked),
         Wanted::Check(asked) => one::check(rt, &about, asked),
         Wanted::Database(asked) => batch::database(rt, about, asked),
+        Wanted::Why(asked) => why::why(rt, about, asked),
+        Wanted::Diff(asked) => diff::diff(rt, about, asked),
         Wanted::Reasons => one::reasons(rt, &about.catalogue),
+        Wanted::Flags(asked) => one::flags(rt, asked),
     }
 }
 
@@ -31,6 +35,7 @@ fn answer_with<'a>(
 ) -> Result<Ending, Fault> {
     let about = About {
         catalogue: *catalogue,
+        plain: plain_names(),
         version,
     };
     answer(rt, about, wanted)
@@ -79,6 +84,7 @@ fn about<'a>(entries: &'a [Entry<'static>], version: Option<&'a str>) -> About<'
             groups: &[],
             entries,
         },
+        plain: plain_names(),
         version,
     }
 }

@@ -4,6 +4,7 @@
 
 mod arguments;
 mod batch;
+mod diff;
 mod disk;
 mod fault;
 mod file;
@@ -12,6 +13,7 @@ mod one;
 mod options;
 mod progress;
 mod texts;
+mod why;
 
 use crate::arguments::raw_arguments;
 use crate::fault::{Fault, warn};

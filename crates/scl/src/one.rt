@@ -2,14 +2,15 @@
 use crate::arguments::{variables, working_directory};
 use crate::disk::SystemDisk;
 use crate::fault::{Fault, warn};
-use crate::options::LineArguments;
-use scl_cl::path;
+use crate::options::{FlagArguments, LineArguments, Settings};
+use scl_cl::text::command::copy_pairs;
+use scl_cl::{MOST, path};
 use scl_describe::{About, Catalogue};
 use scl_explain::{
     Case, CommandForm, Ending, Form, Paint, Reply, WordForm, check as check_reply,
     command as command_reply, explain as explain_reply,
 };
-use scl_report::{Pages, reasons_text};
+use scl_report::{Pages, flags_text, reasons_text};
 use std::alloc::Global;
 use std::io::{IsTerminal, Write};
 
@@ -33,19 +34,47 @@ fn copied(alloc: Global, words: &[Vec<u8>]) -> Result<Vec<Vec<u8>>, Fault> {
     Ok(copies)
 }
 
-/// The command line that is asked about; none where its words are no command line, which is told.
-fn case_of(rt: &HostRuntime, asked: &LineArguments) -> Result<Option<Case>, Fault> {
+/// The variables that count: those that are told, and then those of this program's environment.
+pub fn variables_of(
+    rt: &HostRuntime,
+    settings: &Settings,
+) -> Result<Vec<(Vec<u8>, Vec<u8>)>, Fault> {
+    let mut pairs = copy_pairs(rt.alloc(), &settings.env_vars)?;
+    if !settings.has_no_own {
+        for pair in variables(rt)? {
+            pairs.push(pair)?;
+        }
+    }
+    Ok(pairs)
+}
+
+/// The command line of these words; none where they are no command line, which is told.
+pub fn case_of_words(
+    rt: &HostRuntime,
+    settings: &Settings,
+    words: &[Vec<u8>],
+    directory: Vec<u8>,
+) -> Result<Option<Case>, Fault> {
     let alloc = rt.alloc();
-    let words = copied(alloc, &asked.words)?;
-    let directory = directory_of(rt, asked)?;
-    let env_vars = variables(rt)?;
-    match Case::of_words(alloc, words, asked.compiler, directory, env_vars)? {
-        Ok(case) => Ok(Some(case)),
+    let words = copied(alloc, words)?;
+    let env_vars = variables_of(rt, settings)?;
+    match Case::of_words(alloc, words, settings.compiler, directory, env_vars)? {
+        Ok(mut case) => {
+            case.may_dist = settings.may_dist;
+            case.bound = settings.bound.unwrap_or(MOST);
+            Ok(Some(case))
+        }
         Err(error) => {
             warn(rt, &error);
             Ok(None)
         }
     }
+}
+
+/// The command line that is asked about; none where its words are no command line, which is told.
+fn case_of(rt: &HostRuntime, asked: &LineArguments) -> Result<Option<Case>, Fault> {
+    let directory = directory_of(rt, asked)?;
+    case_of_words(rt, &asked.settings, &asked.words, directory)
 }
 
 /// Writes what is said.
@@ -85,9 +114,9 @@ pub fn explain(
         &disk,
         about,
         &case,
-        asked.multiarch,
+        asked.settings.multiarch,
         form,
-        &Pages,
+        &Pages { about: *about },
     )?;
     say(rt, &reply)
 }
@@ -122,9 +151,9 @@ pub fn command(
         &disk,
         about,
         &case,
-        asked.multiarch,
+        asked.settings.multiarch,
         form,
-        &Pages,
+        &Pages { about: *about },
     )?;
     say(rt, &reply)
 }
@@ -141,9 +170,9 @@ pub fn check(rt: &HostRuntime, about: &About<'_>, asked: &LineArguments) -> Resu
         &disk,
         about,
         &case,
-        asked.multiarch,
+        asked.settings.multiarch,
         form,
-        &Pages,
+        &Pages { about: *about },
     )?;
     say(rt, &reply)
 }
@@ -151,6 +180,19 @@ pub fn check(rt: &HostRuntime, about: &About<'_>, asked: &LineArguments) -> Resu
 /// Writes each reason and hazard.
 pub fn reasons(rt: &HostRuntime, catalogue: &Catalogue<'_>) -> Result<Ending, Fault> {
     let text = reasons_text(rt.alloc(), catalogue)?;
+    rt.stdout()
+        .write_all(text.as_bytes())
+        .map_err(Fault::of_output)?;
+    Ok(Ending::Answered)
+}
+
+/// Writes the flags of the compilers' tables.
+pub fn flags(rt: &HostRuntime, asked: &FlagArguments) -> Result<Ending, Fault> {
+    let text = flags_text(
+        rt.alloc(),
+        asked.compiler,
+        asked.word.as_deref().map(str::as_bytes),
+    )?;
     rt.stdout()
         .write_all(text.as_bytes())
         .map_err(Fault::of_output)?;

@@ -9,17 +9,32 @@ use scl_shell::shown;
 use std::alloc::{AllocError, Global};
 use std::str;
 
+/// What is asked of each command line.
+#[derive(Drop)]
+pub struct Settings {
+    /// The compiler, where one is named.
+    pub compiler: Option<Compiler>,
+    /// Whether several architectures are allowed.
+    pub multiarch: bool,
+    /// Whether the runs of the preprocessor are for a distant compiler.
+    pub may_dist: bool,
+    /// The most words that it may have, if that is told.
+    pub bound: Option<usize>,
+    /// The variables that are told.
+    pub env_vars: Vec<(Vec<u8>, Vec<u8>)>,
+    /// Whether the variables of this program's own environment do not count.
+    pub has_no_own: bool,
+}
+
 /// What is asked about one command line.
 #[derive(Drop)]
 pub struct LineArguments {
-    /// The compiler, where one is named.
-    pub compiler: Option<Compiler>,
+    /// What is asked of it.
+    pub settings: Settings,
     /// The words, the program's included.
     pub words: Vec<Vec<u8>>,
     /// The directory, where one is named.
     pub directory: Option<Vec<u8>>,
-    /// Whether several architectures are allowed.
-    pub multiarch: bool,
     /// Whether machines read the answer.
     pub json: bool,
     /// Whether a command is written with a NUL after each word.
@@ -33,14 +48,43 @@ pub struct LineArguments {
 pub struct DatabaseArguments {
     /// Its path; `-` is standard input.
     pub path: String,
-    /// The compiler of each entry, where one is named.
-    pub compiler: Option<Compiler>,
-    /// Whether several architectures are allowed.
-    pub multiarch: bool,
+    /// What is asked of each entry.
+    pub settings: Settings,
     /// Whether machines read the answers.
     pub json: bool,
     /// The one kind of entries that is wanted, if not each.
     pub only: Option<EntryKind>,
+}
+
+/// What is asked about some entries of a compile database.
+#[derive(Drop)]
+pub struct WhyArguments {
+    /// The path of the database.
+    pub path: String,
+    /// The names of sources.
+    pub files: Vec<String>,
+    /// What is asked of each entry.
+    pub settings: Settings,
+}
+
+/// What is compared.
+#[derive(Drop)]
+pub enum Compare {
+    /// Two command lines.
+    Lines(Vec<Vec<u8>>, Vec<Vec<u8>>),
+    /// Two entries of a database, by their sources.
+    Entries(String, String, String),
+    /// The entries of two databases.
+    Databases(String, String),
+}
+
+/// What is asked about what two command lines differ in.
+#[derive(Drop)]
+pub struct DiffArguments {
+    /// What is compared.
+    pub compare: Compare,
+    /// What is asked of each command line.
+    pub settings: Settings,
 }
 
 /// What the command line asks for.
@@ -56,8 +100,23 @@ pub enum Wanted {
     Check(LineArguments),
     /// The entries of a database.
     Database(DatabaseArguments),
+    /// Why some entries can or can't be cached.
+    Why(WhyArguments),
+    /// What two command lines differ in.
+    Diff(DiffArguments),
     /// All reasons and hazards.
     Reasons,
+    /// The flags of the compilers' tables.
+    Flags(FlagArguments),
+}
+
+/// What is asked about flags.
+#[derive(Drop)]
+pub struct FlagArguments {
+    /// The compiler, if only one's are wanted.
+    pub compiler: Option<Compiler>,
+    /// The word whose flag is wanted, if not all are.
+    pub word: Option<String>,
 }
 
 /// What is known of compilers, by the command line.
@@ -90,7 +149,9 @@ fn with_catalogue<'a>(alloc: Global, command: Command<'a>) -> Result<Command<'a>
     let catalogue = Arg::new(alloc, "catalogue")
         .long("catalogue")
         .value_name("FILE")
-        .help("Name the hazards of this catalogue, and not of the built-in one");
+        .help(
+            "Take the hazards and the effects of options from this catalogue in place of the built-in one",
+        );
     command.arg(catalogue)
 }
 
@@ -110,7 +171,41 @@ fn with_common<'a>(alloc: Global, command: Command<'a>) -> Result<Command<'a>, A
         .long("multiarch")
         .action(ArgAction::SetTrue)
         .help("Allow several -arch");
+    let command = with_environment(alloc, with_bound(alloc, command)?)?;
     with_catalogue(alloc, command.arg(compiler)?.arg(multiarch)?.arg(version)?)
+}
+
+fn with_bound<'a>(alloc: Global, command: Command<'a>) -> Result<Command<'a>, AllocError> {
+    let distant = Arg::new(alloc, "may-dist")
+        .long("may-dist")
+        .action(ArgAction::SetTrue)
+        .help("The runs of the preprocessor are for a distant compiler");
+    let bound = Arg::new(alloc, "bound").long("bound").value_name("N").help(
+        "Refuse a command line of more than N words, or one that opens files more than N times, in place of 1000000",
+    );
+    command.arg(distant)?.arg(bound)
+}
+
+fn with_environment<'a>(alloc: Global, command: Command<'a>) -> Result<Command<'a>, AllocError> {
+    let variable = Arg::new(alloc, "env")
+        .long("env")
+        .value_name("NAME=VALUE")
+        .action(ArgAction::Append)
+        .help("A variable of the compiler's environment; it may be given again");
+    let bare = Arg::new(alloc, "clear-env")
+        .long("clear-env")
+        .action(ArgAction::SetTrue)
+        .help("Take no words of CL and _CL_ from this environment");
+    command.arg(variable)?.arg(bare)
+}
+
+fn with_build<'a>(alloc: Global, command: Command<'a>) -> Result<Command<'a>, AllocError> {
+    let build = Arg::new(alloc, "build")
+        .short('p')
+        .value_name("BUILD")
+        .action(ArgAction::Append)
+        .help("The folder of compile_commands.json, or a database; this folder if none is named");
+    command.arg(build)
 }
 
 fn with_json<'a>(alloc: Global, command: Command<'a>) -> Result<Command<'a>, AllocError> {
@@ -184,11 +279,53 @@ fn database_command<'a>(alloc: Global) -> Result<Command<'a>, AllocError> {
     with_common(alloc, with_json(alloc, command)?)
 }
 
+fn why_command<'a>(alloc: Global) -> Result<Command<'a>, AllocError> {
+    let files = Arg::new(alloc, "files")
+        .value_name("FILE")
+        .num_args(1..)
+        .required(true)
+        .help("A source of an entry: its path, or the last parts of it");
+    let command = Command::new(alloc, "why")
+        .about(texts::ABOUT_WHY)
+        .after_help(texts::EXAMPLE_WHY);
+    with_common(alloc, with_build(alloc, command)?)?.arg(files)
+}
+
+fn diff_command<'a>(alloc: Global) -> Result<Command<'a>, AllocError> {
+    let words = Arg::new(alloc, "words")
+        .value_name("A B")
+        .num_args(1..)
+        .trailing_var_arg(true)
+        .allow_hyphen_values(true)
+        .help("Two sources of entries; or, after --, two command lines with -- between them");
+    let command = Command::new(alloc, "diff")
+        .about(texts::ABOUT_DIFF)
+        .after_help(texts::EXAMPLE_DIFF);
+    with_common(alloc, with_build(alloc, command)?)?.arg(words)
+}
+
 fn reasons_command<'a>(alloc: Global) -> Result<Command<'a>, AllocError> {
     with_catalogue(
         alloc,
         Command::new(alloc, "reasons").about(texts::ABOUT_REASONS),
     )
+}
+
+fn flags_command<'a>(alloc: Global) -> Result<Command<'a>, AllocError> {
+    let compiler = Arg::new(alloc, "compiler")
+        .value_name("COMPILER")
+        .value_parser(COMPILERS.as_slice())
+        .help("The compiler; all of them without");
+    let word = Arg::new(alloc, "flag")
+        .value_name("FLAG")
+        .num_args(1)
+        .allow_hyphen_values(true)
+        .help("A word of a command line: the flag that it is of");
+    Command::new(alloc, "flags")
+        .about(texts::ABOUT_FLAGS)
+        .after_help(texts::EXAMPLE_FLAGS)
+        .arg(compiler)?
+        .arg(word)
 }
 
 fn whole_command<'a>(alloc: Global) -> Result<Command<'a>, AllocError> {
@@ -202,10 +339,13 @@ fn whole_command<'a>(alloc: Global) -> Result<Command<'a>, AllocError> {
         .subcommand(command_command(alloc)?)?
         .subcommand(check_command(alloc)?)?
         .subcommand(database_command(alloc)?)?
+        .subcommand(flags_command(alloc)?)?
+        .subcommand(why_command(alloc)?)?
+        .subcommand(diff_command(alloc)?)?
         .subcommand(reasons_command(alloc)?)
 }
 
-/// The words as text, with what is no text replaced, behind the program's name.
+/// The words as text, with what is no text replaced, after the program's name.
 fn shown_words(alloc: Global, arguments: &[Vec<u8>]) -> Result<Vec<String>, AllocError> {
     let mut words = Vec::new(alloc);
     words.push(String::from_str(alloc, "scl")?)?;
@@ -226,6 +366,52 @@ fn count_of_own(arguments: &[Vec<u8>], matches: &ArgMatches<'_>) -> usize {
         None => 0,
     };
     arguments.len().saturating_sub(count)
+}
+
+/// What is wrong with the values of options, if something is.
+fn wrong_value(alloc: Global, matches: &ArgMatches<'_>) -> Result<Option<String>, AllocError> {
+    let Some((_, inner)) = matches.subcommand() else {
+        return Ok(None);
+    };
+    match inner.get_str("bound") {
+        Some(text) if number_of(text).is_none() => {
+            Ok(Some(format!(in alloc; "'{text}' is no number for --bound")?))
+        }
+        Some(_) | None => Ok(None),
+    }
+}
+
+/// What is wrong with what `diff` is asked, if something is.
+fn wrong_diff(
+    alloc: Global,
+    arguments: &[Vec<u8>],
+    matches: &ArgMatches<'_>,
+) -> Result<Option<String>, AllocError> {
+    let Some(("diff", inner)) = matches.subcommand() else {
+        return Ok(None);
+    };
+    match compared(alloc, arguments, inner)? {
+        Some(_) => Ok(None),
+        None => Ok(Some(String::from_str(
+            alloc,
+            "diff compares two sources of entries, two -p BUILD, or after -- two command lines with -- between them",
+        )?)),
+    }
+}
+
+/// What is wrong with the arguments, if something is.
+fn what_is_wrong(
+    alloc: Global,
+    arguments: &[Vec<u8>],
+    matches: &ArgMatches<'_>,
+) -> Result<Option<String>, AllocError> {
+    if let Some(what) = wrong_argument(alloc, arguments, matches)? {
+        return Ok(Some(what));
+    }
+    if let Some(what) = wrong_value(alloc, matches)? {
+        return Ok(Some(what));
+    }
+    wrong_diff(alloc, arguments, matches)
 }
 
 /// What is wrong with the arguments, if something is, that were read as text: the program's own are UTF-8, where those of the
@@ -281,6 +467,55 @@ fn kind_named(matches: &ArgMatches<'_>) -> Option<EntryKind> {
     }
 }
 
+/// The number that decimal digits write.
+fn number_of(text: &str) -> Option<usize> {
+    let mut number = None;
+    for byte in text.as_bytes() {
+        if !byte.is_ascii_digit() {
+            return None;
+        }
+        let before: usize = number.unwrap_or(0);
+        number = Some(
+            before
+                .checked_mul(10)?
+                .checked_add(usize::from(*byte - b'0'))?,
+        );
+    }
+    number
+}
+
+/// A name and its value, parted by the first `=`; without one the value is empty.
+fn pair_of(alloc: Global, text: &str) -> Result<(Vec<u8>, Vec<u8>), AllocError> {
+    let (name, value) = text.split_once('=').unwrap_or((text, ""));
+    Ok((
+        Vec::from_slice(alloc, name.as_bytes())?,
+        Vec::from_slice(alloc, value.as_bytes())?,
+    ))
+}
+
+/// The variables that are told, the last first, since of several values of a variable the first counts.
+fn variables_told(
+    alloc: Global,
+    matches: &ArgMatches<'_>,
+) -> Result<Vec<(Vec<u8>, Vec<u8>)>, AllocError> {
+    let mut pairs = Vec::new(alloc);
+    for text in matches.get_strs("env").unwrap_or(&[]) {
+        pairs.insert(0, pair_of(alloc, text)?)?;
+    }
+    Ok(pairs)
+}
+
+fn settings_of(alloc: Global, matches: &ArgMatches<'_>) -> Result<Settings, AllocError> {
+    Ok(Settings {
+        compiler: compiler_named(matches),
+        multiarch: matches.get_flag("multiarch"),
+        may_dist: matches.get_flag("may-dist"),
+        bound: matches.get_str("bound").and_then(number_of),
+        env_vars: variables_told(alloc, matches)?,
+        has_no_own: matches.get_flag("clear-env"),
+    })
+}
+
 fn asked_words(
     alloc: Global,
     arguments: &[Vec<u8>],
@@ -292,10 +527,9 @@ fn asked_words(
         None => None,
     };
     Ok(LineArguments {
-        compiler: compiler_named(matches),
+        settings: settings_of(alloc, matches)?,
         words: last_words(alloc, arguments, count)?,
         directory,
-        multiarch: matches.get_flag("multiarch"),
         json: matches.get_flag("json"),
         has_nuls: matches.get_flag("nul"),
         is_strict: matches.get_flag("strict"),
@@ -306,11 +540,105 @@ fn asked_entries(alloc: Global, matches: &ArgMatches<'_>) -> Result<DatabaseArgu
     let path = matches.get_str("path").unwrap_or("-");
     Ok(DatabaseArguments {
         path: String::from_str(alloc, path)?,
-        compiler: compiler_named(matches),
-        multiarch: matches.get_flag("multiarch"),
+        settings: settings_of(alloc, matches)?,
         json: matches.get_flag("json"),
         only: kind_named(matches),
     })
+}
+
+fn asked_flags(alloc: Global, matches: &ArgMatches<'_>) -> Result<FlagArguments, AllocError> {
+    Ok(FlagArguments {
+        compiler: compiler_named(matches),
+        word: copied(alloc, matches.get_str("flag"))?,
+    })
+}
+
+/// The path of the database of a build: a folder's, or the one that is named.
+fn database_of(alloc: Global, build: &str) -> Result<String, AllocError> {
+    if build == "-" || build.ends_with(".json") {
+        String::from_str(alloc, build)
+    } else {
+        format!(in alloc; "{build}/compile_commands.json")
+    }
+}
+
+fn path_of_build(alloc: Global, matches: &ArgMatches<'_>, at: usize) -> Result<String, AllocError> {
+    let builds = matches.get_strs("build").unwrap_or(&[]);
+    match builds.get(at) {
+        Some(build) => database_of(alloc, build),
+        None => String::from_str(alloc, "compile_commands.json"),
+    }
+}
+
+fn asked_why(alloc: Global, matches: &ArgMatches<'_>) -> Result<WhyArguments, AllocError> {
+    let mut files = Vec::new(alloc);
+    for file in matches.get_strs("files").unwrap_or(&[]) {
+        files.push(String::from_str(alloc, file)?)?;
+    }
+    Ok(WhyArguments {
+        path: path_of_build(alloc, matches, 0)?,
+        files,
+        settings: settings_of(alloc, matches)?,
+    })
+}
+
+/// Two command lines with `--` between them.
+fn two_lines(alloc: Global, words: &[Vec<u8>]) -> Result<Option<Compare>, AllocError> {
+    let between = words
+        .iter()
+        .position(|word| word.as_slice() == b"--".as_slice());
+    let Some(at) = between else {
+        return Ok(None);
+    };
+    let second = words.len().saturating_sub(at).saturating_sub(1);
+    let first = words.get(..at).unwrap_or(&[]);
+    Ok(Some(Compare::Lines(
+        last_words(alloc, first, at)?,
+        last_words(alloc, words, second)?,
+    )))
+}
+
+/// Two entries by their sources, or two databases.
+fn two_entries(alloc: Global, matches: &ArgMatches<'_>) -> Result<Option<Compare>, AllocError> {
+    let builds = matches.get_strs("build").unwrap_or(&[]);
+    match matches.get_strs("words").unwrap_or(&[]) {
+        [first, second] if builds.len() < 2 => Ok(Some(Compare::Entries(
+            path_of_build(alloc, matches, 0)?,
+            String::from_str(alloc, first)?,
+            String::from_str(alloc, second)?,
+        ))),
+        [] if builds.len() == 2 => Ok(Some(Compare::Databases(
+            path_of_build(alloc, matches, 0)?,
+            path_of_build(alloc, matches, 1)?,
+        ))),
+        _ => Ok(None),
+    }
+}
+
+fn compared(
+    alloc: Global,
+    arguments: &[Vec<u8>],
+    matches: &ArgMatches<'_>,
+) -> Result<Option<Compare>, AllocError> {
+    let words = last_words(alloc, arguments, count_of_words(matches))?;
+    match two_lines(alloc, &words)? {
+        Some(compare) => Ok(Some(compare)),
+        None => two_entries(alloc, matches),
+    }
+}
+
+fn asked_diff(
+    alloc: Global,
+    arguments: &[Vec<u8>],
+    matches: &ArgMatches<'_>,
+) -> Result<Wanted, AllocError> {
+    match compared(alloc, arguments, matches)? {
+        Some(compare) => Ok(Wanted::Diff(DiffArguments {
+            compare,
+            settings: settings_of(alloc, matches)?,
+        })),
+        None => Ok(Wanted::Done(Ending::Usage)),
+    }
 }
 
 fn what_is_wanted(
@@ -323,7 +651,10 @@ fn what_is_wanted(
         Some(("command", inner)) => Ok(Wanted::Command(asked_words(alloc, arguments, inner)?)),
         Some(("check", inner)) => Ok(Wanted::Check(asked_words(alloc, arguments, inner)?)),
         Some(("database", inner)) => Ok(Wanted::Database(asked_entries(alloc, inner)?)),
+        Some(("why", inner)) => Ok(Wanted::Why(asked_why(alloc, inner)?)),
+        Some(("diff", inner)) => asked_diff(alloc, arguments, inner),
         Some(("reasons", _)) => Ok(Wanted::Reasons),
+        Some(("flags", inner)) => Ok(Wanted::Flags(asked_flags(alloc, inner)?)),
         Some(_) | None => Ok(Wanted::Done(Ending::Usage)),
     }
 }
@@ -408,7 +739,7 @@ pub fn read_options(rt: &HostRuntime, arguments: &[Vec<u8>]) -> Result<Options, 
     let alloc = rt.alloc();
     let words = shown_words(alloc, arguments)?;
     match matches_of(alloc, &words) {
-        Ok(matches) => match wrong_argument(alloc, arguments, &matches)? {
+        Ok(matches) => match what_is_wrong(alloc, arguments, &matches)? {
             Some(what) => Ok(done(wrong_words(rt, what.as_str())?)),
             None => Ok(Options {
                 wanted: what_is_wanted(alloc, arguments, &matches)?,

@@ -21,15 +21,34 @@ pub const ABOUT_CHECK: &str =
 /// What `database` does.
 pub const ABOUT_DATABASE: &str = "Answers each entry of a compile database";
 
+/// What `why` does.
+pub const ABOUT_WHY: &str = "Says of the entries of some sources why they can or cannot be cached";
+
+/// What `diff` does.
+pub const ABOUT_DIFF: &str =
+    "Says what two command lines differ in: options, and rows of their keys";
+
 /// What `reasons` does.
 pub const ABOUT_REASONS: &str =
     "Lists each reason why a command cannot be cached, and each hazard, with a sentence for people";
 
+/// What `flags` does.
+pub const ABOUT_FLAGS: &str = "Lists the flags of the compilers' tables, or says what one word is";
+
+/// What `flags` writes, and calls of it.
+pub const EXAMPLE_FLAGS: &str =
+    "Writes a line for each flag: how its value stands, its kind, and where its words go. Where a flag takes a value, the place is that with a value that is not refused. Of a FLAG that no table has it says where the word goes.
+
+Example:
+    scl flags clang
+    scl flags gcc -MF
+    scl flags cl /FoX";
+
 /// How the program ends, and which compiler a command line is of.
 pub const STATUSES: &str =
-    "Statuses: 0 answered; 2 wrong words, or a line of the catalogue is wrong; 3 out of memory; 4 a file cannot be read or the answer not be written; 5 the database is broken or has entries that are none (all others are answered); 10 cannot be cached; 11 compiles nothing; 12 a hazard; 13 a word holds a NUL, so no process can be given the command; 14 there is a command, and its outcome may not be kept in the cache.
+    "Statuses: 0 answered; 1 the keys are not equal (diff); 2 wrong words, or a line of the catalogue is wrong; 3 out of memory; 4 a file cannot be read or the answer not be written; 5 the database is broken or has entries that are none (all others are answered); 10 cannot be cached; 11 compiles nothing; 12 a hazard; 13 a word holds a NUL, so no process can be given the command; 14 there is a command, and its outcome may not be kept in the cache.
 
-Which compiler: by the file name of the first word that is neither a launcher (ccache, sccache, distcc, icecc, env) nor an assignment (NAME=.., NAME of letters, digits and _); without .exe and a version it ends in clang-cl, clang++, clang, g++, gcc, c++ or cc (alone or behind a -), or is cl, dcc or cctc. cc and c++ are gcc and g++ unless --compiler says otherwise.
+Which compiler: by the file name of the first word that is neither a launcher (ccache, sccache, distcc, icecc, recc, buildcache, env, nice, time) nor one of a launcher's words, nor an assignment (NAME=.., NAME of letters, digits and _). Without .exe and a version it ends in clang-cl, clang++, clang, g++, gcc, c++ or cc (the whole name, or after a -), or is cl, dcc or cctc. cc and c++ are gcc and g++ unless --compiler says otherwise.
 
 A response file is read where it is a regular file whose size the system tells, and has 67108864 bytes at most.
 
@@ -46,11 +65,11 @@ Example:
 
 /// How `command` ends, and calls of it.
 pub const EXAMPLE_COMMAND: &str =
-    "Ends with status 10 where the outcome cannot be cached, 11 where nothing is compiled, and 13 where a word holds a NUL; then no command is written. With --strict none is written where a hazard concerns more than messages either, and the status is 12: run the command as given. With status 14 the command is written: it may be run, and its outcome may not be kept in the cache.
+    "Ends with status 10 where the outcome cannot be cached, 11 where nothing is compiled, and 13 where a word holds a NUL; then no command is written. With --strict none is written where a hazard concerns more than messages, and the status is 12: run the command as given. With status 14 the command is written: it may be run, and its outcome may not be kept in the cache.
 
 The command is a line for any shell. On a terminal a word with a character that cannot be seen stands in $'..', which bash, zsh and ksh read; with -0 each word is written as it is.
 
-Words in front of the compiler are left out: run the command in the environment that they make, without CL and _CL_, whose words stand in a command of cl or clang-cl. A variable that such a word assigns has that value.
+Words before the compiler are left out: run the command in the environment that they make, without CL and _CL_, whose words stand in a command of cl or clang-cl. A variable that such a word assigns has that value.
 
 Example:
     scl command gcc -c src/foo.c -o foo.o
@@ -67,8 +86,25 @@ Example:
 
 /// What `database` reads and writes, and calls of it.
 pub const EXAMPLE_DATABASE: &str =
-    "Each entry has a \"directory\", and \"arguments\" or a \"command\" of shell words. With --json each answer is an object in a line; otherwise a summary is written, with --only behind a line for each entry of that kind.
+    "Each entry has a \"directory\", and \"arguments\" or a \"command\" of shell words. With --json each answer is an object in a line; otherwise a summary is written; with --only a line for each entry of that kind stands before it.
 
 Example:
     scl database build/compile_commands.json
     scl database --json --only refused - < compile_commands.json";
+
+/// What `why` writes, and calls of it.
+pub const EXAMPLE_WHY: &str =
+    "Writes for each entry of a source its outcome in a line, and below it why. Ends with status 2 where no entry has such a source.
+
+Example:
+    scl why src/foo.c
+    scl why -p build foo.c bar.c";
+
+/// What `diff` writes, how it ends, and calls of it.
+pub const EXAMPLE_DIFF: &str =
+    "Writes the options and the rows of the key that only one of the two has. Ends with status 0 where both have a key and the keys are equal, and 1 where not.
+
+Example:
+    scl diff -p build src/a.c src/b.c
+    scl diff -p build1 -p build2
+    scl diff -- gcc -c a.c -O1 -- gcc -c a.c -O2";

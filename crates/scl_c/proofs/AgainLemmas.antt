@@ -1,6 +1,6 @@
 -- Where a description is given, a command that it has is read again.
 use Rattle.std.proofs.Common.{◌≡◌, ℕ, ℤ, pos, List, Result, Ok, Err, refl}
-use Rattle.scl_catalogue.specs.Form.{Catalogue}
+use Rattle.scl_hazards.specs.Hazards.{Tables}
 use Rattle.scl_description.specs.Lines.{lines_of}
 use Rattle.scl_reader.specs.CommandLines.{Request}
 use Rattle.scl_reader.proofs.AgainLaws.{answers_again}
@@ -9,10 +9,10 @@ use Rattle.scl_describe.specs.Settings.{Settings, settings_in, request_lines}
 use Rattle.scl_describe.specs.Descriptions.{DescribesBytes, IsDescriptionOf}
 use Rattle.scl_c.specs.Described.{AsksReadAgain, IsDescribed}
 
-asks : (catalogue : Catalogue) (s : Settings) (bytes text : List ℕ) (r : Result Request ℕ) → request_in (request_lines (lines_of bytes)) ≡ r → IsDescriptionOf catalogue s r (Ok text) → AsksReadAgain bytes
-asks catalogue s bytes text (Ok request) e h = record { request = request; request_is = e; read_again = answers_again request }
-asks catalogue s bytes text (Err n) e h = absurd h
+asks : (tables : Tables) (s : Settings) (bytes text : List ℕ) (r : Result Request ℕ) → request_in (request_lines (lines_of bytes)) ≡ r → IsDescriptionOf tables s r (Ok text) → AsksReadAgain bytes
+asks tables s bytes text (Ok request) e h = record { request = request; request_is = e; read_again = answers_again request }
+asks tables s bytes text (Err n) e h = absurd h
 
-pub asks_again : (catalogue : Catalogue) (bytes old new : List ℕ) (wanted : ℕ) (status : ℤ) → IsDescribed (DescribesBytes catalogue bytes) bytes old new wanted status → status ≡ pos 0 → AsksReadAgain bytes
-asks_again catalogue bytes old new wanted status h zero =
-    asks catalogue (settings_in (lines_of bytes)) bytes (h.given zero).text (request_in (request_lines (lines_of bytes))) refl (h.given zero).is_answer
+pub asks_again : (tables : Tables) (bytes old new : List ℕ) (wanted : ℕ) (status : ℤ) → IsDescribed (DescribesBytes tables bytes) bytes old new wanted status → status ≡ pos 0 → AsksReadAgain bytes
+asks_again tables bytes old new wanted status h zero =
+    asks tables (settings_in (lines_of bytes)) bytes (h.given zero).text (request_in (request_lines (lines_of bytes))) refl (h.given zero).is_answer

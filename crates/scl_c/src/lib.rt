@@ -11,7 +11,7 @@ ghost use Rattle.std.specs.Fmt.{decimal};
 ghost use Rattle.scl_description.specs.Rows.{lone, row_entry};
 ghost use Rattle.scl_describe.specs.Descriptions.{version_entry, DescribesBytes};
 ghost use Rattle.scl_cl.specs.Program.{program_answer};
-ghost use Rattle.scl_c.specs.Catalogues.{IsDescribedBy, IsFirstWrongLine};
+ghost use Rattle.scl_c.specs.Catalogues.{IsDescribedBy, IsFirstWrongLine, tables_with};
 ghost use Rattle.scl_c.specs.Described.{AsksReadAgain, IsDescribed};
 ghost use Rattle.scl_c.specs.Texts.{IsTextGiven, HoldsReadAgain};
 ghost use Rattle.scl_catalogue_default.specs.BuiltIn.{built_in_catalogue};
@@ -69,7 +69,7 @@ pub extern "C" fn scl_describe(
     room: &mut [u8],
     wanted: &mut usize,
 ) -> i32
-    ensures told { IsDescribed (DescribesBytes built_in_catalogue request.now) request.now room.old room.new wanted.new result }
+    ensures told { IsDescribed (DescribesBytes (tables_with built_in_catalogue) request.now) request.now room.old room.new wanted.new result }
     ensures read_again { result ≡ pos 0 → AsksReadAgain request.now }
 {
     let Ok(entries) = built_in_entries(alloc) else {

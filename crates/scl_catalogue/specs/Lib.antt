@@ -1,4 +1,5 @@
 pub mod Form
 pub mod Found
 pub mod Keyed
+pub mod Speaking
 pub mod Views

@@ -63,6 +63,7 @@ abbrev pub tells_of : Tells → form.Tells
 tells_of (tells.Hazard d) = form.Hazard d
 tells_of (tells.Effect v file) = form.Effect v file.now
 tells_of tells.Reason = form.Reason
+tells_of tells.Plain = form.Plain
 
 abbrev pub entry_of : Entry → form.Entry
 entry_of e = record { tells = tells_of e.tells; name = e.name.now; says = e.says.now; cases = map case_of e.cases.now }

@@ -80,7 +80,8 @@ impl Served {
     }
 }
 
-fn serves(served: &[Served], compiler: Compiler, version: Option<Version>) -> bool
+/// Whether one of these is this version of the compiler.
+pub fn serves(served: &[Served], compiler: Compiler, version: Option<Version>) -> bool
     ensures { result ≡ list_any (serves compiler version) served.now }
 {
     for one in served {

@@ -31,6 +31,8 @@ pub enum Verb {
     Writes,
     /// It is asked.
     Asks,
+    /// It is read as code that the compiler runs.
+    Loads,
 }
 
 /// What an entry tells.
@@ -42,6 +44,8 @@ pub enum Tells<'a> {
     Effect(Verb, &'a [u8]),
     /// Why a line is answered as it is.
     Reason,
+    /// The options of its groups read, write and ask nothing that is not told otherwise.
+    Plain,
 }
 
 /// An entry of a catalogue.

@@ -77,7 +77,7 @@ fn is_last(options: &[Seen<'_>], first: &Group<'_>, second: &Group<'_>) -> bool
 
 impl<'a> Relation<'a> {
     /// The group of which an option must stand.
-    fn first(&self) -> &Group<'a>
+    pub(crate) fn first(&self) -> &Group<'a>
         ensures { group_of result.now ≡ first_group (relation_of self.now) }
     {
         match self {

@@ -34,7 +34,8 @@ pub struct Text<'a> {
     pub but: &'a [Pattern<'a>],
 }
 
-fn holds(word: &[u8], text: &[u8]) -> bool
+/// Whether the word has the text in it; the empty word has none.
+pub fn holds(word: &[u8], text: &[u8]) -> bool
     ensures { result ≡ holds word.now text.now }
 {
     let mut left = word;

@@ -187,6 +187,13 @@ asked_dependencies_group = group (codes "ASKED_DEPENDENCIES") (
     test class.Flag (text (is (codes "-Wp") ∷ is (codes "-Xpreprocessor") ∷ []) []) (Part (text (is (codes "-M") ∷ is (codes "-MM") ∷ is (codes "-MD") ∷ is (codes "-MMD") ∷ []) []) ∷ []) ∷
     [])
 
+abbrev pub using_target_group : Group
+using_target_group = group (codes "USING_TARGET") (
+    test class.Unknown (text (begins (codes "--write-") ∷ begins (codes "--dependencies") ∷ begins (codes "--user-dependencies") ∷ []) []) [] ∷
+    test class.Flag (text (is (codes "-MD") ∷ is (codes "-MMD") ∷ []) []) [] ∷
+    test class.Flag (text (is (codes "-Wp") ∷ []) []) (Part (text (is (codes "-M") ∷ is (codes "-MM") ∷ is (codes "-MD") ∷ is (codes "-MMD") ∷ []) []) ∷ []) ∷
+    [])
+
 abbrev pub other_dependencies_group : Group
 other_dependencies_group = group (codes "OTHER_DEPENDENCIES") (
     test class.Unknown (text (begins (codes "--write-") ∷ begins (codes "--dependencies") ∷ begins (codes "--user-dependencies") ∷ []) []) [] ∷
@@ -350,4 +357,28 @@ cl_cut_short_group = group (codes "CL_CUT_SHORT") (
 abbrev pub cl_preprocessor_group : Group
 cl_preprocessor_group = group (codes "CL_PREPROCESSOR") (
     test class.Flag (text (is (codes "-D") ∷ is (codes "/D") ∷ is (codes "-FI") ∷ is (codes "/FI") ∷ is (codes "-I") ∷ is (codes "/I") ∷ is (codes "-U") ∷ is (codes "/U") ∷ is (codes "-imsvc") ∷ is (codes "/imsvc") ∷ []) []) [] ∷
+    [])
+
+abbrev pub debugging_group : Group
+debugging_group = group (codes "DEBUGGING") (
+    test class.Kind (text (is (codes "split-dwarf") ∷ []) []) [] ∷
+    test class.Unknown (text (begins (codes "-g") ∷ is (codes "--debug") ∷ begins (codes "--debug=") ∷ []) (is (codes "-g0") ∷ begins (codes "-gno-") ∷ begins (codes "-gen-") ∷ begins (codes "-gcc") ∷ is (codes "-ggdb0") ∷ is (codes "-gstabs0") ∷ is (codes "-gxcoff0") ∷ is (codes "-gvms0") ∷ [])) [] ∷
+    test class.Flag (text (is (codes "-gcodeview") ∷ []) []) [] ∷
+    [])
+
+abbrev pub not_debugging_group : Group
+not_debugging_group = group (codes "NOT_DEBUGGING") (
+    test class.Unknown (text (is (codes "-g0") ∷ is (codes "-ggdb0") ∷ is (codes "-gstabs0") ∷ is (codes "-gxcoff0") ∷ is (codes "-gvms0") ∷ is (codes "--debug=0") ∷ []) []) [] ∷
+    [])
+
+abbrev pub counting_group : Group
+counting_group = group (codes "COUNTING") (
+    test class.Kind (text (is (codes "coverage") ∷ is (codes "test-coverage") ∷ is (codes "profile-generate") ∷ []) []) [] ∷
+    test class.Unknown (text (is (codes "-coverage") ∷ begins (codes "-fprofile-generate=") ∷ begins (codes "-fprofile-instr-generate=") ∷ is (codes "-fcs-profile-generate") ∷ begins (codes "-fcs-profile-generate=") ∷ is (codes "-fcoverage-mapping") ∷ []) []) [] ∷
+    [])
+
+abbrev pub notes_group : Group
+notes_group = group (codes "NOTES") (
+    test class.Kind (text (is (codes "coverage") ∷ is (codes "test-coverage") ∷ []) []) [] ∷
+    test class.Unknown (text (is (codes "-coverage") ∷ []) []) [] ∷
     [])

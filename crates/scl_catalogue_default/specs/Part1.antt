@@ -31,7 +31,7 @@ response_file_nul_entry = entry (Hazard danger.Failure) (codes "response-file-nu
 
 unfoldable pub at_word_entry : Entry
 at_word_entry = entry (Hazard danger.Object) (codes "at-word")
-    (codes "The compiler reads the file that a word behind @ names.") (
+    (codes "The compiler reads the file that a word after @ names.") (
     case (meant compiler.Clang None None ∷ meant compiler.ClangCl None None ∷ []) (asked (Given (Any (unnamed (test class.Raw (text (begins (codes "@") ∷ []) []) [] ∷ [])))) ∷ []) ∷
     [])
 

@@ -81,7 +81,8 @@ several_device_outputs_entry = entry (Hazard danger.Object) (codes "several-devi
 unfoldable pub output_is_another_flag_entry : Entry
 output_is_another_flag_entry = entry (Hazard danger.Object) (codes "output-is-another-flag")
     (codes "Clang knows the word as a flag of its own, and the built command takes it for an output.") (
-    case (meant compiler.Clang None None ∷ []) (asked (Given (Last (unnamed (test class.Flag (text (is (codes "-o") ∷ []) []) (Marked mark.Joined ∷ Value (text (begins (codes "bject") ∷ begins (codes "bjcmt-") ∷ []) []) ∷ []) ∷ [])) (unnamed (test class.Kind (text (is (codes "output") ∷ []) []) [] ∷ [])))) ∷ []) ∷
+    case (meant compiler.Clang None None ∷ []) (asked (Given (Last (unnamed (test class.Flag (text (is (codes "-o") ∷ []) []) (Marked mark.Joined ∷ Value (text (begins (codes "bject") ∷ []) []) ∷ []) ∷ [])) (unnamed (test class.Kind (text (is (codes "output") ∷ []) []) [] ∷ [])))) ∷ []) ∷
+    case (meant compiler.Clang None None ∷ []) (asked (Given (Any (unnamed (test class.Flag (text (is (codes "-o") ∷ []) []) (Marked mark.Joined ∷ Value (text (begins (codes "bjcmt-") ∷ []) []) ∷ []) ∷ [])))) ∷ []) ∷
     [])
 
 unfoldable pub order_of_languages_entry : Entry
@@ -140,6 +141,7 @@ flag_takes_next_word_entry = entry (Hazard danger.Object) (codes "flag-takes-nex
     case (meant compiler.Gcc None None ∷ meant compiler.Clang None None ∷ []) (asked (Given (Unfollowed (unnamed (test class.Unknown (text (is (codes "--assert") ∷ is (codes "--define-macro") ∷ is (codes "--entry") ∷ is (codes "--for-assembler") ∷ is (codes "--for-linker") ∷ is (codes "--force-link") ∷ is (codes "--imacros") ∷ is (codes "--include") ∷ begins (codes "--include-directory") ∷ is (codes "--include-prefix") ∷ begins (codes "--include-with-prefix") ∷ is (codes "--language") ∷ is (codes "--library-directory") ∷ is (codes "--output") ∷ is (codes "--prefix") ∷ is (codes "--specs") ∷ is (codes "--undefine-macro") ∷ is (codes "-T") ∷ is (codes "-Tbss") ∷ is (codes "-Tdata") ∷ is (codes "-Ttext") ∷ is (codes "-e") ∷ is (codes "-l") ∷ is (codes "-specs") ∷ []) (holds (codes "=") ∷ [])) [] ∷ [])) (unnamed (test class.Option (text (begins [] ∷ []) []) (Marked mark.Stays ∷ []) ∷ [])))) ∷ []) ∷
     case (meant compiler.Gcc None None ∷ []) (asked (Given (Unfollowed (unnamed (test class.Unknown (text (is (codes "--dump") ∷ is (codes "--dumpbase") ∷ is (codes "--dumpbase-ext") ∷ is (codes "--dumpdir") ∷ is (codes "--output-pch=") ∷ is (codes "-Hd") ∷ is (codes "-Hf") ∷ is (codes "-J") ∷ is (codes "-R") ∷ is (codes "-Xf") ∷ is (codes "-auxbase") ∷ is (codes "-d") ∷ is (codes "-dumpbase") ∷ is (codes "-dumpbase-ext") ∷ is (codes "-dumpdir") ∷ is (codes "-fintrinsic-modules-path") ∷ is (codes "-gnatO") ∷ is (codes "-h") ∷ is (codes "-imultiarch") ∷ is (codes "-wrapper") ∷ []) []) [] ∷ [])) (unnamed (test class.Option (text (begins [] ∷ []) []) (Marked mark.Stays ∷ []) ∷ [])))) ∷ []) ∷
     case (meant compiler.Clang None None ∷ []) (asked (Given (Unfollowed (unnamed (test class.Unknown (text (is (codes "--analyzer-output") ∷ is (codes "--classpath") ∷ is (codes "--config") ∷ is (codes "-Xanalyzer") ∷ begins (codes "-Xarch_") ∷ begins (codes "-Xcuda-") ∷ begins (codes "-Xopenmp-target") ∷ is (codes "-Xparser") ∷ is (codes "-allowable_client") ∷ is (codes "-arcmt-migrate-report-output") ∷ is (codes "-bundle_loader") ∷ is (codes "-c-isystem") ∷ is (codes "-ccc-arcmt-migrate") ∷ is (codes "-ccc-gcc-name") ∷ is (codes "-ccc-install-dir") ∷ is (codes "-ccc-objcmt-migrate") ∷ is (codes "-client_name") ∷ is (codes "-compatibility_version") ∷ is (codes "-current_version") ∷ is (codes "-cxx-isystem") ∷ is (codes "-dylib_file") ∷ is (codes "-dylinker_install_name") ∷ is (codes "-exported_symbols_list") ∷ is (codes "-fexec-charset") ∷ is (codes "-filelist") ∷ is (codes "-force_load") ∷ is (codes "-framework") ∷ is (codes "-ftrapv-handler") ∷ is (codes "-fxray-instruction-threshold") ∷ is (codes "-gen-cdb-fragment-path") ∷ is (codes "-iframeworkwithsysroot") ∷ is (codes "-image_base") ∷ is (codes "-init") ∷ is (codes "-iwithsysroot") ∷ is (codes "-meabi") ∷ is (codes "-mthread-model") ∷ begins (codes "-multiply_defined") ∷ is (codes "-pagezero_size") ∷ is (codes "-read_only_relocs") ∷ begins (codes "-reexport_") ∷ is (codes "-resource-dir") ∷ is (codes "-rpath") ∷ begins (codes "-sect") ∷ begins (codes "-seg_addr_table") ∷ is (codes "-segaddr") ∷ is (codes "-segcreate") ∷ is (codes "-segprot") ∷ begins (codes "-segs_read_") ∷ is (codes "-serialize-diagnostics") ∷ is (codes "-stdlib++-isystem") ∷ begins (codes "-sub_") ∷ is (codes "-umbrella") ∷ is (codes "-unexported_symbols_list") ∷ begins (codes "-weak_") ∷ []) (is (codes "-Xarch_host") ∷ [])) [] ∷ [])) (unnamed (test class.Option (text (begins [] ∷ []) []) (Marked mark.Stays ∷ []) ∷ [])))) ∷ []) ∷
+    case (meant compiler.Clang None (Some (version 16 0)) ∷ []) (asked (Given (Unfollowed (unnamed (test class.Unknown (text (is (codes "-fxray-instruction-threshold=") ∷ is (codes "-fxray-instrumentation-bundle=") ∷ is (codes "-fxray-modes=") ∷ []) []) [] ∷ [])) (unnamed (test class.Option (text (begins [] ∷ []) []) (Marked mark.Stays ∷ []) ∷ [])))) ∷ []) ∷
     case (meant compiler.Clang None None ∷ []) (asked (Given (Any (unnamed (test class.Flag (text (is (codes "-u") ∷ []) []) (Marked mark.Joined ∷ Value (text (is (codes "ndefined") ∷ is (codes "mbrella") ∷ is (codes "nexported_symbols_list") ∷ []) []) ∷ []) ∷ [])))) ∷ []) ∷
     case (meant compiler.ClangCl None None ∷ []) (asked (Given (Any (unnamed (test class.Unknown (text (is (codes "-link") ∷ []) []) [] ∷ [])))) ∷ []) ∷
     case (meant compiler.ClangCl None None ∷ []) (asked (Given (Unfollowed cl_taking_next_group (unnamed (test class.Option (text (begins [] ∷ []) []) (Marked mark.Stays ∷ []) ∷ [])))) ∷ []) ∷
@@ -147,7 +149,7 @@ flag_takes_next_word_entry = entry (Hazard danger.Object) (codes "flag-takes-nex
 
 unfoldable pub host_flag_takes_next_word_entry : Entry
 host_flag_takes_next_word_entry = entry (Hazard danger.Object) (codes "host-flag-takes-next-word")
-    (codes "Clang takes the word behind -Xarch_host as a flag for the host, and the built command has another word there.") (
+    (codes "Clang takes the word after -Xarch_host as a flag for the host, and the built command has another word there.") (
     case (meant compiler.Clang None None ∷ []) (asked (Given (Unfollowed (unnamed (test class.Unknown (text (is (codes "-Xarch_host") ∷ []) []) [] ∷ [])) (unnamed (test class.Option (text (begins [] ∷ []) []) (Marked mark.Stays ∷ []) ∷ test class.Flag (text (begins [] ∷ []) (is (codes "-o") ∷ is (codes "-x") ∷ [])) (Marked mark.Joined ∷ []) ∷ [])))) ∷ []) ∷
     case (meant compiler.Clang None (Some (version 22 0)) ∷ []) (asked (Given (Unfollowed (unnamed (test class.Unknown (text (is (codes "-Xarch_host") ∷ []) []) [] ∷ [])) (unnamed (test class.Option (text (begins [] ∷ []) []) (Marked mark.Stays ∷ []) ∷ [])))) ∷ asked (Given (Before (unnamed (test class.Unknown (text (is (codes "-Xarch_host") ∷ []) []) [] ∷ [])) (unnamed (test class.Unknown (text (begins (codes "-O") ∷ []) []) [] ∷ [])))) ∷ []) ∷
     case (meant compiler.Clang None None ∷ []) (asked (Given (Unfollowed (unnamed (test class.Unknown (text (is (codes "-Xarch_host") ∷ []) []) [] ∷ [])) (unnamed (test class.Option (text (begins [] ∷ []) []) (Marked mark.Stays ∷ []) ∷ [])))) ∷ asked (Given (Before (unnamed (test class.Unknown (text (is (codes "-Xarch_host") ∷ []) []) [] ∷ [])) (unnamed (test class.Unknown (text (begins [] ∷ []) (begins (codes "-O") ∷ begins (codes "-W") ∷ begins (codes "-f") ∷ begins (codes "-g") ∷ begins (codes "-march=") ∷ is (codes "-pthread") ∷ is (codes "-w") ∷ [])) [] ∷ test class.Flag (text (is (codes "--param") ∷ is (codes "--target") ∷ is (codes "-A") ∷ is (codes "-B") ∷ is (codes "-G") ∷ is (codes "-L") ∷ is (codes "-V") ∷ is (codes "-Xassembler") ∷ is (codes "-Xclang") ∷ is (codes "-Xlinker") ∷ is (codes "-add-plugin") ∷ is (codes "-arch") ∷ is (codes "-aux-info") ∷ is (codes "-b") ∷ is (codes "-fdebug-compilation-dir") ∷ is (codes "-gcc-toolchain") ∷ is (codes "-install_name") ∷ is (codes "-load") ∷ is (codes "-mllvm") ∷ is (codes "-mmlir") ∷ is (codes "-target") ∷ is (codes "-u") ∷ is (codes "-z") ∷ []) []) [] ∷ [])))) ∷ []) ∷

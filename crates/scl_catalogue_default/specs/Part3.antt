@@ -32,7 +32,7 @@ value_printed_apart_entry = entry (Hazard danger.Failure) (codes "value-printed-
 
 unfoldable pub delimiter_dropped_entry : Entry
 delimiter_dropped_entry = entry (Hazard danger.Failure) (codes "delimiter-dropped")
-    (codes "The built command lacks the delimiter behind a flag with an empty value.") (
+    (codes "The built command lacks the delimiter after a flag with an empty value.") (
     case (meant compiler.Clang None None ∷ []) (asked (Given (Any (unnamed (test class.Flag (text (begins [] ∷ []) (is (codes "-Wp") ∷ is (codes "-std") ∷ is (codes "-fdiagnostics-color") ∷ [])) (Marked mark.DelimiterDropped ∷ []) ∷ [])))) ∷ []) ∷
     case (meant compiler.Clang None None ∷ meant compiler.ClangCl None None ∷ []) (asked (Inner (Any (unnamed (test class.Flag (text (begins [] ∷ []) (is (codes "-Wp") ∷ is (codes "-fdiagnostics-color") ∷ [])) (Marked mark.DelimiterDropped ∷ []) ∷ [])))) ∷ []) ∷
     case (meant compiler.Clang None None ∷ []) (asked (Given (Before no_standard_group known_standard_group)) ∷ []) ∷
@@ -88,7 +88,7 @@ trigraphs_before_standard_entry = entry (Hazard danger.Object) (codes "trigraphs
 
 unfoldable pub two_targets_entry : Entry
 two_targets_entry = entry (Hazard danger.SideFile) (codes "two-targets")
-    (codes "The dependency file names the last target alone.") (
+    (codes "The dependency file names only the last target.") (
     case (meant compiler.Gcc None None ∷ meant compiler.Clang None None ∷ []) (asked (Is fact.Preprocessed) ∷ asked (Given (Any need_group)) ∷ asked (Given (Two target_group)) ∷ []) ∷
     [])
 

@@ -1,8 +1,8 @@
 -- Entries of the catalogue that is built in; `catalogue/build` writes it.
 use Rattle.std.specs.Prelude.{List, [], ◌∷◌, codes, None}
-use Rattle.scl_catalogue.specs.Form.{Entry, Marked, Value, Any, Before, Last, Is, At, Given, Inner, Hazard}
+use Rattle.scl_catalogue.specs.Form.{Entry, Marked, Value, Any, Two, Before, Last, Is, At, Given, Inner, Hazard}
 use Rattle.scl_catalogue_default.specs.Words.{is, begins, holds, text, test, unnamed, asked, denied, meant, case, entry}
-use Rattle.scl_catalogue_default.specs.Groups.{language_group, output_group, color_group, color_never_group, need_group, target_group, dependency_file_group, dependency_rules_group, diagnostics_file_group, unused_group, fatal_group, not_fatal_group, silent_unused_group, unused_fatal_group, unused_not_fatal_group, unused_off_group, unused_on_group, unused_block_group, cl_output_group, cl_cut_short_group}
+use Rattle.scl_catalogue_default.specs.Groups.{language_group, output_group, split_group, color_group, color_never_group, need_group, target_group, dependency_file_group, dependency_rules_group, using_target_group, diagnostics_file_group, unused_group, fatal_group, not_fatal_group, silent_unused_group, unused_fatal_group, unused_not_fatal_group, unused_off_group, unused_on_group, unused_block_group, cl_output_group, cl_cut_short_group}
 use Rattle.scl_catalogue.specs.declared.case.Compiler.TheVariants as compiler
 use Rattle.scl_catalogue.specs.declared.entry.Danger.TheVariants as danger
 use Rattle.scl_catalogue.specs.declared.test.Class.TheVariants as class
@@ -76,9 +76,20 @@ c_as_cxx_unsaid_entry = entry (Hazard danger.Messages) (codes "c-as-cxx-unsaid")
     case (meant compiler.Clang None None ∷ []) (asked (Is fact.Plusplus) ∷ asked (At place.Extension (text (is (codes "c") ∷ []) [])) ∷ denied (Given (Any language_group)) ∷ []) ∷
     [])
 
+unfoldable pub unused_words_said_entry : Entry
+unused_words_said_entry = entry (Hazard danger.Messages) (codes "unused-words-said")
+    (codes "Clang warns of other words as unused.") (
+    case (meant compiler.Clang None None ∷ []) (asked (At place.Language (text (is (codes "assembler") ∷ []) [])) ∷ denied (Given (Any color_group)) ∷ denied (Given (Any silent_unused_group)) ∷ denied (Given (Last unused_off_group unused_on_group)) ∷ []) ∷
+    case (meant compiler.Clang None None ∷ []) (asked (At place.Language (text (is (codes "assembler") ∷ []) [])) ∷ asked (Given (Two color_group)) ∷ denied (Given (Any silent_unused_group)) ∷ denied (Given (Last unused_off_group unused_on_group)) ∷ []) ∷
+    case (meant compiler.Clang None None ∷ []) (asked (At place.Language (text (is (codes "assembler") ∷ []) [])) ∷ asked (Given (Any (unnamed (test class.Kind (text (is (codes "diagnostics-color") ∷ []) []) (Value (text (begins [] ∷ []) (is (codes "always") ∷ [])) ∷ []) ∷ test class.Kind (text (is (codes "diagnostics-color-flag") ∷ []) []) [] ∷ [])))) ∷ denied (Given (Any silent_unused_group)) ∷ denied (Given (Last unused_off_group unused_on_group)) ∷ []) ∷
+    case (meant compiler.Clang None None ∷ []) (asked (At place.Language (text (is (codes "assembler") ∷ []) [])) ∷ asked (Given (Any split_group)) ∷ denied (Given (Any silent_unused_group)) ∷ denied (Given (Last unused_off_group unused_on_group)) ∷ []) ∷
+    case (meant compiler.Clang None None ∷ []) (asked (Is fact.Preprocessed) ∷ asked (Given (Any need_group)) ∷ denied (Given (Any using_target_group)) ∷ denied (Given (Any silent_unused_group)) ∷ denied (Given (Last unused_off_group unused_on_group)) ∷ []) ∷
+    case (meant compiler.Clang None None ∷ []) (asked (Given (Any target_group)) ∷ denied (Given (Any need_group)) ∷ denied (Given (Any using_target_group)) ∷ denied (Given (Any silent_unused_group)) ∷ denied (Given (Last unused_off_group unused_on_group)) ∷ []) ∷
+    [])
+
 unfoldable pub inner_input_entry : Entry
 inner_input_entry = entry (Hazard danger.Failure) (codes "inner-input")
-    (codes "A word behind -clang: is an input of its own, and one object is named for several files.") (
+    (codes "A word after -clang: is an input of its own, and one object is named for several files.") (
     case (meant compiler.ClangCl None None ∷ []) (asked (Inner (Any (unnamed (test class.Raw (text (begins [] ∷ []) []) [] ∷ test class.Unknown (text (begins (codes "-l") ∷ begins (codes "-Wl,") ∷ []) []) [] ∷ [])))) ∷ denied (Inner (Any cl_cut_short_group)) ∷ []) ∷
     [])
 
@@ -90,7 +101,7 @@ inner_value_at_entry = entry (Hazard danger.Object) (codes "inner-value-at")
 
 unfoldable pub inner_response_file_entry : Entry
 inner_response_file_entry = entry (Hazard danger.Object) (codes "inner-response-file")
-    (codes "A response file behind -clang: is put in place, where clang-cl takes the word for a file.") (
+    (codes "A response file after -clang: is put in place, where clang-cl takes the word for a file.") (
     case (meant compiler.ClangCl None None ∷ []) (asked (Given (Any (unnamed (test class.Flag (text (is (codes "-clang:") ∷ is (codes "/clang:") ∷ is (codes "-Xclang") ∷ is (codes "/Xclang") ∷ []) []) (Value (text (begins (codes "@") ∷ []) []) ∷ []) ∷ [])))) ∷ []) ∷
     [])
 
@@ -125,12 +136,5 @@ object_beside_input_entry = entry (Hazard danger.Object) (codes "object-beside-i
     case (meant compiler.ClangCl None None ∷ []) (asked (At place.Input (text (holds (codes "/") ∷ []) [])) ∷ denied (Given (Any cl_output_group)) ∷ []) ∷
     [])
 
-unfoldable pub hidden_output_entry : Entry
-hidden_output_entry = entry (Hazard danger.Object) (codes "hidden-output")
-    (codes "The output's name begins with its only dot, which clang-cl takes for an extension.") (
-    case (meant compiler.ClangCl None None ∷ []) (asked (Is fact.HiddenInput) ∷ denied (Given (Any cl_output_group)) ∷ []) ∷
-    case (meant compiler.ClangCl None None ∷ []) (asked (Given (Last (unnamed (test class.Kind (text (is (codes "output") ∷ []) []) (Marked mark.HiddenValue ∷ []) ∷ [])) (unnamed (test class.Kind (text (is (codes "output") ∷ []) []) [] ∷ [])))) ∷ []) ∷
-    [])
-
 unfoldable pub part_4 : List Entry
-part_4 = color_value_unknown_entry ∷ unused_words_for_assembler_entry ∷ unused_dependency_words_entry ∷ unused_words_block_entry ∷ diagnostics_file_entry ∷ remarks_file_entry ∷ diagnostics_file_dropped_entry ∷ color_forgotten_entry ∷ c_as_cxx_unsaid_entry ∷ inner_input_entry ∷ inner_value_at_entry ∷ inner_response_file_entry ∷ response_file_in_environment_entry ∷ environment_split_otherwise_entry ∷ nested_response_file_entry ∷ response_file_quoting_entry ∷ object_beside_input_entry ∷ hidden_output_entry ∷ []
+part_4 = color_value_unknown_entry ∷ unused_words_for_assembler_entry ∷ unused_dependency_words_entry ∷ unused_words_block_entry ∷ diagnostics_file_entry ∷ remarks_file_entry ∷ diagnostics_file_dropped_entry ∷ color_forgotten_entry ∷ c_as_cxx_unsaid_entry ∷ unused_words_said_entry ∷ inner_input_entry ∷ inner_value_at_entry ∷ inner_response_file_entry ∷ response_file_in_environment_entry ∷ environment_split_otherwise_entry ∷ nested_response_file_entry ∷ response_file_quoting_entry ∷ object_beside_input_entry ∷ []

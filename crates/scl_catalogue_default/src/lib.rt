@@ -1,4 +1,4 @@
-//! The catalogue that is built in, of catalogue/hazards.txt: `catalogue/build` writes its entries.
+//! The catalogue that is built in, of catalogue/hazards.txt and catalogue/effects.txt: `catalogue/build` writes its entries.
 #![tactic(auto)]
 
 macro_rules! text {
@@ -98,9 +98,9 @@ macro_rules! entry {
             cases: &[$(case!($($case)*)),*],
         }
     };
-    (Reason $name:literal $says:literal $([$($case:tt)*])*) => {
+    ($tells:ident $name:literal $says:literal $([$($case:tt)*])*) => {
         scl_catalogue::Entry {
-            tells: scl_catalogue::Tells::Reason,
+            tells: scl_catalogue::Tells::$tells,
             name: $name,
             says: $says,
             cases: &[$(case!($($case)*)),*],

@@ -4,7 +4,7 @@ use Rattle.std.proofs.lemmas.List.{append-nil}
 use Rattle.std.proofs.lemmas.List.Folds.{list_all-append}
 use Rattle.std.specs.List.{list_all, list_any}
 use Rattle.std.specs.Str.{bytes_eq}
-use Rattle.scl_catalogue.specs.Form.{Group, Case, Test, Tells, Hazard, Effect, Reason, Entry, Catalogue}
+use Rattle.scl_catalogue.specs.Form.{Group, Case, Test, Tells, Hazard, Effect, Reason, Plain, Entry, Catalogue}
 use Rattle.scl_catalogue.specs.declared.case.Compiler.{Compiler}
 use Rattle.scl_catalogue.specs.declared.case.Compiler.TheVariants as compiler
 use Rattle.scl_catalogue.specs.declared.entry.Danger.{Danger}
@@ -12,7 +12,7 @@ use Rattle.scl_catalogue.specs.declared.entry.Danger.TheVariants as danger
 use Rattle.scl_catalogue.specs.declared.entry.Verb.{Verb}
 use Rattle.scl_catalogue.specs.declared.entry.Verb.TheVariants as verb
 use Rattle.scl_catalogue_text.specs.Cutting.{first_word, from_mark, other_words, parts, until_mark, words}
-use Rattle.scl_catalogue_text.specs.Lines.{NewCase, NewEntry, NewGroup, Nothing, Said, Says, SoFar, added, catalogue_so_far, effect_read, group_line_by, group_line_read, hazard_read, line_by, line_read, lines_read, read, reason_read, with_last, with_line}
+use Rattle.scl_catalogue_text.specs.Lines.{NewCase, NewEntry, NewGroup, Nothing, Said, Says, SoFar, added, catalogue_so_far, effect_read, group_line_by, group_line_read, hazard_read, line_by, line_read, lines_read, name_read, read, with_last, with_line}
 use Rattle.scl_catalogue_text.specs.Names.{compiler_name, danger_name, danger_named, verb_name, verb_named}
 use Rattle.scl_catalogue_text.specs.Outcome.{after, after_line, at_end, at_line}
 use Rattle.scl_catalogue_text.specs.Reading.{case_read, group_named, tests_read}
@@ -91,6 +91,7 @@ verb-name : (v : Verb) → IsVerb v
 verb-name verb.Reads = record { read = refl; unbroken = refl; bytes = refl }
 verb-name verb.Writes = record { read = refl; unbroken = refl; bytes = refl }
 verb-name verb.Asks = record { read = refl; unbroken = refl; bytes = refl }
+verb-name verb.Loads = record { read = refl; unbroken = refl; bytes = refl }
 
 hazard-head : (gs : List Group) (xs : List ℕ) → line_read gs (codes "hazard" ++ 32 ∷ xs) ≡ hazard_read (words (32 ∷ xs))
 unfolding line_read line_by first_word other_words
@@ -100,21 +101,30 @@ effect-head : (gs : List Group) (xs : List ℕ) → line_read gs (codes "effect"
 unfolding line_read line_by first_word other_words
 effect-head gs xs = refl
 
-reason-head : (gs : List Group) (xs : List ℕ) → line_read gs (codes "reason" ++ 32 ∷ xs) ≡ reason_read (words (32 ∷ xs))
+reason-head : (gs : List Group) (xs : List ℕ) → line_read gs (codes "reason" ++ 32 ∷ xs) ≡ name_read Reason (words (32 ∷ xs))
 unfolding line_read line_by first_word other_words
 reason-head gs xs = refl
 
+plain-head : (gs : List Group) (xs : List ℕ) → line_read gs (codes "plain" ++ 32 ∷ xs) ≡ name_read Plain (words (32 ∷ xs))
+unfolding line_read line_by first_word other_words
+plain-head gs xs = refl
+
+name-read : (tells : Tells) (name : List ℕ) → is_plain_word name ≡ true → name_read tells (words (spaced (name ∷ []))) ≡ Ok (NewEntry tells name)
+unfolding name_read
+name-read tells name h =
+    let cut : words (spaced (name ∷ [])) ≡ name ∷ [] = words-spaced (name ∷ []) (both (plain-unbroken name h) refl) in
+    ap (name_read tells) cut
+
 head-written : (gs : List Group) (tells : Tells) (name : List ℕ) → is_plain_word name ≡ true → has_words tells ≡ true → line_read gs (head_text tells name) ≡ Ok (NewEntry tells name)
-unfolding hazard_read effect_read reason_read
+unfolding hazard_read effect_read
 head-written gs (Hazard d) name h k =
     let cut : words (spaced (name ∷ danger_name d ∷ [])) ≡ name ∷ danger_name d ∷ [] = words-spaced (name ∷ danger_name d ∷ []) (both (plain-unbroken name h) (both (danger-name d).unbroken refl)) in
     hazard-head gs (name ++ spaced (danger_name d ∷ [])) ∙ (ap hazard_read cut ∙ rw (danger-name d).read refl)
 head-written gs (Effect v file) name h k =
     let cut : words (spaced (name ∷ verb_name v ∷ file ∷ [])) ≡ name ∷ verb_name v ∷ file ∷ [] = words-spaced (name ∷ verb_name v ∷ file ∷ []) (both (plain-unbroken name h) (both (verb-name v).unbroken (both (plain-unbroken file k) refl))) in
     effect-head gs (name ++ spaced (verb_name v ∷ file ∷ [])) ∙ (ap effect_read cut ∙ rw (verb-name v).read refl)
-head-written gs Reason name h k =
-    let cut : words (spaced (name ∷ [])) ≡ name ∷ [] = words-spaced (name ∷ []) (both (plain-unbroken name h) refl) in
-    reason-head gs (name ++ []) ∙ ap reason_read cut
+head-written gs Reason name h k = reason-head gs (name ++ []) ∙ name-read Reason name h
+head-written gs Plain name h k = plain-head gs (name ++ []) ∙ name-read Plain name h
 
 says-written : (gs : List Group) (says : List ℕ) → line_read gs (codes "  says " ++ says) ≡ Ok (Says says)
 unfolding line_read line_by first_word other_words
@@ -198,6 +208,7 @@ head-bytes : (tells : Tells) (name : List ℕ) → is_plain_word name ≡ true �
 head-bytes (Hazard d) name h k = spaced-bytes is_of_line refl (name ∷ danger_name d ∷ []) (both (plain-line name h) (both (danger-name d).bytes refl))
 head-bytes (Effect v file) name h k = spaced-bytes is_of_line refl (name ∷ verb_name v ∷ file ∷ []) (both (plain-line name h) (both (verb-name v).bytes (both (plain-line file k) refl)))
 head-bytes Reason name h k = spaced-bytes is_of_line refl (name ∷ []) (both (plain-line name h) refl)
+head-bytes Plain name h k = spaced-bytes is_of_line refl (name ∷ []) (both (plain-line name h) refl)
 
 groups-lack : (gs above : List Group) → AreGroups above gs → list_all (lacks_mark 10) (map group_line gs) ≡ true
 groups-lack [] above h = refl

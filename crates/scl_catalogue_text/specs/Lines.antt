@@ -2,7 +2,7 @@
 use Rattle.std.specs.Prelude.{ℕ, ◌+◌, ◌==◌, Bool, false, cond, not, ◌||◌, List, [], ◌∷◌, ◌++◌, codes, Option, None, Some, Result, Ok, Err}
 use Rattle.std.specs.List.{list_any}
 use Rattle.std.specs.Str.{bytes_eq}
-use Rattle.scl_catalogue.specs.Form.{Group, Case, Tells, Hazard, Effect, Reason, Entry, Catalogue}
+use Rattle.scl_catalogue.specs.Form.{Group, Case, Tells, Hazard, Effect, Reason, Plain, Entry, Catalogue}
 use Rattle.scl_catalogue_text.specs.Cutting.{first_word, from_mark, is_word, other_words, parts, until_mark, words}
 use Rattle.scl_catalogue_text.specs.Names.{danger_named, verb_named}
 use Rattle.scl_catalogue_text.specs.Outcome.{after, after_line, at_end, at_line, or_mistake}
@@ -32,10 +32,11 @@ effect_read (name ∷ verb ∷ []) = Err mistake.WrongEntry
 effect_read (name ∷ verb ∷ file ∷ []) = after (or_mistake mistake.WrongEntry (verb_named verb)) (λ v. Ok (NewEntry (Effect v file) name))
 effect_read (name ∷ verb ∷ file ∷ other ∷ more) = Err mistake.WrongEntry
 
-unfoldable pub reason_read : List (List ℕ) → Result Said Mistake
-reason_read [] = Err mistake.WrongEntry
-reason_read (name ∷ []) = Ok (NewEntry Reason name)
-reason_read (name ∷ other ∷ more) = Err mistake.WrongEntry
+-- a name alone, of an entry that tells this
+unfoldable pub name_read : Tells → List (List ℕ) → Result Said Mistake
+name_read tells [] = Err mistake.WrongEntry
+name_read tells (name ∷ []) = Ok (NewEntry tells name)
+name_read tells (name ∷ other ∷ more) = Err mistake.WrongEntry
 
 abbrev pub unused : {A : Type 0} → Option Group → Result A Mistake → Result A Mistake
 unused None r = r
@@ -62,8 +63,9 @@ line_by gs word others line = cond (bytes_eq word (codes "says")) (Ok (Says (wit
     (cond (bytes_eq word (codes "group")) (group_line_read gs others)
     (cond (bytes_eq word (codes "hazard")) (hazard_read (words others))
     (cond (bytes_eq word (codes "effect")) (effect_read (words others))
-    (cond (bytes_eq word (codes "reason")) (reason_read (words others))
-    (after (case_read gs line) (λ c. Ok (NewCase c)))))))
+    (cond (bytes_eq word (codes "reason")) (name_read Reason (words others))
+    (cond (bytes_eq word (codes "plain")) (name_read Plain (words others))
+    (after (case_read gs line) (λ c. Ok (NewCase c))))))))
 
 unfoldable pub line_read : List Group → List ℕ → Result Said Mistake
 line_read gs line = cond (not (is_word (first_word line)) || is_comment line) (Ok Nothing) (line_by gs (first_word line) (other_words line) line)

@@ -126,9 +126,11 @@ abbrev pub verb_name : Verb → List ℕ
 verb_name verb.Reads = codes "reads"
 verb_name verb.Writes = codes "writes"
 verb_name verb.Asks = codes "asks"
+verb_name verb.Loads = codes "loads"
 
 abbrev pub verb_named : List ℕ → Option Verb
 verb_named word =
     cond (bytes_eq word (verb_name verb.Reads)) (Some verb.Reads) (
     cond (bytes_eq word (verb_name verb.Writes)) (Some verb.Writes) (
-    cond (bytes_eq word (verb_name verb.Asks)) (Some verb.Asks) (None)))
+    cond (bytes_eq word (verb_name verb.Asks)) (Some verb.Asks) (
+    cond (bytes_eq word (verb_name verb.Loads)) (Some verb.Loads) (None))))

@@ -2,7 +2,7 @@
 use Rattle.std.specs.Prelude.{◌≡◌, ℕ, nat_lt, ◌==◌, Bool, true, false, not, ◌&&◌, List, [], ◌∷◌, ◌++◌, Option, None, Some}
 use Rattle.std.specs.List.{list_all, list_any}
 use Rattle.std.specs.Str.{bytes_eq}
-use Rattle.scl_catalogue.specs.Form.{Pattern, Text, Demand, Marked, Value, Part, Test, Group, Relation, Any, Two, Before, Unfollowed, Last, Question, Is, At, Given, Inner, Condition, Case, Tells, Hazard, Effect, Reason, Entry, Catalogue}
+use Rattle.scl_catalogue.specs.Form.{Pattern, Text, Demand, Marked, Value, Part, Test, Group, Relation, Any, Two, Before, Unfollowed, Last, Question, Is, At, Given, Inner, Condition, Case, Tells, Hazard, Effect, Reason, Plain, Entry, Catalogue}
 use Rattle.scl_catalogue.specs.declared.case.Served.{Served}
 use Rattle.scl_catalogue.specs.declared.case.Version.{Version}
 use Rattle.scl_catalogue_text.specs.Reading.{group_named}
@@ -88,6 +88,7 @@ abbrev pub has_words : Tells → Bool
 has_words (Hazard d) = true
 has_words (Effect v file) = is_plain_word file
 has_words Reason = true
+has_words Plain = true
 
 pub record IsEntry (gs : List Group) (e : Entry) : Type 0 where
   pub name : is_plain_word e.name ≡ true

@@ -12,7 +12,7 @@ pub enum Mistake {
     #[error("a colon lacks")]
     NoColon,
     /// An entry's line has other words.
-    #[error("an entry is `hazard NAME DANGER`, `effect NAME VERB FILE` or `reason NAME`")]
+    #[error("an entry is `hazard NAME DANGER`, `effect NAME VERB FILE`, `reason NAME` or `plain NAME`")]
     WrongEntry,
     /// A group's line has other words before its colon.
     #[error("a group is `group NAME: TESTS`")]

@@ -145,6 +145,8 @@ pub(crate) fn verb_named(word: &[u8]) -> Option<Verb>
         Some(Verb::Writes)
     } else if is(word, "asks") {
         Some(Verb::Asks)
+    } else if is(word, "loads") {
+        Some(Verb::Loads)
     } else {
         None
     }

@@ -1,7 +1,7 @@
 //! Reads a line of a catalogue.
 ghost use Rattle.std.specs.Prelude.{◌≡◌, map};
-ghost use Rattle.scl_catalogue.specs.Views.{group_of};
-ghost use Rattle.scl_catalogue_text.specs.Lines.{effect_read, group_line_by, group_line_read, hazard_read, is_comment, line_by, line_read, reason_read, without_first};
+ghost use Rattle.scl_catalogue.specs.Views.{group_of, tells_of};
+ghost use Rattle.scl_catalogue_text.specs.Lines.{effect_read, group_line_by, group_line_read, hazard_read, is_comment, line_by, line_read, name_read, without_first};
 ghost use Rattle.scl_catalogue_text.specs.Outcome.{Reads};
 ghost use Rattle.scl_catalogue_text.specs.SaidViews.{said_of};
 
@@ -48,14 +48,15 @@ fn effect<'a>(words: &[&'a [u8]]) -> Part<Said<'a>>
     }
 }
 
-#[tactic(auto, unfolding(crate::specs::Lines::reason_read))]
-fn reason<'a>(words: &[&'a [u8]]) -> Part<Said<'a>>
-    ensures { Reads said_of result (reason_read (map (λ word. word.now) words.now)) }
+/// A name alone, of an entry that tells this.
+#[tactic(auto, unfolding(crate::specs::Lines::name_read))]
+fn named<'a>(tells: Tells<'a>, words: &[&'a [u8]]) -> Part<Said<'a>>
+    ensures { Reads said_of result (name_read (tells_of tells.entry) (map (λ word. word.now) words.now)) }
 {
     let [name] = words else {
         return Err(Stop::Mistake(Mistake::WrongEntry));
     };
-    Ok(Said::Entry(Tells::Reason, name))
+    Ok(Said::Entry(tells, name))
 }
 
 /// A group of this name, whose tests stand behind the colon.
@@ -130,7 +131,11 @@ fn line_named<'a>(
     }
     if is(word, "reason") {
         let words = words(room.alloc, others)?;
-        return reason(&words);
+        return named(Tells::Reason, &words);
+    }
+    if is(word, "plain") {
+        let words = words(room.alloc, others)?;
+        return named(Tells::Plain, &words);
     }
     let case = case(room, groups, line)?;
     Ok(Said::Case(case))

@@ -1,18 +1,23 @@
--- A request has the rows and the hazards on the disk that it has in a view with enough of it.
-use Rattle.std.proofs.Common.{ap, ◌∙◌}
+-- Of a request the same is told on the disk as in a view with enough of it, and it has the same rows.
+use Rattle.std.proofs.Common.{◌≡◌, ap, ◌∙◌}
+use Rattle.scl_files.specs.Views.{Viewed}
+use Rattle.scl_hazards.specs.Hazards.{Known}
 use Rattle.scl_reader.proofs.QuestionLaws.{headers-decided, wholes-decided}
-use Rattle.scl_reader.specs.CommandLines.{given_in}
+use Rattle.scl_reader.specs.CommandLines.{Request, given_in}
 use Rattle.scl_reader.specs.PrecompiledHeaders.{has_precompiled_header}
-use Rattle.scl_reader.specs.Questions.{on_disk}
+use Rattle.scl_reader.specs.Questions.{Extends, HasNoneOf, on_disk, questions_of}
 use Rattle.scl_reader.specs.Reads.{read_of}
-use Rattle.scl_describe.specs.Decided.{HazardsAreDecided, RowsAreDecided}
-use Rattle.scl_describe.specs.Hazards.{hazards_with}
+use Rattle.scl_describe.specs.Decided.{TellingIsDecided, RowsAreDecided}
+use Rattle.scl_describe.specs.Hazards.{hazards_by, told_with}
 use Rattle.scl_describe.specs.OptionRows.{rows_in}
 
 pub rows-decided : RowsAreDecided
 rows-decided r disk extends none = ap rows_in (wholes-decided r disk extends none)
 
-pub hazards-decided : HazardsAreDecided
-hazards-decided known r disk extends none =
-    ap (λ reading. hazards_with known r.environment (has_precompiled_header (given_in (on_disk r disk)) (read_of (on_disk r disk))) reading) (wholes-decided r disk extends none)
-    ∙ ap (λ has. hazards_with known r.environment has (read_of r)) (headers-decided r disk extends none)
+pub telling-decided : TellingIsDecided
+telling-decided known r disk extends none =
+    ap (λ reading. told_with known r.environment (has_precompiled_header (given_in (on_disk r disk)) (read_of (on_disk r disk))) reading) (wholes-decided r disk extends none)
+    ∙ ap (λ has. told_with known r.environment has (read_of r)) (headers-decided r disk extends none)
+
+pub hazards-decided : (known : Known) (r : Request) (disk : Viewed) → Extends disk r.view → HasNoneOf disk (questions_of r) → hazards_by known (on_disk r disk) ≡ hazards_by known r
+hazards-decided known r disk extends none = ap (λ told. told.hazards) (telling-decided known r disk extends none)

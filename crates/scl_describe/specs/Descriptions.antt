@@ -1,13 +1,13 @@
 -- The description of the answer to a request: the answer's lines, and after them rows of what was read.
 use Rattle.std.specs.Prelude.{◌≡◌, ℕ, true, List, [], ◌∷◌, ◌++◌, map, codes, Option, Result, Ok, Err, unwrap_or, if◌then◌else◌}
-use Rattle.scl_catalogue.specs.Form.{Catalogue}
 use Rattle.scl_values.specs.Each.{Each}
 use Rattle.scl_text.specs.declared.records.Cacheable.{Cacheable}
 use Rattle.scl_text.specs.declared.records.Cacheable.TheVariants as cacheable
 use Rattle.scl_text.specs.Records.{Parsed, Verdict}
 use Rattle.scl_reasons.specs.Explanations.{text_for}
 use Rattle.scl_reasons.specs.Table.{other, table}
-use Rattle.scl_hazards.specs.Hazards.{Hazard}
+use Rattle.scl_hazards.specs.Hazards.{Hazard, Tables}
+use Rattle.scl_hazards.specs.Told.{Told}
 use Rattle.scl_rows.specs.Rows.{refused_at}
 use Rattle.scl_description.specs.Lines.{lines_of}
 use Rattle.scl_description.specs.Rows.{Entry, entry, row_entry, words_entry, maybe_entry, lone_entry, lone, IsRow, rows_of, entries_text}
@@ -17,9 +17,10 @@ use Rattle.scl_reader.specs.CommandLines.{Request}
 use Rattle.scl_cl.specs.Requests.{request_in}
 use Rattle.scl_cl.specs.AnswerTexts.{text_of}
 use Rattle.scl_reader.specs.Answers.{Answer, compiled, cannot_cache, not_compilation, answer_to, reading_by, runs_with, environment_by}
+use Rattle.scl_describe.specs.EffectRows.{effect_entries}
 use Rattle.scl_describe.specs.OptionLines.{index_entry, options_entry}
 use Rattle.scl_describe.specs.OptionRows.{rows_by}
-use Rattle.scl_describe.specs.Hazards.{hazards_by, known_by}
+use Rattle.scl_describe.specs.Hazards.{known_by, told_by}
 use Rattle.scl_describe.specs.Keepings.{kept_entries, run_words_by}
 use Rattle.scl_reader.specs.Questions.{Questions, questions_of}
 use Rattle.scl_describe.specs.Settings.{Settings, settings_in, request_lines}
@@ -82,50 +83,54 @@ question_entries q = wants_entry (codes "file") q.files ∷ wants_entry (codes "
 abbrev pub runs_for : Settings → Compiler → Parsed → List (List (List ℕ))
 runs_for s compiler p = runs_with s.version compiler s.may_dist s.rewrite_includes_only s.cache_mode p
 
--- the rows of a record that a request's line is read as, whose outcome may be kept or not, if these hazards are known
-abbrev pub record_rows : Settings → Request → List Hazard → Cacheable → Parsed → List Entry
-record_rows s request hazards kept p =
+-- the rows of a record that a request's line is read as, whose outcome may be kept or not, if this is told
+abbrev pub record_rows : Settings → Request → Told → Cacheable → Parsed → List Entry
+record_rows s request told kept p =
     let environment : List (List ℕ × List ℕ) = environment_by request.compiler request.environment in
-    compiled_entries (runs_for s request.compiler p) environment (kept_entries kept request.compiler (run_words_by request.words hazards) environment p) p
+    compiled_entries (runs_for s request.compiler p) environment (kept_entries kept request.compiler (run_words_by request.words told.hazards) told environment p) p
 
-abbrev pub outcome_entries : Settings → Request → List Hazard → Answer → Result Parsed Verdict → List Entry
-outcome_entries s request hazards (compiled words kept) (Ok p) = record_rows s request hazards kept p
-outcome_entries s request hazards (compiled words kept) (Err v) = []
-outcome_entries s request hazards (cannot_cache reason beside) r = refused_entries reason beside (refused_at (rows_by request))
-outcome_entries s request hazards not_compilation r = undone_entries (refused_at (rows_by request))
+abbrev pub outcome_entries : Settings → Request → Told → Answer → Result Parsed Verdict → List Entry
+outcome_entries s request told (compiled words kept) (Ok p) = record_rows s request told kept p
+outcome_entries s request told (compiled words kept) (Err v) = []
+outcome_entries s request told (cannot_cache reason beside) r = refused_entries reason beside (refused_at (rows_by request))
+outcome_entries s request told not_compilation r = undone_entries (refused_at (rows_by request))
 
--- the rows after the answer's lines, with the hazards and the names of the kinds of flags
-abbrev pub entries_with : Settings → Request → List Hazard → List (List ℕ) → List Entry
-entries_with s request hazards kinds =
+-- the rows of what is told: of hazards, and of what is read, written, asked and loaded
+abbrev pub told_entries : Told → List Entry
+told_entries told = hazards_entry told.hazards ∷ effect_entries told.effects
+
+-- the rows after the answer's lines, with what is told and the names of the kinds of flags
+abbrev pub entries_with : Settings → Request → Told → List (List ℕ) → List Entry
+entries_with s request told kinds =
     version_entry ∷ []
-    ++ outcome_entries s request hazards (answer_to request) (reading_by request.compiler request)
-    ++ (options_entry kinds (rows_by request) ∷ hazards_entry hazards ∷ question_entries (questions_of request))
+    ++ outcome_entries s request told (answer_to request) (reading_by request.compiler request)
+    ++ (options_entry kinds (rows_by request) ∷ told_entries told ++ question_entries (questions_of request))
 
-abbrev pub answer_entries : Catalogue → Settings → Request → List (List ℕ) → List Entry
-answer_entries catalogue s request kinds = entries_with s request (hazards_by (known_by catalogue s.version) request) kinds
+abbrev pub answer_entries : Tables → Settings → Request → List (List ℕ) → List Entry
+answer_entries tables s request kinds = entries_with s request (told_by (known_by tables s.version) request) kinds
 
 -- where a command line has more words than the bound
 abbrev pub too_many_entries : List Entry
 too_many_entries = lone_entry (codes "too-many-words") ∷ version_entry ∷ []
 
-abbrev pub description : Catalogue → Settings → Request → List (List ℕ) → List ℕ
-description catalogue s request kinds =
-    if has_at_most s.bound request then text_of (answer_to request) ++ entries_text (answer_entries catalogue s request kinds) else entries_text too_many_entries
+abbrev pub description : Tables → Settings → Request → List (List ℕ) → List ℕ
+description tables s request kinds =
+    if has_at_most s.bound request then text_of (answer_to request) ++ entries_text (answer_entries tables s request kinds) else entries_text too_many_entries
 
 -- the text describes the answer to the request; which names the kinds of flags have is not said
-abbrev pub IsDescription : Catalogue → Settings → Request → List ℕ → Type 0
-IsDescription catalogue s request text = (kinds : List (List ℕ)) × (text ≡ description catalogue s request kinds)
+abbrev pub IsDescription : Tables → Settings → Request → List ℕ → Type 0
+IsDescription tables s request text = (kinds : List (List ℕ)) × (text ≡ description tables s request kinds)
 
 -- what a description of the request may be, or the number of its bad line
-abbrev pub IsDescriptionOf : Catalogue → Settings → Result Request ℕ → Result (List ℕ) ℕ → Type 0
-IsDescriptionOf catalogue s (Ok request) (Ok text) = IsDescription catalogue s request text
-IsDescriptionOf catalogue s (Err n) (Err m) = n ≡ m
-IsDescriptionOf catalogue s (Ok request) (Err m) = ⊥
-IsDescriptionOf catalogue s (Err n) (Ok text) = ⊥
+abbrev pub IsDescriptionOf : Tables → Settings → Result Request ℕ → Result (List ℕ) ℕ → Type 0
+IsDescriptionOf tables s (Ok request) (Ok text) = IsDescription tables s request text
+IsDescriptionOf tables s (Err n) (Err m) = n ≡ m
+IsDescriptionOf tables s (Ok request) (Err m) = ⊥
+IsDescriptionOf tables s (Err n) (Ok text) = ⊥
 
 -- what may be answered to the bytes of a description's request: their settings and the request of their other lines
-abbrev pub DescribesBytes : Catalogue → List ℕ → Result (List ℕ) ℕ → Type 0
-DescribesBytes catalogue bytes said = IsDescriptionOf catalogue (settings_in (lines_of bytes)) (request_in (request_lines (lines_of bytes))) said
+abbrev pub DescribesBytes : Tables → List ℕ → Result (List ℕ) ℕ → Type 0
+DescribesBytes tables bytes said = IsDescriptionOf tables (settings_in (lines_of bytes)) (request_in (request_lines (lines_of bytes))) said
 
 -- ---- a law
 
@@ -136,7 +141,7 @@ command_entries words cacheable.No = lone_entry (codes "ok") ∷ words_entry (co
 
 -- A description of a command gives the record that was read.
 abbrev pub DescriptionsReadBack : Type 0
-DescriptionsReadBack = (catalogue : Catalogue) (s : Settings) (request : Request) (kinds words : List (List ℕ)) (kept : Cacheable) (p : Parsed)
+DescriptionsReadBack = (tables : Tables) (s : Settings) (request : Request) (kinds words : List (List ℕ)) (kept : Cacheable) (p : Parsed)
     → has_at_most s.bound request ≡ true → answer_to request ≡ compiled words kept → reading_by request.compiler request ≡ Ok p
-    → Each IsRow (rows_of (command_entries words kept ++ answer_entries catalogue s request kinds))
-    → record_in (description catalogue s request kinds) ≡ p
+    → Each IsRow (rows_of (command_entries words kept ++ answer_entries tables s request kinds))
+    → record_in (description tables s request kinds) ≡ p

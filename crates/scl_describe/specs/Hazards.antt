@@ -1,13 +1,13 @@
--- The hazards of a request's command line.
+-- What a catalogue tells of a request's command line.
 use Rattle.std.specs.Prelude.{ℕ, Bool, List, ◌∷◌, ◌++◌, Option, None, Some}
-use Rattle.scl_catalogue.specs.Form.{Catalogue}
 use Rattle.scl_catalogue.specs.declared.case.Version.{Version}
 use Rattle.scl_catalogue_text.specs.Reading.{version_read}
 use Rattle.scl_description.specs.Lines.{cut_at}
-use Rattle.scl_hazards.specs.ClangClHazards.{msvc_hazards}
-use Rattle.scl_hazards.specs.GnuHazards.{gnu_hazards}
-use Rattle.scl_hazards.specs.Hazards.{Hazard, Known}
-use Rattle.scl_hazards.specs.SmallHazards.{diab_hazards, tasking_hazards}
+use Rattle.scl_hazards.specs.ClangClHazards.{msvc_told}
+use Rattle.scl_hazards.specs.GnuHazards.{gnu_told}
+use Rattle.scl_hazards.specs.Hazards.{Hazard, Known, Tables}
+use Rattle.scl_hazards.specs.SmallHazards.{diab_told, tasking_told}
+use Rattle.scl_hazards.specs.Told.{Told}
 use Rattle.scl_reader.specs.Apple.{is_apple}
 use Rattle.scl_reader.specs.CommandLines.{Given, Request, given_in}
 use Rattle.scl_reader.specs.PrecompiledHeaders.{has_precompiled_header}
@@ -32,20 +32,27 @@ abbrev pub version_told : Option (List ℕ) → Option Version
 version_told None = None
 version_told (Some text) = version_read (major_and_minor text)
 
--- what a catalogue knows of a compiler whose version has this text, if it is known
-abbrev pub known_by : Catalogue → Option (List ℕ) → Known
-known_by catalogue version = record { catalogue = catalogue; version = version_told version; is_apple = is_apple version }
+-- what tables know of a compiler whose version has this text, if it is known
+abbrev pub known_by : Tables → Option (List ℕ) → Known
+known_by tables version = record { catalogue = tables.catalogue; plain = tables.plain; version = version_told version; is_apple = is_apple version }
 
--- those of a reading in an environment of these pairs, by whether there is a precompiled header that matters
-abbrev pub hazards_with : Known → List (List ℕ × List ℕ) → (has_header : Bool) → Reading → List Hazard
-hazards_with known pairs has_header (Gnu r) = gnu_hazards known has_header r
-hazards_with known pairs has_header (Msvc r) = msvc_hazards known pairs r
-hazards_with known pairs has_header (Diab r) = diab_hazards known r
-hazards_with known pairs has_header (Tasking r) = tasking_hazards known r
+-- what is told of a reading in an environment of these pairs, by whether there is a precompiled header that matters
+abbrev pub told_with : Known → List (List ℕ × List ℕ) → (has_header : Bool) → Reading → Told
+told_with known pairs has_header (Gnu r) = gnu_told known has_header r
+told_with known pairs has_header (Msvc r) = msvc_told known pairs r
+told_with known pairs has_header (Diab r) = diab_told known r
+told_with known pairs has_header (Tasking r) = tasking_told known r
 
--- those of a command line that was read
+-- what is told of a command line that was read
+abbrev pub told_in : Known → Given → Reading → Told
+told_in known line reading = told_with known line.environment (has_precompiled_header line reading) reading
+
+abbrev pub told_by : Known → Request → Told
+told_by known request = told_in known (given_in request) (read_of request)
+
+-- the hazards among that
 abbrev pub hazards_in : Known → Given → Reading → List Hazard
-hazards_in known line reading = hazards_with known line.environment (has_precompiled_header line reading) reading
+hazards_in known line reading = (told_in known line reading).hazards
 
 abbrev pub hazards_by : Known → Request → List Hazard
-hazards_by known request = hazards_in known (given_in request) (read_of request)
+hazards_by known request = (told_by known request).hazards

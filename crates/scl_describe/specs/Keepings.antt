@@ -1,5 +1,5 @@
 -- What is said of keeping what a command line makes.
-use Rattle.std.specs.Prelude.{ℕ, Bool, true, false, nat_eq, List, [], ◌∷◌, codes, find, Option, None, Some, if◌then◌else◌}
+use Rattle.std.specs.Prelude.{ℕ, Bool, true, false, nat_eq, List, [], ◌∷◌, ◌++◌, codes, find, Option, None, Some, if◌then◌else◌}
 use Rattle.std.specs.List.{list_any, starts_with}
 use Rattle.std.specs.Option.{option_map}
 use Rattle.scl_catalogue.specs.declared.entry.Danger.{Danger}
@@ -9,8 +9,10 @@ use Rattle.scl_text.specs.declared.records.Cacheable.TheVariants as cacheable
 use Rattle.scl_text.specs.Records.{Parsed}
 use Rattle.scl_hazards.specs.Hazards.{Hazard}
 use Rattle.scl_reader.specs.declared.compiler.Compiler.{Compiler}
-use Rattle.scl_description.specs.Rows.{Entry}
-use Rattle.scl_key.specs.Keys.{keeping_entries, keeping_of}
+use Rattle.scl_hazards.specs.Told.{Told}
+use Rattle.scl_description.specs.Rows.{Entry, lone, row_entry}
+use Rattle.scl_key.specs.Doings.{with_effects}
+use Rattle.scl_key.specs.Keys.{Keeping, under, not_kept, keeping_entries, keeping_of}
 use Rattle.scl_key.specs.Told.{RunWords, built, given, hazardous}
 
 -- the files that are made differ, and not only what is said
@@ -41,7 +43,14 @@ words_unless (Some hazard) words = hazardous hazard
 abbrev pub run_words_by : (words : List (List ℕ)) → List Hazard → RunWords
 run_words_by words hazards = words_unless (option_map (λ hazard. hazard.name) (barring hazards)) (words_despite words hazards)
 
--- the rows of a record's key, or of why it has none; there are none of a command line that may not be kept
-abbrev pub kept_entries : Cacheable → Compiler → RunWords → (environment : List (List ℕ × List ℕ)) → Parsed → List Entry
-kept_entries cacheable.Yes compiler words environment p = keeping_entries (keeping_of compiler environment words p)
-kept_entries cacheable.No compiler words environment p = []
+-- The rows of what is said, and that this is all, where a key stands and what each option does is known. Of an option of which nothing is
+-- known no key can answer, so there is none.
+abbrev pub judged_entries : Option (List ℕ) → Keeping → List Entry
+judged_entries None (under key direct) = keeping_entries (under key direct) ++ row_entry (codes "keep") (lone (codes "yes")) ∷ []
+judged_entries (Some word) (under key direct) = row_entry (codes "keep") (codes "unknown" ∷ word ∷ []) ∷ []
+judged_entries unknown (not_kept why) = keeping_entries (not_kept why)
+
+-- the rows of a record's key, by what is told of its compiler, or of why it has none; there are none of a command line that may not be kept
+abbrev pub kept_entries : Cacheable → Compiler → RunWords → Told → (environment : List (List ℕ × List ℕ)) → Parsed → List Entry
+kept_entries cacheable.Yes compiler words told environment p = judged_entries told.unknown (with_effects p told.effects (keeping_of compiler environment words p))
+kept_entries cacheable.No compiler words told environment p = []

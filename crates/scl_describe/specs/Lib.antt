@@ -1,3 +1,4 @@
+pub mod EffectRows
 pub mod Explained
 pub mod OptionRows
 pub mod Hazards

@@ -1,13 +1,13 @@
 //! What is known of the compiler that is run.
 ghost use Rattle.std.specs.Prelude.{◌≡◌};
 ghost use Rattle.std.specs.Option.{option_copied};
-ghost use Rattle.scl_catalogue.specs.Views.{catalogue_of};
+ghost use Rattle.scl_hazards.specs.Hazards.{tables_of};
 ghost use Rattle.scl_describe.specs.Abouts.{known_for};
 ghost use Rattle.scl_describe.specs.Hazards.{known_by, major_and_minor, version_told};
 
 use scl_catalogue_text::version;
 use scl_description::cut_at;
-use scl_hazards::{Catalogue, Known, Version};
+use scl_hazards::{Catalogue, Known, PlainNames, Tables, Version};
 use scl_reader::is_apple;
 
 /// What is known of the compiler that is run.
@@ -15,6 +15,8 @@ use scl_reader::is_apple;
 pub struct About<'a> {
     /// What is known of compilers.
     pub catalogue: Catalogue<'a>,
+    /// Names of options that read, write, ask and load nothing.
+    pub plain: PlainNames<'a>,
     /// The text of its version, if it is told: numbers such as `14` or `14.0.6`, of which the first two count for hazards,
     /// or a text in which Apple's clang names itself.
     pub version: Option<&'a str>,
@@ -43,18 +45,22 @@ fn version_told(text: Option<&str>) -> Option<Version>
     }
 }
 
-/// What a catalogue knows of a compiler whose version has this text, if it is told.
-pub(crate) fn known_of<'a>(catalogue: &Catalogue<'a>, version: Option<&str>) -> Known<'a>
-    ensures { result ≡ known_by (catalogue_of catalogue.now) (option_copied version.entry) }
+/// What tables know of a compiler whose version has this text, if it is told.
+pub(crate) fn known_of<'a>(tables: &Tables<'a>, version: Option<&str>) -> Known<'a>
+    ensures { result ≡ known_by (tables_of tables.now) (option_copied version.entry) }
 {
-    Known::new(catalogue, version_told(version), is_apple(version))
+    Known::new(tables, version_told(version), is_apple(version))
 }
 
 impl<'a> About<'a> {
-    /// What the catalogue knows of a compiler of this version.
+    /// What is known of a compiler of this version.
     pub fn known(&self) -> Known<'a>
         ensures { result ≡ known_for self.now }
     {
-        known_of(&self.catalogue, self.version)
+        let tables = Tables {
+            catalogue: self.catalogue,
+            plain: self.plain,
+        };
+        known_of(&tables, self.version)
     }
 }

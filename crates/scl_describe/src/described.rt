@@ -11,8 +11,10 @@ ghost use Rattle.scl_cl.specs.AnswerTexts.{text_of};
 ghost use Rattle.scl_reader.specs.AnswersGiven.{answer_of};
 ghost use Rattle.scl_reader.specs.QuestionsGiven.{given};
 ghost use Rattle.scl_describe.specs.SettingsRead.{settings_by};
-ghost use Rattle.scl_describe.specs.Descriptions.{runs_entry, pair_fields, environment_entry, hazards_entry, wants_entry, question_entries, refused_entries, runs_for, too_many_entries, undone_entries, version_entry};
+ghost use Rattle.scl_describe.specs.Descriptions.{runs_entry, pair_fields, environment_entry, hazards_entry, told_entries, wants_entry, question_entries, refused_entries, runs_for, too_many_entries, undone_entries, version_entry};
+ghost use Rattle.scl_hazards.specs.Told.{given as given_told};
 ghost use Rattle.scl_key.specs.Views.{run_words_of};
+ghost use Rattle.scl_describe.specs.EffectRows.{effect_entries, effect_entry, row_name};
 ghost use Rattle.scl_describe.specs.Keepings.{run_words_by};
 ghost use Rattle.scl_describe.specs.DescriptionsGiven.{compilation_entries, entries_given, outcome_given};
 
@@ -21,7 +23,7 @@ use crate::option_lines::{push_index, push_options};
 use crate::settings::Settings;
 use scl_cl::answer_text;
 use scl_description::{push_maybe, push_record, push_row, push_row_of, push_word, push_yes};
-use scl_hazards::Hazard;
+use scl_hazards::{Effect, Hazard, Told, Verb};
 use scl_key::RunWords;
 use scl_reader::{Compilation, Compiler, Questions};
 use scl_reasons::sentence;
@@ -36,7 +38,7 @@ use std::alloc::Global;
 pub(crate) struct Findings<'a> {
     pub(crate) answer: CompilerArguments<Compilation>,
     pub(crate) rows: Vec<Row>,
-    pub(crate) hazards: Vec<Hazard<'a>>,
+    pub(crate) told: Told<'a>,
     pub(crate) questions: Questions,
 }
 
@@ -117,15 +119,16 @@ fn push_compilation(
     compiler: Compiler,
     settings: &Settings,
     words: RunWords<'_>,
+    told: &Told<'_>,
     compilation: &Compilation,
 ) -> Mem<()>
-    ensures { OnOk result (text.new.items ≡ text.old.items ++ entries_text (compilation_entries (runs_for (settings_by settings.now) compiler) compiler (run_words_of words.entry) compilation.now)) }
+    ensures { OnOk result (text.new.items ≡ text.old.items ++ entries_text (compilation_entries (runs_for (settings_by settings.now) compiler) compiler (run_words_of words.entry) (given_told told.now) compilation.now)) }
 {
     push_record(text, &compilation.parsed)?;
     let runs = settings_runs(alloc, compiler, settings, &compilation.parsed)?;
     push_runs(text, &runs)?;
     push_environment(text, &compilation.command.env_vars)?;
-    push_kept(alloc, text, compiler, words, compilation)?;
+    push_kept(alloc, text, compiler, words, told, compilation)?;
     Ok(())
 }
 
@@ -162,12 +165,13 @@ fn push_outcome(
     words: RunWords<'_>,
     findings: &Findings<'_>,
 ) -> Mem<()>
-    ensures { OnOk result (text.new.items ≡ text.old.items ++ entries_text (outcome_given (runs_for (settings_by settings.now) compiler) compiler (run_words_of words.entry) (refused_at (map told findings.now.rows.items)) findings.now.answer)) }
+    ensures { OnOk result (text.new.items ≡ text.old.items ++ entries_text (outcome_given (runs_for (settings_by settings.now) compiler) compiler (run_words_of words.entry) (given_told findings.now.told) (refused_at (map told findings.now.rows.items)) findings.now.answer)) }
 {
     let at = refused_at(&findings.rows);
     match &findings.answer {
         CompilerArguments::Ok(compilation) => {
-            push_compilation(alloc, text, compiler, settings, words, compilation)
+            let told = &findings.told;
+            push_compilation(alloc, text, compiler, settings, words, told, compilation)
         }
         CompilerArguments::CannotCache(reason, because) => {
             push_refusal(alloc, text, reason, because.as_deref(), at)
@@ -187,6 +191,49 @@ fn push_hazards(text: &mut Vec<u8>, hazards: &[Hazard<'_>]) -> Mem<()>
     Ok(())
 }
 
+/// The name of the row of an effect.
+fn row_name(verb: Verb, is_like: bool) -> &'static str
+    ensures { result.now ≡ row_name verb is_like }
+{
+    match (verb, is_like) {
+        (Verb::Reads, false) => "reads",
+        (Verb::Reads, true) => "reads-like",
+        (Verb::Writes, false) => "writes",
+        (Verb::Writes, true) => "writes-like",
+        (Verb::Asks, _) => "asks",
+        (Verb::Loads, _) => "loads",
+    }
+}
+
+/// Appends the row of an effect.
+fn push_effect(text: &mut Vec<u8>, effect: &Effect) -> Mem<()>
+    ensures { OnOk result (text.new.items ≡ text.old.items ++ entry_text (effect_entry effect.now)) }
+{
+    push_word(
+        text,
+        row_name(effect.verb(), effect.is_like()),
+        effect.name(),
+    )
+}
+
+/// Appends a row for each effect.
+fn push_effects(text: &mut Vec<u8>, effects: &[Effect]) -> Mem<()>
+    ensures { OnOk result (text.new.items ≡ text.old.items ++ entries_text (effect_entries effects.now)) }
+{
+    for effect in effects {
+        push_effect(text, effect)?;
+    }
+    Ok(())
+}
+
+/// Appends the rows of what is told.
+fn push_told(text: &mut Vec<u8>, told: &Told<'_>) -> Mem<()>
+    ensures { OnOk result (text.new.items ≡ text.old.items ++ entries_text (told_entries (given_told told.now))) }
+{
+    push_hazards(text, &told.hazards)?;
+    push_effects(text, &told.effects)
+}
+
 /// Appends the row of the rows' version.
 fn push_version(text: &mut Vec<u8>) -> Mem<()>
     ensures { OnOk result (text.new.items ≡ text.old.items ++ entry_text version_entry) }
@@ -202,14 +249,14 @@ pub(crate) fn description_text(
     words: &[Vec<u8>],
     findings: &Findings<'_>,
 ) -> Mem<Vec<u8>>
-    ensures { IfOk result (λ text. text.items ≡ text_of (answer_of findings.now.answer) ++ entries_text (entries_given (runs_for (settings_by settings.now) compiler) compiler (run_words_by (words_of words.now) findings.now.hazards.items) findings.now)) }
+    ensures { IfOk result (λ text. text.items ≡ text_of (answer_of findings.now.answer) ++ entries_text (entries_given (runs_for (settings_by settings.now) compiler) compiler (run_words_by (words_of words.now) findings.now.told.hazards.items) findings.now)) }
 {
-    let words = run_words_by(words, &findings.hazards);
+    let words = run_words_by(words, &findings.told.hazards);
     let mut text = answer_text(alloc, &findings.answer)?;
     push_version(&mut text)?;
     push_outcome(alloc, &mut text, compiler, settings, words, findings)?;
     push_options(alloc, &mut text, &findings.rows)?;
-    push_hazards(&mut text, &findings.hazards)?;
+    push_told(&mut text, &findings.told)?;
     push_questions(&mut text, &findings.questions)?;
     Ok(text)
 }

@@ -10,39 +10,40 @@ ghost use Rattle.scl_cl.specs.Drafts.{asked_by};
 ghost use Rattle.scl_cl.specs.Outcomes.{IsJudged, IsSilent};
 ghost use Rattle.scl_cl.specs.Transfers.{Gave};
 ghost use Rattle.scl_describe.specs.SettingsRead.{settings_by};
-ghost use Rattle.scl_catalogue.specs.Views.{catalogue_of};
+ghost use Rattle.scl_hazards.specs.Hazards.{tables_of};
+ghost use Rattle.scl_hazards.specs.Told.{given as given_told};
 ghost use Rattle.scl_describe.specs.Descriptions.{IsDescription, DescribesBytes, runs_for};
 ghost use Rattle.scl_describe.specs.DescriptionsGiven.{AreFound, IsTextOf};
-ghost use Rattle.scl_describe.specs.Hazards.{hazards_in};
+ghost use Rattle.scl_describe.specs.Hazards.{told_in};
 ghost use Rattle.scl_describe.specs.OptionRows.{rows_in};
 
 use crate::about::known_of;
 use crate::described::{Findings, description_text, too_many_words};
-use crate::found::{hazards_of, rows_of};
+use crate::found::{rows_of, told_of};
 use crate::settings::{Settings, read_settings};
 use scl_cl::{Counted, Outcome, Request, Service, read_request, serve};
-use scl_hazards::{Catalogue, Hazard, Known};
+use scl_hazards::{Known, Tables, Told};
 use scl_reader::{CommandLine, Compiler, Questions, Reading};
 use scl_rows::Row;
 use scl_text::{Mem, TooManyWords};
 use std::alloc::Global;
 use std::io::{Read, Write};
 
-/// What is described of a reading beside its answer: its rows, its hazards and its questions.
-fn told_of<'a>(
+/// What is described of a reading beside its answer: its rows, what is told of it and its questions.
+fn beside<'a>(
     alloc: Global,
     known: &Known<'a>,
     reading: &Reading,
     line: &CommandLine<'_>,
-) -> Mem<(Vec<Row>, Vec<Hazard<'a>>, Questions)>
+) -> Mem<(Vec<Row>, Told<'a>, Questions)>
     ensures rows { IfOk result (λ found. map told found.0.items ≡ rows_in reading.now) }
-    ensures hazards { IfOk result (λ found. found.1.items ≡ hazards_in known.now (given_by line.now) reading.now) }
+    ensures told { IfOk result (λ found. given_told found.1 ≡ told_in known.now (given_by line.now) reading.now) }
     ensures questions { IfOk result (λ found. given found.2 ≡ questions_in (given_by line.now) reading.now) }
 {
     let rows = rows_of(alloc, reading)?;
-    let hazards = hazards_of(alloc, known, reading, line)?;
+    let told = told_of(alloc, known, reading, line)?;
     let questions = reading.questions(alloc, line)?;
-    Ok((rows, hazards, questions))
+    Ok((rows, told, questions))
 }
 
 /// What is described of a reading.
@@ -54,8 +55,8 @@ fn findings_of<'a>(
 ) -> Mem<Findings<'a>>
     ensures { IfOk result (AreFound known.now reading (given_by line.now)) }
 {
-    let (rows, hazards, questions) = match told_of(alloc, known, &reading, line) {
-        Ok(told) => told,
+    let (rows, told, questions) = match beside(alloc, known, &reading, line) {
+        Ok(found) => found,
         Err(refused) => {
             drop(reading);
             return Err(refused);
@@ -65,7 +66,7 @@ fn findings_of<'a>(
     Ok(Findings {
         answer,
         rows,
-        hazards,
+        told,
         questions,
     })
 }
@@ -90,16 +91,16 @@ fn reading_text(
 #[tactic(auto, using(crate::proofs::FindingLaws::is_too_long))]
 fn request_description(
     alloc: Global,
-    catalogue: &Catalogue<'_>,
+    tables: &Tables<'_>,
     settings: &Settings,
     request: &Request,
 ) -> Mem<Vec<u8>>
-    ensures { IfOk result (λ text. IsDescription (catalogue_of catalogue.now) (settings_by settings.now) (asked_by request.now) text.items) }
+    ensures { IfOk result (λ text. IsDescription (tables_of tables.now) (settings_by settings.now) (asked_by request.now) text.items) }
 {
     let (compiler, line) = (request.compiler, request.line());
     match compiler.read(alloc, &line, settings.bound)? {
         Ok(reading) => {
-            let known = known_of(catalogue, settings.version.as_deref());
+            let known = known_of(tables, settings.version.as_deref());
             let text = reading_text(alloc, &known, compiler, settings, reading, &line)?;
             Ok(text)
         }
@@ -107,25 +108,25 @@ fn request_description(
     }
 }
 
-/// Answers a request by a description of its answer, with the hazards that a catalogue knows (docs/RULES.md, Descriptions).
+/// Answers a request by a description of its answer, with what tables know of compilers (docs/RULES.md, Descriptions).
 #[derive(Debug, Clone, Copy)]
 pub struct Descriptions<'a> {
-    /// The catalogue.
-    pub catalogue: Catalogue<'a>,
+    /// What is known of compilers.
+    pub tables: Tables<'a>,
 }
 
 impl<'a> Service for Descriptions<'a> {
-    ghost use Rattle.scl_catalogue.specs.Views.{catalogue_of};
+    ghost use Rattle.scl_hazards.specs.Hazards.{tables_of};
     ghost use Rattle.scl_describe.specs.Descriptions.{DescribesBytes};
 
-    ghost answers = { λ service bytes said. DescribesBytes (catalogue_of service.catalogue) bytes said };
+    ghost answers = { λ service bytes said. DescribesBytes (tables_of service.tables) bytes said };
 
     fn answer(&self, alloc: Global, bytes: Vec<u8>) -> Mem<Result<Vec<u8>, u64>> {
         let (settings, lines) = read_settings(alloc, &bytes)?;
         drop(bytes);
         match read_request(alloc, &lines)? {
             Ok(request) => {
-                Ok(Ok(request_description(alloc, &self.catalogue, &settings, &request)?))
+                Ok(Ok(request_description(alloc, &self.tables, &settings, &request)?))
             }
             Err(number) => Ok(Err(number)),
         }
@@ -133,18 +134,18 @@ impl<'a> Service for Descriptions<'a> {
 }
 
 /// Reads the request to its end, and writes a description of its answer: the answer's lines as `run` writes them, and behind
-/// them rows of what was read, with the hazards that the catalogue knows (docs/RULES.md, Descriptions). Lines `setting` say what
+/// them rows of what was read, with what the tables know of compilers (docs/RULES.md, Descriptions). Lines `setting` say what
 /// the description is asked beside the request. It ends as `run` does.
 pub fn describe<R: Read, W: Write>(
     alloc: Global,
-    catalogue: &Catalogue<'_>,
+    tables: &Tables<'_>,
     reader: &mut Counted<R>,
     writer: &mut Counted<W>,
 ) -> Outcome
     // What is answered is the answer to all that the reader had, and it is written whole.
     ensures answered { result ≡ Outcome.Answered → IfSome (R.remaining reader.old.device) (λ bytes.
-        (text : List ℕ) × DescribesBytes (catalogue_of catalogue.now) bytes (Ok text) × Appends (W.contents writer.old.device) (W.contents writer.new.device) text) }
-    ensures bad_line { (n : ℕ) → result ≡ Outcome.BadLine n → IfSome (R.remaining reader.old.device) (λ bytes. DescribesBytes (catalogue_of catalogue.now) bytes (Err n)) }
+        (text : List ℕ) × DescribesBytes (tables_of tables.now) bytes (Ok text) × Appends (W.contents writer.old.device) (W.contents writer.new.device) text) }
+    ensures bad_line { (n : ℕ) → result ≡ Outcome.BadLine n → IfSome (R.remaining reader.old.device) (λ bytes. DescribesBytes (tables_of tables.now) bytes (Err n)) }
     // No line is judged before all was read.
     ensures judged { IsJudged result → IsAtEnd (R.remaining reader.new.device) }
     // The first read that fails ends the run, and is told.
@@ -155,15 +156,13 @@ pub fn describe<R: Read, W: Write>(
     ensures reader_told { result ≢ Outcome.ReadFailed → reader.new.failed ≡ reader.old.failed }
     // A beginning of the answer was written, not all of it, and the writer failed.
     ensures write_failed { result ≡ Outcome.WriteFailed → IfSome (R.remaining reader.old.device) (λ bytes.
-        (text : List ℕ) × (n : ℕ) × DescribesBytes (catalogue_of catalogue.now) bytes (Ok text) × (n < length text) × Appends (W.contents writer.old.device) (W.contents writer.new.device) (take n text)) }
+        (text : List ℕ) × (n : ℕ) × DescribesBytes (tables_of tables.now) bytes (Ok text) × (n < length text) × Appends (W.contents writer.old.device) (W.contents writer.new.device) (take n text)) }
     // The first write that fails ends the run, and is told.
     ensures writer_failed { result ≡ Outcome.WriteFailed → writer.new.failed ≡ one_more writer.old.failed }
     ensures writer_told { result ≢ Outcome.WriteFailed → writer.new.failed ≡ writer.old.failed }
     // Nothing was written.
     ensures untouched { IsSilent result → writer.new ≡ writer.old }
 {
-    let service = Descriptions {
-        catalogue: *catalogue,
-    };
+    let service = Descriptions { tables: *tables };
     serve(alloc, &service, reader, writer)
 }

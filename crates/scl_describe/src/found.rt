@@ -2,10 +2,11 @@
 ghost use Rattle.std.specs.Prelude.{◌≡◌, IfOk, map};
 ghost use Rattle.scl_rows.specs.Rows.{told};
 ghost use Rattle.scl_reader.specs.CommandLines.{given_by};
-ghost use Rattle.scl_describe.specs.Hazards.{hazards_in};
+ghost use Rattle.scl_hazards.specs.Told.{given};
+ghost use Rattle.scl_describe.specs.Hazards.{hazards_in, told_in};
 ghost use Rattle.scl_describe.specs.OptionRows.{rows_in};
 
-use scl_hazards::{Hazard, Known, diab_hazards, gnu_hazards, msvc_hazards, tasking_hazards};
+use scl_hazards::{Hazard, Known, Told, diab_told, gnu_told, msvc_told, tasking_told};
 use scl_reader::{CommandLine, Reading};
 use scl_rows::{Row, gnu_rows, msvc_rows, small_rows};
 use scl_text::Mem;
@@ -26,8 +27,29 @@ pub fn rows_of(alloc: Global, reading: &Reading) -> Mem<Vec<Row>>
     }
 }
 
-/// The hazards of a command line that was read: what its compiler is known to do otherwise with the built command than with the
-/// given one; none where there is no command (docs/RULES.md, Hazards). It fails only for want of memory.
+/// What is told of a command line that was read: what its compiler is known to do otherwise with the built command than with the
+/// given one, what it reads, writes, asks and loads, and the first option of which nothing is known; nothing where there is no
+/// command (docs/RULES.md, Hazards). It fails only for want of memory.
+pub fn told_of<'a>(
+    alloc: Global,
+    known: &Known<'a>,
+    reading: &Reading,
+    line: &CommandLine<'_>,
+) -> Mem<Told<'a>>
+    ensures { IfOk result (λ told. given told ≡ told_in known.now (given_by line.now) reading.now) }
+{
+    match reading {
+        Reading::Gnu(gnu) => {
+            let has_header = reading.has_precompiled_header(alloc, line)?;
+            gnu_told(alloc, known, gnu, has_header)
+        }
+        Reading::Msvc(msvc) => msvc_told(alloc, known, msvc, line.environment),
+        Reading::Diab(diab) => diab_told(alloc, known, diab),
+        Reading::Tasking(tasking) => tasking_told(alloc, known, tasking),
+    }
+}
+
+/// The hazards of a command line that was read. It fails only for want of memory.
 pub fn hazards_of<'a>(
     alloc: Global,
     known: &Known<'a>,
@@ -36,13 +58,6 @@ pub fn hazards_of<'a>(
 ) -> Mem<Vec<Hazard<'a>>>
     ensures { IfOk result (λ found. found.items ≡ hazards_in known.now (given_by line.now) reading.now) }
 {
-    match reading {
-        Reading::Gnu(gnu) => {
-            let has_header = reading.has_precompiled_header(alloc, line)?;
-            gnu_hazards(alloc, known, gnu, has_header)
-        }
-        Reading::Msvc(msvc) => msvc_hazards(alloc, known, msvc, line.environment),
-        Reading::Diab(diab) => diab_hazards(alloc, known, diab),
-        Reading::Tasking(tasking) => tasking_hazards(alloc, known, tasking),
-    }
+    let told = told_of(alloc, known, reading, line)?;
+    Ok(told.hazards)
 }

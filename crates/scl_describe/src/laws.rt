@@ -7,7 +7,7 @@ ghost use Rattle.scl_small.specs.DiabReading as diab;
 ghost use Rattle.scl_small.specs.DiabTable as diab_table;
 ghost use Rattle.scl_small.specs.TaskingReading as tasking;
 ghost use Rattle.scl_small.specs.TaskingTable as tasking_table;
-ghost use Rattle.scl_describe.specs.Decided.{HazardsAreDecided, RowsAreDecided};
+ghost use Rattle.scl_describe.specs.Decided.{TellingIsDecided, RowsAreDecided};
 ghost use Rattle.scl_describe.specs.Descriptions.{DescriptionsReadBack};
 ghost use Rattle.scl_describe.specs.OptionRows.{RowsShareWords, RowsTell};
 ghost use Rattle.scl_describe.specs.Explained.{AreExplained, is_refused_somewhere, is_refused_by_msvc, is_refused_by_small};
@@ -36,10 +36,10 @@ pub fn of_rows()
 /// answer asks,
 ///
 /// - `rows_are_decided`: the rows are the same;
-/// - `hazards_are_decided`: so are the hazards, by whatever is known of the compiler.
+/// - `telling_is_decided`: so is what is told, the hazards and effects, by whatever is known of the compiler.
 pub fn of_questions()
     ensures rows_are_decided { RowsAreDecided }
-    ensures hazards_are_decided { HazardsAreDecided }
+    ensures telling_is_decided { TellingIsDecided }
 {}
 
 /// Laws of descriptions (docs/RULES.md, Descriptions):

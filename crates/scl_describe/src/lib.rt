@@ -12,7 +12,10 @@ mod settings;
 
 pub use about::About;
 pub use descriptions::{Descriptions, describe};
-pub use found::{hazards_of, rows_of};
+pub use found::{hazards_of, rows_of, told_of};
 pub use keeping::concerns_files;
-pub use scl_hazards::{Catalogue, Danger, Entry, Hazard, Known, Version, danger_name};
+pub use scl_hazards::{
+    Catalogue, Danger, Effect, Entry, Hazard, Known, PlainNames, Tables, Told, Verb, Version,
+    danger_name,
+};
 pub use scl_rows::{Destination, Origin, Row};

@@ -1,22 +1,23 @@
 -- The parts of a command line's words.
-use Rattle.std.proofs.Common.{◌≡◌, ◌<◌, ◌+◌, ℕ, suc, Bool, true, false, cond, not, List, [], ◌∷◌, length, take, drop, get_or, Some, Vec, sym, ap, ◌∙◌, add-zero, arith}
+use Rattle.std.proofs.Common.{◌≡◌, ◌<◌, ◌+◌, ℕ, suc, Option, None, false, List, [], ◌∷◌, length, take, drop, get_or, Some, Vec, sym, ap, ◌∙◌, add-zero, arith}
 use Rattle.std.proofs.lemmas.List.{drop-drop, drop-map, get_or-drop, get_or-map, length-map, take-map}
-use Rattle.std.specs.List.{position_from, remove}
+use Rattle.std.specs.List.{remove}
 use Rattle.std.specs.declared.alloc.Global.{Global}
 use Rattle.scl_values.specs.Words.{words_of}
-use Rattle.scl_names.specs.Launchers.{program_at, is_before_program}
+use Rattle.scl_names.specs.Launchers.{Front, front, program_at, program_from, program_or, step}
 
-found_inside : {K : Type 0} (test : K → Bool) (from at : ℕ) (xs : List K) → position_from test from xs ≡ Some at → at < from + length xs
-found_inside test from at [] h = absurd (cc)
-found_inside test from at (x ∷ xs) h =
-    elim (test x) as (λ b. cond b (Some from) (position_from test (from + 1) xs) ≡ Some at → at < from + suc (length xs)) [
-      | true ↦ λ e. let same : from ≡ at = cc in omega (arith, same)
-      | false ↦ λ e. let inside = found_inside test (from + 1) at xs e in omega (arith, inside)
-    ] h
+found_or : (from at : ℕ) (words : List (List ℕ)) (o : Option Front) → ((g : Front) → program_from g (from + 1) words ≡ Some at → at < (from + 1) + length words)
+    → program_or from o (λ g. program_from g (from + 1) words) ≡ Some at → at < from + suc (length words)
+found_or from at words None inside h = let same : from ≡ at = cc in omega (arith, same)
+found_or from at words (Some g) inside h = let there = inside g h in omega (arith, there)
+
+found_inside : (f : Front) (from at : ℕ) (words : List (List ℕ)) → program_from f from words ≡ Some at → at < from + length words
+found_inside f from at [] h = absurd (cc)
+found_inside f from at (word ∷ words) h = found_or from at words (step f word) (λ g e. found_inside g (from + 1) at words e) h
 
 -- the program is one of the words
 pub program_inside : (all : List (Vec ℕ Global)) (at : ℕ) → Some at ≡ program_at (words_of all) → at < length all
-program_inside all at h = let inside = found_inside (λ word. not (is_before_program word)) 0 at (words_of all) (sym h) in omega (arith, inside, length-map all (λ word. word.items))
+program_inside all at h = let inside = found_inside (front [] false) 0 at (words_of all) (sym h) in omega (arith, inside, length-map all (λ word. word.items))
 
 pub words_before : (all front : List (Vec ℕ Global)) (at : ℕ) → front ≡ take at all → words_of front ≡ take at (words_of all)
 words_before all front at h = ap words_of h ∙ sym (take-map (λ word. word.items) at all)

@@ -1,9 +1,10 @@
 -- What is asked about a command line, from all of its words.
-use Rattle.std.specs.Prelude.{◌≡◌, ℕ, ◌+◌, List, [], ◌∷◌, ◌++◌, Option, None, Some, slice_index_or, take, drop}
+use Rattle.std.specs.Prelude.{◌≡◌, ℕ, ◌+◌, false, List, [], ◌∷◌, ◌++◌, Option, None, Some, slice_index_or, take, drop}
 use Rattle.scl_values.specs.Words.{words_of}
 use Rattle.scl_text.specs.Commands.{pairs_of}
 use Rattle.scl_names.specs.Launchers.{assignment_at, program_at}
 use Rattle.scl_names.specs.Names.{compiler_of}
+use Rattle.scl_reader.specs.Within.{default_most}
 use Rattle.scl_reader.specs.declared.compiler.Compiler.{Compiler}
 use Rattle.scl_explain.specs.declared.case.Case.{Case}
 use Rattle.scl_explain.specs.declared.case.CaseError.{CaseError}
@@ -36,7 +37,8 @@ pub record IsDivided (all : List (List ℕ)) (at : ℕ) (divided : Divided) : Ty
   pub words : words_of divided.words.items ≡ drop (at + 1) all
 
 -- the program is the first word that may be one, the words are those behind it, and the variables those that words before it
--- assign, the last first, and then those that are given: of several values of a variable the first counts
+-- assign, the last first, and then those that are given: of several values of a variable the first counts. The runs are for this
+-- machine
 pub record IsCase (all : List (List ℕ)) (named : Option Compiler) (cwd : List ℕ) (env_vars : List (List ℕ × List ℕ)) (case : Case) : Type 0 where
   pub at : ℕ
   pub program_at : program_at all ≡ Some at
@@ -45,6 +47,8 @@ pub record IsCase (all : List (List ℕ)) (named : Option Compiler) (cwd : List 
   pub compiler : compiler_for named case.program.items ≡ Some case.compiler
   pub directory : case.cwd.items ≡ cwd
   pub variables : pairs_of case.env_vars.items ≡ assigned (take at all) ++ env_vars
+  pub may_dist : case.may_dist ≡ false
+  pub bound : case.bound ≡ default_most
 
 -- no word may be a program, or no compiler is named and the program's name names none
 abbrev pub IsNoCase : List (List ℕ) → Option Compiler → CaseError → Type 0

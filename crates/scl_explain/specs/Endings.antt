@@ -28,6 +28,7 @@ ending_of program not_compilation has_hazard = ending.CompilesNothing
 
 abbrev pub status_of : Ending → ℕ
 status_of ending.Answered = 0
+status_of ending.Different = 1
 status_of ending.Usage = 2
 status_of ending.OutOfMemory = 3
 status_of ending.FileFailed = 4

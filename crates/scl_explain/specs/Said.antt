@@ -11,7 +11,6 @@ use Rattle.scl_reader.specs.Answers.{Answer, answer_to, reading_by}
 use Rattle.scl_describe.specs.Hazards.{hazards_by}
 use Rattle.scl_describe.specs.OptionRows.{rows_by}
 use Rattle.scl_load.specs.Loads.{Load, IsDiskError, IsEnd}
-use Rattle.scl_reader.specs.Within.{default_most}
 use Rattle.scl_load.specs.declared.loader.LoadError.{LoadError}
 use Rattle.scl_explain.specs.Endings.{are_named, ending_of}
 use Rattle.scl_explain.specs.Replies.{IsChecked, command_written, is_barred}
@@ -48,10 +47,10 @@ pub record IsSaid (known : Known) (holds : Viewed → Type 0) (multiarch : Bool)
   pub decided : IsDecided known holds multiarch case loaded
   pub said : says (answer_to (request_of case loaded)) (hazards_by known (request_of case loaded))
 
--- what is loaded for a command line: it may have so many words, with its response files in place, and open files so often as where nothing else is said, and fewer than 2^12 files
+-- what is loaded for a command line: it may have so many words, with its response files in place, and open files so often as its bound says, and fewer than 2^12 files
 -- may name each the next
 abbrev pub load_for : Case → Bool → Load
-load_for case multiarch = record { asks = request_of case; is_multiarch = multiarch; most_words = default_most; most_rounds = 4096 }
+load_for case multiarch = record { asks = request_of case; is_multiarch = multiarch; most_words = case.bound; most_rounds = 4096 }
 
 -- a load for a command line ends by this error, on each disk of which this holds
 abbrev pub IsNotLoaded : {E : Type 0} → (Viewed → Type 0) → Bool → Case → LoadError E → Type 0

@@ -21,7 +21,7 @@ use scl_describe::{About, hazards_of, rows_of};
 use scl_hazards::Hazard;
 use scl_load::{Disk, DiskLine, LoadError, Loaded, load};
 use scl_reader::{
-    CommandLine, Compilation, CompilerArguments, MOST, Mem, ParsedArguments, Reading, View,
+    CommandLine, Compilation, CompilerArguments, Mem, ParsedArguments, Reading, View,
 };
 use scl_rows::Row;
 use std::alloc::Global;
@@ -40,6 +40,10 @@ pub struct Answered<'a> {
     pub response_files: Vec<Vec<u8>>,
     /// The paths at which words name a response file, and there is none.
     pub missing_files: Vec<Vec<u8>>,
+    /// The directories that were looked for and found.
+    pub directories: Vec<Vec<u8>>,
+    /// The other paths that were looked for and exist.
+    pub existing: Vec<Vec<u8>>,
     /// The hazards of the built command; none where there is none.
     pub hazards: Vec<Hazard<'a>>,
     /// What became of each option; nothing where that is not wanted and something is compiled.
@@ -90,15 +94,16 @@ fn found_in<'a>(
     about: &About<'a>,
     reading: &Reading,
     line: &CommandLine<'_>,
+    may_dist: bool,
     wants_rows: bool,
 ) -> Mem<Found<'a>>
-    ensures runs { IfOk result (λ found. runs_of found.runs.items ≡ runs_in (option_copied about.now.version) false false false reading.now) }
+    ensures runs { IfOk result (λ found. runs_of found.runs.items ≡ runs_in (option_copied about.now.version) may_dist false false reading.now) }
     ensures hazards { IfOk result (λ found. found.hazards.items ≡ hazards_in (known_for about.now) (given_by line.now) reading.now) }
     ensures rows { IfOk result (λ found. map told found.rows.items ≡ rows_given wants_rows (outcome_in reading.now) (rows_in reading.now)) }
 {
     let rows = rows_for(alloc, reading, wants_rows)?;
     let hazards = hazards_of(alloc, &about.known(), reading, line)?;
-    let runs = reading.runs(alloc, version_of(alloc, about)?, false, false, false)?;
+    let runs = reading.runs(alloc, version_of(alloc, about)?, may_dist, false, false)?;
     Ok(Found {
         runs,
         hazards,
@@ -130,13 +135,13 @@ fn answer_read<'a>(
 ) -> Mem<(CompilerArguments<Compilation>, Found<'a>)>
     requires { reading ≡ read_of (request_of case.now view.now) }
     ensures answer { IfOk result (λ both. answer_to (request_of case.now view.now) ≡ answer_of both.0) }
-    ensures runs { IfOk result (λ both. runs_of both.1.runs.items ≡ runs_for (option_copied about.now.version) case.now.compiler false false false (reading_by case.now.compiler (request_of case.now view.now))) }
+    ensures runs { IfOk result (λ both. runs_of both.1.runs.items ≡ runs_for (option_copied about.now.version) case.now.compiler case.now.may_dist false false (reading_by case.now.compiler (request_of case.now view.now))) }
     ensures hazards { IfOk result (λ both. both.1.hazards.items ≡ hazards_by (known_for about.now) (request_of case.now view.now)) }
     ensures rows { IfOk result (λ both. let request = request_of case.now view.now in
         map told both.1.rows.items ≡ rows_given wants_rows (reading_by case.now.compiler request) (rows_by request)) }
 {
     let line = line_in(case, view);
-    match found_in(alloc, about, &reading, &line, wants_rows) {
+    match found_in(alloc, about, &reading, &line, case.may_dist, wants_rows) {
         Ok(found) => Ok((reading.into_answer(alloc, &case.program, &line)?, found)),
         Err(refused) => {
             drop(reading);
@@ -165,7 +170,7 @@ fn load_case<D: Disk>(
         environment: &case.env_vars,
         multiarch,
     };
-    match load(alloc, disk, &line, MOST, MOST_ROUNDS)? {
+    match load(alloc, disk, &line, case.bound, MOST_ROUNDS)? {
         Ok(loaded) => Ok(Ok(loaded)),
         Err(error) => Ok(Err(error)),
     }
@@ -174,7 +179,7 @@ fn load_case<D: Disk>(
 /// The answer to a command line on a disk, which is asked for response files, directories and other paths, with the hazards and
 /// the runs of the preprocessor by what is known of its compiler; `multiarch` says whether several architectures are allowed.
 /// Rows of options are given where `wants_rows` says so, and where nothing is compiled. A read that fails is `Disk` with its error; `TooManyWords` and `TooManyRounds` where response
-/// files give more than 1,000,000 words or are opened more often, or where 2^12 name each the next. The outer error is the
+/// files give more words than the case's bound or are opened more often, or where 2^12 name each the next. The outer error is the
 /// refusal of memory.
 #[tactic(auto, using(crate::proofs::ReadCaseLaws::outcome_read))]
 pub fn answer_case<'a, D: Disk>(
@@ -189,7 +194,7 @@ pub fn answer_case<'a, D: Disk>(
         → answer_to (request_of case.now held) ≡ answer_of answered.answer)) }
     ensures loaded { IfOk result (λ said. IfOk said (λ answered. answer_to (request_of case.now answered.view) ≡ answer_of answered.answer)) }
     ensures decided { IfOk result (λ said. IfOk said (λ answered. IsDecided (known_for about.now) (D.holds disk.now) multiarch case.now answered.view)) }
-    ensures runs { IfOk result (λ said. IfOk said (λ answered. runs_of answered.runs.items ≡ runs_for (option_copied about.now.version) case.now.compiler false false false (reading_by case.now.compiler (request_of case.now answered.view)))) }
+    ensures runs { IfOk result (λ said. IfOk said (λ answered. runs_of answered.runs.items ≡ runs_for (option_copied about.now.version) case.now.compiler case.now.may_dist false false (reading_by case.now.compiler (request_of case.now answered.view)))) }
     ensures hazards { IfOk result (λ said. IfOk said (λ answered. answered.hazards.items ≡ hazards_by (known_for about.now) (request_of case.now answered.view))) }
     ensures rows { IfOk result (λ said. IfOk said (λ answered. let request = request_of case.now answered.view in
         map told answered.rows.items ≡ rows_given wants_rows (reading_by case.now.compiler request) (rows_by request))) }
@@ -213,6 +218,8 @@ pub fn answer_case<'a, D: Disk>(
         runs,
         response_files: log.found,
         missing_files: log.missing,
+        directories: log.directories,
+        existing: log.existing,
         hazards,
         rows,
         view,

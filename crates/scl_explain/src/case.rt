@@ -5,7 +5,7 @@ ghost use Rattle.scl_text.specs.Commands.{pairs_of};
 ghost use Rattle.scl_explain.specs.Cases.{IsCase, IsDivided, IsNoCase, assigned, assigned_by, compiler_for};
 
 use scl_names::{assignment_at, compiler_of, program_at};
-use scl_reader::{Compiler, Mem};
+use scl_reader::{Compiler, MOST, Mem};
 use scl_shell::{beginning, shown_command};
 use std::alloc::Global;
 use thiserror::Error;
@@ -23,6 +23,10 @@ pub struct Case {
     pub cwd: Vec<u8>,
     /// The variables of its environment that are known.
     pub env_vars: Vec<(Vec<u8>, Vec<u8>)>,
+    /// Whether the runs of the preprocessor are for a distant compiler.
+    pub may_dist: bool,
+    /// The most words that it may have, and the most files that it may open.
+    pub bound: usize,
 }
 
 /// Why words are no command line of a compiler that is served.
@@ -104,7 +108,8 @@ impl Case {
     /// The command line that these words are, the program's included: launchers and assignments before it are left out, and the
     /// variables that are assigned come before `env_vars`, the last first, since of several values the first counts. It is
     /// `named`'s, where a compiler is named, and else that of the compiler that the program's name names; `UnknownCompiler` where
-    /// it names none, `NoProgram` where no word may be a program. The outer error is the refusal of memory.
+    /// it names none, `NoProgram` where no word may be a program. Its runs are for this machine, and its bound is 1,000,000. The
+    /// outer error is the refusal of memory.
     #[tactic(auto, using(crate::proofs::CaseLemmas::program_inside))]
     pub fn of_words(
         alloc: Global,
@@ -133,6 +138,8 @@ impl Case {
             words,
             cwd,
             env_vars,
+            may_dist: false,
+            bound: MOST,
         }))
     }
 }

@@ -1,4 +1,4 @@
-//! A disk that notes which files were looked for.
+//! A disk that notes what was looked for.
 ghost use Rattle.std.specs.Prelude.{◌≡◌};
 
 use scl_load::Disk;
@@ -31,18 +31,26 @@ impl Noted {
     }
 }
 
-/// A disk that notes which files were looked for.
+/// A disk that notes what was looked for.
 pub(crate) struct Logged<'a, D> {
     disk: &'a D,
     found: Cell<Noted>,
     missing: Cell<Noted>,
+    directories: Cell<Noted>,
+    existing: Cell<Noted>,
 }
 
-/// The files that were looked for, each once.
+/// What was looked for, each path once.
 #[derive(Drop)]
 pub(crate) struct Log {
+    /// The files that were found.
     pub(crate) found: Vec<Vec<u8>>,
+    /// The paths at which there is no file.
     pub(crate) missing: Vec<Vec<u8>>,
+    /// The directories that were found.
+    pub(crate) directories: Vec<Vec<u8>>,
+    /// The other paths at which something was found.
+    pub(crate) existing: Vec<Vec<u8>>,
 }
 
 fn note(alloc: Global, list: &Cell<Noted>, path: &[u8]) -> Mem<()> {
@@ -57,6 +65,8 @@ impl<'a, D> Drop for Logged<'a, D> {
             disk: _,
             found: _,
             missing: _,
+            directories: _,
+            existing: _,
         } = self;
     }
 }
@@ -69,6 +79,8 @@ impl<'a, D> Logged<'a, D> {
             disk,
             found: Cell::new(Noted::new(alloc)),
             missing: Cell::new(Noted::new(alloc)),
+            directories: Cell::new(Noted::new(alloc)),
+            existing: Cell::new(Noted::new(alloc)),
         }
     }
 
@@ -77,10 +89,14 @@ impl<'a, D> Logged<'a, D> {
             disk: _,
             found,
             missing,
+            directories,
+            existing,
         } = self;
         Log {
             found: found.into_inner().paths,
             missing: missing.into_inner().paths,
+            directories: directories.into_inner().paths,
+            existing: existing.into_inner().paths,
         }
     }
 }
@@ -107,10 +123,22 @@ impl<'a, D: Disk> Disk for Logged<'a, D> {
     }
 
     fn is_dir(&self, alloc: Global, path: &[u8]) -> Mem<Result<bool, D::Error>> {
-        self.disk.is_dir(alloc, path)
+        match self.disk.is_dir(alloc, path)? {
+            Ok(true) => {
+                note(alloc, &self.directories, path)?;
+                Ok(Ok(true))
+            }
+            said => Ok(said),
+        }
     }
 
     fn exists(&self, alloc: Global, path: &[u8]) -> Mem<Result<bool, D::Error>> {
-        self.disk.exists(alloc, path)
+        match self.disk.exists(alloc, path)? {
+            Ok(true) => {
+                note(alloc, &self.existing, path)?;
+                Ok(Ok(true))
+            }
+            said => Ok(said),
+        }
     }
 }

@@ -13,6 +13,8 @@ use scl_text::records::Cacheable;
 pub enum Ending {
     /// What was asked is answered.
     Answered,
+    /// Two command lines have no equal keys.
+    Different,
     /// The program's own words are wrong.
     Usage,
     /// Memory was refused.
@@ -86,6 +88,7 @@ impl Ending {
     {
         match self {
             Ending::Answered => 0,
+            Ending::Different => 1,
             Ending::Usage => 2,
             Ending::OutOfMemory => 3,
             Ending::FileFailed => 4,

@@ -1,4 +1,4 @@
--- The hazards of cl's and clang-cl's command lines.
+-- What is told of cl's and clang-cl's command lines.
 use Rattle.std.specs.Prelude.{ℕ, Bool, false, cond, ◌||◌, List, [], ◌++◌, Option, None, Some, unwrap_or}
 use Rattle.scl_catalogue.specs.Found.{LineSeen, OptionSeen}
 use Rattle.scl_catalogue.specs.declared.case.Compiler.{Compiler}
@@ -19,11 +19,11 @@ use Rattle.scl_msvc_reading.specs.declared.msvc.place.Place.TheVariants as place
 use Rattle.scl_text.specs.Commands.{object_of}
 use Rattle.scl_text.specs.Languages.{needs_c_preprocessing}
 use Rattle.scl_text.specs.Records.{Parsed}
-use Rattle.scl_hazards.specs.GnuHazards.{of_record}
-use Rattle.scl_hazards.specs.Hazards.{Hazard, Known, hazards_found}
+use Rattle.scl_hazards.specs.Hazards.{Known}
 use Rattle.scl_hazards.specs.KindTexts.{cl_kind_text, gnu_kind_text}
 use Rattle.scl_hazards.specs.Languages.{language_name}
 use Rattle.scl_hazards.specs.Options.{is_hidden, options_seen}
+use Rattle.scl_hazards.specs.Told.{Told, of_record, told_of}
 
 -- the compiler that a catalogue calls so
 abbrev pub cl_compiler : (is_clang : Bool) → Compiler
@@ -80,6 +80,6 @@ line_told version r p facts options inner = record {
 abbrev pub cl_line : Known → List (List ℕ × List ℕ) → MsvcRead → Parsed → LineSeen
 cl_line known pairs r p = line_told known.version r p (cl_facts pairs r p) (cl_options r) (cl_inner r)
 
--- the hazards of a reading, if it has a record
-unfoldable pub msvc_hazards : Known → List (List ℕ × List ℕ) → MsvcRead → List Hazard
-msvc_hazards known pairs r = of_record (λ p. hazards_found known.catalogue (cl_line known pairs r p)) r.outcome
+-- what is told of a reading, if it has a record
+unfoldable pub msvc_told : Known → List (List ℕ × List ℕ) → MsvcRead → Told
+msvc_told known pairs r = of_record (λ p. told_of known (cl_line known pairs r p)) r.outcome

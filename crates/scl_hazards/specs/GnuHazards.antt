@@ -1,5 +1,5 @@
--- The hazards of gcc's and clang's command lines.
-use Rattle.std.specs.Prelude.{Bool, false, cond, List, [], Option, Result, Ok, Err, unwrap_or}
+-- What is told of gcc's and clang's command lines.
+use Rattle.std.specs.Prelude.{Bool, false, cond, List, [], Option, unwrap_or}
 use Rattle.scl_catalogue.specs.Found.{LineSeen, OptionSeen}
 use Rattle.scl_catalogue.specs.declared.case.Compiler.{Compiler}
 use Rattle.scl_catalogue.specs.declared.case.Compiler.TheVariants as compilers
@@ -16,18 +16,14 @@ use Rattle.scl_gnu_reading.specs.Recordings.{is_clang}
 use Rattle.scl_gnu_reading.specs.declared.gcc.place.Place.TheVariants as places
 use Rattle.scl_text.specs.Commands.{object_of}
 use Rattle.scl_text.specs.Languages.{needs_c_preprocessing}
-use Rattle.scl_text.specs.Records.{Parsed, Verdict}
+use Rattle.scl_text.specs.Records.{Parsed}
 use Rattle.scl_text.specs.declared.records.CCompilerKind.{CCompilerKind}
-use Rattle.scl_hazards.specs.Hazards.{Hazard, Known, hazards_found}
+use Rattle.scl_hazards.specs.Hazards.{Known}
 use Rattle.scl_hazards.specs.KindTexts.{gnu_kind_text}
 use Rattle.scl_hazards.specs.Languages.{is_other_language, language_name}
 use Rattle.scl_hazards.specs.Options.{is_hidden, options_seen}
 use Rattle.scl_hazards.specs.Targets.{has_other_target, is_renamed}
-
--- of a command line that has a record
-abbrev pub of_record : (Parsed → List Hazard) → Result Parsed Verdict → List Hazard
-of_record hazards (Ok p) = hazards p
-of_record hazards (Err said) = []
+use Rattle.scl_hazards.specs.Told.{Told, of_record, told_of}
 
 -- the compiler that a catalogue calls so
 abbrev pub compiler_of : CCompilerKind → Compiler
@@ -80,6 +76,6 @@ abbrev pub gnu_line : Known → (has_precompiled_header : Bool) → GnuRead → 
 gnu_line known has_precompiled_header r p =
     line_told known.version r p (gnu_facts known.is_apple has_precompiled_header r p (gnu_options r)) (gnu_options r) (gnu_inner r)
 
--- the hazards of a reading, if it has a record
-unfoldable pub gnu_hazards : Known → (has_precompiled_header : Bool) → GnuRead → List Hazard
-gnu_hazards known has_precompiled_header r = of_record (λ p. hazards_found known.catalogue (gnu_line known has_precompiled_header r p)) r.outcome
+-- what is told of a reading, if it has a record
+unfoldable pub gnu_told : Known → (has_precompiled_header : Bool) → GnuRead → Told
+gnu_told known has_precompiled_header r = of_record (λ p. told_of known (gnu_line known has_precompiled_header r p)) r.outcome

@@ -7,3 +7,4 @@ pub mod Options
 pub mod Serving
 pub mod SmallHazards
 pub mod Targets
+pub mod Told

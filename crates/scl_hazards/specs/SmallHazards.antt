@@ -1,4 +1,4 @@
--- The hazards of Diab's and TaskingVX's command lines.
+-- What is told of Diab's and TaskingVX's command lines.
 use Rattle.std.specs.Prelude.{ℕ, Bool, false, List, [], Option, unwrap_or}
 use Rattle.scl_catalogue.specs.Found.{LineSeen, OptionSeen}
 use Rattle.scl_catalogue.specs.declared.case.Compiler.{Compiler}
@@ -17,11 +17,11 @@ use Rattle.scl_text.specs.Commands.{object_of}
 use Rattle.scl_text.specs.Languages.{needs_c_preprocessing}
 use Rattle.scl_text.specs.Records.{Parsed}
 use Rattle.scl_values.specs.Seen.{Seen}
-use Rattle.scl_hazards.specs.GnuHazards.{of_record}
-use Rattle.scl_hazards.specs.Hazards.{Hazard, Known, hazards_found}
+use Rattle.scl_hazards.specs.Hazards.{Known}
 use Rattle.scl_hazards.specs.KindTexts.{diab_kind_text, tasking_kind_text}
 use Rattle.scl_hazards.specs.Languages.{language_name}
 use Rattle.scl_hazards.specs.Options.{is_hidden, options_seen}
+use Rattle.scl_hazards.specs.Told.{Told, of_record, told_of}
 
 -- what is told of a line with this record
 abbrev pub small_facts : Parsed → Facts
@@ -63,12 +63,12 @@ module _ {K : Type 0} (text : K → List ℕ) (common : Seen K → Bool) where
   abbrev pub small_line : Compiler → Known → SmallRead K → Parsed → LineSeen
   small_line compiler known r p = line_told compiler known.version r p (small_options r)
 
-  -- the hazards of a reading, if it has a record
-  unfoldable pub small_hazards : Compiler → Known → SmallRead K → List Hazard
-  small_hazards compiler known r = of_record (λ p. hazards_found known.catalogue (small_line compiler known r p)) r.outcome
+  -- what is told of a reading, if it has a record
+  unfoldable pub small_told : Compiler → Known → SmallRead K → Told
+  small_told compiler known r = of_record (λ p. told_of known (small_line compiler known r p)) r.outcome
 
-abbrev pub diab_hazards : Known → SmallRead diab_data.Kind → List Hazard
-diab_hazards = small_hazards diab_kind_text (goes_to diab.place places.Common) compilers.Diab
+abbrev pub diab_told : Known → SmallRead diab_data.Kind → Told
+diab_told = small_told diab_kind_text (goes_to diab.place places.Common) compilers.Diab
 
-abbrev pub tasking_hazards : Known → SmallRead tasking_data.Kind → List Hazard
-tasking_hazards = small_hazards tasking_kind_text (goes_to tasking.place places.Common) compilers.Tasking
+abbrev pub tasking_told : Known → SmallRead tasking_data.Kind → Told
+tasking_told = small_told tasking_kind_text (goes_to tasking.place places.Common) compilers.Tasking

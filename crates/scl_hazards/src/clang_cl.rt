@@ -1,20 +1,19 @@
-//! The hazards of cl's and clang-cl's command lines.
+//! What is told of cl's and clang-cl's command lines.
 ghost use Rattle.std.specs.Prelude.{◌≡◌, IfOk, map};
 ghost use Rattle.std.specs.Option.{option_copied};
 ghost use Rattle.scl_catalogue.specs.Views.{line_of, seen_of};
 ghost use Rattle.scl_msvc.specs.Environment.{value_of};
 ghost use Rattle.scl_text.specs.Commands.{pairs_of};
 ghost use Rattle.scl_text.specs.Records.{parsed_of};
-ghost use Rattle.scl_hazards.specs.ClangClHazards.{cl_compiler, cl_facts, cl_inner, cl_line, cl_options, line_told, msvc_hazards, splits_environment, splits_value};
-ghost use Rattle.scl_hazards.specs.Hazards.{hazards_found};
+ghost use Rattle.scl_hazards.specs.ClangClHazards.{cl_compiler, cl_facts, cl_inner, cl_line, cl_options, line_told, msvc_told, splits_environment, splits_value};
+ghost use Rattle.scl_hazards.specs.Told.{given, told_of};
 
-use crate::found::hazards_found;
 use crate::gnu::object_of;
-use crate::hazard::Hazard;
 use crate::kind_texts::cl_kind_text;
 use crate::known::Known;
 use crate::language::language_name;
 use crate::seen::{BothSeen, Kinded, is_hidden, options_seen};
+use crate::told::{Told, nothing, told_of};
 use scl_args::{Argument, Mem};
 use scl_catalogue::{Compiler, Facts, Line};
 use scl_driver_texts::{Splitter, is_split_otherwise, splits_otherwise};
@@ -149,37 +148,37 @@ fn line_told<'a>(
     }
 }
 
-/// The hazards of a command line that has this record, in this environment.
-fn hazards_with<'r, 'a>(
+/// What is told of a command line that has this record, in this environment.
+fn told_with<'r, 'a>(
     alloc: Global,
     known: &Known<'a>,
     reading: &'r MsvcReading,
     env_vars: &[(Vec<u8>, Vec<u8>)],
     parsed: &'r ParsedArguments,
-) -> Mem<Vec<Hazard<'a>>>
-    ensures { IfOk result (λ hazards. hazards.items ≡ hazards_found known.now.catalogue (cl_line known.now (pairs_of env_vars.now) reading.now (parsed_of parsed.now))) }
+) -> Mem<Told<'a>>
+    ensures { IfOk result (λ told. given told ≡ told_of known.now (cl_line known.now (pairs_of env_vars.now) reading.now (parsed_of parsed.now))) }
 {
     let options = both_seen(alloc, reading)?;
     let facts = cl_facts(alloc, reading, env_vars, parsed)?;
     let line = line_told(known, reading, parsed, facts, &options);
-    hazards_found(alloc, known, &line)
+    told_of(alloc, known, &line)
 }
 
-/// The hazards of a command line of cl or of clang-cl, read in this environment: exactly those of which the catalogue has a case
-/// that is there, in its order; none where the line has no record (docs/RULES.md, Hazards). It fails only for want of memory.
-#[tactic(auto, unfolding(crate::specs::ClangClHazards::msvc_hazards))]
-pub fn msvc_hazards<'a>(
+/// What is told of a command line of cl or of clang-cl, read in this environment, as of one of gcc; nothing where the line has no
+/// record (docs/RULES.md, Hazards). It fails only for want of memory.
+#[tactic(auto, unfolding(crate::specs::ClangClHazards::msvc_told))]
+pub fn msvc_told<'a>(
     alloc: Global,
     known: &Known<'a>,
     reading: &MsvcReading,
     env_vars: &[(Vec<u8>, Vec<u8>)],
-) -> Mem<Vec<Hazard<'a>>>
-    ensures { IfOk result (λ hazards. hazards.items ≡ msvc_hazards known.now (pairs_of env_vars.now) reading.now) }
+) -> Mem<Told<'a>>
+    ensures { IfOk result (λ told. given told ≡ msvc_told known.now (pairs_of env_vars.now) reading.now) }
 {
     match reading.outcome() {
-        CompilerArguments::Ok(parsed) => hazards_with(alloc, known, reading, env_vars, parsed),
+        CompilerArguments::Ok(parsed) => told_with(alloc, known, reading, env_vars, parsed),
         CompilerArguments::CannotCache(_, _) | CompilerArguments::NotCompilation => {
-            Ok(Vec::new(alloc))
+            Ok(nothing(alloc))
         }
     }
 }

@@ -1,19 +1,18 @@
-//! The hazards of gcc's and clang's command lines.
+//! What is told of gcc's and clang's command lines.
 ghost use Rattle.std.specs.Prelude.{◌≡◌, IfOk, map, unwrap_or, []};
 ghost use Rattle.scl_catalogue.specs.Views.{line_of, seen_of};
 ghost use Rattle.scl_values.specs.Words.{words_of};
 ghost use Rattle.scl_text.specs.Commands.{object_of};
 ghost use Rattle.scl_text.specs.Records.{parsed_of};
-ghost use Rattle.scl_hazards.specs.GnuHazards.{compiler_of, gnu_facts, gnu_hazards, gnu_inner, gnu_line, gnu_options, line_told, splitter_of};
-ghost use Rattle.scl_hazards.specs.Hazards.{hazards_found};
+ghost use Rattle.scl_hazards.specs.GnuHazards.{compiler_of, gnu_facts, gnu_inner, gnu_line, gnu_options, gnu_told, line_told, splitter_of};
+ghost use Rattle.scl_hazards.specs.Told.{given, told_of};
 
-use crate::found::hazards_found;
-use crate::hazard::Hazard;
 use crate::kind_texts::gnu_kind_text;
 use crate::known::Known;
 use crate::language::{is_other_language, language_name};
 use crate::seen::{BothSeen, Kinded, is_hidden, options_seen};
 use crate::targets::{has_other_target, is_renamed};
+use crate::told::{Told, nothing, told_of};
 use scl_args::{Argument, Mem};
 use scl_catalogue::{Compiler, Facts, Line, Seen};
 use scl_driver_texts::{Splitter, splits_otherwise};
@@ -146,15 +145,15 @@ fn line_told<'a>(
     }
 }
 
-/// The hazards of a command line that has this record.
-fn hazards_with<'r, 'a>(
+/// What is told of a command line that has this record.
+fn told_with<'r, 'a>(
     alloc: Global,
     known: &Known<'a>,
     reading: &'r GnuReading,
     has_precompiled_header: bool,
     parsed: &'r ParsedArguments,
-) -> Mem<Vec<Hazard<'a>>>
-    ensures { IfOk result (λ hazards. hazards.items ≡ hazards_found known.now.catalogue (gnu_line known.now has_precompiled_header reading.now (parsed_of parsed.now))) }
+) -> Mem<Told<'a>>
+    ensures { IfOk result (λ told. given told ≡ told_of known.now (gnu_line known.now has_precompiled_header reading.now (parsed_of parsed.now))) }
 {
     let options = both_seen(alloc, reading)?;
     let facts = gnu_facts(
@@ -166,27 +165,28 @@ fn hazards_with<'r, 'a>(
         &options.outer,
     )?;
     let line = line_told(known, reading, parsed, facts, &options);
-    hazards_found(alloc, known, &line)
+    told_of(alloc, known, &line)
 }
 
-/// The hazards of a command line of gcc or clang: exactly those of which the catalogue has a case that is there, in its order; none
-/// where the line has no record (docs/RULES.md, Hazards). Whoever sees the files tells whether a precompiled header lies beside a
-/// file that the line includes, in a folder where it is searched for. It fails only for want of memory.
-#[tactic(auto, unfolding(crate::specs::GnuHazards::gnu_hazards))]
-pub fn gnu_hazards<'a>(
+/// What is told of a command line of gcc or clang: exactly the hazards and effects of which the catalogue has a case that is there,
+/// in its order, and the first option of which nothing is known; nothing where the line has no record (docs/RULES.md, Hazards).
+/// Whoever sees the files tells whether a precompiled header lies beside a file that the line includes, in a folder where it is
+/// searched for. It fails only for want of memory.
+#[tactic(auto, unfolding(crate::specs::GnuHazards::gnu_told))]
+pub fn gnu_told<'a>(
     alloc: Global,
     known: &Known<'a>,
     reading: &GnuReading,
     has_precompiled_header: bool,
-) -> Mem<Vec<Hazard<'a>>>
-    ensures { IfOk result (λ hazards. hazards.items ≡ gnu_hazards known.now has_precompiled_header reading.now) }
+) -> Mem<Told<'a>>
+    ensures { IfOk result (λ told. given told ≡ gnu_told known.now has_precompiled_header reading.now) }
 {
     match reading.outcome() {
         CompilerArguments::Ok(parsed) => {
-            hazards_with(alloc, known, reading, has_precompiled_header, parsed)
+            told_with(alloc, known, reading, has_precompiled_header, parsed)
         }
         CompilerArguments::CannotCache(_, _) | CompilerArguments::NotCompilation => {
-            Ok(Vec::new(alloc))
+            Ok(nothing(alloc))
         }
     }
 }

@@ -57,7 +57,7 @@ pub fn hazard_of<'a>(entry: &Entry<'a>) -> Option<Hazard<'a>>
             name: entry.name,
             consequence: entry.says,
         }),
-        Tells::Effect(_, _) | Tells::Reason => None,
+        Tells::Effect(_, _) | Tells::Reason | Tells::Plain => None,
     }
 }
 

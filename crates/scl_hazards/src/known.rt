@@ -1,36 +1,49 @@
 //! What is known of a compiler.
 ghost use Rattle.std.specs.Prelude.{◌≡◌};
 ghost use Rattle.scl_catalogue.specs.Views.{catalogue_of};
+ghost use Rattle.scl_effects.specs.Plain.{rows_of};
+ghost use Rattle.scl_hazards.specs.Hazards.{tables_of};
 
 use scl_catalogue::{Catalogue, Version};
+use scl_effects::PlainNames;
 use std::marker::Model;
 
-/// What is known of the compiler that is run: a catalogue, which version of those that it speaks of is meant, and whether that is
+/// What is known of compilers.
+#[derive(Debug, Clone, Copy)]
+pub struct Tables<'a> {
+    /// The catalogue.
+    pub catalogue: Catalogue<'a>,
+    /// Names of options that read, write, ask and load nothing.
+    pub plain: PlainNames<'a>,
+}
+
+/// What is known of the compiler that is run: the tables, which version of those that they speak of is meant, and whether that is
 /// Apple's clang.
 #[derive(Debug, Drop)]
 pub struct Known<'a> {
-    catalogue: Catalogue<'a>,
+    tables: Tables<'a>,
     version: Option<Version>,
     is_apple: bool,
 }
 
 impl<'a> Model for Known<'a> {
     ghost use Rattle.scl_catalogue.specs.Views.{catalogue_of};
+    ghost use Rattle.scl_effects.specs.Plain.{rows_of};
     ghost use Rattle.scl_hazards.specs.Hazards.{Known};
 
     ghost Value = { Known };
 
-    ghost view = { λ k. record { catalogue = catalogue_of k.catalogue; version = k.version; is_apple = k.is_apple } };
+    ghost view = { λ k. record { catalogue = catalogue_of k.tables.catalogue; plain = rows_of k.tables.plain; version = k.version; is_apple = k.is_apple } };
 }
 
 impl<'a> Known<'a> {
-    /// What a catalogue knows of a compiler of this version, Apple's clang or another; where no version is told, each case of the
-    /// catalogue is meant.
-    pub fn new(catalogue: &Catalogue<'a>, version: Option<Version>, is_apple: bool) -> Known<'a>
-        ensures { result ≡ record { catalogue = catalogue_of catalogue.now; version = version; is_apple = is_apple } }
+    /// What tables know of a compiler of this version, Apple's clang or another; where no version is told, each case and name is
+    /// meant.
+    pub fn new(tables: &Tables<'a>, version: Option<Version>, is_apple: bool) -> Known<'a>
+        ensures { result ≡ record { catalogue = (tables_of tables.now).catalogue; plain = (tables_of tables.now).plain; version = version; is_apple = is_apple } }
     {
         Known {
-            catalogue: *catalogue,
+            tables: *tables,
             version,
             is_apple,
         }
@@ -40,7 +53,14 @@ impl<'a> Known<'a> {
     pub fn catalogue(&self) -> &Catalogue<'a>
         ensures { catalogue_of result.now ≡ self.now.catalogue }
     {
-        &self.catalogue
+        &self.tables.catalogue
+    }
+
+    /// The names of options that do nothing.
+    pub(crate) fn plain(&self) -> &PlainNames<'a>
+        ensures { rows_of result.now ≡ self.now.plain }
+    {
+        &self.tables.plain
     }
 
     /// The version that is meant, where one is told.

@@ -1,10 +1,9 @@
-//! Hazards: command lines, as they were read, for which a compiler does something else with the built command than with the given
-//! one, as a catalogue knows it.
+//! What a catalogue tells of command lines, as they were read: what a compiler does otherwise with the built command than with the
+//! given one, and what it reads, writes, asks and loads.
 #![tactic(auto)]
 
 mod clang_cl;
 mod delimiter;
-mod found;
 mod gnu;
 mod hazard;
 mod kind_texts;
@@ -14,11 +13,14 @@ mod names;
 mod seen;
 mod small;
 mod targets;
+mod told;
 
-pub use clang_cl::msvc_hazards;
-pub use gnu::gnu_hazards;
+pub use clang_cl::msvc_told;
+pub use gnu::gnu_told;
 pub use hazard::{Hazard, hazard_of};
-pub use known::Known;
+pub use known::{Known, Tables};
 pub use names::{compiler_name, danger_name, is_of};
-pub use scl_catalogue::{Catalogue, Compiler, Danger, Entry, Version};
-pub use small::{diab_hazards, tasking_hazards};
+pub use scl_catalogue::{Catalogue, Compiler, Danger, Entry, Verb, Version};
+pub use scl_effects::{Effect, PlainNames};
+pub use small::{diab_told, tasking_told};
+pub use told::Told;

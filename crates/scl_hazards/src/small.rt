@@ -1,17 +1,16 @@
-//! The hazards of Diab's and TaskingVX's command lines.
+//! What is told of Diab's and TaskingVX's command lines.
 ghost use Rattle.std.specs.Prelude.{◌≡◌, IfOk, map};
 ghost use Rattle.scl_catalogue.specs.Views.{line_of, seen_of};
 ghost use Rattle.scl_text.specs.Records.{parsed_of};
-ghost use Rattle.scl_hazards.specs.Hazards.{hazards_found};
-ghost use Rattle.scl_hazards.specs.SmallHazards.{diab_hazards, line_told, small_facts, small_hazards, small_line, tasking_hazards};
+ghost use Rattle.scl_hazards.specs.SmallHazards.{diab_told, line_told, small_facts, small_line, small_told, tasking_told};
+ghost use Rattle.scl_hazards.specs.Told.{given, told_of};
 
-use crate::found::hazards_found;
 use crate::gnu::object_of;
-use crate::hazard::Hazard;
 use crate::kind_texts::{diab_kind_text, tasking_kind_text};
 use crate::known::Known;
 use crate::language::language_name;
 use crate::seen::{Kinded, is_hidden, options_seen};
+use crate::told::{Told, nothing, told_of};
 use scl_args::{Argument, Mem};
 use scl_catalogue::{Compiler, Facts, Line, Seen};
 use scl_small::{Place, Rules, SmallReading, diab, place_of, tasking_vx};
@@ -104,59 +103,59 @@ fn line_told<'a, T: Rules>(
     }
 }
 
-/// The hazards of a command line of this compiler that has this record.
-fn hazards_with<'r, 'a, T: Rules + Kinded>(
+/// What is told of a command line of this compiler that has this record.
+fn told_with<'r, 'a, T: Rules + Kinded>(
     alloc: Global,
     compiler: Compiler,
     known: &Known<'a>,
     reading: &'r SmallReading<T>,
     parsed: &'r ParsedArguments,
-) -> Mem<Vec<Hazard<'a>>>
-    ensures { IfOk result (λ hazards. hazards.items ≡ hazards_found known.now.catalogue (small_line T.kind_text T.is_common compiler known.now reading.now (parsed_of parsed.now))) }
+) -> Mem<Told<'a>>
+    ensures { IfOk result (λ told. given told ≡ told_of known.now (small_line T.kind_text T.is_common compiler known.now reading.now (parsed_of parsed.now))) }
 {
     let outer = reading.outer();
     let options = options_seen(alloc, outer.words(), outer.line().options().as_slice())?;
     let line = line_told(compiler, known, reading, parsed, &options);
-    hazards_found(alloc, known, &line)
+    told_of(alloc, known, &line)
 }
 
-/// The hazards of a command line of this compiler.
-#[tactic(auto, unfolding(crate::specs::SmallHazards::small_hazards))]
-fn small_hazards<'a, T: Rules + Kinded>(
+/// What is told of a command line of this compiler.
+#[tactic(auto, unfolding(crate::specs::SmallHazards::small_told))]
+fn small_told<'a, T: Rules + Kinded>(
     alloc: Global,
     compiler: Compiler,
     known: &Known<'a>,
     reading: &SmallReading<T>,
-) -> Mem<Vec<Hazard<'a>>>
-    ensures { IfOk result (λ hazards. hazards.items ≡ small_hazards T.kind_text T.is_common compiler known.now reading.now) }
+) -> Mem<Told<'a>>
+    ensures { IfOk result (λ told. given told ≡ small_told T.kind_text T.is_common compiler known.now reading.now) }
 {
     match reading.outcome() {
-        CompilerArguments::Ok(parsed) => hazards_with(alloc, compiler, known, reading, parsed),
+        CompilerArguments::Ok(parsed) => told_with(alloc, compiler, known, reading, parsed),
         CompilerArguments::CannotCache(_, _) | CompilerArguments::NotCompilation => {
-            Ok(Vec::new(alloc))
+            Ok(nothing(alloc))
         }
     }
 }
 
-/// The hazards of a command line of Diab: exactly those of which the catalogue has a case that is there, in its order; none where
-/// the line has no record (docs/RULES.md, Hazards). It fails only for want of memory.
-pub fn diab_hazards<'a>(
+/// What is told of a command line of Diab, as of one of gcc; nothing where the line has no record (docs/RULES.md, Hazards). It
+/// fails only for want of memory.
+pub fn diab_told<'a>(
     alloc: Global,
     known: &Known<'a>,
     reading: &SmallReading<diab::ArgData>,
-) -> Mem<Vec<Hazard<'a>>>
-    ensures { IfOk result (λ hazards. hazards.items ≡ diab_hazards known.now reading.now) }
+) -> Mem<Told<'a>>
+    ensures { IfOk result (λ told. given told ≡ diab_told known.now reading.now) }
 {
-    small_hazards(alloc, Compiler::Diab, known, reading)
+    small_told(alloc, Compiler::Diab, known, reading)
 }
 
-/// The hazards of a command line of TaskingVX, as those of Diab.
-pub fn tasking_hazards<'a>(
+/// What is told of a command line of TaskingVX, as of one of Diab.
+pub fn tasking_told<'a>(
     alloc: Global,
     known: &Known<'a>,
     reading: &SmallReading<tasking_vx::ArgData>,
-) -> Mem<Vec<Hazard<'a>>>
-    ensures { IfOk result (λ hazards. hazards.items ≡ tasking_hazards known.now reading.now) }
+) -> Mem<Told<'a>>
+    ensures { IfOk result (λ told. given told ≡ tasking_told known.now reading.now) }
 {
-    small_hazards(alloc, Compiler::Tasking, known, reading)
+    small_told(alloc, Compiler::Tasking, known, reading)
 }

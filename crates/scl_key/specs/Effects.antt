@@ -1,7 +1,7 @@
 -- What words of a command line do beside compiling, as far as a key has to answer for it: tables, a word a line.
-use Rattle.std.specs.Prelude.{ℕ, Bool, true, false, nat_eq, List, [], ◌∷◌, ◌++◌, Option, None, codes, find, map, unwrap_or, if◌then◌else◌}
+use Rattle.std.specs.Prelude.{ℕ, Bool, true, false, nat_eq, List, [], ◌∷◌, ◌++◌, Option, codes, find, map, unwrap_or, if◌then◌else◌}
 use Rattle.std.specs.Borrow.{Bor}
-use Rattle.std.specs.List.{flat_map, list_any, starts_with}
+use Rattle.std.specs.List.{flat_map, starts_with}
 use Rattle.std.specs.Option.{option_map, option_or}
 use Rattle.std.specs.Str.{bytes_eq}
 use Prim.Native.String.{String}
@@ -67,9 +67,7 @@ whole_words =
     ∷ row "-MG" TextHides
     ∷ row "-da" WritesUnnamed
     ∷ row "-dumpdir" WritesUnnamed
-    ∷ row "-coverage" WritesUnnamed
     ∷ row "-wrapper" WritesUnnamed
-    ∷ row "-emit-interface-stubs" WritesUnnamed
     ∷ row "-dependency-file" WritesUnnamed
     ∷ row "-dependency-dot" WritesUnnamed
     ∷ row "-header-include-file" WritesUnnamed
@@ -80,12 +78,6 @@ whole_words =
     ∷ row "-fstack-usage" WritesUnnamed
     ∷ row "-fdiagnostics-format=json-file" WritesUnnamed
     ∷ row "-fdiagnostics-format=sarif-file" WritesUnnamed
-    ∷ []
-
--- beginnings of words that have a `=` besides
-abbrev pub valued_words : List Row
-valued_words =
-    row "-fopt-info" WritesUnnamed
     ∷ []
 
 -- beginnings of words; the first that fits says
@@ -114,19 +106,8 @@ fronts =
     ∷ row "-Wl," Exact
     ∷ row "-Werror" Exact
     ∷ row "-W" Plain
-    ∷ row "-aux-info" WritesUnnamed
-    ∷ row "-fdump-" WritesUnnamed
-    ∷ row "-fsave-optimization-record" WritesUnnamed
-    ∷ row "-foptimization-record-" WritesUnnamed
     ∷ row "-fcallgraph-info" WritesUnnamed
-    ∷ row "-fprofile-note=" WritesUnnamed
-    ∷ row "-fprofile-dir" WritesUnnamed
     ∷ row "-fprofile-update-dir" WritesUnnamed
-    ∷ row "-fproc-stat-report" WritesUnnamed
-    ∷ row "-fcompare-debug" WritesUnnamed
-    ∷ row "-fcrash-diagnostics-dir" WritesUnnamed
-    ∷ row "-fdeps-" WritesUnnamed
-    ∷ row "-ftime-trace" WritesUnnamed
     ∷ row "-gen-cdb-" WritesUnnamed
     ∷ row "-info-output-file=" WritesUnnamed
     ∷ row "-print-" WritesUnnamed
@@ -146,10 +127,8 @@ fronts =
 -- beginnings of words for the assembler
 abbrev pub assembler_fronts : List Row
 assembler_fronts =
-    row "-a" WritesUnnamed
-    ∷ row "-o" WritesUnnamed
+    row "-o" WritesUnnamed
     ∷ row "-MD" WritesUnnamed
-    ∷ row "--MD" WritesUnnamed
     ∷ row "--listing" WritesUnnamed
     ∷ []
 
@@ -161,18 +140,9 @@ whole_effect rows word = option_map (λ row. row.effect) (find (λ row. bytes_eq
 abbrev pub front_effect : List Row → List ℕ → Option Effect
 front_effect rows word = option_map (λ row. row.effect) (find (λ row. starts_with nat_eq word row.text) rows)
 
-abbrev pub is_equals : ℕ → Bool
-is_equals byte = nat_eq byte 61
-
-abbrev pub has_equals : List ℕ → Bool
-has_equals word = list_any is_equals word
-
-abbrev pub valued_effect : List ℕ → Option Effect
-valued_effect word = if has_equals word then front_effect valued_words word else None
-
 -- what a word does by the tables, if one of them has it
 abbrev pub known_effect : List ℕ → Option Effect
-known_effect word = option_or (whole_effect whole_words word) (option_or (valued_effect word) (front_effect fronts word))
+known_effect word = option_or (whole_effect whole_words word) (front_effect fronts word)
 
 -- what a word does; one that no table has may have anything of the sources that a text does not show
 abbrev pub effect_of : List ℕ → Effect

@@ -10,7 +10,7 @@ use Rattle.scl_reader.specs.declared.compiler.Compiler.{Compiler}
 use Rattle.scl_key.specs.declared.effect.Effect.{Effect}
 use Rattle.scl_key.specs.declared.effect.Effect.TheVariants as effects
 use Rattle.scl_key.specs.declared.no_key.Reason.{Reason}
-use Rattle.scl_key.specs.declared.no_key.Reason.TheVariants.{WritesUnnamed, TextHides, OutputIsNoFile, OnePathTwice, Hazard}
+use Rattle.scl_key.specs.declared.no_key.Reason.TheVariants.{WritesUnnamed, TextHides, OutputIsNoFile, OnePathTwice, Hazard, Effect as EffectBars}
 use Rattle.scl_key.specs.declared.part.Ask.{Ask}
 use Rattle.scl_key.specs.declared.part.Ask.TheVariants as asks
 use Rattle.scl_key.specs.Directs.{Direct, directs, direct_entries}
@@ -120,6 +120,7 @@ reason_name TextHides = codes "text-hides"
 reason_name OutputIsNoFile = codes "output-is-no-file"
 reason_name OnePathTwice = codes "one-path-twice"
 reason_name Hazard = codes "hazard"
+reason_name EffectBars = codes "effect"
 
 -- why there is no key for what a word does
 abbrev pub reason_of : Effect → Option Reason

@@ -9,6 +9,7 @@ pub mod Made
 pub mod Reads
 pub mod Runs
 pub mod Directs
+pub mod Doings
 pub mod Keys
 pub mod Views
 pub mod Laws

@@ -2,7 +2,7 @@
 ghost use Rattle.std.specs.Prelude.{◌≡◌, ◌++◌, map, IfOk, OnOk, false};
 ghost use Rattle.std.specs.List.{flat_map, list_any};
 ghost use Rattle.scl_values.specs.Words.{words_of};
-ghost use Rattle.scl_key.specs.Effects.{assembler_effect, assembler_words, behind, effect_of, front_effect, fronts, handed_words, has_equals, is_comma, is_plain, judged_in, keeps_macros, known_effect, rows_of, suffixes, valued_effect, whole_effect, whole_words, writes_unnamed};
+ghost use Rattle.scl_key.specs.Effects.{assembler_effect, assembler_words, behind, effect_of, front_effect, fronts, handed_words, is_comma, is_plain, judged_in, keeps_macros, known_effect, rows_of, suffixes, whole_effect, whole_words, writes_unnamed};
 ghost use Rattle.scl_key.specs.JudgedViews.{all_judged};
 
 use scl_text::Mem;
@@ -28,7 +28,7 @@ pub enum Effect {
 }
 
 /// Words.
-static WHOLE_WORDS: [(&'static str, Effect); 58] = [
+static WHOLE_WORDS: [(&'static str, Effect); 56] = [
     ("-ansi", Effect::Plain),
     ("-c", Effect::Plain),
     ("-pipe", Effect::Plain),
@@ -74,9 +74,7 @@ static WHOLE_WORDS: [(&'static str, Effect); 58] = [
     ("-MG", Effect::TextHides),
     ("-da", Effect::WritesUnnamed),
     ("-dumpdir", Effect::WritesUnnamed),
-    ("-coverage", Effect::WritesUnnamed),
     ("-wrapper", Effect::WritesUnnamed),
-    ("-emit-interface-stubs", Effect::WritesUnnamed),
     ("-dependency-file", Effect::WritesUnnamed),
     ("-dependency-dot", Effect::WritesUnnamed),
     ("-header-include-file", Effect::WritesUnnamed),
@@ -89,11 +87,8 @@ static WHOLE_WORDS: [(&'static str, Effect); 58] = [
     ("-fdiagnostics-format=sarif-file", Effect::WritesUnnamed),
 ];
 
-/// Beginnings of words that have a `=` besides.
-static VALUED_WORDS: [(&'static str, Effect); 1] = [("-fopt-info", Effect::WritesUnnamed)];
-
 /// Beginnings of words; the first that fits says.
-static FRONTS: [(&'static str, Effect); 50] = [
+static FRONTS: [(&'static str, Effect); 39] = [
     ("-D", Effect::Plain),
     ("-U", Effect::Plain),
     ("-O", Effect::Plain),
@@ -117,19 +112,8 @@ static FRONTS: [(&'static str, Effect); 50] = [
     ("-Wl,", Effect::Exact),
     ("-Werror", Effect::Exact),
     ("-W", Effect::Plain),
-    ("-aux-info", Effect::WritesUnnamed),
-    ("-fdump-", Effect::WritesUnnamed),
-    ("-fsave-optimization-record", Effect::WritesUnnamed),
-    ("-foptimization-record-", Effect::WritesUnnamed),
     ("-fcallgraph-info", Effect::WritesUnnamed),
-    ("-fprofile-note=", Effect::WritesUnnamed),
-    ("-fprofile-dir", Effect::WritesUnnamed),
     ("-fprofile-update-dir", Effect::WritesUnnamed),
-    ("-fproc-stat-report", Effect::WritesUnnamed),
-    ("-fcompare-debug", Effect::WritesUnnamed),
-    ("-fcrash-diagnostics-dir", Effect::WritesUnnamed),
-    ("-fdeps-", Effect::WritesUnnamed),
-    ("-ftime-trace", Effect::WritesUnnamed),
     ("-gen-cdb-", Effect::WritesUnnamed),
     ("-info-output-file=", Effect::WritesUnnamed),
     ("-print-", Effect::WritesUnnamed),
@@ -147,11 +131,9 @@ static FRONTS: [(&'static str, Effect); 50] = [
 ];
 
 /// Beginnings of words for the assembler.
-static ASSEMBLER_FRONTS: [(&'static str, Effect); 5] = [
-    ("-a", Effect::WritesUnnamed),
+static ASSEMBLER_FRONTS: [(&'static str, Effect); 3] = [
     ("-o", Effect::WritesUnnamed),
     ("-MD", Effect::WritesUnnamed),
-    ("--MD", Effect::WritesUnnamed),
     ("--listing", Effect::WritesUnnamed),
 ];
 
@@ -179,17 +161,6 @@ pub(crate) fn front_effect(rows: &[(&'static str, Effect)], word: &[u8]) -> Opti
     None
 }
 
-fn has_equals(word: &[u8]) -> bool
-    ensures { result ≡ has_equals word.now }
-{
-    for byte in word {
-        if *byte == b'=' {
-            return true;
-        }
-    }
-    false
-}
-
 /// Whether a text has a comma.
 pub(crate) fn has_comma(text: &[u8]) -> bool
     ensures { result ≡ list_any is_comma text.now }
@@ -200,16 +171,6 @@ pub(crate) fn has_comma(text: &[u8]) -> bool
         }
     }
     false
-}
-
-fn valued_effect(word: &[u8]) -> Option<Effect>
-    ensures { result ≡ valued_effect word.now }
-{
-    if has_equals(word) {
-        front_effect(&VALUED_WORDS, word)
-    } else {
-        None
-    }
 }
 
 #[tactic(auto, unfolding(crate::specs::Effects::whole_words))]
@@ -231,9 +192,6 @@ fn known_effect(word: &[u8]) -> Option<Effect>
     ensures { result ≡ known_effect word.now }
 {
     if let Some(effect) = whole_effect(whole_words(), word) {
-        return Some(effect);
-    }
-    if let Some(effect) = valued_effect(word) {
         return Some(effect);
     }
     front_effect(fronts(), word)

@@ -2,6 +2,7 @@
 #![tactic(auto)]
 
 mod direct;
+mod doings;
 mod effect;
 mod family;
 mod given;
@@ -15,6 +16,7 @@ mod runs;
 mod told;
 
 pub use direct::Direct;
+pub use doings::with_effects;
 pub use effect::Effect;
 pub use given::Brings;
 pub use key::{Keeping, key_of, push_keeping};

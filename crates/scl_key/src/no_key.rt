@@ -39,6 +39,8 @@ pub enum Reason {
     OnePathTwice,
     /// The built command has a hazard, and the given words are not known to make the outputs.
     Hazard,
+    /// The compiler reads, writes, asks or loads what no row of a key can stand for.
+    Effect,
 }
 
 /// Why there is no key: the reason, and the word, path or hazard.
@@ -64,6 +66,7 @@ impl Reason {
             Reason::OutputIsNoFile => "output-is-no-file",
             Reason::OnePathTwice => "one-path-twice",
             Reason::Hazard => "hazard",
+            Reason::Effect => "effect",
         }
     }
 }
@@ -277,7 +280,7 @@ fn unnamed(alloc: Global, compiler: Compiler, parsed: &ParsedArguments) -> Mem<V
     Ok(words)
 }
 
-fn is_no_file(path: &[u8]) -> bool
+pub(crate) fn is_no_file(path: &[u8]) -> bool
     ensures { result ≡ is_no_file path.now }
 {
     path == STANDARD_OUTPUT || path.starts_with(b"/dev/") || path.starts_with(b"/proc/")
@@ -295,7 +298,7 @@ fn push_no_files(alloc: Global, why: &mut Vec<NoKey>, outputs: &[Output]) -> Mem
     Ok(())
 }
 
-fn has_path(path: &[u8], outputs: &[Output]) -> bool
+pub(crate) fn has_path(path: &[u8], outputs: &[Output]) -> bool
     ensures { result ≡ list_any (same_path path.now) (paths_of outputs.now) }
 {
     for output in outputs {

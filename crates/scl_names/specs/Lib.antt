@@ -1,3 +1,4 @@
 pub mod FileNames
 pub mod Names
 pub mod Launchers
+pub mod LaunchersGiven

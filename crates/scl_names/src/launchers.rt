@@ -1,15 +1,28 @@
 //! Programs that run the compiler named by a later word.
 ghost use Rattle.std.specs.Prelude.{◌≡◌, ◌<◌, ◌==◌, IfOk, IfSome, length, map, position};
 ghost use Rattle.std.specs.List.{list_all};
+ghost use Rattle.std.specs.Option.{option_copied, option_map};
 ghost use Rattle.scl_values.specs.Words.{words_of};
-ghost use Rattle.scl_names.specs.Launchers.{launchers, is_one_of, is_in_name, is_name, assignment_at, is_assignment, is_before_program, program_at};
+ghost use Rattle.scl_names.specs.Launchers.{launchers, launcher_named, is_one_of, is_in_name, is_name, is_text, assignment_at, is_assignment, behind_option, behind_value, behind_word, program_at, standing_of, step, with_words};
+ghost use Rattle.scl_names.specs.LaunchersGiven.{front_by};
 
 use crate::file_name::{is_digit, stem_of};
+use crate::options::standing_of;
 use scl_reader::Mem;
 use std::alloc::Global;
 
 /// Programs that run the compiler named by a later word.
-static LAUNCHERS: &[&str] = &["ccache", "sccache", "distcc", "icecc", "env"];
+static LAUNCHERS: &[&str] = &[
+    "ccache",
+    "sccache",
+    "distcc",
+    "icecc",
+    "recc",
+    "buildcache",
+    "env",
+    "nice",
+    "time",
+];
 
 fn launchers() -> &'static [&'static str]
     ensures { map (λ text. text.now) result.now ≡ launchers }
@@ -17,21 +30,23 @@ fn launchers() -> &'static [&'static str]
     LAUNCHERS
 }
 
-fn is_one_of(texts: &[&'static str], stem: &[u8]) -> bool
-    ensures { result ≡ is_one_of (map (λ text. text.now) texts.now) stem.now }
+fn is_text(text: &str, stem: &[u8]) -> bool
+    ensures { result ≡ is_text stem.now text.now }
 {
-    for text in texts {
-        if text.as_bytes() == stem {
-            return true;
-        }
-    }
-    false
+    text.as_bytes() == stem
 }
 
-fn is_called(stem: &[u8]) -> bool
-    ensures { result ≡ is_one_of launchers stem.now }
+/// The launcher of this name, if it is one.
+fn launcher_named(stem: &[u8]) -> Option<&'static str>
+    ensures { option_copied result ≡ launcher_named stem.now }
 {
-    is_one_of(launchers(), stem)
+    let all = launchers();
+    for text in all {
+        if is_text(text, stem) {
+            return Some(*text);
+        }
+    }
+    None
 }
 
 fn is_in_name(byte: u8) -> bool
@@ -79,24 +94,89 @@ fn is_assignment(word: &[u8]) -> bool
     assignment_at(word).is_some()
 }
 
-fn is_before_program(alloc: Global, word: &[u8]) -> Mem<bool>
-    ensures { IfOk result (λ is. is ≡ is_before_program word.now) }
+/// Whether a compiler takes words of this variable.
+fn has_words(name: &[u8]) -> bool
+    ensures { result ≡ is_one_of with_words name.now }
 {
-    if is_assignment(word) {
-        return Ok(true);
-    }
-    let stem = stem_of(alloc, word)?;
-    Ok(is_called(&stem))
+    name == b"CL".as_slice() || name == b"_CL_".as_slice()
 }
 
-/// The index of the program in a command line: the first word that is no launcher and no assignment (`assignment_at`).
-/// Launchers are `ccache`, `sccache`, `distcc`, `icecc` and `env`, by the same rules of names as a compiler.
+/// What stands before a program: the last launcher, if there is one, and whether its last option takes the next word.
+#[derive(Clone, Copy)]
+pub(crate) struct Launched {
+    launcher: &'static str,
+    awaits_value: bool,
+}
+
+impl Launched {
+    /// With a value that is awaited.
+    fn with_value(self, word: &[u8]) -> Option<Launched>
+        ensures { option_map front_by result ≡ behind_value (front_by self) word.now }
+    {
+        if has_words(word) {
+            return None;
+        }
+        Some(Launched {
+            launcher: self.launcher,
+            awaits_value: false,
+        })
+    }
+
+    /// With an option of the last launcher.
+    fn with_option(self, word: &[u8]) -> Option<Launched>
+        ensures { option_map front_by result ≡ behind_option (front_by self) (standing_of self.launcher.now word.now) }
+    {
+        match standing_of(self.launcher, word) {
+            Some(standing) => Some(Launched {
+                launcher: self.launcher,
+                awaits_value: standing.takes_next(),
+            }),
+            None => None,
+        }
+    }
+
+    /// With a word that is no value, whose name is this.
+    fn with_word(self, word: &[u8], stem: &[u8]) -> Option<Launched>
+        ensures { option_map front_by result ≡ behind_word (front_by self) word.now stem.now }
+    {
+        if is_assignment(word) {
+            return Some(self);
+        }
+        match launcher_named(stem) {
+            Some(launcher) => Some(Launched {
+                launcher,
+                awaits_value: false,
+            }),
+            None => self.with_option(word),
+        }
+    }
+
+    /// With one more word, if that may stand before a program.
+    fn step(self, alloc: Global, word: &[u8]) -> Mem<Option<Launched>>
+        ensures { IfOk result (λ next. option_map front_by next ≡ step (front_by self) word.now) }
+    {
+        if self.awaits_value {
+            return Ok(self.with_value(word));
+        }
+        let stem = stem_of(alloc, word)?;
+        Ok(self.with_word(word, &stem))
+    }
+}
+
+/// The index of the program in a command line: the first word that is no launcher, no option of a launcher and no assignment
+/// (`assignment_at`). Launchers are `ccache`, `sccache`, `distcc`, `icecc`, `recc`, `buildcache`, `env`, `nice` and `time`, by the
+/// same rules of names as a compiler. An option that takes `CL` or `_CL_` away is none, since a compiler takes words of them.
 pub fn program_at(alloc: Global, words: &[Vec<u8>]) -> Mem<Option<usize>>
     ensures { IfOk result (λ at. at ≡ program_at (words_of words.now)) }
 {
+    let mut launched = Launched {
+        launcher: "",
+        awaits_value: false,
+    };
     for (at, word) in words.iter().enumerate() {
-        if !is_before_program(alloc, word)? {
-            return Ok(Some(at));
+        match launched.step(alloc, word)? {
+            Some(next) => launched = next,
+            None => return Ok(Some(at)),
         }
     }
     Ok(None)

@@ -4,6 +4,7 @@
 mod compilers;
 mod file_name;
 mod launchers;
+mod options;
 
 pub use compilers::compiler_of;
 pub use launchers::{assignment_at, program_at};

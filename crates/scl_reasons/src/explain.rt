@@ -4,7 +4,7 @@ ghost use Rattle.std.specs.Option.{option_copied};
 ghost use Rattle.scl_reasons.specs.Explanations.{explained, is_explained_by, text_for, text_given};
 ghost use Rattle.scl_reasons.specs.Table.{other, table};
 
-use crate::table::EXPLANATIONS;
+use crate::table::{EXPLANATIONS, OTHER};
 
 /// A sentence for people, and the reasons that it explains.
 #[derive(Clone, Copy, Debug)]
@@ -14,9 +14,6 @@ pub struct Explanation {
     /// The reasons, as answers have them.
     pub reasons: &'static [&'static str],
 }
-
-/// The sentence for a reason that no compiler of this repository gives: such as a flag of a caller's own table.
-const OTHER: &str = "The compiler's table refuses this; run the command as given.";
 
 /// All explanations. Each reason that a compiler of this repository gives is in exactly one, once (docs/RULES.md, Sentences).
 #[tactic(auto, unfolding(crate::specs::Table::table))]

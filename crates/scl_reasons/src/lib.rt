@@ -1,6 +1,12 @@
 //! A sentence for people for each reason why a command line is refused.
 #![tactic(auto)]
 
+macro_rules! explanation {
+    ($text:literal $($reason:literal)*) => {
+        crate::explain::Explanation { text: $text, reasons: &[$($reason),*] }
+    };
+}
+
 mod explain;
 mod table;
 

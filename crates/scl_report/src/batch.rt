@@ -1,11 +1,13 @@
 //! What the program says to the entries of a compile database.
 use crate::digest::{entry_line, summary};
-use crate::entry::case_of_entry;
-use crate::json::{answer_line, refused_entry_line};
-use scl_cl::{Compiler, Mem};
+use crate::entry::{EntryError, case_of_entry};
+use crate::json::{self, refused_entry_line};
+use crate::why::{is_meant, why_text};
+use scl_cl::{Compiler, Mem, path};
 use scl_describe::About;
 use scl_explain::{Answered, Case, Counts, Ending, EntryKind, answer_case, load_error_text};
 use scl_load::Disk;
+use scl_shell::shown_briefly;
 use scl_text::command::copy_pairs;
 use serde_json::Value;
 use std::alloc::Global;
@@ -24,14 +26,18 @@ pub struct Batch<'a> {
     pub env_vars: Vec<(Vec<u8>, Vec<u8>)>,
     /// Whether several architectures are allowed.
     pub multiarch: bool,
+    /// Whether the runs of the preprocessor are for a distant compiler.
+    pub may_dist: bool,
+    /// The most words that an entry may have.
+    pub bound: usize,
     /// Whether machines read the answers.
     pub json: bool,
     /// The one kind of entries that is written, if not each.
     pub only: Option<EntryKind>,
 }
 
-/// The source that an entry names.
-fn file_of(value: &Value) -> &str {
+/// The source that an entry names; empty if it names none.
+pub fn file_of(value: &Value) -> &str {
     match value.get("file").and_then(Value::as_str) {
         Some(file) => file,
         None => "",
@@ -55,16 +61,16 @@ impl<'a> Batch<'a> {
         answered: &Answered<'_>,
     ) -> Mem<String> {
         if self.json {
-            answer_line(alloc, entry, case, answered)
+            json::entry_line(alloc, &self.about, entry, file, case, answered)
         } else {
             entry_line(alloc, entry, file, case, answered)
         }
     }
 
     /// The text of an entry that has no answer.
-    fn refused_text(&self, alloc: Global, entry: u64, why: &str) -> Mem<String> {
+    fn refused_text(&self, alloc: Global, entry: u64, file: &str, why: &str) -> Mem<String> {
         if self.json && self.only.is_none() {
-            refused_entry_line(alloc, entry, why)
+            refused_entry_line(alloc, entry, file, why)
         } else {
             Ok(String::new(alloc))
         }
@@ -93,10 +99,23 @@ impl<'a> Batch<'a> {
             }
             Err(error) => {
                 let why = load_error_text(alloc, &error)?;
-                let text = self.refused_text(alloc, entry, why.as_str())?;
+                let text = self.refused_text(alloc, entry, file, why.as_str())?;
                 counts.count_unread(entry, why)?;
                 Ok(text)
             }
+        }
+    }
+
+    /// The command line of an entry. The outer error is the refusal of memory.
+    pub fn case_of(&self, alloc: Global, value: &Value) -> Mem<Result<Case, EntryError>> {
+        let env_vars = copy_pairs(alloc, &self.env_vars)?;
+        match case_of_entry(alloc, value, self.named, &self.base, env_vars)? {
+            Ok(mut case) => {
+                case.may_dist = self.may_dist;
+                case.bound = self.bound;
+                Ok(Ok(case))
+            }
+            Err(error) => Ok(Err(error)),
         }
     }
 
@@ -112,15 +131,59 @@ impl<'a> Batch<'a> {
         D::Error: Display,
     {
         let entry = counts.next();
-        let env_vars = copy_pairs(alloc, &self.env_vars)?;
-        match case_of_entry(alloc, value, self.named, &self.base, env_vars)? {
+        match self.case_of(alloc, value)? {
             Ok(case) => self.case_text(alloc, disk, counts, entry, file_of(value), &case),
             Err(error) => {
                 let why = format!(in alloc; "{error}")?;
-                let text = self.refused_text(alloc, entry, why.as_str())?;
+                let text = self.refused_text(alloc, entry, file_of(value), why.as_str())?;
                 counts.count_broken(entry, why)?;
                 Ok(text)
             }
+        }
+    }
+
+    /// Whether an entry's source is the one that a person names: by its path, or by the last parts of it.
+    pub fn is_meant(&self, alloc: Global, value: &Value, name: &str) -> Mem<bool> {
+        let directory = match value.get("directory").and_then(Value::as_str) {
+            Some(directory) => directory,
+            None => "",
+        };
+        let file = file_of(value);
+        let base = path::join(alloc, &self.base, directory.as_bytes())?;
+        let whole = path::join(alloc, &base, file.as_bytes())?;
+        let here = path::join(alloc, &self.base, name.as_bytes())?;
+        Ok(!file.is_empty() && (is_meant(&whole, name.as_bytes()) || whole == here))
+    }
+
+    fn answered_why<D: Disk>(
+        &self,
+        alloc: Global,
+        disk: &D,
+        entry: u64,
+        file: &str,
+        case: &Case,
+    ) -> Mem<String>
+    where
+        D::Error: Display,
+    {
+        match answer_case(alloc, disk, &self.about, case, self.multiarch, false)? {
+            Ok(answered) => why_text(alloc, &self.about, entry, file, case, &answered),
+            Err(error) => {
+                let why = load_error_text(alloc, &error)?;
+                format!(in alloc; "entry {entry}, {file}: {why}\n")
+            }
+        }
+    }
+
+    /// An entry and its outcome, and why it can or can't be cached. It fails only for want of memory.
+    pub fn why<D: Disk>(&self, alloc: Global, disk: &D, entry: u64, value: &Value) -> Mem<String>
+    where
+        D::Error: Display,
+    {
+        let file = shown_briefly(alloc, file_of(value).as_bytes())?;
+        match self.case_of(alloc, value)? {
+            Ok(case) => self.answered_why(alloc, disk, entry, file_of(value), &case),
+            Err(error) => format!(in alloc; "entry {entry}, {file}: {error}\n"),
         }
     }
 

@@ -194,6 +194,32 @@ fn push_compiled(
     }
 }
 
+/// Appends what a command line is answered.
+fn push_outcome(alloc: Global, text: &mut String, case: &Case, answered: &Answered<'_>) -> Mem<()> {
+    match &answered.answer {
+        CompilerArguments::Ok(compilation) => {
+            push_compiled(alloc, text, &case.program, compilation)?;
+            push_named(alloc, text, &answered.hazards)
+        }
+        CompilerArguments::CannotCache(reason, more) => {
+            let missing = &answered.missing_files;
+            let refusal = refusal_text(alloc, reason, more.as_deref(), missing)?;
+            text.push_str(refusal.as_str())
+        }
+        CompilerArguments::NotCompilation => {
+            let nothing = nothing_text(alloc, &answered.rows)?;
+            text.push_str(nothing.as_str())
+        }
+    }
+}
+
+/// What a command line is answered, in one line. It fails only for want of memory.
+pub(crate) fn outcome_text(alloc: Global, case: &Case, answered: &Answered<'_>) -> Mem<String> {
+    let mut text = String::new(alloc);
+    push_outcome(alloc, &mut text, case, answered)?;
+    Ok(text)
+}
+
 /// An entry and its outcome, in one line. It fails only for want of memory.
 pub fn entry_line(
     alloc: Global,
@@ -205,21 +231,7 @@ pub fn entry_line(
     let mut text = String::new(alloc);
     push_place(alloc, &mut text, entry, file)?;
     text.push_str(": ")?;
-    match &answered.answer {
-        CompilerArguments::Ok(compilation) => {
-            push_compiled(alloc, &mut text, &case.program, compilation)?;
-            push_named(alloc, &mut text, &answered.hazards)?;
-        }
-        CompilerArguments::CannotCache(reason, more) => {
-            let missing = &answered.missing_files;
-            let refusal = refusal_text(alloc, reason, more.as_deref(), missing)?;
-            text.push_str(refusal.as_str())?;
-        }
-        CompilerArguments::NotCompilation => {
-            let nothing = nothing_text(alloc, &answered.rows)?;
-            text.push_str(nothing.as_str())?;
-        }
-    }
+    push_outcome(alloc, &mut text, case, answered)?;
     text.push('\n')?;
     Ok(text)
 }

@@ -1,288 +1,187 @@
-//! Answers as JSON: an object in one line, whose members are in the order of their names.
+//! Answers as JSON: an object in one line, made from the rows of the description and from those of the program (docs/PROTOCOL.md, JSON).
+use crate::description::description;
 use crate::nothing::why_nothing;
-use scl_cl::{Cacheable, Compilation, CompilerArguments, Mem};
+use scl_cl::{CompilerArguments, Mem};
+use scl_describe::About;
+use scl_description::{push_maybe, push_row, push_word, push_words};
 use scl_explain::{Answered, Case, unrunnable_text};
-use scl_hazards::{Hazard, danger_name};
-use scl_reasons::sentence;
-use scl_rows::Row;
-use scl_shell::is_hidden;
-use scl_text::refusal::Refusal;
-use serde_json::{Map, Value, put};
+use scl_hazards::danger_name;
+use scl_json::{json_of, read_rows};
 use std::alloc::Global;
-use std::str;
 
-/// Puts a character after a text of JSON by its number, or by its two surrogates.
-fn push_escape(text: &mut String, code: u32) -> Mem<()> {
-    if code < 0x1_0000 {
-        return write!(text, "\\u{code:04x}");
-    }
-    let rest = code - 0x1_0000;
-    let (high, low) = (0xd800 + rest / 1024 % 1024, 0xdc00 + rest % 1024);
-    write!(text, "\\u{high:04x}\\u{low:04x}")
-}
+/// The rows whose members each answer has that is a command.
+static COMMAND: [&str; 32] = [
+    "version",
+    "ok",
+    "cacheable",
+    "arg",
+    "run",
+    "input",
+    "language",
+    "compilation-flag",
+    "double-dash-input",
+    "output",
+    "depfile",
+    "dependency",
+    "preprocessor",
+    "common",
+    "arch",
+    "unhashed",
+    "dist",
+    "hash",
+    "external-assembler",
+    "show-includes",
+    "explicit-language",
+    "profile-generate",
+    "color",
+    "no-rewrite-includes-only",
+    "too-hard",
+    "environment",
+    "hazard",
+    "danger",
+    "option",
+    "wants",
+    "response-file",
+    "missing-file",
+];
 
-/// A text of JSON, in which each character that a terminal obeys, or that hides or turns another, stands as `\u` and four digits.
-fn with_escapes(alloc: Global, json: &str) -> Mem<String> {
-    let mut text = String::new(alloc);
-    for c in json.chars() {
-        if is_hidden(c) {
-            push_escape(&mut text, u32::from(c))?;
-        } else {
-            text.push(c)?;
-        }
-    }
-    Ok(text)
-}
+/// The rows whose members each answer has that is a reason.
+static REFUSAL: [&str; 9] = [
+    "version",
+    "cannot-cache",
+    "reason",
+    "because",
+    "sentence",
+    "option",
+    "wants",
+    "response-file",
+    "missing-file",
+];
 
-/// The members of an object that is made.
-#[derive(Drop)]
-struct Members {
-    alloc: Global,
-    map: Map<String, Value>,
-}
+/// The rows whose members each answer has by which nothing is compiled.
+static NOTHING: [&str; 7] = [
+    "version",
+    "not-compilation",
+    "nothing",
+    "option",
+    "wants",
+    "response-file",
+    "missing-file",
+];
 
-impl Members {
-    fn new(alloc: Global) -> Members {
-        Members {
-            alloc,
-            map: Map::new(alloc),
-        }
-    }
+/// The rows whose members each entry has that has no answer.
+static ERROR: [&str; 3] = ["version", "entry", "error"];
 
-    fn put(&mut self, name: &str, value: Value) -> Mem<()> {
-        put(&mut self.map, self.alloc, name, value)
-    }
-
-    fn put_text(&mut self, name: &str, text: &str) -> Mem<()> {
-        let text = String::from_str(self.alloc, text)?;
-        self.put(name, Value::String(text))
-    }
-
-    fn put_flag(&mut self, name: &str, is: bool) -> Mem<()> {
-        self.put(name, Value::Bool(is))
-    }
-
-    fn put_bytes(&mut self, name: &str, bytes: &[u8]) -> Mem<()> {
-        let value = bytes_value(self.alloc, bytes)?;
-        self.put(name, value)
-    }
-
-    fn put_words(&mut self, name: &str, words: &[Vec<u8>]) -> Mem<()> {
-        let value = words_value(self.alloc, words)?;
-        self.put(name, value)
-    }
-
-    fn into_value(self) -> Value {
-        let Members { alloc: _, map } = self;
-        Value::Object(map)
-    }
-
-    fn into_line(self) -> Mem<String> {
-        let alloc = self.alloc;
-        let mut line = with_escapes(alloc, self.into_value().to_string(alloc)?.as_str())?;
-        line.push('\n')?;
-        Ok(line)
+fn firsts_of(answered: &Answered<'_>) -> &'static [&'static str] {
+    match answered.answer {
+        CompilerArguments::Ok(_) => &COMMAND,
+        CompilerArguments::CannotCache(_, _) => &REFUSAL,
+        CompilerArguments::NotCompilation => &NOTHING,
     }
 }
 
-fn hexadecimal(alloc: Global, bytes: &[u8]) -> Mem<String> {
-    let mut digits = String::new(alloc);
-    for byte in bytes {
-        write!(digits, "{byte:02x}")?;
+/// The line of JSON of these rows.
+fn line_of(alloc: Global, firsts: &[&str], text: &[u8]) -> Mem<String> {
+    let rows = read_rows(alloc, text)?;
+    let mut json = json_of(alloc, firsts, &rows)?;
+    json.push(b'\n')?;
+    String::from_utf8_lossy(alloc, &json)
+}
+
+/// Appends the row of a hazard: its name, its danger, and what happens.
+fn push_danger<'t>(
+    text: &mut Vec<u8>,
+    name: &'t [u8],
+    danger: &'t [u8],
+    consequence: &'t [u8],
+) -> Mem<()> {
+    push_row(text, "danger", &[name, danger, consequence])
+}
+
+/// Appends a row for each hazard, with what happens.
+fn push_dangers(text: &mut Vec<u8>, answered: &Answered<'_>) -> Mem<()> {
+    for hazard in &answered.hazards {
+        let danger = danger_name(hazard.danger()).as_bytes();
+        push_danger(text, hazard.name(), danger, hazard.consequence())?;
     }
-    Ok(digits)
+    Ok(())
 }
 
-/// Bytes: a text where they are UTF-8, else an object with their hexadecimal digits.
-fn bytes_value(alloc: Global, bytes: &[u8]) -> Mem<Value> {
-    match str::from_utf8(bytes) {
-        Ok(text) => Ok(Value::String(String::from_str(alloc, text)?)),
-        Err(_) => {
-            let mut members = Members::new(alloc);
-            let digits = hexadecimal(alloc, bytes)?;
-            members.put("hex", Value::String(digits))?;
-            Ok(members.into_value())
-        }
-    }
-}
-
-fn words_value(alloc: Global, words: &[Vec<u8>]) -> Mem<Value> {
-    let mut items = Vec::new(alloc);
-    for word in words {
-        items.push(bytes_value(alloc, word)?)?;
-    }
-    Ok(Value::Array(items))
-}
-
-fn runs_value(alloc: Global, runs: &[Vec<Vec<u8>>]) -> Mem<Value> {
-    let mut items = Vec::new(alloc);
-    for run in runs {
-        items.push(words_value(alloc, run)?)?;
-    }
-    Ok(Value::Array(items))
-}
-
-fn put_refusal(members: &mut Members, refusal: &Refusal) -> Mem<()> {
-    match refusal {
-        Refusal::CannotCache(reason, _) => members.put_text("reason", reason),
-        Refusal::NotCompilation => members.put_text("reason", "not-compilation"),
-    }
-}
-
-fn row_value(alloc: Global, row: &Row) -> Mem<Value> {
-    let mut members = Members::new(alloc);
-    members.put_words("words", &row.given)?;
-    members.put_text("kind", row.kind.as_str())?;
-    members.put_text("goes_to", row.destination.name())?;
-    members.put_text("origin", row.origin.name())?;
-    members.put_words("printed", &row.printed)?;
-    if let Some(flag) = row.flag {
-        members.put_text("flag", flag)?;
-    }
-    if let Some(value) = &row.value {
-        members.put_bytes("value", value)?;
-    }
-    if let Some(refusal) = &row.refusal {
-        put_refusal(&mut members, refusal)?;
-    }
-    Ok(members.into_value())
-}
-
-fn rows_value(alloc: Global, rows: &[Row]) -> Mem<Value> {
-    let mut items = Vec::new(alloc);
-    for row in rows {
-        items.push(row_value(alloc, row)?)?;
-    }
-    Ok(Value::Array(items))
-}
-
-fn output_value(alloc: Global, path: &[u8], optional: bool) -> Mem<Value> {
-    let mut members = Members::new(alloc);
-    members.put_flag("optional", optional)?;
-    members.put_bytes("path", path)?;
-    Ok(members.into_value())
-}
-
-fn outputs_value(alloc: Global, compilation: &Compilation) -> Mem<Value> {
-    let mut members = Members::new(alloc);
-    for (name, output) in compilation.parsed.outputs.iter() {
-        let value = output_value(alloc, &output.path, output.optional)?;
-        members.put(name.as_str(), value)?;
-    }
-    Ok(members.into_value())
-}
-
-fn hazard_value(alloc: Global, hazard: &Hazard<'_>) -> Mem<Value> {
-    let mut members = Members::new(alloc);
-    members.put_bytes("consequence", hazard.consequence())?;
-    members.put_text("danger", danger_name(hazard.danger()))?;
-    members.put_bytes("name", hazard.name())?;
-    Ok(members.into_value())
-}
-
-fn hazards_value(alloc: Global, hazards: &[Hazard<'_>]) -> Mem<Value> {
-    let mut items = Vec::new(alloc);
-    for hazard in hazards {
-        items.push(hazard_value(alloc, hazard)?)?;
-    }
-    Ok(Value::Array(items))
-}
-
-fn put_compilation(members: &mut Members, compilation: &Compilation) -> Mem<()> {
-    let alloc = members.alloc;
-    let parsed = &compilation.parsed;
-    let language = format!(in alloc; "{:?}", parsed.language)?;
-    members.put_words("command", &compilation.command.arguments)?;
-    members.put_words("hash_files", &parsed.extra_hash_files)?;
-    members.put_bytes("input", &parsed.input)?;
-    members.put("language", Value::String(language))?;
-    members.put("outputs", outputs_value(alloc, compilation)?)
-}
-
-/// Why no process can be given a command, where that is so.
-fn put_unrunnable(members: &mut Members, program: &[u8], compilation: &Compilation) -> Mem<()> {
-    match unrunnable_text(members.alloc, program, &compilation.command.arguments)? {
-        Some(text) => members.put_text("unrunnable", text.as_str()),
-        None => Ok(()),
-    }
-}
-
-/// How the answer ends: with hazards, or why there is no command.
-fn put_outcome(members: &mut Members, case: &Case, answered: &Answered<'_>) -> Mem<()> {
+/// Appends what no description says of how the command line is answered.
+fn push_ending(alloc: Global, text: &mut Vec<u8>, case: &Case, answered: &Answered<'_>) -> Mem<()> {
     match &answered.answer {
         CompilerArguments::Ok(compilation) => {
-            members.put_text("outcome", "ok")?;
-            members.put_flag("cacheable", compilation.cacheable == Cacheable::Yes)?;
-            put_unrunnable(members, &case.program, compilation)?;
-            let hazards = hazards_value(members.alloc, &answered.hazards)?;
-            members.put("hazards", hazards)
+            let words = &compilation.command.arguments;
+            let why = unrunnable_text(alloc, &case.program, words)?;
+            let why = why.as_deref().map(str::as_bytes);
+            push_maybe(text, "unrunnable", why)
         }
-        CompilerArguments::CannotCache(reason, more) => {
-            members.put_text("outcome", "cannot-cache")?;
-            members.put_text("reason", reason)?;
-            members.put_text("sentence", sentence(reason))?;
-            match more {
-                Some(more) => members.put_text("detail", more.as_str()),
-                None => Ok(()),
-            }
-        }
+        CompilerArguments::CannotCache(_, _) => Ok(()),
         CompilerArguments::NotCompilation => {
-            members.put_text("outcome", "not-compilation")?;
-            members.put_text("reason", why_nothing(&answered.rows))
+            push_word(text, "nothing", why_nothing(&answered.rows).as_bytes())
         }
     }
 }
 
-/// What is asked about, and how the answer ends.
-fn outcome_members(alloc: Global, case: &Case, answered: &Answered<'_>) -> Mem<Members> {
-    let mut members = Members::new(alloc);
-    members.put_text("compiler", case.compiler.name())?;
-    members.put_bytes("directory", &case.cwd)?;
-    members.put_bytes("program", &case.program)?;
-    members.put_words("missing_files", &answered.missing_files)?;
-    members.put_words("response_files", &answered.response_files)?;
-    put_outcome(&mut members, case, answered)?;
-    Ok(members)
+/// Appends the rows of the program: what is asked about, what was read, and sentences for people.
+fn push_own_rows(
+    alloc: Global,
+    text: &mut Vec<u8>,
+    case: &Case,
+    answered: &Answered<'_>,
+) -> Mem<()> {
+    push_word(text, "compiler", case.compiler.name().as_bytes())?;
+    push_word(text, "program", &case.program)?;
+    push_word(text, "directory", &case.cwd)?;
+    push_words(text, "response-file", &answered.response_files)?;
+    push_words(text, "missing-file", &answered.missing_files)?;
+    push_dangers(text, answered)?;
+    push_ending(alloc, text, case, answered)
 }
 
-/// The same, with what was read, the command and the runs of the preprocessor.
-fn members_of(alloc: Global, case: &Case, answered: &Answered<'_>) -> Mem<Members> {
-    let mut members = outcome_members(alloc, case, answered)?;
-    if let CompilerArguments::Ok(compilation) = &answered.answer {
-        put_compilation(&mut members, compilation)?;
-        members.put("preprocessor", runs_value(alloc, &answered.runs)?)?;
+/// The answer to a command line. It fails only for want of memory.
+pub(crate) fn answer_line(
+    alloc: Global,
+    about: &About<'_>,
+    case: &Case,
+    answered: &Answered<'_>,
+) -> Mem<String> {
+    let mut text = description(alloc, about, case, answered)?;
+    push_own_rows(alloc, &mut text, case, answered)?;
+    line_of(alloc, firsts_of(answered), &text)
+}
+
+/// Appends the rows of an entry: its number, and the file that it names, if it names one.
+fn push_entry(alloc: Global, text: &mut Vec<u8>, entry: u64, file: &str) -> Mem<()> {
+    let number = format!(in alloc; "{entry}")?;
+    push_word(text, "entry", number.as_bytes())?;
+    if file.is_empty() {
+        Ok(())
+    } else {
+        push_word(text, "file", file.as_bytes())
     }
-    Ok(members)
-}
-
-/// The hazards of a command line. It fails only for want of memory.
-pub fn check_line(alloc: Global, case: &Case, answered: &Answered<'_>) -> Mem<String> {
-    outcome_members(alloc, case, answered)?.into_line()
 }
 
 /// The answer to an entry of a database. It fails only for want of memory.
-pub fn answer_line(alloc: Global, entry: u64, case: &Case, answered: &Answered<'_>) -> Mem<String> {
-    let mut members = members_of(alloc, case, answered)?;
-    members.put("entry", Value::from(entry))?;
-    members.into_line()
-}
-
-/// The answer to a command line, with what became of each option. It fails only for want of memory.
-pub fn explanation_line(
+pub(crate) fn entry_line(
     alloc: Global,
+    about: &About<'_>,
+    entry: u64,
+    file: &str,
     case: &Case,
     answered: &Answered<'_>,
-    rows: &[Row],
 ) -> Mem<String> {
-    let mut members = members_of(alloc, case, answered)?;
-    members.put("options", rows_value(alloc, rows)?)?;
-    members.into_line()
+    let mut text = description(alloc, about, case, answered)?;
+    push_entry(alloc, &mut text, entry, file)?;
+    push_own_rows(alloc, &mut text, case, answered)?;
+    line_of(alloc, firsts_of(answered), &text)
 }
 
 /// Why an entry of a database has no answer. It fails only for want of memory.
-pub fn refused_entry_line(alloc: Global, entry: u64, why: &str) -> Mem<String> {
-    let mut members = Members::new(alloc);
-    members.put("entry", Value::from(entry))?;
-    members.put_text("error", why)?;
-    members.into_line()
+pub(crate) fn refused_entry_line(alloc: Global, entry: u64, file: &str, why: &str) -> Mem<String> {
+    let mut text = Vec::new(alloc);
+    push_word(&mut text, "version", b"1")?;
+    push_entry(alloc, &mut text, entry, file)?;
+    push_word(&mut text, "error", why.as_bytes())?;
+    line_of(alloc, &ERROR, &text)
 }

@@ -3,8 +3,11 @@
 
 mod batch;
 mod database;
+mod description;
+mod difference;
 mod digest;
 mod entry;
+mod flags;
 mod json;
 mod nothing;
 mod options;
@@ -14,9 +17,13 @@ mod paint;
 mod place;
 mod reasons;
 mod table;
+mod why;
 
-pub use batch::{Batch, ending_of_counts};
+pub use batch::{Batch, ending_of_counts, file_of};
 pub use database::{Database, DatabaseError};
+pub use difference::Compared;
 pub use entry::{EntryError, case_of_entry};
+pub use flags::flags_text;
 pub use pages::Pages;
 pub use reasons::reasons_text;
+pub use serde_json::Value as EntryValue;

@@ -10,7 +10,7 @@ use std::alloc::Global;
 static TITLES: [&str; 4] = ["words", "flag", "value", "goes to"];
 
 /// What becomes of an option that goes there.
-fn fate(destination: Destination) -> &'static str {
+pub(crate) fn fate(destination: Destination) -> &'static str {
     match destination {
         Destination::Dependency => "dependency words",
         Destination::Preprocessor => "preprocessor words",

@@ -1,16 +1,20 @@
 //! The answers to one command line, written.
-use crate::json::{check_line, explanation_line};
+use crate::json::answer_line;
 use crate::nothing::nothing_text;
 use crate::page::explanation;
 use scl_cl::Mem;
+use scl_describe::About;
 use scl_explain::{Answered, Case, Form, Report};
 use std::alloc::Global;
 
 /// Writes pages for people, and JSON for machines.
-#[derive(Clone, Copy)]
-pub struct Pages;
+#[derive(Clone, Copy, Drop)]
+pub struct Pages<'a> {
+    /// What is known of the compiler.
+    pub about: About<'a>,
+}
 
-impl Report for Pages {
+impl<'a> Report for Pages<'a> {
     fn explanation(
         &self,
         alloc: Global,
@@ -20,7 +24,7 @@ impl Report for Pages {
     ) -> Mem<String> {
         match form {
             Form::Text(paint) => explanation(alloc, case, answered, &answered.rows, paint),
-            Form::Json => explanation_line(alloc, case, answered, &answered.rows),
+            Form::Json => answer_line(alloc, &self.about, case, answered),
         }
     }
 
@@ -29,6 +33,6 @@ impl Report for Pages {
     }
 
     fn hazards(&self, alloc: Global, case: &Case, answered: &Answered<'_>) -> Mem<String> {
-        check_line(alloc, case, answered)
+        answer_line(alloc, &self.about, case, answered)
     }
 }

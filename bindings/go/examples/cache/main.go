@@ -27,8 +27,10 @@ func decision(answer *scl.Answer) string {
 	if answer.Outcome == scl.CannotCache {
 		return "run it as given: " + answer.Word("reason")
 	}
-	if keep := answer.Fields("keep"); len(keep) > 0 && len(keep[0]) > 1 {
-		return "run it as given: " + strings.Join(keep[0][1:], " ")
+	for _, keep := range answer.Fields("keep") {
+		if keep[0] != "yes" {
+			return "run it as given: " + strings.Join(keep[1:], " ")
+		}
 	}
 	names := answer.Words("key")
 	if !answer.IsCacheable || len(names) == 0 {

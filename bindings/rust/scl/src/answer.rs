@@ -105,7 +105,10 @@ impl<'a> Row<'a> {
         let most = match self.name() {
             b"key" => return self.key().is_known(),
             b"keep" => {
-                return self.fields().count() == 3 && self.fields().next().as_deref() == Some(b"no")
+                return matches!(
+                    (self.fields().next().as_deref(), self.fields().count()),
+                    (Some(b"yes"), 1) | (Some(b"no"), 3) | (Some(b"unknown"), 2)
+                );
             }
             b"double-dash-input"
             | b"external-assembler"
@@ -201,7 +204,7 @@ impl Answer {
     pub fn is_cacheable(&self) -> bool {
         !self.has_unknown
             && self.first("cacheable").as_deref() == Some(b"yes")
-            && self.rows_named("keep").next().is_none()
+            && self.words("keep").all(|what| what.as_ref() == b"yes")
     }
 
     /// The words after the program.
@@ -236,14 +239,15 @@ impl Answer {
         self.rows_named("key").map(Row::key)
     }
 
-    /// Why nothing may be kept: pairs of a reason and a word.
+    /// Why nothing may be kept: pairs of a reason and a word. The reason is `unknown` of an option of which nothing is known.
     pub fn keep_no(&self) -> impl Iterator<Item = (Cow<'_, [u8]>, Cow<'_, [u8]>)> {
-        self.rows_named("keep").map(|row| {
-            let mut fields = row.fields().skip(1);
-            (
-                fields.next().unwrap_or_default(),
-                fields.next().unwrap_or_default(),
-            )
+        self.rows_named("keep").filter_map(|row| {
+            let mut fields = row.fields();
+            match fields.next()?.as_ref() {
+                b"yes" => None,
+                b"unknown" => Some((Cow::Borrowed(&b"unknown"[..]), fields.next()?)),
+                _ => Some((fields.next()?, fields.next()?)),
+            }
         })
     }
 
@@ -301,12 +305,15 @@ mod tests {
     fn what_is_not_known_is_not_kept() {
         assert!(told("").is_cacheable());
         assert!(told("notes a b c\nkey env A\n").is_cacheable());
+        assert!(told("key env A\nkeep yes\n").is_cacheable());
         for rows in [
             "key what A\n",
             "key env\n",
             "key env A B\n",
             "keep no hazard x\n",
             "keep not\n",
+            "keep yes x\n",
+            "keep unknown x\n",
             "hazard a b\n",
         ] {
             assert!(!told(rows).is_cacheable(), "{rows}");

@@ -47,7 +47,7 @@ fn response_file_nul_entry() -> Entry<'static>
 
 static ENTRY_AT_WORD: Entry<'static> = entry! {
     Hazard Object b"at-word"
-    b"The compiler reads the file that a word behind @ names."
+    b"The compiler reads the file that a word after @ names."
     [(Clang) (ClangCl) : {Given Any ([Raw {Begins b"@"}])}]
 };
 

@@ -132,7 +132,8 @@ fn several_device_outputs_entry() -> Entry<'static>
 static ENTRY_OUTPUT_IS_ANOTHER_FLAG: Entry<'static> = entry! {
     Hazard Object b"output-is-another-flag"
     b"Clang knows the word as a flag of its own, and the built command takes it for an output."
-    [(Clang) : {Given Last ([Flag {Is b"-o"} {Marked Joined} {Value Begins b"bject" Begins b"bjcmt-"}]) ([Kind {Is b"output"}])}]
+    [(Clang) : {Given Last ([Flag {Is b"-o"} {Marked Joined} {Value Begins b"bject"}]) ([Kind {Is b"output"}])}]
+    [(Clang) : {Given Any ([Flag {Is b"-o"} {Marked Joined} {Value Begins b"bjcmt-"}])}]
 };
 
 #[tactic(auto, unfolding(crate::specs::Part2::output_is_another_flag_entry))]
@@ -247,6 +248,7 @@ static ENTRY_FLAG_TAKES_NEXT_WORD: Entry<'static> = entry! {
     [(Gcc) (Clang) : {Given Unfollowed ([Unknown {Is b"--assert" Is b"--define-macro" Is b"--entry" Is b"--for-assembler" Is b"--for-linker" Is b"--force-link" Is b"--imacros" Is b"--include" Begins b"--include-directory" Is b"--include-prefix" Begins b"--include-with-prefix" Is b"--language" Is b"--library-directory" Is b"--output" Is b"--prefix" Is b"--specs" Is b"--undefine-macro" Is b"-T" Is b"-Tbss" Is b"-Tdata" Is b"-Ttext" Is b"-e" Is b"-l" Is b"-specs" ; Holds b"="}]) ([Option {Begins b""} {Marked Stays}])}]
     [(Gcc) : {Given Unfollowed ([Unknown {Is b"--dump" Is b"--dumpbase" Is b"--dumpbase-ext" Is b"--dumpdir" Is b"--output-pch=" Is b"-Hd" Is b"-Hf" Is b"-J" Is b"-R" Is b"-Xf" Is b"-auxbase" Is b"-d" Is b"-dumpbase" Is b"-dumpbase-ext" Is b"-dumpdir" Is b"-fintrinsic-modules-path" Is b"-gnatO" Is b"-h" Is b"-imultiarch" Is b"-wrapper"}]) ([Option {Begins b""} {Marked Stays}])}]
     [(Clang) : {Given Unfollowed ([Unknown {Is b"--analyzer-output" Is b"--classpath" Is b"--config" Is b"-Xanalyzer" Begins b"-Xarch_" Begins b"-Xcuda-" Begins b"-Xopenmp-target" Is b"-Xparser" Is b"-allowable_client" Is b"-arcmt-migrate-report-output" Is b"-bundle_loader" Is b"-c-isystem" Is b"-ccc-arcmt-migrate" Is b"-ccc-gcc-name" Is b"-ccc-install-dir" Is b"-ccc-objcmt-migrate" Is b"-client_name" Is b"-compatibility_version" Is b"-current_version" Is b"-cxx-isystem" Is b"-dylib_file" Is b"-dylinker_install_name" Is b"-exported_symbols_list" Is b"-fexec-charset" Is b"-filelist" Is b"-force_load" Is b"-framework" Is b"-ftrapv-handler" Is b"-fxray-instruction-threshold" Is b"-gen-cdb-fragment-path" Is b"-iframeworkwithsysroot" Is b"-image_base" Is b"-init" Is b"-iwithsysroot" Is b"-meabi" Is b"-mthread-model" Begins b"-multiply_defined" Is b"-pagezero_size" Is b"-read_only_relocs" Begins b"-reexport_" Is b"-resource-dir" Is b"-rpath" Begins b"-sect" Begins b"-seg_addr_table" Is b"-segaddr" Is b"-segcreate" Is b"-segprot" Begins b"-segs_read_" Is b"-serialize-diagnostics" Is b"-stdlib++-isystem" Begins b"-sub_" Is b"-umbrella" Is b"-unexported_symbols_list" Begins b"-weak_" ; Is b"-Xarch_host"}]) ([Option {Begins b""} {Marked Stays}])}]
+    [(Clang until 16 0) : {Given Unfollowed ([Unknown {Is b"-fxray-instruction-threshold=" Is b"-fxray-instrumentation-bundle=" Is b"-fxray-modes="}]) ([Option {Begins b""} {Marked Stays}])}]
     [(Clang) : {Given Any ([Flag {Is b"-u"} {Marked Joined} {Value Is b"ndefined" Is b"mbrella" Is b"nexported_symbols_list"}])}]
     [(ClangCl) : {Given Any ([Unknown {Is b"-link"}])}]
     [(ClangCl) : {Given Unfollowed (part_4 CL_TAKING_NEXT) ([Option {Begins b""} {Marked Stays}])}]
@@ -261,7 +263,7 @@ fn flag_takes_next_word_entry() -> Entry<'static>
 
 static ENTRY_HOST_FLAG_TAKES_NEXT_WORD: Entry<'static> = entry! {
     Hazard Object b"host-flag-takes-next-word"
-    b"Clang takes the word behind -Xarch_host as a flag for the host, and the built command has another word there."
+    b"Clang takes the word after -Xarch_host as a flag for the host, and the built command has another word there."
     [(Clang) : {Given Unfollowed ([Unknown {Is b"-Xarch_host"}]) ([Option {Begins b""} {Marked Stays}] [Flag {Begins b"" ; Is b"-o" Is b"-x"} {Marked Joined}])}]
     [(Clang until 22 0) : {Given Unfollowed ([Unknown {Is b"-Xarch_host"}]) ([Option {Begins b""} {Marked Stays}])} {Given Before ([Unknown {Is b"-Xarch_host"}]) ([Unknown {Begins b"-O"}])}]
     [(Clang) : {Given Unfollowed ([Unknown {Is b"-Xarch_host"}]) ([Option {Begins b""} {Marked Stays}])} {Given Before ([Unknown {Is b"-Xarch_host"}]) ([Unknown {Begins b"" ; Begins b"-O" Begins b"-W" Begins b"-f" Begins b"-g" Begins b"-march=" Is b"-pthread" Is b"-w"}] [Flag {Is b"--param" Is b"--target" Is b"-A" Is b"-B" Is b"-G" Is b"-L" Is b"-V" Is b"-Xassembler" Is b"-Xclang" Is b"-Xlinker" Is b"-add-plugin" Is b"-arch" Is b"-aux-info" Is b"-b" Is b"-fdebug-compilation-dir" Is b"-gcc-toolchain" Is b"-install_name" Is b"-load" Is b"-mllvm" Is b"-mmlir" Is b"-target" Is b"-u" Is b"-z"}])}]

@@ -48,7 +48,7 @@ fn value_printed_apart_entry() -> Entry<'static>
 
 static ENTRY_DELIMITER_DROPPED: Entry<'static> = entry! {
     Hazard Failure b"delimiter-dropped"
-    b"The built command lacks the delimiter behind a flag with an empty value."
+    b"The built command lacks the delimiter after a flag with an empty value."
     [(Clang) : {Given Any ([Flag {Begins b"" ; Is b"-Wp" Is b"-std" Is b"-fdiagnostics-color"} {Marked DelimiterDropped}])}]
     [(Clang) (ClangCl) : {Inner Any ([Flag {Begins b"" ; Is b"-Wp" Is b"-fdiagnostics-color"} {Marked DelimiterDropped}])}]
     [(Clang) : {Given Before (part_1 NO_STANDARD) (part_1 KNOWN_STANDARD)}]
@@ -146,7 +146,7 @@ fn trigraphs_before_standard_entry() -> Entry<'static>
 
 static ENTRY_TWO_TARGETS: Entry<'static> = entry! {
     Hazard SideFile b"two-targets"
-    b"The dependency file names the last target alone."
+    b"The dependency file names only the last target."
     [(Gcc) (Clang) : {Is Preprocessed} {Given Any (part_2 NEED)} {Given Two (part_2 TARGET)}]
 };
 

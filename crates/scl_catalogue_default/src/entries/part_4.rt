@@ -1,7 +1,7 @@
 //! Entries of the catalogue that is built in; `catalogue/build` writes them.
 ghost use Rattle.std.specs.Prelude.{◌≡◌, map};
 ghost use Rattle.scl_catalogue.specs.Views.{entry_of};
-ghost use Rattle.scl_catalogue_default.specs.Part4.{color_value_unknown_entry, unused_words_for_assembler_entry, unused_dependency_words_entry, unused_words_block_entry, diagnostics_file_entry, remarks_file_entry, diagnostics_file_dropped_entry, color_forgotten_entry, c_as_cxx_unsaid_entry, inner_input_entry, inner_value_at_entry, inner_response_file_entry, response_file_in_environment_entry, environment_split_otherwise_entry, nested_response_file_entry, response_file_quoting_entry, object_beside_input_entry, hidden_output_entry, part_4};
+ghost use Rattle.scl_catalogue_default.specs.Part4.{color_value_unknown_entry, unused_words_for_assembler_entry, unused_dependency_words_entry, unused_words_block_entry, diagnostics_file_entry, remarks_file_entry, diagnostics_file_dropped_entry, color_forgotten_entry, c_as_cxx_unsaid_entry, unused_words_said_entry, inner_input_entry, inner_value_at_entry, inner_response_file_entry, response_file_in_environment_entry, environment_split_otherwise_entry, nested_response_file_entry, response_file_quoting_entry, object_beside_input_entry, part_4};
 
 use scl_catalogue::Entry;
 
@@ -50,8 +50,8 @@ fn unused_dependency_words_entry() -> Entry<'static>
 static ENTRY_UNUSED_WORDS_BLOCK: Entry<'static> = entry! {
     Hazard Failure b"unused-words-block"
     b"Words leave or enter the block in which clang lets unused words pass."
-    [(Clang) : {Given Any (part_3 UNUSED_BLOCK)} {Given Last (part_3 UNUSED_FATAL) (part_3 UNUSED_NOT_FATAL)} {not Given Any (part_3 SILENT_UNUSED)} {not Given Last (part_3 UNUSED_OFF) (part_3 UNUSED_ON)}]
-    [(Clang) : {Given Any (part_3 UNUSED_BLOCK)} {Given Last (part_3 FATAL) (part_3 NOT_FATAL)} {not Given Any (part_3 SILENT_UNUSED)} {not Given Last (part_3 UNUSED_OFF) (part_3 UNUSED_ON)} {not Given Any (part_3 UNUSED_FATAL)} {not Given Any (part_3 UNUSED_NOT_FATAL)}]
+    [(Clang) : {Given Any (part_4 UNUSED_BLOCK)} {Given Last (part_3 UNUSED_FATAL) (part_3 UNUSED_NOT_FATAL)} {not Given Any (part_3 SILENT_UNUSED)} {not Given Last (part_3 UNUSED_OFF) (part_3 UNUSED_ON)}]
+    [(Clang) : {Given Any (part_4 UNUSED_BLOCK)} {Given Last (part_3 FATAL) (part_3 NOT_FATAL)} {not Given Any (part_3 SILENT_UNUSED)} {not Given Last (part_3 UNUSED_OFF) (part_3 UNUSED_ON)} {not Given Any (part_3 UNUSED_FATAL)} {not Given Any (part_3 UNUSED_NOT_FATAL)}]
 };
 
 #[tactic(auto, unfolding(crate::specs::Part4::unused_words_block_entry))]
@@ -64,14 +64,14 @@ fn unused_words_block_entry() -> Entry<'static>
 static ENTRY_DIAGNOSTICS_FILE: Entry<'static> = entry! {
     Hazard SideFile b"diagnostics-file"
     b"The file of diagnostics holds other warnings, or in another order."
-    [(Clang) : {Given Any (part_2 DIAGNOSTICS_FILE)} {At Language Is b"assembler"}]
-    [(Clang) : {Given Any (part_2 DIAGNOSTICS_FILE)} {Is Plusplus} {At Extension Is b"c"} {not Given Any (part_1 LANGUAGE)}]
-    [(Clang) : {Given Any (part_2 DIAGNOSTICS_FILE)} {Given Any (part_2 NEED)} {not Given Any (part_2 DEPENDENCY_RULES)}]
-    [(Clang) : {Given Any (part_2 DIAGNOSTICS_FILE)} {Given Any (part_2 TARGET)} {not Given Any (part_2 NEED)}]
-    [(Clang) : {Given Any (part_2 DIAGNOSTICS_FILE)} {Given Before ([Unknown {Begins b""}] [Kind {Is b"pass-through" Is b"pass-through-path"}]) ([Flag {Is b"-imultilib" Is b"-stdlib"}])}]
-    [(Clang) : {Given Any (part_2 DIAGNOSTICS_FILE)} {Given Before (part_3 UNUSED) ([Flag {Is b"-fno-working-directory" Is b"-remap"}])}]
-    [(Clang) : {Given Any (part_2 DIAGNOSTICS_FILE)} {Given Before (part_3 UNUSED) (part_2 DEPENDENCY_FILE)} {not Given Any (part_2 DEPENDENCY_RULES)}]
-    [(Clang) : {Given Any (part_2 DIAGNOSTICS_FILE)} {Given Before ([Kind {Is b"arch"}]) (part_3 UNUSED)} {not Is Apple}]
+    [(Clang) : {Given Any (part_3 DIAGNOSTICS_FILE)} {At Language Is b"assembler"}]
+    [(Clang) : {Given Any (part_3 DIAGNOSTICS_FILE)} {Is Plusplus} {At Extension Is b"c"} {not Given Any (part_1 LANGUAGE)}]
+    [(Clang) : {Given Any (part_3 DIAGNOSTICS_FILE)} {Given Any (part_2 NEED)} {not Given Any (part_2 DEPENDENCY_RULES)}]
+    [(Clang) : {Given Any (part_3 DIAGNOSTICS_FILE)} {Given Any (part_2 TARGET)} {not Given Any (part_2 NEED)}]
+    [(Clang) : {Given Any (part_3 DIAGNOSTICS_FILE)} {Given Before ([Unknown {Begins b""}] [Kind {Is b"pass-through" Is b"pass-through-path"}]) ([Flag {Is b"-imultilib" Is b"-stdlib"}])}]
+    [(Clang) : {Given Any (part_3 DIAGNOSTICS_FILE)} {Given Before (part_3 UNUSED) ([Flag {Is b"-fno-working-directory" Is b"-remap"}])}]
+    [(Clang) : {Given Any (part_3 DIAGNOSTICS_FILE)} {Given Before (part_3 UNUSED) (part_2 DEPENDENCY_FILE)} {not Given Any (part_2 DEPENDENCY_RULES)}]
+    [(Clang) : {Given Any (part_3 DIAGNOSTICS_FILE)} {Given Before ([Kind {Is b"arch"}]) (part_3 UNUSED)} {not Is Apple}]
 };
 
 #[tactic(auto, unfolding(crate::specs::Part4::diagnostics_file_entry))]
@@ -134,9 +134,27 @@ fn c_as_cxx_unsaid_entry() -> Entry<'static>
     ENTRY_C_AS_CXX_UNSAID
 }
 
+static ENTRY_UNUSED_WORDS_SAID: Entry<'static> = entry! {
+    Hazard Messages b"unused-words-said"
+    b"Clang warns of other words as unused."
+    [(Clang) : {At Language Is b"assembler"} {not Given Any (part_2 COLOR)} {not Given Any (part_3 SILENT_UNUSED)} {not Given Last (part_3 UNUSED_OFF) (part_3 UNUSED_ON)}]
+    [(Clang) : {At Language Is b"assembler"} {Given Two (part_2 COLOR)} {not Given Any (part_3 SILENT_UNUSED)} {not Given Last (part_3 UNUSED_OFF) (part_3 UNUSED_ON)}]
+    [(Clang) : {At Language Is b"assembler"} {Given Any ([Kind {Is b"diagnostics-color"} {Value Begins b"" ; Is b"always"}] [Kind {Is b"diagnostics-color-flag"}])} {not Given Any (part_3 SILENT_UNUSED)} {not Given Last (part_3 UNUSED_OFF) (part_3 UNUSED_ON)}]
+    [(Clang) : {At Language Is b"assembler"} {Given Any (part_1 SPLIT)} {not Given Any (part_3 SILENT_UNUSED)} {not Given Last (part_3 UNUSED_OFF) (part_3 UNUSED_ON)}]
+    [(Clang) : {Is Preprocessed} {Given Any (part_2 NEED)} {not Given Any (part_2 USING_TARGET)} {not Given Any (part_3 SILENT_UNUSED)} {not Given Last (part_3 UNUSED_OFF) (part_3 UNUSED_ON)}]
+    [(Clang) : {Given Any (part_2 TARGET)} {not Given Any (part_2 NEED)} {not Given Any (part_2 USING_TARGET)} {not Given Any (part_3 SILENT_UNUSED)} {not Given Last (part_3 UNUSED_OFF) (part_3 UNUSED_ON)}]
+};
+
+#[tactic(auto, unfolding(crate::specs::Part4::unused_words_said_entry))]
+fn unused_words_said_entry() -> Entry<'static>
+    ensures { entry_of result ≡ unused_words_said_entry }
+{
+    ENTRY_UNUSED_WORDS_SAID
+}
+
 static ENTRY_INNER_INPUT: Entry<'static> = entry! {
     Hazard Failure b"inner-input"
-    b"A word behind -clang: is an input of its own, and one object is named for several files."
+    b"A word after -clang: is an input of its own, and one object is named for several files."
     [(ClangCl) : {Inner Any ([Raw {Begins b""}] [Unknown {Begins b"-l" Begins b"-Wl,"}])} {not Inner Any (part_4 CL_CUT_SHORT)}]
 };
 
@@ -162,7 +180,7 @@ fn inner_value_at_entry() -> Entry<'static>
 
 static ENTRY_INNER_RESPONSE_FILE: Entry<'static> = entry! {
     Hazard Object b"inner-response-file"
-    b"A response file behind -clang: is put in place, where clang-cl takes the word for a file."
+    b"A response file after -clang: is put in place, where clang-cl takes the word for a file."
     [(ClangCl) : {Given Any ([Flag {Is b"-clang:" Is b"/clang:" Is b"-Xclang" Is b"/Xclang"} {Value Begins b"@"}])}]
 };
 
@@ -239,20 +257,6 @@ fn object_beside_input_entry() -> Entry<'static>
     ENTRY_OBJECT_BESIDE_INPUT
 }
 
-static ENTRY_HIDDEN_OUTPUT: Entry<'static> = entry! {
-    Hazard Object b"hidden-output"
-    b"The output's name begins with its only dot, which clang-cl takes for an extension."
-    [(ClangCl) : {Is HiddenInput} {not Given Any (part_4 CL_OUTPUT)}]
-    [(ClangCl) : {Given Last ([Kind {Is b"output"} {Marked HiddenValue}]) ([Kind {Is b"output"}])}]
-};
-
-#[tactic(auto, unfolding(crate::specs::Part4::hidden_output_entry))]
-fn hidden_output_entry() -> Entry<'static>
-    ensures { entry_of result ≡ hidden_output_entry }
-{
-    ENTRY_HIDDEN_OUTPUT
-}
-
 #[tactic(auto, unfolding(crate::specs::Part4::part_4))]
 pub(crate) fn part() -> [Entry<'static>; 18]
     ensures { map entry_of result ≡ part_4 }
@@ -267,6 +271,7 @@ pub(crate) fn part() -> [Entry<'static>; 18]
         diagnostics_file_dropped_entry(),
         color_forgotten_entry(),
         c_as_cxx_unsaid_entry(),
+        unused_words_said_entry(),
         inner_input_entry(),
         inner_value_at_entry(),
         inner_response_file_entry(),
@@ -275,6 +280,5 @@ pub(crate) fn part() -> [Entry<'static>; 18]
         nested_response_file_entry(),
         response_file_quoting_entry(),
         object_beside_input_entry(),
-        hidden_output_entry(),
     ]
 }

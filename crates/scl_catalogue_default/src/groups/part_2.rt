@@ -83,6 +83,13 @@ pub(crate) const ASKED_DEPENDENCIES: Group<'static> = group! {
     [Flag {Is b"-Wp" Is b"-Xpreprocessor"} {Part Is b"-M" Is b"-MM" Is b"-MD" Is b"-MMD"}]
 };
 
+pub(crate) const USING_TARGET: Group<'static> = group! {
+    b"USING_TARGET"
+    [Unknown {Begins b"--write-" Begins b"--dependencies" Begins b"--user-dependencies"}]
+    [Flag {Is b"-MD" Is b"-MMD"}]
+    [Flag {Is b"-Wp"} {Part Is b"-M" Is b"-MM" Is b"-MD" Is b"-MMD"}]
+};
+
 pub(crate) const OTHER_DEPENDENCIES: Group<'static> = group! {
     b"OTHER_DEPENDENCIES"
     [Unknown {Begins b"--write-" Begins b"--dependencies" Begins b"--user-dependencies"}]
@@ -92,9 +99,4 @@ pub(crate) const OTHER_DEPENDENCIES: Group<'static> = group! {
 pub(crate) const INNER_DEPENDENCIES: Group<'static> = group! {
     b"INNER_DEPENDENCIES"
     [Kind {Is b"need-dep-target" Is b"dep-argument-path"}]
-};
-
-pub(crate) const DIAGNOSTICS_FILE: Group<'static> = group! {
-    b"DIAGNOSTICS_FILE"
-    [Flag {Is b"--serialize-diagnostics"}]
 };

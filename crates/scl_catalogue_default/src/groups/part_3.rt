@@ -1,6 +1,11 @@
 //! Groups of the catalogue that is built in; `catalogue/build` writes them.
 use scl_catalogue::Group;
 
+pub(crate) const DIAGNOSTICS_FILE: Group<'static> = group! {
+    b"DIAGNOSTICS_FILE"
+    [Flag {Is b"--serialize-diagnostics"}]
+};
+
 pub(crate) const UNUSED: Group<'static> = group! {
     b"UNUSED"
     [Unknown {Begins b"-L" Begins b"-l"}]
@@ -85,9 +90,4 @@ pub(crate) const UNUSED_OFF: Group<'static> = group! {
 pub(crate) const UNUSED_ON: Group<'static> = group! {
     b"UNUSED_ON"
     [Unknown {Is b"-Wunused-command-line-argument" Is b"-Weverything" Is b"-Werror=unused-command-line-argument"}]
-};
-
-pub(crate) const UNUSED_BLOCK: Group<'static> = group! {
-    b"UNUSED_BLOCK"
-    [Unknown {Is b"--start-no-unused-arguments" Is b"--end-no-unused-arguments"}]
 };

@@ -1,6 +1,11 @@
 //! Groups of the catalogue that is built in; `catalogue/build` writes them.
 use scl_catalogue::Group;
 
+pub(crate) const UNUSED_BLOCK: Group<'static> = group! {
+    b"UNUSED_BLOCK"
+    [Unknown {Is b"--start-no-unused-arguments" Is b"--end-no-unused-arguments"}]
+};
+
 pub(crate) const UNKNOWN_FATAL: Group<'static> = group! {
     b"UNKNOWN_FATAL"
     [Unknown {Is b"-Werror=unknown-warning-option"}]
@@ -57,4 +62,28 @@ pub(crate) const CL_CUT_SHORT: Group<'static> = group! {
 pub(crate) const CL_PREPROCESSOR: Group<'static> = group! {
     b"CL_PREPROCESSOR"
     [Flag {Is b"-D" Is b"/D" Is b"-FI" Is b"/FI" Is b"-I" Is b"/I" Is b"-U" Is b"/U" Is b"-imsvc" Is b"/imsvc"}]
+};
+
+pub(crate) const DEBUGGING: Group<'static> = group! {
+    b"DEBUGGING"
+    [Kind {Is b"split-dwarf"}]
+    [Unknown {Begins b"-g" Is b"--debug" Begins b"--debug=" ; Is b"-g0" Begins b"-gno-" Begins b"-gen-" Begins b"-gcc" Is b"-ggdb0" Is b"-gstabs0" Is b"-gxcoff0" Is b"-gvms0"}]
+    [Flag {Is b"-gcodeview"}]
+};
+
+pub(crate) const NOT_DEBUGGING: Group<'static> = group! {
+    b"NOT_DEBUGGING"
+    [Unknown {Is b"-g0" Is b"-ggdb0" Is b"-gstabs0" Is b"-gxcoff0" Is b"-gvms0" Is b"--debug=0"}]
+};
+
+pub(crate) const COUNTING: Group<'static> = group! {
+    b"COUNTING"
+    [Kind {Is b"coverage" Is b"test-coverage" Is b"profile-generate"}]
+    [Unknown {Is b"-coverage" Begins b"-fprofile-generate=" Begins b"-fprofile-instr-generate=" Is b"-fcs-profile-generate" Begins b"-fcs-profile-generate=" Is b"-fcoverage-mapping"}]
+};
+
+pub(crate) const NOTES: Group<'static> = group! {
+    b"NOTES"
+    [Kind {Is b"coverage" Is b"test-coverage"}]
+    [Unknown {Is b"-coverage"}]
 };

@@ -1,15 +1,11 @@
-use Rattle.std.proofs.Common.{rules, ◌≡◌, ◌++◌, ◌∷◌, [], List, map, filter, refl, ap, ◌∙◌}
+use Rattle.std.proofs.Common.{rules, ◌≡◌, ◌++◌, List, map, filter, ap, ◌∙◌}
 use Rattle.scl_values.specs.Words.{words_of}
 use Rattle.scl_text.specs.Records.{Artifact, Parsed, parsed_of}
 use Rattle.scl_key.specs.declared.no_key.Reason.TheVariants as Reason
-use Rattle.scl_key.specs.declared.part.Output.{Output}
 use Rattle.scl_key.specs.Keys.{NoKey, hazards, is_no_file, made_paths, no_key, no_keys_by_words, repeated, unnamed}
-use Rattle.scl_key.specs.Views.{no_keys_of, outputs_of, paths_of, run_words_of}
+use Rattle.scl_key.specs.Views.{no_keys_of, paths_of, run_words_of}
+use Rattle.scl_key.proofs.PathLaws.{paths-of}
 use Rattle.scl_key.proofs.no_key.no_keys.Goals as goal
-
-paths-of : (outputs : List Output) → paths_of outputs ≡ map (λ (output : Artifact). output.path) (outputs_of outputs)
-paths-of [] = refl
-paths-of (output ∷ outputs) = ap (λ paths. output.path.items ∷ paths) (paths-of outputs)
 
 pub returns : goal.returns
 returns c =

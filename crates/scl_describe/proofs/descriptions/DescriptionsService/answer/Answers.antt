@@ -1,5 +1,5 @@
 use Rattle.std.proofs.Common.{◌≡◌, Ok}
-use Rattle.scl_catalogue.specs.Views.{catalogue_of}
+use Rattle.scl_hazards.specs.Hazards.{tables_of}
 use Rattle.scl_description.specs.Lines.{lines_of}
 use Rattle.scl_cl.specs.Drafts.{asked_by}
 use Rattle.scl_cl.specs.Requests.{request_in}
@@ -15,4 +15,4 @@ returns-in-Ok c =
     let made : request_in (lines_of lines) ≡ Ok (asked_by c.in-Ok.request) = rw (c.in-Ok.is, c.deref-2.ensures.value) at c.in_ok-request.ensures in
     let set : settings_by c.in_ok-settings.settings ≡ settings_in (lines_of bytes) = rw c.deref.ensures.value at c.in_ok-settings.ensures.settings in
     let rest : lines_of lines ≡ request_lines (lines_of bytes) = rw c.deref.ensures.value at c.in_ok-settings.ensures.request in
-    describes_bytes (catalogue_of c.args.self.now.catalogue) bytes lines c.in_ok-request_description-in-Ok.field-0.items (settings_by c.in_ok-settings.settings) (asked_by c.in-Ok.request) set rest made c.in_ok-request_description-in-Ok.ensures
+    describes_bytes (tables_of c.args.self.now.tables) bytes lines c.in_ok-request_description-in-Ok.field-0.items (settings_by c.in_ok-settings.settings) (asked_by c.in-Ok.request) set rest made c.in_ok-request_description-in-Ok.ensures

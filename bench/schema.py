@@ -1,0 +1,120 @@
+"""The schema of the JSON that `scl` writes, made of the table of its members, and whether a value is as a schema says."""
+import json
+import re
+
+TABLE = "crates/scl_json/src/members.rt"
+LINE = re.compile(r'^    "([^"]+)" "([^"]+)" (\w+) \[([^\]]*)\],$', re.M)
+TEXT = {"$ref": "#/$defs/text"}
+TEXTS = {"type": "array", "items": TEXT}
+ROWS = {"type": "array", "items": TEXTS}
+FORMS = {
+    "Number": {"type": ["integer", "null"]},
+    "Truth": {"type": ["boolean", "null"]},
+    "Yes": {"type": "boolean"},
+    "One": {"anyOf": [TEXT, {"type": "null"}]},
+    "Each": TEXTS,
+    "Rows": ROWS,
+}
+KINDS = {"object": dict, "array": list, "string": str, "integer": int, "boolean": bool, "null": type(None)}
+
+
+def members(text):
+    """The members of the table's text: row, name, form, and the names of fields."""
+    return [(row, name, form, re.findall(r'"([^"]+)"', fields)) for row, name, form, fields in LINE.findall(text)]
+
+
+def form_of(form, fields, rows):
+    """The schema of a member of this form."""
+    if form == "Named":
+        return {"enum": rows}
+    if form == "Objects":
+        named = {**{name: TEXT for name in fields}, "words": TEXTS}
+        return {"type": "array", "items": {"type": "object", "properties": named, "additionalProperties": False}}
+    return FORMS[form]
+
+
+def schema_of(text):
+    """The schema of the table's text."""
+    table = members(text)
+    properties = {}
+    for _, name, form, fields in table:
+        properties[name] = form_of(form, fields, [row for row, other, _, _ in table if other == name])
+    return {
+        "$schema": "https://json-schema.org/draft/2020-12/schema",
+        "title": "A line of scl --json",
+        "type": "object",
+        "properties": properties,
+        "required": ["version"],
+        "additionalProperties": ROWS,
+        "$defs": {
+            "text": {
+                "anyOf": [
+                    {"type": "string"},
+                    {"type": "object", "properties": {"hex": {"type": "string", "pattern": "^([0-9a-f]{2})*$"}}, "required": ["hex"], "additionalProperties": False},
+                ]
+            }
+        },
+    }
+
+
+def page(_):
+    """The lines of docs/scl.schema.json."""
+    with open(TABLE, encoding="utf-8") as it:
+        return json.dumps(schema_of(it.read()), indent=2).split("\n")
+
+
+def is_of(value, kind):
+    return isinstance(value, KINDS[kind]) and not (kind == "integer" and isinstance(value, bool))
+
+
+def breaches(value, schema, whole, where="the object"):
+    """What of a value is not as the schema says, in words: of the words of JSON Schema those that this schema has."""
+    if "$ref" in schema:
+        yield from breaches(value, whole["$defs"][schema["$ref"].rpartition("/")[2]], whole, where)
+    if "anyOf" in schema and all(any(True for _ in breaches(value, it, whole, where)) for it in schema["anyOf"]):
+        yield f"{where} is of none of the forms that it may have"
+    if "enum" in schema and value not in schema["enum"]:
+        yield f"{where} is none of {', '.join(schema['enum'])}"
+    kinds = schema.get("type", [])
+    kinds = [kinds] if isinstance(kinds, str) else kinds
+    if kinds and not any(is_of(value, it) for it in kinds):
+        yield f"{where} is no {' and no '.join(kinds)}"
+    elif isinstance(value, dict):
+        yield from member_breaches(value, schema, whole, where)
+    elif isinstance(value, list) and "items" in schema:
+        for at, item in enumerate(value):
+            yield from breaches(item, schema["items"], whole, f"{where}[{at}]")
+    elif isinstance(value, str) and not re.search(schema.get("pattern", ""), value):
+        yield f"{where} is no text of {schema['pattern']}"
+
+
+def member_breaches(value, schema, whole, where):
+    """What of an object's members is not as the schema says."""
+    for name in schema.get("required", []):
+        if name not in value:
+            yield f"{where} has no {name}"
+    others = schema.get("additionalProperties", True)
+    for name, member in value.items():
+        if name in schema.get("properties", {}):
+            yield from breaches(member, schema["properties"][name], whole, name)
+        elif others is False:
+            yield f"{where} has a member {name}"
+        elif others is not True:
+            yield from breaches(member, others, whole, name)
+
+
+def repeated(pairs):
+    """An object, whose names have to differ."""
+    if len(dict(pairs)) != len(pairs):
+        raise ValueError(f"a name stands twice: {[name for name, _ in pairs]}")
+    return dict(pairs)
+
+
+def line_breaches(line, schema):
+    """What of a line is not as the schema says."""
+    try:
+        value = json.loads(line, object_pairs_hook=repeated)
+    except ValueError as error:
+        return [f"no JSON: {error}"]
+    found = list(breaches(value, schema, schema))
+    return found if next(iter(value), None) == "version" else [*found, "version is not first"]

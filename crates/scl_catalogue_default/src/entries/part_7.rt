@@ -1,0 +1,268 @@
+//! Entries of the catalogue that is built in; `catalogue/build` writes them.
+ghost use Rattle.std.specs.Prelude.{◌≡◌, map};
+ghost use Rattle.scl_catalogue.specs.Views.{entry_of};
+ghost use Rattle.scl_catalogue_default.specs.Part7.{time_trace_entry, time_trace_in_file_entry, assembler_listing_entry, assembler_dependencies_entry, handed_listing_entry, dependencies_entry, object_of_another_option_entry, final_code_entry, final_code_beside_object_entry, declarations_for_go_entry, declarations_for_ada_entry, dumped_passes_entry, dumped_passes_elsewhere_entry, compared_code_entry, assembly_left_entry, run_times_entry, module_folder_entry, messages_in_file_entry, part_7};
+
+use scl_catalogue::Entry;
+
+static ENTRY_TIME_TRACE: Entry<'static> = entry! {
+    Effect Writes b"{object-stem}.json" b"time-trace"
+    b"It is written how long the parts of the compiler took."
+    [(ClangCl) : {Given Any ([Unknown {Is b"-ftime-trace"}])}]
+};
+
+#[tactic(auto, unfolding(crate::specs::Part7::time_trace_entry))]
+fn time_trace_entry() -> Entry<'static>
+    ensures { entry_of result ≡ time_trace_entry }
+{
+    ENTRY_TIME_TRACE
+}
+
+static ENTRY_TIME_TRACE_IN_FILE: Entry<'static> = entry! {
+    Effect Writes b"{value}" b"time-trace-in-file"
+    b"It is written how long the parts of the compiler took."
+    [(ClangCl since 16 0) : {Given Any ([Unknown {Begins b"-ftime-trace="}])}]
+};
+
+#[tactic(auto, unfolding(crate::specs::Part7::time_trace_in_file_entry))]
+fn time_trace_in_file_entry() -> Entry<'static>
+    ensures { entry_of result ≡ time_trace_in_file_entry }
+{
+    ENTRY_TIME_TRACE_IN_FILE
+}
+
+static ENTRY_ASSEMBLER_LISTING: Entry<'static> = entry! {
+    Effect Writes b"{value}" b"assembler-listing"
+    b"The assembler writes a listing."
+    [(Gcc) (Clang) : {Given Any ([Unknown {Begins b"-Wa,-a=" Begins b"-Wa,-ac=" Begins b"-Wa,-acdghlmns=" Begins b"-Wa,-acdghlnms=" Begins b"-Wa,-ad=" Begins b"-Wa,-adhl=" Begins b"-Wa,-adhlm=" Begins b"-Wa,-adhlmn=" Begins b"-Wa,-adhlms=" Begins b"-Wa,-adhlmsn=" Begins b"-Wa,-adhln=" Begins b"-Wa,-adhlnms=" Begins b"-Wa,-adhlns=" Begins b"-Wa,-adhls=" Begins b"-Wa,-aghlms=" Begins b"-Wa,-aghlns=" Begins b"-Wa,-ah=" Begins b"-Wa,-ahl=" Begins b"-Wa,-ahld=" Begins b"-Wa,-ahlds=" Begins b"-Wa,-ahlm=" Begins b"-Wa,-ahlms=" Begins b"-Wa,-ahln=" Begins b"-Wa,-ahlnd=" Begins b"-Wa,-ahlns=" Begins b"-Wa,-ahls=" Begins b"-Wa,-al=" Begins b"-Wa,-alh=" Begins b"-Wa,-alhd=" Begins b"-Wa,-alhms=" Begins b"-Wa,-alhs=" Begins b"-Wa,-alm=" Begins b"-Wa,-almh=" Begins b"-Wa,-alms=" Begins b"-Wa,-aln=" Begins b"-Wa,-als=" Begins b"-Wa,-amhls=" Begins b"-Wa,-an=" Begins b"-Wa,-anhl=" Begins b"-Wa,-anhlmsd=" Begins b"-Wa,-as=" Begins b"-Wa,-aslh=" Begins b"-Wa,-a,-ad,-alms=" Begins b"-Wa,-a,-ad,-ahlms=" Begins b"-Wa,-a,-ad,-aln=" Begins b"-Wa,-a,-ad,-as=" ; Holds b",-D" Holds b",-E" Holds b",-F" Holds b",-I" Holds b",-J" Holds b",-K" Holds b",-L" Holds b",-M" Holds b",-N" Holds b",-O" Holds b",-R" Holds b",-V" Holds b",-W" Holds b",-X" Holds b",-Z" Holds b",-f" Holds b",-g" Holds b",-h" Holds b",-k" Holds b",-m" Holds b",-n" Holds b",-o" Holds b",-t" Holds b",-v" Holds b",-w" Holds b",-x" Holds b",-z" Holds b",--" Holds b",@" Holds b".lst," Holds b".list," Holds b".txt," Holds b".s," Holds b".S," Holds b".asm,"}])}]
+};
+
+#[tactic(auto, unfolding(crate::specs::Part7::assembler_listing_entry))]
+fn assembler_listing_entry() -> Entry<'static>
+    ensures { entry_of result ≡ assembler_listing_entry }
+{
+    ENTRY_ASSEMBLER_LISTING
+}
+
+static ENTRY_ASSEMBLER_DEPENDENCIES: Entry<'static> = entry! {
+    Effect Writes b"{value}" b"assembler-dependencies"
+    b"The assembler writes its dependency file."
+    [(Gcc) (Clang) : {Given Any ([Unknown {Begins b"-Wa,--MD=" ; Holds b",-D" Holds b",-I" Holds b",-J" Holds b",-K" Holds b",-L" Holds b",-M" Holds b",-R" Holds b",-W" Holds b",-Z" Holds b",-a" Holds b",-f" Holds b",-g" Holds b",-m" Holds b",-n" Holds b",-o" Holds b",-v" Holds b",-w" Holds b",-x" Holds b",@" Holds b".d," Holds b".dep," Holds b".o,"}])}]
+};
+
+#[tactic(auto, unfolding(crate::specs::Part7::assembler_dependencies_entry))]
+fn assembler_dependencies_entry() -> Entry<'static>
+    ensures { entry_of result ≡ assembler_dependencies_entry }
+{
+    ENTRY_ASSEMBLER_DEPENDENCIES
+}
+
+static ENTRY_HANDED_LISTING: Entry<'static> = entry! {
+    Effect Writes b"*" b"handed-listing"
+    b"The assembler writes a file."
+    [(Gcc) (Clang) : {Given Any ([Flag {Is b"-Xassembler"} {Value Begins b"-a" Begins b"--MD" Begins b"-MD" Begins b"-o"}])}]
+};
+
+#[tactic(auto, unfolding(crate::specs::Part7::handed_listing_entry))]
+fn handed_listing_entry() -> Entry<'static>
+    ensures { entry_of result ≡ handed_listing_entry }
+{
+    ENTRY_HANDED_LISTING
+}
+
+static ENTRY_DEPENDENCIES: Entry<'static> = entry! {
+    Effect Writes b"{object-stem}.d" b"dependencies"
+    b"Dependencies are written beside the object."
+    [(Gcc) (Clang) : {Given Any ([Unknown {Is b"--write-dependencies" Is b"--write-user-dependencies"}])}]
+};
+
+#[tactic(auto, unfolding(crate::specs::Part7::dependencies_entry))]
+fn dependencies_entry() -> Entry<'static>
+    ensures { entry_of result ≡ dependencies_entry }
+{
+    ENTRY_DEPENDENCIES
+}
+
+static ENTRY_OBJECT_OF_ANOTHER_OPTION: Entry<'static> = entry! {
+    Effect Writes b"{value}" b"object-of-another-option"
+    b"The object has another name."
+    [(Gcc) (Clang) : {Given Any ([Unknown {Begins b"--output="}])}]
+};
+
+#[tactic(auto, unfolding(crate::specs::Part7::object_of_another_option_entry))]
+fn object_of_another_option_entry() -> Entry<'static>
+    ensures { entry_of result ≡ object_of_another_option_entry }
+{
+    ENTRY_OBJECT_OF_ANOTHER_OPTION
+}
+
+static ENTRY_FINAL_CODE: Entry<'static> = entry! {
+    Effect Writes b"{value}" b"final-code"
+    b"The last form of the code is written."
+    [(Gcc) : {Given Any ([Unknown {Begins b"-fdump-final-insns=" ; Is b"-fdump-final-insns=."}])}]
+};
+
+#[tactic(auto, unfolding(crate::specs::Part7::final_code_entry))]
+fn final_code_entry() -> Entry<'static>
+    ensures { entry_of result ≡ final_code_entry }
+{
+    ENTRY_FINAL_CODE
+}
+
+static ENTRY_FINAL_CODE_BESIDE_OBJECT: Entry<'static> = entry! {
+    Effect Writes b"{dump}.gkd" b"final-code-beside-object"
+    b"The last form of the code is written."
+    [(Gcc since 11 0) : {Given Any ([Unknown {Is b"-fdump-final-insns" Is b"-fdump-final-insns=."}])}]
+};
+
+#[tactic(auto, unfolding(crate::specs::Part7::final_code_beside_object_entry))]
+fn final_code_beside_object_entry() -> Entry<'static>
+    ensures { entry_of result ≡ final_code_beside_object_entry }
+{
+    ENTRY_FINAL_CODE_BESIDE_OBJECT
+}
+
+static ENTRY_DECLARATIONS_FOR_GO: Entry<'static> = entry! {
+    Effect Writes b"{value}" b"declarations-for-go"
+    b"Declarations are written for Go."
+    [(Gcc) : {Given Any ([Unknown {Begins b"-fdump-go-spec="}])}]
+};
+
+#[tactic(auto, unfolding(crate::specs::Part7::declarations_for_go_entry))]
+fn declarations_for_go_entry() -> Entry<'static>
+    ensures { entry_of result ≡ declarations_for_go_entry }
+{
+    ENTRY_DECLARATIONS_FOR_GO
+}
+
+static ENTRY_DECLARATIONS_FOR_ADA: Entry<'static> = entry! {
+    Effect Writes b"*" b"declarations-for-ada"
+    b"Declarations are written for Ada, a file for each header."
+    [(Gcc) : {Given Any ([Unknown {Is b"-fdump-ada-spec" Is b"-fdump-ada-spec-slim"}])}]
+};
+
+#[tactic(auto, unfolding(crate::specs::Part7::declarations_for_ada_entry))]
+fn declarations_for_ada_entry() -> Entry<'static>
+    ensures { entry_of result ≡ declarations_for_ada_entry }
+{
+    ENTRY_DECLARATIONS_FOR_ADA
+}
+
+static ENTRY_DUMPED_PASSES: Entry<'static> = entry! {
+    Effect Writes b"{dump}.*" b"dumped-passes"
+    b"A file for each pass shows the program."
+    [(Gcc) : {Given Any ([Unknown {Begins b"-fdump-" ; Holds b"=" Begins b"-fdump-ada-spec" Is b"-fdump-analyzer-stderr" Begins b"-fdump-final-insns" Begins b"-fdump-go-spec" Is b"-fdump-noaddr" Is b"-fdump-passes" Is b"-fdump-scos" Begins b"-fdump-unnumbered"}])}]
+    [(Gcc) : {Given Any ([Unknown {Begins b"-d" ; Holds b"=" Is b"-dA" Is b"-dD" Is b"-dH" Is b"-dI" Is b"-dM" Is b"-dN" Is b"-dP" Is b"-dU" Is b"-dp" Is b"-dx" Is b"-dumpfullversion" Is b"-dumpmachine" Is b"-dumpspecs" Is b"-dumpversion"}])}]
+};
+
+#[tactic(auto, unfolding(crate::specs::Part7::dumped_passes_entry))]
+fn dumped_passes_entry() -> Entry<'static>
+    ensures { entry_of result ≡ dumped_passes_entry }
+{
+    ENTRY_DUMPED_PASSES
+}
+
+static ENTRY_DUMPED_PASSES_ELSEWHERE: Entry<'static> = entry! {
+    Effect Writes b"*" b"dumped-passes-elsewhere"
+    b"Files show the program."
+    [(Gcc) : {Given Any ([Unknown {Begins b"-d" Begins b"--dump=" Begins b"--dumpbase=" Begins b"--dumpbase-ext=" Begins b"--dumpdir=" Begins b"-fdump-" ; Is b"-dA" Is b"-dD" Is b"-dH" Is b"-dI" Is b"-dM" Is b"-dN" Is b"-dP" Is b"-dU" Is b"-dp" Is b"-dx" Is b"-dumpfullversion" Is b"-dumpmachine" Is b"-dumpspecs" Is b"-dumpversion" Begins b"-fdump-ada-spec" Is b"-fdump-analyzer-stderr" Begins b"-fdump-final-insns" Begins b"-fdump-go-spec" Is b"-fdump-noaddr" Is b"-fdump-passes" Is b"-fdump-scos" Begins b"-fdump-unnumbered"}])}]
+};
+
+#[tactic(auto, unfolding(crate::specs::Part7::dumped_passes_elsewhere_entry))]
+fn dumped_passes_elsewhere_entry() -> Entry<'static>
+    ensures { entry_of result ≡ dumped_passes_elsewhere_entry }
+{
+    ENTRY_DUMPED_PASSES_ELSEWHERE
+}
+
+static ENTRY_COMPARED_CODE: Entry<'static> = entry! {
+    Effect Writes b"{object-stem}.*" b"compared-code"
+    b"The input is compiled twice, and files of the second time may stay."
+    [(Gcc) : {Given Any ([Unknown {Is b"-fcompare-debug" Begins b"-fcompare-debug="}])}]
+};
+
+#[tactic(auto, unfolding(crate::specs::Part7::compared_code_entry))]
+fn compared_code_entry() -> Entry<'static>
+    ensures { entry_of result ≡ compared_code_entry }
+{
+    ENTRY_COMPARED_CODE
+}
+
+static ENTRY_ASSEMBLY_LEFT: Entry<'static> = entry! {
+    Effect Writes b"{object-stem}.s" b"assembly-left"
+    b"The assembler's text stays."
+    [(Gcc) : {Given Any ([Unknown {Is b"-fwpa" Begins b"-fwpa="}])}]
+};
+
+#[tactic(auto, unfolding(crate::specs::Part7::assembly_left_entry))]
+fn assembly_left_entry() -> Entry<'static>
+    ensures { entry_of result ≡ assembly_left_entry }
+{
+    ENTRY_ASSEMBLY_LEFT
+}
+
+static ENTRY_RUN_TIMES: Entry<'static> = entry! {
+    Effect Writes b"{value}*" b"run-times"
+    b"A line is added to the file at each run."
+    [(Gcc) : {Given Any ([Unknown {Begins b"-time="}])}]
+    [(Clang) (ClangCl) : {Given Any ([Unknown {Begins b"-fproc-stat-report="}])}]
+};
+
+#[tactic(auto, unfolding(crate::specs::Part7::run_times_entry))]
+fn run_times_entry() -> Entry<'static>
+    ensures { entry_of result ≡ run_times_entry }
+{
+    ENTRY_RUN_TIMES
+}
+
+static ENTRY_MODULE_FOLDER: Entry<'static> = entry! {
+    Effect Writes b"gcm.cache/*" b"module-folder"
+    b"The header is compiled as a module."
+    [(Gcc) : {Given Any ([Unknown {Is b"-fmodule-header" Begins b"-fmodule-header="}])}]
+};
+
+#[tactic(auto, unfolding(crate::specs::Part7::module_folder_entry))]
+fn module_folder_entry() -> Entry<'static>
+    ensures { entry_of result ≡ module_folder_entry }
+{
+    ENTRY_MODULE_FOLDER
+}
+
+static ENTRY_MESSAGES_IN_FILE: Entry<'static> = entry! {
+    Effect Writes b"*" b"messages-in-file"
+    b"Messages are written in a form for programs."
+    [(Gcc) : {Given Any ([Unknown {Is b"-fdiagnostics-format=json-file" Is b"-fdiagnostics-format=sarif-file" Begins b"-fdiagnostics-add-output=" Begins b"-fdiagnostics-set-output="}])}]
+};
+
+#[tactic(auto, unfolding(crate::specs::Part7::messages_in_file_entry))]
+fn messages_in_file_entry() -> Entry<'static>
+    ensures { entry_of result ≡ messages_in_file_entry }
+{
+    ENTRY_MESSAGES_IN_FILE
+}
+
+#[tactic(auto, unfolding(crate::specs::Part7::part_7))]
+pub(crate) fn part() -> [Entry<'static>; 18]
+    ensures { map entry_of result ≡ part_7 }
+{
+    [
+        time_trace_entry(),
+        time_trace_in_file_entry(),
+        assembler_listing_entry(),
+        assembler_dependencies_entry(),
+        handed_listing_entry(),
+        dependencies_entry(),
+        object_of_another_option_entry(),
+        final_code_entry(),
+        final_code_beside_object_entry(),
+        declarations_for_go_entry(),
+        declarations_for_ada_entry(),
+        dumped_passes_entry(),
+        dumped_passes_elsewhere_entry(),
+        compared_code_entry(),
+        assembly_left_entry(),
+        run_times_entry(),
+        module_folder_entry(),
+        messages_in_file_entry(),
+    ]
+}

@@ -1,0 +1,4 @@
+pub mod Effects
+pub mod Files
+pub mod Known
+pub mod Plain

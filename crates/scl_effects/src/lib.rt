@@ -1,0 +1,13 @@
+//! What a compiler reads, writes, asks and loads beside what a record names, and whether that is known of each option.
+#![tactic(auto)]
+
+mod effect;
+mod file;
+mod known;
+mod plain;
+mod told;
+
+pub use effect::Effect;
+pub use known::unknown_of;
+pub use plain::{PlainNames, PlainRow};
+pub use told::effects_among;

@@ -1,0 +1,138 @@
+//! What entries tell of a line.
+ghost use Rattle.std.specs.Prelude.{◌≡◌, ◌++◌, map, IfOk, OnOk};
+ghost use Rattle.std.specs.List.{flat_map};
+ghost use Rattle.scl_catalogue.specs.Views.{entry_of, line_of, seen_of, tells_of};
+ghost use Rattle.scl_effects.specs.Effects.{behind_equals, effect_of, effects_among, effects_by, effects_told, value_of, value_spoken, values_spoken};
+
+use crate::effect::{Effect, effect_of};
+use crate::file::has_value;
+use scl_catalogue::{Entry, Level, Line, Seen, Standing, Tells, Verb};
+use scl_values::Mem;
+use std::alloc::Global;
+
+/// What stands after the first `=`.
+fn behind_equals(word: &[u8]) -> &[u8]
+    ensures { result.now ≡ behind_equals word.now }
+{
+    for (at, byte) in word.iter().enumerate() {
+        if *byte == b'=' {
+            return &word[at + 1..];
+        }
+    }
+    &[]
+}
+
+/// The value of an option.
+fn value_of<'a>(option: &Seen<'a>) -> &'a [u8]
+    ensures { result.now ≡ value_of (seen_of option.now) }
+{
+    match option.standing {
+        Standing::Raw | Standing::Known => option.value,
+        Standing::Unknown => behind_equals(option.name),
+    }
+}
+
+/// Appends the value of the option if the entry speaks of it.
+fn push_value<'a>(
+    values: &mut Vec<&'a [u8]>,
+    line: &Line<'_>,
+    entry: &Entry<'_>,
+    level: Level,
+    option: &Seen<'a>,
+) -> Mem<()>
+    ensures { OnOk result (map (λ value. value.now) values.new.items ≡ map (λ value. value.now) values.old.items ++ value_spoken (line_of line.now) (entry_of entry.now) level (seen_of option.now)) }
+{
+    if entry.speaks_of(line.compiler, line.version, level, option) {
+        values.push(value_of(option))?;
+    }
+    Ok(())
+}
+
+/// Appends the values of these options that the entry speaks of.
+fn push_values<'a>(
+    values: &mut Vec<&'a [u8]>,
+    line: &Line<'_>,
+    entry: &Entry<'_>,
+    level: Level,
+    options: &[Seen<'a>],
+) -> Mem<()>
+    ensures { OnOk result (map (λ value. value.now) values.new.items ≡ map (λ value. value.now) values.old.items ++ flat_map (value_spoken (line_of line.now) (entry_of entry.now) level) (map seen_of options.now)) }
+{
+    for option in options {
+        push_value(values, line, entry, level, option)?;
+    }
+    Ok(())
+}
+
+/// The values of the options that the entry speaks of.
+fn values_spoken<'a>(alloc: Global, line: &Line<'a>, entry: &Entry<'_>) -> Mem<Vec<&'a [u8]>>
+    ensures { IfOk result (λ values. map (λ value. value.now) values.items ≡ values_spoken (line_of line.now) (entry_of entry.now)) }
+{
+    let mut values = Vec::new(alloc);
+    push_values(&mut values, line, entry, Level::Outer, line.options)?;
+    push_values(&mut values, line, entry, Level::Inner, line.inner)?;
+    Ok(values)
+}
+
+/// Appends an effect for each value.
+fn push_each(
+    alloc: Global,
+    effects: &mut Vec<Effect>,
+    line: &Line<'_>,
+    verb: Verb,
+    file: &[u8],
+    values: &[&[u8]],
+) -> Mem<()>
+    ensures { OnOk result (effects.new.items ≡ effects.old.items ++ map (effect_of (line_of line.now) verb file.now) (map (λ value. value.now) values.now)) }
+{
+    for value in values {
+        let effect = effect_of(alloc, line, verb, file, value)?;
+        effects.push(effect)?;
+    }
+    Ok(())
+}
+
+/// Appends the effects of an entry that tells this one.
+fn push_effects(
+    alloc: Global,
+    effects: &mut Vec<Effect>,
+    line: &Line<'_>,
+    entry: &Entry<'_>,
+    verb: Verb,
+    file: &[u8],
+) -> Mem<()>
+    ensures { OnOk result (effects.new.items ≡ effects.old.items ++ effects_by (line_of line.now) (entry_of entry.now) verb file.now) }
+{
+    if has_value(file) {
+        let values = values_spoken(alloc, line, entry)?;
+        push_each(alloc, effects, line, verb, file, &values)
+    } else {
+        push_each(alloc, effects, line, verb, file, &[b"".as_slice()])
+    }
+}
+
+/// Appends the effects that an entry tells.
+fn push_told(
+    alloc: Global,
+    effects: &mut Vec<Effect>,
+    line: &Line<'_>,
+    entry: &Entry<'_>,
+) -> Mem<()>
+    ensures { OnOk result (effects.new.items ≡ effects.old.items ++ effects_told (line_of line.now) (entry_of entry.now) (tells_of entry.now.tells)) }
+{
+    match entry.tells {
+        Tells::Effect(verb, file) => push_effects(alloc, effects, line, entry, verb, file),
+        Tells::Hazard(_) | Tells::Reason | Tells::Plain => Ok(()),
+    }
+}
+
+/// The effects that entries tell of a line, in their order. It fails only for want of memory.
+pub fn effects_among(alloc: Global, line: &Line<'_>, entries: &[&Entry<'_>]) -> Mem<Vec<Effect>>
+    ensures { IfOk result (λ effects. effects.items ≡ effects_among (line_of line.now) (map (λ entry. entry_of entry.now) entries.now)) }
+{
+    let mut effects = Vec::new(alloc);
+    for entry in entries {
+        push_told(alloc, &mut effects, line, entry)?;
+    }
+    Ok(effects)
+}

@@ -1,0 +1,5 @@
+pub mod Texts
+pub mod Members
+pub mod MembersGiven
+pub mod Objects
+pub mod Rests

@@ -1,0 +1,11 @@
+//! Descriptions as JSON: an object with a member for each row.
+#![tactic(auto)]
+
+mod json;
+mod members;
+mod rows;
+mod text;
+mod value;
+
+pub use json::json_of;
+pub use rows::read_rows;

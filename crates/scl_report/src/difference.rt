@@ -1,0 +1,222 @@
+//! What two command lines differ in, for a person.
+use crate::description::description;
+use crate::digest::outcome_text;
+use scl_cl::Mem;
+use scl_describe::About;
+use scl_explain::{Case, answer_case, load_error_text};
+use scl_json::read_rows;
+use scl_load::Disk;
+use scl_shell::shown_words;
+use std::alloc::Global;
+use std::fmt::Display;
+use std::str;
+
+/// A command line that is compared: how it is answered, and the rows of its description.
+#[derive(Drop)]
+pub struct Compared {
+    outcome: String,
+    rows: Vec<Vec<Vec<u8>>>,
+}
+
+/// Where the field of an option's row stands that says which word it came from.
+const AT: usize = 3;
+
+/// Where the field of an option's row stands that says how many words were given.
+const COUNT: usize = 7;
+
+fn is_named(row: &[Vec<u8>], name: &str) -> bool {
+    match row.first() {
+        Some(first) => first.as_slice() == name.as_bytes(),
+        None => false,
+    }
+}
+
+fn field(row: &[Vec<u8>], at: usize) -> &[u8] {
+    match row.get(at) {
+        Some(field) => field,
+        None => b"",
+    }
+}
+
+/// Whether rows are the same, but for the field at this place.
+fn are_same(row: &[Vec<u8>], other: &[Vec<u8>], but: usize) -> bool {
+    if row.len() != other.len() {
+        return false;
+    }
+    for at in 0..row.len() {
+        if at != but && field(row, at) != field(other, at) {
+            return false;
+        }
+    }
+    true
+}
+
+fn is_in(rows: &[Vec<Vec<u8>>], row: &[Vec<u8>], but: usize) -> bool {
+    rows.iter().any(|other| are_same(other, row, but))
+}
+
+/// The number that digits write; 0 of any other text.
+fn number_of(digits: &[u8]) -> usize {
+    let mut number = 0usize;
+    for digit in digits {
+        number = number
+            .saturating_mul(10)
+            .saturating_add(usize::from(digit.saturating_sub(b'0')));
+    }
+    number
+}
+
+/// The words of an option: those that were given, and of one that the rules add those that they add.
+fn option_words(alloc: Global, row: &[Vec<u8>]) -> Mem<Vec<Vec<u8>>> {
+    let given = number_of(field(row, COUNT));
+    let count = if given == 0 { row.len() } else { given };
+    let mut words = Vec::new(alloc);
+    for word in row.iter().skip(COUNT + 1).take(count) {
+        words.push(Vec::from_slice(alloc, word)?)?;
+    }
+    Ok(words)
+}
+
+/// Appends an option: its words, where they stand, and what becomes of them.
+fn push_option(alloc: Global, text: &mut String, row: &[Vec<u8>]) -> Mem<()> {
+    let words = shown_words(alloc, &option_words(alloc, row)?)?;
+    let goes_to = shown_words(alloc, row.get(2..3).unwrap_or(&[]))?;
+    write!(text, "    {words} ({goes_to}")?;
+    if let Ok(at) = str::from_utf8(field(row, AT)) {
+        if at != "-" {
+            write!(text, ", word {at}")?;
+        }
+    }
+    text.push_str(")\n")
+}
+
+/// Appends the fields of a row behind its name.
+fn push_fields(alloc: Global, text: &mut String, row: &[Vec<u8>]) -> Mem<()> {
+    let fields = shown_words(alloc, row.get(1..).unwrap_or(&[]))?;
+    write!(text, "    {fields}\n")
+}
+
+/// Appends the options of some rows that others have not.
+fn push_options(
+    alloc: Global,
+    text: &mut String,
+    title: &str,
+    rows: &[Vec<Vec<u8>>],
+    others: &[Vec<Vec<u8>>],
+) -> Mem<()> {
+    let mut is_first = true;
+    for row in rows {
+        if is_named(row, "option") && !is_in(others, row, AT) {
+            if is_first {
+                write!(text, "options of the {title} alone:\n")?;
+                is_first = false;
+            }
+            push_option(alloc, text, row)?;
+        }
+    }
+    Ok(())
+}
+
+/// Appends the rows of this name that others have not.
+fn push_rows(
+    alloc: Global,
+    text: &mut String,
+    title: &str,
+    rows: &[Vec<Vec<u8>>],
+    others: &[Vec<Vec<u8>>],
+) -> Mem<()> {
+    let mut is_first = true;
+    for row in rows {
+        let is_of_key = is_named(row, "key") || is_named(row, "keep");
+        if is_of_key && !is_in(others, row, usize::MAX) {
+            if is_first {
+                write!(text, "key of the {title} alone:\n")?;
+                is_first = false;
+            }
+            push_fields(alloc, text, row)?;
+        }
+    }
+    Ok(())
+}
+
+/// Whether a row says that nothing may be kept.
+fn forbids(row: &[Vec<u8>]) -> bool {
+    is_named(row, "keep") && field(row, 1) != b"yes".as_slice()
+}
+
+impl Compared {
+    /// A command line on a disk; why it has no answer, if it has none. The outer error is the refusal of memory.
+    pub fn of_case<D: Disk>(
+        alloc: Global,
+        disk: &D,
+        about: &About<'_>,
+        case: &Case,
+        multiarch: bool,
+    ) -> Mem<Result<Compared, String>>
+    where
+        D::Error: Display,
+    {
+        match answer_case(alloc, disk, about, case, multiarch, true)? {
+            Ok(answered) => {
+                let text = description(alloc, about, case, &answered)?;
+                Ok(Ok(Compared {
+                    outcome: outcome_text(alloc, case, &answered)?,
+                    rows: read_rows(alloc, &text)?,
+                }))
+            }
+            Err(error) => Ok(Err(load_error_text(alloc, &error)?)),
+        }
+    }
+
+    fn has_key(&self) -> bool {
+        let rows = &self.rows;
+        rows.iter().any(|row| is_named(row, "key")) && !rows.iter().any(|row| forbids(row))
+    }
+
+    fn key(&self, alloc: Global) -> Mem<Vec<&[Vec<u8>]>> {
+        let mut key = Vec::new(alloc);
+        for row in &self.rows {
+            if is_named(row, "key") {
+                key.push(row.as_slice())?;
+            }
+        }
+        Ok(key)
+    }
+
+    /// Whether both have a key, and it is the same.
+    pub fn has_key_of(&self, alloc: Global, other: &Compared) -> Mem<bool> {
+        if !self.has_key() || !other.has_key() {
+            return Ok(false);
+        }
+        let (key, others) = (self.key(alloc)?, other.key(alloc)?);
+        let are_all_same = key
+            .iter()
+            .zip(others.iter())
+            .all(|(row, other)| are_same(row, other, usize::MAX));
+        Ok(key.len() == others.len() && are_all_same)
+    }
+
+    fn push_outcome(&self, text: &mut String, title: &str) -> Mem<()> {
+        let outcome = &self.outcome;
+        write!(text, "the {title}: {outcome}\n")
+    }
+
+    /// What differs: options, and rows of keys. It fails only for want of memory.
+    pub fn difference(&self, alloc: Global, other: &Compared) -> Mem<String> {
+        let mut text = String::new(alloc);
+        self.push_outcome(&mut text, "first")?;
+        other.push_outcome(&mut text, "second")?;
+        push_options(alloc, &mut text, "first", &self.rows, &other.rows)?;
+        push_options(alloc, &mut text, "second", &other.rows, &self.rows)?;
+        push_rows(alloc, &mut text, "first", &self.rows, &other.rows)?;
+        push_rows(alloc, &mut text, "second", &other.rows, &self.rows)?;
+        if self.has_key_of(alloc, other)? {
+            text.push_str("the keys are equal\n")?;
+        } else if self.has_key() && other.has_key() {
+            text.push_str("the keys differ\n")?;
+        } else {
+            text.push_str("there are no two keys\n")?;
+        }
+        Ok(text)
+    }
+}

@@ -1,0 +1,278 @@
+//! The flags of the compilers' tables, for a person.
+use crate::options::fate;
+use crate::table::Table;
+use scl_cl::args::{ArgDisposition, ArgRow};
+use scl_cl::{
+    CommandLine, Compiler, MOST, Mem, TooManyWords, View, clang, diab, gcc, msvc, tasking_vx,
+};
+use scl_describe::{Destination, Row, rows_of};
+use scl_shell::shown;
+use std::alloc::Global;
+use std::fmt::Debug;
+
+/// The titles of the columns.
+static TITLES: [&str; 4] = ["flag", "value", "kind", "goes to"];
+
+/// Values by which it is tried where a flag goes: a name, a language, a choice.
+static VALUES: [&str; 3] = ["x", "c", "always"];
+
+/// The compilers whose tables are told, one of each that share theirs.
+static COMPILERS: [Compiler; 5] = [
+    Compiler::Gcc,
+    Compiler::Clang,
+    Compiler::Cl,
+    Compiler::Diab,
+    Compiler::Tasking,
+];
+
+/// A flag of a table.
+#[derive(Drop)]
+struct Flag {
+    name: &'static str,
+    value: Option<ArgDisposition>,
+    kind: String,
+}
+
+/// The one of `COMPILERS` that has the compiler's tables.
+fn told_as(compiler: Compiler) -> Compiler {
+    match compiler {
+        Compiler::Gcc | Compiler::Gxx => Compiler::Gcc,
+        Compiler::Clang | Compiler::Clangxx => Compiler::Clang,
+        Compiler::Cl | Compiler::ClangCl => Compiler::Cl,
+        Compiler::Diab => Compiler::Diab,
+        Compiler::Tasking => Compiler::Tasking,
+    }
+}
+
+/// Whose the tables of such a compiler are.
+fn title(compiler: Compiler) -> &'static str {
+    match compiler {
+        Compiler::Gcc | Compiler::Gxx => "gcc, g++",
+        Compiler::Clang | Compiler::Clangxx => "clang, clang++: these, and all of gcc",
+        Compiler::Cl | Compiler::ClangCl => "cl, clang-cl: each also with / in place of -",
+        Compiler::Diab => "diab",
+        Compiler::Tasking => "tasking",
+    }
+}
+
+/// Appends the flags of a table's rows, of those that the word fits if there is one.
+fn push_rows<K: Copy + Debug + Drop>(
+    alloc: Global,
+    flags: &mut Vec<Flag>,
+    rows: &[ArgRow<K>],
+    word: Option<&[u8]>,
+) -> Mem<()> {
+    for row in rows {
+        if word.is_none_or(|word| row.fits(word)) {
+            let value = match row {
+                ArgRow::Flag(_, _) => None,
+                ArgRow::TakeArg(_, _, disposition) => Some(*disposition),
+            };
+            let kind = row.kind();
+            let kind = format!(in alloc; "{kind:?}")?;
+            flags.push(Flag {
+                name: row.flag(),
+                value,
+                kind,
+            })?;
+        }
+    }
+    Ok(())
+}
+
+/// The flags of the compiler's own table; those that the word fits, if there is one.
+fn flags_of(alloc: Global, compiler: Compiler, word: Option<&[u8]>) -> Mem<Vec<Flag>> {
+    let mut flags = Vec::new(alloc);
+    let has_slash = word.is_some_and(|word| word.starts_with(b"/"));
+    match compiler {
+        Compiler::Cl | Compiler::ClangCl if has_slash => {
+            push_rows(alloc, &mut flags, msvc::SLASH_ARGS, word)?
+        }
+        Compiler::Gcc | Compiler::Gxx => push_rows(alloc, &mut flags, gcc::ARGS, word)?,
+        Compiler::Clang | Compiler::Clangxx => push_rows(alloc, &mut flags, clang::ARGS, word)?,
+        Compiler::Cl | Compiler::ClangCl => push_rows(alloc, &mut flags, msvc::ARGS, word)?,
+        Compiler::Diab => push_rows(alloc, &mut flags, diab::ARGS, word)?,
+        Compiler::Tasking => push_rows(alloc, &mut flags, tasking_vx::ARGS, word)?,
+    }
+    Ok(flags)
+}
+
+/// How a value stands after its flag.
+fn value_text(alloc: Global, value: Option<ArgDisposition>) -> Mem<String> {
+    let (text, delimiter) = match value {
+        None => ("", None),
+        Some(ArgDisposition::Separated) => ("next word", None),
+        Some(ArgDisposition::CanBeConcatenated(delimiter)) => ("next word or joined", delimiter),
+        Some(ArgDisposition::CanBeSeparated(delimiter)) => ("joined or next word", delimiter),
+        Some(ArgDisposition::Concatenated(delimiter)) => ("joined", delimiter),
+    };
+    match delimiter {
+        Some(byte) => {
+            let delimiter = shown(alloc, &[byte])?;
+            format!(in alloc; "{text}, after {delimiter}")
+        }
+        None => String::from_str(alloc, text),
+    }
+}
+
+/// The words of the flag with a value.
+fn words_of(alloc: Global, flag: &Flag, value: &str) -> Mem<Vec<Vec<u8>>> {
+    let mut words = Vec::new(alloc);
+    let mut word = Vec::from_slice(alloc, flag.name.as_bytes())?;
+    match flag.value {
+        None => words.push(word)?,
+        Some(ArgDisposition::Separated | ArgDisposition::CanBeConcatenated(_)) => {
+            words.push(word)?;
+            words.push(Vec::from_slice(alloc, value.as_bytes())?)?;
+        }
+        Some(ArgDisposition::CanBeSeparated(delimiter) | ArgDisposition::Concatenated(delimiter)) =>
+            {
+                if let Some(byte) = delimiter {
+                    word.push(byte)?;
+                }
+                word.extend_from_slice(value.as_bytes())?;
+                words.push(word)?;
+            }
+    }
+    Ok(words)
+}
+
+/// What becomes of each option of these words.
+fn rows_read(alloc: Global, compiler: Compiler, words: &[Vec<u8>]) -> Mem<Vec<Row>> {
+    let view = View::new(alloc);
+    let line = CommandLine {
+        words,
+        directory: b"",
+        environment: &[],
+        view: &view,
+    };
+    match compiler.read(alloc, &line, MOST)? {
+        Ok(reading) => rows_of(alloc, &reading),
+        Err(TooManyWords) => Ok(Vec::new(alloc)),
+    }
+}
+
+/// Where the first of these words goes; to nothing if it is no option.
+fn destination(alloc: Global, compiler: Compiler, words: &[Vec<u8>]) -> Mem<Destination> {
+    let rows = rows_read(alloc, compiler, words)?;
+    Ok(
+        rows.first()
+            .map_or(Destination::Ignored, |row| row.destination),
+    )
+}
+
+/// Where a flag goes with the first of `VALUES` with which it is not refused.
+fn place(alloc: Global, compiler: Compiler, flag: &Flag) -> Mem<Destination> {
+    for value in VALUES {
+        let words = words_of(alloc, flag, value)?;
+        let place = destination(alloc, compiler, &words)?;
+        if place != Destination::Refused {
+            return Ok(place);
+        }
+    }
+    Ok(Destination::Refused)
+}
+
+fn titles(alloc: Global) -> Mem<Vec<String>> {
+    let mut cells = Vec::new(alloc);
+    for title in TITLES {
+        cells.push(String::from_str(alloc, title)?)?;
+    }
+    Ok(cells)
+}
+
+fn cells(alloc: Global, compiler: Compiler, flag: &Flag) -> Mem<Vec<String>> {
+    let mut cells = Vec::new(alloc);
+    let place = place(alloc, compiler, flag)?;
+    cells.push(String::from_str(alloc, flag.name)?)?;
+    cells.push(value_text(alloc, flag.value)?)?;
+    cells.push(String::from_str(alloc, flag.kind.as_str())?)?;
+    cells.push(String::from_str(alloc, fate(place))?)?;
+    Ok(cells)
+}
+
+/// Appends the flags of a compiler's table that have so many bytes or more.
+fn push_table(
+    alloc: Global,
+    text: &mut String,
+    compiler: Compiler,
+    flags: &[Flag],
+    least: usize,
+) -> Mem<()> {
+    let mut table = Table::new(alloc);
+    table.push(titles(alloc)?)?;
+    for flag in flags {
+        if flag.name.len() >= least {
+            table.push(cells(alloc, compiler, flag)?)?;
+        }
+    }
+    let title = title(compiler);
+    write!(text, "{title}:\n")?;
+    table.write(text)
+}
+
+/// Appends where a word goes that no flag of the compiler fits.
+fn push_unknown(alloc: Global, text: &mut String, compiler: Compiler, word: &[u8]) -> Mem<()> {
+    let mut words = Vec::new(alloc);
+    words.push(Vec::from_slice(alloc, word)?)?;
+    let place = destination(alloc, compiler, &words)?;
+    let (word, name, fate) = (shown(alloc, word)?, compiler.name(), fate(place));
+    write!(text, "{name} has no flag {word}: it goes to: {fate}\n")
+}
+
+/// The flags by which a word of the compiler is cut: those of its own table, and for clang those of gcc's.
+fn fitting(alloc: Global, compiler: Compiler, word: &[u8]) -> Mem<Vec<Flag>> {
+    let mut flags = flags_of(alloc, compiler, Some(word))?;
+    if compiler == Compiler::Clang {
+        push_rows(alloc, &mut flags, gcc::ARGS, Some(word))?;
+    }
+    Ok(flags)
+}
+
+/// How long the longest of them is: the one by which a word is cut that all of them fit.
+fn longest(flags: &[Flag]) -> usize {
+    let mut most = 0usize;
+    for flag in flags {
+        most = most.max(flag.name.len());
+    }
+    most
+}
+
+/// Appends the flag of which a word of the compiler is, or where it goes if it is of none.
+fn push_word(alloc: Global, text: &mut String, compiler: Compiler, word: &[u8]) -> Mem<()> {
+    let flags = fitting(alloc, compiler, word)?;
+    if flags.is_empty() {
+        return push_unknown(alloc, text, compiler, word);
+    }
+    push_table(alloc, text, compiler, &flags, longest(&flags))
+}
+
+fn push_compiler(
+    alloc: Global,
+    text: &mut String,
+    compiler: Compiler,
+    word: Option<&[u8]>,
+) -> Mem<()> {
+    match word {
+        Some(word) => push_word(alloc, text, compiler, word),
+        None => {
+            let flags = flags_of(alloc, compiler, None)?;
+            push_table(alloc, text, compiler, &flags, 0)
+        }
+    }
+}
+
+/// The flags of the tables, of one compiler or of all: each with how its value stands, its kind, and where it goes; only those
+/// that fit a word, if there is one. It fails only if memory is refused.
+pub fn flags_text(alloc: Global, compiler: Option<Compiler>, word: Option<&[u8]>) -> Mem<String> {
+    let mut text = String::new(alloc);
+    match compiler {
+        Some(compiler) => push_compiler(alloc, &mut text, told_as(compiler), word)?,
+        None => {
+            for compiler in COMPILERS {
+                push_compiler(alloc, &mut text, compiler, word)?;
+            }
+        }
+    }
+    Ok(text)
+}
