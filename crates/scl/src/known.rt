@@ -23,6 +23,7 @@ fn answer(rt: &HostRuntime, about: About<'_>, wanted: &Wanted) -> Result<Ending,
         Wanted::Diff(asked) => diff::diff(rt, about, asked),
         Wanted::Reasons => one::reasons(rt, &about.catalogue),
         Wanted::Flags(asked) => one::flags(rt, asked),
+        Wanted::Page(text) => one::page(rt, text.as_str()),
     }
 }
 

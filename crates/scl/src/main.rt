@@ -4,14 +4,17 @@
 
 mod arguments;
 mod batch;
+mod called;
 mod diff;
 mod disk;
 mod fault;
 mod file;
 mod known;
+mod man;
 mod one;
 mod options;
 mod progress;
+mod shells;
 mod texts;
 mod why;
 
@@ -41,7 +44,9 @@ fn main(rt: HostRuntime) -> ExitCode {
     match run(&rt) {
         Ok(ending) => ExitCode::from(ending.status()),
         Err(fault) => {
-            warn(&rt, &fault);
+            if !fault.is_closed() {
+                warn(&rt, &fault);
+            }
             ExitCode::from(fault.ending().status())
         }
     }

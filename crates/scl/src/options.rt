@@ -1,5 +1,8 @@
 //! The program's own command line.
+use crate::called::called;
 use crate::fault::{Fault, warn};
+use crate::man::{man_command, manual};
+use crate::shells::{completions, completions_command};
 use crate::texts;
 use clap::error::ErrorKind;
 use clap::{Arg, ArgAction, ArgMatches, Command, Error};
@@ -14,6 +17,8 @@ use std::str;
 pub struct Settings {
     /// The compiler, where one is named.
     pub compiler: Option<Compiler>,
+    /// Further names of launchers.
+    pub launchers: Vec<Vec<u8>>,
     /// Whether several architectures are allowed.
     pub multiarch: bool,
     /// Whether the runs of the preprocessor are for a distant compiler.
@@ -108,6 +113,8 @@ pub enum Wanted {
     Reasons,
     /// The flags of the compilers' tables.
     Flags(FlagArguments),
+    /// The completions for a shell, or the manual page.
+    Page(String),
 }
 
 /// What is asked about flags.
@@ -150,7 +157,7 @@ fn with_catalogue<'a>(alloc: Global, command: Command<'a>) -> Result<Command<'a>
         .long("catalogue")
         .value_name("FILE")
         .help(
-            "Take the hazards and the effects of options from this catalogue in place of the built-in one",
+            "Take what is known of compilers, their hazards and the effects of their options, from this catalogue, and not from the built-in one",
         );
     command.arg(catalogue)
 }
@@ -171,8 +178,20 @@ fn with_common<'a>(alloc: Global, command: Command<'a>) -> Result<Command<'a>, A
         .long("multiarch")
         .action(ArgAction::SetTrue)
         .help("Allow several -arch");
+    let launcher = Arg::new(alloc, "launcher")
+        .long("launcher")
+        .value_name("NAME")
+        .action(ArgAction::Append)
+        .help("Pass over programs of this name, which start the compiler; it may be given again");
     let command = with_environment(alloc, with_bound(alloc, command)?)?;
-    with_catalogue(alloc, command.arg(compiler)?.arg(multiarch)?.arg(version)?)
+    with_catalogue(
+        alloc,
+        command
+            .arg(compiler)?
+            .arg(launcher)?
+            .arg(multiarch)?
+            .arg(version)?,
+    )
 }
 
 fn with_bound<'a>(alloc: Global, command: Command<'a>) -> Result<Command<'a>, AllocError> {
@@ -342,7 +361,9 @@ fn whole_command<'a>(alloc: Global) -> Result<Command<'a>, AllocError> {
         .subcommand(flags_command(alloc)?)?
         .subcommand(why_command(alloc)?)?
         .subcommand(diff_command(alloc)?)?
-        .subcommand(reasons_command(alloc)?)
+        .subcommand(reasons_command(alloc)?)?
+        .subcommand(completions_command(alloc)?)?
+        .subcommand(man_command(alloc))
 }
 
 /// The words as text, with what is no text replaced, after the program's name.
@@ -505,9 +526,18 @@ fn variables_told(
     Ok(pairs)
 }
 
+fn launchers_named(alloc: Global, matches: &ArgMatches<'_>) -> Result<Vec<Vec<u8>>, AllocError> {
+    let mut names = Vec::new(alloc);
+    for name in matches.get_strs("launcher").unwrap_or(&[]) {
+        names.push(Vec::from_slice(alloc, name.as_bytes())?)?;
+    }
+    Ok(names)
+}
+
 fn settings_of(alloc: Global, matches: &ArgMatches<'_>) -> Result<Settings, AllocError> {
     Ok(Settings {
         compiler: compiler_named(matches),
+        launchers: launchers_named(alloc, matches)?,
         multiarch: matches.get_flag("multiarch"),
         may_dist: matches.get_flag("may-dist"),
         bound: matches.get_str("bound").and_then(number_of),
@@ -641,6 +671,15 @@ fn asked_diff(
     }
 }
 
+/// The completions for a shell; without one the manual page.
+fn page_of(alloc: Global, shell: Option<&str>) -> Result<Wanted, AllocError> {
+    let whole = whole_command(alloc)?;
+    match shell {
+        Some(shell) => Ok(Wanted::Page(completions(alloc, &whole, shell)?)),
+        None => Ok(Wanted::Page(manual(alloc, &whole)?)),
+    }
+}
+
 fn what_is_wanted(
     alloc: Global,
     arguments: &[Vec<u8>],
@@ -655,6 +694,8 @@ fn what_is_wanted(
         Some(("diff", inner)) => asked_diff(alloc, arguments, inner),
         Some(("reasons", _)) => Ok(Wanted::Reasons),
         Some(("flags", inner)) => Ok(Wanted::Flags(asked_flags(alloc, inner)?)),
+        Some(("completions", inner)) => page_of(alloc, inner.get_str("shell")),
+        Some(("man", _)) => page_of(alloc, None),
         Some(_) | None => Ok(Wanted::Done(Ending::Usage)),
     }
 }
@@ -709,22 +750,23 @@ fn mistake_line(alloc: Global, text: &str) -> Result<String, AllocError> {
 }
 
 /// Tells what is wrong with the program's own words.
-fn wrong_words(rt: &HostRuntime, what: &str) -> Result<Wanted, AllocError> {
+fn wrong_words(rt: &HostRuntime, arguments: &[Vec<u8>], what: &str) -> Result<Wanted, AllocError> {
     let what = shown(rt.alloc(), what.as_bytes())?;
-    let line = format!(in rt.alloc(); "{what} (scl --help says what there is)")?;
+    let (name, blank) = called(arguments);
+    let line = format!(in rt.alloc(); "{what} (scl {name}{blank}--help says what there is)")?;
     warn(rt, &line);
     Ok(Wanted::Done(Ending::Usage))
 }
 
 /// Tells a mistake in one line, and writes help where that was asked for.
-fn tell(rt: &HostRuntime, error: &Error) -> Result<Wanted, Fault> {
+fn tell(rt: &HostRuntime, arguments: &[Vec<u8>], error: &Error) -> Result<Wanted, Fault> {
     if error.kind() == ErrorKind::OutOfMemory {
         return Err(Fault::Memory);
     }
     if error.use_stderr() {
         let text = format!(in rt.alloc(); "{error}")?;
         let line = mistake_line(rt.alloc(), text.as_str())?;
-        return Ok(wrong_words(rt, line.as_str())?);
+        return Ok(wrong_words(rt, arguments, line.as_str())?);
     }
     error.print(rt).map_err(Fault::of_output)?;
     Ok(Wanted::Done(Ending::Answered))
@@ -740,12 +782,12 @@ pub fn read_options(rt: &HostRuntime, arguments: &[Vec<u8>]) -> Result<Options, 
     let words = shown_words(alloc, arguments)?;
     match matches_of(alloc, &words) {
         Ok(matches) => match what_is_wrong(alloc, arguments, &matches)? {
-            Some(what) => Ok(done(wrong_words(rt, what.as_str())?)),
+            Some(what) => Ok(done(wrong_words(rt, arguments, what.as_str())?)),
             None => Ok(Options {
                 wanted: what_is_wanted(alloc, arguments, &matches)?,
                 known: what_is_known(alloc, &matches)?,
             }),
         },
-        Err(error) => Ok(done(tell(rt, &error)?)),
+        Err(error) => Ok(done(tell(rt, arguments, &error)?)),
     }
 }

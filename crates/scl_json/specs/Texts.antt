@@ -1,5 +1,5 @@
 -- Values of JSON: texts, arrays and objects, as bytes.
-use Rattle.std.specs.Prelude.{ℕ, ◌+◌, ◌-◌, ◌/◌, ◌%◌, ◌==◌, ◌||◌, nat_lt, Bool, cond, codes, List, [], ◌∷◌, ◌++◌, map}
+use Rattle.std.specs.Prelude.{ℕ, ◌+◌, ◌-◌, ◌/◌, ◌%◌, ◌==◌, ◌||◌, ◌&&◌, nat_lt, nat_le, not, Bool, cond, codes, List, [], ◌∷◌, ◌++◌, map}
 use Rattle.std.specs.Char.{encode_utf8}
 use Rattle.std.specs.List.{flat_map}
 use Rattle.std.specs.Str.{chars, is_utf8}
@@ -21,6 +21,10 @@ number_escape c = cond (nat_lt c 0x1_0000) (unit_escape c) (surrogates (c - 0x1_
 -- the characters that have a meaning in a text of JSON: `"` and `\`
 abbrev pub is_mark : ℕ → Bool
 is_mark c = c == 34 || c == 92
+
+-- the characters of ASCII that stand for themselves: space to `~`, without these
+abbrev pub is_plain : ℕ → Bool
+is_plain c = nat_le 32 c && nat_le c 126 && not (is_mark c)
 
 -- a character in a text: by its number where it is hidden, behind a backslash where it has a meaning
 abbrev pub char_text : ℕ → List ℕ

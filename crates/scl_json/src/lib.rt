@@ -7,5 +7,5 @@ mod rows;
 mod text;
 mod value;
 
-pub use json::json_of;
+pub use json::{json_of, push_json};
 pub use rows::read_rows;

@@ -1,6 +1,7 @@
 //! What two command lines differ in, for a person.
 use crate::description::description;
 use crate::digest::outcome_text;
+use crate::foreign::{ForeignDisk, is_windows};
 use scl_cl::Mem;
 use scl_describe::About;
 use scl_explain::{Case, answer_case, load_error_text};
@@ -147,6 +148,22 @@ fn forbids(row: &[Vec<u8>]) -> bool {
 impl Compared {
     /// A command line on a disk; why it has no answer, if it has none. The outer error is the refusal of memory.
     pub fn of_case<D: Disk>(
+        alloc: Global,
+        disk: &D,
+        about: &About<'_>,
+        case: &Case,
+        multiarch: bool,
+    ) -> Mem<Result<Compared, String>>
+    where
+        D::Error: Display,
+    {
+        if is_windows(&case.cwd) {
+            return Compared::on_disk(alloc, &ForeignDisk, about, case, multiarch);
+        }
+        Compared::on_disk(alloc, disk, about, case, multiarch)
+    }
+
+    fn on_disk<D: Disk>(
         alloc: Global,
         disk: &D,
         about: &About<'_>,

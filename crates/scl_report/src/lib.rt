@@ -1,27 +1,31 @@
 //! Answers written as pages for people and as JSON for machines, and what is said of compile databases.
 #![tactic(auto)]
 
+mod absent;
 mod batch;
 mod database;
 mod description;
 mod difference;
 mod digest;
+mod entries;
 mod entry;
 mod flags;
+mod foreign;
 mod json;
 mod nothing;
 mod options;
 mod page;
 mod pages;
 mod paint;
-mod place;
 mod reasons;
 mod table;
 mod why;
 
+pub use absent::absent_text;
 pub use batch::{Batch, ending_of_counts, file_of};
 pub use database::{Database, DatabaseError};
 pub use difference::Compared;
+pub use entries::EntryReader;
 pub use entry::{EntryError, case_of_entry};
 pub use flags::flags_text;
 pub use pages::Pages;

@@ -1,6 +1,7 @@
 -- What the contracts of public functions cite.
 pub mod DollarQuotes
 pub mod Laws
+pub mod Operators
 pub mod Quoted
 pub mod ShellText
 pub mod Shown
