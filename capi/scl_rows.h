@@ -15,7 +15,7 @@ extern "C" {
 typedef struct scl_writer {
     char *at;
     size_t len, size;
-    bool has_failed; /* memory was refused, and the text is not whole */
+    bool has_failed; /* out of memory: the text is not whole */
 } scl_writer;
 
 /* Whether there is room for so many more bytes. */
@@ -64,7 +64,7 @@ static inline void scl_put_field(scl_writer *to, scl_bytes field, bool is_rest) 
     }
 }
 
-/* A line: its keyword, with the blank behind it, and its field. */
+/* A line: its keyword, with the blank after it, and its field. */
 static inline void scl_put_line(scl_writer *to, const char *keyword, scl_bytes field) {
     scl_put(to, keyword);
     scl_put_field(to, field, false);
@@ -312,7 +312,7 @@ static inline bool scl_has_fields(unsigned kind) { return kind >= SCL_ROW_FIELDS
 /* What of an answer stands there. */
 static inline void *scl_member(scl_answer *answer, size_t at) { return SCL_CAST(char *, answer) + at; }
 
-/* An answer before it is told. */
+/* An answer before the structs are filled. */
 static inline scl_answer scl_no_answer(void) {
     scl_answer it;
     size_t i;
@@ -328,10 +328,10 @@ static inline scl_answer scl_no_answer(void) {
     return it;
 }
 
-/* What is taken of an answer's rows: first they are counted, and then told in memory that is long enough. */
+/* What is taken of an answer's rows: first they are counted, and then written to memory that is long enough. */
 typedef struct scl_taking {
     const scl_request *request;
-    scl_bytes rows; /* behind the first one */
+    scl_bytes rows; /* after the first one */
     scl_answer answer;
     scl_room room;
     bool is_told;                  /* in the room */
@@ -340,7 +340,7 @@ typedef struct scl_taking {
     scl_sizes sizes;               /* taken so far */
     size_t counts[SCL_KNOWN_ROWS]; /* of each row */
     size_t starts[SCL_KNOWN_ROWS]; /* where the first of a list stands, in the slots or the runs */
-    size_t listed;                 /* slots of all lists; those of runs and options stand behind them */
+    size_t listed;                 /* slots of all lists; those of runs and options stand after them */
 } scl_taking;
 
 static inline scl_bytes scl_take_text(scl_taking *t, scl_bytes field) {

@@ -1,7 +1,7 @@
 //! What is known of compilers: the built-in catalogue, or one that is handed in, and the version that is told.
+use crate::asked::{KnownArguments, Wanted};
 use crate::fault::{Fault, warn};
 use crate::file::{name_of, read_file};
-use crate::options::{KnownArguments, Wanted};
 use crate::{batch, diff, one, why};
 use bumpalo::Bump;
 use scl_catalogue_default::built_in_entries;
@@ -23,6 +23,7 @@ fn answer(rt: &HostRuntime, about: About<'_>, wanted: &Wanted) -> Result<Ending,
         Wanted::Diff(asked) => diff::diff(rt, about, asked),
         Wanted::Reasons => one::reasons(rt, &about.catalogue),
         Wanted::Flags(asked) => one::flags(rt, asked),
+        Wanted::Page(text) => one::page(rt, text.as_str()),
     }
 }
 

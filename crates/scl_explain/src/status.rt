@@ -17,7 +17,7 @@ pub enum Ending {
     Different,
     /// The program's own words are wrong.
     Usage,
-    /// Memory was refused.
+    /// Out of memory.
     OutOfMemory,
     /// A file can't be read, or the answer not be written.
     FileFailed,
