@@ -4,9 +4,10 @@
 use bumpalo::Bump;
 use scl_catalogue_default::built_in_entries;
 use scl_catalogue_text::{ReadError, read};
-use scl_cl::{Counted, Outcome, serve_each};
-use scl_describe::{Catalogue, Descriptions, Entry, Tables, describe};
+use scl_cl::{Counted, Outcome, serve, serve_each};
+use scl_describe::{Catalogue, Entry, Tables};
 use scl_effects_default::plain_names;
+use scl_requests::Requests;
 use std::io::{self, ErrorKind};
 use std::process::ExitCode;
 use std::{env, fs};
@@ -89,15 +90,11 @@ fn describe_by(rt: &HostRuntime, catalogue: &Catalogue<'_>, is_batch: bool) -> u
     };
     let mut reader = Counted::new(rt.stdin());
     let mut writer = Counted::new(rt.stdout());
+    let requests = Requests { tables };
     let outcome = if is_batch {
-        serve_each(
-            rt.alloc(),
-            &Descriptions { tables },
-            &mut reader,
-            &mut writer,
-        )
+        serve_each(rt.alloc(), &requests, &mut reader, &mut writer)
     } else {
-        describe(rt.alloc(), &tables, &mut reader, &mut writer)
+        serve(rt.alloc(), &requests, &mut reader, &mut writer)
     };
     tell(rt, outcome)
 }
