@@ -2,18 +2,21 @@
 """cache.py COMPILER WORD ..: a compiler cache that knows no flag of any compiler. docs/CACHE.md goes through it.
 
 DESCRIBE names the program `describe`, CACHE a folder. CACHE_LOG may name a file, for a line a call: hit, miss, unkept
-or given, and why. Status: the compiler's; 64: called wrongly; 127: the compiler can't be started. The first line has a
+or given, and why. CACHE_BASES may name folders, with `:` between them, that differ from checkout to checkout. Status: the compiler's; 64: called wrongly; 127: the compiler can't be started. The first line has a
 variable so that Python does not change the language of the compiler's messages."""
 import hashlib, marshal, os, pathlib, re, shutil, subprocess, sys, tempfile, time
 from os.path import abspath, dirname, exists, isdir, isfile, join
 ENV, STARTED = os.environb, time.time_ns() - 10**7  # (clocks of file systems are coarse)
 WORDS, STORE = list(map(os.fsencode, sys.argv[1:])), ENV.get(b"CACHE")
+BASES = [it.rstrip(b"/") for it in ENV.get(b"CACHE_BASES", b"").split(b":") if it.rstrip(b"/")]
+ANY_BASE = b"(?:" + b"|".join(map(re.escape, sorted(BASES, key=len, reverse=True))) + rb")(?![\w.+@~-])"
 SERVED = re.compile(rb"(?:^|[-/])(gcc|g\+\+|clang|clang\+\+|cl|clang-cl|diab|tasking)(?:-[0-9.]+)?$")
 QUOTED = rb'"((?:[^"\\\n]|\\.)*)"'
 MARKER, PRECOMPILED = rb"^#(?:line)? \d+ " + QUOTED + rb"([ \d]*)$", rb"^#pragma GCC pch_preprocess " + QUOTED
 OTHER_TEXT = re.compile(rb"^(?![ \t]*$|# \d|#line|#define|#undef)", re.M)
 NUMBER = re.compile(rb"\\x\{?([0-9a-fA-F]+)\}?|\\u00([0-9a-fA-F]{2})|\\([0-7]{1,3})")
-texts, sources, first = [], [], []  # what runs wrote; the files that their markers name; those before any other text
+RAW = re.compile(rb'^(?!#(?:line)? \d+ ").*R"', re.M)
+texts, plans, sources, first = [], [], [], []  # what runs wrote; the files that their markers name; those before any other text
 seen, made = {}, set()  # the files that were read, with their stamps; the outputs' absolute paths
 class KeepNothing(Exception): "The given words are run, and nothing is kept."
 def need(it, why):
@@ -22,7 +25,7 @@ def need(it, why):
 
 # ---- 1. Ask. What the answer wants and is there goes into the next request
 def described(*facts):
-    words = [b"word " + field(word) for word in WORDS[1:]]
+    words = [b"setting base " + field(it) for it in BASES] + [b"word " + field(word) for word in WORDS[1:]]
     request = b"\n".join([b"compiler " + served(WORDS[0]), b"cwd " + field(os.getcwdb()), *facts, *words])
     text = subprocess.run([ENV[b"DESCRIBE"]], input=request, stdout=subprocess.PIPE).stdout
     rows = [list(map(unescaped, row.split(b" "))) for row in text.splitlines()]
@@ -38,8 +41,9 @@ def unescaped(text): return re.sub(rb"\\x(..)", lambda it: bytes([int(it[1], 16)
 def field(data): return b"".join(b"%c" % it if 0x21 <= it <= 0x7E and it != 0x5C else b"\\x%02x" % it for it in data)
 
 # ---- 2. Hash each row and its answer. Of some rows only the name: their fields say what to start, and where to look
-def key_of(rows):
-    heads = [row[0] if row[0] in (b"plan", b"run", b"run-else", b"pch") else b" ".join(map(field, row)) for row in rows]
+def key_of(told_rows):
+    heads = [row[0] if row[0] in (b"plan", b"run", b"run-else", b"pch") else b" ".join(map(field, row)) for row in told_rows]
+    rows = list(map(put_back_all, told_rows))
     return digest_all(it for head, row in zip(heads, rows) for it in (head, answer(row, rows))).hex().encode()
 def digest(data): return hashlib.sha256(data).digest()
 def digest_all(parts): return digest(b"".join(map(digest, parts)))
@@ -50,7 +54,7 @@ def answer(row, rows):
         case [b"is", _, *_] | [b"output", _, _] | [b"output", _, _, b"optional"]: return b""
         case [b"directory"]:
             here, named = os.getcwdb(), ENV.get(b"PWD", b"")
-            return named if os.path.isabs(named) and isdir(named) and os.path.samefile(named, here) else here
+            return told(named if os.path.isabs(named) and isdir(named) and os.path.samefile(named, here) else here)
         case [b"compiler"]: return os.path.basename(WORDS[0]) + sum_of_program(which(WORDS[0]))
         case [b"plan", *words]: return plan(words, input_of(rows))
         case [b"env", name]: return b"=" + ENV[name] if name in ENV else b"-"
@@ -63,7 +67,11 @@ def answer(row, rows):
         case [b"pch", *pairs]: return read_all(precompiled(list(zip(pairs[::2], pairs[1::2]))))
         case [b"sources"]: return read_all(sources + [input_of(rows)])
         case [b"sources-if-shown", what]: return read_all(sources + [input_of(rows)]) if is_shown(what, texts) else b"-"
-        case [b"times"]: return digest_all(b"%s %r" % (it, stamp(it)[:2]) for it in sources if isfile(it))
+        case [b"times"]: return digest_all(b"%s %r" % (told(it), stamp(it)[:2]) for it in sources if isfile(it))
+        case [b"bases"]: return b""
+        case [b"bases-if-beside"]: return all_bases(any(is_beside(it) for it in [os.getcwdb(), ENV.get(b"PWD", b""), input_of(rows), *sources]))
+        case [b"bases-if-shown", what]: return all_bases(is_shown(what, texts))
+        case [b"bases-if-planned", what]: return all_bases(is_shown(what, plans))
         case [b"refuse-if-shown", what]:
             shown = texts if sources else [*texts, content(input_of(rows))]
             return need(not is_shown(what, map(as_assembled, shown)), b"shown: " + what)
@@ -75,8 +83,9 @@ def plan(words, source):  # what the driver would start, with the bytes of each 
     text = need(not done.returncode, "the plan fails") + re.sub(re.escape(own) + rb'[^\s"]*', b"", done.stderr)
     names = [c_text(quoted) or plain for quoted, plain in re.findall(QUOTED + rb'|([^\s"]+)', text)]
     names += [it.partition(b"=")[2] for it in names] + [which(it) for it in re.findall(rb'^ "?([^\s"]+)', text, re.M)]
-    files = sorted({it for it in names if isfile(it) and it != source and abspath(it) not in made})
-    return text + b"".join(note(it) + digest(it) + sum_of_program(it) for it in files)
+    files = sorted({it for it in names if isfile(it) and it != source and abspath(it) not in made}, key=told)
+    plans.append(text)
+    return told_all(text) + b"".join(note(it) + digest(told(it)) + sum_of_program(it) for it in files)
 def run(words):  # what the preprocessor writes, also into a file of the cache; nothing: it fails
     with tempfile.NamedTemporaryFile(dir=STORE) as own:
         done = quiet([WORDS[0], *(own.name if word == b"\0" else word for word in words)])
@@ -89,7 +98,7 @@ def run(words):  # what the preprocessor writes, also into a file of the cache; 
             if name not in sources: sources.append(note(name) + name)
             if is_before and b"1" in marker[2].split(): first.append(name)
         texts.append(done.stdout)
-        return done.stdout + digest(content(own.name))
+        return told_run(done.stdout) + digest(told_all(content(own.name)))
 def loaded(): return read_all(map(c_text, re.findall(PRECOMPILED, texts[0], re.M)))
 def precompiled(pairs):  # where a search can find a precompiled header: files, and folders of files
     headers = first + [name for what, name in pairs if what == b"header"]
@@ -99,13 +108,13 @@ def precompiled(pairs):  # where a search can find a precompiled header: files, 
     tails = {header.split(b"/", count)[-1] for header in headers for count in range(header.count(b"/") + 1)}
     paths = {join(it, tail) + b".gch" for it in folders for tail in tails} | {it + b".gch" for it in headers + sources}
     paths |= {join(it, name) for it in paths if isdir(it) for name in os.listdir(it)}
-    return sorted(it for it in paths if exists(it) and abspath(it) not in made)
+    return sorted((it for it in paths if exists(it) and abspath(it) not in made), key=told)
 def c_text(text):
     return re.sub(rb"\\([0-7]{1,3}|.)", lambda it: b"%c" % (int(it[1], 8) & 255) if it[1].isdigit() else it[1], text)
 def as_assembled(text):  # strings side by side are joined, and bytes written as numbers are read
     byte = lambda it: b"%c" % (int(it[1] or it[2] or it[3], 8 if it[3] else 16) & 255)
     return NUMBER.sub(byte, re.sub(rb'"\s*"', b"", text))
-def read_all(paths): return digest_all(it for path in paths for it in (path, read(path)))
+def read_all(paths): return digest_all(it for path in paths for it in (told(path), read(path)))
 def read(path): return note(path) + (b"=" + content(path) if isfile(path) else b"/" if isdir(path) else b"-")
 def note(path):  # a pipe or a device can be read once only, and /dev/stdin may be a file
     is_usual = isfile(path) or isdir(path) or not exists(path)
@@ -120,18 +129,32 @@ def sum_of(path):  # remembered by the file's stamp
     if not exists(note): write(note, digest(content(path)))
     return content(note)
 
+# ---- Bases: with a row `bases` names are told without the folders of CACHE_BASES, and these put back before a use
+def told(path): return re.sub(b"^" + ANY_BASE, number_of, path) if shared else path
+def told_all(text): return re.sub(rb"(?<![\w.+/@~-])" + ANY_BASE, number_of, text) if shared else text
+def told_run(text):  # the names in line markers, up to the first line in which a raw string may begin
+    raw = RAW.search(text)
+    end = raw.start() if raw else len(text)
+    return re.sub(rb'^(#(?:line)? \d+ ")([^"\n]*)', lambda it: it[1] + told(it[2]), text[:end], flags=re.M) + text[end:]
+def number_of(found): return b"\0<base%d>" % BASES.index(found[0])
+def put_back(text):
+    return re.sub(rb"\0(?:\0|<base(\d+)>)", lambda it: BASES[int(it[1])] if it[1] else b"\0", text) if shared else text
+def put_back_all(row): return list(map(put_back, row))
+def is_beside(path): return any(path.startswith(it) for it in BASES) and not re.match(ANY_BASE, path)
+def all_bases(are_told): return b"\0".join(BASES) if are_told else b"-"
+
 # ---- 4. A miss: compile, and keep what came if all that was read is as it was
 def compile_and_keep(entry, rows, outputs):
     before = {path: stamp(path) for _, path, *_ in outputs}
     built, given = [row[1] for row in rows if row[0] == b"arg"], [b"key", b"is", b"run-words", b"given"]
-    words = next((row[4:] for row in rows if row[:4] == given), built)
+    words = next((put_back_all(row[4:]) for row in rows if row[:4] == given), built)
     done = subprocess.run([WORDS[0], *words], capture_output=True)
     sys.stdout.buffer.write(done.stdout)
     show(done.stderr, rows)
     written = [path for _, path, *_ in outputs if stamp(path) not in (None, before[path])]
     is_whole = done.returncode == 0 and not done.stdout and all(more or path in written for _, path, *more in outputs)
     is_kept = is_whole and all(stamp(path) == was and (not was or was[3] < STARTED) for path, was in seen.items())
-    if is_kept: keep(entry, (done.stderr, {path: content(path) for path in written}))
+    if is_kept: keep(entry, (told_all(done.stderr), {told(path): content(path, name) for name, path, *_ in outputs if path in written}))
     log("miss" if is_kept else "unkept", entry[-64:].decode())
     sys.exit(done.returncode)
 def keep(entry, parts):
@@ -153,13 +176,15 @@ def restored(entry, rows, outputs):
     kept = content(entry) if isfile(entry) else b""
     if digest(kept[32:]) != kept[:32]: return False
     messages, files = marshal.loads(kept[32:])
-    for _, path, *_ in outputs:
-        if path in files: write(path, files[path])
+    for name, path, *_ in outputs:
+        if told(path) in files: write(path, put_back(files[told(path)]) if name == b"d" else files[told(path)])
     log("hit", entry[-64:].decode())
-    return show(messages, rows) or True
+    return show(put_back(messages), rows) or True
 
 # ---- tools
-def content(path): return pathlib.Path(os.fsdecode(path)).read_bytes()
+def content(path, name=b""):
+    data = pathlib.Path(os.fsdecode(path)).read_bytes()
+    return told_all(data) if name == b"d" else data
 def stamp(path):
     it = os.stat(path) if exists(path) else None
     return it and (it.st_size, it.st_mtime_ns, it.st_ino, it.st_ctime_ns)
@@ -177,7 +202,8 @@ try:
     key, may = ([row[1:] for row in rows if row[0] == name] for name in (b"key", b"keep"))
     why = [*(it for it in may if it != [b"yes"]), *(row[1:] for row in rows if row[0] == b"reason"), [b"no key"]]
     need(key and may == [[b"yes"]] and [b"version", b"1"] in rows, b" ".join(why[0]))
-    outputs = [row[1:] for row in key if row[0] == b"output"]
+    shared = [b"bases"] in key
+    outputs = [put_back_all(row[1:]) for row in key if row[0] == b"output"]
     made.update(abspath(path) for _, path, *_ in outputs)
     for _, path, *_ in outputs: need(is_own(path), b"an output is no file, or has two names: " + path)
     entry = join(STORE, key_of(key))

@@ -1,7 +1,7 @@
-mod BackLaws
-mod BaseLaws
+pub mod BackLaws
+pub mod BaseLaws
 mod BaseLemmas
 mod CutLemmas
 mod RunLemmas
 mod TextLaws
-mod ToldLemmas
+pub mod ToldLemmas

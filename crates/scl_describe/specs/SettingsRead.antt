@@ -1,6 +1,7 @@
 -- What of settings the code keeps.
 use Rattle.std.specs.Prelude.{string_bytes}
 use Rattle.std.specs.Option.{option_map}
+use Rattle.scl_values.specs.Words.{words_of}
 use Rattle.scl_describe.specs.Settings.{Settings, Setting}
 use Rattle.scl_describe.specs.Settings as settings
 use Rattle.scl_describe.specs.declared.settings.Settings as code
@@ -8,7 +9,7 @@ use Rattle.scl_describe.specs.declared.settings.Setting as line
 use Rattle.scl_describe.specs.declared.settings.Setting.TheVariants as lines
 
 abbrev pub settings_by : code.Settings → Settings
-settings_by s = record { may_dist = s.may_dist; rewrite_includes_only = s.rewrite_includes_only; cache_mode = s.cache_mode; version = option_map string_bytes s.version; bound = s.bound }
+settings_by s = record { may_dist = s.may_dist; rewrite_includes_only = s.rewrite_includes_only; cache_mode = s.cache_mode; version = option_map string_bytes s.version; bound = s.bound; bases = words_of s.bases.items }
 
 abbrev pub set_by : line.Setting → Setting
 set_by lines.MayDist = settings.MayDist
@@ -16,3 +17,4 @@ set_by lines.RewriteIncludesOnly = settings.RewriteIncludesOnly
 set_by lines.CacheMode = settings.CacheMode
 set_by (lines.Version text) = settings.Version (string_bytes text)
 set_by (lines.Bound words) = settings.Bound words
+set_by (lines.Base dir) = settings.Base dir.items

@@ -18,6 +18,7 @@ pub(crate) struct Settings {
     pub cache_mode: bool,
     pub version: Option<String>,
     pub bound: usize,
+    pub bases: Vec<Vec<u8>>,
 }
 
 /// What a line `setting` says.
@@ -28,11 +29,12 @@ enum Setting {
     CacheMode,
     Version(String),
     Bound(usize),
+    Base(Vec<u8>),
 }
 
 impl Settings {
     /// The settings where no line says otherwise.
-    fn new() -> Settings
+    fn new(alloc: Global) -> Settings
         ensures { settings_by result ≡ no_settings }
     {
         Settings {
@@ -41,12 +43,13 @@ impl Settings {
             cache_mode: false,
             version: None,
             bound: MOST,
+            bases: Vec::new(alloc),
         }
     }
 
     /// Takes what a line says.
-    fn take(&mut self, setting: Setting)
-        ensures { settings_by self.new ≡ with_setting (settings_by self.old) (set_by setting) }
+    fn take(&mut self, setting: Setting) -> Mem<()>
+        ensures { OnOk result (settings_by self.new ≡ with_setting (settings_by self.old) (set_by setting)) }
     {
         match setting {
             Setting::MayDist => self.may_dist = true,
@@ -54,7 +57,9 @@ impl Settings {
             Setting::CacheMode => self.cache_mode = true,
             Setting::Version(text) => self.version = Some(text),
             Setting::Bound(words) => self.bound = words,
+            Setting::Base(dir) => self.bases.push(dir)?,
         }
+        Ok(())
     }
 }
 
@@ -120,6 +125,8 @@ fn setting_with(alloc: Global, name: &[u8], value: &[u8]) -> Mem<Option<Setting>
         Ok(number_of(value).map(Setting::Bound))
     } else if name == b"version".as_slice() {
         Ok(field_text(alloc, value)?.map(Setting::Version))
+    } else if name == b"base".as_slice() {
+        Ok(read_field(alloc, value)?.map(Setting::Base))
     } else {
         Ok(None)
     }
@@ -147,7 +154,7 @@ fn take_line(alloc: Global, settings: &mut Settings, request: &mut Vec<u8>, text
     ensures request { OnOk result (request.new.items ≡ request.old.items ++ line (blanked text.now)) }
 {
     match setting_of(alloc, text)? {
-        Some(setting) => settings.take(setting),
+        Some(setting) => settings.take(setting)?,
         None => request.extend_from_slice(text)?,
     }
     request.push(b'\n')?;
@@ -159,7 +166,7 @@ pub(crate) fn read_settings(alloc: Global, bytes: &[u8]) -> Mem<(Settings, Vec<u
     ensures settings { IfOk result (λ read. settings_by read.0 ≡ settings_in (lines_of bytes.now)) }
     ensures request { IfOk result (λ read. lines_of read.1.items ≡ request_lines (lines_of bytes.now)) }
 {
-    let mut settings = Settings::new();
+    let mut settings = Settings::new(alloc);
     let mut request = Vec::with_capacity(alloc, bytes.len())?;
     let mut left = bytes;
     while let Some((line, rest)) = next_line(left) {

@@ -1,0 +1,103 @@
+//! Whether an object names the place where it is made.
+ghost use Rattle.std.specs.Prelude.{◌≡◌};
+ghost use Rattle.std.specs.List.{list_all};
+ghost use Rattle.scl_values.specs.Words.{words_of};
+ghost use Rattle.scl_shared_key.specs.MapViews.{maps_of};
+ghost use Rattle.scl_shared_key.specs.Maps.{maps_among};
+ghost use Rattle.scl_shared_key.specs.Rows.{rows_of, words_told};
+ghost use Rattle.scl_shared_key.specs.Verdicts.{are_usual, is_usual, is_usual_byte, verdict, verdict_of_debug_info};
+ghost use Rattle.scl_shared_key.specs.Shareds.{in_object_name};
+
+use crate::maps::{PrefixMap, debug_info_is_free};
+use crate::row::{has_debug_info, may_name_anything};
+
+/// Whether an object names one of the base directories.
+#[derive(Debug, Clone, Copy, PartialEq, Eq)]
+pub enum InObject {
+    /// No.
+    No,
+    /// Yes, or it is not known.
+    Yes,
+    /// It would, but prefix maps write other names in their place.
+    Mapped,
+}
+
+impl InObject {
+    /// Its name in rows.
+    pub fn name(self) -> &'static str
+        ensures { result.now ≡ in_object_name self }
+    {
+        match self {
+            InObject::No => "no",
+            InObject::Yes => "yes",
+            InObject::Mapped => "mapped",
+        }
+    }
+}
+
+/// Whether a byte is written as it is in line markers, rules of make and plans.
+fn is_usual_byte(byte: u8) -> bool
+    ensures { result ≡ is_usual_byte byte }
+{
+    matches!(byte, b'a'..=b'z' | b'A'..=b'Z' | b'0'..=b'9' | b'/' | b'_' | b'.' | b'-' | b'+' | b'@' | b'~')
+}
+
+fn has_usual_bytes(dir: &[u8]) -> bool
+    ensures { result ≡ list_all is_usual_byte dir.now }
+{
+    for byte in dir {
+        if !is_usual_byte(*byte) {
+            return false;
+        }
+    }
+    true
+}
+
+fn is_usual(dir: &[u8]) -> bool
+    ensures { result ≡ is_usual dir.now }
+{
+    dir.starts_with(b"/") && has_usual_bytes(dir)
+}
+
+fn all_usual(dirs: &[Vec<u8>]) -> bool
+    ensures { result ≡ list_all is_usual (words_of dirs.now) }
+{
+    for dir in dirs {
+        if !is_usual(dir) {
+            return false;
+        }
+    }
+    true
+}
+
+/// Whether there is a directory, and all are usual.
+fn are_usual(dirs: &[Vec<u8>]) -> bool
+    ensures { result ≡ are_usual (words_of dirs.now) }
+{
+    !dirs.is_empty() && all_usual(dirs)
+}
+
+fn verdict_of_debug_info(is_free: bool) -> InObject
+    ensures { result ≡ verdict_of_debug_info is_free }
+{
+    if is_free {
+        InObject::Mapped
+    } else {
+        InObject::Yes
+    }
+}
+
+/// Whether the object of a key with these rows and prefix maps names one of the directories.
+pub(crate) fn verdict(dirs: &[Vec<u8>], rows: &[Vec<Vec<u8>>], maps: &[PrefixMap<'_>]) -> InObject
+    requires { maps_of maps.now ≡ maps_among (words_told (rows_of rows.now)) }
+    ensures { result ≡ verdict (words_of dirs.now) (rows_of rows.now) }
+{
+    if !are_usual(dirs) || may_name_anything(rows) {
+        return InObject::Yes;
+    }
+    if has_debug_info(rows) {
+        verdict_of_debug_info(debug_info_is_free(dirs, maps))
+    } else {
+        InObject::No
+    }
+}
