@@ -1,15 +1,15 @@
-/* scl.h: what a compiler's command line asks for, and the command to run in its place. Link libscl.a (or -lscl).
+/* scl.h: what a compiler's command line means, and the command to run in its place. Link libscl.a (or -lscl).
  *
- * The library has four calls, over texts alone. What is new in a later one is a row of an answer, or a setting of a request: no
+ * The library has four calls, all over texts. What is new in a later one is a row of an answer, or a setting of a request: no
  * call changes. All else in this header is C that is compiled into the client: it writes a request's text, and fills structs
  * from an answer's rows. So the structs are the client's own, and a client runs with each library of its protocol.
  *
  * - Rows that this header does not know are passed over. But if a row `key` or `keep` is not known, or a row has more fields than
  *   are known, nothing may be kept: has_unknown is true, and is_cacheable false.
- * - SCL_NEWER tells that one side does not know what the other says: the library a line `setting`, or this header the answer,
+ * - SCL_NEWER: one side does not know what the other says, the library a line `setting`, or this header the answer,
  *   as of another protocol. Then run the given words, and keep nothing.
  *
- * A call reads what it is handed and writes into memory that it is handed. It keeps nothing between calls, opens no file,
+ * A call reads and writes only the memory that is passed to it. It keeps nothing between calls, opens no file,
  * starts no process, and takes memory from malloc while it runs and gives it back.
  *
  * What is proved of the four calls (crates/scl_c) is proved of callers that keep these premises, which nothing checks:
@@ -38,10 +38,10 @@ extern "C" {
 #define SCL_PROTOCOL 1
 
 enum scl_status {
-    SCL_OK = 0,             /* told */
-    SCL_SHORT = 1,          /* the memory handed in is too short; how much is wanted is told */
+    SCL_OK = 0,             /* answered */
+    SCL_SHORT = 1,          /* the memory passed in is too short; *wanted says how much is wanted */
     SCL_BAD = 2,            /* a line of the text is bad; scl_ask: no served compiler has the name */
-    SCL_NO_MEMORY = 3,      /* memory was refused */
+    SCL_NO_MEMORY = 3,      /* out of memory */
     SCL_TOO_MANY_WORDS = 4, /* scl_ask: a command line has more words, or opens files more often, than was allowed */
     SCL_NEWER = 5,          /* a line `setting` is bad: it is not known here; scl_ask: or the answer is not known here */
     SCL_BAD_CATALOGUE = 6   /* a line of the catalogue is wrong */
@@ -53,8 +53,8 @@ enum scl_status {
 uint32_t scl_version(void);
 
 /* The request's text (docs/PROTOCOL.md, A request) is answered by the answer's text (An answer), as ccline does. *wanted is
- * the length of the text (SCL_OK, SCL_SHORT), or the number of the bad line (SCL_BAD), or 0. The text has no NUL behind it;
- * the rest of the room, and all of it where the status is not SCL_OK, is as it was. Words have no bound: where others write
+ * the length of the text (SCL_OK, SCL_SHORT), or the number of the bad line (SCL_BAD), or 0. The text has no NUL after it;
+ * the rest of the room, and all of it where the status is not SCL_OK, is as it was. There is no limit on words: where others write
  * the request, its files may name each other and give millions, so call scl_describe or scl_ask. */
 int32_t scl_run(const uint8_t *request, size_t request_len, uint8_t *room, size_t room_len, size_t *wanted);
 
@@ -63,7 +63,7 @@ int32_t scl_run(const uint8_t *request, size_t request_len, uint8_t *room, size_
  * of a setting, and *wanted its number. */
 int32_t scl_describe(const uint8_t *request, size_t request_len, uint8_t *room, size_t room_len, size_t *wanted);
 
-/* The same with the hazards of a catalogue whose text is handed in (catalogue/README.md). SCL_BAD_CATALOGUE: *wanted is the
+/* The same with the hazards of a catalogue whose text is passed in (catalogue/README.md). SCL_BAD_CATALOGUE: *wanted is the
  * number of its first wrong line, and the request was not read. */
 int32_t scl_describe_with(const uint8_t *catalogue, size_t catalogue_len, const uint8_t *request, size_t request_len, uint8_t *room,
                           size_t room_len, size_t *wanted);
@@ -94,25 +94,26 @@ typedef struct scl_pairs {
 typedef struct scl_request {
     scl_bytes compiler;         /* gcc, g++, clang, clang++, cl, clang-cl, diab, tasking */
     scl_bytes directory;        /* the path of the directory in which the words are read */
-    scl_words words;            /* behind the program */
+    scl_words words;            /* after the program */
     scl_pairs environment;      /* in order */
     scl_pairs files;            /* response files; of two at one path the later one counts */
     scl_words directories;      /* paths that are directories */
     scl_words existing;         /* paths at which there is something */
     size_t most_words;          /* that a command line may have, response files put in place, and how often it may open files: */
-                                /*   0 is 1,000,000, SIZE_MAX is no bound */
+                                /*   0 is 1,000,000, SIZE_MAX is no limit */
     bool is_multiarch;          /* several architectures are allowed */
-    bool wants_runs;            /* the runs of the preprocessor are told: */
+    bool wants_runs;            /* the answer has the runs of the preprocessor: */
     bool may_dist;              /*   for a distant compiler */
     bool rewrite_includes_only; /*   with macros left in place */
     bool cache_mode;            /*   for a cache of preprocessor runs */
-    bool wants_questions;       /* it is told what the answer asks of files that were not handed in */
-    bool wants_hazards;         /* the hazards of the command line are told */
-    bool wants_options;         /* it is told what became of each option */
-    bool wants_key;             /* the rows of the key are told */
+    bool wants_questions;       /* the answer has the paths, not passed in, that could change it */
+    bool wants_hazards;         /* the answer has the hazards of the command line */
+    bool wants_options;         /* the answer has what became of each option */
+    bool wants_key;             /* the answer has the rows of the key */
     scl_bytes version;          /* the text of the compiler's version, in UTF-8 (docs/PROTOCOL.md, `setting version`) */
     scl_bytes catalogue;        /* the text of the catalogue of hazards; empty: the built-in one */
-    scl_words settings;         /* more lines `setting`: what stands behind that word, as `bound 10` */
+    scl_words settings;         /* more lines `setting`: what follows that word, as `bound 10`; with `wants run` and its like
+                                   what a row would have told that is not wanted is empty, and without `keep` nothing stops keeping */
 } scl_request;
 
 enum scl_outcome { SCL_COMPILED = 0, SCL_CANNOT_CACHE = 1, SCL_NOT_COMPILATION = 2 };
@@ -193,19 +194,19 @@ typedef struct scl_record {
     } lists;
 } scl_record;
 
-/* What the answer asks of files that were not handed in, by paths (docs/RULES.md, Questions). */
+/* The paths, not passed in, that could change the answer (docs/RULES.md, Questions). */
 typedef struct scl_questions {
     scl_words files, directories, existing;
 } scl_questions;
 
-/* What an outcome does not have is empty, or false. Each text has a NUL behind it, which its length does not count. */
+/* What an outcome does not have is empty, or false. Each text has a NUL after it, which its length does not count. */
 typedef struct scl_answer {
     uint32_t outcome;
     bool is_cacheable; /* whether the outcome of the command may be kept; false if there is a row `keep`, and not `keep yes` */
     bool has_text;
     scl_bytes reason;      /* SCL_CANNOT_CACHE */
     scl_bytes text;        /* beside the reason, where has_text */
-    scl_words command;     /* SCL_COMPILED: the words behind the program */
+    scl_words command;     /* SCL_COMPILED: the words after the program */
     scl_pairs environment; /* that the command and the runs get */
     scl_record record;
     scl_runs runs;
@@ -223,6 +224,7 @@ typedef struct scl_answer {
     scl_words reads, writes, loads;    /* SCL_COMPILED: files that options read, write and load beside compiling (docs/EFFECTS.md) */
     scl_words reads_like, writes_like; /* the beginnings of names of such files, where more is not known */
     scl_words asks;                    /* what options ask of the machine: processor, directory */
+    scl_words loads_like;              /* as reads_like, of files that are loaded */
 } scl_answer;
 
 /* The memory for an answer: its texts, its words, its pairs, its outputs, and its runs, options and rows of a key. */
@@ -304,7 +306,7 @@ extern "C" {
 
 /* ---- what a client calls */
 
-/* A request of a compiler and words, with no directory, environment and files, the bound of 1,000,000, and no wishes. */
+/* A request of a compiler and words, with no directory, environment and files, the limit of 1,000,000, and no wishes. */
 static inline scl_request scl_request_of(const char *compiler, const scl_bytes *words, size_t len) {
     scl_request it;
     memset(&it, 0, sizeof it);
@@ -354,7 +356,7 @@ static inline int32_t scl_respond_new(scl_respond *respond, scl_bytes catalogue,
 }
 
 /* Answers a request's text with memory of its own, as: scl_text_new(scl_describe, request, strlen(request), &text, &wanted).
- * Only where the status is SCL_OK is there a text, with a NUL behind it, which free gives back. SCL_SHORT is never answered. */
+ * Only where the status is SCL_OK is there a text, with a NUL after it, which free gives back. SCL_SHORT is never answered. */
 static inline int32_t scl_text_new(scl_respond *respond, const void *request, size_t request_len, char **text, size_t *wanted) {
     return scl_respond_new(respond, scl_no_bytes[0], scl_bytes_of(request, request_len), text, wanted);
 }
@@ -371,7 +373,7 @@ static inline int32_t scl_description_new(const scl_request *request, char **tex
     return status == SCL_BAD && *wanted != 1 ? SCL_NEWER : status;
 }
 
-/* Answers the request. SCL_OK: *answer tells it, and its pointers point into the room, which must live, unchanged, as long as it
+/* Answers the request. SCL_OK: *answer has it, and its pointers point into the room, which must live, unchanged, as long as it
  * is read, or at what is empty. SCL_SHORT: a part of the room is shorter than *wanted says, and is as it was. *wanted is exact
  * with both, and zeros with every other status. Where the status is not SCL_OK, *answer is as it was. */
 static inline int32_t scl_ask(const scl_request *request, scl_room room, scl_sizes *wanted, scl_answer *answer) {
@@ -448,6 +450,35 @@ static inline scl_key_row scl_key_at(const scl_answer *answer, size_t place) {
     it.is_asked = it.kind != SCL_KEY_IS && it.kind != SCL_KEY_OUTPUT;
     it.is_named = it.kind == SCL_KEY_PLAN || it.kind == SCL_KEY_RUN || it.kind == SCL_KEY_RUN_ELSE || it.kind == SCL_KEY_PCH;
     return it;
+}
+
+/* Which compiler a program is by its name. The words are a whole command line, with launchers, which are passed over. SCL_OK:
+ * *program is the index of the word that is the program, or `len` if there is none; *compiler is the name that a request takes,
+ * or NULL if the program's name is not known. SCL_NEWER: the library does not answer such requests. */
+static inline int32_t scl_name(const scl_bytes *words, size_t len, size_t *program, const char **compiler) {
+    scl_writer to = {SCL_NULL, 0, 0, false};
+    scl_bytes rows, row, name, value;
+    char *text = SCL_NULL;
+    size_t size = 0;
+    int32_t status = SCL_NO_MEMORY;
+    *program = len;
+    *compiler = SCL_NULL;
+    scl_put(&to, "name\n");
+    scl_put_words(&to, "word ", scl_words_of(words, len));
+    if (!to.has_failed) status = scl_text_new(scl_describe, to.at, to.len, &text, &size);
+    free(to.at);
+    if (status != SCL_OK) return status == SCL_BAD ? SCL_NEWER : status;
+    rows = scl_bytes_of(text, size);
+    while (scl_next_row(&rows, &row)) {
+        if (!scl_next_field(&row, &name) || !scl_next_field(&row, &value)) continue;
+        if (scl_is(name, "program") && scl_number_of(value) < len) *program = scl_number_of(value);
+        if (scl_is(name, "compiler")) {
+            uint32_t place = scl_place_of(value, scl_compiler_names, SCL_COMPILERS);
+            *compiler = place < SCL_COMPILERS ? scl_compiler_names[place] : SCL_NULL;
+        }
+    }
+    free(text);
+    return SCL_OK;
 }
 
 /* An answer with its memory in one block, which scl_free gives back. */

@@ -15,7 +15,7 @@ extern "C" {
 typedef struct scl_writer {
     char *at;
     size_t len, size;
-    bool has_failed; /* memory was refused, and the text is not whole */
+    bool has_failed; /* out of memory: the text is not whole */
 } scl_writer;
 
 /* Whether there is room for so many more bytes. */
@@ -64,7 +64,7 @@ static inline void scl_put_field(scl_writer *to, scl_bytes field, bool is_rest) 
     }
 }
 
-/* A line: its keyword, with the blank behind it, and its field. */
+/* A line: its keyword, with the blank after it, and its field. */
 static inline void scl_put_line(scl_writer *to, const char *keyword, scl_bytes field) {
     scl_put(to, keyword);
     scl_put_field(to, field, false);
@@ -181,6 +181,13 @@ static inline size_t scl_read_field(scl_bytes field, uint8_t *to) {
     return len;
 }
 
+/* The number that the digits write; SIZE_MAX for what is none. */
+static inline size_t scl_number_of(scl_bytes field) {
+    size_t i, number = 0;
+    for (i = 0; i < field.len && field.at[i] >= '0' && field.at[i] <= '9' && number < SIZE_MAX / 16; i++) number = 10 * number + field.at[i] - 48u;
+    return field.len && i == field.len ? number : SIZE_MAX;
+}
+
 /* ---- an answer's structs */
 
 /* How a row is read. */
@@ -242,6 +249,7 @@ static const scl_known_row scl_known_rows[] = {
     {"loads", SCL_ROW_WORD, 0, SCL_AT(loads), 0, 0},
     {"reads-like", SCL_ROW_WORD, 0, SCL_AT(reads_like), 0, 0},
     {"writes-like", SCL_ROW_WORD, 0, SCL_AT(writes_like), 0, 0},
+    {"loads-like", SCL_ROW_WORD, 0, SCL_AT(loads_like), 0, 0},
     {"asks", SCL_ROW_WORD, 0, SCL_AT(asks), 0, 0},
     {"version", SCL_ROW_VERSION, SCL_IN_ALL, 0, 0, 0},
     {"cacheable", SCL_ROW_CACHEABLE, SCL_IN_COMPILED, SCL_AT(is_cacheable), 0, 0},
@@ -274,6 +282,8 @@ static const char *const scl_language_names[] = {"Assembler", "AssemblerToPrepro
                                                  "ObjectiveC", "ObjectiveCHeader", "ObjectiveCxx", "ObjectiveCxxHeader", "Cuda", "Rust", "Hip"};
 static const char *const scl_color_names[] = {"off", "on", "auto"};
 enum { SCL_LANGUAGES = 15, SCL_COLORS = 3 };
+static const char *const scl_compiler_names[] = {"gcc", "g++", "clang", "clang++", "cl", "clang-cl", "diab", "tasking"};
+enum { SCL_COMPILERS = 8 };
 
 /* The rows of a key, in the order of their kinds, with how many fields may follow the name. */
 typedef struct scl_known_key {
@@ -312,7 +322,7 @@ static inline bool scl_has_fields(unsigned kind) { return kind >= SCL_ROW_FIELDS
 /* What of an answer stands there. */
 static inline void *scl_member(scl_answer *answer, size_t at) { return SCL_CAST(char *, answer) + at; }
 
-/* An answer before it is told. */
+/* An answer before the structs are filled. */
 static inline scl_answer scl_no_answer(void) {
     scl_answer it;
     size_t i;
@@ -328,10 +338,10 @@ static inline scl_answer scl_no_answer(void) {
     return it;
 }
 
-/* What is taken of an answer's rows: first they are counted, and then told in memory that is long enough. */
+/* What is taken of an answer's rows: first they are counted, and then written to memory that is long enough. */
 typedef struct scl_taking {
     const scl_request *request;
-    scl_bytes rows; /* behind the first one */
+    scl_bytes rows; /* after the first one */
     scl_answer answer;
     scl_room room;
     bool is_told;                  /* in the room */
@@ -340,7 +350,7 @@ typedef struct scl_taking {
     scl_sizes sizes;               /* taken so far */
     size_t counts[SCL_KNOWN_ROWS]; /* of each row */
     size_t starts[SCL_KNOWN_ROWS]; /* where the first of a list stands, in the slots or the runs */
-    size_t listed;                 /* slots of all lists; those of runs and options stand behind them */
+    size_t listed;                 /* slots of all lists; those of runs and options stand after them */
 } scl_taking;
 
 static inline scl_bytes scl_take_text(scl_taking *t, scl_bytes field) {
@@ -414,10 +424,8 @@ static inline void scl_take_output(scl_taking *t, scl_bytes *row) {
 }
 
 static inline size_t scl_take_index(scl_taking *t, scl_bytes *row) {
-    scl_bytes field = scl_take_raw(t, row);
-    size_t i, number = 0;
-    for (i = 0; i < field.len && field.at[i] >= '0' && field.at[i] <= '9' && number < SIZE_MAX / 16; i++) number = 10 * number + field.at[i] - 48u;
-    if (!field.len || i < field.len) t->is_broken = true;
+    size_t number = scl_number_of(scl_take_raw(t, row));
+    if (number == SIZE_MAX) t->is_broken = true;
     return number;
 }
 

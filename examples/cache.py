@@ -5,135 +5,151 @@ DESCRIBE names the program `describe`, CACHE a folder. CACHE_LOG may name a file
 or given, and why. Status: the compiler's; 64: called wrongly; 127: the compiler can't be started. The first line has a
 variable so that Python does not change the language of the compiler's messages."""
 import hashlib, marshal, os, pathlib, re, shutil, subprocess, sys, tempfile, time
-from os.path import abspath, dirname, exists, isdir, isfile, join
-ENV, STARTED = os.environb, time.time_ns() - 10**7  # (clocks of file systems are coarse)
-WORDS, STORE = list(map(os.fsencode, sys.argv[1:])), ENV.get(b"CACHE")
-SERVED = re.compile(rb"(?:^|[-/])(gcc|g\+\+|clang|clang\+\+|cl|clang-cl|diab|tasking)(?:-[0-9.]+)?$")
-QUOTED = rb'"((?:[^"\\\n]|\\.)*)"'
-MARKER, PRECOMPILED = rb"^#(?:line)? \d+ " + QUOTED + rb"([ \d]*)$", rb"^#pragma GCC pch_preprocess " + QUOTED
-OTHER_TEXT = re.compile(rb"^(?![ \t]*$|# \d|#line|#define|#undef)", re.M)
-NUMBER = re.compile(rb"\\x\{?([0-9a-fA-F]+)\}?|\\u00([0-9a-fA-F]{2})|\\([0-7]{1,3})")
-texts, sources, first = [], [], []  # what runs wrote; the files that their markers name; those before any other text
-seen, made = {}, set()  # the files that were read, with their stamps; the outputs' absolute paths
-class KeepNothing(Exception): "The given words are run, and nothing is kept."
-def need(it, why):
-    if not it: raise KeepNothing(os.fsdecode(why))
-    return b""
+from os.path import abspath, basename, dirname, exists, isabs, isdir, isfile, islink, join, lexists, samefile
 
-# ---- 1. Ask. What the answer wants and is there goes into the next request
+VARIABLES, STARTED = os.environb, time.time_ns() - 10**7  # (clocks of file systems are coarse)
+COMMAND, STORE = list(map(os.fsencode, sys.argv[1:])), VARIABLES.get(b"CACHE")
+COMPILERS = re.compile(rb"(?:^|[-/])(gcc|g\+\+|clang|clang\+\+|cl|clang-cl|diab|tasking)(?:-[0-9.]+)?$")
+STRING = rb'"((?:[^"\\\n]|\\.)*)"'
+MARKER = re.compile(rb"^#(?:line)? \d+ " + STRING + rb"([ \d]*)$", re.M)  # names the file of the lines below it
+LOADED = re.compile(rb"^#pragma GCC pch_preprocess " + STRING, re.M)  # names a precompiled header that was read
+OTHER_TEXT = re.compile(rb"^(?![ \t]*$|# \d|#line|#define|#undef)", re.M)  # what is no blank, marker or macro
+NUMBER = re.compile(rb"\\x\{?([0-9a-fA-F]+)\}?|\\u00([0-9a-fA-F]{2})|\\([0-7]{1,3})")  # a byte
+shown = []  # what each run of the preprocessor wrote
+sources = []  # the files that its markers name
+leading = []  # the headers that it includes before any other text
+stamps = {}  # the files that were read, and how each was then
+made = set()  # the absolute paths of the outputs
+
+class KeepNothing(Exception): "The given words are run, and nothing is kept."
+def need(it, why):  # (gives nothing, so that `need(..) or answer` is the answer)
+    if not it: raise KeepNothing(os.fsdecode(why))
+
+# ---- 1. Ask. What the answer wants, and is there, goes into the next request
 def described(*facts):
-    words = [b"word " + field(word) for word in WORDS[1:]]
-    request = b"\n".join([b"compiler " + served(WORDS[0]), b"cwd " + field(os.getcwdb()), *facts, *words])
-    text = subprocess.run([ENV[b"DESCRIBE"]], input=request, stdout=subprocess.PIPE).stdout
-    rows = [list(map(unescaped, row.split(b" "))) for row in text.splitlines()]
-    is_there = {b"file": isfile, b"dir": isdir, b"exists": os.path.lexists}
-    wanted = [row[1:] for row in rows if row[0] == b"wants" and is_there[row[1]](row[2])]
-    found = [b" ".join([it, field(at)]) + (b"\t" + field(content(at)) if it == b"file" else b"") for it, at in wanted]
-    return described(*facts, *found) if found else rows
-def served(path):  # the first served name on the way of its links, as c++ may be a link to clang++
-    if name := SERVED.search(path): return name[1]
-    need(os.path.islink(file := path if b"/" in path else which(path)), "the compiler's name")
-    return served(join(dirname(file), os.readlink(file)))
-def unescaped(text): return re.sub(rb"\\x(..)", lambda it: bytes([int(it[1], 16)]), text)
-def field(data): return b"".join(b"%c" % it if 0x21 <= it <= 0x7E and it != 0x5C else b"\\x%02x" % it for it in data)
+    words = [b"word " + escaped(word) for word in COMMAND[1:]]
+    request = b"\n".join([b"compiler " + served_name(COMMAND[0]), b"cwd " + escaped(os.getcwdb()), *facts, *words])
+    answer = subprocess.run([VARIABLES[b"DESCRIBE"]], input=request, stdout=subprocess.PIPE).stdout
+    rows = [[unescaped(field) for field in line.split(b" ")] for line in answer.splitlines()]
+    is_there = {b"file": isfile, b"dir": isdir, b"exists": lexists}
+    found = [row[1:] for row in rows if row[0] == b"wants" and row[1] in is_there and is_there[row[1]](row[2])]
+    more = [b" ".join([it, escaped(at)]) + (b"\t" + escaped(content(at)) if it == b"file" else b"") for it, at in found]
+    return described(*facts, *more) if more else rows
+def served_name(path):  # the first on the way of its links, as c++ may be a link to clang++
+    if name := COMPILERS.search(path): return name[1]
+    file = path if b"/" in path else program_file(path)
+    need(islink(file), "the compiler's name")
+    return served_name(join(dirname(file), os.readlink(file)))
+def escaped(data): return b"".join(b"%c" % it if 0x21 <= it <= 0x7E and it != 0x5C else b"\\x%02x" % it for it in data)
+def unescaped(field): return re.sub(rb"\\x(..)", lambda it: bytes([int(it[1], 16)]), field)
 
 # ---- 2. Hash each row and its answer. Of some rows only the name: their fields say what to start, and where to look
 def key_of(rows):
-    heads = [row[0] if row[0] in (b"plan", b"run", b"run-else", b"pch") else b" ".join(map(field, row)) for row in rows]
-    return digest_all(it for head, row in zip(heads, rows) for it in (head, answer(row, rows))).hex().encode()
+    named = b"plan", b"run", b"run-else", b"pch"
+    heads = [row[0] if row[0] in named else b" ".join(map(escaped, row)) for row in rows]
+    return digest_all(it for head, row in zip(heads, rows) for it in (head, answer(row, rows) or b"")).hex().encode()
 def digest(data): return hashlib.sha256(data).digest()
 def digest_all(parts): return digest(b"".join(map(digest, parts)))
 
 # ---- 3. Answer the rows that ask (docs/PROTOCOL.md, A key)
 def answer(row, rows):
     match row:
-        case [b"is", _, *_] | [b"output", _, _] | [b"output", _, _, b"optional"]: return b""
-        case [b"directory"]:
-            here, named = os.getcwdb(), ENV.get(b"PWD", b"")
-            return named if os.path.isabs(named) and isdir(named) and os.path.samefile(named, here) else here
-        case [b"compiler"]: return os.path.basename(WORDS[0]) + sum_of_program(which(WORDS[0]))
+        case [b"is", _, *_] | [b"output", _, _] | [b"output", _, _, b"optional"]: return b""  # (a fact)
+        case [b"directory"]: return directory()
+        case [b"compiler"]: return basename(COMMAND[0]) + sum_of_program(program_file(COMMAND[0]))
         case [b"plan", *words]: return plan(words, input_of(rows))
-        case [b"env", name]: return b"=" + ENV[name] if name in ENV else b"-"
-        case [b"unset", name]: return need(name not in ENV, b"set: " + name)
-        case [b"file", path]: return need(isfile(path), b"no file: " + path) + read(path)
+        case [b"env", name]: return b"=" + VARIABLES[name] if name in VARIABLES else b"-"
+        case [b"unset", name]: need(name not in VARIABLES, b"set: " + name)
+        case [b"file", path]: return need(isfile(path), b"no file: " + path) or read(path)
         case [b"maybe", path]: return b"" if abspath(path) in made else read(path)  # (what it writes, it does not read)
-        case [b"regular", path]: return note(path)
-        case [b"run", *words]: return run(words) or need(any(it[0] == b"run-else" for it in rows), "no run") + b"-"
-        case [b"run-else", *words]: return b"-" if texts else run(words) + need(texts, "no run") + loaded()
+        case [b"regular", path]: note(path)
+        case [b"run", *words]: return preprocessed(words, may_fail=any(it[0] == b"run-else" for it in rows))
+        case [b"run-else", *words]: return b"-" if shown else preprocessed(words, may_fail=False) + loaded()
         case [b"pch", *pairs]: return read_all(precompiled(list(zip(pairs[::2], pairs[1::2]))))
         case [b"sources"]: return read_all(sources + [input_of(rows)])
-        case [b"sources-if-shown", what]: return read_all(sources + [input_of(rows)]) if is_shown(what, texts) else b"-"
+        case [b"sources-if-shown", what]: return read_all(sources + [input_of(rows)]) if has(shown, what) else b"-"
         case [b"times"]: return digest_all(b"%s %r" % (it, stamp(it)[:2]) for it in sources if isfile(it))
         case [b"refuse-if-shown", what]:
-            shown = texts if sources else [*texts, content(input_of(rows))]
-            return need(not is_shown(what, map(as_assembled, shown)), b"shown: " + what)
+            texts = shown if sources else [*shown, content(input_of(rows))]
+            need(not has(map(as_assembled, texts), what), b"shown: " + what)
         case _: raise KeepNothing("a row that is not known")
 def input_of(rows): return next(row[2] for row in rows if row[:2] == [b"is", b"input"])
-def is_shown(what, shown): return any(re.search(what, it, re.M) for it in shown)
+def has(texts, pattern): return any(re.search(pattern, text, re.M) for text in texts)
+def directory():
+    here, named = os.getcwdb(), VARIABLES.get(b"PWD", b"")
+    return named if isabs(named) and isdir(named) and samefile(named, here) else here
 def plan(words, source):  # what the driver would start, with the bytes of each program and file that it names
-    with tempfile.TemporaryDirectory(dir=STORE) as own: done = quiet([WORDS[0], b"-###", *words], {b"TMPDIR": own})
-    text = need(not done.returncode, "the plan fails") + re.sub(re.escape(own) + rb'[^\s"]*', b"", done.stderr)
-    names = [c_text(quoted) or plain for quoted, plain in re.findall(QUOTED + rb'|([^\s"]+)', text)]
-    names += [it.partition(b"=")[2] for it in names] + [which(it) for it in re.findall(rb'^ "?([^\s"]+)', text, re.M)]
+    with tempfile.TemporaryDirectory(dir=STORE) as own: ran = quietly([COMMAND[0], b"-###", *words], {b"TMPDIR": own})
+    need(not ran.returncode, "the plan fails")
+    text = re.sub(re.escape(own) + rb'[^\s"]*', b"", ran.stderr)  # (names of temporary files)
+    names = [c_string(quoted) or plain for quoted, plain in re.findall(STRING + rb'|([^\s"]+)', text)]
+    names += [it.partition(b"=")[2] for it in names]  # (as in -specs=FILE)
+    names += [program_file(it) for it in re.findall(rb'^ "?([^\s"]+)', text, re.M)]  # (a space begins a command)
     files = sorted({it for it in names if isfile(it) and it != source and abspath(it) not in made})
-    return text + b"".join(note(it) + digest(it) + sum_of_program(it) for it in files)
-def run(words):  # what the preprocessor writes, also into a file of the cache; nothing: it fails
+    for path in files: note(path)
+    return text + b"".join(digest(path) + sum_of_program(path) for path in files)
+def preprocessed(words, may_fail):  # what a run writes, also into a file of the cache
     with tempfile.NamedTemporaryFile(dir=STORE) as own:
-        done = quiet([WORDS[0], *(own.name if word == b"\0" else word for word in words)])
-        if done.returncode: return b""
-        need(re.search(MARKER, done.stdout, re.M) or not done.stdout.strip(), "a run hides its sources")
-        other = OTHER_TEXT.search(done.stdout)
-        for marker in re.finditer(MARKER, done.stdout, re.M):
-            name, is_before = c_text(marker[1]), not (other and other.start() < marker.start())
-            if name.startswith(b"<") or name.endswith(b"//"): continue
-            if name not in sources: sources.append(note(name) + name)
-            if is_before and b"1" in marker[2].split(): first.append(name)
-        texts.append(done.stdout)
-        return done.stdout + digest(content(own.name))
-def loaded(): return read_all(map(c_text, re.findall(PRECOMPILED, texts[0], re.M)))
+        ran = quietly([COMMAND[0], *(own.name if word == b"\0" else word for word in words)])
+        if ran.returncode: return need(may_fail and not shown, "no run") or b"-"
+        shown.append(ran.stdout)
+        take_markers(ran.stdout)
+        return ran.stdout + digest(content(own.name))
+def take_markers(text):  # the flag 1 stands where a file begins that is included
+    need(MARKER.search(text) or not text.strip(), "a run hides its sources")
+    other = OTHER_TEXT.search(text)
+    for marker in MARKER.finditer(text):
+        name = c_string(marker[1])
+        if name.startswith(b"<") or name.endswith(b"//"): continue  # (it is no file)
+        note(name)
+        if name not in sources: sources.append(name)
+        if b"1" in marker[2].split() and not (other and other.start() < marker.start()): leading.append(name)
+def loaded(): return read_all(map(c_string, LOADED.findall(shown[0])))
 def precompiled(pairs):  # where a search can find a precompiled header: files, and folders of files
-    headers = first + [name for what, name in pairs if what == b"header"]
-    folders = [name for what, name in pairs if what == b"folder"] + [dirname(it) for it in headers]
-    folders += [dirname(name) for what, name in pairs if what == b"beside"]
-    folders += [it for what, name in pairs if what == b"variable" for it in ENV.get(name, b"").split(b":")]
+    of = lambda kind: [name for what, name in pairs if what == kind]
+    headers = leading + of(b"header")
+    folders = of(b"folder") + [dirname(it) for it in headers + of(b"beside")]
+    folders += [it for name in of(b"variable") for it in VARIABLES.get(name, b"").split(b":")]
+    # a header a/b/c.h is also looked for as b/c.h and c.h
     tails = {header.split(b"/", count)[-1] for header in headers for count in range(header.count(b"/") + 1)}
     paths = {join(it, tail) + b".gch" for it in folders for tail in tails} | {it + b".gch" for it in headers + sources}
     paths |= {join(it, name) for it in paths if isdir(it) for name in os.listdir(it)}
     return sorted(it for it in paths if exists(it) and abspath(it) not in made)
-def c_text(text):
+def c_string(text):  # what a string of C stands for
     return re.sub(rb"\\([0-7]{1,3}|.)", lambda it: b"%c" % (int(it[1], 8) & 255) if it[1].isdigit() else it[1], text)
 def as_assembled(text):  # strings side by side are joined, and bytes written as numbers are read
     byte = lambda it: b"%c" % (int(it[1] or it[2] or it[3], 8 if it[3] else 16) & 255)
     return NUMBER.sub(byte, re.sub(rb'"\s*"', b"", text))
 def read_all(paths): return digest_all(it for path in paths for it in (path, read(path)))
-def read(path): return note(path) + (b"=" + content(path) if isfile(path) else b"/" if isdir(path) else b"-")
+def read(path):
+    note(path)
+    return b"=" + content(path) if isfile(path) else b"/" if isdir(path) else b"-"
 def note(path):  # a pipe or a device can be read once only, and /dev/stdin may be a file
     is_usual = isfile(path) or isdir(path) or not exists(path)
     need(is_usual and not re.match(rb"/+(dev|proc)/", abspath(path)), b"no regular file: " + path)
-    if not isdir(path) and abspath(path) not in made: seen.setdefault(path, stamp(path))
-    return b""
+    if not isdir(path) and abspath(path) not in made: stamps.setdefault(path, stamp(path))
 def sum_of_program(path):  # and of its libraries
     need(path, "no program")
-    return b"".join(map(sum_of, [path, *re.findall(rb"=> (/\S+)", quiet([b"ldd", path]).stdout)]))
+    return b"".join(map(sum_of, [path, *re.findall(rb"=> (/\S+)", quietly([b"ldd", path]).stdout)]))
 def sum_of(path):  # remembered by the file's stamp
-    note = join(STORE, digest(repr((path, stamp(path))).encode()).hex().encode())
-    if not exists(note): write(note, digest(content(path)))
-    return content(note)
+    known = join(STORE, digest(repr((path, stamp(path))).encode()).hex().encode())
+    if not exists(known): write(known, digest(content(path)))
+    return content(known)
 
-# ---- 4. A miss: compile, and keep what came if all that was read is as it was
+# ---- 4. A miss: compile, and keep what came if all that was read is as it was, and last changed before the start
 def compile_and_keep(entry, rows, outputs):
-    before = {path: stamp(path) for _, path, *_ in outputs}
+    before = {path: stamp(path) for path in outputs}
     built, given = [row[1] for row in rows if row[0] == b"arg"], [b"key", b"is", b"run-words", b"given"]
     words = next((row[4:] for row in rows if row[:4] == given), built)
-    done = subprocess.run([WORDS[0], *words], capture_output=True)
-    sys.stdout.buffer.write(done.stdout)
-    show(done.stderr, rows)
-    written = [path for _, path, *_ in outputs if stamp(path) not in (None, before[path])]
-    is_whole = done.returncode == 0 and not done.stdout and all(more or path in written for _, path, *more in outputs)
-    is_kept = is_whole and all(stamp(path) == was and (not was or was[3] < STARTED) for path, was in seen.items())
-    if is_kept: keep(entry, (done.stderr, {path: content(path) for path in written}))
+    ran = subprocess.run([COMMAND[0], *words], capture_output=True)
+    sys.stdout.buffer.write(ran.stdout)
+    show(ran.stderr, rows)
+    written = [path for path in outputs if stamp(path) not in (None, before[path])]
+    is_whole = not ran.returncode and not ran.stdout and all(path in written or outputs[path] for path in outputs)
+    is_kept = is_whole and all(stamp(path) == was and (not was or was[3] < STARTED) for path, was in stamps.items())
+    if is_kept: keep(entry, (ran.stderr, {path: content(path) for path in written}))
     log("miss" if is_kept else "unkept", entry[-64:].decode())
-    sys.exit(done.returncode)
+    return ran.returncode
 def keep(entry, parts):
     try: write(entry, digest(packed := marshal.dumps(parts)) + packed)
     except OSError: pass  # the store may be full: the next call is a miss again
@@ -149,40 +165,46 @@ def show(messages, rows):  # built commands force colours
     sys.stderr.buffer.write(re.sub(rb"\x1b\[[\d;]*[mK]", b"", messages) if is_plain else messages)
 
 # ---- 5. A hit: put back what was kept. What is no whole entry is a miss
-def restored(entry, rows, outputs):
+def restore(entry, rows, outputs):
     kept = content(entry) if isfile(entry) else b""
     if digest(kept[32:]) != kept[:32]: return False
     messages, files = marshal.loads(kept[32:])
-    for _, path, *_ in outputs:
+    for path in outputs:
         if path in files: write(path, files[path])
+    show(messages, rows)
     log("hit", entry[-64:].decode())
-    return show(messages, rows) or True
+    return True
 
 # ---- tools
 def content(path): return pathlib.Path(os.fsdecode(path)).read_bytes()
-def stamp(path):
+def stamp(path):  # size and times; None: there is nothing
     it = os.stat(path) if exists(path) else None
     return it and (it.st_size, it.st_mtime_ns, it.st_ino, it.st_ctime_ns)
 def is_own(path):  # a link would be replaced, where a compiler writes through it
-    return not os.path.lexists(path) or isfile(path) and not os.path.islink(path) and os.stat(path).st_nlink == 1
-def which(name): return os.fsencode(shutil.which(name) or b"")
-def quiet(words, more={}):
-    return subprocess.run(words, stdin=subprocess.DEVNULL, capture_output=True, env={**ENV, **more})
-def log(what, why): print(what, why, "|", *sys.argv[1:], file=open(ENV.get(b"CACHE_LOG", os.devnull), "a"))
-def stop(text, status): sys.exit(print(text, file=sys.stderr) or status)
+    return not lexists(path) or isfile(path) and not islink(path) and os.stat(path).st_nlink == 1
+def program_file(name): return os.fsencode(shutil.which(name) or b"")
+def quietly(words, more={}):
+    return subprocess.run(words, stdin=subprocess.DEVNULL, capture_output=True, env={**VARIABLES, **more})
+def log(what, why):  # (names may be in any encoding)
+    with open(VARIABLES.get(b"CACHE_LOG", os.devnull), "a", errors="surrogateescape") as file:
+        print(what, why, "|", *sys.argv[1:], file=file)
 
-if not WORDS or b"DESCRIBE" not in ENV or not STORE or not isdir(STORE): stop(__doc__, 64)
-try:
+# ---- a call
+def call():
     rows = described()
     key, may = ([row[1:] for row in rows if row[0] == name] for name in (b"key", b"keep"))
-    why = [*(it for it in may if it != [b"yes"]), *(row[1:] for row in rows if row[0] == b"reason"), [b"no key"]]
-    need(key and may == [[b"yes"]] and [b"version", b"1"] in rows, b" ".join(why[0]))
-    outputs = [row[1:] for row in key if row[0] == b"output"]
-    made.update(abspath(path) for _, path, *_ in outputs)
-    for _, path, *_ in outputs: need(is_own(path), b"an output is no file, or has two names: " + path)
+    why_not = [*(it for it in may if it != [b"yes"]), *(row[1:] for row in rows if row[0] == b"reason"), [b"no key"]]
+    need(key and may == [[b"yes"]] and [b"version", b"1"] in rows, b" ".join(why_not[0]))
+    outputs = {row[2]: row[3:] == [b"optional"] for row in key if row[0] == b"output"}  # whether each may lack
+    for path in outputs: need(is_own(path), b"an output is no file, or has two names: " + path)
+    made.update(map(abspath, outputs))
     entry = join(STORE, key_of(key))
-    if restored(entry, rows, outputs): sys.exit()
-    compile_and_keep(entry, rows, outputs)
-except (KeepNothing, OSError) as why: log("given", why)  # what can't be written, the compiler says in its words
-try: os.execvp(WORDS[0], WORDS)
+    return 0 if restore(entry, rows, outputs) else compile_and_keep(entry, rows, outputs)
+def stop(text, status): sys.exit(print(text, file=sys.stderr) or status)
+
+if not COMMAND or b"DESCRIBE" not in VARIABLES or not STORE or not isdir(STORE): stop(__doc__, 64)
+try: sys.exit(call())
+except (KeepNothing, OSError, ValueError) as why:  # (a word with a NUL, which only a file can have, is a ValueError)
+    log("given", why)  # what can't be written, the compiler says in its words
+try: os.execvp(COMMAND[0], COMMAND)
 except OSError as error: stop(f"cache.py: {sys.argv[1]}: {error.strerror}", 127)

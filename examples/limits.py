@@ -150,19 +150,19 @@ def bytes_of(text):
 
 
 def line_of(compiler, words, beside):
-    """The command line of a compiler, with what stands beside it, as ", `r`: `a.c`, behind `-c b.c`"."""
+    """The command line of a compiler, with what stands beside it, as ", `r`: `a.c`, after `-c b.c`"."""
     line = Line(compiler, shlex.split(words))
     for name, text in re.findall(r", `([^`]*)`: `([^`]*)`", beside):
         (line.environment if name.isupper() else line.files)[name] = bytes_of(text)
-    before = re.search(r", behind `([^`]*)`", beside)
+    before = re.search(r", after `([^`]*)`", beside)
     line.before = shlex.split(before[1]) if before else None
     return line
 
 
 def lines_of(cell):
-    """The command lines of a cell: a compiler's name holds for those behind it, and those before are of gcc and clang."""
+    """The command lines of a cell: a compiler's name holds for those after it, and those before are of gcc and clang."""
     lines, compilers = [], ["gcc", "clang"]
-    for names, words, beside in re.findall(r"(?:^|; )([a-z+, -]*?) ?`([^`]*)`((?:, (?:behind )?`[^`]*`(?:: `[^`]*`)?)*)", cell):
+    for names, words, beside in re.findall(r"(?:^|; )([a-z+, -]*?) ?`([^`]*)`((?:, (?:after )?`[^`]*`(?:: `[^`]*`)?)*)", cell):
         compilers = names.split(", ") if names else compilers
         lines += [line_of(compiler, words, beside) for compiler in compilers]
     return lines
@@ -262,7 +262,7 @@ def without_time(data):
 
 
 def run(line, commands, folder, environment):
-    """Runs the commands one behind the other in a new folder, which is taken away again. What is told is of the last one."""
+    """Runs the commands one after the other in a new folder, which is taken away again. What is told is of the last one."""
     os.mkdir(folder)
     try:
         fill(folder, {**FILES, **line.files})
@@ -373,7 +373,7 @@ def try_rows(program, rows, folder):
 
 INPUTS = ["r.c"] * 12 + ["r.cc"] * 4 + ["sub/r.c", "r.m", "a.s", "a.S", "a.h"]
 
-# Groups of words that builds write, and groups that hazards know; those of one compiler alone stand behind its name.
+# Groups of words that builds write, and groups that hazards know; those of only one compiler stand after its name.
 USUAL = {
     "gnu": """
 -O0; -O2; -Os; -g; -g -O2; -Wall; -Wextra; -Wall -Wextra; -Werror; -Wno-unused; -pipe; -fPIC; -fno-common; -fno-strict-aliasing; -ffunction-sections

@@ -53,7 +53,7 @@ static Bytes packed(const Words &parts) {
 static Words unpacked(const Bytes &text) {
     Words all;
     for (size_t at = 0, colon; (colon = text.find(':', at)) != Bytes::npos; at = colon + 1 + all.back().size())
-        all.push_back(text.substr(colon + 1, std::stoul(text.substr(at, colon - at))));
+        all.push_back(text.substr(colon + 1, std::strtoul(&text[at], nullptr, 10)));
     return all;
 }
 
@@ -109,14 +109,19 @@ static Bytes as_assembled(const Bytes &text) { return unescaped(without(text, "\
 // ---- files
 
 static std::error_code ignored;
-static bool is_file(const Bytes &path) { return fs::is_regular_file(path, ignored); }
-static bool is_folder(const Bytes &path) { return fs::is_directory(path, ignored); }
-static Bytes whole(const Bytes &path) { return fs::absolute(path).lexically_normal().string(); }
+static mode_t kind_of(const Bytes &path) {
+    struct stat it;
+    return stat(path.c_str(), &it) ? 0 : it.st_mode & S_IFMT;
+}
+static bool is_file(const Bytes &path) { return kind_of(path) == S_IFREG; }
+static bool is_folder(const Bytes &path) { return kind_of(path) == S_IFDIR; }
+static const fs::path here = fs::current_path(ignored);
+static Bytes whole(const Bytes &path) { return (here / path).lexically_normal().string(); }
 static Bytes folder_of(const Bytes &path) { return fs::path(path).parent_path().string(); }
 static Bytes inside(const Bytes &folder, const Bytes &name) { return (fs::path(folder) / name).string(); }
 static Words files_in(const Bytes &folder) {
     std::set<Bytes> all;
-    for (const auto &it : fs::directory_iterator(folder, ignored)) all.insert(it.path().string());
+    for (fs::directory_iterator it(folder, ignored), end; it != end; it.increment(ignored)) all.insert(it->path().string());
     return Words(all.begin(), all.end());
 }
 static Bytes content(const Bytes &path) {
@@ -126,9 +131,16 @@ static Bytes content(const Bytes &path) {
     return text;
 }
 
+static int64_t nanoseconds(const timespec &it) { return int64_t(it.tv_sec) * 1000000000 + it.tv_nsec; }
+static int64_t now() { timespec it; return clock_gettime(CLOCK_REALTIME, &it), nanoseconds(it); }
+static const int64_t started = now() - 10000000;  // (clocks of file systems are coarse)
+
+// What ends the names of this process's own files. Two containers with one store have the same process numbers.
+static const Bytes mine = "." + std::to_string(getpid()) + "." + std::to_string(now());
+
 // Writes another file first, and renames it: nobody sees a part of it, and a link is replaced, not followed.
 static bool write_file(const Bytes &path, const Bytes &text) {
-    const Bytes part = path + "." + std::to_string(getpid());
+    const Bytes part = path + mine;
     const int file = open(part.c_str(), O_WRONLY | O_CREAT | O_EXCL | O_CLOEXEC, 0666);
     if (file < 0) return false;
     const bool is_whole = write(file, text.data(), text.size()) == ssize_t(text.size());
@@ -136,25 +148,40 @@ static bool write_file(const Bytes &path, const Bytes &text) {
     return unlink(part.c_str()), false;
 }
 
-static int64_t nanoseconds(const timespec &it) { return int64_t(it.tv_sec) * 1000000000 + it.tv_nsec; }
-static int64_t now() { timespec it; return clock_gettime(CLOCK_REALTIME, &it), nanoseconds(it); }
-static const int64_t started = now() - 10000000;  // (clocks of file systems are coarse)
-
 // What changes with a file, and when it last changed. If there is none, `text` is empty.
 struct Stamp {
     Bytes size_and_time, text;
-    int64_t changed = 0;
+    mode_t kind = 0;
+    int64_t size = 0, changed = 0;
     explicit Stamp(const Bytes &path) {
         struct stat it;
         if (stat(path.c_str(), &it)) return;
         const int64_t written = nanoseconds(it.st_mtim), set = nanoseconds(it.st_ctim);
-        size_and_time = packed({std::to_string(it.st_size), std::to_string(written)});
+        kind = it.st_mode & S_IFMT, size = it.st_size, changed = std::max(written, set);
+        size_and_time = packed({std::to_string(size), std::to_string(written)});
         text = size_and_time + packed({std::to_string(it.st_ino), std::to_string(set)});
-        changed = std::max(written, set);
     }
     // A file that has only just changed may change again within the same time.
     bool is_settled() const { return changed < started - 2000000000; }
 };
+
+static std::map<Bytes, Bytes> seen;  // the files that were read, and their stamps then
+static std::set<Bytes> made;         // the whole paths of the outputs
+
+// A pipe or a device can be read once only, and /dev/stdin may be a file.
+static void note(const Bytes &path) {
+    const Bytes it = whole(path);
+    const Stamp is(path);
+    const bool is_usual = is.kind == 0 || is.kind == S_IFREG || is.kind == S_IFDIR;
+    need(is_usual && it.rfind("/dev/", 0) && it.rfind("/proc/", 0), "no regular file: " + path);
+    if (is.kind != S_IFDIR && !made.count(it)) seen.emplace(path, is.text);
+}
+static bool is_as_it_was() {
+    return std::all_of(seen.begin(), seen.end(), [](const auto &it) {
+        const Stamp is(it.first);
+        return is.text == it.second && is.changed < started;
+    });
+}
 
 // ---- the store: lists by name. Before each stands its sum: one that is broken is as good as none
 
@@ -172,29 +199,102 @@ static void put(const Bytes &name, const Words &parts) {
     write_file(place_of(name), sum_of(packed(parts)) + " " + packed(parts));
 }
 
-// What a slow look at a file gives: remembered by the file's stamp.
-template <class Look> static Words remembered(const Bytes &what, const Bytes &path, Look look) {
-    const Stamp is(path);
-    const Bytes name = sum_of(packed({what, path, is.text}));
-    Words parts;
-    if (get(name, parts)) return parts;
-    parts = look(path);
-    if (is.is_settled()) put(name, parts);
-    return parts;
-}
-
-// If the store is too large, what was not used for longest goes, until four fifths are left.
+// If the store is too large, what was not used for longest goes, until four fifths are left. It is named as an entry, and
+// stands where one does: the folder may have other files too, and nobody wants these removed.
 static void remove_oldest() {
-    std::vector<std::tuple<fs::file_time_type, double, fs::path>> all;
+    std::vector<std::tuple<int64_t, double, Bytes>> all;
     double size = 0, limit = getenv("CACHE_SIZE") ? atof(getenv("CACHE_SIZE")) : 5e9;
-    for (const auto &it : fs::recursive_directory_iterator(store, ignored)) {
-        if (!it.is_regular_file(ignored)) continue;
-        all.emplace_back(it.last_write_time(ignored), it.file_size(ignored), it.path());
-        size += std::get<1>(all.back());
-    }
+    for (const Bytes &folder : files_in(store))
+        for (const Bytes &path : files_in(folder)) {
+            const Stamp is(path);
+            const Bytes name = fs::path(path).filename().string();
+            const bool is_entry = fs::path(folder).filename() == name.substr(0, 2) && matches(name, "^[0-9]+[.][0-9]+");
+            if (is.kind != S_IFREG || !is_entry) continue;
+            all.emplace_back(is.changed, is.size, path);
+            size += double(is.size);
+        }
     std::sort(all.begin(), all.end());
     for (size_t i = 0; i < all.size() && size > limit * (i ? 0.8 : 1); size -= std::get<1>(all[i++]))
-        fs::remove(std::get<2>(all[i]), ignored);
+        unlink(std::get<2>(all[i]).c_str());
+}
+
+// ---- memory: what was found is kept with all that was looked at for it, and holds while all that is as it was
+
+// What is looked at while something is found. What the inner of two looks at, the outer stands on too.
+struct Finding {
+    static inline Finding *current = nullptr;
+    Finding *outer = current;
+    struct Known { Bytes answer, sum; };
+    std::map<Bytes, Known> questions;
+    bool may_be_kept = true;
+    Finding() { current = this; }
+    ~Finding() {
+        current = outer;
+        if (outer) outer->questions.insert(questions.begin(), questions.end());
+    }
+};
+static void keep_no_finding() { if (Finding::current) Finding::current->may_be_kept = false; }
+
+// A question is a letter and a path: `=` what a file or a folder holds, `?` what stands there, `@` where links lead. Of
+// what is not there it is asked whether it comes; and if its folder is not there, whether that does.
+static void ask(char letter, const Bytes &path) {
+    if (letter == '=') note(path);
+    if (!Finding::current) return;
+    const bool is_there = letter == '@' || kind_of(path);
+    const Bytes folder = is_there ? "" : folder_of(path);
+    Finding::current->questions[is_there ? letter + path : "?" + (folder.empty() || kind_of(folder) ? path : folder)];
+}
+// How it is. A file or a folder as it was has the same stamp; one that has another stamp may still hold the same.
+static Bytes answer_to(const Bytes &question) {
+    const Bytes path = question.substr(1);
+    if (question[0] == '@') return fs::canonical(path, ignored).string();
+    return question[0] == '=' ? Stamp(path).text : std::to_string(kind_of(path));
+}
+static Bytes sum_of_file(const Bytes &path);
+static Bytes sum_for(const Bytes &question) {
+    const Bytes path = question.substr(1);
+    const mode_t kind = question[0] == '=' ? kind_of(path) : 0;
+    return kind == S_IFREG ? sum_of_file(path) : kind == S_IFDIR ? sum_of(packed(files_in(path))) : "none";
+}
+
+static Words recalled;  // questions of what was remembered: their files were not read, and count as read in a miss
+
+// What `find` gives, or gave when all that it looked at was as it is now.
+template <class Find> static Bytes remembered(const Bytes &what, Find find) {
+    const Bytes name = sum_of(what);
+    Finding finding;
+    Words list;    // what was found; then each question, its answer, and the sum of what is held
+    char slot = '0';
+    for (; slot < '8' && get(name + slot, list); slot++) {
+        size_t at = 1;
+        const auto is_same = [&] { return list[at + 2] != "none" && list[at + 2] == sum_for(list[at]); };
+        while (at < list.size() && (list[at + 1] == answer_to(list[at]) || is_same())) at += 3;
+        if (at < list.size()) continue;
+        for (at = 1; at < list.size(); at += 3) {
+            recalled.push_back(list[at]);
+            if (finding.outer) finding.questions[list[at]] = {list[at + 1], list[at + 2]};
+        }
+        return list[0];
+    }
+    list = {find()};
+    for (auto &[it, known] : finding.questions) {
+        const Stamp is(it.substr(1));
+        if (it[0] != '@' && !is.is_settled() && (it[0] == '=' || is.kind != S_IFDIR)) keep_no_finding();
+        const Bytes answer = answer_to(it);
+        if (known.answer != answer) known = {answer, sum_for(it)};
+        list.insert(list.end(), {it, answer, known.sum});
+    }
+    if (finding.may_be_kept && is_as_it_was()) put(name + (slot < '8' ? slot : char('0' + getpid() % 8)), list);
+    return list[0];
+}
+
+static Bytes sum_of_file(const Bytes &path) {
+    const Stamp is(path);
+    if (is.size < 1000000) return sum_of(content(path));
+    return remembered("bytes" + path + is.text, [&] {
+        if (!is.is_settled()) keep_no_finding();
+        return sum_of(content(path));
+    });
 }
 
 // ---- programs
@@ -208,7 +308,7 @@ static Ran run(const Words &words, bool is_quiet, Bytes variable = "") {
     for (const Bytes &it : words) all.push_back(const_cast<char *>(it.c_str()));
     all.push_back(nullptr);
     const int out = memfd_create("out", MFD_CLOEXEC), err = memfd_create("err", MFD_CLOEXEC);
-    const pid_t child = fork();
+    const pid_t child = out < 0 || err < 0 ? -1 : fork();
     if (!child) {
         if (!variable.empty()) putenv(&variable[0]);
         if (is_quiet) dup2(open("/dev/null", O_RDONLY), 0);
@@ -217,32 +317,35 @@ static Ran run(const Words &words, bool is_quiet, Bytes variable = "") {
         _exit(errno == ENOENT ? 127 : 126);
     }
     int status = 0;
-    need(waitpid(child, &status, 0) == child, "a program can't be started");
+    need(child > 0 && waitpid(child, &status, 0) == child, "a program can't be started");
     const auto taken = [](int file) { return content("/proc/self/fd/" + std::to_string(file)); };
     return {WIFEXITED(status) ? WEXITSTATUS(status) : 128 + WTERMSIG(status), taken(out), taken(err)};
 }
 
 static Bytes value_of(const Bytes &name) { return getenv(name.c_str()) ? Bytes("=") + getenv(name.c_str()) : "-"; }
+static Words folders_of_path() { return cut(value_of("PATH").substr(1), ":").between; }
 
 // The file of a program; empty: there is none.
 static Bytes program_of(const Bytes &name) {
-    for (const Bytes &folder : cut(name.find('/') != Bytes::npos ? "" : value_of("PATH").substr(1), ":").between)
+    for (const Bytes &folder : name.find('/') != Bytes::npos ? Words{""} : folders_of_path())
         if (const Bytes file = inside(folder, name); is_file(file) && !access(file.c_str(), X_OK)) return file;
     return "";
 }
-
-static Bytes sum_of_file(const Bytes &path) {
-    return remembered("bytes", path, [](const Bytes &it) { return Words{sum_of(content(it))}; }).at(0);
+static bool is_script(const Bytes &program) {
+    char head[2] = {};
+    return std::ifstream(program).read(head, 2) && head[0] == '#' && head[1] == '!';
 }
 
-// The bytes of a program and of its libraries. Which these are is asked once, while the program, the loader's list and
-// its variables stay as they are. A library that newly stands earlier in a folder that the program names is not seen.
+// The bytes of a program and of its libraries. A library that newly stands in an earlier folder is not seen.
 static Bytes sum_of_program(const Bytes &path) {
-    const Bytes loader = value_of("LD_LIBRARY_PATH") + value_of("LD_PRELOAD") + Stamp("/etc/ld.so.cache").text;
-    const auto ask_for = [](const Bytes &program) { return cut(run({"ldd", program}, true).out, "/[^ \n]+").found; };
-    Bytes sums = sum_of_file(path);
-    for (const Bytes &library : remembered(loader, path, ask_for)) sums += sum_of_file(library);
-    return sums;
+    return remembered("program" + path + value_of("LD_LIBRARY_PATH") + value_of("LD_PRELOAD"), [&] {
+        Bytes sums;
+        for (const Bytes &it : Words{path} + cut(run({"ldd", path}, true).out, "/[^ \n]+").found) {
+            ask('=', it);
+            sums += sum_of_file(it);
+        }
+        return ask('=', "/etc/ld.so.cache"), sums;
+    });
 }
 
 // ---- 1. ask
@@ -260,8 +363,8 @@ static Bytes served_name(const Bytes &compiler) {
 }
 
 // Asks until the answer wants nothing that is there.
-static scl::Answer ask(const Bytes &compiler, char **words) {
-    std::list<Bytes> texts = {fs::current_path().string(), served_name(compiler)};  // the request has views of them
+static scl::Answer described(const Bytes &compiler, char **words) {
+    std::list<Bytes> texts = {here.string(), served_name(compiler)};  // the request has views of them
     scl::Request request(texts.back());
     request.set_directory(texts.front());
     request.raw().wants_questions = request.raw().wants_key = true;
@@ -286,20 +389,15 @@ struct Row {
     Bytes sum;      // of the answer
 };
 
-// ---- 2. hash the rows, 3. answer them
-
 struct Key {
     Bytes compiler, input;
     scl::Answer said;
     Words command;                  // what a miss runs
     std::vector<Row> rows;
-    std::vector<Words> direct;
+    std::vector<Words> direct;      // rows `direct`: the name, and the fields
     std::map<Bytes, bool> outputs;  // whether each may lack
-    std::set<Bytes> made;           // the outputs' whole paths
     bool has_colors, has_else = false, has_failed = false;
-    std::map<Bytes, Bytes> seen;    // the files that were read, and their stamps then
     Words texts, sources, first;    // what runs wrote; the files that they name; those that they name before other text
-    Words looked;                   // where a precompiled header was looked for
 
     Key(const Bytes &program, scl::Answer &&answer) : compiler(program), said(std::move(answer)) {
         Bytes why(said.reason());
@@ -327,8 +425,19 @@ struct Key {
         if (it[1] == "run-words" && it[2] == "given") command.assign(it.begin() + 3, it.end());
     }
 
-    // Of some rows only the name is hashed: their fields say what to start, and where to look.
-    Bytes sum() {
+    // ---- 2. hash the rows. Of some only the name is hashed: their fields say what to start, and where to look
+
+    Bytes find() {
+        Bytes start;
+        for (Row &row : rows) {
+            if (row.is.is_asked && row.is.kind < SCL_KEY_RUN) row.sum = sum_of(answer(row));
+            start += sum_of(packed(row.words)) + row.sum;
+        }
+        for (const Words &row : direct) start += sum_of(packed(row) + (row[0] == "env" ? value_of(row[1]) : ""));
+        if (!has_direct_mode()) return hash_rows();
+        return remembered("key" + start, [&] { return ask_where_headers_are(hash_rows()); });
+    }
+    Bytes hash_rows() {
         Bytes sums;
         for (Row &row : rows) {
             if (row.is.is_asked && row.sum.empty()) row.sum = sum_of(answer(row));
@@ -336,13 +445,16 @@ struct Key {
         }
         return sum_of(sums);
     }
+
+    // ---- 3. answer them
+
     Bytes answer(const Row &row) {
         const Words fields(row.words.begin() + 1, row.words.end());
         const Bytes it = fields.empty() ? "" : fields[0];
         switch (row.is.kind) {
         case SCL_KEY_DIRECTORY: return directory();
         case SCL_KEY_COMPILER: return fs::path(compiler).filename().string() + sum_of_program(program_of(compiler));
-        case SCL_KEY_PLAN: return plan(fields);
+        case SCL_KEY_PLAN: return of_driver(fields, [&] { return plan(fields); });
         case SCL_KEY_ENV: return value_of(it);
         case SCL_KEY_UNSET: return need(value_of(it) == "-", "set: " + it), "";
         case SCL_KEY_FILE: return need(is_file(it), "no file: " + it), read(it);
@@ -359,32 +471,18 @@ struct Key {
         }
     }
 
-    // A pipe or a device can be read once only, and /dev/stdin may be a file.
-    void note(const Bytes &path) {
-        const Bytes it = whole(path);
-        const bool is_usual = is_file(path) || is_folder(path) || !fs::exists(path, ignored);
-        need(is_usual && it.rfind("/dev/", 0) && it.rfind("/proc/", 0), "no regular file: " + path);
-        if (!is_folder(path) && !made.count(it)) seen.emplace(path, Stamp(path).text);
-    }
-    Bytes read(const Bytes &path) {
-        note(path);
+    static Bytes read(const Bytes &path) {
+        ask('=', path);
         return is_file(path) ? "=" + content(path) : is_folder(path) ? "/" : "-";
     }
-    Bytes read_all(const Words &paths) {
+    static Bytes read_all(const Words &paths) {
         Bytes sums;
         for (const Bytes &path : paths) sums += sum_of(path) + sum_of(read(path));
         return sums;
     }
-    bool is_as_it_was() const {
-        return std::all_of(seen.begin(), seen.end(), [](const auto &it) {
-            const Stamp is(it.first);
-            return is.text == it.second && is.changed < started;
-        });
-    }
-
     static Bytes directory() {
         const char *named = getenv("PWD");
-        return named && *named == '/' && fs::equivalent(named, ".", ignored) ? named : fs::current_path().string();
+        return named && *named == '/' && fs::equivalent(named, here, ignored) ? named : here.string();
     }
     Words all_sources() const { return has(sources, input) ? sources : sources + Words{input}; }
     Bytes stamps_of_sources() const {
@@ -400,8 +498,46 @@ struct Key {
             need(!matches(as_assembled(it), pattern), "shown: " + pattern);
     }
 
+    // What is found with the compiler's driver. One takes 2 to 30 milliseconds to start; so it is remembered for the
+    // words and all variables, while what the driver looks at is as it was. What a script looks at, nobody knows; nor what
+    // a program does that starts the driver, as ccache by the name gcc.
+    template <class Find> Bytes of_driver(const Words &words, Find find) const {
+        const Bytes program = program_of(compiler);
+        if (is_script(program)) return find();
+        const Bytes place = packed({compiler, program, Stamp(program).text, answer_to("@" + program), here.string()});
+        Words variables, flags;
+        for (char **it = environ; *it; it++) variables.push_back(*it);
+        for (const Bytes &it : words) flags.push_back(it == input ? "x" : outputs.count(it) ? "y" : it);
+        return remembered("driver" + place + packed(variables + words), [&] {
+            sum_of_program(program);
+            const auto ask_folders = [&] { return ask_where_it_searches(flags); };
+            if (remembered("folders" + place + packed(variables + flags), ask_folders).empty()) keep_no_finding();
+            return find();
+        });
+    }
+    // The driver names its folders of programs and libraries. Above them another version may come to stand; and what it
+    // finds in none, it looks for in PATH.
+    Bytes ask_where_it_searches(const Words &flags) const {
+        const Ran ran = run(Words{compiler, "-###", "-print-search-dirs"} + flags, true, "LC_ALL=C");
+        const Words lists = cut(ran.out, "^(install|programs|libraries): .*$").found;
+        if (ran.status || lists.size() < 2 || !is_of_driver_itself(ran.err)) return "";
+        for (const Bytes &folder : folders_of_path()) ask('=', folder);
+        for (const Bytes &list : lists)
+            for (const Bytes &folder : cut(without(list, "^[a-z]+: =?"), ":").between)
+                ask('=', folder), ask('=', inside(folder, ".."));
+        return ran.out;
+    }
+
+    // A driver says how it was called, or in which folder it stands.
+    bool is_of_driver_itself(const Bytes &text) const {
+        const Bytes program = program_of(compiler), file = fs::canonical(program, ignored).string();
+        const Words itself = {"COLLECT_GCC=" + compiler, "InstalledDir: " + folder_of(program), "InstalledDir: " + folder_of(file)};
+        const Words names = cut(text, "^(COLLECT_GCC=|InstalledDir: ).*$").found;
+        return std::any_of(names.begin(), names.end(), [&](const Bytes &it) { return has(itself, it); });
+    }
+
     // What the driver would start, and the bytes of each program and file that it names.
-    Bytes plan(const Words &words) {
+    Bytes plan(const Words &words) const {
         const Bytes own = store + "/scl-plan";
         fs::create_directories(own, ignored);
         const Ran ran = run(Words{compiler, "-###"} + words, true, "TMPDIR=" + own);
@@ -415,16 +551,16 @@ struct Key {
             paths.insert({word, word.substr(word.find('=') + 1)});
         }
         for (const Bytes &path : paths) {
-            if (!is_file(path) || path == input || made.count(whole(path))) continue;
-            note(path);
-            sums += sum_of(path) + sum_of_program(path);
+            if (path.empty() || path == input || made.count(whole(path))) continue;
+            ask(is_file(path) ? '=' : '?', path);
+            if (is_file(path)) sums += sum_of(path) + sum_of_program(path);
         }
         return text + sums;
     }
 
     // What the preprocessor writes, also into a file of the cache's own.
     Bytes preprocessed(Words words) {
-        const Bytes own = store + "/own." + std::to_string(getpid());
+        const Bytes own = store + "/own" + mine;
         std::replace(words.begin(), words.end(), Bytes(1, '\0'), own);
         const Ran ran = run(Words{compiler} + words, true);
         const Bytes written = is_file(own) ? content(own) : "";
@@ -446,7 +582,7 @@ struct Key {
         for (size_t i = 0; i < markers.size(); i++) {
             const Bytes name = unquoted(markers[i]);
             if (matches(name, "^<|//$")) continue;
-            if (!has(sources, name)) note(name), sources.push_back(name);
+            if (!has(sources, name)) ask('=', name), sources.push_back(name);
             if (i < before && matches(markers[i], "\"[ 0-9]* 1[ 0-9]*$")) first.push_back(name);
         }
     }
@@ -460,7 +596,7 @@ struct Key {
     }
 
     // The precompiled headers that a search can find (docs/PROTOCOL.md, A key): files, and files of folders.
-    Words precompiled(const Words &pairs) {
+    Words precompiled(const Words &pairs) const {
         Words headers = first, folders, all;
         for (size_t i = 0; i + 1 < pairs.size(); i += 2) {
             const Bytes &what = pairs[i], &name = pairs[i + 1];
@@ -476,102 +612,60 @@ struct Key {
             for (size_t at = 0; at <= header.size(); at = std::min(header.find('/', at), header.size()) + 1)
                 for (const Bytes &folder : folders) paths.insert(inside(folder, header.substr(at)) + ".gch");
         for (const Bytes &path : paths)
-            for (const Bytes &it : Words{path} + files_in(path)) if (!made.count(whole(it))) looked.push_back(it);
-        for (const Bytes &path : looked) if (fs::exists(path, ignored) && !is_folder(path)) all.push_back(path);
+            for (const Bytes &it : Words{path} + files_in(path)) {
+                if (made.count(whole(it))) continue;
+                ask('=', it);
+                if (kind_of(it) && !is_folder(it)) all.push_back(it);
+            }
         return all;
     }
-};
 
-// ---- 4. direct mode: lists of how files were, by which the key is known without a run
+    // ---- 4. direct mode: the key is remembered. What was read for it is asked already; so only what may come is not
 
-struct Direct {
-    Key &key;
-    Bytes first;    // the first key; empty: the mode is not used
-
-    explicit Direct(Key &it) : key(it) {
-        Bytes sums;
-        for (Row &row : key.rows) {
-            if (row.is.is_asked && row.is.kind < SCL_KEY_RUN) row.sum = sum_of(key.answer(row));
-            sums += sum_of(packed(row.words)) + row.sum;
-        }
-        for (const Words &row : key.direct) {
-            if (row.size() < 2 || !has({"env", "search", "first", "named", "refuse-if-read"}, row[0])) return;
-            sums += sum_of(packed(row)) + sum_of(row[0] == "env" ? value_of(row[1]) : "");
-        }
-        if (!key.direct.empty()) first = sum_of(sums);
+    bool has_direct_mode() const {
+        static const Words known = {"env", "search", "first", "named", "refuse-if-read"};
+        const auto is_known = [](const Words &row) { return row.size() > 1 && has(known, row[0]); };
+        return !direct.empty() && std::all_of(direct.begin(), direct.end(), is_known);
     }
-    // The fields of all rows of a name.
-    Words rows(const Bytes &name) const {
+    // The fields of all rows `direct` of a name.
+    Words fields_of(const Bytes &name) const {
         Words all;
-        for (const Words &row : key.direct) if (row[0] == name) all.insert(all.end(), row.begin() + 1, row.end());
+        for (const Words &row : direct) if (row[0] == name) all.insert(all.end(), row.begin() + 1, row.end());
         return all;
     }
-
-    // How a thing is: `=P` the bytes of a file, or a folder's names; `?P` whether P is a file; `@P` what P is.
-    static Bytes look(const Bytes &question) {
-        const Bytes path = question.substr(1);
-        if (question[0] == '@') return fs::canonical(path, ignored).string();
-        if (question[0] == '=' && is_folder(path)) return packed(files_in(path));
-        return !is_file(path) ? "none" : question[0] == '?' ? "file" : sum_of(content(path));
-    }
-    // The key of a list that is as it was; empty: there is none.
-    Bytes find_key() const {
-        for (char slot = '0'; slot < '8' && !first.empty(); slot++) {
-            Words list;
-            size_t at = 1;
-            if (!get(first + slot, list)) continue;
-            while (at < list.size() && look(list[at]) == list[at + 1]) at += 2;
-            if (at >= list.size()) return list[0];
-        }
-        return "";
-    }
-    // The list of how all is now; none, if there is what no list can say.
-    Words list_of(const Bytes &sum) const try {
-        Words list = {sum};
-        if (first.empty()) return {};
-        for (const Bytes &it : questions()) {
-            need(it[0] != '=' || Stamp(it.substr(1)).is_settled(), "too young");
-            list.insert(list.end(), {it, look(it)});
-        }
-        return list;
-    } catch (const KeepNothing &) { return {}; }
-    void keep(const Words &list) const {
-        if (!list.empty() && key.is_as_it_was()) put(first + char('0' + sum_of(packed(list)).back() % 8), list);
-    }
-
-    std::set<Bytes> questions() const {
-        std::set<Bytes> all;
-        const Bytes patterns = packed(rows("named") + rows("refuse-if-read"));
-        const Words searched = folders();
+    // Whether there is each name that a source asks for, in each folder; hands the key on.
+    Bytes ask_where_headers_are(const Bytes &key) const try {
+        const Bytes patterns = packed(fields_of("named") + fields_of("refuse-if-read"));
+        const Words folders = unpacked(of_driver(fields_of("search"), [&] { return searched_folders(); }));
         const auto ask_for = [&](const Bytes &name, const Bytes &beside) {
-            for (const Bytes &folder : searched + Words{beside}) all.insert("?" + inside(folder, name));
+            for (const Bytes &folder : folders + Words{beside}) ask('?', inside(folder, name));
         };
-        for (const Bytes &path : searched) all.insert("@" + path);
-        for (const Bytes &path : key.looked) all.insert("=" + path);
-        for (const Bytes &header : rows("first")) ask_for(header, "");
-        for (const Bytes &path : key.all_sources()) {
-            const Words names = remembered(patterns, path, [&](const Bytes &it) { return names_in(it); });
-            need(names.at(0) == "names", "a source has what no list can say");
-            all.insert("=" + path);
-            for (size_t i = 1; i < names.size(); i++) ask_for(names[i], folder_of(path));
+        for (const Bytes &path : folders) ask('@', path);
+        for (const Bytes &header : fields_of("first")) ask_for(header, "");
+        for (const Bytes &path : all_sources()) {
+            ask('=', path);
+            const Bytes what = "names" + patterns + path + Stamp(path).text;
+            for (const Bytes &name : unpacked(remembered(what, [&] { return names_in(path); })))
+                ask_for(name, folder_of(path));
         }
-        return all;
-    }
-    // The names that a source includes or asks for, after the word `names`.
-    Words names_in(const Bytes &path) const {
+        return key;
+    } catch (const KeepNothing &) { return keep_no_finding(), key; }
+
+    // The names that a source includes or asks for.
+    Bytes names_in(const Bytes &path) const {
         const Bytes text = without(content(path), "\\\\[ \t\r\v\f]*\n");
-        Words all = {"names"};
-        for (const Bytes &pattern : rows("refuse-if-read")) if (matches(text, pattern)) return {"refused"};
-        for (const Bytes &pattern : rows("named"))
+        Words all;
+        for (const Bytes &pattern : fields_of("refuse-if-read")) need(!matches(text, pattern), "no list can say this");
+        for (const Bytes &pattern : fields_of("named"))
             for (const Bytes &it : cut(text, pattern).found) {
                 const size_t from = it.find_first_of("<\"") + 1;
                 all.push_back(it.substr(from, it.size() - from - 1));
             }
-        return all;
+        return packed(all);
     }
     // The folders in which the compiler looks for headers, as it says itself.
-    Words folders() const {
-        const Ran ran = run(Words{key.compiler} + rows("search"), true, "LC_ALL=C");
+    Bytes searched_folders() const {
+        const Ran ran = run(Words{compiler} + fields_of("search"), true, "LC_ALL=C");
         const Cut list = cut(ran.err, "search starts here:$|^End of search list[.]$");
         need(!ran.status && list.found.size() > 1 && list.found.back()[0] == 'E', "no list of folders");
         Words all;
@@ -581,7 +675,8 @@ struct Direct {
         }
         for (const Bytes &line : cut(ran.err, "^ignoring .* directory \".*\"$").found)
             all.push_back(cut(line, "\"").between.at(1));
-        return all;
+        for (const Bytes &folder : all) ask('@', folder);
+        return packed(all);
     }
 };
 
@@ -597,11 +692,13 @@ static void show(const Bytes &messages, const Key &key) {
 static int compile(const Key &key, const Bytes &name, bool &is_kept) {
     std::map<Bytes, Bytes> before;
     Words parts;
+    for (const Bytes &it : recalled) if (it[0] == '=') note(it.substr(1));
     for (const auto &it : key.outputs) before[it.first] = Stamp(it.first).text;
     const Ran ran = run(Words{key.compiler} + key.command, false);
+    need(ran.status != 126 && ran.status != 127, "it can't be started");  // (it may have too many words)
     fwrite(ran.out.data(), 1, ran.out.size(), stdout);
     show(ran.err, key);
-    is_kept = !ran.status && ran.out.empty() && key.is_as_it_was();
+    is_kept = !ran.status && ran.out.empty() && is_as_it_was();
     for (const auto &[path, may_lack] : key.outputs) {
         const bool is_written = is_file(path) && Stamp(path).text != before[path];
         if (is_written) parts.insert(parts.end(), {path, content(path)});
@@ -615,11 +712,10 @@ static int compile(const Key &key, const Bytes &name, bool &is_kept) {
 
 static bool restore(const Key &key, const Bytes &name) {
     Words parts;
-    if (name.empty() || !get(name, parts)) return false;
+    if (!get(name, parts)) return false;
     for (size_t i = 1; i + 1 < parts.size(); i += 2)
         if (key.outputs.count(parts[i])) need(write_file(parts[i], parts[i + 1]), "can't be written: " + parts[i]);
-    show(parts.at(0), key);
-    return true;
+    return show(parts.at(0), key), true;
 }
 
 // ---- what is told of the cache
@@ -641,7 +737,7 @@ static int print_counts() {
 }
 // Writes down the rows that the last miss of the same output did not have, or with another answer.
 static void note_why(const Key &key) {
-    const Bytes name = sum_of("why " + *key.made.begin());
+    const Bytes name = sum_of("why" + packed(Words(made.begin(), made.end())));
     Words now, before;
     get(name, before);
     std::ofstream why(store + "/why");
@@ -653,16 +749,13 @@ static void note_why(const Key &key) {
 }
 
 static int call(char **words) try {
-    Key key(words[0], ask(words[0], words + 1));
-    const Direct direct(key);
-    if (restore(key, direct.find_key())) return count("direct", direct.first, words), 0;
-    const Bytes name = key.sum();
-    if (restore(key, name)) return direct.keep(direct.list_of(name)), count("hit", name, words), 0;
-    const Words list = direct.list_of(name);
-    note_why(key);
+    Key key(words[0], described(words[0], words + 1));
+    const Bytes name = key.find();
+    const bool is_direct = key.texts.empty() && !key.direct.empty();
+    if (restore(key, name)) return count(is_direct ? "direct" : "hit", name, words), 0;
+    if (!is_direct) note_why(key);
     bool is_kept = false;
     const int status = compile(key, name, is_kept);
-    if (is_kept) direct.keep(list);
     return count(is_kept ? "miss" : "unkept", name, words), status;
 } catch (const std::exception &it) {
     count("given", it.what(), words);
@@ -672,8 +765,8 @@ static int call(char **words) try {
 }
 
 int main(int number, char **words) {
-    const Bytes first = number > 1 ? words[1] : "-", home = getenv("HOME") ? getenv("HOME") : "/tmp";
-    store = whole(getenv("CACHE") ? getenv("CACHE") : home + "/.cache/scl");
+    const Bytes first = number > 1 ? words[1] : "-", named = value_of("CACHE").substr(1), home = value_of("HOME").substr(1);
+    store = whole(named.empty() ? home + "/.cache/scl" : named);
     fs::create_directories(store, ignored);
     if (first == "--stats") return print_counts();
     if (first == "--why") return printf("%s", is_file(store + "/why") ? content(store + "/why").c_str() : ""), 0;

@@ -1,53 +1,158 @@
 //! The answers to the entries of a compile database.
 use crate::arguments::working_directory;
+use crate::asked::{DatabaseArguments, Settings};
 use crate::disk::SystemDisk;
 use crate::fault::{Fault, warn};
 use crate::file::{name_of, read_file};
-use crate::one::variables_of;
-use crate::options::{DatabaseArguments, Settings};
+use crate::one::{copied, variables_of};
 use crate::progress::Progress;
 use scl_cl::MOST;
 use scl_describe::About;
-use scl_explain::{Counts, Ending, EntryKind};
-use scl_report::{Batch, Database, ending_of_counts};
-use std::io::{self, BufWriter, Write};
+use scl_explain::{Ending, EntryKind};
+use scl_report::{
+    Batch, Database, DatabaseError, EntryReader, EntryValue, Tally, ending_of_counts,
+};
+use std::fs::File;
+use std::io::{self, BufWriter, ErrorKind, Read, Write};
 
-fn answer_all<W: Write>(
+/// How many bytes of a database are read at once.
+const ROOM: usize = 1 << 16;
+
+/// The next bytes of a database; none at its end.
+fn read_some<R: Read>(
     rt: &HostRuntime,
-    batch: &Batch<'_>,
-    database: &Database,
-    writer: &mut W,
-) -> Result<Counts, Fault> {
-    let alloc = rt.alloc();
-    let disk = SystemDisk { rt };
-    let mut counts = Counts::new(alloc);
-    let entries = database.entries();
-    let mut progress = Progress::new(rt);
-    for (at, value) in entries.iter().enumerate() {
-        let text = batch.entry_text(alloc, &disk, &mut counts, value)?;
-        writer.write_all(text.as_bytes()).map_err(Fault::of_output)?;
-        progress.step(at, entries.len());
+    name: &str,
+    input: &mut R,
+    room: &mut [u8],
+) -> Result<usize, Fault> {
+    for _ in 0..u64::MAX {
+        match input.read(room) {
+            Ok(count) => return Ok(count),
+            Err(error) if error.kind() == ErrorKind::Interrupted => {}
+            Err(error) => return Err(Fault::of_input(rt, name, &error)?),
+        }
     }
-    progress.end();
-    Ok(counts)
+    Ok(0)
 }
 
-fn answer_database(
+/// What a database is answered into.
+#[derive(Drop)]
+struct Answers<'p, W: Write + Drop> {
+    tally: Tally,
+    line: Vec<u8>,
+    writer: W,
+    progress: Progress<'p>,
+}
+
+impl<'p, W: Write + Drop> Answers<'p, W> {
+    /// Answers an entry.
+    fn answer(
+        &mut self,
+        rt: &HostRuntime,
+        batch: &Batch<'_>,
+        value: &EntryValue,
+    ) -> Result<(), Fault> {
+        let disk = SystemDisk { rt };
+        self.line.clear();
+        batch.push_entry(rt.alloc(), &disk, &mut self.tally, value, &mut self.line)?;
+        self.writer.write_all(&self.line).map_err(Fault::of_output)?;
+        self.progress.step(self.tally.counts.entries);
+        Ok(())
+    }
+
+    /// Answers the entries that end in these bytes; what is wrong with the database, if something is.
+    fn answer_bytes(
+        &mut self,
+        rt: &HostRuntime,
+        batch: &Batch<'_>,
+        entries: &mut EntryReader,
+        bytes: &[u8],
+    ) -> Result<Option<DatabaseError>, Fault> {
+        let mut left = bytes;
+        for _ in 0..bytes.len() {
+            let (count, found) = match entries.take(rt.alloc(), left)? {
+                Ok(both) => both,
+                Err(error) => return Ok(Some(error)),
+            };
+            if let Some(value) = found {
+                self.answer(rt, batch, &value)?;
+            }
+            left = left.get(count.max(1)..).unwrap_or(&[]);
+            if left.is_empty() {
+                break;
+            }
+        }
+        Ok(None)
+    }
+
+    /// Answers each entry as it is read; what is wrong with the database, if something is.
+    fn answer_all<R: Read>(
+        &mut self,
+        rt: &HostRuntime,
+        batch: &Batch<'_>,
+        path: &str,
+        input: &mut R,
+    ) -> Result<Option<DatabaseError>, Fault> {
+        let mut entries = EntryReader::new(rt.alloc());
+        let mut room = vec![in rt.alloc(); 0u8; ROOM]?;
+        for _ in 0..u64::MAX {
+            let count = read_some(rt, path, input, &mut room)?;
+            if count == 0 {
+                break;
+            }
+            let bytes = room.get(..count).unwrap_or(&[]);
+            if let Some(error) = self.answer_bytes(rt, batch, &mut entries, bytes)? {
+                return Ok(Some(error));
+            }
+        }
+        Ok(entries.wrong_end())
+    }
+
+    /// Writes what stands behind the entries, and ends.
+    fn close(&mut self, rt: &HostRuntime, batch: &Batch<'_>) -> Result<Ending, Fault> {
+        let text = batch.closing_text(rt.alloc(), &self.tally)?;
+        self.writer
+            .write_all(text.as_bytes())
+            .map_err(Fault::of_output)?;
+        self.writer.flush().map_err(Fault::of_output)?;
+        let ending = ending_of_counts(&self.tally.counts);
+        if batch.json && batch.only.is_some() && ending != Ending::Answered {
+            warn(rt, &"entries have no answer; without --only each says why");
+        }
+        Ok(ending)
+    }
+}
+
+/// Tells what is wrong with a database.
+fn wrong_database(rt: &HostRuntime, path: &str, error: &DatabaseError) -> Result<Ending, Fault> {
+    let name = name_of(rt, path)?;
+    let line = format!(in rt.alloc(); "{name}: {error}")?;
+    warn(rt, &line);
+    Ok(Ending::BadDatabase)
+}
+
+fn answer_database<R: Read>(
     rt: &HostRuntime,
     batch: &Batch<'_>,
-    database: &Database,
+    path: &str,
+    input: &mut R,
 ) -> Result<Ending, Fault> {
     let alloc = rt.alloc();
-    let mut writer = BufWriter::new(alloc, io::writer(rt)).map_err(Fault::of_output)?;
-    let counts = answer_all(rt, batch, database, &mut writer)?;
-    let text = batch.closing_text(alloc, &counts)?;
-    writer.write_all(text.as_bytes()).map_err(Fault::of_output)?;
-    writer.flush().map_err(Fault::of_output)?;
-    let ending = ending_of_counts(&counts);
-    if batch.json && batch.only.is_some() && ending != Ending::Answered {
-        warn(rt, &"entries have no answer; without --only each says why");
+    let mut answers = Answers {
+        tally: Tally::new(alloc),
+        line: Vec::new(alloc),
+        writer: BufWriter::new(alloc, io::writer(rt)).map_err(Fault::of_output)?,
+        progress: Progress::new(rt),
+    };
+    let wrong = answers.answer_all(rt, batch, path, input)?;
+    answers.progress.end();
+    match wrong {
+        Some(error) => {
+            answers.writer.flush().map_err(Fault::of_output)?;
+            wrong_database(rt, path, &error)
+        }
+        None => answers.close(rt, batch),
     }
-    Ok(ending)
 }
 
 /// The database at a path; none where the file is none, which is told.
@@ -56,9 +161,7 @@ pub fn database_at(rt: &HostRuntime, path: &str) -> Result<Option<Database>, Fau
     match Database::of_text(rt.alloc(), &bytes)? {
         Ok(database) => Ok(Some(database)),
         Err(error) => {
-            let name = name_of(rt, path)?;
-            let line = format!(in rt.alloc(); "{name}: {error}")?;
-            warn(rt, &line);
+            wrong_database(rt, path, &error)?;
             Ok(None)
         }
     }
@@ -74,6 +177,7 @@ pub fn batch_of<'a>(
 ) -> Result<Batch<'a>, Fault> {
     Ok(Batch {
         about,
+        launchers: copied(rt.alloc(), &settings.launchers)?,
         named: settings.compiler,
         base: working_directory(rt)?,
         env_vars: variables_of(rt, settings)?,
@@ -81,6 +185,7 @@ pub fn batch_of<'a>(
         may_dist: settings.may_dist,
         bound: settings.bound.unwrap_or(MOST),
         json,
+        keep: false,
         only,
     })
 }
@@ -91,11 +196,14 @@ pub fn database<'a>(
     about: About<'a>,
     asked: &DatabaseArguments,
 ) -> Result<Ending, Fault> {
-    match database_at(rt, asked.path.as_str())? {
-        Some(database) => {
-            let batch = batch_of(rt, about, &asked.settings, asked.json, asked.only)?;
-            answer_database(rt, &batch, &database)
-        }
-        None => Ok(Ending::BadDatabase),
+    let path = asked.path.as_str();
+    let mut batch = batch_of(rt, about, &asked.settings, asked.json, asked.only)?;
+    batch.keep = asked.asks_kept;
+    if path == "-" {
+        return answer_database(rt, &batch, path, &mut rt.stdin());
+    }
+    match File::open(rt, path) {
+        Ok(mut file) => answer_database(rt, &batch, path, &mut file),
+        Err(error) => Err(Fault::of_input(rt, path, &error)?),
     }
 }

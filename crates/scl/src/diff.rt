@@ -1,11 +1,11 @@
 //! What two command lines differ in.
 use crate::arguments::working_directory;
+use crate::asked::{Compare, DiffArguments, Settings};
 use crate::batch::{batch_of, database_at};
 use crate::disk::SystemDisk;
 use crate::fault::{Fault, warn};
 use crate::file::name_of;
 use crate::one::case_of_words;
-use crate::options::{Compare, DiffArguments, Settings};
 use scl_describe::About;
 use scl_explain::{Case, Ending};
 use scl_report::{Batch, Compared, Database, EntryValue, file_of};
@@ -134,7 +134,7 @@ fn entries(
     tell(rt, &first, &second)
 }
 
-/// Writes what two entries differ in, if their keys are not equal; whether they are equal.
+/// Writes what two entries differ in, if the rows of their keys are not equal; whether they are.
 fn pair(
     rt: &HostRuntime,
     batch: &Batch<'_>,
@@ -196,7 +196,7 @@ fn compare_all(
     }
     let others = taken.iter().filter(|is| !**is).count();
     let line = format!(in rt.alloc();
-        "entries in both: {pairs}; with equal keys: {equal}; in the first alone: {alone}; in the second alone: {others}\n"
+        "entries in both: {pairs}; with equal rows of keys: {equal}; in the first alone: {alone}; in the second alone: {others}\n"
     )?;
     write(rt, line.as_str())?;
     Ok(ending_of(pairs == equal && alone == 0 && others == 0))

@@ -1,4 +1,5 @@
 //! Why the program does not answer.
+use crate::file::name_of;
 use scl_explain::Ending;
 use std::alloc::{AllocError, AllocFailed};
 use std::fmt::Display;
@@ -8,7 +9,7 @@ use thiserror::Error;
 /// Why the program does not answer.
 #[derive(Debug, Drop, Error)]
 pub enum Fault {
-    /// Memory was refused.
+    /// Out of memory.
     #[error("out of memory")]
     Memory,
     /// The answer can't be written.
@@ -25,6 +26,23 @@ impl Fault {
         match self {
             Fault::Memory => Ending::OutOfMemory,
             Fault::Output(_) | Fault::Input(_) => Ending::FileFailed,
+        }
+    }
+
+    /// That a file, or standard input, can't be read, or that there was no memory for it.
+    pub fn of_input(rt: &HostRuntime, path: &str, error: &io::Error) -> Result<Fault, Fault> {
+        if error.kind() == ErrorKind::OutOfMemory {
+            return Ok(Fault::Memory);
+        }
+        let name = name_of(rt, path)?;
+        Ok(Fault::Input(format!(in rt.alloc(); "{name}: {error}")?))
+    }
+
+    /// Whether nobody reads the answer any more: then nothing is said.
+    pub fn is_closed(&self) -> bool {
+        match self {
+            Fault::Output(error) => error.kind() == ErrorKind::BrokenPipe,
+            Fault::Memory | Fault::Input(_) => false,
         }
     }
 

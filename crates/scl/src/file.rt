@@ -2,7 +2,7 @@
 use crate::fault::Fault;
 use scl_shell::shown_briefly;
 use std::fs;
-use std::io::{self, ErrorKind, Read};
+use std::io::{self, Read};
 
 fn bytes_of(rt: &HostRuntime, path: &str) -> io::Result<Vec<u8>> {
     if path == "-" {
@@ -27,10 +27,6 @@ pub fn name_of(rt: &HostRuntime, path: &str) -> Result<String, Fault> {
 pub fn read_file(rt: &HostRuntime, path: &str) -> Result<Vec<u8>, Fault> {
     match bytes_of(rt, path) {
         Ok(bytes) => Ok(bytes),
-        Err(error) if error.kind() == ErrorKind::OutOfMemory => Err(Fault::Memory),
-        Err(error) => {
-            let name = name_of(rt, path)?;
-            Err(Fault::Input(format!(in rt.alloc(); "{name}: {error}")?))
-        }
+        Err(error) => Err(Fault::of_input(rt, path, &error)?),
     }
 }

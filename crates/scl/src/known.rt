@@ -1,7 +1,7 @@
 //! What is known of compilers: the built-in catalogue, or one that is handed in, and the version that is told.
+use crate::asked::{KnownArguments, Wanted};
 use crate::fault::{Fault, warn};
 use crate::file::{name_of, read_file};
-use crate::options::{KnownArguments, Wanted};
 use crate::{batch, diff, one, why};
 use bumpalo::Bump;
 use scl_catalogue_default::built_in_entries;
@@ -23,6 +23,7 @@ fn answer(rt: &HostRuntime, about: About<'_>, wanted: &Wanted) -> Result<Ending,
         Wanted::Diff(asked) => diff::diff(rt, about, asked),
         Wanted::Reasons => one::reasons(rt, &about.catalogue),
         Wanted::Flags(asked) => one::flags(rt, asked),
+        Wanted::Page(text) => one::page(rt, text.as_str()),
     }
 }
 
@@ -41,10 +42,16 @@ fn answer_with<'a>(
     answer(rt, about, wanted)
 }
 
-/// Tells the first wrong line of a catalogue.
-fn wrong_line(rt: &HostRuntime, path: &str, bad: BadLine) -> Result<Ending, Fault> {
+/// Tells the first wrong line of a catalogue, with the word that is wrong.
+fn wrong_line(rt: &HostRuntime, path: &str, text: &[u8], bad: BadLine) -> Result<Ending, Fault> {
     let name = name_of(rt, path)?;
-    let line = format!(in rt.alloc(); "{name}:{}: {}", bad.line, bad.mistake)?;
+    let line = match bad.word(rt.alloc(), text)? {
+        Some(word) => {
+            let word = String::from_utf8_lossy(rt.alloc(), word)?;
+            format!(in rt.alloc(); "{name}:{}: {word}: {}", bad.line, bad.mistake)?
+        }
+        None => format!(in rt.alloc(); "{name}:{}: {}", bad.line, bad.mistake)?,
+    };
     warn(rt, &line);
     Ok(Ending::Usage)
 }
@@ -60,7 +67,7 @@ fn answer_by_text<'a>(
 ) -> Result<Ending, Fault> {
     match read(rt.alloc(), arena, text) {
         Ok(catalogue) => answer_with(rt, &catalogue, version, wanted),
-        Err(ReadError::BadLine(bad)) => wrong_line(rt, path, bad),
+        Err(ReadError::BadLine(bad)) => wrong_line(rt, path, text, bad),
         Err(ReadError::Memory) => Err(Fault::Memory),
     }
 }

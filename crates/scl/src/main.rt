@@ -3,21 +3,26 @@
 #![tactic(auto)]
 
 mod arguments;
+mod asked;
 mod batch;
+mod called;
 mod diff;
 mod disk;
 mod fault;
 mod file;
 mod known;
+mod man;
 mod one;
 mod options;
 mod progress;
+mod shells;
 mod texts;
 mod why;
 
 use crate::arguments::raw_arguments;
+use crate::asked::{Options, Wanted};
 use crate::fault::{Fault, warn};
-use crate::options::{Options, Wanted, read_options};
+use crate::options::read_options;
 use scl_explain::Ending;
 use std::process::ExitCode;
 
@@ -41,7 +46,9 @@ fn main(rt: HostRuntime) -> ExitCode {
     match run(&rt) {
         Ok(ending) => ExitCode::from(ending.status()),
         Err(fault) => {
-            warn(&rt, &fault);
+            if !fault.is_closed() {
+                warn(&rt, &fault);
+            }
             ExitCode::from(fault.ending().status())
         }
     }

@@ -1,5 +1,12 @@
 //! The program's own command line.
+use crate::asked::{
+    Compare, DatabaseArguments, DiffArguments, FlagArguments, KnownArguments, LineArguments,
+    Options, Settings, Wanted, WhyArguments,
+};
+use crate::called::called;
 use crate::fault::{Fault, warn};
+use crate::man::{man_command, manual};
+use crate::shells::{completions, completions_command};
 use crate::texts;
 use clap::error::ErrorKind;
 use clap::{Arg, ArgAction, ArgMatches, Command, Error};
@@ -8,134 +15,6 @@ use scl_explain::{Ending, EntryKind};
 use scl_shell::shown;
 use std::alloc::{AllocError, Global};
 use std::str;
-
-/// What is asked of each command line.
-#[derive(Drop)]
-pub struct Settings {
-    /// The compiler, where one is named.
-    pub compiler: Option<Compiler>,
-    /// Whether several architectures are allowed.
-    pub multiarch: bool,
-    /// Whether the runs of the preprocessor are for a distant compiler.
-    pub may_dist: bool,
-    /// The most words that it may have, if that is told.
-    pub bound: Option<usize>,
-    /// The variables that are told.
-    pub env_vars: Vec<(Vec<u8>, Vec<u8>)>,
-    /// Whether the variables of this program's own environment do not count.
-    pub has_no_own: bool,
-}
-
-/// What is asked about one command line.
-#[derive(Drop)]
-pub struct LineArguments {
-    /// What is asked of it.
-    pub settings: Settings,
-    /// The words, the program's included.
-    pub words: Vec<Vec<u8>>,
-    /// The directory, where one is named.
-    pub directory: Option<Vec<u8>>,
-    /// Whether machines read the answer.
-    pub json: bool,
-    /// Whether a command is written with a NUL after each word.
-    pub has_nuls: bool,
-    /// Whether no command is written where a hazard is named.
-    pub is_strict: bool,
-}
-
-/// What is asked about a compile database.
-#[derive(Drop)]
-pub struct DatabaseArguments {
-    /// Its path; `-` is standard input.
-    pub path: String,
-    /// What is asked of each entry.
-    pub settings: Settings,
-    /// Whether machines read the answers.
-    pub json: bool,
-    /// The one kind of entries that is wanted, if not each.
-    pub only: Option<EntryKind>,
-}
-
-/// What is asked about some entries of a compile database.
-#[derive(Drop)]
-pub struct WhyArguments {
-    /// The path of the database.
-    pub path: String,
-    /// The names of sources.
-    pub files: Vec<String>,
-    /// What is asked of each entry.
-    pub settings: Settings,
-}
-
-/// What is compared.
-#[derive(Drop)]
-pub enum Compare {
-    /// Two command lines.
-    Lines(Vec<Vec<u8>>, Vec<Vec<u8>>),
-    /// Two entries of a database, by their sources.
-    Entries(String, String, String),
-    /// The entries of two databases.
-    Databases(String, String),
-}
-
-/// What is asked about what two command lines differ in.
-#[derive(Drop)]
-pub struct DiffArguments {
-    /// What is compared.
-    pub compare: Compare,
-    /// What is asked of each command line.
-    pub settings: Settings,
-}
-
-/// What the command line asks for.
-#[derive(Drop)]
-pub enum Wanted {
-    /// Nothing more: help was written, or a mistake told.
-    Done(Ending),
-    /// What a command line is.
-    Explain(LineArguments),
-    /// The command alone.
-    Command(LineArguments),
-    /// The hazards alone.
-    Check(LineArguments),
-    /// The entries of a database.
-    Database(DatabaseArguments),
-    /// Why some entries can or can't be cached.
-    Why(WhyArguments),
-    /// What two command lines differ in.
-    Diff(DiffArguments),
-    /// All reasons and hazards.
-    Reasons,
-    /// The flags of the compilers' tables.
-    Flags(FlagArguments),
-}
-
-/// What is asked about flags.
-#[derive(Drop)]
-pub struct FlagArguments {
-    /// The compiler, if only one's are wanted.
-    pub compiler: Option<Compiler>,
-    /// The word whose flag is wanted, if not all are.
-    pub word: Option<String>,
-}
-
-/// What is known of compilers, by the command line.
-#[derive(Drop)]
-pub struct KnownArguments {
-    /// The path of the catalogue, if not the built-in one is meant.
-    pub catalogue: Option<String>,
-    /// The compiler's version, where it is told.
-    pub version: Option<String>,
-}
-
-/// What the command line says.
-#[derive(Drop)]
-pub struct Options {
-    /// What it asks for.
-    pub wanted: Wanted,
-    /// What is known of compilers.
-    pub known: KnownArguments,
-}
 
 /// The names of compilers, in the order of docs/RULES.md.
 static COMPILERS: [&str; 8] = [
@@ -150,7 +29,7 @@ fn with_catalogue<'a>(alloc: Global, command: Command<'a>) -> Result<Command<'a>
         .long("catalogue")
         .value_name("FILE")
         .help(
-            "Take the hazards and the effects of options from this catalogue in place of the built-in one",
+            "Take what is known of compilers, their hazards and the effects of their options, from this catalogue, and not from the built-in one",
         );
     command.arg(catalogue)
 }
@@ -171,8 +50,20 @@ fn with_common<'a>(alloc: Global, command: Command<'a>) -> Result<Command<'a>, A
         .long("multiarch")
         .action(ArgAction::SetTrue)
         .help("Allow several -arch");
+    let launcher = Arg::new(alloc, "launcher")
+        .long("launcher")
+        .value_name("NAME")
+        .action(ArgAction::Append)
+        .help("Pass over programs of this name, which start the compiler; it may be given again");
     let command = with_environment(alloc, with_bound(alloc, command)?)?;
-    with_catalogue(alloc, command.arg(compiler)?.arg(multiarch)?.arg(version)?)
+    with_catalogue(
+        alloc,
+        command
+            .arg(compiler)?
+            .arg(launcher)?
+            .arg(multiarch)?
+            .arg(version)?,
+    )
 }
 
 fn with_bound<'a>(alloc: Global, command: Command<'a>) -> Result<Command<'a>, AllocError> {
@@ -255,9 +146,14 @@ fn command_command<'a>(alloc: Global) -> Result<Command<'a>, AllocError> {
 }
 
 fn check_command<'a>(alloc: Global) -> Result<Command<'a>, AllocError> {
+    let kept = Arg::new(alloc, "keep")
+        .long("keep")
+        .action(ArgAction::SetTrue)
+        .help("Say whether the outcome may be kept under a key, in place of the hazards");
     let command = Command::new(alloc, "check")
         .about(texts::ABOUT_CHECK)
-        .after_help(texts::EXAMPLE_CHECK);
+        .after_help(texts::EXAMPLE_CHECK)
+        .arg(kept)?;
     with_words(alloc, with_json(alloc, command)?)
 }
 
@@ -270,11 +166,16 @@ fn database_command<'a>(alloc: Global) -> Result<Command<'a>, AllocError> {
         .long("only")
         .value_name("WHAT")
         .value_parser(KINDS.as_slice())
-        .help("Write the entries of this kind alone");
+        .help("Write only the entries of this kind");
+    let kept = Arg::new(alloc, "keep")
+        .long("keep")
+        .action(ArgAction::SetTrue)
+        .help("Count what may be kept under a key, and why the rest may not; it takes longer");
     let command = Command::new(alloc, "database")
         .about(texts::ABOUT_DATABASE)
         .after_help(texts::EXAMPLE_DATABASE)
         .arg(path)?
+        .arg(kept)?
         .arg(only)?;
     with_common(alloc, with_json(alloc, command)?)
 }
@@ -342,7 +243,9 @@ fn whole_command<'a>(alloc: Global) -> Result<Command<'a>, AllocError> {
         .subcommand(flags_command(alloc)?)?
         .subcommand(why_command(alloc)?)?
         .subcommand(diff_command(alloc)?)?
-        .subcommand(reasons_command(alloc)?)
+        .subcommand(reasons_command(alloc)?)?
+        .subcommand(completions_command(alloc)?)?
+        .subcommand(man_command(alloc))
 }
 
 /// The words as text, with what is no text replaced, after the program's name.
@@ -505,9 +408,18 @@ fn variables_told(
     Ok(pairs)
 }
 
+fn launchers_named(alloc: Global, matches: &ArgMatches<'_>) -> Result<Vec<Vec<u8>>, AllocError> {
+    let mut names = Vec::new(alloc);
+    for name in matches.get_strs("launcher").unwrap_or(&[]) {
+        names.push(Vec::from_slice(alloc, name.as_bytes())?)?;
+    }
+    Ok(names)
+}
+
 fn settings_of(alloc: Global, matches: &ArgMatches<'_>) -> Result<Settings, AllocError> {
     Ok(Settings {
         compiler: compiler_named(matches),
+        launchers: launchers_named(alloc, matches)?,
         multiarch: matches.get_flag("multiarch"),
         may_dist: matches.get_flag("may-dist"),
         bound: matches.get_str("bound").and_then(number_of),
@@ -533,6 +445,7 @@ fn asked_words(
         json: matches.get_flag("json"),
         has_nuls: matches.get_flag("nul"),
         is_strict: matches.get_flag("strict"),
+        asks_kept: matches.get_flag("keep"),
     })
 }
 
@@ -542,6 +455,7 @@ fn asked_entries(alloc: Global, matches: &ArgMatches<'_>) -> Result<DatabaseArgu
         path: String::from_str(alloc, path)?,
         settings: settings_of(alloc, matches)?,
         json: matches.get_flag("json"),
+        asks_kept: matches.get_flag("keep"),
         only: kind_named(matches),
     })
 }
@@ -641,6 +555,15 @@ fn asked_diff(
     }
 }
 
+/// The completions for a shell; without one the manual page.
+fn page_of(alloc: Global, shell: Option<&str>) -> Result<Wanted, AllocError> {
+    let whole = whole_command(alloc)?;
+    match shell {
+        Some(shell) => Ok(Wanted::Page(completions(alloc, &whole, shell)?)),
+        None => Ok(Wanted::Page(manual(alloc, &whole)?)),
+    }
+}
+
 fn what_is_wanted(
     alloc: Global,
     arguments: &[Vec<u8>],
@@ -655,6 +578,8 @@ fn what_is_wanted(
         Some(("diff", inner)) => asked_diff(alloc, arguments, inner),
         Some(("reasons", _)) => Ok(Wanted::Reasons),
         Some(("flags", inner)) => Ok(Wanted::Flags(asked_flags(alloc, inner)?)),
+        Some(("completions", inner)) => page_of(alloc, inner.get_str("shell")),
+        Some(("man", _)) => page_of(alloc, None),
         Some(_) | None => Ok(Wanted::Done(Ending::Usage)),
     }
 }
@@ -709,22 +634,23 @@ fn mistake_line(alloc: Global, text: &str) -> Result<String, AllocError> {
 }
 
 /// Tells what is wrong with the program's own words.
-fn wrong_words(rt: &HostRuntime, what: &str) -> Result<Wanted, AllocError> {
+fn wrong_words(rt: &HostRuntime, arguments: &[Vec<u8>], what: &str) -> Result<Wanted, AllocError> {
     let what = shown(rt.alloc(), what.as_bytes())?;
-    let line = format!(in rt.alloc(); "{what} (scl --help says what there is)")?;
+    let (name, blank) = called(arguments);
+    let line = format!(in rt.alloc(); "{what} (scl {name}{blank}--help says what there is)")?;
     warn(rt, &line);
     Ok(Wanted::Done(Ending::Usage))
 }
 
 /// Tells a mistake in one line, and writes help where that was asked for.
-fn tell(rt: &HostRuntime, error: &Error) -> Result<Wanted, Fault> {
+fn tell(rt: &HostRuntime, arguments: &[Vec<u8>], error: &Error) -> Result<Wanted, Fault> {
     if error.kind() == ErrorKind::OutOfMemory {
         return Err(Fault::Memory);
     }
     if error.use_stderr() {
         let text = format!(in rt.alloc(); "{error}")?;
         let line = mistake_line(rt.alloc(), text.as_str())?;
-        return Ok(wrong_words(rt, line.as_str())?);
+        return Ok(wrong_words(rt, arguments, line.as_str())?);
     }
     error.print(rt).map_err(Fault::of_output)?;
     Ok(Wanted::Done(Ending::Answered))
@@ -740,12 +666,12 @@ pub fn read_options(rt: &HostRuntime, arguments: &[Vec<u8>]) -> Result<Options, 
     let words = shown_words(alloc, arguments)?;
     match matches_of(alloc, &words) {
         Ok(matches) => match what_is_wrong(alloc, arguments, &matches)? {
-            Some(what) => Ok(done(wrong_words(rt, what.as_str())?)),
+            Some(what) => Ok(done(wrong_words(rt, arguments, what.as_str())?)),
             None => Ok(Options {
                 wanted: what_is_wanted(alloc, arguments, &matches)?,
                 known: what_is_known(alloc, &matches)?,
             }),
         },
-        Err(error) => Ok(done(tell(rt, &error)?)),
+        Err(error) => Ok(done(tell(rt, arguments, &error)?)),
     }
 }

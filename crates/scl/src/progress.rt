@@ -25,13 +25,13 @@ impl<'a> Progress<'a> {
         }
     }
 
-    fn tell(&mut self, done: usize, all: usize) -> io::Result<()> {
+    fn tell(&mut self, done: u64) -> io::Result<()> {
         self.told = true;
-        eprint!(self.rt; "\r{done} of {all} entries")
+        eprint!(self.rt; "\r{done} entries")
     }
 
     /// So many are done. Where that can't be told, it is left untold.
-    pub fn step(&mut self, done: usize, all: usize) {
+    pub fn step(&mut self, done: u64) {
         if let Some(last) = self.last {
             let is_due = match last.elapsed(self.rt) {
                 Ok(elapsed) => elapsed >= Duration::from_secs(1),
@@ -39,7 +39,7 @@ impl<'a> Progress<'a> {
             };
             if is_due {
                 self.last = Instant::now(self.rt).ok();
-                let _ = self.tell(done, all);
+                let _ = self.tell(done);
             }
         }
     }

@@ -30,7 +30,7 @@ pub const ABOUT_DIFF: &str =
 
 /// What `reasons` does.
 pub const ABOUT_REASONS: &str =
-    "Lists each reason why a command cannot be cached, and each hazard, with a sentence for people";
+    "Lists each reason why a command cannot be cached or its outcome not be kept, and each hazard, with a sentence for people";
 
 /// What `flags` does.
 pub const ABOUT_FLAGS: &str = "Lists the flags of the compilers' tables, or says what one word is";
@@ -46,9 +46,9 @@ Example:
 
 /// How the program ends, and which compiler a command line is of.
 pub const STATUSES: &str =
-    "Statuses: 0 answered; 1 the keys are not equal (diff); 2 wrong words, or a line of the catalogue is wrong; 3 out of memory; 4 a file cannot be read or the answer not be written; 5 the database is broken or has entries that are none (all others are answered); 10 cannot be cached; 11 compiles nothing; 12 a hazard; 13 a word holds a NUL, so no process can be given the command; 14 there is a command, and its outcome may not be kept in the cache.
+    "Statuses: 0 answered; 1 the rows of the keys are not equal (diff), or there is no key (check --keep); 2 wrong words, or a line of the catalogue is wrong; 3 out of memory; 4 a file cannot be read or the answer not be written; 5 the database is broken or has entries that are none (all others are answered); 10 cannot be cached; 11 compiles nothing; 12 a hazard; 13 a word holds a NUL, so no process can be given the command; 14 there is a command, and its outcome may not be kept in the cache.
 
-Which compiler: by the file name of the first word that is neither a launcher (ccache, sccache, distcc, icecc, recc, buildcache, env, nice, time) nor one of a launcher's words, nor an assignment (NAME=.., NAME of letters, digits and _). Without .exe and a version it ends in clang-cl, clang++, clang, g++, gcc, c++ or cc (the whole name, or after a -), or is cl, dcc or cctc. cc and c++ are gcc and g++ unless --compiler says otherwise.
+Which compiler: by the file name of the first word that is neither a launcher (ccache, sccache, distcc, icecc, recc, buildcache, env, nice, time, or one that --launcher names), nor an option of env (-u), nice (-n) or time before the compiler, nor an assignment (NAME=.., NAME of letters, digits and _); without .exe and a version it ends in clang-cl, clang++, clang, g++, gcc, c++ or cc (alone or behind a -), or is cl, dcc or cctc. cc and c++ are gcc and g++ unless --compiler says otherwise.
 
 A response file is read where it is a regular file whose size the system tells, and has 67108864 bytes at most.
 
@@ -80,13 +80,16 @@ Example:
 pub const EXAMPLE_CHECK: &str =
     "Writes a line for each hazard, its name and what happens. Ends with status 12 where there is one, 0 where there is none, 10 where the outcome cannot be cached, 11 where nothing is compiled, 13 where a word holds a NUL, and 14 where no hazard is named and the outcome may not be kept in the cache. Most hazards are known of gcc, clang and clang-cl.
 
+With --keep it writes a line for each row keep, with what it means. Then it ends with status 0 where the outcome may be kept under a key, 1 where it has none or an option is not known, and 14 where the compiler says that the outcome may not be kept.
+
 Example:
     scl check gcc -c src/foo.c -MD -MT one -MT two -o foo.o
+    scl check --keep gcc -c src/foo.c -o foo.o
     scl check --json clang -c src/foo.c -o foo.o";
 
 /// What `database` reads and writes, and calls of it.
 pub const EXAMPLE_DATABASE: &str =
-    "Each entry has a \"directory\", and \"arguments\" or a \"command\" of shell words. With --json each answer is an object in a line; otherwise a summary is written; with --only a line for each entry of that kind stands before it.
+    "Each entry has a \"directory\", and \"arguments\" or a \"command\" of shell words; in a directory with a drive or a backslash, of words as Windows splits them. Entries are answered as they are read. With --json each answer is an object in a line; otherwise a summary is written, with --only after a line for each entry of that kind. With --keep the summary counts what may be kept under a key.
 
 Example:
     scl database build/compile_commands.json
@@ -102,9 +105,39 @@ Example:
 
 /// What `diff` writes, how it ends, and calls of it.
 pub const EXAMPLE_DIFF: &str =
-    "Writes the options and the rows of the key that only one of the two has. Ends with status 0 where both have a key and the keys are equal, and 1 where not.
+    "Writes the options and the rows of the key that only one of the two has. What the rows ask, such as the contents of files, is not compared. Ends with status 0 where both have a key and the rows are equal, and 1 where not.
 
 Example:
     scl diff -p build src/a.c src/b.c
     scl diff -p build1 -p build2
     scl diff -- gcc -c a.c -O1 -- gcc -c a.c -O2";
+
+/// What `completions` does.
+pub const ABOUT_COMPLETIONS: &str = "Writes the completions of this program for a shell";
+
+/// Calls of `completions`.
+pub const EXAMPLE_COMPLETIONS: &str = "Example:
+    scl completions bash > /usr/share/bash-completion/completions/scl";
+
+/// What `man` does.
+pub const ABOUT_MAN: &str = "Writes the manual page of this program";
+
+/// Calls of `man`.
+pub const EXAMPLE_MAN: &str = "Example:
+    scl man | man -l -";
+
+/// What is said of a subcommand, and calls of it.
+pub fn example_of(name: &str) -> &'static str {
+    match name {
+        "explain" => EXAMPLE_EXPLAIN,
+        "command" => EXAMPLE_COMMAND,
+        "check" => EXAMPLE_CHECK,
+        "database" => EXAMPLE_DATABASE,
+        "why" => EXAMPLE_WHY,
+        "diff" => EXAMPLE_DIFF,
+        "flags" => EXAMPLE_FLAGS,
+        "completions" => EXAMPLE_COMPLETIONS,
+        "man" => EXAMPLE_MAN,
+        _ => "",
+    }
+}

@@ -1,9 +1,9 @@
 //! Why the entries of some sources can or can't be cached.
+use crate::asked::WhyArguments;
 use crate::batch::{batch_of, database_at};
 use crate::disk::SystemDisk;
 use crate::fault::{Fault, warn};
 use crate::file::name_of;
-use crate::options::WhyArguments;
 use scl_describe::About;
 use scl_explain::Ending;
 use scl_report::{Batch, Database};

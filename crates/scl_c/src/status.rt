@@ -9,7 +9,7 @@ pub(crate) const TOO_SHORT: i32 = 1;
 /// The request has a bad line.
 pub(crate) const BAD: i32 = 2;
 
-/// Memory was refused.
+/// Out of memory.
 pub(crate) const NO_MEMORY: i32 = 3;
 
 // (4 is the header's own: a description says `too-many-words`)

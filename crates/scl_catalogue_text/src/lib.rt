@@ -2,6 +2,7 @@
 #![tactic(auto)]
 
 mod cut;
+mod file;
 mod mistake;
 mod names;
 mod read_case;

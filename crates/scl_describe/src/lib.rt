@@ -9,6 +9,7 @@ mod keeping;
 pub mod laws;
 mod option_lines;
 mod settings;
+mod wants;
 
 pub use about::About;
 pub use descriptions::{Descriptions, describe};

@@ -1,7 +1,7 @@
 -- The plain names that are built in; `catalogue/build` writes it.
-use Rattle.std.specs.Prelude.{List, [], ◌∷◌, codes, None}
+use Rattle.std.specs.Prelude.{List, [], ◌∷◌, codes, None, Some}
 use Rattle.scl_effects.specs.Plain.{Row}
-use Rattle.scl_effects_default.specs.Words.{row, meant}
+use Rattle.scl_effects_default.specs.Words.{row, meant, version}
 use Rattle.scl_catalogue.specs.declared.case.Compiler.TheVariants as compiler
 
 unfoldable pub plain_names : List Row
@@ -35,4 +35,6 @@ plain_names =
     ∷ row (meant compiler.Clang None None ∷ meant compiler.ClangCl None None ∷ []) (codes "-f") (codes "strict-return strict-vtable-pointers struct-path-tbaa threadsafe-statics trigraphs underscoring unique-basic-block-section-names unique-internal-linkage-names unique-section-names use-init-array use-line-directives validate-ast-input-files-content vectorize visibility-from-dllstorageclass visibility-global-new-delete-hidden visibility-inlines-hidden-static-local-var wasm-exceptions whole-file whole-program-vtables writable-strings xl-pragma-pack zvector")
     ∷ row (meant compiler.Clang None None ∷ meant compiler.ClangCl None None ∷ []) (codes "--") (codes "cuda-compile-host-device cuda-device-only cuda-host-only cuda-noopt-device-debug cuda-path-ignore-env end-no-unused-arguments gpu-bundle-output gpu-use-aux-triple-only no-cuda-version-check no-gpu-bundle-output no-pedantic pipe relocatable-pch shared start-no-unused-arguments static via-file-asm")
     ∷ row (meant compiler.Clang None None ∷ meant compiler.ClangCl None None ∷ []) (codes "-") (codes "Qn Qunused-arguments Qy canonical-prefixes emit-ast emit-llvm ibuiltininc no-pedantic no-pthread nobuiltininc nogpuinc nogpulib nohipwrapperinc nostdlibinc shared-libsan static-libgfortran static-libsan static-openmp static-pie via-file-asm")
+    ∷ row (meant compiler.Clang (Some (version 16 0)) None ∷ []) (codes "-f") (codes "check-new coro-aligned-allocation experimental-library fat-lto-objects file-reproducible integrated-objemitter jmc openmp-assume-no-nested-parallelism openmp-assume-no-thread-state openmp-offload-mandatory")
+    ∷ row (meant compiler.Clang (Some (version 19 0)) None ∷ []) (codes "-f") (codes "assume-nothrow-exception-dtor assume-unique-vtables basic-block-address-map complex-arithmetic=basic complex-arithmetic=full complex-arithmetic=improved complex-arithmetic=promoted cx-fortran-rules cx-limited-range define-target-os-macros disable-block-signature-string emit-compact-unwind-non-canonical experimental-late-parse-attributes keep-persistent-storage-variables openmp-force-usm pointer-tbaa raw-string-literals safe-buffer-usage-suggestions separate-named-sections verify-intermediate-code")
     ∷ []

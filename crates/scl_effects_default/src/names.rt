@@ -5,7 +5,7 @@ ghost use Rattle.scl_effects_default.specs.Names.{plain_names};
 
 use scl_effects::{PlainNames, PlainRow};
 
-static ROWS: [PlainRow<'static>; 29] = [
+static ROWS: [PlainRow<'static>; 31] = [
     row! {
         (Gcc) (Clang) (ClangCl) : b"-f"
         b"PIC PIE access-control align-functions aligned-new asm associative-math asynchronous-unwind-tables builtin cf-protection char8_t common data-sections debug-types-section delete-null-pointer-checks diagnostics-color diagnostics-parseable-fixits diagnostics-show-option diagnostics-show-template-tree dollars-in-identifiers elide-constructors eliminate-unused-debug-symbols eliminate-unused-debug-types exceptions finite-loops finite-math-only for-scope freestanding function-sections gnu-keywords gnu89-inline hosted ident inline-functions instrument-functions jump-tables keep-static-consts lax-vector-conversions lto math-errno merge-all-constants ms-extensions mudflap mudflapth omit-frame-pointer openmp openmp-simd operator-names optimize-sibling-calls pack-struct pch-preprocess pic pie plt reciprocal-math rounding-math rtti sanitize-address-use-after-scope sanitize-recover sanitize-undefined-trap-on-error semantic-interposition short-enums short-wchar show-column signed-bitfields signed-char signed-zeros sized-deallocation split-stack stack-clash-protection stack-protector stack-protector-all stack-protector-strong strict-aliasing strict-enums strict-overflow time-report trapping-math trapv unit-at-a-time"
@@ -121,6 +121,14 @@ static ROWS: [PlainRow<'static>; 29] = [
     row! {
         (Clang) (ClangCl) : b"-"
         b"Qn Qunused-arguments Qy canonical-prefixes emit-ast emit-llvm ibuiltininc no-pedantic no-pthread nobuiltininc nogpuinc nogpulib nohipwrapperinc nostdlibinc shared-libsan static-libgfortran static-libsan static-openmp static-pie via-file-asm"
+    },
+    row! {
+        (Clang since 16 0) : b"-f"
+        b"check-new coro-aligned-allocation experimental-library fat-lto-objects file-reproducible integrated-objemitter jmc openmp-assume-no-nested-parallelism openmp-assume-no-thread-state openmp-offload-mandatory"
+    },
+    row! {
+        (Clang since 19 0) : b"-f"
+        b"assume-nothrow-exception-dtor assume-unique-vtables basic-block-address-map complex-arithmetic=basic complex-arithmetic=full complex-arithmetic=improved complex-arithmetic=promoted cx-fortran-rules cx-limited-range define-target-os-macros disable-block-signature-string emit-compact-unwind-non-canonical experimental-late-parse-attributes keep-persistent-storage-variables openmp-force-usm pointer-tbaa raw-string-literals safe-buffer-usage-suggestions separate-named-sections verify-intermediate-code"
     },
 ];
 

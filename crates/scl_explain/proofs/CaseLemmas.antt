@@ -4,20 +4,20 @@ use Rattle.std.proofs.lemmas.List.{drop-drop, drop-map, get_or-drop, get_or-map,
 use Rattle.std.specs.List.{remove}
 use Rattle.std.specs.declared.alloc.Global.{Global}
 use Rattle.scl_values.specs.Words.{words_of}
-use Rattle.scl_names.specs.Launchers.{Front, front, program_at, program_from, program_or, step}
+use Rattle.scl_names.specs.Launchers.{Front, front, program_behind, program_from, program_or, step}
 
-found_or : (from at : ℕ) (words : List (List ℕ)) (o : Option Front) → ((g : Front) → program_from g (from + 1) words ≡ Some at → at < (from + 1) + length words)
-    → program_or from o (λ g. program_from g (from + 1) words) ≡ Some at → at < from + suc (length words)
-found_or from at words None inside h = let same : from ≡ at = cc in omega (arith, same)
-found_or from at words (Some g) inside h = let there = inside g h in omega (arith, there)
+found_or : (more : List (List ℕ)) (from at : ℕ) (words : List (List ℕ)) (o : Option Front) → ((g : Front) → program_from more g (from + 1) words ≡ Some at → at < (from + 1) + length words)
+    → program_or from o (λ g. program_from more g (from + 1) words) ≡ Some at → at < from + suc (length words)
+found_or more from at words None inside h = let same : from ≡ at = cc in omega (arith, same)
+found_or more from at words (Some g) inside h = let there = inside g h in omega (arith, there)
 
-found_inside : (f : Front) (from at : ℕ) (words : List (List ℕ)) → program_from f from words ≡ Some at → at < from + length words
-found_inside f from at [] h = absurd (cc)
-found_inside f from at (word ∷ words) h = found_or from at words (step f word) (λ g e. found_inside g (from + 1) at words e) h
+found_inside : (more : List (List ℕ)) (f : Front) (from at : ℕ) (words : List (List ℕ)) → program_from more f from words ≡ Some at → at < from + length words
+found_inside more f from at [] h = absurd (cc)
+found_inside more f from at (word ∷ words) h = found_or more from at words (step more f word) (λ g e. found_inside more g (from + 1) at words e) h
 
 -- the program is one of the words
-pub program_inside : (all : List (Vec ℕ Global)) (at : ℕ) → Some at ≡ program_at (words_of all) → at < length all
-program_inside all at h = let inside = found_inside (front [] false) 0 at (words_of all) (sym h) in omega (arith, inside, length-map all (λ word. word.items))
+pub program_inside : (more : List (List ℕ)) (all : List (Vec ℕ Global)) (at : ℕ) → Some at ≡ program_behind more (words_of all) → at < length all
+program_inside more all at h = let inside = found_inside more (front [] false) 0 at (words_of all) (sym h) in omega (arith, inside, length-map all (λ word. word.items))
 
 pub words_before : (all front : List (Vec ℕ Global)) (at : ℕ) → front ≡ take at all → words_of front ≡ take at (words_of all)
 words_before all front at h = ap words_of h ∙ sym (take-map (λ word. word.items) at all)

@@ -2,4 +2,6 @@ pub mod CaseLemmas
 pub mod DiskLineLaws
 pub mod NulLaws
 pub mod ReadCaseLaws
+pub mod SameKeyLaws
+pub mod SeenLaws
 pub mod UnreadLaws

@@ -2,7 +2,7 @@
 use Rattle.std.specs.Prelude.{◌≡◌, ℕ, ◌+◌, false, List, [], ◌∷◌, ◌++◌, Option, None, Some, slice_index_or, take, drop}
 use Rattle.scl_values.specs.Words.{words_of}
 use Rattle.scl_text.specs.Commands.{pairs_of}
-use Rattle.scl_names.specs.Launchers.{assignment_at, program_at}
+use Rattle.scl_names.specs.Launchers.{assignment_at, program_behind}
 use Rattle.scl_names.specs.Names.{compiler_of}
 use Rattle.scl_reader.specs.Within.{default_most}
 use Rattle.scl_reader.specs.declared.compiler.Compiler.{Compiler}
@@ -39,9 +39,9 @@ pub record IsDivided (all : List (List ℕ)) (at : ℕ) (divided : Divided) : Ty
 -- the program is the first word that may be one, the words are those behind it, and the variables those that words before it
 -- assign, the last first, and then those that are given: of several values of a variable the first counts. The runs are for this
 -- machine
-pub record IsCase (all : List (List ℕ)) (named : Option Compiler) (cwd : List ℕ) (env_vars : List (List ℕ × List ℕ)) (case : Case) : Type 0 where
+pub record IsCase (launchers all : List (List ℕ)) (named : Option Compiler) (cwd : List ℕ) (env_vars : List (List ℕ × List ℕ)) (case : Case) : Type 0 where
   pub at : ℕ
-  pub program_at : program_at all ≡ Some at
+  pub program_at : program_behind launchers all ≡ Some at
   pub program : case.program.items ≡ slice_index_or all at []
   pub words : words_of case.words.items ≡ drop (at + 1) all
   pub compiler : compiler_for named case.program.items ≡ Some case.compiler
@@ -51,6 +51,6 @@ pub record IsCase (all : List (List ℕ)) (named : Option Compiler) (cwd : List 
   pub bound : case.bound ≡ default_most
 
 -- no word may be a program, or no compiler is named and the program's name names none
-abbrev pub IsNoCase : List (List ℕ) → Option Compiler → CaseError → Type 0
-IsNoCase all named errors.NoProgram = program_at all ≡ None
-IsNoCase all named (errors.UnknownCompiler quoted) = (at : ℕ) × (program_at all ≡ Some at) × (compiler_for named (slice_index_or all at []) ≡ None)
+abbrev pub IsNoCase : (launchers all : List (List ℕ)) → Option Compiler → CaseError → Type 0
+IsNoCase launchers all named errors.NoProgram = program_behind launchers all ≡ None
+IsNoCase launchers all named (errors.UnknownCompiler word quoted) = (at : ℕ) × (word ≡ at + 1) × (program_behind launchers all ≡ Some at) × (compiler_for named (slice_index_or all at []) ≡ None)

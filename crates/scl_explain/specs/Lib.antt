@@ -1,3 +1,4 @@
+pub mod Borrowed
 pub mod Cases
 pub mod CommandTexts
 pub mod Endings
@@ -6,3 +7,5 @@ pub mod Laws
 pub mod Nuls
 pub mod Replies
 pub mod Said
+pub mod SameKeys
+pub mod Seen

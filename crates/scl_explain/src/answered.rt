@@ -4,6 +4,8 @@ ghost use Rattle.std.specs.Option.{option_copied, option_map};
 ghost use Rattle.scl_files.specs.Views.{Viewed};
 ghost use Rattle.scl_text.specs.Records.{outcome_of};
 ghost use Rattle.scl_text.specs.Runs.{runs_of};
+ghost use Rattle.scl_values.specs.Words.{words_of};
+ghost use Rattle.scl_explain.specs.Seen.{IsSeen};
 ghost use Rattle.scl_reader.specs.Answers.{answer_to, reading_by};
 ghost use Rattle.scl_reader.specs.AnswersGiven.{answer_of};
 ghost use Rattle.scl_reader.specs.CommandLines.{given_by, given_in};
@@ -16,7 +18,7 @@ ghost use Rattle.scl_explain.specs.Said.{IsDecided, IsNotLoaded, compiles_nothin
 ghost use Rattle.scl_load.specs.Loads.{IsDiskError, IsLoaded};
 
 use crate::case::Case;
-use crate::logged::Logged;
+use crate::logged::{Log, Logged};
 use scl_describe::{About, hazards_of, rows_of};
 use scl_hazards::Hazard;
 use scl_load::{Disk, DiskLine, LoadError, Loaded, load};
@@ -176,12 +178,50 @@ fn load_case<D: Disk>(
     }
 }
 
+/// What is told of what was loaded, with what was looked for as the view has it.
+#[tactic(auto, using(crate::proofs::ReadCaseLaws::outcome_read))]
+fn told_of<'a>(
+    alloc: Global,
+    about: &About<'a>,
+    case: &Case,
+    loaded: Loaded,
+    log: &Log,
+    wants_rows: bool,
+) -> Mem<Answered<'a>>
+    requires { loaded.reading ≡ read_of (request_of case.now loaded.view) }
+    ensures view { IfOk result (λ answered. answered.view ≡ loaded.view) }
+    ensures answer { IfOk result (λ answered. answer_to (request_of case.now answered.view) ≡ answer_of answered.answer) }
+    ensures runs { IfOk result (λ answered. runs_of answered.runs.items ≡ runs_for (option_copied about.now.version) case.now.compiler case.now.may_dist false false (reading_by case.now.compiler (request_of case.now answered.view))) }
+    ensures hazards { IfOk result (λ answered. answered.hazards.items ≡ hazards_by (known_for about.now) (request_of case.now answered.view)) }
+    ensures rows { IfOk result (λ answered. let request = request_of case.now answered.view in
+        map told answered.rows.items ≡ rows_given wants_rows (reading_by case.now.compiler request) (rows_by request)) }
+    ensures seen { IfOk result (λ answered. IsSeen answered.view (words_of answered.response_files.items) (words_of answered.missing_files.items) (words_of answered.directories.items) (words_of answered.existing.items)) }
+{
+    let Loaded { view, reading } = loaded;
+    let (answer, found) = answer_read(alloc, about, case, &view, reading, wants_rows)?;
+    let seen = log.in_view(alloc, &view)?;
+    let Found {
+        runs,
+        hazards,
+        rows,
+    } = found;
+    Ok(Answered {
+        answer,
+        runs,
+        response_files: seen.found,
+        missing_files: seen.missing,
+        directories: seen.directories,
+        existing: seen.existing,
+        hazards,
+        rows,
+        view,
+    })
+}
+
 /// The answer to a command line on a disk, which is asked for response files, directories and other paths, with the hazards and
 /// the runs of the preprocessor by what is known of its compiler; `multiarch` says whether several architectures are allowed.
-/// Rows of options are given where `wants_rows` says so, and where nothing is compiled. A read that fails is `Disk` with its error; `TooManyWords` and `TooManyRounds` where response
-/// files give more words than the case's bound or are opened more often, or where 2^12 name each the next. The outer error is the
-/// refusal of memory.
-#[tactic(auto, using(crate::proofs::ReadCaseLaws::outcome_read))]
+/// Rows of options are given where `wants_rows` says so, and where nothing is compiled. A read that fails is `Disk` with its error;
+/// `TooManyWords` and `TooManyRounds` where response files give more words than the case's bound or are opened more often, or where 2^12 name each the next.
 pub fn answer_case<'a, D: Disk>(
     alloc: Global,
     disk: &D,
@@ -198,30 +238,16 @@ pub fn answer_case<'a, D: Disk>(
     ensures hazards { IfOk result (λ said. IfOk said (λ answered. answered.hazards.items ≡ hazards_by (known_for about.now) (request_of case.now answered.view))) }
     ensures rows { IfOk result (λ said. IfOk said (λ answered. let request = request_of case.now answered.view in
         map told answered.rows.items ≡ rows_given wants_rows (reading_by case.now.compiler request) (rows_by request))) }
+    ensures seen { IfOk result (λ said. IfOk said (λ answered. IsSeen answered.view (words_of answered.response_files.items) (words_of answered.missing_files.items) (words_of answered.directories.items) (words_of answered.existing.items))) }
     ensures end { IfOk result (λ said. IfErr said (IsNotLoaded (D.holds disk.now) multiarch case.now)) }
     ensures error { IfOk result (λ said. IfErr said (λ error. IsDiskError (D.fails disk.now) error)) }
 {
     let logged = Logged::new(alloc, disk);
-    let Loaded { view, reading } = match load_case(alloc, &logged, case, multiarch)? {
+    let loaded = match load_case(alloc, &logged, case, multiarch)? {
         Ok(loaded) => loaded,
         Err(error) => return Ok(Err(error)),
     };
     let log = logged.into_log();
-    let (answer, found) = answer_read(alloc, about, case, &view, reading, wants_rows)?;
-    let Found {
-        runs,
-        hazards,
-        rows,
-    } = found;
-    Ok(Ok(Answered {
-        answer,
-        runs,
-        response_files: log.found,
-        missing_files: log.missing,
-        directories: log.directories,
-        existing: log.existing,
-        hazards,
-        rows,
-        view,
-    }))
+    let answered = told_of(alloc, about, case, loaded, &log, wants_rows)?;
+    Ok(Ok(answered))
 }

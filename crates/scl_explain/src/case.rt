@@ -4,7 +4,7 @@ ghost use Rattle.scl_values.specs.Words.{words_of};
 ghost use Rattle.scl_text.specs.Commands.{pairs_of};
 ghost use Rattle.scl_explain.specs.Cases.{IsCase, IsDivided, IsNoCase, assigned, assigned_by, compiler_for};
 
-use scl_names::{assignment_at, compiler_of, program_at};
+use scl_names::{assignment_at, compiler_of, program_behind};
 use scl_reader::{Compiler, MOST, Mem};
 use scl_shell::{beginning, shown_command};
 use std::alloc::Global;
@@ -35,9 +35,9 @@ pub enum CaseError {
     /// There is no word but launchers and assignments.
     #[error("no word names a compiler")]
     NoProgram,
-    /// The program's name is not known; it is quoted for a shell.
-    #[error("{0} is no compiler by its name; --compiler NAME says which one it is")]
-    UnknownCompiler(String),
+    /// The program's name is not known: the number of its word, from 1, and the name, quoted for a shell.
+    #[error("{1}, word {0}, is no compiler by its name; --compiler NAME says which one it is, --launcher NAME that it starts one")]
+    UnknownCompiler(usize, String),
 }
 
 /// The words of a command line, divided.
@@ -99,37 +99,47 @@ fn compiler_for(alloc: Global, named: Option<Compiler>, program: &[u8]) -> Mem<O
     }
 }
 
+/// The number of a word, from 1.
+fn number_of(words: &[Vec<u8>], at: usize) -> usize
+    requires { at < length words.now }
+    ensures { result ≡ at + 1 }
+{
+    let _ = words;
+    at + 1
+}
+
 /// A program's name, or the beginning of a long one, quoted for a shell.
 fn quoted(alloc: Global, program: &[u8]) -> Mem<String> {
     shown_command(alloc, beginning(program), &[])
 }
 
 impl Case {
-    /// The command line that these words are, the program's included: launchers and assignments before it are left out, and the
+    /// The command line that these words are, the program's included: launchers, also of these further names, and assignments before it are left out, and the
     /// variables that are assigned come before `env_vars`, the last first, since of several values the first counts. It is
     /// `named`'s, where a compiler is named, and else that of the compiler that the program's name names; `UnknownCompiler` where
-    /// it names none, `NoProgram` where no word may be a program. Its runs are for this machine, and its bound is 1,000,000. The
-    /// outer error is the refusal of memory.
+    /// it names none, `NoProgram` where no word may be a program. Its runs are for this machine, and its bound is 1,000,000.
     #[tactic(auto, using(crate::proofs::CaseLemmas::program_inside))]
     pub fn of_words(
         alloc: Global,
         all: Vec<Vec<u8>>,
+        launchers: &[Vec<u8>],
         named: Option<Compiler>,
         cwd: Vec<u8>,
         env_vars: Vec<(Vec<u8>, Vec<u8>)>,
     ) -> Mem<Result<Case, CaseError>>
-        ensures { IfOk result (λ said. MatchResult said (IsCase (words_of all.items) named cwd.items (pairs_of env_vars.items)) (IsNoCase (words_of all.items) named)) }
+        ensures { IfOk result (λ said. MatchResult said (IsCase (words_of launchers.now) (words_of all.items) named cwd.items (pairs_of env_vars.items)) (IsNoCase (words_of launchers.now) (words_of all.items) named)) }
     {
-        let Some(at) = program_at(alloc, &all)? else {
+        let Some(at) = program_behind(alloc, launchers, &all)? else {
             return Ok(Err(CaseError::NoProgram));
         };
+        let number = number_of(&all, at);
         let Divided {
             front,
             program,
             words,
         } = divide(all, at)?;
         let Some(compiler) = compiler_for(alloc, named, &program)? else {
-            return Ok(Err(CaseError::UnknownCompiler(quoted(alloc, &program)?)));
+            return Ok(Err(CaseError::UnknownCompiler(number, quoted(alloc, &program)?)));
         };
         let env_vars = with_assigned(alloc, env_vars, &front)?;
         Ok(Ok(Case {

@@ -70,7 +70,7 @@ fn check_reply<R: Report>(
 
 /// The hazards of a command line, a line each, or for machines as `report` writes them. It ends as the answer does where there
 /// is no command, by a word that holds a NUL where the command has one, as a hazard where there is one, by an outcome that may not
-/// be kept where that is so, and as a failed file where one can't be read. It fails only for want of memory.
+/// be kept where that is so, and as a failed file where one can't be read.
 #[tactic(auto, using(crate::proofs::UnreadLaws::is_unread))]
 pub fn check<D: Disk, R: Report>(
     alloc: Global,

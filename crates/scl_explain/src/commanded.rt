@@ -113,7 +113,7 @@ fn command_reply<R: Report>(
 /// The command to run in the place of a command line, quoted for a shell or each word with a NUL after it. Nothing is written
 /// where there is none, where a word of it holds a NUL, and of a strict form where a hazard concerns more than messages; then it ends as such, and
 /// so says the line of standard error, with why `report` says that nothing is compiled. That its outcome may not be kept is said
-/// there too. It fails only for want of memory.
+/// there too.
 #[tactic(auto, using(crate::proofs::UnreadLaws::is_unread))]
 pub fn command<D: Disk, R: Report>(
     alloc: Global,

@@ -14,6 +14,8 @@ mod nuls;
 mod refusal;
 mod reply;
 mod report;
+mod same_key;
+mod seen;
 mod status;
 mod words;
 
@@ -28,5 +30,6 @@ pub use nuls::unrunnable_text;
 pub use refusal::{cached_text, refusal_text};
 pub use reply::{Form, Paint, Reply, explain, load_error_text};
 pub use report::Report;
+pub use same_key::{has_key, has_key_of};
 pub use status::Ending;
 pub use words::{WordForm, command_text};

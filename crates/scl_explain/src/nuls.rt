@@ -45,8 +45,7 @@ fn nul_text(alloc: Global, program: &[u8], words: &[Vec<u8>]) -> Mem<String> {
     format!(in alloc; "no process can be given the word {word}: it holds a NUL")
 }
 
-/// Why no process can be given a command: its first word that holds a NUL, by name; none of any other command. It fails only for
-/// want of memory.
+/// Why no process can be given a command: its first word that holds a NUL, by name; none of any other command.
 pub fn unrunnable_text(alloc: Global, program: &[u8], words: &[Vec<u8>]) -> Mem<Option<String>>
     ensures { IfOk result (λ text. is_some text ≡ some_hold_nul (program.now ∷ words_of words.now)) }
 {

@@ -42,7 +42,7 @@ pub enum Form {
     Json,
 }
 
-/// Why a disk gives no answer, in a line. It fails only for want of memory.
+/// Why a disk gives no answer, in a line.
 pub fn load_error_text<E: Display>(alloc: Global, error: &LoadError<E>) -> Mem<String> {
     match error {
         LoadError::Disk(error) => format!(in alloc; "{error}"),
@@ -68,7 +68,7 @@ pub(crate) fn unread<E: Display>(alloc: Global, error: &LoadError<E>) -> Mem<Rep
 }
 
 /// What a command line is, as `report` writes it. It ends as answered whatever the answer is, and as a failed file where one
-/// can't be read. It fails only for want of memory.
+/// can't be read.
 #[tactic(auto, using(crate::proofs::UnreadLaws::is_unread))]
 pub fn explain<D: Disk, R: Report>(
     alloc: Global,

@@ -5,7 +5,7 @@ use crate::reply::Form;
 use scl_reader::Mem;
 use std::alloc::Global;
 
-/// What writes answers. Each call fails only for want of memory.
+/// What writes answers.
 pub trait Report {
     /// What a command line is.
     fn explanation(

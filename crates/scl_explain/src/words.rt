@@ -56,7 +56,7 @@ pub enum WordForm {
     EndedByNul,
 }
 
-/// The text of a command: a line that a shell reads back, or each word with a NUL after it. It fails only for want of memory.
+/// The text of a command: a line that a shell reads back, or each word with a NUL after it.
 pub fn command_text(
     alloc: Global,
     program: &[u8],

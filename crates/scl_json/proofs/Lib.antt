@@ -3,3 +3,4 @@ mod EachLaws
 mod NameLaws
 mod RowLaws
 mod FieldLaws
+mod JsonLaws

@@ -1,4 +1,6 @@
 pub mod Texts
+pub mod Json
+pub mod Laws
 pub mod Members
 pub mod MembersGiven
 pub mod Objects

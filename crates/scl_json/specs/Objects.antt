@@ -55,6 +55,17 @@ members_by (name ∷ names) (word ∷ words) = member name (text word) ∷ membe
 abbrev pub object_by : List (List ℕ) → List (List ℕ) → List ℕ
 object_by names words = object (members_by names words)
 
+-- an item of an array, by the form of its member and the names of fields
+abbrev pub item_of : Form → List (List ℕ) → List (List ℕ) → List ℕ
+item_of Each names = value_of
+item_of Objects names = object_by names
+item_of Named names = texts
+item_of Number names = texts
+item_of Truth names = texts
+item_of Yes names = texts
+item_of One names = texts
+item_of Rows names = texts
+
 -- the value of a member, by its form, the names of fields, the row's name, and what follows that in each of its rows
 abbrev pub value_in : Form → List (List ℕ) → List ℕ → List (List (List ℕ)) → List ℕ
 value_in Named names name rests = text name

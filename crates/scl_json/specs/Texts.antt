@@ -1,5 +1,5 @@
 -- Values of JSON: texts, arrays and objects, as bytes.
-use Rattle.std.specs.Prelude.{ℕ, ◌+◌, ◌-◌, ◌/◌, ◌%◌, ◌==◌, ◌||◌, nat_lt, Bool, cond, codes, List, [], ◌∷◌, ◌++◌, map}
+use Rattle.std.specs.Prelude.{ℕ, ◌+◌, ◌-◌, ◌/◌, ◌%◌, ◌==◌, ◌||◌, ◌&&◌, nat_lt, nat_le, not, Bool, cond, codes, List, [], ◌∷◌, ◌++◌, map}
 use Rattle.std.specs.Char.{encode_utf8}
 use Rattle.std.specs.List.{flat_map}
 use Rattle.std.specs.Str.{chars, is_utf8}
@@ -22,6 +22,10 @@ number_escape c = cond (nat_lt c 0x1_0000) (unit_escape c) (surrogates (c - 0x1_
 abbrev pub is_mark : ℕ → Bool
 is_mark c = c == 34 || c == 92
 
+-- the characters of ASCII that stand for themselves: space to `~`, without these
+abbrev pub is_plain : ℕ → Bool
+is_plain c = nat_le 32 c && nat_le c 126 && not (is_mark c)
+
 -- a character in a text: by its number where it is hidden, behind a backslash where it has a meaning
 abbrev pub char_text : ℕ → List ℕ
 char_text c = cond (is_hidden c) (number_escape c) (cond (is_mark c) (92 ∷ encode_utf8 c) (encode_utf8 c))
@@ -32,7 +36,7 @@ quoted cs = codes "\"" ++ flat_map char_text cs ++ codes "\""
 
 -- a byte as two hexadecimal digits
 abbrev pub digits_of : ℕ → List ℕ
-digits_of b = digit_of (b / 16) ∷ digit_of (b % 16) ∷ []
+digits_of b = digit_of (b / 16 % 16) ∷ digit_of (b % 16) ∷ []
 
 -- bytes as digits, in double quotes
 abbrev pub quoted_digits : List ℕ → List ℕ

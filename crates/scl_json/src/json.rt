@@ -1,6 +1,6 @@
 //! Rows as an object of JSON.
 ghost use Rattle.std.specs.Prelude.{◌≡◌, ◌++◌, ◌∷◌, [], IfOk, OnOk, MatchOption, map};
-ghost use Rattle.std.specs.List.{list_any};
+ghost use Rattle.std.specs.List.{flat_map, list_any};
 ghost use Rattle.std.specs.Str.{bytes_eq};
 ghost use Rattle.scl_values.specs.Words.{words_of};
 ghost use Rattle.scl_text.specs.Records.{distinct_words};
@@ -8,11 +8,12 @@ ghost use Rattle.scl_text.specs.Runs.{runs_of};
 ghost use Rattle.scl_description.specs.Records.{first_field};
 ghost use Rattle.scl_description.specs.Rows.{behind, entry, rests_at};
 ghost use Rattle.scl_json.specs.Objects.{entries_in, entry_at, json_of, member_of, names_in, with_name};
+ghost use Rattle.scl_json.specs.Texts.{behind_comma, joined};
 ghost use Rattle.scl_json.specs.Rests.{rests_of};
 
 use crate::members::{Form, member_of};
-use crate::text::{member, object};
-use crate::value::{Rest, value_in};
+use crate::text::push_member;
+use crate::value::{Rest, push_value_in};
 use scl_text::Mem;
 use std::alloc::Global;
 
@@ -39,28 +40,28 @@ fn rests_at<'a>(alloc: Global, rows: &'a [Vec<Vec<u8>>], name: &[u8]) -> Mem<Vec
     Ok(rests)
 }
 
-/// The member of the rows of a name that the table has, or of any other.
-fn member_in(alloc: Global, name: &[u8], rests: &[Rest<'_>]) -> Mem<Vec<u8>>
-    ensures { IfOk result (λ json. json.items ≡ member_of (entry name.now (rests_of rests.now))) }
+/// Appends the member of the rows of a name that the table has, or of any other.
+fn push_member_in(json: &mut Vec<u8>, name: &[u8], rests: &[Rest<'_>]) -> Mem<()>
+    ensures { OnOk result (json.new.items ≡ json.old.items ++ member_of (entry name.now (rests_of rests.now))) }
 {
     match member_of(name) {
         Some(found) => {
-            let value = value_in(alloc, found.form, found.fields, name, rests)?;
-            member(alloc, found.name.as_bytes(), &value)
+            push_member(json, found.name.as_bytes())?;
+            push_value_in(json, found.form, found.fields, name, rests)
         }
         None => {
-            let value = value_in(alloc, Form::Rows, &[], name, rests)?;
-            member(alloc, name, &value)
+            push_member(json, name)?;
+            push_value_in(json, Form::Rows, &[], name, rests)
         }
     }
 }
 
-/// The member of the rows of a name.
-fn member_at(alloc: Global, rows: &[Vec<Vec<u8>>], name: &[u8]) -> Mem<Vec<u8>>
-    ensures { IfOk result (λ json. json.items ≡ member_of (entry_at (runs_of rows.now) name.now)) }
+/// Appends the member of the rows of a name.
+fn push_member_at(alloc: Global, json: &mut Vec<u8>, rows: &[Vec<Vec<u8>>], name: &[u8]) -> Mem<()>
+    ensures { OnOk result (json.new.items ≡ json.old.items ++ member_of (entry_at (runs_of rows.now) name.now)) }
 {
     let rests = rests_at(alloc, rows, name)?;
-    member_in(alloc, name, &rests)
+    push_member_in(json, name, &rests)
 }
 
 fn is_among(word: &[u8], words: &[Vec<u8>]) -> bool
@@ -134,23 +135,60 @@ fn names_in(alloc: Global, firsts: &[&str], rows: &[Vec<Vec<u8>>]) -> Mem<Vec<Ve
     distinct(alloc, &names)
 }
 
-/// The members of names, in order.
-fn each_member(alloc: Global, rows: &[Vec<Vec<u8>>], names: &[Vec<u8>]) -> Mem<Vec<Vec<u8>>>
-    ensures { IfOk result (λ members. words_of members.items ≡ map member_of (map (entry_at (runs_of rows.now)) (words_of names.now))) }
+/// Appends the members of names, a comma before each.
+fn push_members_behind(
+    alloc: Global,
+    json: &mut Vec<u8>,
+    rows: &[Vec<Vec<u8>>],
+    names: &[Vec<u8>],
+) -> Mem<()>
+    ensures { OnOk result (json.new.items ≡ json.old.items ++ flat_map behind_comma (map member_of (map (entry_at (runs_of rows.now)) (words_of names.now)))) }
 {
-    let mut members = Vec::new(alloc);
     for name in names {
-        members.push(member_at(alloc, rows, name)?)?;
+        json.push(b',')?;
+        push_member_at(alloc, json, rows, name)?;
     }
-    Ok(members)
+    Ok(())
 }
 
-/// An object with a member for each name in rows, in the order of their first rows; before them those of `firsts`, even if there
-/// is no row of such a name (docs/PROTOCOL.md, JSON).
+/// Appends the members of names, a comma between two.
+fn push_members(
+    alloc: Global,
+    json: &mut Vec<u8>,
+    rows: &[Vec<Vec<u8>>],
+    names: &[Vec<u8>],
+) -> Mem<()>
+    ensures { OnOk result (json.new.items ≡ json.old.items ++ joined (map member_of (map (entry_at (runs_of rows.now)) (words_of names.now)))) }
+{
+    if let Some((first, others)) = names.split_first() {
+        push_member_at(alloc, json, rows, first)?;
+        push_members_behind(alloc, json, rows, others)?;
+    }
+    Ok(())
+}
+
+/// Appends an object with a member for each name in rows, in the order of their first rows; before them those of `firsts`, even if
+/// there is no row of such a name (docs/PROTOCOL.md, JSON).
+pub fn push_json(
+    alloc: Global,
+    json: &mut Vec<u8>,
+    firsts: &[&str],
+    rows: &[Vec<Vec<u8>>],
+) -> Mem<()>
+    ensures { OnOk result (json.new.items ≡ json.old.items ++ json_of (entries_in (map (λ first. first.now) firsts.now) (runs_of rows.now))) }
+{
+    let names = names_in(alloc, firsts, rows)?;
+    json.push(b'{')?;
+    push_members(alloc, json, rows, &names)?;
+    json.push(b'}')?;
+    Ok(())
+}
+
+/// The object that `push_json` appends.
 pub fn json_of(alloc: Global, firsts: &[&str], rows: &[Vec<Vec<u8>>]) -> Mem<Vec<u8>>
     ensures { IfOk result (λ json. json.items ≡ json_of (entries_in (map (λ first. first.now) firsts.now) (runs_of rows.now))) }
 {
-    let names = names_in(alloc, firsts, rows)?;
-    let members = each_member(alloc, rows, &names)?;
-    object(alloc, &members)
+    let mut json = Vec::new(alloc);
+    push_json(alloc, &mut json, firsts, rows)?;
+    Ok(json)
 }

@@ -2,10 +2,11 @@
 #![tactic(auto)]
 
 mod json;
+pub mod laws;
 mod members;
 mod rows;
 mod text;
 mod value;
 
-pub use json::json_of;
+pub use json::{json_of, push_json};
 pub use rows::read_rows;

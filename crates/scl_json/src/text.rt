@@ -1,15 +1,14 @@
 //! Values of JSON, as bytes.
-ghost use Rattle.std.specs.Prelude.{◌≡◌, ◌++◌, ◌<◌, ◌%◌, OnOk, IfOk, map};
+ghost use Rattle.std.specs.Prelude.{◌≡◌, ◌++◌, ◌<◌, ◌%◌, OnOk, codes, map};
 ghost use Rattle.std.specs.List.{flat_map};
 ghost use Rattle.std.specs.Char.{encode_utf8};
 ghost use Rattle.std.specs.Str.{chars};
 ghost use Rattle.scl_values.specs.Escaped.{digit_of};
 ghost use Rattle.scl_values.specs.Words.{words_of};
-ghost use Rattle.scl_json.specs.Texts.{array, behind_comma, char_text, digits_of, is_mark, joined, member, name_text, number_escape, object, quoted, quoted_digits, raw, surrogates, text, texts, unit_escape};
+ghost use Rattle.scl_json.specs.Texts.{behind_comma, char_text, digits_of, is_mark, is_plain, joined, name_text, number_escape, quoted, quoted_digits, raw, surrogates, text, texts, unit_escape};
 
 use scl_shell::is_hidden;
 use scl_text::Mem;
-use std::alloc::Global;
 use std::str;
 
 /// The hexadecimal digit of a number below 16.
@@ -77,10 +76,21 @@ fn push_itself(json: &mut Vec<u8>, c: char) -> Mem<()>
     json.extend_from_slice(c.encode_utf8(&mut room).as_bytes())
 }
 
+/// Whether a character of ASCII stands for itself.
+fn is_plain(c: char) -> bool
+    ensures { result ≡ is_plain c }
+{
+    matches!(c, ' '..='~') && !is_mark(c)
+}
+
+#[tactic(auto, using(crate::proofs::CharLaws::plain_rules))]
 fn push_char(json: &mut Vec<u8>, c: char) -> Mem<()>
     ensures { OnOk result (json.new.items ≡ json.old.items ++ char_text c) }
 {
-    if is_hidden(c) {
+    if is_plain(c) {
+        json.push(c as u8)?;
+        Ok(())
+    } else if is_hidden(c) {
         push_number(json, c)
     } else if is_mark(c) {
         json.push(b'\\')?;
@@ -114,7 +124,7 @@ fn push_quoted(json: &mut Vec<u8>, text: &str) -> Mem<()>
 fn push_digits_of(json: &mut Vec<u8>, byte: u8) -> Mem<()>
     ensures { OnOk result (json.new.items ≡ json.old.items ++ digits_of byte) }
 {
-    json.push(digit_of(byte / 16))?;
+    json.push(digit_of(byte / 16 % 16))?;
     json.push(digit_of(byte % 16))?;
     Ok(())
 }
@@ -150,7 +160,7 @@ fn push_raw(json: &mut Vec<u8>, bytes: &[u8]) -> Mem<()>
 
 /// Appends bytes: a text where they are UTF-8, else an object with their digits.
 #[tactic(auto, using(scl_shell::proofs::ShownLaws::text_rules))]
-fn push_text(json: &mut Vec<u8>, bytes: &[u8]) -> Mem<()>
+pub(crate) fn push_text(json: &mut Vec<u8>, bytes: &[u8]) -> Mem<()>
     ensures { OnOk result (json.new.items ≡ json.old.items ++ text bytes.now) }
 {
     match str::from_utf8(bytes) {
@@ -170,84 +180,43 @@ fn push_name(json: &mut Vec<u8>, bytes: &[u8]) -> Mem<()>
     }
 }
 
-/// Bytes as a value: a text where they are UTF-8, else an object with their digits.
-pub(crate) fn text(alloc: Global, bytes: &[u8]) -> Mem<Vec<u8>>
-    ensures { IfOk result (λ json. json.items ≡ text bytes.now) }
-{
-    let mut json = Vec::new(alloc);
-    push_text(&mut json, bytes)?;
-    Ok(json)
-}
-
 /// Appends texts, a comma before each.
-fn push_behind(json: &mut Vec<u8>, items: &[Vec<u8>]) -> Mem<()>
-    ensures { OnOk result (json.new.items ≡ json.old.items ++ flat_map behind_comma (words_of items.now)) }
+fn push_texts_behind(json: &mut Vec<u8>, words: &[Vec<u8>]) -> Mem<()>
+    ensures { OnOk result (json.new.items ≡ json.old.items ++ flat_map behind_comma (map text (words_of words.now))) }
 {
-    for item in items {
+    for word in words {
         json.push(b',')?;
-        json.extend_from_slice(item)?;
+        push_text(json, word)?;
     }
     Ok(())
 }
 
 /// Appends texts with a comma between two.
-fn push_joined(json: &mut Vec<u8>, items: &[Vec<u8>]) -> Mem<()>
-    ensures { OnOk result (json.new.items ≡ json.old.items ++ joined (words_of items.now)) }
+fn push_texts_joined(json: &mut Vec<u8>, words: &[Vec<u8>]) -> Mem<()>
+    ensures { OnOk result (json.new.items ≡ json.old.items ++ joined (map text (words_of words.now))) }
 {
-    if let Some((first, others)) = items.split_first() {
-        json.extend_from_slice(first)?;
-        push_behind(json, others)?;
+    if let Some((first, others)) = words.split_first() {
+        push_text(json, first)?;
+        push_texts_behind(json, others)?;
     }
     Ok(())
 }
 
-/// An array of these values.
-pub(crate) fn array(alloc: Global, items: &[Vec<u8>]) -> Mem<Vec<u8>>
-    ensures { IfOk result (λ json. json.items ≡ array (words_of items.now)) }
+/// Appends an array of texts.
+pub(crate) fn push_texts(json: &mut Vec<u8>, words: &[Vec<u8>]) -> Mem<()>
+    ensures { OnOk result (json.new.items ≡ json.old.items ++ texts (words_of words.now)) }
 {
-    let mut json = Vec::new(alloc);
     json.push(b'[')?;
-    push_joined(&mut json, items)?;
+    push_texts_joined(json, words)?;
     json.push(b']')?;
-    Ok(json)
+    Ok(())
 }
 
-/// An object of these members.
-pub(crate) fn object(alloc: Global, members: &[Vec<u8>]) -> Mem<Vec<u8>>
-    ensures { IfOk result (λ json. json.items ≡ object (words_of members.now)) }
+/// Appends a member's name and the colon after it.
+pub(crate) fn push_member(json: &mut Vec<u8>, name: &[u8]) -> Mem<()>
+    ensures { OnOk result (json.new.items ≡ json.old.items ++ name_text name.now ++ codes ":") }
 {
-    let mut json = Vec::new(alloc);
-    json.push(b'{')?;
-    push_joined(&mut json, members)?;
-    json.push(b'}')?;
-    Ok(json)
-}
-
-/// A member of an object.
-pub(crate) fn member(alloc: Global, name: &[u8], value: &[u8]) -> Mem<Vec<u8>>
-    ensures { IfOk result (λ json. json.items ≡ member name.now value.now) }
-{
-    let mut json = Vec::new(alloc);
-    push_name(&mut json, name)?;
+    push_name(json, name)?;
     json.push(b':')?;
-    json.extend_from_slice(value)?;
-    Ok(json)
-}
-
-fn each_text(alloc: Global, words: &[Vec<u8>]) -> Mem<Vec<Vec<u8>>>
-    ensures { IfOk result (λ items. words_of items.items ≡ map text (words_of words.now)) }
-{
-    let mut items = Vec::new(alloc);
-    for word in words {
-        items.push(text(alloc, word)?)?;
-    }
-    Ok(items)
-}
-
-/// An array of texts.
-pub(crate) fn texts(alloc: Global, words: &[Vec<u8>]) -> Mem<Vec<u8>>
-    ensures { IfOk result (λ json. json.items ≡ texts (words_of words.now)) }
-{
-    let items = each_text(alloc, words)?;
-    array(alloc, &items)
+    Ok(())
 }

@@ -1,26 +1,25 @@
 //! Values of members.
-ghost use Rattle.std.specs.Prelude.{◌≡◌, IfOk, codes, map};
-ghost use Rattle.std.specs.List.{list_all};
+ghost use Rattle.std.specs.Prelude.{◌≡◌, ◌++◌, OnOk, codes, map};
+ghost use Rattle.std.specs.List.{flat_map, list_all};
 ghost use Rattle.scl_values.specs.Words.{words_of};
-ghost use Rattle.scl_json.specs.Objects.{are_rows, first_by, is_digit, is_number, members_by, number_of, object_by, says_yes, truth, value_in, value_of};
+ghost use Rattle.scl_json.specs.Objects.{first_by, is_digit, is_number, item_of, members_by, number_of, object_by, says_yes, truth, value_in, value_of};
 ghost use Rattle.scl_json.specs.Rests.{rests_of};
-ghost use Rattle.scl_json.specs.Texts.{texts};
+ghost use Rattle.scl_json.specs.Texts.{array, behind_comma, joined, member, text, texts};
 
 use crate::members::Form;
-use crate::text::{array, member, object, text, texts};
+use crate::text::{push_member, push_text, push_texts};
 use scl_text::Mem;
-use std::alloc::Global;
 
 /// The fields of a row behind its name.
 pub(crate) type Rest<'a> = &'a [Vec<u8>];
 
-/// What follows a row's name.
-fn value_of(alloc: Global, rest: &[Vec<u8>]) -> Mem<Vec<u8>>
-    ensures { IfOk result (λ json. json.items ≡ value_of (words_of rest.now)) }
+/// Appends what follows a row's name.
+fn push_value(json: &mut Vec<u8>, rest: &[Vec<u8>]) -> Mem<()>
+    ensures { OnOk result (json.new.items ≡ json.old.items ++ value_of (words_of rest.now)) }
 {
     match rest {
-        [word] => text(alloc, word),
-        _ => texts(alloc, rest),
+        [word] => push_text(json, word),
+        _ => push_texts(json, rest),
     }
 }
 
@@ -42,22 +41,22 @@ fn is_number(word: &[u8]) -> bool
     !word.is_empty() && are_digits(word) && (word.len() == 1 || !word.starts_with(b"0"))
 }
 
-fn number_of(alloc: Global, rest: &[Vec<u8>]) -> Mem<Vec<u8>>
-    ensures { IfOk result (λ json. json.items ≡ number_of (words_of rest.now)) }
+fn push_number(json: &mut Vec<u8>, rest: &[Vec<u8>]) -> Mem<()>
+    ensures { OnOk result (json.new.items ≡ json.old.items ++ number_of (words_of rest.now)) }
 {
     match rest {
-        [word] if is_number(word) => Vec::from_slice(alloc, word),
-        _ => value_of(alloc, rest),
+        [word] if is_number(word) => json.extend_from_slice(word),
+        _ => push_value(json, rest),
     }
 }
 
-fn truth(alloc: Global, holds: bool) -> Mem<Vec<u8>>
-    ensures { IfOk result (λ json. json.items ≡ truth holds) }
+fn push_truth(json: &mut Vec<u8>, holds: bool) -> Mem<()>
+    ensures { OnOk result (json.new.items ≡ json.old.items ++ truth holds) }
 {
     if holds {
-        Vec::from_slice(alloc, b"true")
+        json.extend_from_slice(b"true")
     } else {
-        Vec::from_slice(alloc, b"false")
+        json.extend_from_slice(b"false")
     }
 }
 
@@ -70,116 +69,163 @@ fn says_yes(rest: &[Vec<u8>]) -> bool
     }
 }
 
-fn null(alloc: Global) -> Mem<Vec<u8>>
-    ensures { IfOk result (λ json. json.items ≡ codes "null") }
+fn push_null(json: &mut Vec<u8>) -> Mem<()>
+    ensures { OnOk result (json.new.items ≡ json.old.items ++ codes "null") }
 {
-    Vec::from_slice(alloc, b"null")
+    json.extend_from_slice(b"null")
 }
 
-fn first_number(alloc: Global, rests: &[Rest<'_>]) -> Mem<Vec<u8>>
-    ensures { IfOk result (λ json. json.items ≡ first_by number_of (rests_of rests.now)) }
-{
-    match rests {
-        [rest, ..] => number_of(alloc, rest),
-        [] => null(alloc),
-    }
-}
-
-fn first_truth(alloc: Global, rests: &[Rest<'_>]) -> Mem<Vec<u8>>
-    ensures { IfOk result (λ json. json.items ≡ first_by (λ rest. truth (says_yes rest)) (rests_of rests.now)) }
+fn push_first_number(json: &mut Vec<u8>, rests: &[Rest<'_>]) -> Mem<()>
+    ensures { OnOk result (json.new.items ≡ json.old.items ++ first_by number_of (rests_of rests.now)) }
 {
     match rests {
-        [rest, ..] => truth(alloc, says_yes(rest)),
-        [] => null(alloc),
+        [rest, ..] => push_number(json, rest),
+        [] => push_null(json),
     }
 }
 
-fn first_value(alloc: Global, rests: &[Rest<'_>]) -> Mem<Vec<u8>>
-    ensures { IfOk result (λ json. json.items ≡ first_by value_of (rests_of rests.now)) }
+fn push_first_truth(json: &mut Vec<u8>, rests: &[Rest<'_>]) -> Mem<()>
+    ensures { OnOk result (json.new.items ≡ json.old.items ++ first_by (λ rest. truth (says_yes rest)) (rests_of rests.now)) }
 {
     match rests {
-        [rest, ..] => value_of(alloc, rest),
-        [] => null(alloc),
+        [rest, ..] => push_truth(json, says_yes(rest)),
+        [] => push_null(json),
     }
 }
 
-fn each_value(alloc: Global, rests: &[Rest<'_>]) -> Mem<Vec<Vec<u8>>>
-    ensures { IfOk result (λ items. words_of items.items ≡ map value_of (rests_of rests.now)) }
+fn push_first_value(json: &mut Vec<u8>, rests: &[Rest<'_>]) -> Mem<()>
+    ensures { OnOk result (json.new.items ≡ json.old.items ++ first_by value_of (rests_of rests.now)) }
 {
-    let mut items = Vec::new(alloc);
-    for rest in rests {
-        items.push(value_of(alloc, rest)?)?;
+    match rests {
+        [rest, ..] => push_value(json, rest),
+        [] => push_null(json),
     }
-    Ok(items)
 }
 
-fn each_row(alloc: Global, rests: &[Rest<'_>]) -> Mem<Vec<Vec<u8>>>
-    ensures { IfOk result (λ items. words_of items.items ≡ map texts (rests_of rests.now)) }
+/// Appends a field by its name.
+fn push_field(json: &mut Vec<u8>, name: &str, word: &[u8]) -> Mem<()>
+    ensures { OnOk result (json.new.items ≡ json.old.items ++ member name.now (text word.now)) }
 {
-    let mut items = Vec::new(alloc);
-    for rest in rests {
-        items.push(texts(alloc, rest)?)?;
-    }
-    Ok(items)
+    push_member(json, name.as_bytes())?;
+    push_text(json, word)
 }
 
-/// The fields of a row by their names, and those after them as `words`.
+/// Appends fields that have no names.
+fn push_unnamed(json: &mut Vec<u8>, words: &[Vec<u8>]) -> Mem<()>
+    ensures { OnOk result (json.new.items ≡ json.old.items ++ member (codes "words") (texts (words_of words.now))) }
+{
+    push_member(json, b"words")?;
+    push_texts(json, words)
+}
+
+/// Appends the fields of a row by their names, and those after them as `words`; a comma before each member.
 #[tactic(auto, using(crate::proofs::FieldLaws::field_rules))]
-fn members_by(alloc: Global, names: &[&str], words: &[Vec<u8>]) -> Mem<Vec<Vec<u8>>>
-    ensures { IfOk result (λ members. words_of members.items ≡ members_by (map (λ name. name.now) names.now) (words_of words.now)) }
+fn push_fields_behind(json: &mut Vec<u8>, names: &[&str], words: &[Vec<u8>]) -> Mem<()>
+    ensures { OnOk result (json.new.items ≡ json.old.items ++ flat_map behind_comma (members_by (map (λ name. name.now) names.now) (words_of words.now))) }
 {
-    let mut members = Vec::new(alloc);
     let mut left = words;
     for name in names {
         let Some((word, rest)) = left.split_first() else {
-            return Ok(members);
+            return Ok(());
         };
-        let value = text(alloc, word)?;
-        members.push(member(alloc, name.as_bytes(), &value)?)?;
+        json.push(b',')?;
+        push_field(json, name, word)?;
         left = rest;
     }
     if !left.is_empty() {
-        let value = texts(alloc, left)?;
-        members.push(member(alloc, b"words", &value)?)?;
+        json.push(b',')?;
+        push_unnamed(json, left)?;
     }
-    Ok(members)
+    Ok(())
 }
 
-fn object_by(alloc: Global, names: &[&str], words: &[Vec<u8>]) -> Mem<Vec<u8>>
-    ensures { IfOk result (λ json. json.items ≡ object_by (map (λ name. name.now) names.now) (words_of words.now)) }
+/// Appends the fields of a row by their names, and those after them as `words`; a comma between two members.
+#[tactic(auto, using(crate::proofs::FieldLaws::field_rules))]
+fn push_fields(json: &mut Vec<u8>, names: &[&str], words: &[Vec<u8>]) -> Mem<()>
+    ensures { OnOk result (json.new.items ≡ json.old.items ++ joined (members_by (map (λ name. name.now) names.now) (words_of words.now))) }
 {
-    let members = members_by(alloc, names, words)?;
-    object(alloc, &members)
+    let Some((word, rest)) = words.split_first() else {
+        return Ok(());
+    };
+    match names {
+        [name, names @ ..] => {
+            push_field(json, name, word)?;
+            push_fields_behind(json, names, rest)
+        }
+        [] => push_unnamed(json, words),
+    }
 }
 
-fn each_object(alloc: Global, names: &[&str], rests: &[Rest<'_>]) -> Mem<Vec<Vec<u8>>>
-    ensures { IfOk result (λ items. words_of items.items ≡ map (object_by (map (λ name. name.now) names.now)) (rests_of rests.now)) }
+fn push_object(json: &mut Vec<u8>, names: &[&str], words: &[Vec<u8>]) -> Mem<()>
+    ensures { OnOk result (json.new.items ≡ json.old.items ++ object_by (map (λ name. name.now) names.now) (words_of words.now)) }
 {
-    let mut items = Vec::new(alloc);
+    json.push(b'{')?;
+    push_fields(json, names, words)?;
+    json.push(b'}')?;
+    Ok(())
+}
+
+/// Appends an item of an array.
+fn push_item(json: &mut Vec<u8>, form: Form, names: &[&str], rest: &[Vec<u8>]) -> Mem<()>
+    ensures { OnOk result (json.new.items ≡ json.old.items ++ item_of form (map (λ name. name.now) names.now) (words_of rest.now)) }
+{
+    match form {
+        Form::Each => push_value(json, rest),
+        Form::Objects => push_object(json, names, rest),
+        Form::Named | Form::Number | Form::Truth | Form::Yes | Form::One | Form::Rows => {
+            push_texts(json, rest)
+        }
+    }
+}
+
+/// Appends items, a comma before each.
+fn push_items_behind(json: &mut Vec<u8>, form: Form, names: &[&str], rests: &[Rest<'_>]) -> Mem<()>
+    ensures { OnOk result (json.new.items ≡ json.old.items ++ flat_map behind_comma (map (item_of form (map (λ name. name.now) names.now)) (rests_of rests.now))) }
+{
     for rest in rests {
-        items.push(object_by(alloc, names, rest)?)?;
+        json.push(b',')?;
+        push_item(json, form, names, rest)?;
     }
-    Ok(items)
+    Ok(())
 }
 
-/// The value of a member, by its form, the names of fields, the row's name, and what follows that in each of its rows.
-pub(crate) fn value_in(
-    alloc: Global,
+/// Appends items, a comma between two.
+fn push_items_joined(json: &mut Vec<u8>, form: Form, names: &[&str], rests: &[Rest<'_>]) -> Mem<()>
+    ensures { OnOk result (json.new.items ≡ json.old.items ++ joined (map (item_of form (map (λ name. name.now) names.now)) (rests_of rests.now))) }
+{
+    if let Some((first, others)) = rests.split_first() {
+        push_item(json, form, names, first)?;
+        push_items_behind(json, form, names, others)?;
+    }
+    Ok(())
+}
+
+/// Appends an array of items.
+fn push_array(json: &mut Vec<u8>, form: Form, names: &[&str], rests: &[Rest<'_>]) -> Mem<()>
+    ensures { OnOk result (json.new.items ≡ json.old.items ++ array (map (item_of form (map (λ name. name.now) names.now)) (rests_of rests.now))) }
+{
+    json.push(b'[')?;
+    push_items_joined(json, form, names, rests)?;
+    json.push(b']')?;
+    Ok(())
+}
+
+/// Appends the value of a member, by its form, the names of fields, the row's name, and what follows that in each of its rows.
+pub(crate) fn push_value_in(
+    json: &mut Vec<u8>,
     form: Form,
     names: &[&str],
     name: &[u8],
     rests: &[Rest<'_>],
-) -> Mem<Vec<u8>>
-    ensures { IfOk result (λ json. json.items ≡ value_in form (map (λ it. it.now) names.now) name.now (rests_of rests.now)) }
+) -> Mem<()>
+    ensures { OnOk result (json.new.items ≡ json.old.items ++ value_in form (map (λ it. it.now) names.now) name.now (rests_of rests.now)) }
 {
     match form {
-        Form::Named => text(alloc, name),
-        Form::Number => first_number(alloc, rests),
-        Form::Truth => first_truth(alloc, rests),
-        Form::Yes => truth(alloc, !rests.is_empty()),
-        Form::One => first_value(alloc, rests),
-        Form::Each => array(alloc, &each_value(alloc, rests)?),
-        Form::Rows => array(alloc, &each_row(alloc, rests)?),
-        Form::Objects => array(alloc, &each_object(alloc, names, rests)?),
+        Form::Named => push_text(json, name),
+        Form::Number => push_first_number(json, rests),
+        Form::Truth => push_first_truth(json, rests),
+        Form::Yes => push_truth(json, !rests.is_empty()),
+        Form::One => push_first_value(json, rests),
+        Form::Each | Form::Rows | Form::Objects => push_array(json, form, names, rests),
     }
 }

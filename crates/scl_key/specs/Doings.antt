@@ -1,5 +1,5 @@
 -- What a key has of what a catalogue tells that the compiler does beside compiling.
-use Rattle.std.specs.Prelude.{ℕ, Bool, true, not, ◌||◌, ◌==◌, List, [], ◌∷◌, ◌++◌, length, map, filter, codes, if◌then◌else◌}
+use Rattle.std.specs.Prelude.{ℕ, Bool, true, not, ◌&&◌, ◌||◌, ◌==◌, List, [], ◌∷◌, ◌++◌, length, map, filter, codes, if◌then◌else◌}
 use Rattle.std.specs.List.{flat_map, list_any}
 use Rattle.std.specs.Str.{bytes_eq}
 use Rattle.scl_catalogue.specs.declared.entry.Verb.{Verb}
@@ -20,10 +20,14 @@ is_answered name = bytes_eq name (codes "directory") || bytes_eq name (codes "pr
 abbrev pub is_lost : List ℕ → Bool
 is_lost name = length name == 0 || is_no_file name
 
+-- What is read there may be another thing each time. Nothing is ever read from /dev/null.
+abbrev pub is_fleeting : List ℕ → Bool
+is_fleeting name = is_no_file name && not (bytes_eq name (codes "/dev/null"))
+
 abbrev pub bars_by : Verb → (is_like : Bool) → (name : List ℕ) → Bool
-bars_by verb.Reads is_like name = is_like
+bars_by verb.Reads is_like name = is_like || is_fleeting name
 bars_by verb.Writes is_like name = is_like || is_lost name
-bars_by verb.Asks is_like name = not (is_answered name)
+bars_by verb.Asks is_like name = is_like || not (is_answered name)
 bars_by verb.Loads is_like name = true
 
 -- no key can be right: files are meant that have no name of their own, code is run that no row names, or something else is asked

@@ -2,7 +2,7 @@
 ghost use Rattle.std.specs.Prelude.{◌≡◌, ◌++◌, ◌∷◌, [], map, filter, IfOk, OnOk};
 ghost use Rattle.std.specs.List.{flat_map};
 ghost use Rattle.scl_text.specs.Records.{parsed_of};
-ghost use Rattle.scl_key.specs.Doings.{barred, bars, is_answered, is_lost, output_by, parts_by, parts_told, with_effects};
+ghost use Rattle.scl_key.specs.Doings.{barred, bars, is_answered, is_fleeting, is_lost, output_by, parts_by, parts_told, with_effects};
 ghost use Rattle.scl_key.specs.Keys.{keeping_by, made_paths, no_key};
 ghost use Rattle.scl_key.specs.Views.{directs_of, keeping_of as keeping_told, no_keys_of, outputs_of, parts_of, paths_of};
 
@@ -31,14 +31,21 @@ fn is_lost(name: &[u8]) -> bool
     name.is_empty() || is_no_file(name)
 }
 
+/// Whether what is read there may be another thing each time.
+fn is_fleeting(name: &[u8]) -> bool
+    ensures { result ≡ is_fleeting name.now }
+{
+    is_no_file(name) && name != b"/dev/null".as_slice()
+}
+
 /// Whether no key can be right.
 fn bars(effect: &Effect) -> bool
     ensures { result ≡ bars effect.now }
 {
     match effect.verb() {
-        Verb::Reads => effect.is_like(),
+        Verb::Reads => effect.is_like() || is_fleeting(effect.name()),
         Verb::Writes => effect.is_like() || is_lost(effect.name()),
-        Verb::Asks => !is_answered(effect.name()),
+        Verb::Asks => effect.is_like() || !is_answered(effect.name()),
         Verb::Loads => true,
     }
 }

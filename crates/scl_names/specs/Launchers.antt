@@ -20,6 +20,14 @@ is_text stem text = bytes_eq text stem
 abbrev pub launcher_named : List ℕ → Option (List ℕ)
 launcher_named stem = find (is_text stem) launchers
 
+-- a launcher of this name: a known one, or one of further names, which has no options
+abbrev pub launcher_among : List (List ℕ) → List ℕ → Option (List ℕ) → Option (List ℕ)
+launcher_among more stem (Some launcher) = Some launcher
+launcher_among more stem None = if is_one_of more stem then Some [] else None
+
+abbrev pub launcher_in : List (List ℕ) → List ℕ → Option (List ℕ)
+launcher_in more stem = launcher_among more stem (launcher_named stem)
+
 -- ---- options of launchers
 
 -- an option of a launcher: alone, before its value, or with its value joined to it
@@ -124,25 +132,29 @@ abbrev pub behind_launcher : Front → List ℕ → Option (List ℕ) → Option
 behind_launcher f word None = behind_option f (standing_of f.launcher word)
 behind_launcher f word (Some launcher) = Some (front launcher false)
 
-abbrev pub behind_word : Front → List ℕ → List ℕ → Option Front
-behind_word f word stem = if is_assignment word then Some f else behind_launcher f word (launcher_named stem)
+abbrev pub behind_word : List (List ℕ) → Front → List ℕ → List ℕ → Option Front
+behind_word more f word stem = if is_assignment word then Some f else behind_launcher f word (launcher_in more stem)
 
 abbrev pub behind_value : Front → List ℕ → Option Front
 behind_value f word = if is_one_of with_words word then None else Some (front f.launcher false)
 
 -- the front with one more word, if that may stand before a program: a value that is awaited, an assignment, a launcher, or an
 -- option of the last launcher
-abbrev pub step : Front → List ℕ → Option Front
-step f word = if f.awaits_value then behind_value f word else behind_word f word (stem_of word)
+abbrev pub step : List (List ℕ) → Front → List ℕ → Option Front
+step more f word = if f.awaits_value then behind_value f word else behind_word more f word (stem_of word)
 
 abbrev pub program_or : ℕ → Option Front → (Front → Option ℕ) → Option ℕ
 program_or at None go = Some at
 program_or at (Some f) go = go f
 
 -- the index of the first word that may not stand before a program, from an index on
-abbrev pub program_from : Front → ℕ → List (List ℕ) → Option ℕ
-program_from f at [] = None
-program_from f at (word ∷ words) = program_or at (step f word) (λ g. program_from g (at + 1) words)
+abbrev pub program_from : List (List ℕ) → Front → ℕ → List (List ℕ) → Option ℕ
+program_from more f at [] = None
+program_from more f at (word ∷ words) = program_or at (step more f word) (λ g. program_from more g (at + 1) words)
+
+-- the same, where programs of further names are launchers too
+abbrev pub program_behind : List (List ℕ) → List (List ℕ) → Option ℕ
+program_behind more words = program_from more (front [] false) 0 words
 
 abbrev pub program_at : List (List ℕ) → Option ℕ
-program_at words = program_from (front [] false) 0 words
+program_at words = program_behind [] words

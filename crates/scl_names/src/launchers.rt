@@ -3,7 +3,7 @@ ghost use Rattle.std.specs.Prelude.{◌≡◌, ◌<◌, ◌==◌, IfOk, IfSome, 
 ghost use Rattle.std.specs.List.{list_all};
 ghost use Rattle.std.specs.Option.{option_copied, option_map};
 ghost use Rattle.scl_values.specs.Words.{words_of};
-ghost use Rattle.scl_names.specs.Launchers.{launchers, launcher_named, is_one_of, is_in_name, is_name, is_text, assignment_at, is_assignment, behind_option, behind_value, behind_word, program_at, standing_of, step, with_words};
+ghost use Rattle.scl_names.specs.Launchers.{launchers, launcher_named, is_one_of, is_in_name, is_name, is_text, assignment_at, is_assignment, behind_option, behind_value, behind_word, launcher_in, program_at, program_behind, standing_of, step, with_words};
 ghost use Rattle.scl_names.specs.LaunchersGiven.{front_by};
 
 use crate::file_name::{is_digit, stem_of};
@@ -47,6 +47,29 @@ fn launcher_named(stem: &[u8]) -> Option<&'static str>
         }
     }
     None
+}
+
+/// Whether this is one of the names.
+fn is_among(names: &[Vec<u8>], stem: &[u8]) -> bool
+    ensures { result ≡ is_one_of (words_of names.now) stem.now }
+{
+    for name in names {
+        if name.as_slice() == stem {
+            return true;
+        }
+    }
+    false
+}
+
+/// The launcher of this name, if it is one, or `""` where it is one of further names.
+fn launcher_in(more: &[Vec<u8>], stem: &[u8]) -> Option<&'static str>
+    ensures { option_copied result ≡ launcher_in (words_of more.now) stem.now }
+{
+    match launcher_named(stem) {
+        Some(launcher) => Some(launcher),
+        None if is_among(more, stem) => Some(""),
+        None => None,
+    }
 }
 
 fn is_in_name(byte: u8) -> bool
@@ -136,13 +159,13 @@ impl Launched {
     }
 
     /// With a word that is no value, whose name is this.
-    fn with_word(self, word: &[u8], stem: &[u8]) -> Option<Launched>
-        ensures { option_map front_by result ≡ behind_word (front_by self) word.now stem.now }
+    fn with_word(self, more: &[Vec<u8>], word: &[u8], stem: &[u8]) -> Option<Launched>
+        ensures { option_map front_by result ≡ behind_word (words_of more.now) (front_by self) word.now stem.now }
     {
         if is_assignment(word) {
             return Some(self);
         }
-        match launcher_named(stem) {
+        match launcher_in(more, stem) {
             Some(launcher) => Some(Launched {
                 launcher,
                 awaits_value: false,
@@ -152,14 +175,14 @@ impl Launched {
     }
 
     /// With one more word, if that may stand before a program.
-    fn step(self, alloc: Global, word: &[u8]) -> Mem<Option<Launched>>
-        ensures { IfOk result (λ next. option_map front_by next ≡ step (front_by self) word.now) }
+    fn step(self, alloc: Global, more: &[Vec<u8>], word: &[u8]) -> Mem<Option<Launched>>
+        ensures { IfOk result (λ next. option_map front_by next ≡ step (words_of more.now) (front_by self) word.now) }
     {
         if self.awaits_value {
             return Ok(self.with_value(word));
         }
         let stem = stem_of(alloc, word)?;
-        Ok(self.with_word(word, &stem))
+        Ok(self.with_word(more, word, &stem))
     }
 }
 
@@ -169,12 +192,19 @@ impl Launched {
 pub fn program_at(alloc: Global, words: &[Vec<u8>]) -> Mem<Option<usize>>
     ensures { IfOk result (λ at. at ≡ program_at (words_of words.now)) }
 {
+    program_behind(alloc, &[], words)
+}
+
+/// The same, where programs of further names are launchers too. They have no options.
+pub fn program_behind(alloc: Global, more: &[Vec<u8>], words: &[Vec<u8>]) -> Mem<Option<usize>>
+    ensures { IfOk result (λ at. at ≡ program_behind (words_of more.now) (words_of words.now)) }
+{
     let mut launched = Launched {
         launcher: "",
         awaits_value: false,
     };
     for (at, word) in words.iter().enumerate() {
-        match launched.step(alloc, word)? {
+        match launched.step(alloc, more, word)? {
             Some(next) => launched = next,
             None => return Ok(Some(at)),
         }

@@ -7,4 +7,4 @@ mod launchers;
 mod options;
 
 pub use compilers::compiler_of;
-pub use launchers::{assignment_at, program_at};
+pub use launchers::{assignment_at, program_at, program_behind};

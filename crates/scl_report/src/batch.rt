@@ -1,7 +1,10 @@
 //! What the program says to the entries of a compile database.
 use crate::digest::{entry_line, summary};
 use crate::entry::{EntryError, case_of_entry};
-use crate::json::{self, refused_entry_line};
+use crate::foreign::{ForeignDisk, all_with_slashes, is_windows, same_answer};
+use crate::json::{self, push_refused_line};
+use crate::keep::verdicts;
+use crate::tally::Tally;
 use crate::why::{is_meant, why_text};
 use scl_cl::{Compiler, Mem, path};
 use scl_describe::About;
@@ -18,6 +21,8 @@ use std::fmt::Display;
 pub struct Batch<'a> {
     /// What is known of the compilers.
     pub about: About<'a>,
+    /// Further names of launchers.
+    pub launchers: Vec<Vec<u8>>,
     /// The compiler of each entry, where one was named.
     pub named: Option<Compiler>,
     /// The directory in which those of the entries stand.
@@ -32,8 +37,30 @@ pub struct Batch<'a> {
     pub bound: usize,
     /// Whether machines read the answers.
     pub json: bool,
+    /// Whether it is counted what may be kept under a key.
+    pub keep: bool,
     /// The one kind of entries that is written, if not each.
     pub only: Option<EntryKind>,
+}
+
+/// An entry's number, and the source that it names.
+#[derive(Clone, Copy)]
+struct Named<'n> {
+    entry: u64,
+    file: &'n str,
+}
+
+/// A command line with `/` for each backslash of its words.
+fn slashed_case(alloc: Global, case: &Case) -> Mem<Case> {
+    Ok(Case {
+        compiler: case.compiler,
+        program: Vec::from_slice(alloc, &case.program)?,
+        words: all_with_slashes(alloc, &case.words)?,
+        cwd: Vec::from_slice(alloc, &case.cwd)?,
+        env_vars: copy_pairs(alloc, &case.env_vars)?,
+        may_dist: case.may_dist,
+        bound: case.bound,
+    })
 }
 
 /// The source that an entry names; empty if it names none.
@@ -52,56 +79,132 @@ impl<'a> Batch<'a> {
         }
     }
 
-    fn answered_text(
+    /// Appends the line of an entry that is answered.
+    fn push_answered(
         &self,
         alloc: Global,
-        entry: u64,
-        file: &str,
+        output: &mut Vec<u8>,
+        named: Named<'_>,
         case: &Case,
         answered: &Answered<'_>,
-    ) -> Mem<String> {
+    ) -> Mem<()> {
+        let Named { entry, file } = named;
         if self.json {
-            json::entry_line(alloc, &self.about, entry, file, case, answered)
-        } else {
-            entry_line(alloc, entry, file, case, answered)
+            return json::push_entry_line(alloc, output, &self.about, entry, file, case, answered);
         }
+        let line = entry_line(alloc, entry, file, case, answered)?;
+        output.extend_from_slice(line.as_bytes())
     }
 
-    /// The text of an entry that has no answer.
-    fn refused_text(&self, alloc: Global, entry: u64, file: &str, why: &str) -> Mem<String> {
+    /// Appends the line of an entry that has no answer, if it has one.
+    fn push_refused(
+        &self,
+        alloc: Global,
+        output: &mut Vec<u8>,
+        named: Named<'_>,
+        why: &str,
+    ) -> Mem<()> {
         if self.json && self.only.is_none() {
-            refused_entry_line(alloc, entry, file, why)
+            push_refused_line(alloc, output, named.entry, named.file, why)
         } else {
-            Ok(String::new(alloc))
+            Ok(())
         }
     }
 
-    fn case_text<D: Disk>(
+    /// What the entry of a command line is answered on a disk, or why it is not.
+    fn answer_on<D: Disk>(
         &self,
         alloc: Global,
         disk: &D,
-        counts: &mut Counts,
-        entry: u64,
-        file: &str,
         case: &Case,
-    ) -> Mem<String>
+    ) -> Mem<Result<Answered<'a>, String>>
     where
         D::Error: Display,
     {
         match answer_case(alloc, disk, &self.about, case, self.multiarch, false)? {
+            Ok(answered) => Ok(Ok(answered)),
+            Err(error) => Ok(Err(load_error_text(alloc, &error)?)),
+        }
+    }
+
+    /// The same of a command line of Windows, which asks for no file, and is answered in the same way where `/` parts its paths.
+    fn answer_foreign(&self, alloc: Global, case: &Case) -> Mem<Result<Answered<'a>, String>> {
+        let answered = match self.answer_on(alloc, &ForeignDisk, case)? {
+            Ok(answered) => answered,
+            Err(why) => return Ok(Err(why)),
+        };
+        let slashed = slashed_case(alloc, case)?;
+        let is_same = match self.answer_on(alloc, &ForeignDisk, &slashed)? {
+            Ok(other) => same_answer(alloc, &answered.answer, &other.answer)?,
+            Err(_) => false,
+        };
+        if is_same {
+            return Ok(Ok(answered));
+        }
+        drop(answered);
+        Ok(Err(String::from_str(
+            alloc,
+            "an entry of Windows, and its answer depends on how \\ parts paths",
+        )?))
+    }
+
+    /// What the entry of a command line is answered, or why it is not.
+    pub(crate) fn answer<D: Disk>(
+        &self,
+        alloc: Global,
+        disk: &D,
+        case: &Case,
+    ) -> Mem<Result<Answered<'a>, String>>
+    where
+        D::Error: Display,
+    {
+        if is_windows(&case.cwd) {
+            self.answer_foreign(alloc, case)
+        } else {
+            self.answer_on(alloc, disk, case)
+        }
+    }
+
+    /// Counts an entry that is answered. What it is.
+    fn count(
+        &self,
+        alloc: Global,
+        tally: &mut Tally,
+        named: Named<'_>,
+        case: &Case,
+        answered: &Answered<'_>,
+    ) -> Mem<EntryKind> {
+        let Named { entry, file } = named;
+        if self.keep {
+            let verdicts = verdicts(alloc, &self.about, case, answered)?;
+            tally.keeps.count(alloc, entry, file, &verdicts)?;
+        }
+        tally.counts.count(alloc, entry, file, answered)
+    }
+
+    fn push_case<D: Disk>(
+        &self,
+        alloc: Global,
+        disk: &D,
+        tally: &mut Tally,
+        output: &mut Vec<u8>,
+        named: Named<'_>,
+        case: &Case,
+    ) -> Mem<()>
+    where
+        D::Error: Display,
+    {
+        match self.answer(alloc, disk, case)? {
             Ok(answered) => {
-                let kind = counts.count(alloc, entry, file, &answered)?;
+                let kind = self.count(alloc, tally, named, case, &answered)?;
                 if self.is_written(kind) {
-                    self.answered_text(alloc, entry, file, case, &answered)
-                } else {
-                    Ok(String::new(alloc))
+                    self.push_answered(alloc, output, named, case, &answered)?;
                 }
+                Ok(())
             }
-            Err(error) => {
-                let why = load_error_text(alloc, &error)?;
-                let text = self.refused_text(alloc, entry, file, why.as_str())?;
-                counts.count_unread(entry, why)?;
-                Ok(text)
+            Err(why) => {
+                self.push_refused(alloc, output, named, why.as_str())?;
+                tally.counts.count_unread(named.entry, why)
             }
         }
     }
@@ -109,7 +212,14 @@ impl<'a> Batch<'a> {
     /// The command line of an entry. The outer error is the refusal of memory.
     pub fn case_of(&self, alloc: Global, value: &Value) -> Mem<Result<Case, EntryError>> {
         let env_vars = copy_pairs(alloc, &self.env_vars)?;
-        match case_of_entry(alloc, value, self.named, &self.base, env_vars)? {
+        match case_of_entry(
+            alloc,
+            value,
+            &self.launchers,
+            self.named,
+            &self.base,
+            env_vars,
+        )? {
             Ok(mut case) => {
                 case.may_dist = self.may_dist;
                 case.bound = self.bound;
@@ -119,25 +229,28 @@ impl<'a> Batch<'a> {
         }
     }
 
-    /// Answers the next entry, and counts it; what is written of it. It fails only for want of memory.
-    pub fn entry_text<D: Disk>(
+    /// Answers the next entry, and counts it; appends what is written of it. It fails only for want of memory.
+    pub fn push_entry<D: Disk>(
         &self,
         alloc: Global,
         disk: &D,
-        counts: &mut Counts,
+        tally: &mut Tally,
         value: &Value,
-    ) -> Mem<String>
+        output: &mut Vec<u8>,
+    ) -> Mem<()>
     where
         D::Error: Display,
     {
-        let entry = counts.next();
+        let named = Named {
+            entry: tally.counts.next(),
+            file: file_of(value),
+        };
         match self.case_of(alloc, value)? {
-            Ok(case) => self.case_text(alloc, disk, counts, entry, file_of(value), &case),
+            Ok(case) => self.push_case(alloc, disk, tally, output, named, &case),
             Err(error) => {
                 let why = format!(in alloc; "{error}")?;
-                let text = self.refused_text(alloc, entry, file_of(value), why.as_str())?;
-                counts.count_broken(entry, why)?;
-                Ok(text)
+                self.push_refused(alloc, output, named, why.as_str())?;
+                tally.counts.count_broken(named.entry, why)
             }
         }
     }
@@ -166,12 +279,9 @@ impl<'a> Batch<'a> {
     where
         D::Error: Display,
     {
-        match answer_case(alloc, disk, &self.about, case, self.multiarch, false)? {
+        match self.answer(alloc, disk, case)? {
             Ok(answered) => why_text(alloc, &self.about, entry, file, case, &answered),
-            Err(error) => {
-                let why = load_error_text(alloc, &error)?;
-                format!(in alloc; "entry {entry}, {file}: {why}\n")
-            }
+            Err(why) => format!(in alloc; "entry {entry}, {file}: {why}\n"),
         }
     }
 
@@ -187,12 +297,13 @@ impl<'a> Batch<'a> {
         }
     }
 
-    /// What is written behind the entries. It fails only for want of memory.
-    pub fn closing_text(&self, alloc: Global, counts: &Counts) -> Mem<String> {
+    /// What is written behind the entries.
+    pub fn closing_text(&self, alloc: Global, tally: &Tally) -> Mem<String> {
         if self.json {
             Ok(String::new(alloc))
         } else {
-            summary(alloc, &self.about.catalogue, counts)
+            let keeps = self.keep.then_some(&tally.keeps);
+            summary(alloc, &self.about.catalogue, &tally.counts, keeps)
         }
     }
 }

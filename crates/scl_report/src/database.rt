@@ -1,8 +1,8 @@
 //! The entries of a compile database.
-use crate::place::entry_at;
+use crate::entries::EntryReader;
 use scl_cl::Mem;
-use serde_json::{Error as JsonError, Value};
-use std::alloc::{AllocError, Global};
+use serde_json::Value;
+use std::alloc::Global;
 use thiserror::Error;
 
 /// Why a text is no compile database.
@@ -34,48 +34,40 @@ pub enum DatabaseError {
     NoArray,
 }
 
-fn no_json(text: &[u8], error: &JsonError) -> DatabaseError {
-    let (line, column) = (error.line(), error.column());
-    match entry_at(text, line, column) {
-        _ if text.is_empty() => DatabaseError::Empty,
-        0 => DatabaseError::NoJson { line, column },
-        entry => DatabaseError::NoEntry {
-            line,
-            column,
-            entry,
-        },
-    }
-}
-
 /// A compile database.
 #[derive(Drop)]
 pub struct Database {
-    value: Value,
+    entries: Vec<Value>,
 }
 
 impl Database {
-    /// The database that a text is. The outer error is the refusal of memory.
+    /// The database that a text is.
     pub fn of_text(alloc: Global, text: &[u8]) -> Mem<Result<Database, DatabaseError>> {
-        match Value::from_slice(alloc, text) {
-            Ok(value) => Ok(of_value(value)),
-            Err(error) if error.is_memory() => Err(AllocError),
-            Err(error) => Ok(Err(no_json(text, &error))),
+        let mut reader = EntryReader::new(alloc);
+        let mut entries = Vec::new(alloc);
+        let mut left = text;
+        for _ in 0..text.len() {
+            if left.is_empty() {
+                break;
+            }
+            match reader.take(alloc, left)? {
+                Ok((count, found)) => {
+                    if let Some(value) = found {
+                        entries.push(value)?;
+                    }
+                    left = left.get(count.max(1)..).unwrap_or(&[]);
+                }
+                Err(error) => return Ok(Err(error)),
+            }
+        }
+        match reader.wrong_end() {
+            Some(error) => Ok(Err(error)),
+            None => Ok(Ok(Database { entries })),
         }
     }
 
     /// Its entries, in order.
     pub fn entries(&self) -> &[Value] {
-        match self.value.as_array() {
-            Some(entries) => entries,
-            None => &[],
-        }
-    }
-}
-
-fn of_value(value: Value) -> Result<Database, DatabaseError> {
-    if value.is_array() {
-        Ok(Database { value })
-    } else {
-        Err(DatabaseError::NoArray)
+        &self.entries
     }
 }

@@ -64,7 +64,7 @@ fn request_text(
     Ok(text)
 }
 
-/// The description of an answered command line. It fails only for want of memory.
+/// The description of an answered command line.
 pub(crate) fn description(
     alloc: Global,
     about: &About<'_>,

@@ -1,9 +1,10 @@
 //! What two command lines differ in, for a person.
 use crate::description::description;
 use crate::digest::outcome_text;
+use crate::foreign::{ForeignDisk, is_windows};
 use scl_cl::Mem;
 use scl_describe::About;
-use scl_explain::{Case, answer_case, load_error_text};
+use scl_explain::{Case, answer_case, has_key, has_key_of, load_error_text};
 use scl_json::read_rows;
 use scl_load::Disk;
 use scl_shell::shown_words;
@@ -139,14 +140,25 @@ fn push_rows(
     Ok(())
 }
 
-/// Whether a row says that nothing may be kept.
-fn forbids(row: &[Vec<u8>]) -> bool {
-    is_named(row, "keep") && field(row, 1) != b"yes".as_slice()
-}
-
 impl Compared {
     /// A command line on a disk; why it has no answer, if it has none. The outer error is the refusal of memory.
     pub fn of_case<D: Disk>(
+        alloc: Global,
+        disk: &D,
+        about: &About<'_>,
+        case: &Case,
+        multiarch: bool,
+    ) -> Mem<Result<Compared, String>>
+    where
+        D::Error: Display,
+    {
+        if is_windows(&case.cwd) {
+            return Compared::on_disk(alloc, &ForeignDisk, about, case, multiarch);
+        }
+        Compared::on_disk(alloc, disk, about, case, multiarch)
+    }
+
+    fn on_disk<D: Disk>(
         alloc: Global,
         disk: &D,
         about: &About<'_>,
@@ -168,32 +180,9 @@ impl Compared {
         }
     }
 
-    fn has_key(&self) -> bool {
-        let rows = &self.rows;
-        rows.iter().any(|row| is_named(row, "key")) && !rows.iter().any(|row| forbids(row))
-    }
-
-    fn key(&self, alloc: Global) -> Mem<Vec<&[Vec<u8>]>> {
-        let mut key = Vec::new(alloc);
-        for row in &self.rows {
-            if is_named(row, "key") {
-                key.push(row.as_slice())?;
-            }
-        }
-        Ok(key)
-    }
-
-    /// Whether both have a key, and it is the same.
+    /// Whether both have a key, and its rows are the same. What the rows ask is not compared.
     pub fn has_key_of(&self, alloc: Global, other: &Compared) -> Mem<bool> {
-        if !self.has_key() || !other.has_key() {
-            return Ok(false);
-        }
-        let (key, others) = (self.key(alloc)?, other.key(alloc)?);
-        let are_all_same = key
-            .iter()
-            .zip(others.iter())
-            .all(|(row, other)| are_same(row, other, usize::MAX));
-        Ok(key.len() == others.len() && are_all_same)
+        has_key_of(alloc, &self.rows, &other.rows)
     }
 
     fn push_outcome(&self, text: &mut String, title: &str) -> Mem<()> {
@@ -211,9 +200,11 @@ impl Compared {
         push_rows(alloc, &mut text, "first", &self.rows, &other.rows)?;
         push_rows(alloc, &mut text, "second", &other.rows, &self.rows)?;
         if self.has_key_of(alloc, other)? {
-            text.push_str("the keys are equal\n")?;
-        } else if self.has_key() && other.has_key() {
-            text.push_str("the keys differ\n")?;
+            text.push_str(
+                "the rows of the keys are equal; what they ask, such as the contents of files, is not compared\n",
+            )?;
+        } else if has_key(&self.rows) && has_key(&other.rows) {
+            text.push_str("the rows of the keys differ\n")?;
         } else {
             text.push_str("there are no two keys\n")?;
         }

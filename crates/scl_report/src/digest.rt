@@ -1,5 +1,6 @@
 //! What a database has, for a person.
 use crate::nothing::nothing_text;
+use crate::tally::Keeps;
 use scl_cl::{Compilation, CompilerArguments, Mem};
 use scl_explain::{
     Answered, Case, Counts, Met, cached_text, push_hazard_names, refusal_text, unrunnable_text,
@@ -24,7 +25,7 @@ fn push_place(alloc: Global, text: &mut String, entry: u64, file: &str) -> Mem<(
     }
 }
 
-fn push_more(text: &mut String, count: usize) -> Mem<()> {
+pub(crate) fn push_more(text: &mut String, count: usize) -> Mem<()> {
     if count > MOST {
         let more = count - MOST;
         write!(text, "      and {more} more\n")?;
@@ -32,7 +33,7 @@ fn push_more(text: &mut String, count: usize) -> Mem<()> {
     Ok(())
 }
 
-fn push_met(alloc: Global, text: &mut String, name: &str, met: &Met) -> Mem<()> {
+pub(crate) fn push_met(alloc: Global, text: &mut String, name: &str, met: &Met) -> Mem<()> {
     let times = met.times;
     write!(text, "  {times:>6}  {name} (")?;
     push_place(alloc, text, met.entry, met.file.as_str())?;
@@ -150,8 +151,13 @@ fn refused_entries(counts: &Counts) -> u64 {
     all
 }
 
-/// What was counted over a database, for a person. It fails only for want of memory.
-pub fn summary(alloc: Global, catalogue: &Catalogue<'_>, counts: &Counts) -> Mem<String> {
+/// What was counted over a database, for a person.
+pub(crate) fn summary(
+    alloc: Global,
+    catalogue: &Catalogue<'_>,
+    counts: &Counts,
+    keeps: Option<&Keeps>,
+) -> Mem<String> {
     let mut text = String::new(alloc);
     let (entries, ok, none) = (counts.entries, counts.ok, counts.not_compilation);
     let refused = refused_entries(counts);
@@ -160,6 +166,9 @@ pub fn summary(alloc: Global, catalogue: &Catalogue<'_>, counts: &Counts) -> Mem
     if counts.unkept > 0 {
         let unkept = counts.unkept;
         write!(text, "may not be kept in the cache: {unkept}\n")?;
+    }
+    if let Some(keeps) = keeps {
+        keeps.push(alloc, &mut text)?;
     }
     push_hazards(alloc, &mut text, catalogue, counts)?;
     write!(text, "compile nothing: {none}\n")?;

@@ -1,7 +1,8 @@
 //! An entry of a compile database.
+use crate::foreign::is_windows;
 use scl_cl::{Compiler, Mem, path};
 use scl_explain::{Case, CaseError};
-use scl_shell::{ShellError, shell_words};
+use scl_shell::{ShellError, WindowsError, operator_at, shell_words, windows_words};
 use serde_json::{Map, Value};
 use std::alloc::Global;
 use thiserror::Error;
@@ -27,6 +28,12 @@ pub enum EntryError {
     /// Its `command` has no words.
     #[error("its \"command\" is broken: {0}")]
     Shell(ShellError),
+    /// Its `command` is one of a shell, with an operator.
+    #[error("its \"command\" has the shell's operator {0}, so it is no single command line")]
+    Operator(String),
+    /// Its `command` is one of Windows, and has no words.
+    #[error("its \"command\" is broken: {0}")]
+    Windows(WindowsError),
     /// A word holds a NUL.
     #[error("a word holds a NUL, so no process can be given it")]
     Nul,
@@ -57,32 +64,83 @@ fn arguments_of(alloc: Global, arguments: &Value) -> Mem<Result<Vec<Vec<u8>>, En
     }
 }
 
-fn command_of(alloc: Global, command: &Value) -> Mem<Result<Vec<Vec<u8>>, EntryError>> {
-    let Some(text) = command.as_str() else {
-        return Ok(Err(EntryError::NoCommand));
+/// The operators of a shell, the longer ones first.
+static OPERATORS: [&[u8]; 17] = [
+    b"<<-", b"&&", b"||", b";;", b"<<", b">>", b"<&", b">&", b"<>", b">|", b"&", b"|", b";", b"<",
+    b">", b"(", b")",
+];
+
+/// The operator with which a text begins.
+fn operator_of(alloc: Global, text: &[u8]) -> Mem<String> {
+    for operator in &OPERATORS {
+        if text.starts_with(operator) {
+            return String::from_utf8_lossy(alloc, operator);
+        }
+    }
+    Ok(String::new(alloc))
+}
+
+fn shell_command(alloc: Global, text: &[u8]) -> Mem<Result<Vec<Vec<u8>>, EntryError>> {
+    let words = match shell_words(alloc, text)? {
+        Ok(words) => words,
+        Err(error) => return Ok(Err(EntryError::Shell(error))),
     };
-    match shell_words(alloc, text.as_bytes())? {
+    match operator_at(text).and_then(|at| text.get(at..)) {
+        Some(rest) => Ok(Err(EntryError::Operator(operator_of(alloc, rest)?))),
+        None => Ok(Ok(words)),
+    }
+}
+
+fn windows_command(alloc: Global, text: &[u8]) -> Mem<Result<Vec<Vec<u8>>, EntryError>> {
+    match windows_words(alloc, text)? {
         Ok(words) => Ok(Ok(words)),
-        Err(error) => Ok(Err(EntryError::Shell(error))),
+        Err(error) => Ok(Err(EntryError::Windows(error))),
+    }
+}
+
+/// The words of a `command`, as a shell or, in a directory of Windows, as Windows splits it.
+fn command_of(
+    alloc: Global,
+    command: &Value,
+    directory: &[u8],
+) -> Mem<Result<Vec<Vec<u8>>, EntryError>> {
+    match command.as_str() {
+        Some(text) if is_windows(directory) => windows_command(alloc, text.as_bytes()),
+        Some(text) => shell_command(alloc, text.as_bytes()),
+        None => Ok(Err(EntryError::NoCommand)),
     }
 }
 
 /// The words of an entry: its `arguments`, else those of its `command`.
-fn words_of(alloc: Global, entry: &Map<String, Value>) -> Mem<Result<Vec<Vec<u8>>, EntryError>> {
+fn words_of(
+    alloc: Global,
+    entry: &Map<String, Value>,
+    directory: &[u8],
+) -> Mem<Result<Vec<Vec<u8>>, EntryError>> {
     if let Some(arguments) = entry.get("arguments") {
         return arguments_of(alloc, arguments);
     }
     match entry.get("command") {
-        Some(command) => command_of(alloc, command),
+        Some(command) => command_of(alloc, command, directory),
         None => Ok(Err(EntryError::NoWords)),
     }
 }
 
+/// The directory of an entry: in `base`, or one of Windows as it is.
+fn directory_in(alloc: Global, base: &[u8], directory: &[u8]) -> Mem<Vec<u8>> {
+    if is_windows(directory) {
+        Vec::from_slice(alloc, directory)
+    } else {
+        path::join(alloc, base, directory)
+    }
+}
+
 /// The command line of an entry, whose directory stands in `base`, with the environment `env_vars`. It is `named`'s, where a
-/// compiler is named. The outer error is the refusal of memory.
+/// compiler is named; programs of the names `launchers` start others.
 pub fn case_of_entry(
     alloc: Global,
     value: &Value,
+    launchers: &[Vec<u8>],
     named: Option<Compiler>,
     base: &[u8],
     env_vars: Vec<(Vec<u8>, Vec<u8>)>,
@@ -93,15 +151,15 @@ pub fn case_of_entry(
     let Some(directory) = entry.get("directory").and_then(Value::as_str) else {
         return Ok(Err(EntryError::NoDirectory));
     };
-    let words = match words_of(alloc, entry)? {
+    let words = match words_of(alloc, entry, directory.as_bytes())? {
         Ok(words) => words,
         Err(error) => return Ok(Err(error)),
     };
     if words.iter().any(|word| word.contains(&0)) {
         return Ok(Err(EntryError::Nul));
     }
-    let cwd = path::join(alloc, base, directory.as_bytes())?;
-    match Case::of_words(alloc, words, named, cwd, env_vars)? {
+    let cwd = directory_in(alloc, base, directory.as_bytes())?;
+    match Case::of_words(alloc, words, launchers, named, cwd, env_vars)? {
         Ok(case) => Ok(Ok(case)),
         Err(error) => Ok(Err(EntryError::Case(error))),
     }

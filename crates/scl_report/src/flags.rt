@@ -263,7 +263,7 @@ fn push_compiler(
 }
 
 /// The flags of the tables, of one compiler or of all: each with how its value stands, its kind, and where it goes; only those
-/// that fit a word, if there is one. It fails only if memory is refused.
+/// that fit a word, if there is one.
 pub fn flags_text(alloc: Global, compiler: Option<Compiler>, word: Option<&[u8]>) -> Mem<String> {
     let mut text = String::new(alloc);
     match compiler {

@@ -6,7 +6,7 @@ use scl_describe::About;
 use scl_description::{push_maybe, push_row, push_word, push_words};
 use scl_explain::{Answered, Case, unrunnable_text};
 use scl_hazards::danger_name;
-use scl_json::{json_of, read_rows};
+use scl_json::{push_json, read_rows};
 use std::alloc::Global;
 
 /// The rows whose members each answer has that is a command.
@@ -80,12 +80,12 @@ fn firsts_of(answered: &Answered<'_>) -> &'static [&'static str] {
     }
 }
 
-/// The line of JSON of these rows.
-fn line_of(alloc: Global, firsts: &[&str], text: &[u8]) -> Mem<String> {
+/// Appends the line of JSON of these rows.
+fn push_line(alloc: Global, output: &mut Vec<u8>, firsts: &[&str], text: &[u8]) -> Mem<()> {
     let rows = read_rows(alloc, text)?;
-    let mut json = json_of(alloc, firsts, &rows)?;
-    json.push(b'\n')?;
-    String::from_utf8_lossy(alloc, &json)
+    push_json(alloc, output, firsts, &rows)?;
+    output.push(b'\n')?;
+    Ok(())
 }
 
 /// Appends the row of a hazard: its name, its danger, and what happens.
@@ -139,7 +139,7 @@ fn push_own_rows(
     push_ending(alloc, text, case, answered)
 }
 
-/// The answer to a command line. It fails only for want of memory.
+/// The answer to a command line.
 pub(crate) fn answer_line(
     alloc: Global,
     about: &About<'_>,
@@ -148,7 +148,9 @@ pub(crate) fn answer_line(
 ) -> Mem<String> {
     let mut text = description(alloc, about, case, answered)?;
     push_own_rows(alloc, &mut text, case, answered)?;
-    line_of(alloc, firsts_of(answered), &text)
+    let mut line = Vec::new(alloc);
+    push_line(alloc, &mut line, firsts_of(answered), &text)?;
+    String::from_utf8_lossy(alloc, &line)
 }
 
 /// Appends the rows of an entry: its number, and the file that it names, if it names one.
@@ -162,26 +164,33 @@ fn push_entry(alloc: Global, text: &mut Vec<u8>, entry: u64, file: &str) -> Mem<
     }
 }
 
-/// The answer to an entry of a database. It fails only for want of memory.
-pub(crate) fn entry_line(
+/// Appends the answer to an entry of a database.
+pub(crate) fn push_entry_line(
     alloc: Global,
+    output: &mut Vec<u8>,
     about: &About<'_>,
     entry: u64,
     file: &str,
     case: &Case,
     answered: &Answered<'_>,
-) -> Mem<String> {
+) -> Mem<()> {
     let mut text = description(alloc, about, case, answered)?;
     push_entry(alloc, &mut text, entry, file)?;
     push_own_rows(alloc, &mut text, case, answered)?;
-    line_of(alloc, firsts_of(answered), &text)
+    push_line(alloc, output, firsts_of(answered), &text)
 }
 
-/// Why an entry of a database has no answer. It fails only for want of memory.
-pub(crate) fn refused_entry_line(alloc: Global, entry: u64, file: &str, why: &str) -> Mem<String> {
+/// Appends why an entry of a database has no answer.
+pub(crate) fn push_refused_line(
+    alloc: Global,
+    output: &mut Vec<u8>,
+    entry: u64,
+    file: &str,
+    why: &str,
+) -> Mem<()> {
     let mut text = Vec::new(alloc);
     push_word(&mut text, "version", b"1")?;
     push_entry(alloc, &mut text, entry, file)?;
     push_word(&mut text, "error", why.as_bytes())?;
-    line_of(alloc, &ERROR, &text)
+    push_line(alloc, output, &ERROR, &text)
 }

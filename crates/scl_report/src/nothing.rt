@@ -26,7 +26,7 @@ pub(crate) fn why_nothing(rows: &[Row]) -> &'static str {
     }
 }
 
-/// That a line with these rows compiles nothing, and why. It fails only for want of memory.
+/// That a line with these rows compiles nothing, and why.
 pub(crate) fn nothing_text(alloc: Global, rows: &[Row]) -> Mem<String> {
     let why = why_nothing(rows);
     format!(in alloc; "compiles nothing: {why}")

@@ -1,8 +1,10 @@
 //! What a command line is, for a person.
+use crate::keep::{verdict_text, verdicts};
 use crate::nothing::nothing_text;
 use crate::options::push_options;
 use crate::paint::{Codes, codes_of};
 use scl_cl::{Cacheable, Compilation, CompilerArguments, Mem};
+use scl_describe::About;
 use scl_explain::{Answered, Case, Paint, cached_text, refusal_text, unrunnable_text};
 use scl_hazards::Hazard;
 use scl_reasons::sentence;
@@ -92,6 +94,20 @@ fn push_outcome(page: &mut Page, case: &Case, answered: &Answered<'_>, rows: &[R
     }
 }
 
+/// Whether the outcome may be kept under a key, or why not.
+fn push_verdicts(
+    page: &mut Page,
+    about: &About<'_>,
+    case: &Case,
+    answered: &Answered<'_>,
+) -> Mem<()> {
+    for verdict in &verdicts(page.alloc, about, case, answered)? {
+        let text = verdict_text(page.alloc, verdict)?;
+        page.line("may be kept", text.as_str())?;
+    }
+    Ok(())
+}
+
 fn push_case(page: &mut Page, case: &Case) -> Mem<()> {
     page.line("compiler", case.compiler.name())?;
     page.path("directory", &case.cwd, "")
@@ -169,6 +185,7 @@ fn push_rows(page: &mut Page, rows: &[Row]) -> Mem<()> {
 /// What a command line is, for a person. It fails only for want of memory.
 pub fn explanation(
     alloc: Global,
+    about: &About<'_>,
     case: &Case,
     answered: &Answered<'_>,
     rows: &[Row],
@@ -180,6 +197,7 @@ pub fn explanation(
         text: String::new(alloc),
     };
     push_outcome(&mut page, case, answered, rows)?;
+    push_verdicts(&mut page, about, case, answered)?;
     push_case(&mut page, case)?;
     push_files(&mut page, answered)?;
     push_rows(&mut page, rows)?;

@@ -23,7 +23,14 @@ impl<'a> Report for Pages<'a> {
         form: Form,
     ) -> Mem<String> {
         match form {
-            Form::Text(paint) => explanation(alloc, case, answered, &answered.rows, paint),
+            Form::Text(paint) => explanation(
+                alloc,
+                &self.about,
+                case,
+                answered,
+                &answered.rows,
+                paint,
+            ),
             Form::Json => answer_line(alloc, &self.about, case, answered),
         }
     }

@@ -1,4 +1,5 @@
 //! All reasons and hazards, for a person.
+use crate::keep::SENTENCES;
 use scl_cl::Mem;
 use scl_hazards::{
     Catalogue, Compiler, Entry, Hazard, compiler_name, danger_name, hazard_of, is_of,
@@ -52,18 +53,40 @@ fn push_hazard(
     write!(text, ")\n    {consequence}\n")
 }
 
-/// Each reason why a command line can't be cached, and each hazard of a built command that is known, with a sentence for people.
-/// It fails only for want of memory.
-pub fn reasons_text(alloc: Global, catalogue: &Catalogue<'_>) -> Mem<String> {
-    let mut text = String::from_str(alloc, "Reasons why a command line cannot be cached:\n")?;
+/// Appends the reasons why a command line can't be cached.
+fn push_explanations(text: &mut String) -> Mem<()> {
     for explanation in explanations() {
-        push_explanation(&mut text, explanation)?;
+        push_explanation(text, explanation)?;
     }
-    text.push_str("\nHazards of built commands, with what differs:\n")?;
+    Ok(())
+}
+
+/// Appends the reasons why nothing may be kept under a key.
+fn push_verdicts(text: &mut String) -> Mem<()> {
+    for (reason, sentence) in SENTENCES {
+        write!(text, "{reason}\n    {sentence}\n")?;
+    }
+    Ok(())
+}
+
+/// Appends the hazards of a catalogue.
+fn push_hazards(alloc: Global, text: &mut String, catalogue: &Catalogue<'_>) -> Mem<()> {
     for entry in catalogue.entries {
         if let Some(hazard) = hazard_of(entry) {
-            push_hazard(alloc, &mut text, entry, &hazard)?;
+            push_hazard(alloc, text, entry, &hazard)?;
         }
     }
+    Ok(())
+}
+
+/// Each reason why a command line can't be cached, each why nothing may be kept under a key, and each hazard of a built command that
+/// is known, with a sentence for people.
+pub fn reasons_text(alloc: Global, catalogue: &Catalogue<'_>) -> Mem<String> {
+    let mut text = String::from_str(alloc, "Reasons why a command line cannot be cached:\n")?;
+    push_explanations(&mut text)?;
+    text.push_str("\nReasons why nothing may be kept under a key:\n")?;
+    push_verdicts(&mut text)?;
+    text.push_str("\nHazards of built commands, with what differs:\n")?;
+    push_hazards(alloc, &mut text, catalogue)?;
     Ok(text)
 }

@@ -1,31 +1,12 @@
 //! Why an entry of a database can or can't be cached, for a person.
-use crate::description::description;
 use crate::digest::entry_line;
+use crate::keep::{verdict_text, verdicts};
 use scl_cl::{Compilation, CompilerArguments, Mem};
 use scl_describe::About;
 use scl_explain::{Answered, Case};
-use scl_json::read_rows;
 use scl_reasons::sentence;
-use scl_shell::{shown, shown_briefly};
+use scl_shell::shown;
 use std::alloc::Global;
-
-/// What the reasons of rows `keep no` mean.
-static KEEPS: [(&str, &str); 5] = [
-    (
-        "writes-unnamed",
-        "the compiler writes a file that the answer does not name",
-    ),
-    (
-        "text-hides",
-        "a word hides the source from the preprocessed text",
-    ),
-    ("output-is-no-file", "an output is no file"),
-    ("one-path-twice", "two outputs have one path"),
-    (
-        "hazard",
-        "the compiler does something else with the built command",
-    ),
-];
 
 /// Whether a person who names a file means the one at this path: by its path, or by the last parts of it.
 pub(crate) fn is_meant(path: &[u8], name: &[u8]) -> bool {
@@ -36,36 +17,11 @@ pub(crate) fn is_meant(path: &[u8], name: &[u8]) -> bool {
     }
 }
 
-/// What a reason of a row `keep no` means; of another reason its name.
-fn keep_text(alloc: Global, reason: &[u8]) -> Mem<String> {
-    for (name, text) in KEEPS {
-        if name.as_bytes() == reason {
-            return String::from_str(alloc, text);
-        }
-    }
-    shown(alloc, reason)
-}
-
 fn push_line(text: &mut String, title: &str, said: &str) -> Mem<()> {
     write!(text, "    {title}: {said}\n")
 }
 
-/// Appends why a row `keep` lets nothing be kept, if it does.
-fn push_keep(alloc: Global, text: &mut String, row: &[Vec<u8>]) -> Mem<()> {
-    match row {
-        [name, how, reason, words @ ..]
-            if name.as_slice() == b"keep".as_slice() && how.as_slice() != b"yes".as_slice() => {
-            let mut why = keep_text(alloc, reason)?;
-            if let Some(word) = words.first() {
-                why.push_str(": ")?;
-                why.push_str(shown_briefly(alloc, word)?.as_str())?;
-            }
-            push_line(text, "has no key", why.as_str())
-        }
-        _ => Ok(()),
-    }
-}
-
+/// Appends whether the outcome may be kept under a key, or why not.
 fn push_keeps(
     alloc: Global,
     text: &mut String,
@@ -73,9 +29,9 @@ fn push_keeps(
     case: &Case,
     answered: &Answered<'_>,
 ) -> Mem<()> {
-    let said = description(alloc, about, case, answered)?;
-    for row in &read_rows(alloc, &said)? {
-        push_keep(alloc, text, row)?;
+    for verdict in &verdicts(alloc, about, case, answered)? {
+        let said = verdict_text(alloc, verdict)?;
+        push_line(text, "may be kept", said.as_str())?;
     }
     Ok(())
 }

@@ -1,4 +1,5 @@
 pub mod GnuRows
+pub mod KindNames
 pub mod Lines
 pub mod MsvcRows
 pub mod Names

@@ -4,6 +4,7 @@
 mod added;
 mod destination;
 mod gnu;
+mod kind_names;
 pub mod laws;
 mod line;
 mod msvc;
@@ -14,6 +15,7 @@ mod ways;
 
 pub use destination::Destination;
 pub use gnu::gnu_rows;
+pub use kind_names::NamedKind;
 pub use msvc::msvc_rows;
 pub use origin::Origin;
 pub use row::{Row, refused_at};

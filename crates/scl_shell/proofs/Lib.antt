@@ -1,3 +1,4 @@
 pub mod ShellLemmas
 pub mod ShellLaws
 pub mod ShownLaws
+pub mod WindowsLemmas

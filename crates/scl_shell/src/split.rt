@@ -53,7 +53,7 @@ fn is_special(byte: u8) -> bool
 
 impl Mode {
     /// How the next byte is read, and what this one does.
-    fn read(self, byte: u8) -> (Mode, Mark)
+    pub(crate) fn read(self, byte: u8) -> (Mode, Mark)
         ensures mode { result.0 ≡ mode_after self byte }
         ensures mark { result.1 ≡ mark_of self byte }
     {

@@ -1,0 +1,109 @@
+"""Parts of pages by hand that other files say: tables, what `scl` writes, and programs. bench/pages puts them in their places."""
+import itertools
+import os
+import re
+
+import schema
+
+HELP, DESCRIBE, HEADER = "crates/scl/src/texts.rt", "crates/describe/src/main.rt", "capi/scl.h"
+MEMBERS = "crates/scl_json/src/members.rt"
+CASES, COMMANDS, FIRST = "examples/campaign.txt", "tests/rows/pages.txt", "bindings/expected/first.txt"
+SHOWN = re.compile(r"    \$ (scl .*?)(?:  +#.*)?$")
+PROGRAM = re.compile(r"(<!-- (\S+)(?: (\w+))? -->\n\n)(?:(?: {4}.*)?\n)*")
+
+
+def read(path):
+    with open(path, encoding="utf-8") as it:
+        return it.read()
+
+
+# ---- tables
+
+
+def text_of(path, pattern):
+    """What a pattern finds in a file, on one line."""
+    found = re.search(pattern, read(path), re.S)
+    if not found:
+        raise ValueError(f"{path} has no {pattern}")
+    return " ".join(found[1].split())
+
+
+def numbered(text, between):
+    """What a text says of each number: `0 answered; 1 ..`, with this between them."""
+    return {int(number): said for number, _, said in (it.partition(" ") for it in re.split(rf"{between} (?=\d+ )", text))}
+
+
+def statuses():
+    """What the programs' help and the header say of each status."""
+    scl = numbered(text_of(HELP, r"Statuses: (.*?)\.\n"), ";")
+    describe = numbered(text_of(DESCRIBE, r'statuses: (.*?)\n"'), ",")
+    named = re.findall(r"(SCL_\w+) = (\d+),? /\* (.*?) \*/", text_of(HEADER, r"enum scl_status \{(.*?)\};"))
+    calls = {int(number): f"`{name}`: {said}" for name, number, said in named}
+    numbers = sorted(scl.keys() | describe.keys() | calls.keys())
+    return [[str(it), scl.get(it, ""), describe.get(it, ""), calls.get(it, "")] for it in numbers]
+
+
+def reasons_of_rows():
+    """Which rows of a key the cases need that say so, and why, in their order."""
+    return [line[3:].split(" | ") for line in read(CASES).splitlines() if line.startswith("#: ")]
+
+
+def members(page):
+    """The rows of a page whose members of JSON have a name of their own, or are objects: row, member, and what it is."""
+    said = re.findall(r"/// (.*)\.\n    (\w+),", re.search(r"enum Form \{(.*?)\n\}", read(MEMBERS), re.S)[1])
+    forms = {form: text[:1].lower() + text[1:] for text, form in said}
+    named = set(re.findall(r"`([a-z-]+)[ `]", page))
+    rows = []
+    for row, name, form, fields in schema.members(read(MEMBERS)):
+        if row in named and (name != row.replace("-", "_") or form == "Objects"):
+            rows.append([f"`{row}`", f"`{name}`", forms[form] + (f", with {', '.join(f'`{it}`' for it in fields)}" if fields else "")])
+    return rows
+
+
+# ---- what programs write
+
+
+def answers_of_scl():
+    """What `scl` writes to the command lines of tests/rows/pages.txt, in a folder /w."""
+    answers, lines = {}, []
+    for line in read(COMMANDS).replace("<HERE>", "/w").splitlines():
+        if line.startswith("$ "):
+            answers[line[2:]] = lines = []
+        elif line.startswith(("> ", "! ")):
+            lines.append(line[2:])
+    return answers
+
+
+def answered(page):
+    """A page with what programs write after the command lines that have a row, and after those of the examples `first`."""
+    answers, first, lines, is_old = answers_of_scl(), read(FIRST).splitlines(), [], False
+    for line, following in itertools.pairwise([*page.split("\n"), ""]):
+        is_old = is_old and line.startswith("    ") and not line.startswith("    $ ")
+        if not is_old:
+            lines.append(line)
+        shown = SHOWN.match(line)
+        is_first = line.startswith("    $ ") and following.startswith("    run: ") and "| head" not in line
+        said = first if is_first else answers.get(shown[1], []) if shown else []
+        lines += [f"    {it}" for it in said]
+        is_old = is_old or bool(said)
+    return "\n".join(lines)
+
+
+# ---- programs
+
+
+def program(path, name):
+    """A program's lines, or those of the function that has this name."""
+    text = read(path).rstrip("\n")
+    if name:
+        text = re.search(rf"^def {name}\(.*(?:\n .*)+", text, re.M)[0]
+    return "".join(f"    {it}".rstrip() + "\n" for it in text.split("\n"))
+
+
+def with_programs(page):
+    """A page with the programs that comments name, as `<!-- examples/first.rattle -->`."""
+    return PROGRAM.sub(lambda it: f"{it[1]}{program(it[2], it[3])}\n" if os.path.isfile(it[2]) else it[0], page)
+
+
+def with_parts(page):
+    return answered(with_programs(page))

@@ -1,0 +1,143 @@
+//! Which parts of a description are wanted.
+ghost use Rattle.std.specs.Prelude.{◌≡◌};
+ghost use Rattle.scl_describe.specs.Wants.{everything, nothing_more, part_in, part_of, parts, rows_of, with_part};
+
+/// A part of a description. Its rows are told together.
+#[derive(Debug, Clone, Copy, PartialEq, Eq)]
+pub(crate) enum Part {
+    /// What is told always.
+    Always,
+    /// The runs of the preprocessor.
+    Runs,
+    /// The key, and whether there is one. It is judged by what the tables tell.
+    Key,
+    /// What tables tell of the compiler: hazards and effects.
+    Tables,
+    /// What became of the options.
+    Options,
+    /// What the answer asks of the view.
+    Questions,
+}
+
+/// Which parts of a description are wanted, beside what is told always.
+#[derive(Debug, Clone, Copy, PartialEq, Eq)]
+pub(crate) struct Wants {
+    pub(crate) runs: bool,
+    pub(crate) key: bool,
+    pub(crate) tables: bool,
+    pub(crate) options: bool,
+    pub(crate) questions: bool,
+}
+
+/// The names of rows, each with its part.
+static PARTS: [(&'static str, Part); 40] = [
+    ("version", Part::Always),
+    ("input", Part::Always),
+    ("language", Part::Always),
+    ("compilation-flag", Part::Always),
+    ("output", Part::Always),
+    ("depfile", Part::Always),
+    ("preprocessor", Part::Always),
+    ("dependency", Part::Always),
+    ("arch", Part::Always),
+    ("unhashed", Part::Always),
+    ("common", Part::Always),
+    ("hash", Part::Always),
+    ("dist", Part::Always),
+    ("environment", Part::Always),
+    ("color", Part::Always),
+    ("double-dash-input", Part::Always),
+    ("external-assembler", Part::Always),
+    ("show-includes", Part::Always),
+    ("explicit-language", Part::Always),
+    ("profile-generate", Part::Always),
+    ("no-rewrite-includes-only", Part::Always),
+    ("too-hard", Part::Always),
+    ("reason", Part::Always),
+    ("because", Part::Always),
+    ("sentence", Part::Always),
+    ("run", Part::Runs),
+    ("key", Part::Key),
+    ("direct", Part::Key),
+    ("keep", Part::Key),
+    ("hazard", Part::Tables),
+    ("reads", Part::Tables),
+    ("reads-like", Part::Tables),
+    ("writes", Part::Tables),
+    ("writes-like", Part::Tables),
+    ("loads", Part::Tables),
+    ("loads-like", Part::Tables),
+    ("asks", Part::Tables),
+    ("at", Part::Options),
+    ("option", Part::Options),
+    ("wants", Part::Questions),
+];
+
+#[tactic(auto, unfolding(crate::specs::Wants::parts))]
+fn parts() -> &'static [(&'static str, Part)]
+    ensures { rows_of result.now ≡ parts }
+{
+    &PARTS
+}
+
+/// The part of the first row with this name.
+fn part_in(rows: &[(&'static str, Part)], name: &[u8]) -> Option<Part>
+    ensures { result ≡ part_in (rows_of rows.now) name.now }
+{
+    for (text, part) in rows {
+        if text.as_bytes() == name {
+            return Some(*part);
+        }
+    }
+    None
+}
+
+/// The part that has rows of this name.
+pub(crate) fn part_of(name: &[u8]) -> Option<Part>
+    ensures { result ≡ part_of name.now }
+{
+    part_in(parts(), name)
+}
+
+impl Wants {
+    pub(crate) fn everything() -> Wants
+        ensures { result ≡ everything }
+    {
+        Wants {
+            runs: true,
+            key: true,
+            tables: true,
+            options: true,
+            questions: true,
+        }
+    }
+
+    /// Only what is told always.
+    pub(crate) fn nothing_more() -> Wants
+        ensures { result ≡ nothing_more }
+    {
+        Wants {
+            runs: false,
+            key: false,
+            tables: false,
+            options: false,
+            questions: false,
+        }
+    }
+
+    /// With one more part.
+    pub(crate) fn with(self, part: Part) -> Wants
+        ensures { result ≡ with_part self part }
+    {
+        let mut wants = self;
+        match part {
+            Part::Always => {}
+            Part::Runs => wants.runs = true,
+            Part::Key => wants.key = true,
+            Part::Tables => wants.tables = true,
+            Part::Options => wants.options = true,
+            Part::Questions => wants.questions = true,
+        }
+        wants
+    }
+}
