@@ -101,7 +101,7 @@ def program(path, name):
 
 
 def with_programs(page):
-    """A page with the programs that comments name, as `<!-- examples/first.rattle -->`."""
+    """A page with the programs that comments name, as `<!-- examples/first.rt -->`."""
     return PROGRAM.sub(lambda it: f"{it[1]}{program(it[2], it[3])}\n" if os.path.isfile(it[2]) else it[0], page)
 
 
