@@ -14,7 +14,7 @@
  *
  * What is proved of the four calls (crates/scl_c) is proved of callers that keep these premises, which nothing checks:
  *
- * - Each pointer with a length points at so many bytes. With the length 0 it may be anything but NULL; NULL, of which nothing is
+ * - Each pointer with a length points at that many bytes. With the length 0 it may be anything but NULL; NULL, of which nothing is
  *   proved, does no harm either, and is as good as an empty text.
  * - `wanted` points at a size_t. What a call writes overlaps nothing that it reads, and nothing else that it writes; no other
  *   thread touches it meanwhile.
@@ -90,7 +90,7 @@ typedef struct scl_pairs {
     size_t len;
 } scl_pairs;
 
-/* What is asked. All but the compiler may be zeros, as memset makes them: NULL with the length 0 is empty. */
+/* A request. All but the compiler may be zeros, as memset makes them: NULL with the length 0 is empty. */
 typedef struct scl_request {
     scl_bytes compiler;         /* gcc, g++, clang, clang++, cl, clang-cl, diab, tasking */
     scl_bytes directory;        /* the path of the directory in which the words are read */
@@ -113,7 +113,7 @@ typedef struct scl_request {
     scl_bytes version;          /* the text of the compiler's version, in UTF-8 (docs/PROTOCOL.md, `setting version`) */
     scl_bytes catalogue;        /* the text of the catalogue of hazards; empty: the built-in one */
     scl_words settings;         /* more lines `setting`: what follows that word, as `bound 10`; with `wants run` and its like
-                                   what a row would have told that is not wanted is empty, and without `keep` nothing stops keeping */
+                                   what a row that is not wanted would have said is empty, and without `keep` nothing stops keeping */
 } scl_request;
 
 enum scl_outcome { SCL_COMPILED = 0, SCL_CANNOT_CACHE = 1, SCL_NOT_COMPILATION = 2 };
@@ -211,7 +211,7 @@ typedef struct scl_answer {
     scl_record record;
     scl_runs runs;
     scl_questions questions;
-    scl_words hazards; /* SCL_COMPILED: names of what the compiler is known to do otherwise with the command than with the
+    scl_words hazards; /* SCL_COMPILED: names of what the compiler is known to do differently with the command than with the
                           given words (docs/LIMITS.md); where there is one, run the given words */
     bool has_unknown;   /* the answer says more than this header knows of what decides whether an outcome is kept */
     bool has_at;

@@ -119,7 +119,7 @@ class Answer:
     reason: bytes = b""
     text: bytes | None = None
     sentence: bytes = b""
-    command: list[bytes] = _member(default_factory=list)  # the words behind the program
+    command: list[bytes] = _member(default_factory=list)  # the words after the program
     is_cacheable: bool = False
     has_unknown: bool = False  # the answer says more than this file knows of what decides whether an outcome is kept
     key: list[list[bytes]] = _member(default_factory=list)
@@ -259,8 +259,8 @@ def _answer(outcome: int, of: _Rows, wishes: dict[str, Any]) -> Answer:
 
 
 def ask(compiler: bytes, words: Iterable[bytes], *given: Any, catalogue: bytes | None = None, **named: Any) -> Answer:
-    """The answer to the words behind a program; request says what else may be given. Words, paths and names are bytes, environment
-    and files pairs of bytes, and most_words bounds words, and how often files are opened: 0 is 1,000,000. Wishes are those of
+    """The answer to the words after a program; request says what else may be given. Words, paths and names are bytes, environment
+    and files pairs of bytes, and most_words limits words, and how often files are opened: 0 is 1,000,000. Wishes are those of
     scl_request: is_multiarch, wants_runs, may_dist, rewrite_includes_only, cache_mode, wants_questions, wants_hazards,
     wants_options and wants_key. A catalogue is the text of one in the place of the built-in one."""
     try:

@@ -18,7 +18,7 @@ typedef struct scl_writer {
     bool has_failed; /* out of memory: the text is not whole */
 } scl_writer;
 
-/* Whether there is room for so many more bytes. */
+/* Whether there is room for this many more bytes. */
 static inline bool scl_grow(scl_writer *to, size_t more) {
     char *at;
     size_t size;
@@ -213,7 +213,7 @@ typedef struct scl_known_row {
     unsigned kind;     /* scl_row_kind */
     unsigned once;     /* the outcomes that have it, and just once, as bits */
     size_t at, has;    /* what of an answer it fills, and what then is true, if anything */
-    size_t wish;       /* what of a request asks for it, if anything */
+    size_t wish;       /* what of a request wants it, if anything */
 } scl_known_row;
 
 /* The outcomes, as a description's first row says them, and their bits. */
@@ -502,7 +502,7 @@ static inline int32_t scl_count(scl_taking *t, const scl_request *request, scl_b
     return t->answer.outcome == SCL_OUTCOMES - 1 ? SCL_TOO_MANY_WORDS : SCL_OK;
 }
 
-/* Tells what was counted, in a room that is long enough. */
+/* Writes what was counted into a room that is long enough. */
 static inline void scl_tell(scl_taking *t, scl_room room, scl_answer *answer) {
     size_t i;
     t->room = room;

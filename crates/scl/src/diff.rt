@@ -81,7 +81,7 @@ fn entry_of<'d>(
     Ok(None)
 }
 
-/// What is compared of an entry; none where it is no command line, which is told.
+/// What is compared of an entry; none where it is no command line, which is reported.
 fn compared_entry(
     rt: &HostRuntime,
     batch: &Batch<'_>,
@@ -96,7 +96,7 @@ fn compared_entry(
     }
 }
 
-/// What is compared of the first entry of a source; none where there is none, which is told.
+/// What is compared of the first entry of a source; none where there is none, which is reported.
 fn compared_source(
     rt: &HostRuntime,
     batch: &Batch<'_>,

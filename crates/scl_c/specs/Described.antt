@@ -1,4 +1,4 @@
--- What a call over texts in memory gives where a description is asked.
+-- What a call over texts in memory gives where a description is requested.
 use Rattle.std.specs.Prelude.{◌≡◌, ◌⊎◌, ◌-◌, ℕ, ℤ, pos, Bool, true, false, List, [], codes, get_or, Option, None, Some, Result, Ok, Err}
 use Rattle.std.specs.Str.{bytes_eq}
 use Rattle.scl_files.specs.Characters.{space}

@@ -1,4 +1,4 @@
--- What a description is asked beside its request, and the lines that say it.
+-- The settings of a description beside its request, and the lines that say it.
 use Rattle.std.specs.Prelude.{ℕ, ◌+◌, ◌-◌, ◌*◌, ◌^◌, ◌&&◌, Bool, true, false, List, [], ◌∷◌, map, fold, codes, Option, Some, None, nat_le, nat_lt, is_some, unwrap_or, if◌then◌else◌, option_and_then}
 use Rattle.std.specs.List.{filter_map}
 use Rattle.std.specs.Option.{option_map, option_to_list}
@@ -21,7 +21,7 @@ pub record Settings : Type 0 where
   pub bound : ℕ
   pub wants : Option Wants
 
--- where no line says otherwise
+-- where no line sets them
 abbrev pub no_settings : Settings
 no_settings = record { may_dist = false; rewrite_includes_only = false; cache_mode = false; version = None; bound = default_most; wants = None }
 

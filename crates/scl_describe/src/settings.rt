@@ -1,4 +1,4 @@
-//! What a description is asked beside its request: lines `setting`.
+//! The settings of a description beside its request: lines `setting`.
 ghost use Rattle.std.specs.Prelude.{◌≡◌, ◌++◌, IfOk, OnOk, string_bytes};
 ghost use Rattle.std.specs.Option.{option_map};
 ghost use Rattle.scl_description.specs.Lines.{line, lines_of};
@@ -11,7 +11,7 @@ use scl_reader::MOST;
 use scl_text::{Mem, from_local_codepage};
 use std::alloc::Global;
 
-/// What a description is asked beside its request (docs/RULES.md, Descriptions).
+/// The settings of a description beside its request (docs/RULES.md, Descriptions).
 #[derive(Debug, Drop)]
 pub(crate) struct Settings {
     pub may_dist: bool,
@@ -34,7 +34,7 @@ enum Setting {
 }
 
 impl Settings {
-    /// The settings where no line says otherwise.
+    /// The settings where no line sets them.
     fn new() -> Settings
         ensures { settings_by result ≡ no_settings }
     {

@@ -14,7 +14,7 @@ use scl_text::records::Cacheable;
 /// How the program ends.
 #[derive(Debug, Clone, Copy, PartialEq, Eq)]
 pub enum Ending {
-    /// What was asked is answered.
+    /// The request is answered.
     Answered,
     /// Two command lines have no equal keys.
     Different,
@@ -85,8 +85,8 @@ impl Ending {
         }
     }
 
-    /// How it ends where it is asked whether the outcome may be kept under a key, by the rows of its description: as command lines
-    /// without equal keys do where it may not.
+    /// How it ends where the request is whether the outcome may be kept under a key, by the rows of its description: as command
+    /// lines without equal keys do where it may not.
     pub fn of_keeping(cacheable: Cacheable, rows: &[Vec<Vec<u8>>]) -> Ending
         ensures { result ≡ ending_of_keeping cacheable (has_key (runs_of rows.now)) }
     {

@@ -83,7 +83,7 @@ abbrev pub awaited_next : Option Brings → List ℕ → Option Brings
 awaited_next (Some brings) word = None
 awaited_next None word = awaited_by flags word
 
--- a value that lacks is unknown
+-- a value that is missing is unknown
 abbrev pub given_last : Option Brings → List Given
 given_last None = []
 given_last (Some brings) = given Unknown [] ∷ []

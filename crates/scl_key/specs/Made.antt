@@ -1,4 +1,4 @@
--- The files that come out: those of the record, and those that it lacks.
+-- The files that come out: those of the record, and those that it does not name.
 use Rattle.std.specs.Prelude.{ℕ, false, nat_eq, List, [], ◌++◌, take, drop, map, codes, Option, Some, None, is_some, if◌then◌else◌}
 use Rattle.std.specs.List.{list_any, filter_map, starts_with, last_or}
 use Rattle.std.specs.Option.{option_to_list}
@@ -10,7 +10,7 @@ use Rattle.scl_key.specs.Effects.{behind, is_comma}
 abbrev pub unless_comma : List ℕ → Option (List ℕ)
 unless_comma text = if list_any is_comma text then None else Some text
 
--- the file of dependencies that a word hands to the preprocessor, and nothing else
+-- the file of dependencies that a word passes to the preprocessor, and nothing else
 abbrev pub handed_file : List ℕ → Option (List ℕ)
 handed_file word =
     if starts_with nat_eq word (codes "-Wp,-MD,") then unless_comma (drop 8 word)

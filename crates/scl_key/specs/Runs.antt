@@ -78,7 +78,7 @@ noted false (word ∷ words) = word ∷ noted (bytes_eq word (codes "-MF")) word
 abbrev pub noted_words : List (List ℕ) → List (List ℕ)
 noted_words words = if list_any (λ word. bytes_eq word (codes "-MF")) words then noted false words else []
 
--- a word that hands a file of dependencies to the preprocessor, as words about dependencies
+-- a word that passes a file of dependencies to the preprocessor, as words about dependencies
 abbrev pub noted_handed : List ℕ → List (List ℕ)
 noted_handed word =
     if is_some (handed_file word)
@@ -90,7 +90,7 @@ noted_handed word =
 abbrev pub macro_words : Parsed → List (List ℕ)
 macro_words p = if is_header p.language || has_macros p then codes "-dD" ∷ [] else []
 
--- the record of the runs of Gcc and Clang: they write no file but that of dependencies, and tell macros where these count
+-- the record of the runs of Gcc and Clang: they write no file but that of dependencies, and print macros where these count
 abbrev pub noting_record : (macros : List (List ℕ)) → Parsed → Parsed
 noting_record macros p = record p {
   dependency_args = noted_words p.dependency_args ++ flat_map noted_handed p.preprocessor_args ++ flat_map noted_handed p.common_args;

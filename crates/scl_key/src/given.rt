@@ -163,7 +163,7 @@ fn push_now<'a>(given: &mut Vec<Given<'a>>, awaited: Option<Brings>, word: &'a [
     }
 }
 
-/// Appends a value that lacks.
+/// Appends a value that is missing.
 fn push_last(given: &mut Vec<Given<'_>>, awaited: Option<Brings>) -> Mem<()>
     ensures { OnOk result (all_given given.new.items ≡ all_given given.old.items ++ given_last awaited) }
 {

@@ -1,4 +1,4 @@
-//! The files that come out: those of the record, and those that it lacks.
+//! The files that come out: those of the record, and those that it does not name.
 ghost use Rattle.std.specs.Prelude.{◌≡◌, ◌++◌, ◌∷◌, [], map, None, IfOk, OnOk};
 ghost use Rattle.std.specs.List.{filter_map, last_or};
 ghost use Rattle.std.specs.Option.{option_copied, option_to_list};
@@ -21,7 +21,7 @@ fn unless_comma(text: &[u8]) -> Option<&[u8]>
     if has_comma(text) { None } else { Some(text) }
 }
 
-/// The file of dependencies that a word hands to the preprocessor, and nothing else.
+/// The file of dependencies that a word passes to the preprocessor, and nothing else.
 pub(crate) fn handed_file(word: &[u8]) -> Option<&[u8]>
     ensures { option_copied result ≡ handed_file word.now }
 {
@@ -44,7 +44,7 @@ fn push_some<'a>(files: &mut Vec<&'a [u8]>, file: Option<&'a [u8]>) -> Mem<()>
     Ok(())
 }
 
-/// Appends the files of dependencies that words hand to the preprocessor.
+/// Appends the files of dependencies that words pass to the preprocessor.
 fn push_handed<'a>(files: &mut Vec<&'a [u8]>, words: &'a [Vec<u8>]) -> Mem<()>
     ensures { OnOk result (map (λ file. file.now) files.new.items ≡ map (λ file. file.now) files.old.items ++ filter_map handed_file (words_of words.now)) }
 {

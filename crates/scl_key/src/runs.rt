@@ -119,7 +119,7 @@ fn push_plan(parts: &mut Vec<Part>, words: Option<Vec<Vec<u8>>>) -> Mem<()>
     Ok(())
 }
 
-/// The words of the plan of a compiler's driver, if it tells one.
+/// The words of the plan of a compiler's driver, if it prints one.
 fn plan_words(
     alloc: Global,
     compiler: Compiler,
@@ -138,7 +138,7 @@ fn plan_words(
     }
 }
 
-/// Appends the plan of a compiler's driver, if it tells one.
+/// Appends the plan of a compiler's driver, if it prints one.
 pub(crate) fn push_plans(
     alloc: Global,
     parts: &mut Vec<Part>,
@@ -192,7 +192,7 @@ fn push_noted_words(alloc: Global, noted: &mut Vec<Vec<u8>>, words: &[Vec<u8>]) 
     }
 }
 
-/// Appends a word that hands a file of dependencies to the preprocessor, as words about dependencies.
+/// Appends a word that passes a file of dependencies to the preprocessor, as words about dependencies.
 fn push_noted_handed(alloc: Global, noted: &mut Vec<Vec<u8>>, word: &[u8]) -> Mem<()>
     ensures { OnOk result (words_of noted.new.items ≡ words_of noted.old.items ++ noted_handed word.now) }
 {
@@ -208,7 +208,7 @@ fn push_noted_handed(alloc: Global, noted: &mut Vec<Vec<u8>>, word: &[u8]) -> Me
     push_word(alloc, noted, OWN_FILE)
 }
 
-/// Appends all words that hand a file of dependencies to the preprocessor.
+/// Appends all words that pass a file of dependencies to the preprocessor.
 fn push_all_handed(alloc: Global, noted: &mut Vec<Vec<u8>>, words: &[Vec<u8>]) -> Mem<()>
     ensures { OnOk result (words_of noted.new.items ≡ words_of noted.old.items ++ flat_map noted_handed (words_of words.now)) }
 {
@@ -231,7 +231,7 @@ fn dependency_words(alloc: Global, parsed: &ParsedArguments) -> Mem<Vec<Vec<u8>>
 
 // ---- the runs
 
-/// The words by which runs tell macros, if these count.
+/// The words by which runs print macros, if these count.
 fn macro_words(alloc: Global, macros: bool, parsed: &ParsedArguments) -> Mem<Vec<Vec<u8>>>
     requires macros { macros ≡ has_macros (parsed_of parsed.now) }
     ensures { IfOk result (λ words. words_of words.items ≡ macro_words (parsed_of parsed.now)) }
@@ -261,7 +261,7 @@ fn noting_record(
     Ok(noting)
 }
 
-/// The words but for those equal to one.
+/// The words except those equal to one.
 fn without_word(alloc: Global, word: &[u8], words: &[Vec<u8>]) -> Mem<Vec<Vec<u8>>>
     ensures { IfOk result (λ others. words_of others.items ≡ without_word word.now (words_of words.now)) }
 {

@@ -16,7 +16,7 @@ static TITLES: [&str; 4] = ["flag", "value", "kind", "goes to"];
 /// Values by which it is tried where a flag goes: a name, a language, a choice.
 static VALUES: [&str; 3] = ["x", "c", "always"];
 
-/// The compilers whose tables are told, one of each that share theirs.
+/// The compilers whose tables are shown, one of each that share theirs.
 static COMPILERS: [Compiler; 5] = [
     Compiler::Gcc,
     Compiler::Clang,
@@ -191,7 +191,7 @@ fn cells(alloc: Global, compiler: Compiler, flag: &Flag) -> Mem<Vec<String>> {
     Ok(cells)
 }
 
-/// Appends the flags of a compiler's table that have so many bytes or more.
+/// Appends the flags of a compiler's table that have at least this number of bytes.
 fn push_table(
     alloc: Global,
     text: &mut String,

@@ -1,4 +1,4 @@
-//! Requests of each kind, told apart by their first line (docs/PROTOCOL.md, A request).
+//! Requests of each kind, distinguished by their first line (docs/PROTOCOL.md, A request).
 #![tactic(auto)]
 
 mod naming;

@@ -9,7 +9,7 @@ use scl_describe::{Descriptions, Tables};
 use scl_description::next_line;
 use std::alloc::Global;
 
-/// Whether a request asks what a program's name means.
+/// Whether a request is for what a program's name means.
 fn asks_name(bytes: &[u8]) -> bool
     ensures { result ≡ first_is (codes "name") (lines_of bytes.now) }
 {
