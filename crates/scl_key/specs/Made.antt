@@ -16,13 +16,17 @@ handed_file word =
     if starts_with nat_eq word (codes "-Wp,-MD,") then unless_comma (drop 8 word)
     else (if starts_with nat_eq word (codes "-Wp,-MMD,") then unless_comma (drop 9 word) else None)
 
--- the file that the words about dependencies name last
-abbrev pub named_file : List (List ℕ) → List (List ℕ)
-named_file words = option_to_list (last_or None (behind (codes "-MF") false words))
+-- the file of dependencies that a word names which is joined to its flag
+abbrev pub joined_file : List ℕ → Option (List ℕ)
+joined_file word = if starts_with nat_eq word (codes "-MF") then Some (drop 3 word) else None
+
+-- the file that is named last, in a command: those joined to their flag stand among the common words, after the words about dependencies
+abbrev pub named_file : (dependency common : List (List ℕ)) → List (List ℕ)
+named_file dependency common = option_to_list (last_or None (behind (codes "-MF") false dependency ++ filter_map joined_file common))
 
 -- none is written of a language that is not preprocessed
 abbrev pub written_file : Parsed → List (List ℕ)
-written_file p = if needs_c_preprocessing p.language then named_file p.dependency_args else []
+written_file p = if needs_c_preprocessing p.language then named_file p.dependency_args p.common_args else []
 
 -- the files of dependencies
 abbrev pub dependency_files : Parsed → List (List ℕ)
