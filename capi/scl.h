@@ -481,6 +481,86 @@ static inline int32_t scl_name(const scl_bytes *words, size_t len, size_t *progr
     return SCL_OK;
 }
 
+/* What a run of the preprocessor for one architecture ended with, which is 0 or more, what it wrote, and its error output. */
+typedef struct scl_ran {
+    scl_bytes arch;
+    int32_t status;
+    scl_bytes text, messages;
+} scl_ran;
+
+/* Two texts in a block of memory, which free gives back. */
+typedef struct scl_texts {
+    scl_bytes text, messages;
+    char *block;
+} scl_texts;
+
+/* The joined text of the runs, and the messages of all (docs/PROTOCOL.md, A request). Only where the answer is SCL_OK is there
+ * anything to free: *status is then 0, or that of the first run that failed, whose text it is. SCL_BAD: a status is below 0.
+ * SCL_NEWER: the library does not answer such requests. */
+static inline int32_t scl_join(const scl_ran *runs, size_t len, int32_t *status, scl_texts *joined) {
+    scl_writer to = {SCL_NULL, 0, 0, false};
+    scl_bytes ended;
+    size_t i, number, size = 0;
+    int32_t told = SCL_NO_MEMORY;
+    scl_put(&to, "join\n");
+    for (i = 0; i < len; i++) {
+        if (runs[i].status < 0) {
+            free(to.at);
+            return SCL_BAD;
+        }
+        scl_put(&to, "ran ");
+        scl_put_field(&to, runs[i].arch, false);
+        scl_put(&to, "\t");
+        scl_put_number(&to, SCL_TO(size_t, runs[i].status));
+        scl_put(&to, "\t");
+        scl_put_field(&to, runs[i].text, false);
+        scl_put(&to, "\t");
+        scl_put_field(&to, runs[i].messages, false);
+        scl_put(&to, "\n");
+    }
+    if (!to.has_failed) told = scl_text_new(scl_describe, to.at, to.len, &joined->block, &size);
+    free(to.at);
+    if (told != SCL_OK) return told == SCL_BAD ? SCL_NEWER : told;
+    number = scl_field_of(scl_bytes_of(joined->block, size), "status", &ended) ? scl_number_of(ended) : SIZE_MAX;
+    if (number > INT32_MAX || !scl_two_texts(joined->block, size, "text", &joined->text, "messages", &joined->messages)) {
+        free(joined->block);
+        return SCL_NEWER;
+    }
+    *status = SCL_TO(int32_t, number);
+    return SCL_OK;
+}
+
+/* The dependency file of a command of clang-cl, and the lines of its error output that are shown (docs/PROTOCOL.md, A request). The
+ * lines that name files begin with the prefix. The request has no settings. Only where the answer is SCL_OK is there anything to
+ * free: *is_made says whether the command has such a file, else the texts are empty. SCL_BAD: the prefix is not UTF-8, or the
+ * messages are not, and the command has such a file. SCL_NEWER: the library does not answer such requests. */
+static inline int32_t scl_depfile(const scl_request *request, scl_bytes prefix, scl_bytes messages, bool *is_made, scl_texts *made) {
+    scl_writer to = {SCL_NULL, 0, 0, false};
+    scl_bytes rows, row, name;
+    size_t size = 0;
+    int32_t told = SCL_NO_MEMORY;
+    *is_made = false;
+    scl_put(&to, "depfile\nshown ");
+    scl_put_field(&to, prefix, false);
+    scl_put(&to, "\t");
+    scl_put_line(&to, "", messages);
+    scl_put_request(&to, request);
+    if (!to.has_failed) told = scl_text_new(scl_describe, to.at, to.len, &made->block, &size);
+    free(to.at);
+    if (told != SCL_OK) return told == SCL_BAD && size != 2 && size != 3 ? SCL_NEWER : told;
+    rows = scl_bytes_of(made->block, size);
+    if (!scl_next_row(&rows, &row) || !scl_next_field(&row, &name)) told = SCL_NEWER;
+    else if (scl_is(name, "too-many-words")) told = SCL_TOO_MANY_WORDS;
+    else if (scl_is(name, "not-utf-8")) told = SCL_BAD;
+    if (told != SCL_OK) {
+        free(made->block);
+        return told;
+    }
+    *is_made = scl_two_texts(made->block, size, "text", &made->text, "kept", &made->messages);
+    if (!*is_made) made->text = made->messages = scl_no_bytes[0];
+    return SCL_OK;
+}
+
 /* An answer with its memory in one block, which scl_free gives back. */
 typedef struct scl_given {
     scl_answer answer;

@@ -187,6 +187,32 @@ def name(words: Iterable[bytes]) -> tuple[int | None, bytes | None]:
     return int(of[b"program"]) if b"program" in of else None, of.get(b"compiler")
 
 
+def join(runs: Iterable[tuple[bytes, int, bytes, bytes]]) -> tuple[int, bytes, bytes]:
+    """Of the preprocessor's runs for several architectures, each with its architecture, its status, its text and its messages: the status,
+    the joined text and the messages of all. Each status is from 0 to 2^31 - 1."""
+    lines = [b"join", *(b"ran %s\t%d\t%s\t%s" % (field(arch), status, field(text), field(messages)) for arch, status, text, messages in runs), b""]
+    try:
+        of = dict(rows(describe(b"\n".join(lines))))
+    except BadLine as bad:
+        raise (Newer("line 1") if bad.number == 1 else ValueError("a status that is no such number")) from None
+    return int(of[b"status"]), of[b"text"], of[b"messages"]
+
+
+def depfile(prefix: bytes, messages: bytes, words: Iterable[bytes], *given: Any, **named: Any) -> tuple[bytes, bytes] | None:
+    """The dependency file of clang-cl's words, and the lines of its error output that are shown, if the command has such a file. The lines
+    that name files begin with the prefix. What else may be given is as in request."""
+    lines = b"depfile\nshown %s\t%s\n" % (field(prefix), field(messages)) + request(b"clang-cl", words, *given, **named)
+    try:
+        of = {name: fields for name, *fields in rows(describe(lines))}
+    except BadLine as bad:
+        raise (Newer(f"line {bad.number}") if bad.number != 2 else ValueError("a prefix that is not UTF-8")) from None
+    if b"too-many-words" in of:
+        raise TooManyWords
+    if b"not-utf-8" in of:
+        raise ValueError("messages that are not UTF-8")
+    return (of[b"text"][0], of[b"kept"][0]) if b"text" in of else None
+
+
 def field(it: bytes) -> bytes:
     """Bytes as they stand in a request or a row."""
     if not isinstance(it, bytes):

@@ -87,12 +87,19 @@ static inline void scl_put_pairs(scl_writer *to, const char *keyword, scl_pairs 
     }
 }
 
-static inline void scl_put_bound(scl_writer *to, size_t number) {
+static inline void scl_put_number(scl_writer *to, size_t number) {
     char digits[24];
     size_t at = sizeof digits - 1;
     digits[at] = 0;
-    for (; number; number /= 10) digits[--at] = SCL_TO(char, '0' + number % 10);
-    scl_put_line(to, "setting bound ", scl_text(digits + at));
+    do digits[--at] = SCL_TO(char, '0' + number % 10);
+    while (number /= 10);
+    scl_put(to, digits + at);
+}
+
+static inline void scl_put_bound(scl_writer *to, size_t number) {
+    scl_put(to, "setting bound ");
+    scl_put_number(to, number);
+    scl_put(to, "\n");
 }
 
 static inline void scl_put_settings(scl_writer *to, const scl_request *request) {
@@ -179,6 +186,28 @@ static inline size_t scl_read_field(scl_bytes field, uint8_t *to) {
         len++;
     }
     return len;
+}
+
+/* Writes the bytes of a field of the text in the field's place; false for what is no field. */
+static inline bool scl_read_in_place(char *text, scl_bytes *field) {
+    size_t from = SCL_TO(size_t, field->at - SCL_CAST(const uint8_t *, text));
+    field->len = scl_read_field(*field, SCL_CAST(uint8_t *, text) + from);
+    return field->len != SIZE_MAX;
+}
+
+/* The first field after a row's name, of the first row of this name; false where there is none. */
+static inline bool scl_field_of(scl_bytes rows, const char *row_name, scl_bytes *value) {
+    scl_bytes row, name;
+    while (scl_next_row(&rows, &row))
+        if (scl_next_field(&row, &name) && scl_is(name, row_name)) return scl_next_field(&row, value);
+    return false;
+}
+
+/* Finds the first fields of the rows with these two names, and writes their bytes in their places; false where one is not there. */
+static inline bool scl_two_texts(char *text, size_t len, const char *first_name, scl_bytes *first, const char *second_name, scl_bytes *second) {
+    scl_bytes rows = scl_bytes_of(text, len);
+    return scl_field_of(rows, first_name, first) && scl_field_of(rows, second_name, second) && scl_read_in_place(text, first) &&
+           scl_read_in_place(text, second);
 }
 
 /* The number that the digits write; SIZE_MAX for what is none. */

@@ -146,6 +146,14 @@ def errors():
     for words, named in (([b"ccache", b"gcc-12", b"-c"], (1, b"gcc")), ([b"rustc"], (0, None)), ([b"env", b"A=b"], (None, None))):
         if scl.name(words) != named:
             sys.exit(f"random_requests: {words} are named {scl.name(words)}")
+    if scl.join([(b"a", 0, b"x", b"m"), (b"b", 0, b"", b"n")]) != (0, b"#pragma sccache arch a 1\nx\n#pragma sccache arch b 1\n\n", b"mn"):
+        sys.exit("random_requests: joined runs have another text")
+    raises(ValueError, scl.join, [(b"a", -1, b"", b"")])
+    words = [b"-c", b"x.c", b"-depsx.d"]
+    if scl.depfile(b"N: ", b"N: a\nb\n", words) != (b"x.obj: x.c a \nx.c:\na:\n", b"b\n") or scl.depfile(b"N: ", b"\xff", words[:2]) is not None:
+        sys.exit("random_requests: a dependency file has another text")
+    raises(ValueError, scl.depfile, b"N: ", b"\xff", words)
+    raises(ValueError, scl.depfile, b"\xff", b"", words)
     if raises(scl.BadCatalogue, scl.ask, b"gcc", [b"-c", b"a.c"], catalogue=b"# one\n\nwhat is this\n").number != 3:
         sys.exit("random_requests: a catalogue's wrong line has another number")
     if scl.ask(b"gcc", [b"-c", b"a.c", b"-MD", b"-MT", b"x", b"-MT", b"y"], catalogue=b"# none\n", wants_hazards=True).hazards:

@@ -463,10 +463,74 @@ static void check_names(void) {
     check_name("", SCL_NO_MEMORY, 2, NULL);
 }
 
+/* What is said to a request, with this status, of which this line is bad. */
+static void say(const char *answer, int32_t status, size_t line) {
+    said.len = 0;
+    add(&said, answer);
+    said_status = status, said_line = line;
+}
+
+static bool is_text(scl_bytes it, const char *text) { return it.len == strlen(text) && !memcmp(it.at, text, it.len); }
+
+/* What scl_join tells of an answer, and what it asked. */
+#define JOINED "join\nran a\t0\tx\\x0a\t\nran b\\x20c\t2147483647\t\tm\n"
+static void check_join(const char *answer, int32_t status, int32_t told, int32_t wanted_status) {
+    static const scl_ran runs[] = {{{(const uint8_t *)"a", 1}, 0, {(const uint8_t *)"x\n", 2}, {(const uint8_t *)"", 0}},
+                                   {{(const uint8_t *)"b c", 3}, INT32_MAX, {(const uint8_t *)"", 0}, {(const uint8_t *)"m", 1}}};
+    scl_texts joined;
+    int32_t ended = -1;
+    say(answer, status, 1);
+    if (scl_join(runs, 2, &ended, &joined) != told) FAIL("joined runs: another status");
+    said_status = 0;
+    if (asked.len != sizeof JOINED - 1 || memcmp(asked.at, JOINED, sizeof JOINED - 1)) FAIL("joined runs: another request, of %zu bytes", asked.len);
+    if (told != SCL_OK) return;
+    if (ended != wanted_status || !is_text(joined.text, "t\n ") || !is_text(joined.messages, "")) FAIL("joined runs: other texts");
+    free(joined.block);
+}
+
+/* What scl_depfile tells of an answer, and what it asked. */
+#define SHOWN "depfile\nshown N:\\x20\tN:\\x20a\\x0a\ncompiler clang-cl\ncwd \nword x.c\n"
+static void check_depfile(const char *answer, int32_t status, size_t line, int32_t told, bool is_wanted) {
+    scl_bytes words[1] = {scl_text("x.c")};
+    scl_request request = scl_request_of("clang-cl", words, 1);
+    scl_texts made;
+    bool is_made = !is_wanted;
+    say(answer, status, line);
+    if (scl_depfile(&request, scl_text("N: "), scl_text("N: a\n"), &is_made, &made) != told) FAIL("a dependency file: another status");
+    said_status = 0;
+    if (asked.len != sizeof SHOWN - 1 || memcmp(asked.at, SHOWN, sizeof SHOWN - 1)) FAIL("a dependency file: another request, of %zu bytes", asked.len);
+    if (told != SCL_OK) return;
+    if (is_made != is_wanted || !is_text(made.text, is_made ? "a: b\n" : "") || !is_text(made.messages, is_made ? "k" : "")) FAIL("a dependency file: other texts");
+    free(made.block);
+}
+
+static void check_others(void) {
+    static const scl_ran bad[] = {{{(const uint8_t *)"a", 1}, -1, {(const uint8_t *)"", 0}, {(const uint8_t *)"", 0}}};
+    scl_texts joined;
+    int32_t ended;
+    check_join("status 7\ntext t\\x0a\\x20\nmessages \nversion 1\n", SCL_OK, SCL_OK, 7);
+    check_join("status x\ntext t\nmessages \nversion 1\n", SCL_OK, SCL_NEWER, 0);
+    check_join("status 2147483648\ntext t\nmessages \nversion 1\n", SCL_OK, SCL_NEWER, 0);
+    check_join("status 0\ntext t\nversion 1\n", SCL_OK, SCL_NEWER, 0);
+    check_join("status 0\ntext \\x0\nmessages \nversion 1\n", SCL_OK, SCL_NEWER, 0);
+    check_join("", SCL_BAD, SCL_NEWER, 0);
+    check_join("", SCL_NO_MEMORY, SCL_NO_MEMORY, 0);
+    if (scl_join(bad, 1, &ended, &joined) != SCL_BAD) FAIL("a status below 0 is taken");
+    check_depfile("text a:\\x20b\\x0a\nkept k\nversion 1\n", SCL_OK, 0, SCL_OK, true);
+    check_depfile("version 1\n", SCL_OK, 0, SCL_OK, false);
+    check_depfile("not-utf-8\nversion 1\n", SCL_OK, 0, SCL_BAD, false);
+    check_depfile("too-many-words\nversion 1\n", SCL_OK, 0, SCL_TOO_MANY_WORDS, false);
+    check_depfile("", SCL_OK, 0, SCL_NEWER, false);
+    check_depfile("", SCL_BAD, 1, SCL_NEWER, false);
+    check_depfile("", SCL_BAD, 2, SCL_BAD, false);
+    check_depfile("", SCL_NO_MEMORY, 0, SCL_NO_MEMORY, false);
+}
+
 int main(int argc, char **argv) {
     unsigned long count = argc > 1 ? strtoul(argv[1], 0, 10) : 20000, counts[8] = {0};
     state = (argc > 2 ? strtoull(argv[2], 0, 10) : 1) * 0x9E3779B97F4A7C15u + 1;
     check_names();
+    check_others();
     for (number = 0; number < count; number++) {
         used = 0;
         const scl_request *request = random_request();

@@ -1,2 +1,4 @@
 pub mod NamingLaws
+pub mod JoiningLaws
+pub mod DepfileLaws
 pub mod RequestLaws

@@ -1,2 +1,4 @@
 pub mod Naming
+pub mod Joining
+pub mod Depfiles
 pub mod Requests
