@@ -112,8 +112,7 @@ typedef struct scl_request {
     bool wants_key;             /* the answer has the rows of the key */
     scl_bytes version;          /* the text of the compiler's version, in UTF-8 (docs/PROTOCOL.md, `setting version`) */
     scl_bytes catalogue;        /* the text of the catalogue of hazards; empty: the built-in one */
-    scl_words settings;         /* more lines `setting`: what follows that word, as `bound 10`; with `wants run` and its like
-                                   what a row would have told that is not wanted is empty, and without `keep` nothing stops keeping */
+    scl_words settings;         /* more lines `setting`: what follows that word, as `bound 10` */
 } scl_request;
 
 enum scl_outcome { SCL_COMPILED = 0, SCL_CANNOT_CACHE = 1, SCL_NOT_COMPILATION = 2 };
@@ -224,7 +223,6 @@ typedef struct scl_answer {
     scl_words reads, writes, loads;    /* SCL_COMPILED: files that options read, write and load beside compiling (docs/EFFECTS.md) */
     scl_words reads_like, writes_like; /* the beginnings of names of such files, where more is not known */
     scl_words asks;                    /* what options ask of the machine: processor, directory */
-    scl_words loads_like;              /* as reads_like, of files that are loaded */
 } scl_answer;
 
 /* The memory for an answer: its texts, its words, its pairs, its outputs, and its runs, options and rows of a key. */
@@ -450,35 +448,6 @@ static inline scl_key_row scl_key_at(const scl_answer *answer, size_t place) {
     it.is_asked = it.kind != SCL_KEY_IS && it.kind != SCL_KEY_OUTPUT;
     it.is_named = it.kind == SCL_KEY_PLAN || it.kind == SCL_KEY_RUN || it.kind == SCL_KEY_RUN_ELSE || it.kind == SCL_KEY_PCH;
     return it;
-}
-
-/* Which compiler a program is by its name. The words are a whole command line, with launchers, which are passed over. SCL_OK:
- * *program is the index of the word that is the program, or `len` if there is none; *compiler is the name that a request takes,
- * or NULL if the program's name is not known. SCL_NEWER: the library does not answer such requests. */
-static inline int32_t scl_name(const scl_bytes *words, size_t len, size_t *program, const char **compiler) {
-    scl_writer to = {SCL_NULL, 0, 0, false};
-    scl_bytes rows, row, name, value;
-    char *text = SCL_NULL;
-    size_t size = 0;
-    int32_t status = SCL_NO_MEMORY;
-    *program = len;
-    *compiler = SCL_NULL;
-    scl_put(&to, "name\n");
-    scl_put_words(&to, "word ", scl_words_of(words, len));
-    if (!to.has_failed) status = scl_text_new(scl_describe, to.at, to.len, &text, &size);
-    free(to.at);
-    if (status != SCL_OK) return status == SCL_BAD ? SCL_NEWER : status;
-    rows = scl_bytes_of(text, size);
-    while (scl_next_row(&rows, &row)) {
-        if (!scl_next_field(&row, &name) || !scl_next_field(&row, &value)) continue;
-        if (scl_is(name, "program") && scl_number_of(value) < len) *program = scl_number_of(value);
-        if (scl_is(name, "compiler")) {
-            uint32_t place = scl_place_of(value, scl_compiler_names, SCL_COMPILERS);
-            *compiler = place < SCL_COMPILERS ? scl_compiler_names[place] : SCL_NULL;
-        }
-    }
-    free(text);
-    return SCL_OK;
 }
 
 /* An answer with its memory in one block, which scl_free gives back. */

@@ -26,8 +26,7 @@ TEXTS = {"input": "input", "compilation-flag": "compilation_flag", "depfile": "d
 SWITCHES = {"double-dash-input": "double_dash_input", "external-assembler": "uses_external_assembler", "show-includes": "show_includes",
             "explicit-language": "explicit_language", "profile-generate": "profile_generate",
             "no-rewrite-includes-only": "suppress_rewrite_includes_only"}
-EFFECTS = {"reads": "reads", "writes": "writes", "loads": "loads", "reads-like": "reads_like", "writes-like": "writes_like",
-           "loads-like": "loads_like", "asks": "asks"}
+EFFECTS = {"reads": "reads", "writes": "writes", "loads": "loads", "reads-like": "reads_like", "writes-like": "writes_like", "asks": "asks"}
 QUESTIONS = {"file": "files", "dir": "directories", "exists": "existing"}
 # How many fields a row has at most that says what may be kept.
 MOST_FIELDS = {"hazard": 1, "cacheable": 1, "output": 3, "environment": 2, "language": 1, "color": 1, **dict.fromkeys([*LISTS, *TEXTS, "arg"], 1),
@@ -130,7 +129,6 @@ class Answer:
     loads: list[bytes] = _member(default_factory=list)
     reads_like: list[bytes] = _member(default_factory=list)  # the beginnings of names of such files, where more is not known
     writes_like: list[bytes] = _member(default_factory=list)
-    loads_like: list[bytes] = _member(default_factory=list)
     asks: list[bytes] = _member(default_factory=list)  # what options ask of the machine: processor, directory
     environment: list[tuple[bytes, bytes]] = _member(default_factory=list)
     record: Record | None = None
@@ -174,17 +172,6 @@ def describe(request: bytes, catalogue: bytes | None = None) -> bytes:
     """The text of the description of the answer to a request's text, both as bytes; with the hazards of a catalogue's text, if there is
     one."""
     return _respond(_lib.scl_describe, request) if catalogue is None else _respond(_lib.scl_describe_with, request, catalogue, len(catalogue))
-
-
-def name(words: Iterable[bytes]) -> tuple[int | None, bytes | None]:
-    """Of the words of a whole command line, as bytes, the index of the program, launchers passed over, and the compiler that it is by
-    its name, each if there is one."""
-    lines = [b"name", *(b"word " + field(it) for it in words), b""]
-    try:
-        of = dict(rows(describe(b"\n".join(lines))))
-    except BadLine:
-        raise Newer("line 1") from None
-    return int(of[b"program"]) if b"program" in of else None, of.get(b"compiler")
 
 
 def field(it: bytes) -> bytes:

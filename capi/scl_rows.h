@@ -181,13 +181,6 @@ static inline size_t scl_read_field(scl_bytes field, uint8_t *to) {
     return len;
 }
 
-/* The number that the digits write; SIZE_MAX for what is none. */
-static inline size_t scl_number_of(scl_bytes field) {
-    size_t i, number = 0;
-    for (i = 0; i < field.len && field.at[i] >= '0' && field.at[i] <= '9' && number < SIZE_MAX / 16; i++) number = 10 * number + field.at[i] - 48u;
-    return field.len && i == field.len ? number : SIZE_MAX;
-}
-
 /* ---- an answer's structs */
 
 /* How a row is read. */
@@ -249,7 +242,6 @@ static const scl_known_row scl_known_rows[] = {
     {"loads", SCL_ROW_WORD, 0, SCL_AT(loads), 0, 0},
     {"reads-like", SCL_ROW_WORD, 0, SCL_AT(reads_like), 0, 0},
     {"writes-like", SCL_ROW_WORD, 0, SCL_AT(writes_like), 0, 0},
-    {"loads-like", SCL_ROW_WORD, 0, SCL_AT(loads_like), 0, 0},
     {"asks", SCL_ROW_WORD, 0, SCL_AT(asks), 0, 0},
     {"version", SCL_ROW_VERSION, SCL_IN_ALL, 0, 0, 0},
     {"cacheable", SCL_ROW_CACHEABLE, SCL_IN_COMPILED, SCL_AT(is_cacheable), 0, 0},
@@ -282,8 +274,6 @@ static const char *const scl_language_names[] = {"Assembler", "AssemblerToPrepro
                                                  "ObjectiveC", "ObjectiveCHeader", "ObjectiveCxx", "ObjectiveCxxHeader", "Cuda", "Rust", "Hip"};
 static const char *const scl_color_names[] = {"off", "on", "auto"};
 enum { SCL_LANGUAGES = 15, SCL_COLORS = 3 };
-static const char *const scl_compiler_names[] = {"gcc", "g++", "clang", "clang++", "cl", "clang-cl", "diab", "tasking"};
-enum { SCL_COMPILERS = 8 };
 
 /* The rows of a key, in the order of their kinds, with how many fields may follow the name. */
 typedef struct scl_known_key {
@@ -424,8 +414,10 @@ static inline void scl_take_output(scl_taking *t, scl_bytes *row) {
 }
 
 static inline size_t scl_take_index(scl_taking *t, scl_bytes *row) {
-    size_t number = scl_number_of(scl_take_raw(t, row));
-    if (number == SIZE_MAX) t->is_broken = true;
+    scl_bytes field = scl_take_raw(t, row);
+    size_t i, number = 0;
+    for (i = 0; i < field.len && field.at[i] >= '0' && field.at[i] <= '9' && number < SIZE_MAX / 16; i++) number = 10 * number + field.at[i] - 48u;
+    if (!field.len || i < field.len) t->is_broken = true;
     return number;
 }
 

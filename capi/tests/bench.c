@@ -1,5 +1,5 @@
 /* bench ROUNDS: microseconds of processor time a call takes: the least of five times so many, for a command of gcc of
- * twenty words, by text and by struct, with and without what can be left out, and of scl_describe by the rows that are wanted. */
+ * twenty words, by text and by struct, with and without what can be left out. */
 #define _POSIX_C_SOURCE 200809L
 #include <stdio.h>
 #include <time.h>
@@ -16,7 +16,7 @@ static double now(void) {
 }
 
 static char text[4096];
-static size_t text_len, words_len; /* with lines `setting wants`, and without them */
+static size_t text_len;
 static scl_request request;
 
 static int32_t by_text(void) {
@@ -50,15 +50,6 @@ static void measure(const char *name, int32_t call(void), int rounds) {
     printf("%-32s %6.2f microseconds\n", name, least);
 }
 
-/* scl_describe, of which only these rows are wanted. */
-static void measure_wanted(const char *row, int rounds) {
-    char name[64];
-    text_len = words_len + (size_t)sprintf(text + words_len, "setting wants %s\n", row);
-    sprintf(name, "scl_describe, wants %s", row);
-    measure(name, by_rows, rounds);
-    text_len = words_len;
-}
-
 int main(int argc, char **argv) {
     int rounds = argc > 1 ? atoi(argv[1]) : 20000;
     scl_bytes words[WORDS];
@@ -67,15 +58,9 @@ int main(int argc, char **argv) {
         words[i] = scl_text(line[i]);
         text_len += (size_t)sprintf(text + text_len, "word %s\n", line[i]);
     }
-    words_len = text_len;
     request = scl_request_of("gcc", words, WORDS);
     measure("scl_run", by_text, rounds);
     measure("scl_describe", by_rows, rounds);
-    measure_wanted("version", rounds);
-    measure_wanted("run", rounds);
-    measure_wanted("key", rounds);
-    measure_wanted("option", rounds);
-    measure_wanted("wants", rounds);
     measure("scl_ask_new", by_struct, rounds);
     request.wants_runs = request.wants_questions = request.wants_hazards = request.wants_options = true;
     measure("scl_ask_new, with all", by_struct, rounds);

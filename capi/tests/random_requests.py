@@ -16,7 +16,6 @@ WORDS = [b"-c", b"-o", b"a.o", b"a.c", b"b.cc", b"-O2", b"-MD", b"-MF", b"x.d", 
          b"-fprofile-generate", b"-Xpreprocessor", b"-MT", b"t", b"-MMD", b"-fdebug-prefix-map=a=b", b"-fprofile-use=p", b"-clang:-MD"]
 FILES = [(b"/w/r", b"-DQ -O1"), (b"/w/s", b"@r '-DS=a b' -MT\n"), (b"/w/b", b"\xff\xfe\x00")]
 VARIABLES = [(b"CL", b"/DZ"), (b"_CL_", b"/O2 \xff"), (b"LANG", b"C"), (b"A B", b"")]
-WANTED = [b"run", b"keep", b"key", b"hazard", b"option", b"wants", b"input"]
 VERSIONS = [b"14.0.6", b"12", b"9.3", b"clang version 15.0.7", b"\xce\xbb"]
 
 
@@ -28,8 +27,7 @@ def request_of(chance):
     chance.shuffle(words)
     named = {"environment": chance.sample(VARIABLES, chance.randrange(3)), "files": chance.sample(FILES, chance.randrange(4)),
              "existing": [b"/w/z.pdb"] * (chance.random() < 0.5), "directories": [b"/w/p"] * (chance.random() < 0.5),
-             "version": chance.choice(VERSIONS) if chance.random() < 0.5 else b"", "most_words": chance.choice([0, 0, 0, 1000, 4]),
-             "settings": [b"wants " + it for it in chance.sample(WANTED, chance.choice([0, 0, 1, 2]))]}
+             "version": chance.choice(VERSIONS) if chance.random() < 0.5 else b"", "most_words": chance.choice([0, 0, 0, 1000, 4])}
     return name, words, {**named, **{it: chance.random() < 0.3 for it in scl.SETTINGS}}
 
 
@@ -142,10 +140,6 @@ def errors():
     raises(scl.BadLine, scl.run, b"word -c\n")
     raises(scl.Newer, scl.ask, b"gcc", [b"-c", b"a.c"], settings=[b"what-none-knows"])
     raises(scl.Newer, scl.describe, b"compiler gcc\nsetting what-none-knows 1\n")
-    raises(scl.Newer, scl.ask, b"gcc", [b"-c", b"a.c"], settings=[b"wants what-none-knows"])
-    for words, named in (([b"ccache", b"gcc-12", b"-c"], (1, b"gcc")), ([b"rustc"], (0, None)), ([b"env", b"A=b"], (None, None))):
-        if scl.name(words) != named:
-            sys.exit(f"random_requests: {words} are named {scl.name(words)}")
     if raises(scl.BadCatalogue, scl.ask, b"gcc", [b"-c", b"a.c"], catalogue=b"# one\n\nwhat is this\n").number != 3:
         sys.exit("random_requests: a catalogue's wrong line has another number")
     if scl.ask(b"gcc", [b"-c", b"a.c", b"-MD", b"-MT", b"x", b"-MT", b"y"], catalogue=b"# none\n", wants_hazards=True).hazards:

@@ -437,36 +437,9 @@ static void check_statuses(const scl_request *request) {
     said_status = 0;
 }
 
-/* What scl_name tells of an answer, and what it asked. */
-#define ASKED "name\nword a\\x20b\nword gcc\n"
-static void check_name(const char *answer, int32_t status, size_t wanted_program, const char *wanted_compiler) {
-    static const scl_bytes words[] = {{(const uint8_t *)"a b", 3}, {(const uint8_t *)"gcc", 3}};
-    size_t program;
-    const char *compiler;
-    said.len = 0;
-    add(&said, answer);
-    said_status = status, said_line = 1;
-    int32_t told = scl_name(words, 2, &program, &compiler);
-    said_status = 0;
-    if (told != (status == SCL_BAD ? SCL_NEWER : status) || program != wanted_program) FAIL("a name: status %d, program %zu", (int)told, program);
-    if (wanted_compiler ? !compiler || strcmp(compiler, wanted_compiler) : compiler != NULL) FAIL("a name: another compiler");
-    if (asked.len != sizeof ASKED - 1 || memcmp(asked.at, ASKED, sizeof ASKED - 1)) FAIL("a name: another request, of %zu bytes", asked.len);
-}
-
-static void check_names(void) {
-    check_name("program 1\ncompiler clang++\nversion 1\n", SCL_OK, 1, "clang++");
-    check_name("program 0\nversion 1\nunknown row\n", SCL_OK, 0, NULL);
-    check_name("version 1\n", SCL_OK, 2, NULL);
-    check_name("program 2\ncompiler clang+\nversion 1\n", SCL_OK, 2, NULL);
-    check_name("program x\ncompiler clang++x\nversion 1\n", SCL_OK, 2, NULL);
-    check_name("program 1\ncompiler gcc", SCL_BAD, 2, NULL);
-    check_name("", SCL_NO_MEMORY, 2, NULL);
-}
-
 int main(int argc, char **argv) {
     unsigned long count = argc > 1 ? strtoul(argv[1], 0, 10) : 20000, counts[8] = {0};
     state = (argc > 2 ? strtoull(argv[2], 0, 10) : 1) * 0x9E3779B97F4A7C15u + 1;
-    check_names();
     for (number = 0; number < count; number++) {
         used = 0;
         const scl_request *request = random_request();

@@ -143,7 +143,6 @@ static void put_answer(scl_writer *to, const scl_answer *a) {
     scl_put_words(to, "loads ", a->loads);
     scl_put_words(to, "reads-like ", a->reads_like);
     scl_put_words(to, "writes-like ", a->writes_like);
-    scl_put_words(to, "loads-like ", a->loads_like);
     scl_put_words(to, "asks ", a->asks);
     scl_put_words(to, "hazard ", a->hazards);
     scl_put_words(to, "wants file ", a->questions.files);

@@ -3,12 +3,12 @@ use Rattle.std.proofs.Common.{◌≡◌, inl, inr, ℕ, ℤ, pos, List, [], Resu
 use Rattle.scl_catalogue.specs.Form.{Catalogue, Entry}
 use Rattle.scl_catalogue_default.specs.BuiltIn.{built_in, built_in_catalogue}
 use Rattle.scl_catalogue_text.specs.declared.mistake.BadLine.{BadLine}
-use Rattle.scl_requests.specs.Requests.{AnswersBytes}
+use Rattle.scl_describe.specs.Descriptions.{DescribesBytes}
 use Rattle.scl_c.specs.Described.{IsDescribed, IsStatus}
 use Rattle.scl_c.specs.Catalogues.{IsDescribedBy, tables_with}
 
 pub by_catalogue : (r : Result Catalogue BadLine) (catalogue : Catalogue) (request old new : List ℕ) (wanted : ℕ) (status : ℤ) → r ≡ Ok catalogue →
-    IsDescribed (AnswersBytes (tables_with catalogue) request) request old new wanted status → IsDescribedBy r request old new wanted status
+    IsDescribed (DescribesBytes (tables_with catalogue) request) request old new wanted status → IsDescribedBy r request old new wanted status
 by_catalogue r catalogue request old new wanted status is h = subst (λ it. IsDescribedBy it request old new wanted status) (sym is) h
 
 pub by_bad_line : (r : Result Catalogue BadLine) (bad : BadLine) (request old new : List ℕ) (wanted : ℕ) (status : ℤ) → r ≡ Err bad → status ≡ pos 6 → wanted ≡ bad.line → new ≡ old →
@@ -42,9 +42,9 @@ never_wrong Answers request old new wanted status h six = no-six status h.known 
 
 -- what is told by the entries that are built in
 pub by_built_in : (entries : List Entry) (request old new : List ℕ) (wanted : ℕ) (status : ℤ) → entries ≡ built_in →
-    IsDescribed (AnswersBytes (tables_with (record { groups = []; entries = entries })) request) request old new wanted status → IsDescribed (AnswersBytes (tables_with built_in_catalogue) request) request old new wanted status
+    IsDescribed (DescribesBytes (tables_with (record { groups = []; entries = entries })) request) request old new wanted status → IsDescribed (DescribesBytes (tables_with built_in_catalogue) request) request old new wanted status
 unfolding built_in_catalogue
-by_built_in entries request old new wanted status is h = subst (λ it. IsDescribed (AnswersBytes (tables_with (record { groups = []; entries = it })) request) request old new wanted status) is h
+by_built_in entries request old new wanted status is h = subst (λ it. IsDescribed (DescribesBytes (tables_with (record { groups = []; entries = it })) request) request old new wanted status) is h
 
 -- where memory was refused nothing is described
 pub by_nothing : (Answers : Result (List ℕ) ℕ → Type 0) (request old new : List ℕ) (wanted : ℕ) (status : ℤ) → status ≡ pos 3 → wanted ≡ 0 → new ≡ old → IsDescribed Answers request old new wanted status

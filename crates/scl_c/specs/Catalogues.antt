@@ -6,7 +6,7 @@ use Rattle.scl_catalogue_text.specs.declared.mistake.BadLine.{BadLine}
 use Rattle.scl_catalogue_text.specs.declared.mistake.ReadError.TheVariants as error
 use Rattle.scl_effects_default.specs.Names.{plain_names}
 use Rattle.scl_hazards.specs.Hazards.{Tables}
-use Rattle.scl_requests.specs.Requests.{AnswersBytes}
+use Rattle.scl_describe.specs.Descriptions.{DescribesBytes}
 use Rattle.scl_c.specs.Described.{IsDescribed}
 
 -- what is known by a catalogue, with the plain names that are built in
@@ -22,7 +22,7 @@ pub record IsUnread (line : ℕ) (old new : List ℕ) (wanted : ℕ) (status : �
 
 -- What a call gives, by its status and by what is read of the catalogue's text.
 abbrev pub IsDescribedBy : Result Catalogue BadLine → List ℕ → List ℕ → List ℕ → ℕ → ℤ → Type 0
-IsDescribedBy (Ok catalogue) request old new wanted status = IsDescribed (AnswersBytes (tables_with catalogue) request) request old new wanted status
+IsDescribedBy (Ok catalogue) request old new wanted status = IsDescribed (DescribesBytes (tables_with catalogue) request) request old new wanted status
 IsDescribedBy (Err bad) request old new wanted status = IsUnread bad.line old new wanted status
 
 -- The lines of a catalogue's text before the one of this number are read, and it is not.

@@ -7,7 +7,6 @@ use Rattle.scl_reader.specs.CommandLines.{Request}
 use Rattle.scl_reader.specs.Answers.{AnswerIsReadAgain}
 use Rattle.scl_cl.specs.Requests.{request_in}
 use Rattle.scl_describe.specs.Settings.{request_lines}
-use Rattle.scl_requests.specs.Requests.{first_is}
 use Rattle.scl_c.specs.Texts.{IsGiven, IsLonger}
 
 -- ---- a bad line
@@ -46,15 +45,7 @@ pub record IsDescribed (Answers : Result (List ℕ) ℕ → Type 0) (request old
   pub newer : status ≡ pos 5 → IsBad Answers request old new wanted true
 
 -- The bytes make a request, and the command of its answer, if it has one, is read again.
-pub record IsAskedAgain (bytes : List ℕ) : Type 0 where
+pub record AsksReadAgain (bytes : List ℕ) : Type 0 where
   pub request : Request
   pub request_is : request_in (request_lines (lines_of bytes)) ≡ Ok request
   pub read_again : AnswerIsReadAgain request
-
-abbrev pub AskedAgainBy : (asks_name : Bool) → List ℕ → Type 0
-AskedAgainBy true bytes = Unit {0}
-AskedAgainBy false bytes = IsAskedAgain bytes
-
--- that is so of each request but those of a name, which have no command
-abbrev pub AsksReadAgain : List ℕ → Type 0
-AsksReadAgain bytes = AskedAgainBy (first_is (codes "name") (lines_of bytes)) bytes

@@ -1,16 +1,15 @@
 //! Descriptions in memory, by a catalogue.
 ghost use Rattle.std.specs.Prelude.{◌≡◌};
 ghost use Rattle.scl_catalogue.specs.Views.{catalogue_of};
-ghost use Rattle.scl_requests.specs.Requests.{AnswersBytes};
+ghost use Rattle.scl_describe.specs.Descriptions.{DescribesBytes};
 ghost use Rattle.scl_c.specs.Catalogues.{tables_with};
 ghost use Rattle.scl_c.specs.Described.{is_setting, line_at, IsDescribed};
 
 use crate::status::{BAD, NEWER};
 use crate::text::respond;
-use scl_describe::{Catalogue, Tables};
+use scl_describe::{Catalogue, Descriptions, Tables};
 use scl_description::{cut_at, next_line};
 use scl_effects_default::plain_names;
-use scl_requests::Requests;
 use std::alloc::Global;
 
 /// The line of a number, of which the first is 1; an empty one where there is none.
@@ -48,13 +47,13 @@ pub(crate) fn describe_by(
     room: &mut [u8],
     wanted: &mut usize,
 ) -> i32
-    ensures { IsDescribed (AnswersBytes (tables_with (catalogue_of catalogue.entry)) request.now) request.now room.old room.new wanted.new result }
+    ensures { IsDescribed (DescribesBytes (tables_with (catalogue_of catalogue.entry)) request.now) request.now room.old room.new wanted.new result }
 {
     let tables = Tables {
         catalogue,
         plain: plain_names(),
     };
-    let status = respond(alloc, &Requests { tables }, request, room, wanted);
+    let status = respond(alloc, &Descriptions { tables }, request, room, wanted);
     if status != BAD {
         return status;
     }

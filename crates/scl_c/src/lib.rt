@@ -9,8 +9,7 @@ ghost use Rattle.std.specs.Prelude.{◌≡◌, [], codes, map, pos};
 ghost use Rattle.scl_catalogue.specs.Views.{catalogue_of, entry_of};
 ghost use Rattle.std.specs.Fmt.{decimal};
 ghost use Rattle.scl_description.specs.Rows.{lone, row_entry};
-ghost use Rattle.scl_describe.specs.Descriptions.{version_entry};
-ghost use Rattle.scl_requests.specs.Requests.{AnswersBytes};
+ghost use Rattle.scl_describe.specs.Descriptions.{version_entry, DescribesBytes};
 ghost use Rattle.scl_cl.specs.Program.{program_answer};
 ghost use Rattle.scl_c.specs.Catalogues.{IsDescribedBy, IsFirstWrongLine, tables_with};
 ghost use Rattle.scl_c.specs.Described.{AsksReadAgain, IsDescribed};
@@ -59,8 +58,8 @@ fn catalogue_of<'a>(entries: &'a [Entry<'static>]) -> Catalogue<'a>
     }
 }
 
-/// Answers the request whose text is in memory by a description of its answer, or by what a program's name means, as `describe`
-/// does (docs/PROTOCOL.md), with the hazards that the built-in catalogue knows. The statuses, `wanted` and `room` are as those of
+/// Answers the request whose text is in memory by a description of its answer, as `describe` does (docs/RULES.md,
+/// Descriptions), with the hazards that the built-in catalogue knows. The statuses, `wanted` and `room` are as those of
 /// `scl_run`, but that the status is 5, in place of 2, where the bad line is one of a setting.
 #[tactic(auto, using(crate::proofs::AgainLemmas::asks_again, crate::proofs::CatalogueLemmas::by_built_in, crate::proofs::CatalogueLemmas::by_nothing))]
 #[unsafe(no_mangle)]
@@ -70,7 +69,7 @@ pub extern "C" fn scl_describe(
     room: &mut [u8],
     wanted: &mut usize,
 ) -> i32
-    ensures told { IsDescribed (AnswersBytes (tables_with built_in_catalogue) request.now) request.now room.old room.new wanted.new result }
+    ensures told { IsDescribed (DescribesBytes (tables_with built_in_catalogue) request.now) request.now room.old room.new wanted.new result }
     ensures read_again { result ≡ pos 0 → AsksReadAgain request.now }
 {
     let Ok(entries) = built_in_entries(alloc) else {

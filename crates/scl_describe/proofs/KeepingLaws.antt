@@ -8,7 +8,7 @@ use Rattle.scl_text.specs.declared.records.Cacheable.{Cacheable}
 use Rattle.scl_text.specs.declared.records.Cacheable.TheVariants as cacheable
 use Rattle.scl_text.specs.Records.{Parsed}
 use Rattle.scl_description.specs.Laws.{IsBeside}
-use Rattle.scl_description.specs.Rows.{Entry, lone, row_entry}
+use Rattle.scl_description.specs.Rows.{lone, row_entry}
 use Rattle.scl_hazards.specs.Told.{Told}
 use Rattle.scl_key.specs.Directs.{Direct, direct_entries}
 use Rattle.scl_key.specs.Doings.{with_effects}
@@ -18,7 +18,6 @@ use Rattle.scl_key.specs.Told.{RunWords}
 use Rattle.scl_reader.specs.declared.compiler.Compiler.{Compiler}
 use Rattle.scl_describe.specs.EffectRows.{effect_entries, effect_entry}
 use Rattle.scl_describe.specs.Keepings.{judged_entries, kept_entries}
-use Rattle.scl_describe.specs.Wants.{if_wanted}
 
 pub each-both : {A : Type 0} (P : A → Type 0) (xs ys : List A) → Each P xs → Each P ys → Each P (xs ++ ys)
 each-both P [] ys h k = k
@@ -50,10 +49,6 @@ pub kept-beside : (kept : Cacheable) (compiler : Compiler) (words : RunWords) (t
     → Each IsBeside (kept_entries kept compiler words told environment p)
 kept-beside cacheable.Yes compiler words told environment p = judged-beside told.unknown (with_effects p told.effects (keeping_of compiler environment words p))
 kept-beside cacheable.No compiler words told environment p = tt
-
-pub if-beside : (is_wanted : Bool) (entries : List Entry) → Each IsBeside entries → Each IsBeside (if_wanted is_wanted entries)
-if-beside true entries are = are
-if-beside false entries are = tt
 
 effect-beside : (v : Verb) (is_like : Bool) (name : List ℕ) → IsBeside (effect_entry (record { verb = v; is_like = is_like; name = name }))
 effect-beside verb.Reads false name = refl

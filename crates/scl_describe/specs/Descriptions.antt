@@ -8,7 +8,7 @@ use Rattle.scl_reasons.specs.Explanations.{text_for}
 use Rattle.scl_reasons.specs.Table.{other, table}
 use Rattle.scl_hazards.specs.Hazards.{Hazard, Tables}
 use Rattle.scl_hazards.specs.Told.{Told}
-use Rattle.scl_rows.specs.Rows.{Told as RowTold, refused_at}
+use Rattle.scl_rows.specs.Rows.{refused_at}
 use Rattle.scl_description.specs.Lines.{lines_of}
 use Rattle.scl_description.specs.Rows.{Entry, entry, row_entry, words_entry, maybe_entry, lone_entry, lone, IsRow, rows_of, entries_text}
 use Rattle.scl_description.specs.Records.{record_entries, record_in}
@@ -23,9 +23,7 @@ use Rattle.scl_describe.specs.OptionRows.{rows_by}
 use Rattle.scl_describe.specs.Hazards.{known_by, told_by}
 use Rattle.scl_describe.specs.Keepings.{kept_entries, run_words_by}
 use Rattle.scl_reader.specs.Questions.{Questions, questions_of}
-use Rattle.scl_key.specs.Told.{RunWords}
-use Rattle.scl_describe.specs.Settings.{Settings, settings_in, request_lines, wanted}
-use Rattle.scl_describe.specs.Wants.{if_wanted, questions_if, told_if}
+use Rattle.scl_describe.specs.Settings.{Settings, settings_in, request_lines}
 use Rattle.scl_reader.specs.Within.{has_at_most}
 
 -- the version of these rows
@@ -82,59 +80,50 @@ question_entries q = wants_entry (codes "file") q.files ∷ wants_entry (codes "
 
 -- ---- all of it
 
--- what is told of the options, by the tables, and of the view, as far as it is wanted
-abbrev pub rows_for : Settings → Request → List RowTold
-rows_for s request = if_wanted (wanted s).options (rows_by request)
-
-abbrev pub told_for : Tables → Settings → Request → Told
-told_for tables s request = told_if (wanted s) (told_by (known_by tables s.version) request)
-
-abbrev pub questions_for : Settings → Request → Questions
-questions_for s request = questions_if (wanted s) (questions_of request)
-
 abbrev pub runs_for : Settings → Compiler → Parsed → List (List (List ℕ))
-runs_for s compiler p = if_wanted (wanted s).runs (runs_with s.version compiler s.may_dist s.rewrite_includes_only s.cache_mode p)
-
-abbrev pub kept_for : Settings → Cacheable → Compiler → RunWords → Told → (environment : List (List ℕ × List ℕ)) → Parsed → List Entry
-kept_for s cacheable compiler words told environment p = if_wanted (wanted s).key (kept_entries cacheable compiler words told environment p)
+runs_for s compiler p = runs_with s.version compiler s.may_dist s.rewrite_includes_only s.cache_mode p
 
 -- the rows of a record that a request's line is read as, whose outcome may be kept or not, if this is told
 abbrev pub record_rows : Settings → Request → Told → Cacheable → Parsed → List Entry
 record_rows s request told kept p =
     let environment : List (List ℕ × List ℕ) = environment_by request.compiler request.environment in
-    compiled_entries (runs_for s request.compiler p) environment (kept_for s kept request.compiler (run_words_by request.words told.hazards) told environment p) p
+    compiled_entries (runs_for s request.compiler p) environment (kept_entries kept request.compiler (run_words_by request.words told.hazards) told environment p) p
 
 abbrev pub outcome_entries : Settings → Request → Told → Answer → Result Parsed Verdict → List Entry
 outcome_entries s request told (compiled words kept) (Ok p) = record_rows s request told kept p
 outcome_entries s request told (compiled words kept) (Err v) = []
-outcome_entries s request told (cannot_cache reason beside) r = refused_entries reason beside (refused_at (rows_for s request))
-outcome_entries s request told not_compilation r = undone_entries (refused_at (rows_for s request))
+outcome_entries s request told (cannot_cache reason beside) r = refused_entries reason beside (refused_at (rows_by request))
+outcome_entries s request told not_compilation r = undone_entries (refused_at (rows_by request))
 
 -- the rows of what is told: of hazards, and of what is read, written, asked and loaded
 abbrev pub told_entries : Told → List Entry
 told_entries told = hazards_entry told.hazards ∷ effect_entries told.effects
 
--- the rows after the answer's lines, with what is told
-abbrev pub entries_with : Settings → Request → Told → List Entry
-entries_with s request told =
+-- the rows after the answer's lines, with what is told and the names of the kinds of flags
+abbrev pub entries_with : Settings → Request → Told → List (List ℕ) → List Entry
+entries_with s request told kinds =
     version_entry ∷ []
     ++ outcome_entries s request told (answer_to request) (reading_by request.compiler request)
-    ++ (options_entry (rows_for s request) ∷ told_entries told ++ question_entries (questions_for s request))
+    ++ (options_entry kinds (rows_by request) ∷ told_entries told ++ question_entries (questions_of request))
 
-abbrev pub answer_entries : Tables → Settings → Request → List Entry
-answer_entries tables s request = entries_with s request (told_for tables s request)
+abbrev pub answer_entries : Tables → Settings → Request → List (List ℕ) → List Entry
+answer_entries tables s request kinds = entries_with s request (told_by (known_by tables s.version) request) kinds
 
 -- where a command line has more words than the bound
 abbrev pub too_many_entries : List Entry
 too_many_entries = lone_entry (codes "too-many-words") ∷ version_entry ∷ []
 
-abbrev pub description : Tables → Settings → Request → List ℕ
-description tables s request =
-    if has_at_most s.bound request then text_of (answer_to request) ++ entries_text (answer_entries tables s request) else entries_text too_many_entries
+abbrev pub description : Tables → Settings → Request → List (List ℕ) → List ℕ
+description tables s request kinds =
+    if has_at_most s.bound request then text_of (answer_to request) ++ entries_text (answer_entries tables s request kinds) else entries_text too_many_entries
+
+-- the text describes the answer to the request; which names the kinds of flags have is not said
+abbrev pub IsDescription : Tables → Settings → Request → List ℕ → Type 0
+IsDescription tables s request text = (kinds : List (List ℕ)) × (text ≡ description tables s request kinds)
 
 -- what a description of the request may be, or the number of its bad line
 abbrev pub IsDescriptionOf : Tables → Settings → Result Request ℕ → Result (List ℕ) ℕ → Type 0
-IsDescriptionOf tables s (Ok request) (Ok text) = text ≡ description tables s request
+IsDescriptionOf tables s (Ok request) (Ok text) = IsDescription tables s request text
 IsDescriptionOf tables s (Err n) (Err m) = n ≡ m
 IsDescriptionOf tables s (Ok request) (Err m) = ⊥
 IsDescriptionOf tables s (Err n) (Ok text) = ⊥
@@ -152,7 +141,7 @@ command_entries words cacheable.No = lone_entry (codes "ok") ∷ words_entry (co
 
 -- A description of a command gives the record that was read.
 abbrev pub DescriptionsReadBack : Type 0
-DescriptionsReadBack = (tables : Tables) (s : Settings) (request : Request) (words : List (List ℕ)) (kept : Cacheable) (p : Parsed)
+DescriptionsReadBack = (tables : Tables) (s : Settings) (request : Request) (kinds words : List (List ℕ)) (kept : Cacheable) (p : Parsed)
     → has_at_most s.bound request ≡ true → answer_to request ≡ compiled words kept → reading_by request.compiler request ≡ Ok p
-    → Each IsRow (rows_of (command_entries words kept ++ answer_entries tables s request))
-    → record_in (description tables s request) ≡ p
+    → Each IsRow (rows_of (command_entries words kept ++ answer_entries tables s request kinds))
+    → record_in (description tables s request kinds) ≡ p

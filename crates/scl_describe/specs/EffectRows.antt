@@ -11,8 +11,7 @@ row_name verb.Reads true = codes "reads-like"
 row_name verb.Writes false = codes "writes"
 row_name verb.Writes true = codes "writes-like"
 row_name verb.Asks is_like = codes "asks"
-row_name verb.Loads false = codes "loads"
-row_name verb.Loads true = codes "loads-like"
+row_name verb.Loads is_like = codes "loads"
 
 abbrev pub effect_entry : Effect → Entry
 effect_entry e = row_entry (row_name e.verb e.is_like) (lone e.name)

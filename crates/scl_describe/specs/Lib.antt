@@ -4,7 +4,6 @@ pub mod OptionRows
 pub mod Hazards
 pub mod Decided
 pub mod Settings
-pub mod Wants
 pub mod SettingsRead
 pub mod OptionLines
 pub mod Descriptions

@@ -1,5 +1,5 @@
 -- What a description is asked beside its request, and the lines that say it.
-use Rattle.std.specs.Prelude.{ℕ, ◌+◌, ◌-◌, ◌*◌, ◌^◌, ◌&&◌, Bool, true, false, List, [], ◌∷◌, map, fold, codes, Option, Some, None, nat_le, nat_lt, is_some, unwrap_or, if◌then◌else◌, option_and_then}
+use Rattle.std.specs.Prelude.{ℕ, ◌+◌, ◌-◌, ◌*◌, ◌^◌, ◌&&◌, Bool, true, false, List, [], ◌∷◌, map, fold, codes, Option, Some, None, nat_le, nat_lt, is_some, if◌then◌else◌, option_and_then}
 use Rattle.std.specs.List.{filter_map}
 use Rattle.std.specs.Option.{option_map, option_to_list}
 use Rattle.std.specs.Str.{bytes_eq}
@@ -8,26 +8,18 @@ use Rattle.scl_files.specs.Decoding.{utf8_text}
 use Rattle.scl_description.specs.Fields.{field_of}
 use Rattle.scl_description.specs.Lines.{cut_at}
 use Rattle.scl_reader.specs.Within.{default_most}
-use Rattle.scl_describe.specs.declared.wants.Part.{Part}
-use Rattle.scl_describe.specs.declared.wants.Wants.{Wants}
-use Rattle.scl_describe.specs.Wants.{everything, nothing_more, part_of, with_part}
 
--- whether the runs of the preprocessor are for a distant compiler, leave macros in place, and are kept in a cache; the text of Clang's version, if it is known; how many words a command line may have, and how often it may open files; and which parts are wanted, if a line says so
+-- whether the runs of the preprocessor are for a distant compiler, leave macros in place, and are kept in a cache; the text of Clang's version, if it is known; and how many words a command line may have, and how often it may open files
 pub record Settings : Type 0 where
   pub may_dist : Bool
   pub rewrite_includes_only : Bool
   pub cache_mode : Bool
   pub version : Option (List ℕ)
   pub bound : ℕ
-  pub wants : Option Wants
 
 -- where no line says otherwise
 abbrev pub no_settings : Settings
-no_settings = record { may_dist = false; rewrite_includes_only = false; cache_mode = false; version = None; bound = default_most; wants = None }
-
--- the parts that are wanted: all, where no line names one
-abbrev pub wanted : Settings → Wants
-wanted s = unwrap_or s.wants everything
+no_settings = record { may_dist = false; rewrite_includes_only = false; cache_mode = false; version = None; bound = default_most }
 
 pub data Setting : Type 0 where
   MayDist : Setting
@@ -35,7 +27,6 @@ pub data Setting : Type 0 where
   CacheMode : Setting
   Version : (text : List ℕ) → Setting
   Bound : (words : ℕ) → Setting
-  Wanted : (part : Part) → Setting
 
 abbrev pub with_setting : Settings → Setting → Settings
 with_setting s MayDist = record s { may_dist = true }
@@ -43,7 +34,6 @@ with_setting s RewriteIncludesOnly = record s { rewrite_includes_only = true }
 with_setting s CacheMode = record s { cache_mode = true }
 with_setting s (Version text) = record s { version = Some text }
 with_setting s (Bound words) = record s { bound = words }
-with_setting s (Wanted part) = record s { wants = Some (with_part (unwrap_or s.wants nothing_more) part) }
 
 -- ---- lines
 
@@ -74,8 +64,7 @@ field_text field = option_and_then utf8_text (field_of field)
 abbrev pub setting_with : List ℕ → List ℕ → Option Setting
 setting_with name value =
     if bytes_eq name (codes "bound") then option_map Bound (number_of value)
-    else (if bytes_eq name (codes "version") then option_map Version (field_text value)
-    else (if bytes_eq name (codes "wants") then option_map Wanted (part_of value) else None))
+    else (if bytes_eq name (codes "version") then option_map Version (field_text value) else None)
 
 abbrev pub setting_in : List ℕ → Option (List ℕ × List ℕ) → Option Setting
 setting_in text None = setting_alone text

@@ -11,7 +11,7 @@ ghost use Rattle.scl_cl.specs.AnswerTexts.{text_of};
 ghost use Rattle.scl_reader.specs.AnswersGiven.{answer_of};
 ghost use Rattle.scl_reader.specs.QuestionsGiven.{given};
 ghost use Rattle.scl_describe.specs.SettingsRead.{settings_by};
-ghost use Rattle.scl_describe.specs.Descriptions.{runs_entry, pair_fields, environment_entry, hazards_entry, kept_for, told_entries, wants_entry, question_entries, refused_entries, runs_for, too_many_entries, undone_entries, version_entry};
+ghost use Rattle.scl_describe.specs.Descriptions.{runs_entry, pair_fields, environment_entry, hazards_entry, told_entries, wants_entry, question_entries, refused_entries, runs_for, too_many_entries, undone_entries, version_entry};
 ghost use Rattle.scl_hazards.specs.Told.{given as given_told};
 ghost use Rattle.scl_key.specs.Views.{run_words_of};
 ghost use Rattle.scl_describe.specs.EffectRows.{effect_entries, effect_entry, row_name};
@@ -93,7 +93,7 @@ fn push_questions(text: &mut Vec<u8>, questions: &Questions) -> Mem<()>
     Ok(())
 }
 
-/// The words of the runs of the preprocessor that settings ask for, if they are wanted.
+/// The words of the runs of the preprocessor that settings ask for.
 fn settings_runs(
     alloc: Global,
     compiler: Compiler,
@@ -102,9 +102,6 @@ fn settings_runs(
 ) -> Mem<Vec<Vec<Vec<u8>>>>
     ensures { IfOk result (λ runs. runs_of runs.items ≡ runs_for (settings_by settings.now) compiler (parsed_of parsed.now)) }
 {
-    if !settings.wanted().runs {
-        return Ok(Vec::new(alloc));
-    }
     compiler.preprocess_runs_with(
         alloc,
         copy_text(alloc, &settings.version)?,
@@ -113,25 +110,6 @@ fn settings_runs(
         settings.rewrite_includes_only,
         settings.cache_mode,
     )
-}
-
-/// Appends the rows of a key, or of why there is none, if they are wanted.
-fn push_keeping(
-    alloc: Global,
-    text: &mut Vec<u8>,
-    compiler: Compiler,
-    settings: &Settings,
-    words: RunWords<'_>,
-    told: &Told<'_>,
-    compilation: &Compilation,
-) -> Mem<()>
-    ensures { OnOk result (text.new.items ≡ text.old.items ++ entries_text (kept_for (settings_by settings.now) compilation.now.cacheable compiler (run_words_of words.entry) (given_told told.now) (pairs_of compilation.now.command.env_vars.items) (parsed_of compilation.now.parsed))) }
-{
-    if settings.wanted().key {
-        push_kept(alloc, text, compiler, words, told, compilation)
-    } else {
-        Ok(())
-    }
 }
 
 /// Appends the rows of a command line that has a command.
@@ -144,13 +122,13 @@ fn push_compilation(
     told: &Told<'_>,
     compilation: &Compilation,
 ) -> Mem<()>
-    ensures { OnOk result (text.new.items ≡ text.old.items ++ entries_text (compilation_entries (settings_by settings.now) compiler (run_words_of words.entry) (given_told told.now) compilation.now)) }
+    ensures { OnOk result (text.new.items ≡ text.old.items ++ entries_text (compilation_entries (runs_for (settings_by settings.now) compiler) compiler (run_words_of words.entry) (given_told told.now) compilation.now)) }
 {
     push_record(text, &compilation.parsed)?;
     let runs = settings_runs(alloc, compiler, settings, &compilation.parsed)?;
     push_runs(text, &runs)?;
     push_environment(text, &compilation.command.env_vars)?;
-    push_keeping(alloc, text, compiler, settings, words, told, compilation)?;
+    push_kept(alloc, text, compiler, words, told, compilation)?;
     Ok(())
 }
 
@@ -187,7 +165,7 @@ fn push_outcome(
     words: RunWords<'_>,
     findings: &Findings<'_>,
 ) -> Mem<()>
-    ensures { OnOk result (text.new.items ≡ text.old.items ++ entries_text (outcome_given (settings_by settings.now) compiler (run_words_of words.entry) (given_told findings.now.told) (refused_at (map told findings.now.rows.items)) findings.now.answer)) }
+    ensures { OnOk result (text.new.items ≡ text.old.items ++ entries_text (outcome_given (runs_for (settings_by settings.now) compiler) compiler (run_words_of words.entry) (given_told findings.now.told) (refused_at (map told findings.now.rows.items)) findings.now.answer)) }
 {
     let at = refused_at(&findings.rows);
     match &findings.answer {
@@ -223,8 +201,7 @@ fn row_name(verb: Verb, is_like: bool) -> &'static str
         (Verb::Writes, false) => "writes",
         (Verb::Writes, true) => "writes-like",
         (Verb::Asks, _) => "asks",
-        (Verb::Loads, false) => "loads",
-        (Verb::Loads, true) => "loads-like",
+        (Verb::Loads, _) => "loads",
     }
 }
 
@@ -272,7 +249,7 @@ pub(crate) fn description_text(
     words: &[Vec<u8>],
     findings: &Findings<'_>,
 ) -> Mem<Vec<u8>>
-    ensures { IfOk result (λ text. text.items ≡ text_of (answer_of findings.now.answer) ++ entries_text (entries_given (settings_by settings.now) compiler (run_words_by (words_of words.now) findings.now.told.hazards.items) findings.now)) }
+    ensures { IfOk result (λ text. text.items ≡ text_of (answer_of findings.now.answer) ++ entries_text (entries_given (runs_for (settings_by settings.now) compiler) compiler (run_words_by (words_of words.now) findings.now.told.hazards.items) findings.now)) }
 {
     let words = run_words_by(words, &findings.told.hazards);
     let mut text = answer_text(alloc, &findings.answer)?;

@@ -12,17 +12,15 @@ ghost use Rattle.scl_cl.specs.Transfers.{Gave};
 ghost use Rattle.scl_describe.specs.SettingsRead.{settings_by};
 ghost use Rattle.scl_hazards.specs.Hazards.{tables_of};
 ghost use Rattle.scl_hazards.specs.Told.{given as given_told};
-ghost use Rattle.scl_describe.specs.Descriptions.{DescribesBytes, description};
+ghost use Rattle.scl_describe.specs.Descriptions.{IsDescription, DescribesBytes, runs_for};
 ghost use Rattle.scl_describe.specs.DescriptionsGiven.{AreFound, IsTextOf};
 ghost use Rattle.scl_describe.specs.Hazards.{told_in};
 ghost use Rattle.scl_describe.specs.OptionRows.{rows_in};
-ghost use Rattle.scl_describe.specs.Wants.{if_wanted, questions_if, told_if};
 
 use crate::about::known_of;
 use crate::described::{Findings, description_text, too_many_words};
-use crate::found::{questions_wanted, rows_wanted, told_wanted};
+use crate::found::{rows_of, told_of};
 use crate::settings::{Settings, read_settings};
-use crate::wants::Wants;
 use scl_cl::{Counted, Outcome, Request, Service, read_request, serve};
 use scl_hazards::{Known, Tables, Told};
 use scl_reader::{CommandLine, Compiler, Questions, Reading};
@@ -31,21 +29,20 @@ use scl_text::{Mem, TooManyWords};
 use std::alloc::Global;
 use std::io::{Read, Write};
 
-/// What is described of a reading beside its answer, as far as it is wanted: its rows, what is told of it and its questions.
+/// What is described of a reading beside its answer: its rows, what is told of it and its questions.
 fn beside<'a>(
     alloc: Global,
     known: &Known<'a>,
-    wants: Wants,
     reading: &Reading,
     line: &CommandLine<'_>,
 ) -> Mem<(Vec<Row>, Told<'a>, Questions)>
-    ensures rows { IfOk result (λ found. map told found.0.items ≡ if_wanted wants.options (rows_in reading.now)) }
-    ensures told { IfOk result (λ found. given_told found.1 ≡ told_if wants (told_in known.now (given_by line.now) reading.now)) }
-    ensures questions { IfOk result (λ found. given found.2 ≡ questions_if wants (questions_in (given_by line.now) reading.now)) }
+    ensures rows { IfOk result (λ found. map told found.0.items ≡ rows_in reading.now) }
+    ensures told { IfOk result (λ found. given_told found.1 ≡ told_in known.now (given_by line.now) reading.now) }
+    ensures questions { IfOk result (λ found. given found.2 ≡ questions_in (given_by line.now) reading.now) }
 {
-    let rows = rows_wanted(alloc, wants, reading)?;
-    let told = told_wanted(alloc, wants, known, reading, line)?;
-    let questions = questions_wanted(alloc, wants, reading, line)?;
+    let rows = rows_of(alloc, reading)?;
+    let told = told_of(alloc, known, reading, line)?;
+    let questions = reading.questions(alloc, line)?;
     Ok((rows, told, questions))
 }
 
@@ -53,13 +50,12 @@ fn beside<'a>(
 fn findings_of<'a>(
     alloc: Global,
     known: &Known<'a>,
-    wants: Wants,
     reading: Reading,
     line: &CommandLine<'_>,
 ) -> Mem<Findings<'a>>
-    ensures { IfOk result (AreFound known.now wants reading (given_by line.now)) }
+    ensures { IfOk result (AreFound known.now reading (given_by line.now)) }
 {
-    let (rows, told, questions) = match beside(alloc, known, wants, &reading, line) {
+    let (rows, told, questions) = match beside(alloc, known, &reading, line) {
         Ok(found) => found,
         Err(refused) => {
             drop(reading);
@@ -84,9 +80,9 @@ fn reading_text(
     reading: Reading,
     line: &CommandLine<'_>,
 ) -> Mem<Vec<u8>>
-    ensures { IfOk result (λ text. IsTextOf known.now (settings_by settings.now) compiler reading (given_by line.now) text.items) }
+    ensures { IfOk result (λ text. IsTextOf known.now (runs_for (settings_by settings.now) compiler) compiler reading (given_by line.now) text.items) }
 {
-    let findings = findings_of(alloc, known, settings.wanted(), reading, line)?;
+    let findings = findings_of(alloc, known, reading, line)?;
     let text = description_text(alloc, compiler, settings, line.words, &findings)?;
     Ok(text)
 }
@@ -99,7 +95,7 @@ fn request_description(
     settings: &Settings,
     request: &Request,
 ) -> Mem<Vec<u8>>
-    ensures { IfOk result (λ text. text.items ≡ description (tables_of tables.now) (settings_by settings.now) (asked_by request.now)) }
+    ensures { IfOk result (λ text. IsDescription (tables_of tables.now) (settings_by settings.now) (asked_by request.now) text.items) }
 {
     let (compiler, line) = (request.compiler, request.line());
     match compiler.read(alloc, &line, settings.bound)? {

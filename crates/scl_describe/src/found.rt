@@ -5,13 +5,9 @@ ghost use Rattle.scl_reader.specs.CommandLines.{given_by};
 ghost use Rattle.scl_hazards.specs.Told.{given};
 ghost use Rattle.scl_describe.specs.Hazards.{hazards_in, told_in};
 ghost use Rattle.scl_describe.specs.OptionRows.{rows_in};
-ghost use Rattle.scl_describe.specs.Wants.{if_wanted, questions_if, told_if};
-ghost use Rattle.scl_reader.specs.Questions.{questions_in};
-ghost use Rattle.scl_reader.specs.QuestionsGiven.{given as given_questions};
 
-use crate::wants::Wants;
 use scl_hazards::{Hazard, Known, Told, diab_told, gnu_told, msvc_told, tasking_told};
-use scl_reader::{CommandLine, Questions, Reading};
+use scl_reader::{CommandLine, Reading};
 use scl_rows::{Row, gnu_rows, msvc_rows, small_rows};
 use scl_text::Mem;
 use std::alloc::Global;
@@ -50,58 +46,6 @@ pub fn told_of<'a>(
         Reading::Msvc(msvc) => msvc_told(alloc, known, msvc, line.environment),
         Reading::Diab(diab) => diab_told(alloc, known, diab),
         Reading::Tasking(tasking) => tasking_told(alloc, known, tasking),
-    }
-}
-
-/// The rows of options, if they are wanted.
-pub(crate) fn rows_wanted(alloc: Global, wants: Wants, reading: &Reading) -> Mem<Vec<Row>>
-    ensures { IfOk result (λ rows. map told rows.items ≡ if_wanted wants.options (rows_in reading.now)) }
-{
-    if wants.options {
-        rows_of(alloc, reading)
-    } else {
-        Ok(Vec::new(alloc))
-    }
-}
-
-/// What is told, if it is wanted, or the key, which is judged by it.
-pub(crate) fn told_wanted<'a>(
-    alloc: Global,
-    wants: Wants,
-    known: &Known<'a>,
-    reading: &Reading,
-    line: &CommandLine<'_>,
-) -> Mem<Told<'a>>
-    ensures { IfOk result (λ told. given told ≡ told_if wants (told_in known.now (given_by line.now) reading.now)) }
-{
-    if wants.tables || wants.key {
-        told_of(alloc, known, reading, line)
-    } else {
-        Ok(Told {
-            hazards: Vec::new(alloc),
-            effects: Vec::new(alloc),
-            unknown: None,
-        })
-    }
-}
-
-/// The questions, if they are wanted.
-pub(crate) fn questions_wanted(
-    alloc: Global,
-    wants: Wants,
-    reading: &Reading,
-    line: &CommandLine<'_>,
-) -> Mem<Questions>
-    ensures { IfOk result (λ asked. given_questions asked ≡ questions_if wants (questions_in (given_by line.now) reading.now)) }
-{
-    if wants.questions {
-        reading.questions(alloc, line)
-    } else {
-        Ok(Questions {
-            files: Vec::new(alloc),
-            directories: Vec::new(alloc),
-            existing: Vec::new(alloc),
-        })
     }
 }
 

@@ -9,7 +9,6 @@ mod keeping;
 pub mod laws;
 mod option_lines;
 mod settings;
-mod wants;
 
 pub use about::About;
 pub use descriptions::{Descriptions, describe};

@@ -2,10 +2,9 @@
 ghost use Rattle.std.specs.Prelude.{◌≡◌, ◌++◌, IfOk, OnOk, string_bytes};
 ghost use Rattle.std.specs.Option.{option_map};
 ghost use Rattle.scl_description.specs.Lines.{line, lines_of};
-ghost use Rattle.scl_describe.specs.Settings.{no_settings, with_setting, with_line, blanked, with_digit, number_of, setting_alone, setting_with, setting_of, settings_in, field_text, request_lines, wanted};
+ghost use Rattle.scl_describe.specs.Settings.{no_settings, with_setting, with_line, blanked, with_digit, number_of, setting_alone, setting_with, setting_of, settings_in, field_text, request_lines};
 ghost use Rattle.scl_describe.specs.SettingsRead.{settings_by, set_by};
 
-use crate::wants::{Part, Wants, part_of};
 use scl_description::{cut_at, next_line, read_field};
 use scl_reader::MOST;
 use scl_text::{Mem, from_local_codepage};
@@ -19,7 +18,6 @@ pub(crate) struct Settings {
     pub cache_mode: bool,
     pub version: Option<String>,
     pub bound: usize,
-    pub wants: Option<Wants>,
 }
 
 /// What a line `setting` says.
@@ -30,7 +28,6 @@ enum Setting {
     CacheMode,
     Version(String),
     Bound(usize),
-    Wanted(Part),
 }
 
 impl Settings {
@@ -44,15 +41,7 @@ impl Settings {
             cache_mode: false,
             version: None,
             bound: MOST,
-            wants: None,
         }
-    }
-
-    /// The parts that are wanted.
-    pub(crate) fn wanted(&self) -> Wants
-        ensures { result ≡ wanted (settings_by self.now) }
-    {
-        self.wants.unwrap_or(Wants::everything())
     }
 
     /// Takes what a line says.
@@ -65,9 +54,6 @@ impl Settings {
             Setting::CacheMode => self.cache_mode = true,
             Setting::Version(text) => self.version = Some(text),
             Setting::Bound(words) => self.bound = words,
-            Setting::Wanted(part) => {
-                self.wants = Some(self.wants.unwrap_or(Wants::nothing_more()).with(part));
-            }
         }
     }
 }
@@ -134,8 +120,6 @@ fn setting_with(alloc: Global, name: &[u8], value: &[u8]) -> Mem<Option<Setting>
         Ok(number_of(value).map(Setting::Bound))
     } else if name == b"version".as_slice() {
         Ok(field_text(alloc, value)?.map(Setting::Version))
-    } else if name == b"wants".as_slice() {
-        Ok(part_of(value).map(Setting::Wanted))
     } else {
         Ok(None)
     }

@@ -1,2 +1,0 @@
-pub mod NamingLaws
-pub mod RequestLaws
