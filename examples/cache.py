@@ -9,12 +9,12 @@ from os.path import abspath, basename, dirname, exists, isabs, isdir, isfile, is
 
 VARIABLES, STARTED = os.environb, time.time_ns() - 10**7  # (clocks of file systems are coarse)
 COMMAND, STORE = list(map(os.fsencode, sys.argv[1:])), VARIABLES.get(b"CACHE")
-COMPILERS = re.compile(rb"(?:^|[-/])(gcc|g\+\+|clang|clang\+\+|cl|clang-cl|diab|tasking)(?:-[0-9.]+)?$")
+SERVED = re.compile(rb"(?:^|[-/])(gcc|g\+\+|clang|clang\+\+|cl|clang-cl|diab|tasking)(?:-[0-9.]+)?$")
 STRING = rb'"((?:[^"\\\n]|\\.)*)"'
 MARKER = re.compile(rb"^#(?:line)? \d+ " + STRING + rb"([ \d]*)$", re.M)  # names the file of the lines below it
 LOADED = re.compile(rb"^#pragma GCC pch_preprocess " + STRING, re.M)  # names a precompiled header that was read
 OTHER_TEXT = re.compile(rb"^(?![ \t]*$|# \d|#line|#define|#undef)", re.M)  # what is no blank, marker or macro
-NUMBER = re.compile(rb"\\x\{?([0-9a-fA-F]+)\}?|\\u00([0-9a-fA-F]{2})|\\([0-7]{1,3})")  # a byte
+NUMBER = re.compile(rb"\\x\{?([0-9a-fA-F]+)\}?|\\u00([0-9a-fA-F]{2})|\\([0-7]{1,3})")
 shown = []  # what each run of the preprocessor wrote
 sources = []  # the files that its markers name
 leading = []  # the headers that it includes before any other text
@@ -22,7 +22,7 @@ stamps = {}  # the files that were read, and how each was then
 made = set()  # the absolute paths of the outputs
 
 class KeepNothing(Exception): "The given words are run, and nothing is kept."
-def need(it, why):  # (gives nothing, so that `need(..) or answer` is the answer)
+def need(it, why):  # (gives nothing, so that `need(..) + answer` is the answer)
     if not it: raise KeepNothing(os.fsdecode(why))
 
 # ---- 1. Ask. What the answer wants, and is there, goes into the next request
@@ -32,11 +32,11 @@ def described(*facts):
     answer = subprocess.run([VARIABLES[b"DESCRIBE"]], input=request, stdout=subprocess.PIPE).stdout
     rows = [[unescaped(field) for field in line.split(b" ")] for line in answer.splitlines()]
     is_there = {b"file": isfile, b"dir": isdir, b"exists": lexists}
-    found = [row[1:] for row in rows if row[0] == b"wants" and row[1] in is_there and is_there[row[1]](row[2])]
+    found = [row[1:] for row in rows if row[0] == b"wants" and is_there[row[1]](row[2])]
     more = [b" ".join([it, escaped(at)]) + (b"\t" + escaped(content(at)) if it == b"file" else b"") for it, at in found]
     return described(*facts, *more) if more else rows
 def served_name(path):  # the first on the way of its links, as c++ may be a link to clang++
-    if name := COMPILERS.search(path): return name[1]
+    if name := SERVED.search(path): return name[1]
     file = path if b"/" in path else program_file(path)
     need(islink(file), "the compiler's name")
     return served_name(join(dirname(file), os.readlink(file)))
@@ -83,15 +83,15 @@ def plan(words, source):  # what the driver would start, with the bytes of each 
     need(not ran.returncode, "the plan fails")
     text = re.sub(re.escape(own) + rb'[^\s"]*', b"", ran.stderr)  # (names of temporary files)
     names = [c_string(quoted) or plain for quoted, plain in re.findall(STRING + rb'|([^\s"]+)', text)]
-    names += [it.partition(b"=")[2] for it in names]  # (as in -specs=FILE)
-    names += [program_file(it) for it in re.findall(rb'^ "?([^\s"]+)', text, re.M)]  # (a space begins a command)
+    names += [it.partition(b"=")[2] for it in names]
+    names += [program_file(it) for it in re.findall(rb'^ "?([^\s"]+)', text, re.M)]
     files = sorted({it for it in names if isfile(it) and it != source and abspath(it) not in made})
     for path in files: note(path)
     return text + b"".join(digest(path) + sum_of_program(path) for path in files)
 def preprocessed(words, may_fail):  # what a run writes, also into a file of the cache
     with tempfile.NamedTemporaryFile(dir=STORE) as own:
         ran = quietly([COMMAND[0], *(own.name if word == b"\0" else word for word in words)])
-        if ran.returncode: return need(may_fail and not shown, "no run") or b"-"
+        if ran.returncode: return need(may_fail, "no run") or b"-"
         shown.append(ran.stdout)
         take_markers(ran.stdout)
         return ran.stdout + digest(content(own.name))
@@ -110,7 +110,6 @@ def precompiled(pairs):  # where a search can find a precompiled header: files, 
     headers = leading + of(b"header")
     folders = of(b"folder") + [dirname(it) for it in headers + of(b"beside")]
     folders += [it for name in of(b"variable") for it in VARIABLES.get(name, b"").split(b":")]
-    # a header a/b/c.h is also looked for as b/c.h and c.h
     tails = {header.split(b"/", count)[-1] for header in headers for count in range(header.count(b"/") + 1)}
     paths = {join(it, tail) + b".gch" for it in folders for tail in tails} | {it + b".gch" for it in headers + sources}
     paths |= {join(it, name) for it in paths if isdir(it) for name in os.listdir(it)}
@@ -185,9 +184,7 @@ def is_own(path):  # a link would be replaced, where a compiler writes through i
 def program_file(name): return os.fsencode(shutil.which(name) or b"")
 def quietly(words, more={}):
     return subprocess.run(words, stdin=subprocess.DEVNULL, capture_output=True, env={**VARIABLES, **more})
-def log(what, why):  # (names may be in any encoding)
-    with open(VARIABLES.get(b"CACHE_LOG", os.devnull), "a", errors="surrogateescape") as file:
-        print(what, why, "|", *sys.argv[1:], file=file)
+def log(what, why): print(what, why, "|", *sys.argv[1:], file=open(VARIABLES.get(b"CACHE_LOG", os.devnull), "a"))
 
 # ---- a call
 def call():
@@ -204,7 +201,6 @@ def stop(text, status): sys.exit(print(text, file=sys.stderr) or status)
 
 if not COMMAND or b"DESCRIBE" not in VARIABLES or not STORE or not isdir(STORE): stop(__doc__, 64)
 try: sys.exit(call())
-except (KeepNothing, OSError, ValueError) as why:  # (a word with a NUL, which only a file can have, is a ValueError)
-    log("given", why)  # what can't be written, the compiler says in its words
+except (KeepNothing, OSError) as why: log("given", why)  # what can't be written, the compiler says in its words
 try: os.execvp(COMMAND[0], COMMAND)
 except OSError as error: stop(f"cache.py: {sys.argv[1]}: {error.strerror}", 127)

@@ -121,7 +121,7 @@ static Bytes folder_of(const Bytes &path) { return fs::path(path).parent_path().
 static Bytes inside(const Bytes &folder, const Bytes &name) { return (fs::path(folder) / name).string(); }
 static Words files_in(const Bytes &folder) {
     std::set<Bytes> all;
-    for (fs::directory_iterator it(folder, ignored), end; it != end; it.increment(ignored)) all.insert(it->path().string());
+    for (const auto &it : fs::directory_iterator(folder, ignored)) all.insert(it.path().string());
     return Words(all.begin(), all.end());
 }
 static Bytes content(const Bytes &path) {
@@ -131,22 +131,19 @@ static Bytes content(const Bytes &path) {
     return text;
 }
 
-static int64_t nanoseconds(const timespec &it) { return int64_t(it.tv_sec) * 1000000000 + it.tv_nsec; }
-static int64_t now() { timespec it; return clock_gettime(CLOCK_REALTIME, &it), nanoseconds(it); }
-static const int64_t started = now() - 10000000;  // (clocks of file systems are coarse)
-
-// What ends the names of this process's own files. Two containers with one store have the same process numbers.
-static const Bytes mine = "." + std::to_string(getpid()) + "." + std::to_string(now());
-
 // Writes another file first, and renames it: nobody sees a part of it, and a link is replaced, not followed.
 static bool write_file(const Bytes &path, const Bytes &text) {
-    const Bytes part = path + mine;
+    const Bytes part = path + "." + std::to_string(getpid());
     const int file = open(part.c_str(), O_WRONLY | O_CREAT | O_EXCL | O_CLOEXEC, 0666);
     if (file < 0) return false;
     const bool is_whole = write(file, text.data(), text.size()) == ssize_t(text.size());
     if (!close(file) && is_whole && !rename(part.c_str(), path.c_str())) return true;
     return unlink(part.c_str()), false;
 }
+
+static int64_t nanoseconds(const timespec &it) { return int64_t(it.tv_sec) * 1000000000 + it.tv_nsec; }
+static int64_t now() { timespec it; return clock_gettime(CLOCK_REALTIME, &it), nanoseconds(it); }
+static const int64_t started = now() - 10000000;  // (clocks of file systems are coarse)
 
 // What changes with a file, and when it last changed. If there is none, `text` is empty.
 struct Stamp {
@@ -199,23 +196,18 @@ static void put(const Bytes &name, const Words &parts) {
     write_file(place_of(name), sum_of(packed(parts)) + " " + packed(parts));
 }
 
-// If the store is too large, what was not used for longest goes, until four fifths are left. It is named as an entry, and
-// stands where one does: the folder may have other files too, and nobody wants these removed.
+// If the store is too large, what was not used for longest goes, until four fifths are left.
 static void remove_oldest() {
-    std::vector<std::tuple<int64_t, double, Bytes>> all;
+    std::vector<std::tuple<fs::file_time_type, double, fs::path>> all;
     double size = 0, limit = getenv("CACHE_SIZE") ? atof(getenv("CACHE_SIZE")) : 5e9;
-    for (const Bytes &folder : files_in(store))
-        for (const Bytes &path : files_in(folder)) {
-            const Stamp is(path);
-            const Bytes name = fs::path(path).filename().string();
-            const bool is_entry = fs::path(folder).filename() == name.substr(0, 2) && matches(name, "^[0-9]+[.][0-9]+");
-            if (is.kind != S_IFREG || !is_entry) continue;
-            all.emplace_back(is.changed, is.size, path);
-            size += double(is.size);
-        }
+    for (const auto &it : fs::recursive_directory_iterator(store, ignored)) {
+        if (!it.is_regular_file(ignored)) continue;
+        all.emplace_back(it.last_write_time(ignored), it.file_size(ignored), it.path());
+        size += std::get<1>(all.back());
+    }
     std::sort(all.begin(), all.end());
     for (size_t i = 0; i < all.size() && size > limit * (i ? 0.8 : 1); size -= std::get<1>(all[i++]))
-        unlink(std::get<2>(all[i]).c_str());
+        fs::remove(std::get<2>(all[i]), ignored);
 }
 
 // ---- memory: what was found is kept with all that was looked at for it, and holds while all that is as it was
@@ -308,7 +300,7 @@ static Ran run(const Words &words, bool is_quiet, Bytes variable = "") {
     for (const Bytes &it : words) all.push_back(const_cast<char *>(it.c_str()));
     all.push_back(nullptr);
     const int out = memfd_create("out", MFD_CLOEXEC), err = memfd_create("err", MFD_CLOEXEC);
-    const pid_t child = out < 0 || err < 0 ? -1 : fork();
+    const pid_t child = fork();
     if (!child) {
         if (!variable.empty()) putenv(&variable[0]);
         if (is_quiet) dup2(open("/dev/null", O_RDONLY), 0);
@@ -317,7 +309,7 @@ static Ran run(const Words &words, bool is_quiet, Bytes variable = "") {
         _exit(errno == ENOENT ? 127 : 126);
     }
     int status = 0;
-    need(child > 0 && waitpid(child, &status, 0) == child, "a program can't be started");
+    need(waitpid(child, &status, 0) == child, "a program can't be started");
     const auto taken = [](int file) { return content("/proc/self/fd/" + std::to_string(file)); };
     return {WIFEXITED(status) ? WEXITSTATUS(status) : 128 + WTERMSIG(status), taken(out), taken(err)};
 }
@@ -499,8 +491,7 @@ struct Key {
     }
 
     // What is found with the compiler's driver. One takes 2 to 30 milliseconds to start; so it is remembered for the
-    // words and all variables, while what the driver looks at is as it was. What a script looks at, nobody knows; nor what
-    // a program does that starts the driver, as ccache by the name gcc.
+    // words and all variables, while what the driver looks at is as it was. What a script looks at, nobody knows.
     template <class Find> Bytes of_driver(const Words &words, Find find) const {
         const Bytes program = program_of(compiler);
         if (is_script(program)) return find();
@@ -520,20 +511,12 @@ struct Key {
     Bytes ask_where_it_searches(const Words &flags) const {
         const Ran ran = run(Words{compiler, "-###", "-print-search-dirs"} + flags, true, "LC_ALL=C");
         const Words lists = cut(ran.out, "^(install|programs|libraries): .*$").found;
-        if (ran.status || lists.size() < 2 || !is_of_driver_itself(ran.err)) return "";
+        if (ran.status || lists.size() < 2) return "";
         for (const Bytes &folder : folders_of_path()) ask('=', folder);
         for (const Bytes &list : lists)
             for (const Bytes &folder : cut(without(list, "^[a-z]+: =?"), ":").between)
                 ask('=', folder), ask('=', inside(folder, ".."));
         return ran.out;
-    }
-
-    // A driver says how it was called, or in which folder it stands.
-    bool is_of_driver_itself(const Bytes &text) const {
-        const Bytes program = program_of(compiler), file = fs::canonical(program, ignored).string();
-        const Words itself = {"COLLECT_GCC=" + compiler, "InstalledDir: " + folder_of(program), "InstalledDir: " + folder_of(file)};
-        const Words names = cut(text, "^(COLLECT_GCC=|InstalledDir: ).*$").found;
-        return std::any_of(names.begin(), names.end(), [&](const Bytes &it) { return has(itself, it); });
     }
 
     // What the driver would start, and the bytes of each program and file that it names.
@@ -560,7 +543,7 @@ struct Key {
 
     // What the preprocessor writes, also into a file of the cache's own.
     Bytes preprocessed(Words words) {
-        const Bytes own = store + "/own" + mine;
+        const Bytes own = store + "/own." + std::to_string(getpid());
         std::replace(words.begin(), words.end(), Bytes(1, '\0'), own);
         const Ran ran = run(Words{compiler} + words, true);
         const Bytes written = is_file(own) ? content(own) : "";
@@ -695,7 +678,6 @@ static int compile(const Key &key, const Bytes &name, bool &is_kept) {
     for (const Bytes &it : recalled) if (it[0] == '=') note(it.substr(1));
     for (const auto &it : key.outputs) before[it.first] = Stamp(it.first).text;
     const Ran ran = run(Words{key.compiler} + key.command, false);
-    need(ran.status != 126 && ran.status != 127, "it can't be started");  // (it may have too many words)
     fwrite(ran.out.data(), 1, ran.out.size(), stdout);
     show(ran.err, key);
     is_kept = !ran.status && ran.out.empty() && is_as_it_was();
@@ -737,7 +719,7 @@ static int print_counts() {
 }
 // Writes down the rows that the last miss of the same output did not have, or with another answer.
 static void note_why(const Key &key) {
-    const Bytes name = sum_of("why" + packed(Words(made.begin(), made.end())));
+    const Bytes name = sum_of("why" + *made.begin());
     Words now, before;
     get(name, before);
     std::ofstream why(store + "/why");
@@ -765,8 +747,8 @@ static int call(char **words) try {
 }
 
 int main(int number, char **words) {
-    const Bytes first = number > 1 ? words[1] : "-", named = value_of("CACHE").substr(1), home = value_of("HOME").substr(1);
-    store = whole(named.empty() ? home + "/.cache/scl" : named);
+    const Bytes first = number > 1 ? words[1] : "-", home = getenv("HOME") ? getenv("HOME") : "/tmp";
+    store = whole(getenv("CACHE") ? getenv("CACHE") : home + "/.cache/scl");
     fs::create_directories(store, ignored);
     if (first == "--stats") return print_counts();
     if (first == "--why") return printf("%s", is_file(store + "/why") ? content(store + "/why").c_str() : ""), 0;

@@ -3,12 +3,11 @@
 
 use bumpalo::Bump;
 use scl_catalogue_default::built_in_entries;
-use scl_catalogue_text::{BadLine, ReadError, read};
+use scl_catalogue_text::{ReadError, read};
 use scl_cl::{Counted, Outcome, serve, serve_each};
 use scl_describe::{Catalogue, Entry, Tables};
 use scl_effects_default::plain_names;
 use scl_requests::Requests;
-use std::alloc::AllocError;
 use std::io::{self, ErrorKind};
 use std::process::ExitCode;
 use std::{env, fs};
@@ -131,28 +130,6 @@ fn refuse_file(rt: &HostRuntime, path: &str, error: &io::Error) -> u8 {
     Outcome::ReadFailed.status()
 }
 
-/// The wrong line of a text with the word that is wrong.
-fn wrong_line(rt: &HostRuntime, text: &[u8], bad: BadLine) -> Result<String, AllocError> {
-    match bad.word(rt.alloc(), text)? {
-        Some(word) => {
-            let word = String::from_utf8_lossy(rt.alloc(), word)?;
-            Ok(format!(in rt.alloc(); "{}: {word}: {}", bad.line, bad.mistake)?)
-        }
-        None => Ok(format!(in rt.alloc(); "{}: {}", bad.line, bad.mistake)?),
-    }
-}
-
-/// Tells the first wrong line of a catalogue, and gives the status.
-fn refuse_line(rt: &HostRuntime, path: &str, text: &[u8], bad: BadLine) -> u8 {
-    match wrong_line(rt, text, bad) {
-        Ok(line) => {
-            let _ = eprintln!(rt; "describe: {path}:{line}");
-            65
-        }
-        Err(_) => tell(rt, Outcome::OutOfMemory),
-    }
-}
-
 /// Describes by the catalogue of a file, or tells its first wrong line, and gives the status.
 fn describe_by_file(rt: &HostRuntime, path: &str, is_batch: bool) -> u8 {
     let text = match fs::read(rt, path) {
@@ -162,7 +139,10 @@ fn describe_by_file(rt: &HostRuntime, path: &str, is_batch: bool) -> u8 {
     let arena = Bump::new(rt.alloc());
     match read(rt.alloc(), &arena, &text) {
         Ok(catalogue) => describe_by(rt, &catalogue, is_batch),
-        Err(ReadError::BadLine(bad)) => refuse_line(rt, path, &text, bad),
+        Err(ReadError::BadLine(bad)) => {
+            let _ = eprintln!(rt; "describe: {path}:{}: {}", bad.line, bad.mistake);
+            65
+        }
         Err(ReadError::Memory) => tell(rt, Outcome::OutOfMemory),
     }
 }

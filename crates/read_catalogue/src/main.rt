@@ -4,7 +4,7 @@
 use bumpalo::Bump;
 use scl_catalogue::Catalogue;
 use scl_catalogue_default::built_in_entries;
-use scl_catalogue_text::{BadLine, ReadError, read};
+use scl_catalogue_text::{ReadError, read};
 use std::alloc::Global;
 use std::process::ExitCode;
 use std::{env, fs};
@@ -31,18 +31,6 @@ fn is_built_in(alloc: Global, catalogue: &Catalogue<'_>) -> anyhow::Result<bool>
     Ok(one == other)
 }
 
-/// Prints the first wrong line of a text, with the word that is wrong.
-fn print_bad_line(rt: &HostRuntime, path: &str, text: &[u8], bad: BadLine) -> anyhow::Result<()> {
-    match bad.word(rt.alloc(), text)? {
-        Some(word) => {
-            let word = String::from_utf8_lossy(rt.alloc(), word)?;
-            println!(rt; "{path}:{}: {word}: {}", bad.line, bad.mistake)?;
-        }
-        None => println!(rt; "{path}:{}: {}", bad.line, bad.mistake)?,
-    }
-    Ok(())
-}
-
 /// Whether the file is a catalogue; what it holds, or why not, is printed.
 fn is_right(rt: &HostRuntime, path: &str) -> anyhow::Result<bool> {
     let text = match fs::read(rt, path) {
@@ -65,7 +53,7 @@ fn is_right(rt: &HostRuntime, path: &str) -> anyhow::Result<bool> {
             Ok(true)
         }
         Err(ReadError::BadLine(bad)) => {
-            print_bad_line(rt, path, &text, bad)?;
+            println!(rt; "{path}:{}: {}", bad.line, bad.mistake)?;
             Ok(false)
         }
         Err(ReadError::Memory) => {

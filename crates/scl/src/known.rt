@@ -42,16 +42,10 @@ fn answer_with<'a>(
     answer(rt, about, wanted)
 }
 
-/// Tells the first wrong line of a catalogue, with the word that is wrong.
-fn wrong_line(rt: &HostRuntime, path: &str, text: &[u8], bad: BadLine) -> Result<Ending, Fault> {
+/// Tells the first wrong line of a catalogue.
+fn wrong_line(rt: &HostRuntime, path: &str, bad: BadLine) -> Result<Ending, Fault> {
     let name = name_of(rt, path)?;
-    let line = match bad.word(rt.alloc(), text)? {
-        Some(word) => {
-            let word = String::from_utf8_lossy(rt.alloc(), word)?;
-            format!(in rt.alloc(); "{name}:{}: {word}: {}", bad.line, bad.mistake)?
-        }
-        None => format!(in rt.alloc(); "{name}:{}: {}", bad.line, bad.mistake)?,
-    };
+    let line = format!(in rt.alloc(); "{name}:{}: {}", bad.line, bad.mistake)?;
     warn(rt, &line);
     Ok(Ending::Usage)
 }
@@ -67,7 +61,7 @@ fn answer_by_text<'a>(
 ) -> Result<Ending, Fault> {
     match read(rt.alloc(), arena, text) {
         Ok(catalogue) => answer_with(rt, &catalogue, version, wanted),
-        Err(ReadError::BadLine(bad)) => wrong_line(rt, path, text, bad),
+        Err(ReadError::BadLine(bad)) => wrong_line(rt, path, bad),
         Err(ReadError::Memory) => Err(Fault::Memory),
     }
 }

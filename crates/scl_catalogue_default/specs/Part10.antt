@@ -5,12 +5,6 @@ use Rattle.scl_catalogue_default.specs.Words.{is, begins, text, test, unnamed, a
 use Rattle.scl_catalogue.specs.declared.case.Compiler.TheVariants as compiler
 use Rattle.scl_catalogue.specs.declared.test.Class.TheVariants as class
 
-unfoldable pub option_of_cl_entry : Entry
-option_of_cl_entry = entry Plain (codes "option-of-cl")
-    (codes "Clang-cl reads and writes no other file for it.") (
-    case (meant compiler.ClangCl None None ∷ []) (asked (Given (Any (unnamed (test class.Kind (text (is (codes "pass-through") ∷ is (codes "pass-through-with-suffix") ∷ []) []) [] ∷ test class.Flag (text (begins (codes "-external:") ∷ begins (codes "/external:") ∷ []) []) [] ∷ [])))) ∷ []) ∷
-    [])
-
 unfoldable pub inner_words_entry : Entry
 inner_words_entry = entry Plain (codes "inner-words")
     (codes "It changes what is compiled, and no file.") (
@@ -31,4 +25,4 @@ options_of_others_entry = entry Plain (codes "options-of-others")
     [])
 
 unfoldable pub part_10 : List Entry
-part_10 = option_of_cl_entry ∷ inner_words_entry ∷ option_of_microsoft_entry ∷ options_of_others_entry ∷ []
+part_10 = inner_words_entry ∷ option_of_microsoft_entry ∷ options_of_others_entry ∷ []

@@ -44,15 +44,6 @@ words_for_assembler_entry = entry (Effect verb.Reads (codes "*")) (codes "words-
     case (meant compiler.Gcc None None ∷ meant compiler.Clang None None ∷ []) (asked (Given (Any (unnamed (test class.Unknown (text (begins (codes "-Wa,@") ∷ []) []) [] ∷ test class.Flag (text (is (codes "-Xassembler") ∷ []) []) (Value (text (begins (codes "@") ∷ []) []) ∷ []) ∷ [])))) ∷ []) ∷
     [])
 
-unfoldable pub modules_of_a_module_entry : Entry
-modules_of_a_module_entry = entry (Effect verb.Reads (codes "*")) (codes "modules-of-a-module")
-    (codes "The files of the modules that a module imports are read from the places that its own file names.") (
-    case (meant compiler.Clang None (Some (version 19 0)) ∷ []) (asked (Given (Any (unnamed (test class.Kind (text (is (codes "extra-hash-file-clang-module-file") ∷ []) []) [] ∷ [])))) ∷ []) ∷
-    case (meant compiler.Clang None (Some (version 19 0)) ∷ []) (asked (Inner (Any (unnamed (test class.Kind (text (is (codes "extra-hash-file-clang-module-file") ∷ []) []) [] ∷ [])))) ∷ []) ∷
-    case (meant compiler.ClangCl None (Some (version 19 0)) ∷ []) (asked (Given (Any (unnamed (test class.Kind (text (is (codes "clang-module-file") ∷ []) []) [] ∷ [])))) ∷ []) ∷
-    case (meant compiler.ClangCl None (Some (version 19 0)) ∷ []) (asked (Inner (Any (unnamed (test class.Kind (text (is (codes "extra-hash-file-clang-module-file") ∷ []) []) [] ∷ [])))) ∷ []) ∷
-    [])
-
 unfoldable pub plugin_entry : Entry
 plugin_entry = entry (Effect verb.Loads (codes "{value}")) (codes "plugin")
     (codes "The compiler is changed by code of the library.") (
@@ -122,5 +113,11 @@ diagnostics_entry = entry (Effect verb.Writes (codes "{value}")) (codes "diagnos
     case (meant compiler.Clang None None ∷ []) (asked (Given (Any (unnamed (test class.Flag (text (is (codes "--serialize-diagnostics") ∷ []) []) [] ∷ [])))) ∷ []) ∷
     [])
 
+unfoldable pub interface_stubs_entry : Entry
+interface_stubs_entry = entry (Effect verb.Writes (codes "{object-stem}.ifs")) (codes "interface-stubs")
+    (codes "Stubs of the interface are written.") (
+    case (meant compiler.Clang None None ∷ []) (asked (Given (Any (unnamed (test class.Unknown (text (is (codes "-emit-interface-stubs") ∷ []) []) [] ∷ [])))) ∷ []) ∷
+    [])
+
 unfoldable pub part_6 : List Entry
-part_6 = index_of_link_entry ∷ cached_stats_entry ∷ precompiled_header_entry ∷ header_compiled_before_entry ∷ file_of_mapped_name_entry ∷ words_for_assembler_entry ∷ modules_of_a_module_entry ∷ plugin_entry ∷ plugin_of_llvm_entry ∷ prototypes_entry ∷ remarks_in_file_entry ∷ optimization_record_entry ∷ optimization_remarks_entry ∷ counts_removed_entry ∷ coverage_notes_entry ∷ coverage_notes_in_file_entry ∷ split_debug_information_entry ∷ diagnostics_entry ∷ []
+part_6 = index_of_link_entry ∷ cached_stats_entry ∷ precompiled_header_entry ∷ header_compiled_before_entry ∷ file_of_mapped_name_entry ∷ words_for_assembler_entry ∷ plugin_entry ∷ plugin_of_llvm_entry ∷ prototypes_entry ∷ remarks_in_file_entry ∷ optimization_record_entry ∷ optimization_remarks_entry ∷ counts_removed_entry ∷ coverage_notes_entry ∷ coverage_notes_in_file_entry ∷ split_debug_information_entry ∷ diagnostics_entry ∷ interface_stubs_entry ∷ []

@@ -6,12 +6,6 @@ use Rattle.scl_catalogue.specs.declared.case.Compiler.TheVariants as compiler
 use Rattle.scl_catalogue.specs.declared.entry.Verb.TheVariants as verb
 use Rattle.scl_catalogue.specs.declared.test.Class.TheVariants as class
 
-unfoldable pub interface_stubs_entry : Entry
-interface_stubs_entry = entry (Effect verb.Writes (codes "{object-stem}.ifs")) (codes "interface-stubs")
-    (codes "Stubs of the interface are written.") (
-    case (meant compiler.Clang None None ∷ []) (asked (Given (Any (unnamed (test class.Unknown (text (is (codes "-emit-interface-stubs") ∷ []) []) [] ∷ [])))) ∷ []) ∷
-    [])
-
 unfoldable pub time_trace_entry : Entry
 time_trace_entry = entry (Effect verb.Writes (codes "{object-stem}.json")) (codes "time-trace")
     (codes "It is written how long the parts of the compiler took.") (
@@ -116,5 +110,11 @@ module_folder_entry = entry (Effect verb.Writes (codes "gcm.cache/*")) (codes "m
     case (meant compiler.Gcc None None ∷ []) (asked (Given (Any (unnamed (test class.Unknown (text (is (codes "-fmodule-header") ∷ begins (codes "-fmodule-header=") ∷ []) []) [] ∷ [])))) ∷ []) ∷
     [])
 
+unfoldable pub messages_in_file_entry : Entry
+messages_in_file_entry = entry (Effect verb.Writes (codes "*")) (codes "messages-in-file")
+    (codes "Messages are written in a form for programs.") (
+    case (meant compiler.Gcc None None ∷ []) (asked (Given (Any (unnamed (test class.Unknown (text (is (codes "-fdiagnostics-format=json-file") ∷ is (codes "-fdiagnostics-format=sarif-file") ∷ begins (codes "-fdiagnostics-add-output=") ∷ begins (codes "-fdiagnostics-set-output=") ∷ []) []) [] ∷ [])))) ∷ []) ∷
+    [])
+
 unfoldable pub part_7 : List Entry
-part_7 = interface_stubs_entry ∷ time_trace_entry ∷ time_trace_in_file_entry ∷ assembler_listing_entry ∷ assembler_dependencies_entry ∷ handed_listing_entry ∷ dependencies_entry ∷ object_of_another_option_entry ∷ final_code_entry ∷ final_code_beside_object_entry ∷ declarations_for_go_entry ∷ declarations_for_ada_entry ∷ dumped_passes_entry ∷ dumped_passes_elsewhere_entry ∷ compared_code_entry ∷ assembly_left_entry ∷ run_times_entry ∷ module_folder_entry ∷ []
+part_7 = time_trace_entry ∷ time_trace_in_file_entry ∷ assembler_listing_entry ∷ assembler_dependencies_entry ∷ handed_listing_entry ∷ dependencies_entry ∷ object_of_another_option_entry ∷ final_code_entry ∷ final_code_beside_object_entry ∷ declarations_for_go_entry ∷ declarations_for_ada_entry ∷ dumped_passes_entry ∷ dumped_passes_elsewhere_entry ∷ compared_code_entry ∷ assembly_left_entry ∷ run_times_entry ∷ module_folder_entry ∷ messages_in_file_entry ∷ []

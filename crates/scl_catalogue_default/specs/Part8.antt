@@ -7,12 +7,6 @@ use Rattle.scl_catalogue.specs.declared.case.Compiler.TheVariants as compiler
 use Rattle.scl_catalogue.specs.declared.entry.Verb.TheVariants as verb
 use Rattle.scl_catalogue.specs.declared.test.Class.TheVariants as class
 
-unfoldable pub messages_in_file_entry : Entry
-messages_in_file_entry = entry (Effect verb.Writes (codes "*")) (codes "messages-in-file")
-    (codes "Messages are written in a form for programs.") (
-    case (meant compiler.Gcc None None ∷ []) (asked (Given (Any (unnamed (test class.Unknown (text (is (codes "-fdiagnostics-format=json-file") ∷ is (codes "-fdiagnostics-format=sarif-file") ∷ begins (codes "-fdiagnostics-add-output=") ∷ begins (codes "-fdiagnostics-set-output=") ∷ []) []) [] ∷ [])))) ∷ []) ∷
-    [])
-
 unfoldable pub dependencies_of_modules_entry : Entry
 dependencies_of_modules_entry = entry (Effect verb.Writes (codes "{value}")) (codes "dependencies-of-modules")
     (codes "Dependencies of modules are written.") (
@@ -138,5 +132,13 @@ machine_entry = entry Plain (codes "machine")
     case (meant compiler.Clang None None ∷ meant compiler.ClangCl None None ∷ []) (asked (Inner (Any (unnamed (test class.Unknown (text (is (codes "-target-feature") ∷ is (codes "-target-cpu") ∷ is (codes "-tune-cpu") ∷ is (codes "-target-abi") ∷ is (codes "-triple") ∷ is (codes "-aux-triple") ∷ is (codes "-target-linker-version") ∷ []) []) [] ∷ [])))) ∷ []) ∷
     [])
 
+unfoldable pub optimization_entry : Entry
+optimization_entry = entry Plain (codes "optimization")
+    (codes "It says how good the code shall be.") (
+    case (meant compiler.Gcc None None ∷ meant compiler.Clang None None ∷ []) (asked (Given (Any (unnamed (test class.Unknown (text (begins (codes "-O") ∷ is (codes "--optimize") ∷ begins (codes "--optimize=") ∷ is (codes "-ffast-math") ∷ []) []) [] ∷ test class.Flag (text (is (codes "--param") ∷ []) []) [] ∷ test class.Unknown (text (begins (codes "--param=") ∷ []) []) [] ∷ [])))) ∷ []) ∷
+    case (meant compiler.ClangCl None None ∷ []) (asked (Given (Any (unnamed (test class.Unknown (text (begins (codes "-O") ∷ begins (codes "/O") ∷ []) []) [] ∷ [])))) ∷ []) ∷
+    case (meant compiler.ClangCl None None ∷ []) (asked (Inner (Any (unnamed (test class.Unknown (text (begins (codes "-O") ∷ begins (codes "--param=") ∷ []) []) [] ∷ test class.Flag (text (is (codes "--param") ∷ []) []) [] ∷ [])))) ∷ []) ∷
+    [])
+
 unfoldable pub part_8 : List Entry
-part_8 = messages_in_file_entry ∷ dependencies_of_modules_entry ∷ logs_of_checked_calls_entry ∷ kept_intermediates_entry ∷ drawn_graphs_entry ∷ statistics_in_file_entry ∷ dependencies_of_inner_words_entry ∷ native_instructions_entry ∷ native_tuning_entry ∷ folder_in_debug_information_entry ∷ folder_of_counts_entry ∷ folder_in_syntax_tree_entry ∷ input_entry ∷ named_by_record_entry ∷ shown_by_preprocessor_entry ∷ named_by_plan_entry ∷ named_by_key_entry ∷ machine_entry ∷ []
+part_8 = dependencies_of_modules_entry ∷ logs_of_checked_calls_entry ∷ kept_intermediates_entry ∷ drawn_graphs_entry ∷ statistics_in_file_entry ∷ dependencies_of_inner_words_entry ∷ native_instructions_entry ∷ native_tuning_entry ∷ folder_in_debug_information_entry ∷ folder_of_counts_entry ∷ folder_in_syntax_tree_entry ∷ input_entry ∷ named_by_record_entry ∷ shown_by_preprocessor_entry ∷ named_by_plan_entry ∷ named_by_key_entry ∷ machine_entry ∷ optimization_entry ∷ []

@@ -6,14 +6,6 @@ use Rattle.scl_catalogue_default.specs.Groups.{debugging_group, not_debugging_gr
 use Rattle.scl_catalogue.specs.declared.case.Compiler.TheVariants as compiler
 use Rattle.scl_catalogue.specs.declared.test.Class.TheVariants as class
 
-unfoldable pub optimization_entry : Entry
-optimization_entry = entry Plain (codes "optimization")
-    (codes "It says how good the code shall be.") (
-    case (meant compiler.Gcc None None ∷ meant compiler.Clang None None ∷ []) (asked (Given (Any (unnamed (test class.Unknown (text (begins (codes "-O") ∷ is (codes "--optimize") ∷ begins (codes "--optimize=") ∷ is (codes "-ffast-math") ∷ []) []) [] ∷ test class.Flag (text (is (codes "--param") ∷ []) []) [] ∷ test class.Unknown (text (begins (codes "--param=") ∷ []) []) [] ∷ [])))) ∷ []) ∷
-    case (meant compiler.ClangCl None None ∷ []) (asked (Given (Any (unnamed (test class.Unknown (text (begins (codes "-O") ∷ begins (codes "/O") ∷ []) []) [] ∷ [])))) ∷ []) ∷
-    case (meant compiler.ClangCl None None ∷ []) (asked (Inner (Any (unnamed (test class.Unknown (text (begins (codes "-O") ∷ begins (codes "--param=") ∷ []) []) [] ∷ test class.Flag (text (is (codes "--param") ∷ []) []) [] ∷ [])))) ∷ []) ∷
-    [])
-
 unfoldable pub warnings_entry : Entry
 warnings_entry = entry Plain (codes "warnings")
     (codes "It says which messages there are.") (
@@ -132,5 +124,11 @@ remarks_entry = entry Plain (codes "remarks")
     case (meant compiler.Gcc None None ∷ []) (asked (Given (Any (unnamed (test class.Unknown (text (begins (codes "-fopt-info") ∷ []) (holds (codes "=") ∷ [])) [] ∷ [])))) ∷ []) ∷
     [])
 
+unfoldable pub option_of_cl_entry : Entry
+option_of_cl_entry = entry Plain (codes "option-of-cl")
+    (codes "Clang-cl reads and writes no other file for it.") (
+    case (meant compiler.ClangCl None None ∷ []) (asked (Given (Any (unnamed (test class.Kind (text (is (codes "pass-through") ∷ is (codes "pass-through-with-suffix") ∷ []) []) [] ∷ test class.Flag (text (begins (codes "-external:") ∷ begins (codes "/external:") ∷ []) []) [] ∷ [])))) ∷ []) ∷
+    [])
+
 unfoldable pub part_9 : List Entry
-part_9 = optimization_entry ∷ warnings_entry ∷ standard_of_language_entry ∷ link_entry ∷ switched_off_entry ∷ debug_information_entry ∷ handed_to_assembler_entry ∷ handed_to_llvm_entry ∷ maps_of_paths_entry ∷ values_of_gcc_and_clang_entry ∷ values_of_gcc_entry ∷ values_of_clang_entry ∷ inner_values_of_both_entry ∷ inner_values_of_clang_entry ∷ values_of_clang_cl_entry ∷ folder_of_notes_entry ∷ crash_entry ∷ remarks_entry ∷ []
+part_9 = warnings_entry ∷ standard_of_language_entry ∷ link_entry ∷ switched_off_entry ∷ debug_information_entry ∷ handed_to_assembler_entry ∷ handed_to_llvm_entry ∷ maps_of_paths_entry ∷ values_of_gcc_and_clang_entry ∷ values_of_gcc_entry ∷ values_of_clang_entry ∷ inner_values_of_both_entry ∷ inner_values_of_clang_entry ∷ values_of_clang_cl_entry ∷ folder_of_notes_entry ∷ crash_entry ∷ remarks_entry ∷ option_of_cl_entry ∷ []

@@ -12,12 +12,11 @@ use Rattle.scl_catalogue.specs.declared.entry.Danger.TheVariants as danger
 use Rattle.scl_catalogue.specs.declared.entry.Verb.{Verb}
 use Rattle.scl_catalogue.specs.declared.entry.Verb.TheVariants as verb
 use Rattle.scl_catalogue_text.specs.Cutting.{first_word, from_mark, other_words, parts, until_mark, words}
-use Rattle.scl_catalogue_text.specs.Files.{has_its_options}
 use Rattle.scl_catalogue_text.specs.Lines.{NewCase, NewEntry, NewGroup, Nothing, Said, Says, SoFar, added, catalogue_so_far, effect_read, group_line_by, group_line_read, hazard_read, line_by, line_read, lines_read, name_read, read, with_last, with_line}
 use Rattle.scl_catalogue_text.specs.Names.{compiler_name, danger_name, danger_named, verb_name, verb_named}
 use Rattle.scl_catalogue_text.specs.Outcome.{after, after_line, at_end, at_line}
 use Rattle.scl_catalogue_text.specs.Reading.{case_read, group_named, tests_read}
-use Rattle.scl_catalogue_text.specs.Writable.{AreCases, AreEntries, AreGroups, CanBeWritten, IsCase, IsEntry, are_tests, has_one, HasWords, is_group_name, is_plain_word, is_served, lacks}
+use Rattle.scl_catalogue_text.specs.Writable.{AreCases, AreEntries, AreGroups, CanBeWritten, IsCase, IsEntry, are_tests, has_one, has_words, is_group_name, is_plain_word, is_served, lacks}
 use Rattle.scl_catalogue_text.specs.Written.{case_text, condition_text, entry_lines, group_line, head_text, joined, lines_of, lines_of_entries, lines_text, spaced, tests_text, written}
 use Rattle.scl_catalogue_text.specs.declared.mistake.BadLine.{BadLine}
 use Rattle.scl_catalogue_text.specs.declared.mistake.Mistake.{Mistake}
@@ -116,14 +115,14 @@ name-read tells name h =
     let cut : words (spaced (name ∷ [])) ≡ name ∷ [] = words-spaced (name ∷ []) (both (plain-unbroken name h) refl) in
     ap (name_read tells) cut
 
-head-written : (gs : List Group) (tells : Tells) (name : List ℕ) → is_plain_word name ≡ true → HasWords tells → line_read gs (head_text tells name) ≡ Ok (NewEntry tells name)
+head-written : (gs : List Group) (tells : Tells) (name : List ℕ) → is_plain_word name ≡ true → has_words tells ≡ true → line_read gs (head_text tells name) ≡ Ok (NewEntry tells name)
 unfolding hazard_read effect_read
 head-written gs (Hazard d) name h k =
     let cut : words (spaced (name ∷ danger_name d ∷ [])) ≡ name ∷ danger_name d ∷ [] = words-spaced (name ∷ danger_name d ∷ []) (both (plain-unbroken name h) (both (danger-name d).unbroken refl)) in
     hazard-head gs (name ++ spaced (danger_name d ∷ [])) ∙ (ap hazard_read cut ∙ rw (danger-name d).read refl)
 head-written gs (Effect v file) name h k =
-    let cut : words (spaced (name ∷ verb_name v ∷ file ∷ [])) ≡ name ∷ verb_name v ∷ file ∷ [] = words-spaced (name ∷ verb_name v ∷ file ∷ []) (both (plain-unbroken name h) (both (verb-name v).unbroken (both (plain-unbroken file k.0) refl))) in
-    effect-head gs (name ++ spaced (verb_name v ∷ file ∷ [])) ∙ (ap effect_read cut ∙ rw ((verb-name v).read, k.1) refl)
+    let cut : words (spaced (name ∷ verb_name v ∷ file ∷ [])) ≡ name ∷ verb_name v ∷ file ∷ [] = words-spaced (name ∷ verb_name v ∷ file ∷ []) (both (plain-unbroken name h) (both (verb-name v).unbroken (both (plain-unbroken file k) refl))) in
+    effect-head gs (name ++ spaced (verb_name v ∷ file ∷ [])) ∙ (ap effect_read cut ∙ rw (verb-name v).read refl)
 head-written gs Reason name h k = reason-head gs (name ++ []) ∙ name-read Reason name h
 head-written gs Plain name h k = plain-head gs (name ++ []) ∙ name-read Plain name h
 
@@ -169,14 +168,14 @@ groups-read (g ∷ gs) above n rest r h k =
 abbrev entry_with : Tells → List ℕ → List ℕ → List Case → Entry
 entry_with tells name says cases = record { tells = tells; name = name; says = says; cases = cases }
 
-cases-read : (cs before : List Case) (gs : List Group) (es : List Entry) (tells : Tells) (name says : List ℕ) (n : ℕ) (rest : List (List ℕ)) (r : Result Catalogue BadLine) → AreCases gs cs → list_all (has_its_options tells) cs ≡ true
+cases-read : (cs before : List Case) (gs : List Group) (es : List Entry) (tells : Tells) (name says : List ℕ) (n : ℕ) (rest : List (List ℕ)) (r : Result Catalogue BadLine) → AreCases gs cs
     → ((m : ℕ) → lines_read m (state gs es (Some (entry_with tells name says (before ++ cs)))) rest ≡ r) → lines_read n (state gs es (Some (entry_with tells name says before))) (map case_text cs ++ rest) ≡ r
-cases-read [] before gs es tells name says n rest r h o k = ap (λ cs. lines_read n (state gs es (Some (entry_with tells name says cs))) rest) (sym (append-nil before)) ∙ k n
-cases-read (c ∷ cs) before gs es tells name says n rest r h o k =
+cases-read [] before gs es tells name says n rest r h k = ap (λ cs. lines_read n (state gs es (Some (entry_with tells name says cs))) rest) (sym (append-nil before)) ∙ k n
+cases-read (c ∷ cs) before gs es tells name says n rest r h k =
     let line : line_read gs (case_text c) ≡ Ok (NewCase c) = case-line gs c h.0 in
-    let read : with_line (state gs es (Some (entry_with tells name says before))) (case_text c) ≡ Ok (state gs es (Some (entry_with tells name says (before ++ c ∷ [])))) = rw (line, and-left (has_its_options tells c) (list_all (has_its_options tells) cs) o) refl in
+    let read : with_line (state gs es (Some (entry_with tells name says before))) (case_text c) ≡ Ok (state gs es (Some (entry_with tells name says (before ++ c ∷ [])))) = rw line refl in
     step n (state gs es (Some (entry_with tells name says before))) (state gs es (Some (entry_with tells name says (before ++ c ∷ [])))) (case_text c) (map case_text cs ++ rest) read
-    ∙ cases-read cs (before ++ c ∷ []) gs es tells name says (n + 1) rest r h.1 (and-right (has_its_options tells c) (list_all (has_its_options tells) cs) o) (λ m. ap (λ all. lines_read m (state gs es (Some (entry_with tells name says all))) rest) (append_assoc before (c ∷ []) cs) ∙ k m)
+    ∙ cases-read cs (before ++ c ∷ []) gs es tells name says (n + 1) rest r h.1 (λ m. ap (λ all. lines_read m (state gs es (Some (entry_with tells name says all))) rest) (append_assoc before (c ∷ []) cs) ∙ k m)
 
 head-added : (gs : List Group) (es above : List Entry) (last : Option Entry) (tells : Tells) (name : List ℕ) → with_last es last ≡ above → list_any (λ other. bytes_eq other.name name) above ≡ false → line_read gs (head_text tells name) ≡ Ok (NewEntry tells name)
     → with_line (state gs es last) (head_text tells name) ≡ Ok (state gs above (Some (entry_with tells name [] [])))
@@ -194,7 +193,7 @@ entries-read (f ∷ entries) above gs es last n e h =
     ap (lines_read n (state gs es last)) (append_assoc (entry_lines f) (lines_of_entries entries) ([] ∷ []))
     ∙ (step n (state gs es last) (state gs above (Some (entry_with f.tells f.name [] []))) (head_text f.tells f.name) ((codes "  says " ++ f.says) ∷ (map case_text f.cases ++ rest)) head
     ∙ (step (n + 1) (state gs above (Some (entry_with f.tells f.name [] []))) (state gs above (Some (entry_with f.tells f.name f.says []))) (codes "  says " ++ f.says) (map case_text f.cases ++ rest) said
-    ∙ cases-read f.cases [] gs above f.tells f.name f.says (n + 1 + 1) rest (Ok (record { groups = gs; entries = above ++ f ∷ entries })) is.cases is.options others))
+    ∙ cases-read f.cases [] gs above f.tells f.name f.says (n + 1 + 1) rest (Ok (record { groups = gs; entries = above ++ f ∷ entries })) is.cases others))
 
 -- ---- lines without line ends
 
@@ -205,9 +204,9 @@ group-line-bytes : (g : Group) → is_group_name g.name ≡ true → are_tests g
 group-line-bytes g h k =
     all-append is_of_line g.name (58 ∷ tests_text g.tests) (lacks-all is_of_name (10 ∷ []) g.name refl (and-right (has_one g.name) (list_all is_of_name g.name) h)) (lacks-all is_of_tests (10 ∷ []) (tests_text g.tests) refl (of-tests g.tests k))
 
-head-bytes : (tells : Tells) (name : List ℕ) → is_plain_word name ≡ true → HasWords tells → list_all is_of_line (head_text tells name) ≡ true
+head-bytes : (tells : Tells) (name : List ℕ) → is_plain_word name ≡ true → has_words tells ≡ true → list_all is_of_line (head_text tells name) ≡ true
 head-bytes (Hazard d) name h k = spaced-bytes is_of_line refl (name ∷ danger_name d ∷ []) (both (plain-line name h) (both (danger-name d).bytes refl))
-head-bytes (Effect v file) name h k = spaced-bytes is_of_line refl (name ∷ verb_name v ∷ file ∷ []) (both (plain-line name h) (both (verb-name v).bytes (both (plain-line file k.0) refl)))
+head-bytes (Effect v file) name h k = spaced-bytes is_of_line refl (name ∷ verb_name v ∷ file ∷ []) (both (plain-line name h) (both (verb-name v).bytes (both (plain-line file k) refl)))
 head-bytes Reason name h k = spaced-bytes is_of_line refl (name ∷ []) (both (plain-line name h) refl)
 head-bytes Plain name h k = spaced-bytes is_of_line refl (name ∷ []) (both (plain-line name h) refl)
 

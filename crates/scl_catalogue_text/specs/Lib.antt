@@ -1,6 +1,5 @@
 pub mod Again
 pub mod Cutting
-pub mod Files
 pub mod Lines
 pub mod Names
 pub mod Outcome

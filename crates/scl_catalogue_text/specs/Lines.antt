@@ -4,7 +4,6 @@ use Rattle.std.specs.List.{list_any}
 use Rattle.std.specs.Str.{bytes_eq}
 use Rattle.scl_catalogue.specs.Form.{Group, Case, Tells, Hazard, Effect, Reason, Plain, Entry, Catalogue}
 use Rattle.scl_catalogue_text.specs.Cutting.{first_word, from_mark, is_word, other_words, parts, until_mark, words}
-use Rattle.scl_catalogue_text.specs.Files.{file_read, has_its_options}
 use Rattle.scl_catalogue_text.specs.Names.{danger_named, verb_named}
 use Rattle.scl_catalogue_text.specs.Outcome.{after, after_line, at_end, at_line, or_mistake}
 use Rattle.scl_catalogue_text.specs.Reading.{case_read, group_named, tests_read}
@@ -30,7 +29,7 @@ unfoldable pub effect_read : List (List ℕ) → Result Said Mistake
 effect_read [] = Err mistake.WrongEntry
 effect_read (name ∷ []) = Err mistake.WrongEntry
 effect_read (name ∷ verb ∷ []) = Err mistake.WrongEntry
-effect_read (name ∷ verb ∷ file ∷ []) = after (or_mistake mistake.WrongEntry (verb_named verb)) (λ v. after (file_read file) (λ _. Ok (NewEntry (Effect v file) name)))
+effect_read (name ∷ verb ∷ file ∷ []) = after (or_mistake mistake.WrongEntry (verb_named verb)) (λ v. Ok (NewEntry (Effect v file) name))
 effect_read (name ∷ verb ∷ file ∷ other ∷ more) = Err mistake.WrongEntry
 
 -- a name alone, of an entry that tells this
@@ -98,16 +97,13 @@ abbrev pub with_sentence : List ℕ → List ℕ → Entry → Result Entry Mist
 with_sentence [] says e = Ok (record e { says = says })
 with_sentence (b ∷ bs) says e = Err mistake.SaysTwice
 
-abbrev pub with_case : Case → Entry → Result Entry Mistake
-with_case c e = cond (has_its_options e.tells c) (Ok (record e { cases = e.cases ++ c ∷ [] })) (Err mistake.NoOption)
-
 abbrev pub added : SoFar → Said → Result SoFar Mistake
 added s Nothing = Ok s
 added s (NewGroup g) = Ok (record s { groups = s.groups ++ g ∷ [] })
 added s (NewEntry tells name) = cond (list_any (λ e. bytes_eq e.name name) (closed s).entries) (Err mistake.NameTwice)
     (Ok (record (closed s) { last = Some (record { tells = tells; name = name; says = []; cases = [] }) }))
 added s (Says says) = goes_on s s.last (λ e. with_sentence e.says says e)
-added s (NewCase c) = goes_on s s.last (with_case c)
+added s (NewCase c) = goes_on s s.last (λ e. Ok (record e { cases = e.cases ++ c ∷ [] }))
 
 -- what is read so far, with this line
 abbrev pub with_line : SoFar → List ℕ → Result SoFar Mistake

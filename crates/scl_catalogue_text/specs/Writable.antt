@@ -1,11 +1,10 @@
 -- Which catalogues can be written as a text.
-use Rattle.std.specs.Prelude.{◌≡◌, ℕ, nat_lt, ◌==◌, Bool, true, false, not, ◌&&◌, List, [], ◌∷◌, ◌++◌, Option, None, Some, Ok}
+use Rattle.std.specs.Prelude.{◌≡◌, ℕ, nat_lt, ◌==◌, Bool, true, false, not, ◌&&◌, List, [], ◌∷◌, ◌++◌, Option, None, Some}
 use Rattle.std.specs.List.{list_all, list_any}
 use Rattle.std.specs.Str.{bytes_eq}
 use Rattle.scl_catalogue.specs.Form.{Pattern, Text, Demand, Marked, Value, Part, Test, Group, Relation, Any, Two, Before, Unfollowed, Last, Question, Is, At, Given, Inner, Condition, Case, Tells, Hazard, Effect, Reason, Plain, Entry, Catalogue}
 use Rattle.scl_catalogue.specs.declared.case.Served.{Served}
 use Rattle.scl_catalogue.specs.declared.case.Version.{Version}
-use Rattle.scl_catalogue_text.specs.Files.{file_read, has_its_options}
 use Rattle.scl_catalogue_text.specs.Reading.{group_named}
 
 abbrev pub has_one : {A : Type 0} → List A → Bool
@@ -85,19 +84,17 @@ abbrev pub AreCases : List Group → List Case → Type 0
 AreCases gs [] = Unit {0}
 AreCases gs (c ∷ cs) = IsCase gs c × AreCases gs cs
 
--- a file is a word whose names in braces are known
-abbrev pub HasWords : Tells → Type 0
-HasWords (Hazard d) = Unit {0}
-HasWords (Effect v file) = (is_plain_word file ≡ true) × (file_read file ≡ Ok tt)
-HasWords Reason = Unit {0}
-HasWords Plain = Unit {0}
+abbrev pub has_words : Tells → Bool
+has_words (Hazard d) = true
+has_words (Effect v file) = is_plain_word file
+has_words Reason = true
+has_words Plain = true
 
 pub record IsEntry (gs : List Group) (e : Entry) : Type 0 where
   pub name : is_plain_word e.name ≡ true
-  pub tells : HasWords e.tells
+  pub tells : has_words e.tells ≡ true
   pub says : lacks (10 ∷ []) e.says ≡ true
   pub cases : AreCases gs e.cases
-  pub options : list_all (has_its_options e.tells) e.cases ≡ true
 
 -- each has another name than those above
 abbrev pub AreEntries : List Group → List Entry → List Entry → Type 0
@@ -108,7 +105,7 @@ abbrev pub AreGroups : List Group → List Group → Type 0
 AreGroups above [] = Unit {0}
 AreGroups above (g ∷ gs) = (is_group_name g.name ≡ true) × (are_tests g.tests ≡ true) × (group_named above g.name ≡ None) × AreGroups (above ++ g ∷ []) gs
 
--- names are words, each used once; groups, tests and cases have something in them; bytes and versions are such; a value is one of options that a case asks for
+-- names are words, each used once; groups, tests and cases have something in them; bytes and versions are such
 pub record CanBeWritten (c : Catalogue) : Type 0 where
   pub groups : AreGroups [] c.groups
   pub entries : AreEntries c.groups [] c.entries

@@ -2,7 +2,6 @@
 #![tactic(auto)]
 
 mod cut;
-mod file;
 mod mistake;
 mod names;
 mod read_case;

@@ -1,11 +1,5 @@
 //! Why a text is no catalogue.
-ghost use Rattle.std.specs.Prelude.{◌≡◌, map, IfOk};
-ghost use Rattle.std.specs.Option.{option_copied};
-ghost use Rattle.scl_catalogue_text.specs.Files.{file_in, is_in_file, line_of, wrong_word};
-
-use crate::cut::{first_word, parts};
-use scl_values::Mem;
-use std::alloc::{AllocError, AllocFailed, Global};
+use std::alloc::{AllocError, AllocFailed};
 use thiserror::Error;
 
 /// What is wrong with a line.
@@ -65,15 +59,6 @@ pub enum Mistake {
     /// Two marks of exceptions stand in one text.
     #[error("`!` stands once in a list of patterns")]
     ExceptTwice,
-    /// In the file of an effect a brace is not closed, or none is open.
-    #[error("in a file a name stands between `{{` and `}}`, and other braces do not")]
-    WrongBraces,
-    /// What stands between braces is no name.
-    #[error("a name in braces is `{{value}}`, `{{object}}`, `{{object-stem}}`, `{{input-stem}}` or `{{dump}}`")]
-    UnknownName,
-    /// The file of an effect has the value of an option, and the case asks for none.
-    #[error("the effect has `{{value}}`, so a condition asks for options, without `not`")]
-    NoOption,
     /// More words stand than are read.
     #[error("too many words")]
     TooManyWords,
@@ -86,56 +71,6 @@ pub struct BadLine {
     pub line: usize,
     /// What is wrong.
     pub mistake: Mistake,
-}
-
-impl Mistake {
-    /// Whether it is in the file of an effect.
-    fn is_in_file(self) -> bool
-        ensures { result ≡ is_in_file self }
-    {
-        self == Mistake::WrongBraces || self == Mistake::UnknownName
-    }
-}
-
-/// The file in the line of an effect.
-#[tactic(auto, unfolding(crate::specs::Files::file_in))]
-fn file_in(line: &[u8]) -> &[u8]
-    ensures { result.now ≡ file_in line.now }
-{
-    let (_, behind_effect) = first_word(line);
-    let (_, behind_name) = first_word(behind_effect);
-    let (_, behind_verb) = first_word(behind_name);
-    let (file, _) = first_word(behind_verb);
-    file
-}
-
-/// The line of this number, of which the first is 1.
-fn line_of<'a>(number: usize, lines: &[&'a [u8]]) -> Option<&'a [u8]>
-    ensures { option_copied result ≡ line_of number (map (λ line. line.now) lines.now) }
-{
-    if number == 0 {
-        return None;
-    }
-    match lines.get(number - 1) {
-        Some(line) => Some(*line),
-        None => None,
-    }
-}
-
-impl BadLine {
-    /// The word of the text that is wrong, where the mistake is in one: the file of an effect.
-    pub fn word<'a>(&self, alloc: Global, text: &'a [u8]) -> Mem<Option<&'a [u8]>>
-        ensures { IfOk result (λ word. option_copied word ≡ wrong_word self.now text.now) }
-    {
-        if !self.mistake.is_in_file() {
-            return Ok(None);
-        }
-        let lines = parts(alloc, text, b'\n')?;
-        match line_of(self.line, &lines) {
-            Some(line) => Ok(Some(file_in(line))),
-            None => Ok(None),
-        }
-    }
 }
 
 /// Why no catalogue is read.

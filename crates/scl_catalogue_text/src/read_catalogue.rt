@@ -10,7 +10,6 @@ ghost use Rattle.scl_catalogue_text.specs.Wrong.{IsWrong};
 ghost use Rattle.scl_catalogue_text.specs.SaidViews.{open_of, said_of, so_far};
 
 use crate::cut::parts;
-use crate::file::has_its_options;
 use crate::mistake::{BadLine, Mistake, Part, ReadError, Stop};
 use crate::read_line::{Said, line};
 use crate::read_text::Room;
@@ -110,9 +109,6 @@ impl<'a> Reader<'a> {
         let Some(mut open) = self.open.take() else {
             return Err(Stop::Mistake(Mistake::NoEntry));
         };
-        if !has_its_options(&open.tells, &case) {
-            return Err(Stop::Mistake(Mistake::NoOption));
-        }
         open.cases.push(case)?;
         self.open = Some(open);
         Ok(())

@@ -6,7 +6,6 @@ ghost use Rattle.scl_catalogue_text.specs.Outcome.{Reads};
 ghost use Rattle.scl_catalogue_text.specs.SaidViews.{said_of};
 
 use crate::cut::{cut_at, first_word, has_word, words};
-use crate::file::check_file;
 use crate::mistake::{Mistake, Part, Stop};
 use crate::names::{danger_named, is, verb_named};
 use crate::read_case::case;
@@ -37,17 +36,16 @@ fn hazard<'a>(words: &[&'a [u8]]) -> Part<Said<'a>>
 }
 
 #[tactic(auto, unfolding(crate::specs::Lines::effect_read))]
-fn effect<'a>(room: Room<'a>, words: &[&'a [u8]]) -> Part<Said<'a>>
+fn effect<'a>(words: &[&'a [u8]]) -> Part<Said<'a>>
     ensures { Reads said_of result (effect_read (map (λ word. word.now) words.now)) }
 {
     let [name, verb, file] = words else {
         return Err(Stop::Mistake(Mistake::WrongEntry));
     };
-    let Some(verb) = verb_named(verb) else {
-        return Err(Stop::Mistake(Mistake::WrongEntry));
-    };
-    check_file(room.alloc, file)?;
-    Ok(Said::Entry(Tells::Effect(verb, file), name))
+    match verb_named(verb) {
+        Some(verb) => Ok(Said::Entry(Tells::Effect(verb, file), name)),
+        None => Err(Stop::Mistake(Mistake::WrongEntry)),
+    }
 }
 
 /// A name alone, of an entry that tells this.
@@ -129,7 +127,7 @@ fn line_named<'a>(
     }
     if is(word, "effect") {
         let words = words(room.alloc, others)?;
-        return effect(room, &words);
+        return effect(&words);
     }
     if is(word, "reason") {
         let words = words(room.alloc, others)?;

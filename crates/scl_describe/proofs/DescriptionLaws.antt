@@ -1,5 +1,5 @@
 -- Descriptions: what the code gives is what is defined, and a record is read back from its description.
-use Rattle.std.proofs.Common.{◌≡◌, ℕ, true, false, cond, List, [], ◌∷◌, ◌++◌, map, codes, refl, ap, sym, subst, ◌∙◌, append-nil, append_assoc}
+use Rattle.std.proofs.Common.{◌≡◌, ℕ, true, false, cond, List, [], ◌∷◌, ◌++◌, map, codes, Option, None, Some, unwrap_or, refl, ap, sym, subst, ◌∙◌, append-nil, append_assoc}
 use Rattle.std.specs.List.{flat_map}
 use Rattle.std.proofs.lemmas.Grind.{flat_map-append}
 use Rattle.scl_values.specs.Each.{Each}
@@ -16,11 +16,11 @@ use Rattle.scl_description.specs.Records.{record_entries, record_in}
 use Rattle.scl_description.proofs.RecordLaws.{description-back-among}
 use Rattle.scl_hazards.specs.Hazards.{Tables}
 use Rattle.scl_hazards.specs.Told.{Told, given as given_told}
-use Rattle.scl_rows.specs.Rows.{refused_at, told}
+use Rattle.scl_rows.specs.Rows.{refused_at, told, unless_owned}
 use Rattle.scl_rows.specs.declared.row.Row.{Row}
 use Rattle.scl_describe.specs.declared.described.Findings.{Findings}
 use Rattle.scl_reader.specs.declared.kept.Compilation.{Compilation}
-use Rattle.scl_describe.specs.OptionLines.{fields_given, option_fields, options_entry, options_given}
+use Rattle.scl_describe.specs.OptionLines.{fields_given, kind_name, option_fields, option_rests, options_entry, options_given}
 use Rattle.scl_reader.specs.QuestionsGiven.{given}
 use Rattle.scl_reader.specs.CommandLines.{Request}
 use Rattle.scl_cl.specs.AnswerTexts.{arg_line, text_of}
@@ -32,7 +32,7 @@ use Rattle.scl_reader.specs.Within.{has_at_most}
 use Rattle.scl_key.specs.Told.{RunWords}
 use Rattle.scl_describe.specs.Keepings.{kept_entries, run_words_by}
 use Rattle.scl_describe.proofs.KeepingLaws.{each-both, effects-beside, if-beside, kept-beside}
-use Rattle.scl_describe.specs.Descriptions.{version_entry, runs_entry, pair_fields, environment_entry, told_entries, compiled_entries, kept_for, questions_for, rows_for, runs_for, told_for, outcome_entries, question_entries, answer_entries, description, too_many_entries, command_entries, DescriptionsReadBack}
+use Rattle.scl_describe.specs.Descriptions.{version_entry, runs_entry, pair_fields, environment_entry, told_entries, compiled_entries, kept_for, questions_for, rows_for, runs_for, told_for, outcome_entries, question_entries, answer_entries, description, IsDescription, too_many_entries, command_entries, DescriptionsReadBack}
 use Rattle.scl_describe.specs.DescriptionsGiven.{AreOf, entries_given, outcome_given}
 
 pub behind_text : (start whole all rows : List ℕ) → whole ≡ start ++ rows → start ≡ all → whole ≡ all ++ rows
@@ -51,24 +51,32 @@ outcome-is s r telling executable cwd (outcomes.Ok compilation) e parts =
 outcome-is s r telling executable cwd (outcomes.CannotCache reason text) e parts = ap (λ a. outcome_entries s r telling a (reading_by r.compiler r)) e
 outcome-is s r telling executable cwd outcomes.NotCompilation e parts = ap (λ a. outcome_entries s r telling a (reading_by r.compiler r)) e
 
-options-are : (rows : List Row) → map fields_given rows ≡ map option_fields (map told rows)
+-- what is told of a kind's name is its name
+name-is : (flag : Option (List ℕ)) (name : List ℕ) → unwrap_or (unless_owned flag name) name ≡ name
+name-is None name = refl
+name-is (Some f) name = refl
+
+options-are : (rows : List Row) → map fields_given rows ≡ option_rests (map kind_name rows) (map told rows)
 options-are [] = refl
-options-are (row ∷ rows) = ap (λ rests. option_fields (told row) ∷ rests) (options-are rows)
+options-are (row ∷ rows) =
+    ap (λ kind. option_fields kind (told row) ∷ map fields_given rows) (sym (name-is (told row).flag (kind_name row)))
+    ∙ ap (λ rests. option_fields (unwrap_or (told row).kind (kind_name row)) (told row) ∷ rests) (options-are rows)
 
 abbrev all_entries : List Entry → Entry → Told → Questions → List Entry
 all_entries outcome options telling asks = version_entry ∷ [] ++ outcome ++ (options ∷ told_entries telling ++ question_entries asks)
 
 entries-are : (tables : Tables) (s : Settings) (r : Request) (found : Findings) → AreOf tables s r found
-    → entries_given s r.compiler (run_words_by r.words found.told.hazards.items) found ≡ answer_entries tables s r
+    → entries_given s r.compiler (run_words_by r.words found.told.hazards.items) found ≡ answer_entries tables s r (map kind_name found.rows.items)
 entries-are tables s r found are =
+    let kinds : List (List ℕ) = map kind_name found.rows.items in
     let there : Told → List Entry = λ telling. outcome_entries s r telling (answer_to r) (reading_by r.compiler r) in
     let telling : Told = given_told found.told in
     let words : RunWords = run_words_by r.words found.told.hazards.items in
     let outcome : outcome_given s r.compiler words telling (refused_at (map told found.rows.items)) found.answer ≡ there telling =
     ap (λ rows. outcome_given s r.compiler words telling (refused_at rows) found.answer) are.rows ∙ outcome-is s r telling [] r.directory found.answer are.answer are.parts in
-    let options : options_given found.rows.items ≡ options_entry (rows_for s r) =
-    ap (entry (codes "option")) (options-are found.rows.items) ∙ ap options_entry are.rows in
-    let options_is : Entry = options_entry (rows_for s r) in
+    let options : options_given found.rows.items ≡ options_entry kinds (rows_for s r) =
+    ap (entry (codes "option")) (options-are found.rows.items) ∙ ap (options_entry kinds) are.rows in
+    let options_is : Entry = options_entry kinds (rows_for s r) in
     ap (λ es. all_entries es (options_given found.rows.items) telling (given found.questions)) outcome
     ∙ ap (λ e. all_entries (there telling) e telling (given found.questions)) options
     ∙ ap (λ is. all_entries (there is) options_is is (given found.questions)) are.told
@@ -76,15 +84,18 @@ entries-are tables s r found are =
 
 -- the text of an answer and the rows behind it are a description
 pub is-description : (tables : Tables) (s : Settings) (r : Request) (text : List ℕ) (found : Findings) → has_at_most s.bound r ≡ true → AreOf tables s r found
-    → text ≡ text_of (answer_of found.answer) ++ entries_text (entries_given s r.compiler (run_words_by r.words found.told.hazards.items) found) → text ≡ description tables s r
+    → text ≡ text_of (answer_of found.answer) ++ entries_text (entries_given s r.compiler (run_words_by r.words found.told.hazards.items) found) → IsDescription tables s r text
 is-description tables s r text found within are is =
-    is
-    ∙ ap (λ a. text_of a ++ entries_text (entries_given s r.compiler (run_words_by r.words found.told.hazards.items) found)) are.answer
-    ∙ ap (λ es. text_of (answer_to r) ++ entries_text es) (entries-are tables s r found are)
-    ∙ ap (λ b. cond b (text_of (answer_to r) ++ entries_text (answer_entries tables s r)) (entries_text too_many_entries)) (sym within)
+    let kinds : List (List ℕ) = map kind_name found.rows.items in (
+      kinds,
+      is
+          ∙ ap (λ a. text_of a ++ entries_text (entries_given s r.compiler (run_words_by r.words found.told.hazards.items) found)) are.answer
+          ∙ ap (λ es. text_of (answer_to r) ++ entries_text es) (entries-are tables s r found are)
+          ∙ ap (λ b. cond b (text_of (answer_to r) ++ entries_text (answer_entries tables s r kinds)) (entries_text too_many_entries)) (sym within),
+    )
 
-pub too-long : (tables : Tables) (s : Settings) (r : Request) (text : List ℕ) → has_at_most s.bound r ≡ false → text ≡ entries_text too_many_entries → text ≡ description tables s r
-too-long tables s r text within is = is ∙ ap (λ b. cond b (text_of (answer_to r) ++ entries_text (answer_entries tables s r)) (entries_text too_many_entries)) (sym within)
+pub too-long : (tables : Tables) (s : Settings) (r : Request) (text : List ℕ) → has_at_most s.bound r ≡ false → text ≡ entries_text too_many_entries → IsDescription tables s r text
+too-long tables s r text within is = ([], is ∙ ap (λ b. cond b (text_of (answer_to r) ++ entries_text (answer_entries tables s r [])) (entries_text too_many_entries)) (sym within))
 
 -- ---- a record is read back
 
@@ -112,27 +123,27 @@ abbrev in_order : (before after : List Entry) → Parsed → List Entry
 in_order before after p = before ++ record_entries p ++ after
 
 pub descriptions-back : DescriptionsReadBack
-descriptions-back tables s r words kept p within compiles reads are =
+descriptions-back tables s r kinds words kept p within compiles reads are =
     let environment : List (List ℕ × List ℕ) = environment_by r.compiler r.environment in
     let telling : Told = told_for tables s r in
     let keeping : List Entry = kept_for s kept r.compiler (run_words_by r.words telling.hazards) telling environment p in
     let after : List Entry = runs_entry (runs_for s r.compiler p) ∷ environment_entry environment ∷ keeping in
-    let asks : List Entry = options_entry (rows_for s r) ∷ told_entries telling ++ question_entries (questions_for s r) in
+    let asks : List Entry = options_entry kinds (rows_for s r) ∷ told_entries telling ++ question_entries (questions_for s r) in
     let before : List Entry = command_entries words kept ++ version_entry ∷ [] in
     let outcome : outcome_entries s r telling (answer_to r) (reading_by r.compiler r) ≡ record_entries p ++ after =
     ap (λ a. outcome_entries s r telling a (reading_by r.compiler r)) compiles ∙ ap (outcome_entries s r telling (compiled words kept)) reads in
     let beside : Each IsBeside (after ++ asks) =
     each-both IsBeside after asks (refl, (refl, if-beside (wanted s).key (kept_entries kept r.compiler (run_words_by r.words telling.hazards) telling environment p) (kept-beside kept r.compiler (run_words_by r.words telling.hazards) telling environment p))) (refl, each-both IsBeside (told_entries telling) (question_entries (questions_for s r)) (refl, effects-beside telling.effects) (refl, (refl, (refl, tt)))) in
-    let entries : command_entries words kept ++ answer_entries tables s r ≡ in_order before (after ++ asks) p =
+    let entries : command_entries words kept ++ answer_entries tables s r kinds ≡ in_order before (after ++ asks) p =
     ap (λ es. command_entries words kept ++ (version_entry ∷ [] ++ es ++ asks)) outcome
     ∙ ap (λ es. command_entries words kept ++ (version_entry ∷ es)) (append_assoc (record_entries p) after asks)
     ∙ sym (append_assoc (command_entries words kept) (version_entry ∷ []) (record_entries p ++ (after ++ asks)))
     ∙ sym (append_assoc before (record_entries p) (after ++ asks)) in
-    let text : description tables s r ≡ entries_text (in_order before (after ++ asks) p) =
-    ap (λ b. cond b (text_of (answer_to r) ++ entries_text (answer_entries tables s r)) (entries_text too_many_entries)) within
-    ∙ ap (λ a. text_of a ++ entries_text (answer_entries tables s r)) compiles
-    ∙ ap (λ t. t ++ entries_text (answer_entries tables s r)) (command-rows words kept)
-    ∙ sym (flat_map-append entry_text (command_entries words kept) (answer_entries tables s r))
+    let text : description tables s r kinds ≡ entries_text (in_order before (after ++ asks) p) =
+    ap (λ b. cond b (text_of (answer_to r) ++ entries_text (answer_entries tables s r kinds)) (entries_text too_many_entries)) within
+    ∙ ap (λ a. text_of a ++ entries_text (answer_entries tables s r kinds)) compiles
+    ∙ ap (λ t. t ++ entries_text (answer_entries tables s r kinds)) (command-rows words kept)
+    ∙ sym (flat_map-append entry_text (command_entries words kept) (answer_entries tables s r kinds))
     ∙ ap entries_text entries in
     ap record_in text
     ∙ description-back-among before (after ++ asks) p (command-beside words kept) beside (subst (λ es. Each IsRow (rows_of es)) entries are)

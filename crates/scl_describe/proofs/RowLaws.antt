@@ -10,7 +10,6 @@ use Rattle.scl_msvc.specs.Reads.{expanded_between, read_by_both}
 use Rattle.scl_rows.proofs.GnuTells.{gnu-given, gnu-tells}
 use Rattle.scl_rows.proofs.MsvcTells.{msvc-given, msvc-tells}
 use Rattle.scl_rows.proofs.SmallTells.{small-given, small-tells}
-use Rattle.scl_rows.specs.KindNames.{diab_kind_name, tasking_kind_name}
 use Rattle.scl_rows.specs.MsvcRows.{msvc_rows}
 use Rattle.scl_rows.specs.Rows.{Tells, words_given}
 use Rattle.scl_small.specs.DiabReading as diab
@@ -48,8 +47,8 @@ tells compilers.Clang g = gnu-tells kinds.Clang false clang_tables g.directory g
 tells compilers.Clangxx g = gnu-tells kinds.Clang true clang_tables g.directory g.view (expanded expansions.Gnu g)
 tells compilers.Cl g = between-tells false g (surroundings g.environment)
 tells compilers.ClangCl g = between-tells true g (surroundings g.environment)
-tells compilers.Diab g = small-tells diab_kind_name diab.place diab.verdict (λ flag. flag) (owner_in (diab_table.rows ∷ [])) (expanded expansions.Diab g)
-tells compilers.Tasking g = small-tells tasking_kind_name tasking.place tasking.verdict (λ flag. codes "-c") (owner_in (tasking_table.rows ∷ [])) (standing g.words (indices (length g.words)))
+tells compilers.Diab g = small-tells diab.place diab.verdict (λ flag. flag) (owner_in (diab_table.rows ∷ [])) (expanded expansions.Diab g)
+tells compilers.Tasking g = small-tells tasking.place tasking.verdict (λ flag. codes "-c") (owner_in (tasking_table.rows ∷ [])) (standing g.words (indices (length g.words)))
 
 given : (c : Compiler) (g : Given) → words_given (rows_in (read_by c g)) ≡ words_in (read_by c g)
 given compilers.Gcc g = gnu-given kinds.Gcc false (gcc_rows ∷ []) g.directory g.view (expanded expansions.Gnu g)
@@ -58,8 +57,8 @@ given compilers.Clang g = gnu-given kinds.Clang false clang_tables g.directory g
 given compilers.Clangxx g = gnu-given kinds.Clang true clang_tables g.directory g.view (expanded expansions.Gnu g)
 given compilers.Cl g = between-given false g (surroundings g.environment)
 given compilers.ClangCl g = between-given true g (surroundings g.environment)
-given compilers.Diab g = small-given diab_kind_name diab.place diab.verdict (λ flag. flag) (diab_table.rows ∷ []) (expanded expansions.Diab g)
-given compilers.Tasking g = small-given tasking_kind_name tasking.place tasking.verdict (λ flag. codes "-c") (tasking_table.rows ∷ []) (standing g.words (indices (length g.words)))
+given compilers.Diab g = small-given diab.place diab.verdict (λ flag. flag) (diab_table.rows ∷ []) (expanded expansions.Diab g)
+given compilers.Tasking g = small-given tasking.place tasking.verdict (λ flag. codes "-c") (tasking_table.rows ∷ []) (standing g.words (indices (length g.words)))
 
 pub rows-tell : RowsTell
 rows-tell request = subst (Tells (rows_by request)) (readings-say request).outcome (tells request.compiler (given_in request))

@@ -114,27 +114,31 @@ outcome_entries s request told not_compilation r = undone_entries (refused_at (r
 abbrev pub told_entries : Told → List Entry
 told_entries told = hazards_entry told.hazards ∷ effect_entries told.effects
 
--- the rows after the answer's lines, with what is told
-abbrev pub entries_with : Settings → Request → Told → List Entry
-entries_with s request told =
+-- the rows after the answer's lines, with what is told and the names of the kinds of flags
+abbrev pub entries_with : Settings → Request → Told → List (List ℕ) → List Entry
+entries_with s request told kinds =
     version_entry ∷ []
     ++ outcome_entries s request told (answer_to request) (reading_by request.compiler request)
-    ++ (options_entry (rows_for s request) ∷ told_entries told ++ question_entries (questions_for s request))
+    ++ (options_entry kinds (rows_for s request) ∷ told_entries told ++ question_entries (questions_for s request))
 
-abbrev pub answer_entries : Tables → Settings → Request → List Entry
-answer_entries tables s request = entries_with s request (told_for tables s request)
+abbrev pub answer_entries : Tables → Settings → Request → List (List ℕ) → List Entry
+answer_entries tables s request kinds = entries_with s request (told_for tables s request) kinds
 
 -- where a command line has more words than the bound
 abbrev pub too_many_entries : List Entry
 too_many_entries = lone_entry (codes "too-many-words") ∷ version_entry ∷ []
 
-abbrev pub description : Tables → Settings → Request → List ℕ
-description tables s request =
-    if has_at_most s.bound request then text_of (answer_to request) ++ entries_text (answer_entries tables s request) else entries_text too_many_entries
+abbrev pub description : Tables → Settings → Request → List (List ℕ) → List ℕ
+description tables s request kinds =
+    if has_at_most s.bound request then text_of (answer_to request) ++ entries_text (answer_entries tables s request kinds) else entries_text too_many_entries
+
+-- the text describes the answer to the request; which names the kinds of flags have is not said
+abbrev pub IsDescription : Tables → Settings → Request → List ℕ → Type 0
+IsDescription tables s request text = (kinds : List (List ℕ)) × (text ≡ description tables s request kinds)
 
 -- what a description of the request may be, or the number of its bad line
 abbrev pub IsDescriptionOf : Tables → Settings → Result Request ℕ → Result (List ℕ) ℕ → Type 0
-IsDescriptionOf tables s (Ok request) (Ok text) = text ≡ description tables s request
+IsDescriptionOf tables s (Ok request) (Ok text) = IsDescription tables s request text
 IsDescriptionOf tables s (Err n) (Err m) = n ≡ m
 IsDescriptionOf tables s (Ok request) (Err m) = ⊥
 IsDescriptionOf tables s (Err n) (Ok text) = ⊥
@@ -152,7 +156,7 @@ command_entries words cacheable.No = lone_entry (codes "ok") ∷ words_entry (co
 
 -- A description of a command gives the record that was read.
 abbrev pub DescriptionsReadBack : Type 0
-DescriptionsReadBack = (tables : Tables) (s : Settings) (request : Request) (words : List (List ℕ)) (kept : Cacheable) (p : Parsed)
+DescriptionsReadBack = (tables : Tables) (s : Settings) (request : Request) (kinds words : List (List ℕ)) (kept : Cacheable) (p : Parsed)
     → has_at_most s.bound request ≡ true → answer_to request ≡ compiled words kept → reading_by request.compiler request ≡ Ok p
-    → Each IsRow (rows_of (command_entries words kept ++ answer_entries tables s request))
-    → record_in (description tables s request) ≡ p
+    → Each IsRow (rows_of (command_entries words kept ++ answer_entries tables s request kinds))
+    → record_in (description tables s request kinds) ≡ p

@@ -1,7 +1,8 @@
 -- The rows of a description that say what became of each option of a command line.
-use Rattle.std.specs.Prelude.{ℕ, List, [], ◌∷◌, ◌++◌, length, map, codes, Option, None, Some}
+use Rattle.std.specs.Prelude.{ℕ, List, [], ◌∷◌, ◌++◌, drop, length, map, codes, Option, None, Some, string_bytes, unwrap_or}
 use Rattle.std.specs.Fmt.{decimal}
 use Rattle.std.specs.Option.{option_map}
+use Rattle.scl_description.specs.Records.{first_field}
 use Rattle.scl_description.specs.Rows.{Entry, entry, maybe_entry}
 use Rattle.scl_rows.specs.Names.{name_of, origin_name}
 use Rattle.scl_rows.specs.Rows.{Told, told}
@@ -22,19 +23,24 @@ bytes_field None = nothing
 bytes_field (Some bytes) = codes "=" ++ bytes
 
 -- where an option comes from and goes, the given word that brought it, and its kind's name
-abbrev pub place_fields : Told → List (List ℕ)
-place_fields row = origin_name row.origin ∷ name_of row.destination ∷ number_field row.at ∷ row.kind ∷ []
+abbrev pub place_fields : List ℕ → Told → List (List ℕ)
+place_fields kind row = origin_name row.origin ∷ name_of row.destination ∷ number_field row.at ∷ kind ∷ []
 
 -- its flag, its value, and how many words were given
 abbrev pub flag_fields : Told → List (List ℕ)
 flag_fields row = bytes_field row.flag ∷ bytes_field row.value ∷ decimal (length row.given) ∷ []
 
--- what stands in the row of an option: behind those its words as given, and then those in the list that it goes to
-abbrev pub option_fields : Told → List (List ℕ)
-option_fields row = place_fields row ++ flag_fields row ++ row.given ++ row.printed
+-- what stands in the row of an option of a kind of this name: behind those its words as given, and then those in the list that it goes to
+abbrev pub option_fields : List ℕ → Told → List (List ℕ)
+option_fields kind row = place_fields kind row ++ flag_fields row ++ row.given ++ row.printed
 
-abbrev pub options_entry : List Told → Entry
-options_entry rows = entry (codes "option") (map option_fields rows)
+-- of options in order, those with a flag of kinds of these names
+abbrev pub option_rests : List (List ℕ) → List Told → List (List (List ℕ))
+option_rests kinds [] = []
+option_rests kinds (row ∷ rows) = option_fields (unwrap_or row.kind (first_field kinds)) row ∷ option_rests (drop 1 kinds) rows
+
+abbrev pub options_entry : List (List ℕ) → List Told → Entry
+options_entry kinds rows = entry (codes "option") (option_rests kinds rows)
 
 -- an index that there may be
 abbrev pub index_entry : List ℕ → Option ℕ → Entry
@@ -42,8 +48,11 @@ index_entry name index = maybe_entry name (option_map decimal index)
 
 -- ---- of rows that the code gives
 
+abbrev pub kind_name : Row → List ℕ
+kind_name row = string_bytes row.kind
+
 abbrev pub fields_given : Row → List (List ℕ)
-fields_given row = option_fields (told row)
+fields_given row = option_fields (kind_name row) (told row)
 
 abbrev pub options_given : List Row → Entry
 options_given rows = entry (codes "option") (map fields_given rows)

@@ -1,7 +1,6 @@
 -- What is told of the options of a request, a row each.
 use Rattle.std.specs.Prelude.{◌≡◌, ℕ, List, ◌++◌}
 use Rattle.scl_rows.specs.GnuRows.{gnu_rows}
-use Rattle.scl_rows.specs.KindNames.{diab_kind_name, tasking_kind_name}
 use Rattle.scl_rows.specs.MsvcRows.{msvc_rows}
 use Rattle.scl_rows.specs.Rows.{Tells, Told, words_given}
 use Rattle.scl_rows.specs.SmallRows.{small_rows}
@@ -17,8 +16,8 @@ use Rattle.scl_reader.specs.declared.reading.Reading.TheVariants.{Gnu, Msvc, Dia
 abbrev pub rows_in : Reading → List Told
 rows_in (Gnu r) = gnu_rows r
 rows_in (Msvc r) = msvc_rows r
-rows_in (Diab r) = small_rows diab_kind_name diab.place r
-rows_in (Tasking r) = small_rows tasking_kind_name tasking.place r
+rows_in (Diab r) = small_rows diab.place r
+rows_in (Tasking r) = small_rows tasking.place r
 
 abbrev pub rows_by : Request → List Told
 rows_by request = rows_in (read_of request)

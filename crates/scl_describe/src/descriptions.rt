@@ -12,7 +12,7 @@ ghost use Rattle.scl_cl.specs.Transfers.{Gave};
 ghost use Rattle.scl_describe.specs.SettingsRead.{settings_by};
 ghost use Rattle.scl_hazards.specs.Hazards.{tables_of};
 ghost use Rattle.scl_hazards.specs.Told.{given as given_told};
-ghost use Rattle.scl_describe.specs.Descriptions.{DescribesBytes, description};
+ghost use Rattle.scl_describe.specs.Descriptions.{IsDescription, DescribesBytes};
 ghost use Rattle.scl_describe.specs.DescriptionsGiven.{AreFound, IsTextOf};
 ghost use Rattle.scl_describe.specs.Hazards.{told_in};
 ghost use Rattle.scl_describe.specs.OptionRows.{rows_in};
@@ -99,7 +99,7 @@ fn request_description(
     settings: &Settings,
     request: &Request,
 ) -> Mem<Vec<u8>>
-    ensures { IfOk result (λ text. text.items ≡ description (tables_of tables.now) (settings_by settings.now) (asked_by request.now)) }
+    ensures { IfOk result (λ text. IsDescription (tables_of tables.now) (settings_by settings.now) (asked_by request.now) text.items) }
 {
     let (compiler, line) = (request.compiler, request.line());
     match compiler.read(alloc, &line, settings.bound)? {

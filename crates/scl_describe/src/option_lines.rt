@@ -4,7 +4,7 @@ ghost use Rattle.std.specs.Option.{option_copied};
 ghost use Rattle.scl_description.specs.Rows.{entry_text};
 ghost use Rattle.scl_rows.specs.Rows.{told};
 ghost use Rattle.scl_values.specs.Words.{words_of};
-ghost use Rattle.scl_describe.specs.OptionLines.{bytes_field, fields_given, flag_fields, index_entry, number_field, options_given, place_fields};
+ghost use Rattle.scl_describe.specs.OptionLines.{bytes_field, fields_given, flag_fields, index_entry, kind_name, number_field, options_given, place_fields};
 
 use scl_description::{push_row_of, push_word};
 use scl_rows::Row;
@@ -38,7 +38,7 @@ fn bytes_field(alloc: Global, bytes: Option<&[u8]>) -> Mem<Vec<u8>>
 
 /// Where the option comes from and goes, the given word that brought it, and its kind.
 fn place_fields(alloc: Global, row: &Row) -> Mem<Vec<Vec<u8>>>
-    ensures { IfOk result (λ fields. words_of fields.items ≡ place_fields (told row.now)) }
+    ensures { IfOk result (λ fields. words_of fields.items ≡ place_fields (kind_name row.now) (told row.now)) }
 {
     let origin = Vec::from_slice(alloc, row.origin.name().as_bytes())?;
     let destination = Vec::from_slice(alloc, row.destination.name().as_bytes())?;

@@ -1,12 +1,9 @@
 //! How the program ends.
 ghost use Rattle.std.specs.Prelude.{◌≡◌, false};
 ghost use Rattle.scl_reader.specs.AnswersGiven.{answer_of};
-ghost use Rattle.scl_text.specs.Runs.{runs_of};
-ghost use Rattle.scl_explain.specs.Endings.{are_named, ending_of, ending_of_command, ending_of_keeping, status_of};
-ghost use Rattle.scl_explain.specs.SameKeys.{has_key};
+ghost use Rattle.scl_explain.specs.Endings.{are_named, ending_of, ending_of_command, status_of};
 
 use crate::nuls::some_hold_nul;
-use crate::same_key::has_key;
 use scl_hazards::Hazard;
 use scl_reader::{Compilation, CompilerArguments};
 use scl_text::records::Cacheable;
@@ -82,18 +79,6 @@ impl Ending {
             }
             CompilerArguments::CannotCache(_, _) => Ending::CannotCache,
             CompilerArguments::NotCompilation => Ending::CompilesNothing,
-        }
-    }
-
-    /// How it ends where it is asked whether the outcome may be kept under a key, by the rows of its description: as command lines
-    /// without equal keys do where it may not.
-    pub fn of_keeping(cacheable: Cacheable, rows: &[Vec<Vec<u8>>]) -> Ending
-        ensures { result ≡ ending_of_keeping cacheable (has_key (runs_of rows.now)) }
-    {
-        match (cacheable, has_key(rows)) {
-            (Cacheable::No, _) => Ending::NotKept,
-            (Cacheable::Yes, true) => Ending::Answered,
-            (Cacheable::Yes, false) => Ending::Different,
         }
     }
 

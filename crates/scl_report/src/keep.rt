@@ -84,36 +84,15 @@ fn verdict_of(alloc: Global, row: &[Vec<u8>]) -> Mem<Option<Verdict>> {
     }
 }
 
-/// Whether what is made may be kept at all, by the rules.
-pub(crate) fn cacheable_of(answered: &Answered<'_>) -> Cacheable {
+/// Whether rows say what may be kept: where something is compiled that may be kept at all.
+fn is_judged(answered: &Answered<'_>) -> bool {
     match &answered.answer {
-        CompilerArguments::Ok(compilation) => compilation.cacheable,
-        CompilerArguments::CannotCache(_, _) | CompilerArguments::NotCompilation => Cacheable::No,
+        CompilerArguments::Ok(compilation) => match compilation.cacheable {
+            Cacheable::Yes => true,
+            Cacheable::No => false,
+        },
+        CompilerArguments::CannotCache(_, _) | CompilerArguments::NotCompilation => false,
     }
-}
-
-/// The rows of the description of an answered command line, where what it makes may be kept at all; else none.
-pub(crate) fn judged_rows(
-    alloc: Global,
-    about: &About<'_>,
-    case: &Case,
-    answered: &Answered<'_>,
-) -> Mem<Vec<Vec<Vec<u8>>>> {
-    match cacheable_of(answered) {
-        Cacheable::Yes => read_rows(alloc, &description(alloc, about, case, answered)?),
-        Cacheable::No => Ok(Vec::new(alloc)),
-    }
-}
-
-/// What the rows `keep` say, in order.
-pub(crate) fn verdicts_of(alloc: Global, rows: &[Vec<Vec<u8>>]) -> Mem<Vec<Verdict>> {
-    let mut verdicts = Vec::new(alloc);
-    for row in rows {
-        if let Some(verdict) = verdict_of(alloc, row)? {
-            verdicts.push(verdict)?;
-        }
-    }
-    Ok(verdicts)
 }
 
 /// What the rows `keep` of an answered command line say, in order. It fails only for want of memory.
@@ -123,7 +102,17 @@ pub(crate) fn verdicts(
     case: &Case,
     answered: &Answered<'_>,
 ) -> Mem<Vec<Verdict>> {
-    verdicts_of(alloc, &judged_rows(alloc, about, case, answered)?)
+    let mut verdicts = Vec::new(alloc);
+    if !is_judged(answered) {
+        return Ok(verdicts);
+    }
+    let said = description(alloc, about, case, answered)?;
+    for row in &read_rows(alloc, &said)? {
+        if let Some(verdict) = verdict_of(alloc, row)? {
+            verdicts.push(verdict)?;
+        }
+    }
+    Ok(verdicts)
 }
 
 /// A verdict in the words of its row, with a sentence if it is not `yes`.

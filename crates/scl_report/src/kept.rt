@@ -1,5 +1,5 @@
 //! Whether the outcome of a command line may be kept under a key, alone.
-use crate::keep::{Verdict, cacheable_of, judged_rows, verdict_text, verdicts_of};
+use crate::keep::{Verdict, verdict_text, verdicts};
 use crate::pages::Pages;
 use scl_cl::{Cacheable, Mem};
 use scl_describe::About;
@@ -7,6 +7,15 @@ use scl_explain::{Case, Ending, Form, Reply, answer_case, cached_text, check, lo
 use scl_load::Disk;
 use std::alloc::Global;
 use std::fmt::Display;
+
+/// How it ends where this is said of keeping: where there is no key, as command lines without equal keys do.
+fn ending_of(verdicts: &[Verdict]) -> Ending {
+    match verdicts {
+        [] => Ending::NotKept,
+        [Verdict::Yes] => Ending::Answered,
+        _ => Ending::Different,
+    }
+}
 
 /// A line for each row `keep`.
 fn verdict_lines(alloc: Global, verdicts: &[Verdict]) -> Mem<Vec<u8>> {
@@ -29,16 +38,11 @@ fn error_line(alloc: Global, form: Form, ending: Ending) -> Mem<Option<String>> 
 }
 
 /// What is said of keeping, in the place of a reply that names hazards.
-fn kept_reply(
-    alloc: Global,
-    rows: &[Vec<Vec<u8>>],
-    ending: Ending,
-    form: Form,
-    reply: Reply,
-) -> Mem<Reply> {
+fn kept_reply(alloc: Global, verdicts: &[Verdict], form: Form, reply: Reply) -> Mem<Reply> {
     let Reply { output, .. } = reply;
+    let ending = ending_of(verdicts);
     let output = match form {
-        Form::Text(_) => verdict_lines(alloc, &verdicts_of(alloc, rows)?)?,
+        Form::Text(_) => verdict_lines(alloc, verdicts)?,
         Form::Json => output,
     };
     Ok(Reply {
@@ -70,9 +74,8 @@ where
     }
     match answer_case(alloc, disk, about, case, multiarch, false)? {
         Ok(answered) => {
-            let rows = judged_rows(alloc, about, case, &answered)?;
-            let ending = Ending::of_keeping(cacheable_of(&answered), &rows);
-            kept_reply(alloc, &rows, ending, form, reply)
+            let verdicts = verdicts(alloc, about, case, &answered)?;
+            kept_reply(alloc, &verdicts, form, reply)
         }
         Err(error) => Ok(Reply {
             output: Vec::new(alloc),

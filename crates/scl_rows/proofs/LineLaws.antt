@@ -135,13 +135,13 @@ module _ {K : Type 0} (ways : Ways K) where
 
 -- ---- the rows of a line
 
-end-refused : {K : Type 0} (name : K → List ℕ) (origin : Origin) (end : Option (Dangled K)) → first_refusal (row_end name origin end) ≡ option_map (λ d. argument_parse) end
-end-refused name origin None = refl
-end-refused name origin (Some d) = refl
+end-refused : {K : Type 0} (origin : Origin) (end : Option (Dangled K)) → first_refusal (row_end origin end) ≡ option_map (λ d. argument_parse) end
+end-refused origin None = refl
+end-refused origin (Some d) = refl
 
-no-end : {K : Type 0} (name : K → List ℕ) (origin : Origin) (end : Option (Dangled K)) → option_map (λ d. argument_parse) end ≡ None → row_end name origin end ≡ []
-no-end name origin None e = refl
-no-end name origin (Some d) e = absurd (cc)
+no-end : {K : Type 0} (origin : Origin) (end : Option (Dangled K)) → option_map (λ d. argument_parse) end ≡ None → row_end origin end ≡ []
+no-end origin None e = refl
+no-end origin (Some d) e = absurd (cc)
 
 -- a line with a refusal, or none, for each option
 module _ {K : Type 0} (ways : Ways K) (l : LineRead K) (whole : length l.line.refusals ≡ length l.line.options) where
@@ -149,21 +149,21 @@ module _ {K : Type 0} (ways : Ways K) (l : LineRead K) (whole : length l.line.re
   judged = rows_judged ways l.words l.line.ats l.line.refusals l.line.options
 
   abbrev last_row : List Told
-  last_row = row_end ways.name ways.origin l.line.dangling
+  last_row = row_end ways.origin l.line.dangling
 
   -- the first refusal of the rows is the line's
   pub line-refused : first_refusal (line_rows ways l) ≡ line_refusal l.line
   line-refused =
       first_refusal-append judged last_row
       ∙ ap (λ v. option_or v (first_refusal last_row)) (refused-first ways l.line.refusals l.line.options l.words l.line.ats whole)
-      ∙ ap (option_or (first_some l.line.refusals)) (end-refused ways.name ways.origin l.line.dangling)
+      ∙ ap (option_or (first_some l.line.refusals)) (end-refused ways.origin l.line.dangling)
 
   -- if the line is not refused, its rows make its lists
   pub line-listed : (there : Destination) → is_list there ≡ true → line_refusal l.line ≡ None → words_to there (line_rows ways l) ≡ listed ways there l.line.options
   line-listed there lists e =
       let both = option_or-none (first_some l.line.refusals) (option_map (λ d. argument_parse) l.line.dangling) e in
       words_to-append there judged last_row
-      ∙ ap (λ rows. words_to there judged ++ words_to there rows) (no-end ways.name ways.origin l.line.dangling both.1)
+      ∙ ap (λ rows. words_to there judged ++ words_to there rows) (no-end ways.origin l.line.dangling both.1)
       ∙ append-nil (words_to there judged)
       ∙ words-judged ways there lists l.line.refusals l.line.options l.words l.line.ats whole both.0
 
@@ -209,10 +209,10 @@ module _ {K : Type 0} (ways : Ways K) where
 last-behind : (words : List (List ℕ)) (word : List ℕ) → last (words ++ word ∷ []) ≡ Some word
 last-behind words word = last-append words (word ∷ [])
 
-end-given : {K : Type 0} (name : K → List ℕ) (origin : Origin) (own : List ℕ → Option (Row K)) (end : End) (words given left : List (List ℕ)) (ats : List (Option ℕ)) → IsLeftAt own end left → given ++ left ≡ words
-    → words_given (row_end name origin (dangled_by own (is_dangling end) words ats)) ≡ left
-end-given name origin own clean words given left ats is e = sym is
-end-given name origin own dangling words given left ats is e =
+end-given : {K : Type 0} (origin : Origin) (own : List ℕ → Option (Row K)) (end : End) (words given left : List (List ℕ)) (ats : List (Option ℕ)) → IsLeftAt own end left → given ++ left ≡ words
+    → words_given (row_end origin (dangled_by own (is_dangling end) words ats)) ≡ left
+end-given origin own clean words given left ats is e = sym is
+end-given origin own dangling words given left ats is e =
     ap (λ o. unwrap_or o [] ∷ []) (ap last (sym e ∙ ap (λ ws. given ++ ws) is.2) ∙ last-behind given is.0.flag) ∙ sym is.2
 
 -- the words that the rows of a line were cut from, in order, are its words
@@ -228,6 +228,6 @@ line-given ways verdict tables dashes e =
     let said = refusals_after (refusing_empty own empty_value verdict) [] os in
     let rows = rows_judged ways e.words ats said os in
     let given = judged-given ways c.options e.words from.0 ats said from.1 in
-    words_given-append rows (row_end ways.name ways.origin (dangled_by own (is_dangling c.end) e.words e.ats))
-    ∙ ap (λ ws. words_given rows ++ ws) (end-given ways.name ways.origin own c.end e.words (words_given rows) from.0 e.ats from.2 given)
+    words_given-append rows (row_end ways.origin (dangled_by own (is_dangling c.end) e.words e.ats))
+    ∙ ap (λ ws. words_given rows ++ ws) (end-given ways.origin own c.end e.words (words_given rows) from.0 e.ats from.2 given)
     ∙ given

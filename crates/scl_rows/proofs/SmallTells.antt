@@ -47,7 +47,7 @@ no-unhashed : (a : Place) → ghosts.eq (destination_at a) destinations.Unhashed
 no-unhashed places.Common = refl
 no-unhashed _ = refl
 
-module _ {K : Type 0} (name : K → List ℕ) (place : K → Place) (verdict : Seen K → Option Verdict) (flag_for : List ℕ → List ℕ) (own : List ℕ → Option (Row K)) (e : ExpandedWords) where
+module _ {K : Type 0} (place : K → Place) (verdict : Seen K → Option Verdict) (flag_for : List ℕ → List ℕ) (own : List ℕ → Option (Row K)) (e : ExpandedWords) where
   abbrev r : SmallRead K
   r = read_by verdict (tested_by place flag_for) own e
 
@@ -55,13 +55,13 @@ module _ {K : Type 0} (name : K → List ℕ) (place : K → Place) (verdict : S
   os = r.outer.line.options
 
   abbrev rows : List Told
-  rows = small_rows name place r
+  rows = small_rows place r
 
   abbrev tested : Result Parsed Verdict
   tested = tested_by place flag_for os
 
   same-refusal : first_refusal rows ≡ line_refusal r.outer.line
-  same-refusal = line-refused (ways name place) r.outer (read-whole (λ before. verdict) own false e)
+  same-refusal = line-refused (ways place) r.outer (read-whole (λ before. verdict) own false e)
 
   outcome-told : r.outcome ≡ unless (first_refusal rows) tested
   outcome-told = unless-bind (line_refusal r.outer.line) (Ok os) (tested_by place flag_for) ∙ ap (λ v. unless v tested) (sym same-refusal)
@@ -69,13 +69,13 @@ module _ {K : Type 0} (name : K → List ℕ) (place : K → Place) (verdict : S
   module _ (none : first_refusal rows ≡ None) where
     told-at : (there : Place) → is_list (destination_at there) ≡ true → words_to (destination_at there) rows ≡ list_at place there os
     told-at there l =
-        line-listed (ways name place) r.outer (read-whole (λ before. verdict) own false e) (destination_at there) l (sym same-refusal ∙ none)
+        line-listed (ways place) r.outer (read-whole (λ before. verdict) own false e) (destination_at there) l (sym same-refusal ∙ none)
         ∙ given-words (list side_of_flag (λ o. ghosts.eq (destination_at (place_of place o)) (destination_at there)) os)
         ∙ list-same (λ o. ghosts.eq (destination_at (place_of place o)) (destination_at there)) (goes_to place there) (λ o. same-place there (place_of place o) l) side_of_flag os
 
     nothing-at : (there : Destination) → is_list there ≡ true → ((o : Seen K) → ghosts.eq (destination_at (place_of place o)) there ≡ false) → words_to there rows ≡ []
     nothing-at there l none_there =
-        line-listed (ways name place) r.outer (read-whole (λ before. verdict) own false e) there l (sym same-refusal ∙ none) ∙ none-listed (ways name place) there none_there os
+        line-listed (ways place) r.outer (read-whole (λ before. verdict) own false e) there l (sym same-refusal ∙ none) ∙ none-listed (ways place) there none_there os
 
     lists-of : (flag input : List ℕ) (language : Language) → HasLists rows (record_of place os flag input language)
     lists-of flag input language destinations.Dependency = told-at places.Dependency refl
@@ -101,7 +101,7 @@ module _ {K : Type 0} (name : K → List ℕ) (place : K → Place) (verdict : S
   pub small-tells : Tells rows r.outcome
   small-tells = tells rows r.outcome tested outcome-told (λ none. of-flag none (ok_or (last_flag (goes_to place places.CompileFlag) os) NotCompilation))
 
-pub small-given : {K : Type 0} (name : K → List ℕ) (place : K → Place) (verdict : Seen K → Option Verdict) (flag_for : List ℕ → List ℕ) (tables : List (List (Row K))) (e : ExpandedWords) →
+pub small-given : {K : Type 0} (place : K → Place) (verdict : Seen K → Option Verdict) (flag_for : List ℕ → List ℕ) (tables : List (List (Row K))) (e : ExpandedWords) →
     let r = read_by verdict (tested_by place flag_for) (owner_in tables) e in
-    words_given (small_rows name place r) ≡ r.outer.words
-small-given name place verdict flag_for tables e = line-given (ways name place) (λ before. verdict) tables false e
+    words_given (small_rows place r) ≡ r.outer.words
+small-given place verdict flag_for tables e = line-given (ways place) (λ before. verdict) tables false e

@@ -21,7 +21,6 @@ use Rattle.scl_text.specs.declared.records.CCompilerKind.{CCompilerKind}
 use Rattle.scl_values.specs.Cuts.{mark}
 use Rattle.scl_values.specs.Row.{Row}
 use Rattle.scl_values.specs.Seen.{Seen, Raw, Unknown, Known}
-use Rattle.scl_rows.specs.KindNames.{gnu_kind_name}
 use Rattle.scl_rows.specs.Lines.{Ways, line_rows}
 use Rattle.scl_rows.specs.Rows.{Told, Tells, words_given}
 use Rattle.scl_rows.specs.declared.destination.Destination.{Destination}
@@ -68,20 +67,20 @@ abbrev pub inner_goes : Seen Kind → Destination
 inner_goes o = destination_at (inner_place_of o) destinations.Ignored
 
 abbrev pub outer_ways : Ways Kind
-outer_ways = record { name = gnu_kind_name; goes = outer_goes; side = side_of_flag; origin = origins.Given }
+outer_ways = record { goes = outer_goes; side = side_of_flag; origin = origins.Given }
 
 abbrev pub inner_ways : Ways Kind
-inner_ways = record { name = gnu_kind_name; goes = inner_goes; side = side_of_flag; origin = origins.Xclang }
+inner_ways = record { goes = inner_goes; side = side_of_flag; origin = origins.Xclang }
 
 -- ---- the rows that the rules add
 
--- an added row of a flag of this kind with its value, printed as these words
-abbrev pub row_added : Destination → List ℕ → List ℕ → Kind → List (List ℕ) → Told
-row_added there flag value k words = record {
+-- an added row of a flag with its value, printed as these words
+abbrev pub row_added : Destination → List ℕ → List ℕ → List (List ℕ) → Told
+row_added there flag value words = record {
   given = [];
   flag = Some flag;
   value = Some value;
-  kind = gnu_kind_name k;
+  kind = None;
   destination = there;
   origin = origins.Added;
   printed = words;
@@ -89,22 +88,22 @@ row_added there flag value k words = record {
   at = None;
 }
 
-abbrev pub row_apart : List ℕ → List ℕ → Kind → Told
-row_apart flag value k = row_added destinations.Dependency flag value k (flag ∷ value ∷ [])
+abbrev pub row_apart : List ℕ → List ℕ → Told
+row_apart flag value = row_added destinations.Dependency flag value (flag ∷ value ∷ [])
 
-abbrev pub row_joined : List ℕ → List ℕ → Kind → Told
-row_joined flag value k = row_added destinations.Common flag value k ((flag ++ value) ∷ [])
+abbrev pub row_joined : List ℕ → List ℕ → Told
+row_joined flag value = row_added destinations.Common flag value ((flag ++ value) ∷ [])
 
 abbrev pub rows_depfile : Bool → List ℕ → List Told
 rows_depfile true object = []
-rows_depfile false object = row_apart (codes "-MF") (with_extension object (codes "d")) kind.DepArgumentPath ∷ []
+rows_depfile false object = row_apart (codes "-MF") (with_extension object (codes "d")) ∷ []
 
 abbrev pub rows_target : (is_needed has_path : Bool) (flag target : Option (List ℕ)) → List ℕ → List Told
-rows_target true has_path flag target object = row_apart (unwrap_or flag (codes "-MT")) (unwrap_or target object) kind.DepTarget ∷ rows_depfile has_path object
+rows_target true has_path flag target object = row_apart (unwrap_or flag (codes "-MT")) (unwrap_or target object) ∷ rows_depfile has_path object
 rows_target false has_path flag target object = []
 
 abbrev pub rows_split : Bool → List ℕ → List Told
-rows_split true object = row_joined (codes "-D_gsplit_dwarf_path=") (with_extension object (codes "dwo")) kind.PassThrough ∷ []
+rows_split true object = row_joined (codes "-D_gsplit_dwarf_path=") (with_extension object (codes "dwo")) ∷ []
 rows_split false object = []
 
 -- those of the compilation of an input in this language to this object

@@ -1,6 +1,5 @@
 -- The rows of a line that was read, given or inner.
-use Rattle.std.specs.Prelude.{ℕ, List, [], ◌∷◌, ◌++◌, drop, length, take, Option, None, Some, codes, unwrap_or}
-use Rattle.std.specs.Option.{option_map}
+use Rattle.std.specs.Prelude.{ℕ, List, [], ◌∷◌, ◌++◌, drop, length, take, Option, None, Some, codes}
 use Rattle.scl_args.specs.Options.{spelled_on}
 use Rattle.scl_files.specs.Sources.{first_at}
 use Rattle.scl_text.specs.Lines.{Dangled}
@@ -10,7 +9,7 @@ use Rattle.scl_text.specs.Records.{Verdict}
 use Rattle.scl_values.specs.Seen.{Seen, Raw, Unknown, Known}
 use Rattle.scl_values.specs.Spell.{spelled}
 use Rattle.scl_values.specs.declared.argument.NormalizedDisposition.{NormalizedDisposition}
-use Rattle.scl_rows.specs.Rows.{Told, printed_at}
+use Rattle.scl_rows.specs.Rows.{Told, printed_at, unless_owned}
 use Rattle.scl_rows.specs.declared.destination.Destination.{Destination}
 use Rattle.scl_rows.specs.declared.destination.Destination.TheVariants as destinations
 use Rattle.scl_rows.specs.declared.origin.Origin.{Origin}
@@ -21,11 +20,11 @@ flag_at (Raw w) = None
 flag_at (Unknown w) = None
 flag_at (Known f k v how) = Some f
 
--- what an option is called: by the name of its kind, if it has one
-abbrev pub kind_at : {K : Type 0} → (K → List ℕ) → Seen K → List ℕ
-kind_at name (Raw w) = codes "raw"
-kind_at name (Unknown w) = codes "unknown"
-kind_at name (Known f k v how) = name k
+-- the kind's name of an option that has no flag
+abbrev pub kind_at : {K : Type 0} → Seen K → Option (List ℕ)
+kind_at (Raw w) = Some (codes "raw")
+kind_at (Unknown w) = Some (codes "unknown")
+kind_at (Known f k v how) = None
 
 -- the value of an option that has one
 abbrev pub value_at : {K : Type 0} → Seen K → Option (List ℕ)
@@ -34,10 +33,8 @@ value_at (Unknown w) = None
 value_at (Known f k v None) = None
 value_at (Known f k v (Some how)) = Some v
 
--- the names of the kinds of a line's options, where they go, on which side of its flag a value is then printed, and where the
--- line comes from
+-- where the options of a line go, on which side of its flag a value is then printed, and where the line comes from
 pub record Ways (K : Type 0) : Type 0 where
-  pub name : K → List ℕ
   pub goes : Seen K → Destination
   pub side : List ℕ → NormalizedDisposition
   pub origin : Origin
@@ -55,7 +52,7 @@ row_of ways words at said o =
       given = words;
       flag = flag_at o;
       value = value_at o;
-      kind = kind_at ways.name o;
+      kind = kind_at o;
       destination = there;
       origin = ways.origin;
       printed = printed_at there ways.origin (spelled_on ways.side o);
@@ -75,12 +72,12 @@ rows_judged ways words ats said (o ∷ os) =
     row_of ways (take count words) (first_at ats) (first_said said) o ∷ rows_judged ways (drop count words) (drop 1 ats) (drop 1 said) os
 
 -- the row of a last flag without its value
-abbrev pub row_dangling : {K : Type 0} → (K → List ℕ) → Origin → Dangled K → Told
-row_dangling name origin d = record {
+abbrev pub row_dangling : {K : Type 0} → Origin → Dangled K → Told
+row_dangling origin d = record {
   given = d.word ∷ [];
   flag = d.flag;
   value = None;
-  kind = unwrap_or (option_map name d.kind) (codes "unknown");
+  kind = unless_owned d.flag (codes "unknown");
   destination = destinations.Refused;
   origin = origin;
   printed = [];
@@ -89,10 +86,10 @@ row_dangling name origin d = record {
 }
 
 -- of a dangling end, if there is one
-abbrev pub row_end : {K : Type 0} → (K → List ℕ) → Origin → Option (Dangled K) → List Told
-row_end name origin None = []
-row_end name origin (Some d) = row_dangling name origin d ∷ []
+abbrev pub row_end : {K : Type 0} → Origin → Option (Dangled K) → List Told
+row_end origin None = []
+row_end origin (Some d) = row_dangling origin d ∷ []
 
 -- the rows of a line: of its options, and of its end
 abbrev pub line_rows : {K : Type 0} → Ways K → LineRead K → List Told
-line_rows ways l = rows_judged ways l.words l.line.ats l.line.refusals l.line.options ++ row_end ways.name ways.origin l.line.dangling
+line_rows ways l = rows_judged ways l.words l.line.ats l.line.refusals l.line.options ++ row_end ways.origin l.line.dangling

@@ -14,7 +14,6 @@ use Rattle.scl_msvc_reading.specs.declared.msvc.place.Place.{Place}
 use Rattle.scl_msvc_reading.specs.declared.msvc.place.Place.TheVariants as places
 use Rattle.scl_values.specs.Seen.{Seen, Raw, Unknown, Known}
 use Rattle.scl_rows.specs.GnuRows.{raw_goes}
-use Rattle.scl_rows.specs.KindNames.{gnu_kind_name, msvc_kind_name}
 use Rattle.scl_rows.specs.Lines.{Ways, line_rows}
 use Rattle.scl_rows.specs.Rows.{Told, Tells, words_given}
 use Rattle.scl_rows.specs.declared.destination.Destination.{Destination}
@@ -55,10 +54,10 @@ abbrev pub inner_goes : Seen gnu.Kind → Destination
 inner_goes o = destination_at (inner_place_of o) destinations.Ignored
 
 abbrev pub outer_ways : Ways Kind
-outer_ways = record { name = msvc_kind_name; goes = outer_goes; side = outer.side_of_flag; origin = origins.Given }
+outer_ways = record { goes = outer_goes; side = outer.side_of_flag; origin = origins.Given }
 
 abbrev pub inner_ways : Origin → Ways gnu.Kind
-inner_ways origin = record { name = gnu_kind_name; goes = inner_goes; side = side_of_flag; origin = origin }
+inner_ways origin = record { goes = inner_goes; side = side_of_flag; origin = origin }
 
 -- the rows of a reading: of the given line, of that after `-Xclang`, and of that after `-clang:`
 abbrev pub msvc_rows : MsvcRead → List Told

@@ -30,25 +30,25 @@ destination_at places.Refused = destinations.Refused
 destination_at places.NotCompilation = destinations.Refused
 
 -- where options go, by the places of their kinds
-abbrev pub ways : {K : Type 0} → (K → List ℕ) → (K → Place) → Ways K
-ways name place = record { name = name; goes = λ o. destination_at (place_of place o); side = side_of_flag; origin = origins.Given }
+abbrev pub ways : {K : Type 0} → (K → Place) → Ways K
+ways place = record { goes = λ o. destination_at (place_of place o); side = side_of_flag; origin = origins.Given }
 
 -- the rows of a reading
-abbrev pub small_rows : {K : Type 0} → (K → List ℕ) → (K → Place) → SmallRead K → List Told
-small_rows name place r = line_rows (ways name place) r.outer
+abbrev pub small_rows : {K : Type 0} → (K → Place) → SmallRead K → List Told
+small_rows place r = line_rows (ways place) r.outer
 
 -- ---- laws
 
 -- the rows of a reading say what its outcome is, by the places of kinds
 abbrev pub SmallRowsTell : Type 0 → Type 0
 SmallRowsTell K =
-    (name : K → List ℕ) (place : K → Place) (verdict : Seen K → Option Verdict) (flag_for : List ℕ → List ℕ) (own : List ℕ → Option (Row K)) (e : ExpandedWords) →
+    (place : K → Place) (verdict : Seen K → Option Verdict) (flag_for : List ℕ → List ℕ) (own : List ℕ → Option (Row K)) (e : ExpandedWords) →
     let r = read_by verdict (tested_by place flag_for) own e in
-    Tells (small_rows name place r) r.outcome
+    Tells (small_rows place r) r.outcome
 
 -- the words that they were cut from are those of the line
 abbrev pub SmallRowsShareWords : Type 0 → Type 0
 SmallRowsShareWords K =
-    (name : K → List ℕ) (place : K → Place) (verdict : Seen K → Option Verdict) (flag_for : List ℕ → List ℕ) (tables : List (List (Row K))) (e : ExpandedWords) →
+    (place : K → Place) (verdict : Seen K → Option Verdict) (flag_for : List ℕ → List ℕ) (tables : List (List (Row K))) (e : ExpandedWords) →
     let r = read_by verdict (tested_by place flag_for) (owner_in tables) e in
-    words_given (small_rows name place r) ≡ r.outer.words
+    words_given (small_rows place r) ≡ r.outer.words

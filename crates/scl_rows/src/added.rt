@@ -8,9 +8,8 @@ ghost use Rattle.scl_rows.specs.GnuRows.{row_added, row_apart, row_joined, rows_
 ghost use Rattle.scl_rows.specs.Rows.{told};
 
 use crate::destination::Destination;
-use crate::kind_names::NamedKind;
 use crate::origin::Origin;
-use crate::row::{Row, append_rows};
+use crate::row::{Row, append_rows, kind_name};
 use scl_args::{Mem, OfKinds, Options};
 use scl_gnu_reading::gcc::{ArgData, Kind, needs_target};
 use scl_text::language::Language;
@@ -20,7 +19,7 @@ use scl_text::records::{CompilerArguments, ParsedArguments};
 use scl_values::join_word;
 use std::alloc::Global;
 
-/// An added row of a flag of this kind with its value, printed as these words.
+/// An added row of a flag with its value, printed as these words.
 fn row_added(
     alloc: Global,
     destination: Destination,
@@ -29,13 +28,13 @@ fn row_added(
     kind: Kind,
     words: Vec<Vec<u8>>,
 ) -> Mem<Row>
-    ensures { IfOk result (λ row. told row ≡ row_added destination flag.now value.now kind (words_of words.items)) }
+    ensures { IfOk result (λ row. told row ≡ row_added destination flag.now value.now (words_of words.items)) }
 {
     Ok(Row {
         given: Vec::new(alloc),
         flag: Some(flag),
         value: Some(Vec::from_slice(alloc, value)?),
-        kind: kind.name(),
+        kind: kind_name(alloc, kind)?,
         destination,
         origin: Origin::Added,
         printed: words,
@@ -46,7 +45,7 @@ fn row_added(
 
 /// An added row of two words about dependencies.
 fn row_apart(alloc: Global, flag: &'static str, value: &[u8], kind: Kind) -> Mem<Row>
-    ensures { IfOk result (λ row. told row ≡ row_apart flag.now value.now kind) }
+    ensures { IfOk result (λ row. told row ≡ row_apart flag.now value.now) }
 {
     let first = Vec::from_slice(alloc, flag.as_bytes())?;
     let words = vec![in alloc; first, Vec::from_slice(alloc, value)?]?;
@@ -55,7 +54,7 @@ fn row_apart(alloc: Global, flag: &'static str, value: &[u8], kind: Kind) -> Mem
 
 /// An added row of one common word.
 fn row_joined(alloc: Global, flag: &'static str, value: &[u8], kind: Kind) -> Mem<Row>
-    ensures { IfOk result (λ row. told row ≡ row_joined flag.now value.now kind) }
+    ensures { IfOk result (λ row. told row ≡ row_joined flag.now value.now) }
 {
     let words = vec![in alloc; join_word(alloc, flag, None, value)?]?;
     row_added(alloc, Destination::Common, flag, value, kind, words)

@@ -1,5 +1,5 @@
 //! The rows of a line that was read, given or inner.
-ghost use Rattle.std.specs.Prelude.{◌≡◌, ◌++◌, IfOk, OnOk, codes, drop, map, take, unwrap_or};
+ghost use Rattle.std.specs.Prelude.{◌≡◌, ◌++◌, IfOk, OnOk, codes, drop, map, string_bytes, take};
 ghost use Rattle.std.specs.Option.{option_map};
 ghost use Rattle.scl_files.specs.Sources.{first_at};
 ghost use Rattle.scl_text.specs.Lines.{dangled_of, verdicts_of};
@@ -7,10 +7,9 @@ ghost use Rattle.scl_text.specs.Refusals.{verdict_of};
 ghost use Rattle.scl_values.specs.Seen.{seen};
 ghost use Rattle.scl_values.specs.Words.{words_of};
 ghost use Rattle.scl_rows.specs.Lines.{first_said, line_rows, row_dangling, row_end, rows_judged};
-ghost use Rattle.scl_rows.specs.Rows.{told};
+ghost use Rattle.scl_rows.specs.Rows.{told, unless_owned};
 
 use crate::destination::Destination;
-use crate::kind_names::NamedKind;
 use crate::origin::Origin;
 use crate::row::{Row, append_rows, row_of};
 use crate::ways::Ways;
@@ -19,6 +18,7 @@ use scl_files::first_at;
 use scl_text::refusal::{Refusal, argument_parse};
 use scl_text::{Dangling, ReadLine, word_count};
 use std::alloc::Global;
+use std::fmt::Debug;
 
 /// The first `count` words.
 fn first_words(words: &[Vec<u8>], count: usize) -> &[Vec<u8>]
@@ -63,8 +63,8 @@ fn rows_judged<T: ReadArg, W: Ways<T>>(
     refusals: &[Option<Refusal>],
 ) -> Mem<Vec<Row>>
 where
-    T::Kind: NamedKind,
-    ensures { IfOk result (λ rows. map told rows.items ≡ rows_judged (record { name = T.Kind.name_of; goes = W.goes ways.now; side = W.side ways.now; origin = W.comes ways.now })
+    T::Kind: Debug,
+    ensures { IfOk result (λ rows. map told rows.items ≡ rows_judged (record { goes = W.goes ways.now; side = W.side ways.now; origin = W.comes ways.now })
         (words_of words.now) ats.now (verdicts_of refusals.now) (map (seen T.kind_of T.word_of) options.now)) }
 {
     let mut rows = Vec::new(alloc);
@@ -90,24 +90,24 @@ fn end_flag<K>(owner: &Option<(&'static str, K)>) -> Option<&'static str>
     }
 }
 
-fn end_kind<K: NamedKind>(owner: &Option<(&'static str, K)>) -> &'static str
-    ensures { result.now ≡ unwrap_or (option_map K.name_of (option_map (λ owner. owner.1) owner.now)) (codes "unknown") }
+fn end_kind<K: Debug>(alloc: Global, owner: &Option<(&'static str, K)>) -> Mem<String>
+    ensures { IfOk result (λ kind. unless_owned (option_map (λ owner. owner.0.now) owner.now) (string_bytes kind) ≡ unless_owned (option_map (λ owner. owner.0.now) owner.now) (codes "unknown")) }
 {
     match owner {
-        Some((_, kind)) => kind.name(),
-        None => "unknown",
+        Some((_, kind)) => format!(in alloc; "{kind:?}"),
+        None => String::from_str(alloc, "unknown"),
     }
 }
 
 /// The row of a last flag without its value.
-fn dangling_row<K: NamedKind>(alloc: Global, origin: Origin, dangling: &Dangling<K>) -> Mem<Row>
-    ensures { IfOk result (λ row. told row ≡ row_dangling K.name_of origin (dangled_of dangling.now)) }
+fn dangling_row<K: Debug>(alloc: Global, origin: Origin, dangling: &Dangling<K>) -> Mem<Row>
+    ensures { IfOk result (λ row. told row ≡ row_dangling origin (dangled_of dangling.now)) }
 {
     Ok(Row {
         given: vec![in alloc; Vec::from_slice(alloc, &dangling.word)?]?,
         flag: end_flag(&dangling.owner),
         value: None,
-        kind: end_kind(&dangling.owner),
+        kind: end_kind(alloc, &dangling.owner)?,
         destination: Destination::Refused,
         origin,
         printed: Vec::new(alloc),
@@ -117,13 +117,13 @@ fn dangling_row<K: NamedKind>(alloc: Global, origin: Origin, dangling: &Dangling
 }
 
 /// Appends the row of a dangling end, if there is one.
-fn push_end<K: NamedKind>(
+fn push_end<K: Debug>(
     alloc: Global,
     rows: &mut Vec<Row>,
     origin: Origin,
     dangling: Option<&Dangling<K>>,
 ) -> Mem<()>
-    ensures { OnOk result (map told rows.new.items ≡ map told rows.old.items ++ row_end K.name_of origin (option_map (λ d. dangled_of d.now) dangling.entry)) }
+    ensures { OnOk result (map told rows.new.items ≡ map told rows.old.items ++ row_end origin (option_map (λ d. dangled_of d.now) dangling.entry)) }
 {
     match dangling {
         Some(dangling) => {
@@ -137,8 +137,8 @@ fn push_end<K: NamedKind>(
 /// The rows of a line.
 fn line_rows<T: ReadArg, W: Ways<T>>(alloc: Global, line: &ReadLine<T>, ways: &W) -> Mem<Vec<Row>>
 where
-    T::Kind: NamedKind,
-    ensures { IfOk result (λ rows. map told rows.items ≡ line_rows (record { name = T.Kind.name_of; goes = W.goes ways.now; side = W.side ways.now; origin = W.comes ways.now }) line.now) }
+    T::Kind: Debug,
+    ensures { IfOk result (λ rows. map told rows.items ≡ line_rows (record { goes = W.goes ways.now; side = W.side ways.now; origin = W.comes ways.now }) line.now) }
 {
     let (words, line) = (line.words(), line.line());
     let options = line.options().as_slice();
@@ -155,8 +155,8 @@ pub(crate) fn push_line<T: ReadArg, W: Ways<T>>(
     ways: &W,
 ) -> Mem<()>
 where
-    T::Kind: NamedKind,
-    ensures { OnOk result (map told rows.new.items ≡ map told rows.old.items ++ line_rows (record { name = T.Kind.name_of; goes = W.goes ways.now; side = W.side ways.now; origin = W.comes ways.now }) line.now) }
+    T::Kind: Debug,
+    ensures { OnOk result (map told rows.new.items ≡ map told rows.old.items ++ line_rows (record { goes = W.goes ways.now; side = W.side ways.now; origin = W.comes ways.now }) line.now) }
 {
     append_rows(rows, line_rows(alloc, line, ways)?)
 }

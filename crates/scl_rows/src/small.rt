@@ -4,7 +4,6 @@ ghost use Rattle.scl_rows.specs.Rows.{told};
 ghost use Rattle.scl_rows.specs.SmallRows.{destination_at, small_rows};
 
 use crate::destination::Destination;
-use crate::kind_names::NamedKind;
 use crate::line::push_line;
 use crate::origin::Origin;
 use crate::row::Row;
@@ -12,6 +11,7 @@ use crate::ways::Ways;
 use scl_args::{Argument, Mem, NormalizedDisposition, ShortFlagsJoined, Sides};
 use scl_small::{Place, Placed, Rules, SmallReading, place_of};
 use std::alloc::Global;
+use std::fmt::Debug;
 
 /// The destination of a place.
 fn destination_at(place: Place) -> Destination
@@ -65,8 +65,8 @@ impl<T: Placed> Ways<T> for ByPlace {
 /// The rows of a command line of Diab or TaskingVX, those of its options (docs/RULES.md, Rows of options).
 pub fn small_rows<T: Rules>(alloc: Global, reading: &SmallReading<T>) -> Mem<Vec<Row>>
 where
-    T::Kind: NamedKind,
-    ensures { IfOk result (λ rows. map told rows.items ≡ small_rows T.Kind.name_of T.place reading.now) }
+    T::Kind: Debug,
+    ensures { IfOk result (λ rows. map told rows.items ≡ small_rows T.place reading.now) }
 {
     let mut rows = Vec::new(alloc);
     push_line(alloc, &mut rows, reading.outer(), &ByPlace)?;

@@ -1,22 +1,9 @@
 //! Entries of the catalogue that is built in; `catalogue/build` writes them.
 ghost use Rattle.std.specs.Prelude.{◌≡◌, map};
 ghost use Rattle.scl_catalogue.specs.Views.{entry_of};
-ghost use Rattle.scl_catalogue_default.specs.Part10.{option_of_cl_entry, inner_words_entry, option_of_microsoft_entry, options_of_others_entry, part_10};
+ghost use Rattle.scl_catalogue_default.specs.Part10.{inner_words_entry, option_of_microsoft_entry, options_of_others_entry, part_10};
 
 use scl_catalogue::Entry;
-
-static ENTRY_OPTION_OF_CL: Entry<'static> = entry! {
-    Plain b"option-of-cl"
-    b"Clang-cl reads and writes no other file for it."
-    [(ClangCl) : {Given Any ([Kind {Is b"pass-through" Is b"pass-through-with-suffix"}] [Flag {Begins b"-external:" Begins b"/external:"}])}]
-};
-
-#[tactic(auto, unfolding(crate::specs::Part10::option_of_cl_entry))]
-fn option_of_cl_entry() -> Entry<'static>
-    ensures { entry_of result ≡ option_of_cl_entry }
-{
-    ENTRY_OPTION_OF_CL
-}
 
 static ENTRY_INNER_WORDS: Entry<'static> = entry! {
     Plain b"inner-words"
@@ -59,11 +46,10 @@ fn options_of_others_entry() -> Entry<'static>
 }
 
 #[tactic(auto, unfolding(crate::specs::Part10::part_10))]
-pub(crate) fn part() -> [Entry<'static>; 4]
+pub(crate) fn part() -> [Entry<'static>; 3]
     ensures { map entry_of result ≡ part_10 }
 {
     [
-        option_of_cl_entry(),
         inner_words_entry(),
         option_of_microsoft_entry(),
         options_of_others_entry(),

@@ -1,7 +1,7 @@
 //! Entries of the catalogue that is built in; `catalogue/build` writes them.
 ghost use Rattle.std.specs.Prelude.{◌≡◌, map};
 ghost use Rattle.scl_catalogue.specs.Views.{entry_of};
-ghost use Rattle.scl_catalogue_default.specs.Part6.{index_of_link_entry, cached_stats_entry, precompiled_header_entry, header_compiled_before_entry, file_of_mapped_name_entry, words_for_assembler_entry, modules_of_a_module_entry, plugin_entry, plugin_of_llvm_entry, prototypes_entry, remarks_in_file_entry, optimization_record_entry, optimization_remarks_entry, counts_removed_entry, coverage_notes_entry, coverage_notes_in_file_entry, split_debug_information_entry, diagnostics_entry, part_6};
+ghost use Rattle.scl_catalogue_default.specs.Part6.{index_of_link_entry, cached_stats_entry, precompiled_header_entry, header_compiled_before_entry, file_of_mapped_name_entry, words_for_assembler_entry, plugin_entry, plugin_of_llvm_entry, prototypes_entry, remarks_in_file_entry, optimization_record_entry, optimization_remarks_entry, counts_removed_entry, coverage_notes_entry, coverage_notes_in_file_entry, split_debug_information_entry, diagnostics_entry, interface_stubs_entry, part_6};
 
 use scl_catalogue::Entry;
 
@@ -82,22 +82,6 @@ fn words_for_assembler_entry() -> Entry<'static>
     ensures { entry_of result ≡ words_for_assembler_entry }
 {
     ENTRY_WORDS_FOR_ASSEMBLER
-}
-
-static ENTRY_MODULES_OF_A_MODULE: Entry<'static> = entry! {
-    Effect Reads b"*" b"modules-of-a-module"
-    b"The files of the modules that a module imports are read from the places that its own file names."
-    [(Clang until 19 0) : {Given Any ([Kind {Is b"extra-hash-file-clang-module-file"}])}]
-    [(Clang until 19 0) : {Inner Any ([Kind {Is b"extra-hash-file-clang-module-file"}])}]
-    [(ClangCl until 19 0) : {Given Any ([Kind {Is b"clang-module-file"}])}]
-    [(ClangCl until 19 0) : {Inner Any ([Kind {Is b"extra-hash-file-clang-module-file"}])}]
-};
-
-#[tactic(auto, unfolding(crate::specs::Part6::modules_of_a_module_entry))]
-fn modules_of_a_module_entry() -> Entry<'static>
-    ensures { entry_of result ≡ modules_of_a_module_entry }
-{
-    ENTRY_MODULES_OF_A_MODULE
 }
 
 static ENTRY_PLUGIN: Entry<'static> = entry! {
@@ -246,6 +230,19 @@ fn diagnostics_entry() -> Entry<'static>
     ENTRY_DIAGNOSTICS
 }
 
+static ENTRY_INTERFACE_STUBS: Entry<'static> = entry! {
+    Effect Writes b"{object-stem}.ifs" b"interface-stubs"
+    b"Stubs of the interface are written."
+    [(Clang) : {Given Any ([Unknown {Is b"-emit-interface-stubs"}])}]
+};
+
+#[tactic(auto, unfolding(crate::specs::Part6::interface_stubs_entry))]
+fn interface_stubs_entry() -> Entry<'static>
+    ensures { entry_of result ≡ interface_stubs_entry }
+{
+    ENTRY_INTERFACE_STUBS
+}
+
 #[tactic(auto, unfolding(crate::specs::Part6::part_6))]
 pub(crate) fn part() -> [Entry<'static>; 18]
     ensures { map entry_of result ≡ part_6 }
@@ -257,7 +254,6 @@ pub(crate) fn part() -> [Entry<'static>; 18]
         header_compiled_before_entry(),
         file_of_mapped_name_entry(),
         words_for_assembler_entry(),
-        modules_of_a_module_entry(),
         plugin_entry(),
         plugin_of_llvm_entry(),
         prototypes_entry(),
@@ -269,5 +265,6 @@ pub(crate) fn part() -> [Entry<'static>; 18]
         coverage_notes_in_file_entry(),
         split_debug_information_entry(),
         diagnostics_entry(),
+        interface_stubs_entry(),
     ]
 }

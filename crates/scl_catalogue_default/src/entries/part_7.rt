@@ -1,22 +1,9 @@
 //! Entries of the catalogue that is built in; `catalogue/build` writes them.
 ghost use Rattle.std.specs.Prelude.{◌≡◌, map};
 ghost use Rattle.scl_catalogue.specs.Views.{entry_of};
-ghost use Rattle.scl_catalogue_default.specs.Part7.{interface_stubs_entry, time_trace_entry, time_trace_in_file_entry, assembler_listing_entry, assembler_dependencies_entry, handed_listing_entry, dependencies_entry, object_of_another_option_entry, final_code_entry, final_code_beside_object_entry, declarations_for_go_entry, declarations_for_ada_entry, dumped_passes_entry, dumped_passes_elsewhere_entry, compared_code_entry, assembly_left_entry, run_times_entry, module_folder_entry, part_7};
+ghost use Rattle.scl_catalogue_default.specs.Part7.{time_trace_entry, time_trace_in_file_entry, assembler_listing_entry, assembler_dependencies_entry, handed_listing_entry, dependencies_entry, object_of_another_option_entry, final_code_entry, final_code_beside_object_entry, declarations_for_go_entry, declarations_for_ada_entry, dumped_passes_entry, dumped_passes_elsewhere_entry, compared_code_entry, assembly_left_entry, run_times_entry, module_folder_entry, messages_in_file_entry, part_7};
 
 use scl_catalogue::Entry;
-
-static ENTRY_INTERFACE_STUBS: Entry<'static> = entry! {
-    Effect Writes b"{object-stem}.ifs" b"interface-stubs"
-    b"Stubs of the interface are written."
-    [(Clang) : {Given Any ([Unknown {Is b"-emit-interface-stubs"}])}]
-};
-
-#[tactic(auto, unfolding(crate::specs::Part7::interface_stubs_entry))]
-fn interface_stubs_entry() -> Entry<'static>
-    ensures { entry_of result ≡ interface_stubs_entry }
-{
-    ENTRY_INTERFACE_STUBS
-}
 
 static ENTRY_TIME_TRACE: Entry<'static> = entry! {
     Effect Writes b"{object-stem}.json" b"time-trace"
@@ -241,12 +228,24 @@ fn module_folder_entry() -> Entry<'static>
     ENTRY_MODULE_FOLDER
 }
 
+static ENTRY_MESSAGES_IN_FILE: Entry<'static> = entry! {
+    Effect Writes b"*" b"messages-in-file"
+    b"Messages are written in a form for programs."
+    [(Gcc) : {Given Any ([Unknown {Is b"-fdiagnostics-format=json-file" Is b"-fdiagnostics-format=sarif-file" Begins b"-fdiagnostics-add-output=" Begins b"-fdiagnostics-set-output="}])}]
+};
+
+#[tactic(auto, unfolding(crate::specs::Part7::messages_in_file_entry))]
+fn messages_in_file_entry() -> Entry<'static>
+    ensures { entry_of result ≡ messages_in_file_entry }
+{
+    ENTRY_MESSAGES_IN_FILE
+}
+
 #[tactic(auto, unfolding(crate::specs::Part7::part_7))]
 pub(crate) fn part() -> [Entry<'static>; 18]
     ensures { map entry_of result ≡ part_7 }
 {
     [
-        interface_stubs_entry(),
         time_trace_entry(),
         time_trace_in_file_entry(),
         assembler_listing_entry(),
@@ -264,5 +263,6 @@ pub(crate) fn part() -> [Entry<'static>; 18]
         assembly_left_entry(),
         run_times_entry(),
         module_folder_entry(),
+        messages_in_file_entry(),
     ]
 }

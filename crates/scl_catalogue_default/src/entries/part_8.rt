@@ -1,22 +1,9 @@
 //! Entries of the catalogue that is built in; `catalogue/build` writes them.
 ghost use Rattle.std.specs.Prelude.{◌≡◌, map};
 ghost use Rattle.scl_catalogue.specs.Views.{entry_of};
-ghost use Rattle.scl_catalogue_default.specs.Part8.{messages_in_file_entry, dependencies_of_modules_entry, logs_of_checked_calls_entry, kept_intermediates_entry, drawn_graphs_entry, statistics_in_file_entry, dependencies_of_inner_words_entry, native_instructions_entry, native_tuning_entry, folder_in_debug_information_entry, folder_of_counts_entry, folder_in_syntax_tree_entry, input_entry, named_by_record_entry, shown_by_preprocessor_entry, named_by_plan_entry, named_by_key_entry, machine_entry, part_8};
+ghost use Rattle.scl_catalogue_default.specs.Part8.{dependencies_of_modules_entry, logs_of_checked_calls_entry, kept_intermediates_entry, drawn_graphs_entry, statistics_in_file_entry, dependencies_of_inner_words_entry, native_instructions_entry, native_tuning_entry, folder_in_debug_information_entry, folder_of_counts_entry, folder_in_syntax_tree_entry, input_entry, named_by_record_entry, shown_by_preprocessor_entry, named_by_plan_entry, named_by_key_entry, machine_entry, optimization_entry, part_8};
 
 use scl_catalogue::Entry;
-
-static ENTRY_MESSAGES_IN_FILE: Entry<'static> = entry! {
-    Effect Writes b"*" b"messages-in-file"
-    b"Messages are written in a form for programs."
-    [(Gcc) : {Given Any ([Unknown {Is b"-fdiagnostics-format=json-file" Is b"-fdiagnostics-format=sarif-file" Begins b"-fdiagnostics-add-output=" Begins b"-fdiagnostics-set-output="}])}]
-};
-
-#[tactic(auto, unfolding(crate::specs::Part8::messages_in_file_entry))]
-fn messages_in_file_entry() -> Entry<'static>
-    ensures { entry_of result ≡ messages_in_file_entry }
-{
-    ENTRY_MESSAGES_IN_FILE
-}
 
 static ENTRY_DEPENDENCIES_OF_MODULES: Entry<'static> = entry! {
     Effect Writes b"{value}" b"dependencies-of-modules"
@@ -262,12 +249,26 @@ fn machine_entry() -> Entry<'static>
     ENTRY_MACHINE
 }
 
+static ENTRY_OPTIMIZATION: Entry<'static> = entry! {
+    Plain b"optimization"
+    b"It says how good the code shall be."
+    [(Gcc) (Clang) : {Given Any ([Unknown {Begins b"-O" Is b"--optimize" Begins b"--optimize=" Is b"-ffast-math"}] [Flag {Is b"--param"}] [Unknown {Begins b"--param="}])}]
+    [(ClangCl) : {Given Any ([Unknown {Begins b"-O" Begins b"/O"}])}]
+    [(ClangCl) : {Inner Any ([Unknown {Begins b"-O" Begins b"--param="}] [Flag {Is b"--param"}])}]
+};
+
+#[tactic(auto, unfolding(crate::specs::Part8::optimization_entry))]
+fn optimization_entry() -> Entry<'static>
+    ensures { entry_of result ≡ optimization_entry }
+{
+    ENTRY_OPTIMIZATION
+}
+
 #[tactic(auto, unfolding(crate::specs::Part8::part_8))]
 pub(crate) fn part() -> [Entry<'static>; 18]
     ensures { map entry_of result ≡ part_8 }
 {
     [
-        messages_in_file_entry(),
         dependencies_of_modules_entry(),
         logs_of_checked_calls_entry(),
         kept_intermediates_entry(),
@@ -285,5 +286,6 @@ pub(crate) fn part() -> [Entry<'static>; 18]
         named_by_plan_entry(),
         named_by_key_entry(),
         machine_entry(),
+        optimization_entry(),
     ]
 }

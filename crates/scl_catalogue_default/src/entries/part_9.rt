@@ -1,24 +1,9 @@
 //! Entries of the catalogue that is built in; `catalogue/build` writes them.
 ghost use Rattle.std.specs.Prelude.{◌≡◌, map};
 ghost use Rattle.scl_catalogue.specs.Views.{entry_of};
-ghost use Rattle.scl_catalogue_default.specs.Part9.{optimization_entry, warnings_entry, standard_of_language_entry, link_entry, switched_off_entry, debug_information_entry, handed_to_assembler_entry, handed_to_llvm_entry, maps_of_paths_entry, values_of_gcc_and_clang_entry, values_of_gcc_entry, values_of_clang_entry, inner_values_of_both_entry, inner_values_of_clang_entry, values_of_clang_cl_entry, folder_of_notes_entry, crash_entry, remarks_entry, part_9};
+ghost use Rattle.scl_catalogue_default.specs.Part9.{warnings_entry, standard_of_language_entry, link_entry, switched_off_entry, debug_information_entry, handed_to_assembler_entry, handed_to_llvm_entry, maps_of_paths_entry, values_of_gcc_and_clang_entry, values_of_gcc_entry, values_of_clang_entry, inner_values_of_both_entry, inner_values_of_clang_entry, values_of_clang_cl_entry, folder_of_notes_entry, crash_entry, remarks_entry, option_of_cl_entry, part_9};
 
 use scl_catalogue::Entry;
-
-static ENTRY_OPTIMIZATION: Entry<'static> = entry! {
-    Plain b"optimization"
-    b"It says how good the code shall be."
-    [(Gcc) (Clang) : {Given Any ([Unknown {Begins b"-O" Is b"--optimize" Begins b"--optimize=" Is b"-ffast-math"}] [Flag {Is b"--param"}] [Unknown {Begins b"--param="}])}]
-    [(ClangCl) : {Given Any ([Unknown {Begins b"-O" Begins b"/O"}])}]
-    [(ClangCl) : {Inner Any ([Unknown {Begins b"-O" Begins b"--param="}] [Flag {Is b"--param"}])}]
-};
-
-#[tactic(auto, unfolding(crate::specs::Part9::optimization_entry))]
-fn optimization_entry() -> Entry<'static>
-    ensures { entry_of result ≡ optimization_entry }
-{
-    ENTRY_OPTIMIZATION
-}
 
 static ENTRY_WARNINGS: Entry<'static> = entry! {
     Plain b"warnings"
@@ -257,12 +242,24 @@ fn remarks_entry() -> Entry<'static>
     ENTRY_REMARKS
 }
 
+static ENTRY_OPTION_OF_CL: Entry<'static> = entry! {
+    Plain b"option-of-cl"
+    b"Clang-cl reads and writes no other file for it."
+    [(ClangCl) : {Given Any ([Kind {Is b"pass-through" Is b"pass-through-with-suffix"}] [Flag {Begins b"-external:" Begins b"/external:"}])}]
+};
+
+#[tactic(auto, unfolding(crate::specs::Part9::option_of_cl_entry))]
+fn option_of_cl_entry() -> Entry<'static>
+    ensures { entry_of result ≡ option_of_cl_entry }
+{
+    ENTRY_OPTION_OF_CL
+}
+
 #[tactic(auto, unfolding(crate::specs::Part9::part_9))]
 pub(crate) fn part() -> [Entry<'static>; 18]
     ensures { map entry_of result ≡ part_9 }
 {
     [
-        optimization_entry(),
         warnings_entry(),
         standard_of_language_entry(),
         link_entry(),
@@ -280,5 +277,6 @@ pub(crate) fn part() -> [Entry<'static>; 18]
         folder_of_notes_entry(),
         crash_entry(),
         remarks_entry(),
+        option_of_cl_entry(),
     ]
 }

@@ -13,7 +13,7 @@ use Rattle.scl_rows.proofs.line.rows_judged.Goals as goal
 pub loop-option-preserved : goal.loop-option-preserved
 loop-option-preserved g c =
     let see = seen g.T.ArgumentValue.kind_of g.T.IntoArg.word_of in
-    let ways : Ways _ = record { name = g.T.Kind.NamedKind.name_of; goes = g.W.Ways.goes c.args.ways.now; side = g.W.Sides.side c.args.ways.now; origin = g.W.Ways.comes c.args.ways.now } in
+    let ways : Ways _ = record { goes = g.W.Ways.goes c.args.ways.now; side = g.W.Sides.side c.args.ways.now; origin = g.W.Ways.comes c.args.ways.now } in
     let options = c.args.options.now in
     let i = c.loop-option.option-index in
     let row = c.in_ok-row_of.field-0 in
