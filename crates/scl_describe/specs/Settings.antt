@@ -36,6 +36,8 @@ pub data Setting : Type 0 where
   Version : (text : List ℕ) → Setting
   Bound : (words : ℕ) → Setting
   Wanted : (part : Part) → Setting
+  -- a base directory, of which a description says nothing
+  Base : (dir : List ℕ) → Setting
 
 abbrev pub with_setting : Settings → Setting → Settings
 with_setting s MayDist = record s { may_dist = true }
@@ -43,6 +45,7 @@ with_setting s RewriteIncludesOnly = record s { rewrite_includes_only = true }
 with_setting s CacheMode = record s { cache_mode = true }
 with_setting s (Version text) = record s { version = Some text }
 with_setting s (Bound words) = record s { bound = words }
+with_setting s (Base dir) = s
 with_setting s (Wanted part) = record s { wants = Some (with_part (unwrap_or s.wants nothing_more) part) }
 
 -- ---- lines
@@ -75,7 +78,8 @@ abbrev pub setting_with : List ℕ → List ℕ → Option Setting
 setting_with name value =
     if bytes_eq name (codes "bound") then option_map Bound (number_of value)
     else (if bytes_eq name (codes "version") then option_map Version (field_text value)
-    else (if bytes_eq name (codes "wants") then option_map Wanted (part_of value) else None))
+    else (if bytes_eq name (codes "wants") then option_map Wanted (part_of value)
+    else (if bytes_eq name (codes "base") then option_map Base (field_of value) else None)))
 
 abbrev pub setting_in : List ℕ → Option (List ℕ × List ℕ) → Option Setting
 setting_in text None = setting_alone text

@@ -31,6 +31,8 @@ enum Setting {
     Version(String),
     Bound(usize),
     Wanted(Part),
+    /// A base directory, of which a description says nothing: what makes keys of it reads the line itself.
+    Base(Vec<u8>),
 }
 
 impl Settings {
@@ -65,6 +67,7 @@ impl Settings {
             Setting::CacheMode => self.cache_mode = true,
             Setting::Version(text) => self.version = Some(text),
             Setting::Bound(words) => self.bound = words,
+            Setting::Base(_) => {}
             Setting::Wanted(part) => {
                 self.wants = Some(self.wants.unwrap_or(Wants::nothing_more()).with(part));
             }
@@ -136,6 +139,8 @@ fn setting_with(alloc: Global, name: &[u8], value: &[u8]) -> Mem<Option<Setting>
         Ok(field_text(alloc, value)?.map(Setting::Version))
     } else if name == b"wants".as_slice() {
         Ok(part_of(value).map(Setting::Wanted))
+    } else if name == b"base".as_slice() {
+        Ok(read_field(alloc, value)?.map(Setting::Base))
     } else {
         Ok(None)
     }

@@ -7,6 +7,7 @@ use crate::naming::named;
 use scl_cl::{Mem, Service};
 use scl_describe::{Descriptions, Tables};
 use scl_description::next_line;
+use scl_shared_text::{bases_in, shared_text};
 use std::alloc::Global;
 
 /// Whether a request asks what a program's name means.
@@ -20,7 +21,7 @@ fn asks_name(bytes: &[u8]) -> bool
 }
 
 /// Answers a request whose first line is `name` by what the name of a program means, and each other one by a description, with
-/// what tables know of compilers (docs/PROTOCOL.md, A request).
+/// what tables know of compilers, whose key is told by the base directories of lines `setting base` (docs/PROTOCOL.md, A request).
 #[derive(Debug, Clone, Copy)]
 pub struct Requests<'a> {
     /// What is known of compilers.
@@ -33,14 +34,18 @@ impl<'a> Service for Requests<'a> {
 
     ghost answers = { λ service bytes said. AnswersBytes (tables_of service.tables) bytes said };
 
-    #[tactic(auto, using(crate::proofs::RequestLaws::name_said, crate::proofs::RequestLaws::description_said))]
+    #[tactic(auto, using(crate::proofs::RequestLaws::name_said, crate::proofs::RequestLaws::text_said, crate::proofs::RequestLaws::number_said))]
     fn answer(&self, alloc: Global, bytes: Vec<u8>) -> Mem<Result<Vec<u8>, u64>> {
         if asks_name(&bytes) {
             return Ok(named(alloc, &bytes)?);
         }
+        let bases = bases_in(alloc, &bytes)?;
         let descriptions = Descriptions {
             tables: self.tables,
         };
-        Ok(descriptions.answer(alloc, bytes)?)
+        match descriptions.answer(alloc, bytes)? {
+            Ok(text) => Ok(Ok(shared_text(alloc, &bases, text)?)),
+            Err(number) => Ok(Err(number)),
+        }
     }
 }
