@@ -5,7 +5,7 @@ import sys
 
 
 class Parser(argparse.ArgumentParser):
-    """A parser of the words behind a script that has this text."""
+    """A parser of the words after a script that has this text."""
 
     def __init__(self, text):
         super().__init__()

@@ -152,7 +152,7 @@ def around(old, new):
 
 
 def differences(old, new):
-    """What one page says otherwise than another, a text for each clause; of what an entry cites only where its clauses are the same."""
+    """What one page says differently from another, a text for each clause; of what an entry cites only where its clauses are the same."""
     old, new = read(old), read(new)
     for name in [*old, *(it for it in new if it not in old)]:
         if name not in new or name not in old:

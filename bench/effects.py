@@ -2,7 +2,7 @@
 import re
 
 TEXT, NAMES = "catalogue/effects.txt", "catalogue/plain.txt"
-SHOWN = 10  # of a list of names that is longer, so many stand on the page
+SHOWN = 10  # of a list of names that is longer, this many stand on the page
 HEADINGS = {
     "reads": ("What is read", "A file on whose bytes the object depends."),
     "loads": ("What is loaded", "A library that becomes a part of the compiler."),
@@ -65,7 +65,7 @@ def cut(words, marks="`"):
 
 
 def test_said(text):
-    """A test in words: its names, those left out, and what is asked of the value."""
+    """A test in words: its names, those left out, and what the value must be."""
     first, *demands = [part.strip() for part in text.split(" & ")]
     kind, _, names = first.partition(" ")
     some, _, but = names.partition("!")

@@ -108,7 +108,7 @@ class Source:
         return Item(kind, self.said(begin, at), self.lines[begin]), at + 1
 
     def kind_of(self, begin, end):
-        """The word that tells what an item is; `!` for one that a macro makes."""
+        """The word that says what an item is; `!` for one that a macro makes."""
         head = self.said(begin, min(end, begin + 40))
         word = re.match(r"\w+", head[BEFORE.match(head).end() :])
         called = re.match(r"(?:\w+::)*\w+ ?!", head)

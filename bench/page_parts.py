@@ -8,8 +8,10 @@ import schema
 HELP, DESCRIBE, HEADER = "crates/scl/src/texts.rt", "crates/describe/src/main.rt", "capi/scl.h"
 MEMBERS = "crates/scl_json/src/members.rt"
 CASES, COMMANDS, FIRST = "examples/campaign.txt", "tests/rows/pages.txt", "bindings/expected/first.txt"
+REQUESTS = "tests/rows/requests.txt"
 SHOWN = re.compile(r"    \$ (scl .*?)(?:  +#.*)?$")
-PROGRAM = re.compile(r"(<!-- (\S+)(?: (\w+))? -->\n\n)(?:(?: {4}.*)?\n)*")
+SENT = re.compile(r"    \$ printf '(.*)' \| (describe|ccline)$")
+PROGRAM = re.compile(r"(( *)<!-- (\S+)(?: (\w+))? -->\n\n)(?:(?: {4}.*)?\n)*")
 
 
 def read(path):
@@ -74,16 +76,38 @@ def answers_of_scl():
     return answers
 
 
+def answers_to_requests():
+    """What `describe` and `ccline` write to the requests of tests/rows/requests.txt, by the rows."""
+    return {request: said.removesuffix("|").split("|") for request, said in (it.split(" => ") for it in read(REQUESTS).splitlines() if " => " in it)}
+
+
+def row_of(text, program):
+    """The row of a request that `printf` is given: `\\n` ends a line, and `\\\\` is a backslash."""
+    request = re.sub(r"\\(.)", lambda it: "|" if it[1] == "n" else it[1], text)
+    return f"{program}: {request}"
+
+
+def written():
+    """What stands after a line of a page that shows a command: by the rows, and by what the examples `first` write."""
+    commands, requests, first = answers_of_scl(), answers_to_requests(), read(FIRST).splitlines()
+
+    def after(line, following):
+        if line.startswith("    $ ") and following.startswith("    run: ") and "| head" not in line:
+            return first
+        shown, sent = SHOWN.match(line), SENT.match(line)
+        return commands.get(shown[1], []) if shown else requests.get(row_of(*sent.groups()), []) if sent else []
+
+    return after
+
+
 def answered(page):
-    """A page with what programs write after the command lines that have a row, and after those of the examples `first`."""
-    answers, first, lines, is_old = answers_of_scl(), read(FIRST).splitlines(), [], False
+    """A page with what programs write after the command lines and requests that have a row, and after those of the examples `first`."""
+    after, lines, is_old = written(), [], False
     for line, following in itertools.pairwise([*page.split("\n"), ""]):
         is_old = is_old and line.startswith("    ") and not line.startswith("    $ ")
         if not is_old:
             lines.append(line)
-        shown = SHOWN.match(line)
-        is_first = line.startswith("    $ ") and following.startswith("    run: ") and "| head" not in line
-        said = first if is_first else answers.get(shown[1], []) if shown else []
+        said = after(line, following)
         lines += [f"    {it}" for it in said]
         is_old = is_old or bool(said)
     return "\n".join(lines)
@@ -92,17 +116,17 @@ def answered(page):
 # ---- programs
 
 
-def program(path, name):
-    """A program's lines, or those of the function that has this name."""
+def program(path, name, indent):
+    """A program's lines, or those of the function or static that has this name."""
     text = read(path).rstrip("\n")
     if name:
-        text = re.search(rf"^def {name}\(.*(?:\n .*)+", text, re.M)[0]
-    return "".join(f"    {it}".rstrip() + "\n" for it in text.split("\n"))
+        text = re.search(rf"^def {name}\(.*(?:\n .*)+|^static {name}: .*(?:\n .*)+\n\];", text, re.M)[0]
+    return "".join(f"{indent}    {it}".rstrip() + "\n" for it in text.split("\n"))
 
 
 def with_programs(page):
     """A page with the programs that comments name, as `<!-- examples/first.rattle -->`."""
-    return PROGRAM.sub(lambda it: f"{it[1]}{program(it[2], it[3])}\n" if os.path.isfile(it[2]) else it[0], page)
+    return PROGRAM.sub(lambda it: f"{it[1]}{program(it[3], it[4], it[2])}\n" if os.path.isfile(it[3]) else it[0], page)
 
 
 def with_parts(page):

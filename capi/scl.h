@@ -14,7 +14,7 @@
  *
  * What is proved of the four calls (crates/scl_c) is proved of callers that keep these premises, which nothing checks:
  *
- * - Each pointer with a length points at so many bytes. With the length 0 it may be anything but NULL; NULL, of which nothing is
+ * - Each pointer with a length points at that many bytes. With the length 0 it may be anything but NULL; NULL, of which nothing is
  *   proved, does no harm either, and is as good as an empty text.
  * - `wanted` points at a size_t. What a call writes overlaps nothing that it reads, and nothing else that it writes; no other
  *   thread touches it meanwhile.
@@ -90,7 +90,7 @@ typedef struct scl_pairs {
     size_t len;
 } scl_pairs;
 
-/* What is asked. All but the compiler may be zeros, as memset makes them: NULL with the length 0 is empty. */
+/* A request. All but the compiler may be zeros, as memset makes them: NULL with the length 0 is empty. */
 typedef struct scl_request {
     scl_bytes compiler;         /* gcc, g++, clang, clang++, cl, clang-cl, diab, tasking */
     scl_bytes directory;        /* the path of the directory in which the words are read */
@@ -113,7 +113,7 @@ typedef struct scl_request {
     scl_bytes version;          /* the text of the compiler's version, in UTF-8 (docs/PROTOCOL.md, `setting version`) */
     scl_bytes catalogue;        /* the text of the catalogue of hazards; empty: the built-in one */
     scl_words settings;         /* more lines `setting`: what follows that word, as `bound 10`; with `wants run` and its like
-                                   what a row would have told that is not wanted is empty, and without `keep` nothing stops keeping */
+                                   what a row that is not wanted would have said is empty, and without `keep` nothing stops keeping */
 } scl_request;
 
 enum scl_outcome { SCL_COMPILED = 0, SCL_CANNOT_CACHE = 1, SCL_NOT_COMPILATION = 2 };
@@ -202,7 +202,7 @@ typedef struct scl_questions {
 /* What an outcome does not have is empty, or false. Each text has a NUL after it, which its length does not count. */
 typedef struct scl_answer {
     uint32_t outcome;
-    bool is_cacheable; /* whether the outcome of the command may be kept; false if there is a row `keep`, and not `keep yes` */
+    bool is_cacheable; /* whether the result of the command may be kept; false if there is a row `keep`, and not `keep yes` */
     bool has_text;
     scl_bytes reason;      /* SCL_CANNOT_CACHE */
     scl_bytes text;        /* beside the reason, where has_text */
@@ -211,9 +211,9 @@ typedef struct scl_answer {
     scl_record record;
     scl_runs runs;
     scl_questions questions;
-    scl_words hazards; /* SCL_COMPILED: names of what the compiler is known to do otherwise with the command than with the
+    scl_words hazards; /* SCL_COMPILED: names of what the compiler is known to do differently with the command than with the
                           given words (docs/LIMITS.md); where there is one, run the given words */
-    bool has_unknown;   /* the answer says more than this header knows of what decides whether an outcome is kept */
+    bool has_unknown;   /* the answer says more than this header knows of what decides whether a result is kept */
     bool has_at;
     size_t at;          /* where has_at: the index of the word that is refused, or by which nothing is compiled */
     scl_bytes sentence; /* SCL_CANNOT_CACHE: what the reason means */
@@ -479,6 +479,87 @@ static inline int32_t scl_name(const scl_bytes *words, size_t len, size_t *progr
     }
     free(text);
     return SCL_OK;
+}
+
+/* What a run of the preprocessor for one architecture ended with, which is 0 or more, what it wrote, and its error output. */
+typedef struct scl_ran {
+    scl_bytes arch;
+    int32_t status;
+    scl_bytes text, messages;
+} scl_ran;
+
+/* Two texts in a block of memory, which free gives back. */
+typedef struct scl_texts {
+    scl_bytes text, messages;
+    char *block;
+} scl_texts;
+
+/* The joined text of the runs, and the messages of all (docs/PROTOCOL.md, A request). Only where the answer is SCL_OK is there
+ * anything to free: *status is then 0, or that of the first run that failed, whose text it is. SCL_BAD: a status is below 0.
+ * SCL_NEWER: the library does not answer such requests. */
+static inline int32_t scl_join(const scl_ran *runs, size_t len, int32_t *status, scl_texts *joined) {
+    scl_writer to = {SCL_NULL, 0, 0, false};
+    scl_bytes ended;
+    size_t i, number, size = 0;
+    int32_t told = SCL_NO_MEMORY;
+    scl_put(&to, "join\n");
+    for (i = 0; i < len; i++) {
+        if (runs[i].status < 0) {
+            free(to.at);
+            return SCL_BAD;
+        }
+        scl_put(&to, "ran ");
+        scl_put_field(&to, runs[i].arch, false);
+        scl_put(&to, "\t");
+        scl_put_number(&to, SCL_TO(size_t, runs[i].status));
+        scl_put(&to, "\t");
+        scl_put_field(&to, runs[i].text, false);
+        scl_put(&to, "\t");
+        scl_put_field(&to, runs[i].messages, false);
+        scl_put(&to, "\n");
+    }
+    if (!to.has_failed) told = scl_text_new(scl_describe, to.at, to.len, &joined->block, &size);
+    free(to.at);
+    if (told != SCL_OK) return told == SCL_BAD ? SCL_NEWER : told;
+    number = scl_field_of(scl_bytes_of(joined->block, size), "status", &ended) ? scl_number_of(ended) : SIZE_MAX;
+    if (number > INT32_MAX || !scl_two_texts(joined->block, size, "text", &joined->text, "messages", &joined->messages)) {
+        free(joined->block);
+        return SCL_NEWER;
+    }
+    *status = SCL_TO(int32_t, number);
+    return SCL_OK;
+}
+
+/* The dependency file of a command of clang-cl, and the lines of its error output that are shown (docs/PROTOCOL.md, A request). The
+ * lines that name files begin with the prefix. The request's settings are not asked. Only where the answer is SCL_OK is there
+ * anything to free: *is_made says whether the command has such a file, else the texts are empty. SCL_BAD: the prefix is not UTF-8,
+ * or the messages are not, and the command has such a file; or no served compiler has the name. SCL_NEWER: the library does not
+ * answer such requests, or this header does not know the answer. */
+static inline int32_t scl_depfile(const scl_request *request, scl_bytes prefix, scl_bytes messages, bool *is_made, scl_texts *made) {
+    scl_writer to = {SCL_NULL, 0, 0, false};
+    scl_bytes rows, row, name;
+    size_t size = 0;
+    int32_t told = SCL_NO_MEMORY;
+    *is_made = false;
+    scl_put(&to, "depfile\nshown ");
+    scl_put_field(&to, prefix, false);
+    scl_put(&to, "\t");
+    scl_put_line(&to, "", messages);
+    scl_put_command(&to, request);
+    if (!to.has_failed) told = scl_text_new(scl_describe, to.at, to.len, &made->block, &size);
+    free(to.at);
+    if (told != SCL_OK) return told == SCL_BAD && size != 2 && size != 3 ? SCL_NEWER : told;
+    rows = scl_bytes_of(made->block, size);
+    if (!scl_next_row(&rows, &row) || !scl_next_field(&row, &name)) told = SCL_NEWER;
+    else if (scl_is(name, "too-many-words")) told = SCL_TOO_MANY_WORDS;
+    else if (scl_is(name, "not-utf-8")) told = SCL_BAD;
+    made->text = made->messages = scl_no_bytes[0];
+    *is_made = told == SCL_OK && scl_field_of(scl_bytes_of(made->block, size), "text", &name);
+    if (*is_made && !scl_two_texts(made->block, size, "text", &made->text, "kept", &made->messages)) told = SCL_NEWER;
+    if (told == SCL_OK) return SCL_OK;
+    *is_made = false;
+    free(made->block);
+    return told;
 }
 
 /* An answer with its memory in one block, which scl_free gives back. */

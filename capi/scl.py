@@ -119,9 +119,9 @@ class Answer:
     reason: bytes = b""
     text: bytes | None = None
     sentence: bytes = b""
-    command: list[bytes] = _member(default_factory=list)  # the words behind the program
+    command: list[bytes] = _member(default_factory=list)  # the words after the program
     is_cacheable: bool = False
-    has_unknown: bool = False  # the answer says more than this file knows of what decides whether an outcome is kept
+    has_unknown: bool = False  # the answer says more than this file knows of what decides whether a result is kept
     key: list[list[bytes]] = _member(default_factory=list)
     keep: list[list[bytes]] = _member(default_factory=list)
     direct: list[list[bytes]] = _member(default_factory=list)  # with `wants_key`
@@ -177,14 +177,41 @@ def describe(request: bytes, catalogue: bytes | None = None) -> bytes:
 
 
 def name(words: Iterable[bytes]) -> tuple[int | None, bytes | None]:
-    """Of the words of a whole command line, as bytes, the index of the program, launchers passed over, and the compiler that it is by
-    its name, each if there is one."""
+    """Which word of a whole command line, as bytes, is the program: its index, launchers passed over. And the compiler that it is by
+    its name. Each is None if there is none."""
     lines = [b"name", *(b"word " + field(it) for it in words), b""]
     try:
         of = dict(rows(describe(b"\n".join(lines))))
     except BadLine:
         raise Newer("line 1") from None
     return int(of[b"program"]) if b"program" in of else None, of.get(b"compiler")
+
+
+def join(runs: Iterable[tuple[bytes, int, bytes, bytes]]) -> tuple[int, bytes, bytes]:
+    """Of the preprocessor's runs for several architectures, each with its architecture, its status, its text and its messages: the status,
+    the joined text and the messages of all. Each status is from 0 to 2^31 - 1."""
+    lines = [b"join", *(b"ran %s\t%d\t%s\t%s" % (field(arch), status, field(text), field(messages)) for arch, status, text, messages in runs), b""]
+    try:
+        of = dict(rows(describe(b"\n".join(lines))))
+    except BadLine as bad:
+        raise (Newer("line 1") if bad.number == 1 else ValueError("a status that is no such number")) from None
+    return int(of[b"status"]), of[b"text"], of[b"messages"]
+
+
+def depfile(prefix: bytes, messages: bytes, words: Iterable[bytes], *given: Any, **named: Any) -> tuple[bytes, bytes] | None:
+    """The dependency file of clang-cl's words, and the lines of its error output that are shown, if the command has such a file. The lines
+    that name files begin with the prefix. What else may be given is as in request, whose settings are not asked."""
+    command = [it for it in request(b"clang-cl", words, *given, **named).split(b"\n") if not it.startswith(b"setting ")]
+    lines = [b"depfile", b"shown %s\t%s" % (field(prefix), field(messages)), *command]
+    try:
+        of = {name: fields for name, *fields in rows(describe(b"\n".join(lines)))}
+    except BadLine as bad:
+        raise (Newer(f"line {bad.number}") if bad.number != 2 else ValueError("a prefix that is not UTF-8")) from None
+    if b"too-many-words" in of:
+        raise TooManyWords
+    if b"not-utf-8" in of:
+        raise ValueError("messages that are not UTF-8")
+    return (of[b"text"][0], of[b"kept"][0]) if b"text" in of else None
 
 
 def field(it: bytes) -> bytes:
@@ -259,8 +286,8 @@ def _answer(outcome: int, of: _Rows, wishes: dict[str, Any]) -> Answer:
 
 
 def ask(compiler: bytes, words: Iterable[bytes], *given: Any, catalogue: bytes | None = None, **named: Any) -> Answer:
-    """The answer to the words behind a program; request says what else may be given. Words, paths and names are bytes, environment
-    and files pairs of bytes, and most_words bounds words, and how often files are opened: 0 is 1,000,000. Wishes are those of
+    """The answer to the words after a program; request says what else may be given. Words, paths and names are bytes, environment
+    and files pairs of bytes, and most_words limits words, and how often files are opened: 0 is 1,000,000. Wishes are those of
     scl_request: is_multiarch, wants_runs, may_dist, rewrite_includes_only, cache_mode, wants_questions, wants_hazards,
     wants_options and wants_key. A catalogue is the text of one in the place of the built-in one."""
     try:

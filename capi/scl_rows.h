@@ -18,7 +18,7 @@ typedef struct scl_writer {
     bool has_failed; /* out of memory: the text is not whole */
 } scl_writer;
 
-/* Whether there is room for so many more bytes. */
+/* Whether there is room for this many more bytes. */
 static inline bool scl_grow(scl_writer *to, size_t more) {
     char *at;
     size_t size;
@@ -87,12 +87,19 @@ static inline void scl_put_pairs(scl_writer *to, const char *keyword, scl_pairs 
     }
 }
 
-static inline void scl_put_bound(scl_writer *to, size_t number) {
+static inline void scl_put_number(scl_writer *to, size_t number) {
     char digits[24];
     size_t at = sizeof digits - 1;
     digits[at] = 0;
-    for (; number; number /= 10) digits[--at] = SCL_TO(char, '0' + number % 10);
-    scl_put_line(to, "setting bound ", scl_text(digits + at));
+    do digits[--at] = SCL_TO(char, '0' + number % 10);
+    while (number /= 10);
+    scl_put(to, digits + at);
+}
+
+static inline void scl_put_bound(scl_writer *to, size_t number) {
+    scl_put(to, "setting bound ");
+    scl_put_number(to, number);
+    scl_put(to, "\n");
 }
 
 static inline void scl_put_settings(scl_writer *to, const scl_request *request) {
@@ -109,8 +116,8 @@ static inline void scl_put_settings(scl_writer *to, const scl_request *request) 
     }
 }
 
-/* The lines of a request. */
-static inline void scl_put_request(scl_writer *to, const scl_request *request) {
+/* The lines of a request that say no setting. */
+static inline void scl_put_command(scl_writer *to, const scl_request *request) {
     scl_put_line(to, "compiler ", request->compiler);
     scl_put_line(to, "cwd ", request->directory);
     scl_put_words(to, "word ", request->words);
@@ -119,6 +126,11 @@ static inline void scl_put_request(scl_writer *to, const scl_request *request) {
     scl_put_words(to, "dir ", request->directories);
     scl_put_words(to, "exists ", request->existing);
     if (request->is_multiarch) scl_put(to, "multiarch\n");
+}
+
+/* The lines of a request. */
+static inline void scl_put_request(scl_writer *to, const scl_request *request) {
+    scl_put_command(to, request);
     scl_put_settings(to, request);
 }
 
@@ -181,6 +193,28 @@ static inline size_t scl_read_field(scl_bytes field, uint8_t *to) {
     return len;
 }
 
+/* Writes the bytes of a field of the text in the field's place; false for what is no field. */
+static inline bool scl_read_in_place(char *text, scl_bytes *field) {
+    size_t from = SCL_TO(size_t, field->at - SCL_CAST(const uint8_t *, text));
+    field->len = scl_read_field(*field, SCL_CAST(uint8_t *, text) + from);
+    return field->len != SIZE_MAX;
+}
+
+/* The first field after a row's name, of the first row of this name; false where there is none. */
+static inline bool scl_field_of(scl_bytes rows, const char *row_name, scl_bytes *value) {
+    scl_bytes row, name;
+    while (scl_next_row(&rows, &row))
+        if (scl_next_field(&row, &name) && scl_is(name, row_name)) return scl_next_field(&row, value);
+    return false;
+}
+
+/* Finds the first fields of the rows with these two names, and writes their bytes in their places; false where one is not there. */
+static inline bool scl_two_texts(char *text, size_t len, const char *first_name, scl_bytes *first, const char *second_name, scl_bytes *second) {
+    scl_bytes rows = scl_bytes_of(text, len);
+    return scl_field_of(rows, first_name, first) && scl_field_of(rows, second_name, second) && scl_read_in_place(text, first) &&
+           scl_read_in_place(text, second);
+}
+
 /* The number that the digits write; SIZE_MAX for what is none. */
 static inline size_t scl_number_of(scl_bytes field) {
     size_t i, number = 0;
@@ -213,7 +247,7 @@ typedef struct scl_known_row {
     unsigned kind;     /* scl_row_kind */
     unsigned once;     /* the outcomes that have it, and just once, as bits */
     size_t at, has;    /* what of an answer it fills, and what then is true, if anything */
-    size_t wish;       /* what of a request asks for it, if anything */
+    size_t wish;       /* what of a request wants it, if anything */
 } scl_known_row;
 
 /* The outcomes, as a description's first row says them, and their bits. */
@@ -502,7 +536,7 @@ static inline int32_t scl_count(scl_taking *t, const scl_request *request, scl_b
     return t->answer.outcome == SCL_OUTCOMES - 1 ? SCL_TOO_MANY_WORDS : SCL_OK;
 }
 
-/* Tells what was counted, in a room that is long enough. */
+/* Writes what was counted into a room that is long enough. */
 static inline void scl_tell(scl_taking *t, scl_room room, scl_answer *answer) {
     size_t i;
     t->room = room;

@@ -2,8 +2,9 @@
 """cache.py COMPILER WORD ..: a compiler cache that knows no flag of any compiler. docs/CACHE.md goes through it.
 
 DESCRIBE names the program `describe`, CACHE a folder. CACHE_LOG may name a file, for a line a call: hit, miss, unkept
-or given, and why. Status: the compiler's; 64: called wrongly; 127: the compiler can't be started. The first line has a
-variable so that Python does not change the language of the compiler's messages."""
+or given, and why. CACHE_BASES may have base directories, with `:` between them: those of the checkout and the build, so
+that keys are one in every checkout. Status: the compiler's; 64: called wrongly; 127: the compiler can't be started. The
+first line has a variable so that Python does not change the language of the compiler's messages."""
 import hashlib, marshal, os, pathlib, re, shutil, subprocess, sys, tempfile, time
 from os.path import abspath, basename, dirname, exists, isabs, isdir, isfile, islink, join, lexists, samefile
 
@@ -15,11 +16,16 @@ MARKER = re.compile(rb"^#(?:line)? \d+ " + STRING + rb"([ \d]*)$", re.M)  # name
 LOADED = re.compile(rb"^#pragma GCC pch_preprocess " + STRING, re.M)  # names a precompiled header that was read
 OTHER_TEXT = re.compile(rb"^(?![ \t]*$|# \d|#line|#define|#undef)", re.M)  # what is no blank, marker or macro
 NUMBER = re.compile(rb"\\x\{?([0-9a-fA-F]+)\}?|\\u00([0-9a-fA-F]{2})|\\([0-7]{1,3})")  # a byte
+MARKED = rb'^(#[ \t]*(?:line)?[ \t]*\d+[ \t]*")(.*)'  # the same, as docs/RULES.md has it (Line markers)
+RAW = re.compile(rb'^(?!#[ \t]*(?:line)?[ \t]*\d+[ \t]*").*R"', re.M)  # lines below it may look like markers
 shown = []  # what each run of the preprocessor wrote
 sources = []  # the files that its markers name
 leading = []  # the headers that it includes before any other text
 stamps = {}  # the files that were read, and how each was then
+planned = []  # what the driver would start
 made = set()  # the absolute paths of the outputs
+rules = set()  # the outputs with rules of make
+bases = []  # the directories that are told by number; empty if an object names one of them
 
 class KeepNothing(Exception): "The given words are run, and nothing is kept."
 def need(it, why):  # (gives nothing, so that `need(..) or answer` is the answer)
@@ -28,7 +34,9 @@ def need(it, why):  # (gives nothing, so that `need(..) or answer` is the answer
 # ---- 1. Ask. What the answer wants, and is there, goes into the next request
 def described(*facts):
     words = [b"word " + escaped(word) for word in COMMAND[1:]]
-    request = b"\n".join([b"compiler " + served_name(COMMAND[0]), b"cwd " + escaped(os.getcwdb()), *facts, *words])
+    settings = [b"setting base " + escaped(it) for it in given_bases()]
+    head = [b"compiler " + served_name(COMMAND[0]), b"cwd " + escaped(os.getcwdb())]
+    request = b"\n".join([*head, *settings, *facts, *words])
     answer = subprocess.run([VARIABLES[b"DESCRIBE"]], input=request, stdout=subprocess.PIPE).stdout
     rows = [[unescaped(field) for field in line.split(b" ")] for line in answer.splitlines()]
     is_there = {b"file": isfile, b"dir": isdir, b"exists": lexists}
@@ -44,9 +52,9 @@ def escaped(data): return b"".join(b"%c" % it if 0x21 <= it <= 0x7E and it != 0x
 def unescaped(field): return re.sub(rb"\\x(..)", lambda it: bytes([int(it[1], 16)]), field)
 
 # ---- 2. Hash each row and its answer. Of some rows only the name: their fields say what to start, and where to look
-def key_of(rows):
+def key_of(told_rows, rows):
     named = b"plan", b"run", b"run-else", b"pch"
-    heads = [row[0] if row[0] in named else b" ".join(map(escaped, row)) for row in rows]
+    heads = [row[0] if row[0] in named else b" ".join(map(escaped, row)) for row in told_rows]
     return digest_all(it for head, row in zip(heads, rows) for it in (head, answer(row, rows) or b"")).hex().encode()
 def digest(data): return hashlib.sha256(data).digest()
 def digest_all(parts): return digest(b"".join(map(digest, parts)))
@@ -54,8 +62,8 @@ def digest_all(parts): return digest(b"".join(map(digest, parts)))
 # ---- 3. Answer the rows that ask (docs/PROTOCOL.md, A key)
 def answer(row, rows):
     match row:
-        case [b"is", _, *_] | [b"output", _, _] | [b"output", _, _, b"optional"]: return b""  # (a fact)
-        case [b"directory"]: return directory()
+        case [b"is", _, *_] | [b"output", _, _] | [b"output", _, _, b"optional"] | [b"bases"]: return b""  # (a fact)
+        case [b"directory"]: return told(directory())
         case [b"compiler"]: return basename(COMMAND[0]) + sum_of_program(program_file(COMMAND[0]))
         case [b"plan", *words]: return plan(words, input_of(rows))
         case [b"env", name]: return b"=" + VARIABLES[name] if name in VARIABLES else b"-"
@@ -68,10 +76,13 @@ def answer(row, rows):
         case [b"pch", *pairs]: return read_all(precompiled(list(zip(pairs[::2], pairs[1::2]))))
         case [b"sources"]: return read_all(sources + [input_of(rows)])
         case [b"sources-if-shown", what]: return read_all(sources + [input_of(rows)]) if has(shown, what) else b"-"
-        case [b"times"]: return digest_all(b"%s %r" % (it, stamp(it)[:2]) for it in sources if isfile(it))
+        case [b"times"]: return digest_all(b"%s %r" % (told(it), stamp(it)[:2]) for it in sources if isfile(it))
         case [b"refuse-if-shown", what]:
             texts = shown if sources else [*shown, content(input_of(rows))]
             need(not has(map(as_assembled, texts), what), b"shown: " + what)
+        case [b"bases-if-beside"]: return all_bases(is_beside([directory(), input_of(rows), *sources]))
+        case [b"bases-if-shown", what]: return all_bases(has(map(as_assembled, shown), what))
+        case [b"bases-if-planned", what]: return all_bases(has(planned, what))
         case _: raise KeepNothing("a row that is not known")
 def input_of(rows): return next(row[2] for row in rows if row[:2] == [b"is", b"input"])
 def has(texts, pattern): return any(re.search(pattern, text, re.M) for text in texts)
@@ -85,16 +96,18 @@ def plan(words, source):  # what the driver would start, with the bytes of each 
     names = [c_string(quoted) or plain for quoted, plain in re.findall(STRING + rb'|([^\s"]+)', text)]
     names += [it.partition(b"=")[2] for it in names]  # (as in -specs=FILE)
     names += [program_file(it) for it in re.findall(rb'^ "?([^\s"]+)', text, re.M)]  # (a space begins a command)
-    files = sorted({it for it in names if isfile(it) and it != source and abspath(it) not in made})
+    beside = {*made, abspath(source)}  # (it is named without its folder too)
+    files = sorted({it for it in names if isfile(it) and abspath(it) not in beside}, key=told)
     for path in files: note(path)
-    return text + b"".join(digest(path) + sum_of_program(path) for path in files)
+    planned.append(text)
+    return told_text(text) + b"".join(digest(told(path)) + sum_of_program(path) for path in files)
 def preprocessed(words, may_fail):  # what a run writes, also into a file of the cache
     with tempfile.NamedTemporaryFile(dir=STORE) as own:
         ran = quietly([COMMAND[0], *(own.name if word == b"\0" else word for word in words)])
         if ran.returncode: return need(may_fail and not shown, "no run") or b"-"
         shown.append(ran.stdout)
         take_markers(ran.stdout)
-        return ran.stdout + digest(content(own.name))
+        return told_run(ran.stdout) + digest(told_text(unbroken(content(own.name))))
 def take_markers(text):  # the flag 1 stands where a file begins that is included
     need(MARKER.search(text) or not text.strip(), "a run hides its sources")
     other = OTHER_TEXT.search(text)
@@ -114,13 +127,13 @@ def precompiled(pairs):  # where a search can find a precompiled header: files, 
     tails = {header.split(b"/", count)[-1] for header in headers for count in range(header.count(b"/") + 1)}
     paths = {join(it, tail) + b".gch" for it in folders for tail in tails} | {it + b".gch" for it in headers + sources}
     paths |= {join(it, name) for it in paths if isdir(it) for name in os.listdir(it)}
-    return sorted(it for it in paths if exists(it) and abspath(it) not in made)
+    return sorted((it for it in paths if exists(it) and abspath(it) not in made), key=told)
 def c_string(text):  # what a string of C stands for
     return re.sub(rb"\\([0-7]{1,3}|.)", lambda it: b"%c" % (int(it[1], 8) & 255) if it[1].isdigit() else it[1], text)
 def as_assembled(text):  # strings side by side are joined, and bytes written as numbers are read
     byte = lambda it: b"%c" % (int(it[1] or it[2] or it[3], 8 if it[3] else 16) & 255)
     return NUMBER.sub(byte, re.sub(rb'"\s*"', b"", text))
-def read_all(paths): return digest_all(it for path in paths for it in (path, read(path)))
+def read_all(paths): return digest_all(it for path in paths for it in (told(path), read(path)))
 def read(path):
     note(path)
     return b"=" + content(path) if isfile(path) else b"/" if isdir(path) else b"-"
@@ -136,6 +149,36 @@ def sum_of(path):  # remembered by the file's stamp
     if not exists(known): write(known, digest(content(path)))
     return content(known)
 
+# ---- A path below base N is told as NUL, `<baseN>` and the rest (docs/PROTOCOL.md, A key in every checkout)
+def given_bases(): return [it.rstrip(b"/\\") for it in VARIABLES.get(b"CACHE_BASES", b"").split(b":") if it]
+def number_of(base): return b"\0<base%d>" % bases.index(base)
+def fits(base, path, end=rb"[/\\]|\Z"):  # by whole components
+    return base and path.startswith(base) and re.match(end, path[len(base) :])
+def told(path, **end):  # by the longest base
+    base = max((it for it in bases if fits(it, path, **end)), key=len, default=b"")
+    return (number_of(base) if base else b"") + path[len(base) :].replace(b"\0", b"\0\0") if bases else path
+def told_text(text):  # no byte of a name stands before a base, but a flag like -I or the end of a colour may
+    known = b"|".join(re.escape(it) for it in sorted(bases, key=len, reverse=True) if it)
+    before = rb"""\x1b\[[\d;]*[mK]|(?<=["'\s]-[A-Z])|(?<![\w.+@~/\x80-\xff-])"""
+    whole = rb"(%s)(%s)(?![\w.+@~\x80-\xff-])" % (before, known)
+    return re.sub(whole, lambda it: it[1] + number_of(it[2]), text.replace(b"\0", b"\0\0")) if known else text
+def unbroken(text):  # where rules of make have ends of lines depends on the lengths of names
+    return re.sub(rb"[ \t]*\\\n[ \t]*", b" ", text) if bases else text
+def told_run(text):  # the names in its line markers, up to a raw string
+    if not bases: return text
+    raw = RAW.search(text)
+    until = raw.start() if raw else len(text)
+    name = lambda it: it[1] + told(it[2], end=rb'["/]|\\\\')
+    return re.sub(MARKED, name, text[:until], flags=re.M) + text[until:]
+def is_told(messages, texts):  # no base is left within a word, and no message may quote one from a source
+    if any(it and it in told_text(text) for it in bases for text in [messages, *texts]): return False
+    return told_text(messages) == messages or not any(it in content(path) for it in bases for path in sources if isfile(path))
+def put_back(text):
+    number = lambda it: bases[int(it[1])] if it[1] else b"\0"
+    return re.sub(rb"\0(?:\0|<base(\d+)>)", number, text) if bases else text
+def all_bases(are_named): return digest_all(bases) if are_named else b"-"
+def is_beside(paths): return any(it and path.startswith(it) and not fits(it, path) for it in bases for path in paths)
+
 # ---- 4. A miss: compile, and keep what came if all that was read is as it was, and last changed before the start
 def compile_and_keep(entry, rows, outputs):
     before = {path: stamp(path) for path in outputs}
@@ -147,7 +190,9 @@ def compile_and_keep(entry, rows, outputs):
     written = [path for path in outputs if stamp(path) not in (None, before[path])]
     is_whole = not ran.returncode and not ran.stdout and all(path in written or outputs[path] for path in outputs)
     is_kept = is_whole and all(stamp(path) == was and (not was or was[3] < STARTED) for path, was in stamps.items())
-    if is_kept: keep(entry, (ran.stderr, {path: content(path) for path in written}))
+    is_kept = is_kept and is_told(ran.stderr, [content(path) for path in written if path in rules])
+    texts = {told(path): told_text(content(path)) if path in rules else content(path) for path in written}
+    if is_kept: keep(entry, (told_text(ran.stderr), texts))
     log("miss" if is_kept else "unkept", entry[-64:].decode())
     return ran.returncode
 def keep(entry, parts):
@@ -169,9 +214,9 @@ def restore(entry, rows, outputs):
     kept = content(entry) if isfile(entry) else b""
     if digest(kept[32:]) != kept[:32]: return False
     messages, files = marshal.loads(kept[32:])
-    for path in outputs:
-        if path in files: write(path, files[path])
-    show(messages, rows)
+    for path, text in ((path, files[told(path)]) for path in outputs if told(path) in files):
+        write(path, put_back(text) if path in rules else text)
+    show(put_back(messages), rows)
     log("hit", entry[-64:].decode())
     return True
 
@@ -190,21 +235,31 @@ def log(what, why):  # (names may be in any encoding)
         print(what, why, "|", *sys.argv[1:], file=file)
 
 # ---- a call
-def call():
+def asked():  # all rows, those of the key as they are told, and these with the directories put back
     rows = described()
-    key, may = ([row[1:] for row in rows if row[0] == name] for name in (b"key", b"keep"))
+    told_key, may = ([row[1:] for row in rows if row[0] == name] for name in (b"key", b"keep"))
     why_not = [*(it for it in may if it != [b"yes"]), *(row[1:] for row in rows if row[0] == b"reason"), [b"no key"]]
-    need(key and may == [[b"yes"]] and [b"version", b"1"] in rows, b" ".join(why_not[0]))
+    need(told_key and may == [[b"yes"]] and [b"version", b"1"] in rows, b" ".join(why_not[0]))
+    bases.extend(given_bases() if told_key[0] == [b"bases"] else [])
+    rows = [list(map(put_back, row)) if row[0] == b"key" else row for row in rows]
+    key = [row[1:] for row in rows if row[0] == b"key"]
+    rules.update(row[2] for row in key if row[:2] == [b"output", b"d"])
+    made.update(abspath(row[2]) for row in key if row[0] == b"output")
+    return rows, told_key, key
+def call():
+    rows, told_key, key = asked()
     outputs = {row[2]: row[3:] == [b"optional"] for row in key if row[0] == b"output"}  # whether each may lack
     for path in outputs: need(is_own(path), b"an output is no file, or has two names: " + path)
-    made.update(map(abspath, outputs))
-    entry = join(STORE, key_of(key))
+    entry = join(STORE, key_of(told_key, key))
     return 0 if restore(entry, rows, outputs) else compile_and_keep(entry, rows, outputs)
 def stop(text, status): sys.exit(print(text, file=sys.stderr) or status)
 
-if not COMMAND or b"DESCRIBE" not in VARIABLES or not STORE or not isdir(STORE): stop(__doc__, 64)
-try: sys.exit(call())
-except (KeepNothing, OSError, ValueError) as why:  # (a word with a NUL, which only a file can have, is a ValueError)
-    log("given", why)  # what can't be written, the compiler says in its words
-try: os.execvp(COMMAND[0], COMMAND)
-except OSError as error: stop(f"cache.py: {sys.argv[1]}: {error.strerror}", 127)
+def main():
+    if not COMMAND or b"DESCRIBE" not in VARIABLES or not STORE or not isdir(STORE): stop(__doc__, 64)
+    try: sys.exit(call())
+    except (KeepNothing, OSError, ValueError) as why:  # (a ValueError: a word has a NUL, which only a file can have)
+        log("given", why)  # what can't be written, the compiler says in its words
+    try: os.execvp(COMMAND[0], COMMAND)
+    except OSError as error: stop(f"cache.py: {sys.argv[1]}: {error.strerror}", 127)
+
+if __name__ == "__main__": main()

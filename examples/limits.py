@@ -8,12 +8,12 @@ usage: examples/limits.py DESCRIBE [--compiler NAME] [ROW ..]            tries r
 DESCRIBE is the path of the program `describe`. It needs gcc 12 and clang 14; for clang-cl, where there is none of this name,
 it calls clang --driver-mode=cl. What is no difference: the time in an object of clang-cl.
 
-NAME is another compiler, as gcc-11 or clang-19: it alone is tried, also for C++ and, of clang, as clang-cl, and `describe` is told
+NAME is another compiler, as gcc-11 or clang-19: only it is tried, also for C++ and, of clang, as clang-cl, and `describe` gets
 its version. A row then says what was seen with gcc 12 and clang 14; commands that come out the same have not to be named.
 
 Of a row it says whether each command differs as the row says, and whether `describe` names the row's hazard. Of random lines it
 counts those that differ, and those of them without a hazard; those that come out the same, and those of them with one. It
-prints both kinds. Lines that neither command compiles are passed over. A hazard counts as none there if it is of messages alone, or
+prints both kinds. Lines that neither command compiles are passed over. A hazard counts as none there if it is only of messages, or
 does not compare the built command with the given one.
 
 Status 0: all is as the page says, and no random line differs without a hazard; 1: not so; 64: called wrongly, or
@@ -84,7 +84,7 @@ FILES = {
 # What random lines are of.
 COMPILERS = ["gcc", "g++", "clang", "clang++", "clang-cl"]
 
-# The words that a compiler is called by, and the versions that `describe` is told.
+# The words that a compiler is called by, and the versions that `describe` gets.
 PROGRAMS = {"clang-cl": [["clang-cl"], ["clang-cl-14"], ["clang", "--driver-mode=cl"]]}
 VERSIONS = {}
 
@@ -103,7 +103,7 @@ OBJECT_MARK = b"\x64\x86"
 
 @dataclass
 class Line:
-    """A command line: what is run before it, and what `describe` is told beside it."""
+    """A command line: what is run before it, and what `describe` gets beside it."""
 
     compiler: str
     words: list
@@ -262,7 +262,7 @@ def without_time(data):
 
 
 def run(line, commands, folder, environment):
-    """Runs the commands one after the other in a new folder, which is taken away again. What is told is of the last one."""
+    """Runs the commands one after the other in a new folder, which is taken away again. The answer is of the last one."""
     os.mkdir(folder)
     try:
         fill(folder, {**FILES, **line.files})
@@ -291,7 +291,7 @@ def file_seen(name, given, built):
 
 
 def seen(given, built):
-    """What the built command does otherwise, as the page says it."""
+    """What the built command does differently, as the page says it."""
     if given.status != 0 and built.status != 0:
         return NEITHER
     if (given.status == 0) != (built.status == 0):
@@ -317,7 +317,7 @@ def tried(line, answers, folder):
 
 
 def seen_built(line, answers, folder):
-    """What the built commands of a line do otherwise than the given ones."""
+    """What the built commands of a line do differently from the given ones."""
     return seen(*tried(line, answers, folder))
 
 
@@ -330,7 +330,7 @@ def seen_outputs(line, answers, folder):
 
 
 def seen_run(line, answers, folder):
-    """What the run of the preprocessor writes otherwise into a file that the given command writes too."""
+    """What the run of the preprocessor writes differently into a file that the given command writes too."""
     given, other = given_of(line, folder), run(line, answers[-1].runs[:1], folder, line.environment)
     found = [it for name in sorted(given.made.keys() & other.made.keys() - {"stdout"}) for it in file_seen(name, given, other)]
     return ", ".join(found) or "the same files"
@@ -435,7 +435,7 @@ def random_line(chance):
 
 
 def random_tries(program, chance, count, folder):
-    """So many random lines that are compiled, as given or as built, with their answers and what differs."""
+    """Random lines that are compiled, as given or as built, with their answers and what differs."""
     while count:
         lines = [random_line(chance) for _ in range(count)]
         for line, answer in zip(lines, answers_to(program, [(line, line.words) for line in lines], folder)):

@@ -1,8 +1,8 @@
 #!/usr/bin/env python3
-"""Refuses each request for memory of a run in turn, and fails each read and each write in turn, and checks what the
-program says: status 3 and nothing written where memory was refused, the whole answer where a block could not be made smaller
-(it stays as it is), status 4 and nothing written where a read failed, status 4
-and a beginning of the answer, less than the whole, where a write failed.
+"""Refuses each request for memory of a run in turn, fails each read and each write in turn, and checks what the program says:
+  memory was refused     status 3, and nothing written; the whole answer if a block could not be made smaller (it stays as it is)
+  a read failed          status 4, and nothing written
+  a write failed         status 4, and a beginning of the answer, less than the whole
 
 usage: examples/refusals.py PATH_OF_CCLINE [REQUEST_FILE ..]   (it needs cc; without files: requests of its own)
        examples/refusals.py --calls PATH_OF_REFUSALS
@@ -29,7 +29,7 @@ SHIM = r"""
 static long wanted(const char *name) { const char *text = getenv(name); return text ? atol(text) : 0; }
 static int hit(const char *name, long *count) { long at = wanted(name); return at && ++*count == at; }
 static long memory, reads, writes;
-/* The size that was asked for stands in a block's last bytes, behind those of the program. */
+/* The size that was asked for stands in a block's last bytes, after those of the program. */
 static size_t *size_of(void *block) { return (size_t *)((char *)block + malloc_usable_size(block)) - 1; }
 static void *sized(void *block, size_t size) { if (block) *size_of(block) = size; return block; }
 void *malloc(size_t size) {

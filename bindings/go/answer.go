@@ -47,7 +47,7 @@ var keys = map[string]struct{ least, most int }{"is": {1, many}, "output": {2, 3
 // kept has the rows `keep`, and how many fields each has.
 var kept = map[string]int{"yes": 1, "no": 3, "unknown": 2}
 
-// isRefusal says whether the row tells that nothing is kept.
+// isRefusal says whether the row says that nothing is kept.
 func (r Row) isRefusal() bool {
 	return r.Name == "keep" && (len(r.Fields) == 0 || r.Fields[0] != "yes")
 }

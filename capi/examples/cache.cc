@@ -633,7 +633,7 @@ struct Key {
         for (const Words &row : direct) if (row[0] == name) all.insert(all.end(), row.begin() + 1, row.end());
         return all;
     }
-    // Whether there is each name that a source asks for, in each folder; hands the key on.
+    // Whether there is each name that a source asks for, in each folder; passes the key on.
     Bytes ask_where_headers_are(const Bytes &key) const try {
         const Bytes patterns = packed(fields_of("named") + fields_of("refuse-if-read"));
         const Words folders = unpacked(of_driver(fields_of("search"), [&] { return searched_folders(); }));
@@ -718,7 +718,7 @@ static bool restore(const Key &key, const Bytes &name) {
     return show(parts.at(0), key), true;
 }
 
-// ---- what is told of the cache
+// ---- what is said of the cache
 
 // A byte a call, and at each 64th a look at the size.
 static void count(const Bytes &what, const Bytes &why, char **words) {

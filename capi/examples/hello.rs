@@ -43,7 +43,7 @@ fn bytes(field: &str) -> Vec<u8> {
     bytes
 }
 
-/// The rows of the description of a command line: a name, and the fields behind it.
+/// The rows of the description of a command line: a name, and the fields after it.
 fn describe(compiler: &str, words: &[&[u8]]) -> Result<Vec<(String, Vec<Vec<u8>>)>, (i32, usize)> {
     let words: String = words.iter().map(|word| format!("word {}\n", field(word))).collect();
     let text = respond(scl_describe, &format!("compiler {compiler}\n{words}"))?;

@@ -81,7 +81,7 @@ static char **given_variables(scl_pairs pairs) {
     return all;
 }
 
-/* The words behind a program, as exec takes them; or none, where a word holds a NUL and no process can be given it. */
+/* The words after a program, as exec takes them; or none, where a word holds a NUL and no process can be given it. */
 static char **given_words(char *program, scl_words words) {
     char **all = calloc(words.len + 2, sizeof *all);
     if (!all) exit(3);

@@ -1,4 +1,4 @@
-/* bench ROUNDS: microseconds of processor time a call takes: the least of five times so many, for a command of gcc of
+/* bench ROUNDS: microseconds of processor time a call takes: the least of five times ROUNDS calls, for a command of gcc of
  * twenty words, by text and by struct, with and without what can be left out, and of scl_describe by the rows that are wanted. */
 #define _POSIX_C_SOURCE 200809L
 #include <stdio.h>

@@ -1,5 +1,5 @@
 /* faults: refuses each request for memory of calls in turn, tries each room from 0 to what is wanted, asks requests of zeros
- * and of no memory, hands in a wrong catalogue, and calls from eight threads at once. Linked with --wrap=malloc, realloc and free. Prints a line for each; the
+ * and of no memory, passes a wrong catalogue, and calls from eight threads at once. Linked with --wrap=malloc, realloc and free. Prints a line for each; the
  * status is 0 if all is well. */
 #include <pthread.h>
 #include <stdio.h>
@@ -60,7 +60,7 @@ static int texts(const char *name, scl_respond *by) {
         int32_t status = call(by, room, sizeof room, &wanted);
         if (live) FAIL("%s leaks where request %ld is refused", name, failing);
         if (status == SCL_OK && calls <= failing) break;
-        if (status == SCL_OK && (wanted != length || memcmp(room, whole, length))) FAIL("%s answers otherwise where request %ld is refused", name, failing);
+        if (status == SCL_OK && (wanted != length || memcmp(room, whole, length))) FAIL("%s answers differently where request %ld is refused", name, failing);
         if (status == SCL_OK) continue;
         if (status != SCL_NO_MEMORY || wanted || !is_filled(room, sizeof room)) FAIL("%s: status %d where request %ld is refused", name, (int)status, failing);
     }
@@ -81,12 +81,12 @@ static int32_t by_catalogue(const uint8_t *request, size_t request_len, uint8_t 
     return scl_describe_with((const uint8_t *)catalogue, sizeof catalogue - 1, request, request_len, room, room_len, wanted);
 }
 
-/* A wrong line is told by its number, before the request is read; and NULL with the length 0 is an empty text. */
+/* A wrong line is reported by its number, before the request is read; and NULL with the length 0 is an empty text. */
 static int catalogues(void) {
     static const char wrong[] = "# one\n\nhazard\n";
     uint8_t room[4096];
     size_t wanted = 0;
-    if (by_catalogue((const uint8_t *)text, sizeof text - 1, room, sizeof room, &wanted) || !strstr((char *)room, "hazard of-one-line\n")) FAIL("the catalogue's hazard is not told");
+    if (by_catalogue((const uint8_t *)text, sizeof text - 1, room, sizeof room, &wanted) || !strstr((char *)room, "hazard of-one-line\n")) FAIL("the catalogue's hazard is not reported");
     memset(room, 0xAA, sizeof room);
     if (scl_describe_with((const uint8_t *)wrong, sizeof wrong - 1, (const uint8_t *)"?", 1, room, sizeof room, &wanted) != SCL_BAD_CATALOGUE || wanted != 3)
         FAIL("a wrong line has the number %zu", wanted);
@@ -108,7 +108,7 @@ static int new_texts(const char *name, scl_respond *by) {
     for (failing = 0;; failing++, refused++) {
         calls = 0;
         int32_t status = scl_text_new(by, text, sizeof text - 1, &given, &wanted);
-        if (status == SCL_OK && (wanted != length || memcmp(given, whole, length + 1))) FAIL("scl_text_new of %s answers otherwise where request %ld is refused", name, failing);
+        if (status == SCL_OK && (wanted != length || memcmp(given, whole, length + 1))) FAIL("scl_text_new of %s answers differently where request %ld is refused", name, failing);
         if (status == SCL_OK) free(given);
         if (live != 1) FAIL("scl_text_new of %s leaks where request %ld is refused", name, failing);
         if (status == SCL_OK && calls <= failing) break;
@@ -160,7 +160,7 @@ static int structs(void) {
     scl_given given;
     int refused = 0;
     if (scl_ask_new(&request, &given) != SCL_OK || given.answer.outcome != SCL_COMPILED) FAIL("scl_ask_new does not answer");
-    if (!given.answer.hazards.len) FAIL("no hazard is told of two targets");
+    if (!given.answer.hazards.len) FAIL("no hazard is reported of two targets");
     size_t length = flat(&given.answer, whole);
     scl_free(&given);
     if (!length || live) FAIL("scl_ask_new leaks %ld blocks", live);
@@ -170,7 +170,7 @@ static int structs(void) {
         int is_same = status == SCL_OK && flat(&given.answer, other) == length && !memcmp(whole, other, length);
         if (status == SCL_OK) scl_free(&given);
         if (live) FAIL("scl_ask_new leaks where request %ld is refused", failing);
-        if (status == SCL_OK && !is_same) FAIL("scl_ask_new answers otherwise where request %ld is refused", failing);
+        if (status == SCL_OK && !is_same) FAIL("scl_ask_new answers differently where request %ld is refused", failing);
         if (status == SCL_OK && calls <= failing) break;
         if (status != SCL_OK && status != SCL_NO_MEMORY) FAIL("scl_ask_new: status %d where request %ld is refused", (int)status, failing);
     }
@@ -198,8 +198,8 @@ static int structs(void) {
             *parts[part] = most;
             if (status != (len < most ? SCL_SHORT : SCL_OK) || memcmp(&wanted, &all, sizeof all)) FAIL("scl_ask: status %d where part %zu has %zu", (int)status, part, len);
             if (len < most && (memcmp(&before, &answer, sizeof answer) || !is_filled(room.bytes, room.bytes_len))) FAIL("scl_ask writes where part %zu has %zu", part, len);
-            if (len == most && (flat(&answer, other) != length || memcmp(whole, other, length))) FAIL("scl_ask tells otherwise in memory of just the length");
-            if (len == most && room.bytes[room.bytes_len] != 0xAA) FAIL("scl_ask writes behind the room");
+            if (len == most && (flat(&answer, other) != length || memcmp(whole, other, length))) FAIL("scl_ask answers differently in memory of just the length");
+            if (len == most && room.bytes[room.bytes_len] != 0xAA) FAIL("scl_ask writes after the room");
             free(block);
         }
     }
@@ -258,7 +258,7 @@ static int threads(void *whole) {
     for (int i = 0; i < 8; i++)
         if (pthread_create(&all[i], 0, many, whole)) FAIL("no thread");
     for (int i = 0; i < 8; i++)
-        if (pthread_join(all[i], &out) || out) FAIL("a thread was answered otherwise");
+        if (pthread_join(all[i], &out) || out) FAIL("a thread was answered differently");
     printf("8 threads, 1,000 calls of each\n");
     return 0;
 }

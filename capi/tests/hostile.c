@@ -138,7 +138,7 @@ int main(int argc, char **argv) {
         }
         statuses[1][status]++;
     }
-    printf("%lu hostile requests: scl_ask told %lu, knew no compiler for %lu, met too many words in %lu; texts were told %lu times, too long for the room %lu times, had a bad line %lu times, and a wrong catalogue %lu times\n", count,
+    printf("%lu hostile requests: scl_ask answered %lu, knew no compiler for %lu, met too many words in %lu; texts were given %lu times, too long for the room %lu times, had a bad line %lu times, and a wrong catalogue %lu times\n", count,
            statuses[0][SCL_OK], statuses[0][SCL_BAD], statuses[0][SCL_TOO_MANY_WORDS], statuses[1][SCL_OK], statuses[1][SCL_SHORT], statuses[1][SCL_BAD], statuses[1][SCL_BAD_CATALOGUE]);
     return 0;
 }

@@ -65,7 +65,7 @@ def bytes_of(path):
 
 
 def made_twice(room, words):
-    """Makes the release twice; gives the folder of one, and what was told of the C library."""
+    """Makes the release twice; gives the folder of one, and what was said of the C library."""
     told = [run([f"{ROOT}/capi/release", "--out", f"{room}/{name}", *words]) for name in ("one", "two")][0]
     names = sorted(os.listdir(f"{room}/one"))
     other = [name for name in names if not os.path.exists(f"{room}/two/{name}") or bytes_of(f"{room}/one/{name}") != bytes_of(f"{room}/two/{name}")]

@@ -42,7 +42,7 @@ def rows_in(text):
 
 
 def record_rows(record):
-    """The rows of a record, by what scl.ask tells."""
+    """The rows of a record, by what scl.ask gives."""
     rows = {name: [[word] for word in getattr(record.lists, of)] for name, of in scl.LISTS.items()}
     rows.update({name: [[]] if getattr(record, of) else [] for name, of in scl.SWITCHES.items()})
     rows.update({name: [] if getattr(record, of) is None else [[getattr(record, of)]] for name, of in scl.TEXTS.items()})
@@ -52,7 +52,7 @@ def record_rows(record):
 
 
 def rows_of(answer):
-    """What the rows of a description must be, by what scl.ask tells."""
+    """What the rows of a description must be, by what scl.ask gives."""
     rows = record_rows(answer.record) if answer.outcome == scl.COMPILED else {}
     if answer.outcome == scl.COMPILED:
         rows.update({"run": answer.runs, "environment": [list(pair) for pair in answer.environment], "hazard": [[it.encode()] for it in answer.hazards],
@@ -71,7 +71,7 @@ def differs(request, name, told, said):
 
 
 def check_ask(name, words, named, said):
-    """scl.ask tells the rows of describe; gives how it is answered."""
+    """scl.ask gives the rows of describe; gives how it is answered."""
     try:
         answer = scl.ask(name, words, b"/w", **named, wants_runs=True, wants_questions=True, wants_hazards=True, wants_options=True, wants_key=True)
     except scl.TooManyWords:
@@ -85,7 +85,7 @@ def check_ask(name, words, named, said):
 
 
 def check_told(request, told, said):
-    """The structs tell the rows of describe, all but the version's and the line that says why nothing is cached."""
+    """The structs have the rows of describe, all but the version's and the line that says why nothing is cached."""
     told, said = rows_in(told), {name: of for name, of in said.items() if name not in ("version", "cannot-cache")}
     if said.pop("too-many-words", None):
         said = {"status": [[b"4"]]}
@@ -130,7 +130,7 @@ def raises(error, call, *given, **named):
 
 
 def errors():
-    """What is no answer: each is told as itself. And a description is taken apart."""
+    """What is no answer: each is reported as itself. And a description is taken apart."""
     raises(scl.UnknownCompiler, scl.ask, b"rustc", [b"-c", b"a.c"])
     raises(scl.TooManyWords, scl.ask, b"gcc", [b"-c", b"@f"], files=[(b"f", b"a b c")], most_words=3)
     # (the bound where none is given: a million words, and as many openings)
@@ -146,12 +146,22 @@ def errors():
     for words, named in (([b"ccache", b"gcc-12", b"-c"], (1, b"gcc")), ([b"rustc"], (0, None)), ([b"env", b"A=b"], (None, None))):
         if scl.name(words) != named:
             sys.exit(f"random_requests: {words} are named {scl.name(words)}")
+    if scl.join([(b"a", 0, b"x", b"m"), (b"b", 0, b"", b"n")]) != (0, b"#pragma sccache arch a 1\nx\n#pragma sccache arch b 1\n\n", b"mn"):
+        sys.exit("random_requests: joined runs have another text")
+    raises(ValueError, scl.join, [(b"a", -1, b"", b"")])
+    words = [b"-c", b"x.c", b"-depsx.d"]
+    if scl.depfile(b"N: ", b"N: a\nb\n", words) != (b"x.obj: x.c a \nx.c:\na:\n", b"b\n") or scl.depfile(b"N: ", b"\xff", words[:2]) is not None:
+        sys.exit("random_requests: a dependency file has another text")
+    if scl.depfile(b"N: ", b"b\n", words, most_words=1) != (b"x.obj: x.c \nx.c:\n", b"b\n"):
+        sys.exit("random_requests: a dependency file has a setting")
+    raises(ValueError, scl.depfile, b"N: ", b"\xff", words)
+    raises(ValueError, scl.depfile, b"\xff", b"", words)
     if raises(scl.BadCatalogue, scl.ask, b"gcc", [b"-c", b"a.c"], catalogue=b"# one\n\nwhat is this\n").number != 3:
         sys.exit("random_requests: a catalogue's wrong line has another number")
     if scl.ask(b"gcc", [b"-c", b"a.c", b"-MD", b"-MT", b"x", b"-MT", b"y"], catalogue=b"# none\n", wants_hazards=True).hazards:
         sys.exit("random_requests: an empty catalogue knows hazards")
     if scl.rows(b"ok\na  \\x20\\x5cb\n") != [[b"ok"], [b"a", b"", b" \\b"]]:
-        sys.exit("random_requests: rows are taken apart otherwise")
+        sys.exit("random_requests: rows are taken apart differently")
 
 
 if __name__ == "__main__":

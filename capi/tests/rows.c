@@ -1,7 +1,7 @@
-/* rows N SEED: N random answers, told by scl.h over a library that is none: it answers with the text that stands here. An answer
- * whose rows are right, in any order and with unknown ones among them, must be told as it was made, in memory of just its size and
- * in none that is less. One that lacks a row, has it twice, or lacks its last byte must be told as unknown; one that was broken
- * otherwise must be told, or be told as unknown. Each request is compared with its text. */
+/* rows N SEED: N random answers, read by scl.h over a library that is none: it answers with the text that stands here. An answer
+ * whose rows are right, in any order and with unknown ones among them, must be read as it was made, in memory of just its size and
+ * in none that is less. One that lacks a row, has it twice, or lacks its last byte must be read as unknown; one that was broken
+ * differently must be read, or be read as unknown. Each request is compared with its text. */
 #include <stdio.h>
 #include "scl.h"
 
@@ -121,7 +121,7 @@ static void add_row(const char *name, scl_bytes field) {
     add(&said, "\n");
 }
 
-/* A run and an option of a word w: w, and behind it w once more for each of its first bits. */
+/* A run and an option of a word w: w, and after it w once more for each of its first bits. */
 static size_t times_of(scl_bytes word) { return 1 + word.len % 3; }
 
 /* How many fields the name of a row of a key has after it. */
@@ -156,7 +156,7 @@ static void add_unknown(void) {
     add_row(names[which], which < 7 && below(2) ? random_bytes() : scl_text("\xff b\\"));
 }
 
-/* A row of an outcome that stands alone. */
+/* A row of an outcome that stands by itself. */
 static void add_once(size_t which) {
     char digits[24];
     if (which < SINGLES) {
@@ -222,7 +222,7 @@ static void write_answer(void) {
         if (!is_put[i]) add_alone(i);
 }
 
-/* ---- what is told of them */
+/* ---- what is read of them */
 
 static bool is_same(scl_bytes a, scl_bytes b) { return a.len == b.len && !memcmp(a.at, b.at, a.len) && !a.at[a.len]; }
 
@@ -287,10 +287,10 @@ static void check_told(const scl_answer *a, const scl_request *r) {
         if (!is_same(told[i], has_text & 1u << i ? texts[i] : scl_text(""))) FAIL("%s is another", singles[i]);
     for (size_t i = 0; i < YESES; i++)
         if (yes[i] != (has_yes >> i & 1)) FAIL("%s is %d", yeses[i], yes[i]);
-    if (a->record.has_depfile != (has_text >> 2 & 1) || a->record.has_too_hard != (has_text >> 3 & 1) || a->has_text != (has_text >> 5 & 1)) FAIL("what there is is told otherwise");
+    if (a->record.has_depfile != (has_text >> 2 & 1) || a->record.has_too_hard != (has_text >> 3 & 1) || a->has_text != (has_text >> 5 & 1)) FAIL("what there is is read differently");
     if (a->outcome != outcome || (outcome == 0 && (a->record.language != language || a->record.color != color))) FAIL("outcome, language or colour is another");
     bool has_unknown = unknown_keeps || (unknown_keys && r->wants_key);
-    if (a->is_cacheable != (outcome == 0 && is_kept && !has_unknown && !lists[KEEP].len) || a->has_unknown != has_unknown) FAIL("what may be kept is told otherwise");
+    if (a->is_cacheable != (outcome == 0 && is_kept && !has_unknown && !lists[KEEP].len) || a->has_unknown != has_unknown) FAIL("what may be kept is read differently");
     if (a->has_at != (at > 0) || a->at != (at ? at - 1 : 0)) FAIL("the index is another");
     check_lists(a, r);
 }
@@ -318,11 +318,11 @@ static void check_rooms(const scl_request *request, bool is_valid) {
     scl_answer answer = scl_no_answer(), before = answer;
     int32_t status = ask_in(request, &none, &wanted, &answer, is_valid);
     if (status != SCL_SHORT && (status != SCL_OK || wanted.bytes || wanted.slots)) FAIL("status %d in no room", (int)status);
-    if (status == SCL_SHORT && memcmp(&before, &answer, sizeof answer)) FAIL("an answer is told in no room");
-    if (ask_in(request, &wanted, &again, &answer, is_valid) != SCL_OK || memcmp(&wanted, &again, sizeof wanted)) FAIL("it is not told in a room of just the size");
+    if (status == SCL_SHORT && memcmp(&before, &answer, sizeof answer)) FAIL("an answer is read in no room");
+    if (ask_in(request, &wanted, &again, &answer, is_valid) != SCL_OK || memcmp(&wanted, &again, sizeof wanted)) FAIL("it is not read in a room of just the size");
     size_t *const parts[] = {&wanted.bytes, &wanted.slots, &wanted.pairs, &wanted.outputs, &wanted.runs};
     size_t *part = parts[below(5)];
-    if (*part && (--*part, ask_in(request, &wanted, &again, &answer, is_valid) != SCL_SHORT)) FAIL("it is told in a room that is too short");
+    if (*part && (--*part, ask_in(request, &wanted, &again, &answer, is_valid) != SCL_SHORT)) FAIL("it is read in a room that is too short");
 }
 
 /* ---- requests */
@@ -423,7 +423,7 @@ static void check_sound(const scl_given *given) {
     for (size_t i = 0; i < a->keep.len; i++) is_sound = is_sound && are_sound(given, a->keep.at[i]);
     for (size_t i = 0; i < a->record.outputs.len; i++) is_sound = is_sound && !a->record.outputs.at[i].path.at[a->record.outputs.at[i].path.len];
     for (size_t i = 0; i < a->environment.len; i++) is_sound = is_sound && !a->environment.at[i].value.at[a->environment.at[i].value.len];
-    if (!is_sound || (a->is_cacheable && a->has_unknown)) FAIL("a broken answer is told unsoundly");
+    if (!is_sound || (a->is_cacheable && a->has_unknown)) FAIL("a broken answer is read unsoundly");
 }
 
 /* Other statuses of the library, as a client sees them. */
@@ -437,7 +437,7 @@ static void check_statuses(const scl_request *request) {
     said_status = 0;
 }
 
-/* What scl_name tells of an answer, and what it asked. */
+/* What scl_name reads of an answer, and what it asked. */
 #define ASKED "name\nword a\\x20b\nword gcc\n"
 static void check_name(const char *answer, int32_t status, size_t wanted_program, const char *wanted_compiler) {
     static const scl_bytes words[] = {{(const uint8_t *)"a b", 3}, {(const uint8_t *)"gcc", 3}};
@@ -463,10 +463,78 @@ static void check_names(void) {
     check_name("", SCL_NO_MEMORY, 2, NULL);
 }
 
+/* What is said to a request, with this status, of which this line is bad. */
+static void say(const char *answer, int32_t status, size_t line) {
+    said.len = 0;
+    add(&said, answer);
+    said_status = status, said_line = line;
+}
+
+static bool is_text(scl_bytes it, const char *wanted) { return it.len == strlen(wanted) && !memcmp(it.at, wanted, it.len); }
+
+/* What scl_join reads of an answer, and what it asked. */
+#define JOINED "join\nran a\t0\tx\\x0a\t\nran b\\x20c\t2147483647\t\tm\n"
+static void check_join(const char *answer, int32_t status, int32_t told, int32_t wanted_status) {
+    static const scl_ran runs[] = {{{(const uint8_t *)"a", 1}, 0, {(const uint8_t *)"x\n", 2}, {(const uint8_t *)"", 0}},
+                                   {{(const uint8_t *)"b c", 3}, INT32_MAX, {(const uint8_t *)"", 0}, {(const uint8_t *)"m", 1}}};
+    scl_texts joined;
+    int32_t ended = -1;
+    say(answer, status, 1);
+    if (scl_join(runs, 2, &ended, &joined) != told) FAIL("joined runs: another status");
+    said_status = 0;
+    if (asked.len != sizeof JOINED - 1 || memcmp(asked.at, JOINED, sizeof JOINED - 1)) FAIL("joined runs: another request, of %zu bytes", asked.len);
+    if (told != SCL_OK) return;
+    if (ended != wanted_status || !is_text(joined.text, "t\n ") || !is_text(joined.messages, "")) FAIL("joined runs: other texts");
+    free(joined.block);
+}
+
+/* What scl_depfile reads of an answer, and what it asked. */
+#define SHOWN "depfile\nshown N:\\x20\tN:\\x20a\\x0a\ncompiler clang-cl\ncwd \nword x.c\n"
+static void check_depfile(const char *answer, int32_t status, size_t line, int32_t told, bool is_wanted) {
+    scl_bytes words[1] = {scl_text("x.c")};
+    scl_request request = scl_request_of("clang-cl", words, 1);
+    scl_texts made;
+    bool is_made = !is_wanted;
+    request.most_words = 7, request.may_dist = true, request.version = scl_text("v"); /* (settings are not asked) */
+    say(answer, status, line);
+    if (scl_depfile(&request, scl_text("N: "), scl_text("N: a\n"), &is_made, &made) != told) FAIL("a dependency file: another status");
+    said_status = 0;
+    if (asked.len != sizeof SHOWN - 1 || memcmp(asked.at, SHOWN, sizeof SHOWN - 1)) FAIL("a dependency file: another request, of %zu bytes", asked.len);
+    if (told != SCL_OK) return;
+    if (is_made != is_wanted || !is_text(made.text, is_made ? "a: b\n" : "") || !is_text(made.messages, is_made ? "k" : "")) FAIL("a dependency file: other texts");
+    free(made.block);
+}
+
+static void check_others(void) {
+    static const scl_ran bad[] = {{{(const uint8_t *)"a", 1}, -1, {(const uint8_t *)"", 0}, {(const uint8_t *)"", 0}}};
+    scl_texts joined;
+    int32_t ended;
+    check_join("status 7\ntext t\\x0a\\x20\nmessages \nversion 1\n", SCL_OK, SCL_OK, 7);
+    check_join("status x\ntext t\nmessages \nversion 1\n", SCL_OK, SCL_NEWER, 0);
+    check_join("status 2147483648\ntext t\nmessages \nversion 1\n", SCL_OK, SCL_NEWER, 0);
+    check_join("status 0\ntext t\nversion 1\n", SCL_OK, SCL_NEWER, 0);
+    check_join("status 0\ntext \\x0\nmessages \nversion 1\n", SCL_OK, SCL_NEWER, 0);
+    check_join("", SCL_BAD, SCL_NEWER, 0);
+    check_join("", SCL_NO_MEMORY, SCL_NO_MEMORY, 0);
+    if (scl_join(bad, 1, &ended, &joined) != SCL_BAD) FAIL("a status below 0 is taken");
+    check_depfile("text a:\\x20b\\x0a\nkept k\nversion 1\n", SCL_OK, 0, SCL_OK, true);
+    check_depfile("version 1\n", SCL_OK, 0, SCL_OK, false);
+    check_depfile("not-utf-8\nversion 1\n", SCL_OK, 0, SCL_BAD, false);
+    check_depfile("too-many-words\nversion 1\n", SCL_OK, 0, SCL_TOO_MANY_WORDS, false);
+    check_depfile("", SCL_OK, 0, SCL_NEWER, false);
+    check_depfile("text a\nversion 1\n", SCL_OK, 0, SCL_NEWER, false);
+    check_depfile("text \\x0\nkept k\nversion 1\n", SCL_OK, 0, SCL_NEWER, false);
+    check_depfile("", SCL_BAD, 1, SCL_NEWER, false);
+    check_depfile("", SCL_BAD, 2, SCL_BAD, false);
+    check_depfile("", SCL_BAD, 3, SCL_BAD, false);
+    check_depfile("", SCL_NO_MEMORY, 0, SCL_NO_MEMORY, false);
+}
+
 int main(int argc, char **argv) {
     unsigned long count = argc > 1 ? strtoul(argv[1], 0, 10) : 20000, counts[8] = {0};
     state = (argc > 2 ? strtoull(argv[2], 0, 10) : 1) * 0x9E3779B97F4A7C15u + 1;
     check_names();
+    check_others();
     for (number = 0; number < count; number++) {
         used = 0;
         const scl_request *request = random_request();
@@ -483,13 +551,13 @@ int main(int argc, char **argv) {
         int32_t status = scl_ask_new(request, &given);
         check_request(request);
         if (is_valid && status != SCL_OK) FAIL("status %d: %.*s", (int)status, (int)said.len, (const char *)said.at);
-        if (kind < 2 && status != SCL_NEWER) FAIL("it is not told as unknown: %.*s", (int)said.len, (const char *)said.at);
+        if (kind < 2 && status != SCL_NEWER) FAIL("it is not read as unknown: %.*s", (int)said.len, (const char *)said.at);
         if (status != SCL_OK && status != SCL_NEWER) FAIL("status %d", (int)status);
         if (status == SCL_OK && is_valid) check_told(&given.answer, request);
         if (status == SCL_OK) check_sound(&given), scl_free(&given), check_rooms(request, is_valid);
         counts[is_valid ? 0 : status == SCL_OK ? 1 : 2]++;
         if (!below(20)) check_statuses(request);
     }
-    printf("%lu random answers: %lu right ones are told; of broken ones %lu are told, and %lu told as unknown\n", count, counts[0], counts[1], counts[2]);
+    printf("%lu random answers: %lu right ones are read; of broken ones %lu are read, and %lu read as unknown\n", count, counts[0], counts[1], counts[2]);
     return 0;
 }

@@ -1,6 +1,6 @@
-/* told: answers the requests on standard input, each ended by a line `end`, by scl_ask_new, and writes what its structs tell as
+/* told: answers the requests on standard input, each ended by a line `end`, by scl_ask_new, and writes what its structs say as
  * the rows of a description (docs/PROTOCOL.md), and a line `end`. A request that is not answered gives a row `status N`. What a
- * request's line says is handed in by the member of scl_request that is for it; a line `wants-less` leaves out what can be left. */
+ * request's line says is passed by the member of scl_request that is for it; a line `wants-less` leaves out what can be left. */
 #include <stdio.h>
 #include "scl.h"
 
@@ -69,7 +69,7 @@ static scl_request blank(void) {
     return r;
 }
 
-/* ---- what is told, as rows */
+/* ---- what is read, as rows */
 
 static void put_fields(scl_writer *to, const char *name, scl_words fields) {
     scl_put(to, name);

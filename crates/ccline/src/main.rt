@@ -9,7 +9,7 @@ fn main(rt: HostRuntime) -> ExitCode {
     let mut writer = Counted::new(rt.stdout());
     let outcome = run(rt.alloc(), &mut reader, &mut writer);
     if outcome != Outcome::Answered {
-        // Where standard error takes nothing, the status alone tells.
+        // Where standard error takes nothing, only the status says so.
         let _ = eprintln!(rt; "{outcome}");
     }
     ExitCode::from(outcome.status())

@@ -29,7 +29,7 @@ statuses: 0 answered, 2 a bad line (its number is on standard error), 3 out of m
           64 called with other words, 65 a line of the catalogue is wrong (its number is on standard error)
 ";
 
-/// What the program is asked to do.
+/// What the program is to do.
 #[derive(Clone, Copy, PartialEq, Eq)]
 enum Call {
     One,
@@ -38,14 +38,14 @@ enum Call {
     Version,
 }
 
-/// What the program is asked to do, and the path of the catalogue that is handed in.
+/// What the program is to do, and the path of the catalogue that is passed.
 #[derive(Drop)]
 struct Asked {
     call: Call,
     catalogue: Option<String>,
 }
 
-/// What a word asks, if it asks something that the program does; with a catalogue that is a description.
+/// What a word requests, if the program does it; with a catalogue that is a description.
 fn call_named(word: Option<&str>, has_catalogue: bool) -> Option<Call> {
     match word {
         None => Some(Call::One),
@@ -56,7 +56,7 @@ fn call_named(word: Option<&str>, has_catalogue: bool) -> Option<Call> {
     }
 }
 
-/// What the words behind the program's name ask; none where they ask nothing that it does.
+/// What the words after the program's name request; none where the program does no such thing.
 fn asked_of(rt: &HostRuntime) -> io::Result<Option<Asked>> {
     let mut words = env::args(rt)?.skip(1);
     let mut word = words.next();
@@ -75,7 +75,7 @@ fn asked_of(rt: &HostRuntime) -> io::Result<Option<Asked>> {
     }
 }
 
-/// Tells a failure on standard error, and gives the status. Where standard error takes nothing, the status alone tells.
+/// Reports a failure on standard error, and gives the status. Where standard error takes nothing, only the status says so.
 fn tell(rt: &HostRuntime, outcome: Outcome) -> u8 {
     if outcome != Outcome::Answered {
         let _ = eprintln!(rt; "describe: {outcome}");
@@ -83,7 +83,7 @@ fn tell(rt: &HostRuntime, outcome: Outcome) -> u8 {
     outcome.status()
 }
 
-/// Describes what standard input asks, by a catalogue, and gives the status.
+/// Describes the request of standard input, by a catalogue, and gives the status.
 fn describe_by(rt: &HostRuntime, catalogue: &Catalogue<'_>, is_batch: bool) -> u8 {
     let tables = Tables {
         catalogue: *catalogue,
@@ -122,7 +122,7 @@ fn describe_by_built_in(rt: &HostRuntime, is_batch: bool) -> u8 {
     }
 }
 
-/// Tells that a file can't be read, and gives the status.
+/// Reports that a file can't be read, and gives the status.
 fn refuse_file(rt: &HostRuntime, path: &str, error: &io::Error) -> u8 {
     if error.kind() == ErrorKind::OutOfMemory {
         return tell(rt, Outcome::OutOfMemory);
@@ -142,7 +142,7 @@ fn wrong_line(rt: &HostRuntime, text: &[u8], bad: BadLine) -> Result<String, All
     }
 }
 
-/// Tells the first wrong line of a catalogue, and gives the status.
+/// Reports the first wrong line of a catalogue, and gives the status.
 fn refuse_line(rt: &HostRuntime, path: &str, text: &[u8], bad: BadLine) -> u8 {
     match wrong_line(rt, text, bad) {
         Ok(line) => {
@@ -153,7 +153,7 @@ fn refuse_line(rt: &HostRuntime, path: &str, text: &[u8], bad: BadLine) -> u8 {
     }
 }
 
-/// Describes by the catalogue of a file, or tells its first wrong line, and gives the status.
+/// Describes by the catalogue of a file, or reports its first wrong line, and gives the status.
 fn describe_by_file(rt: &HostRuntime, path: &str, is_batch: bool) -> u8 {
     let text = match fs::read(rt, path) {
         Ok(text) => text,
@@ -167,7 +167,7 @@ fn describe_by_file(rt: &HostRuntime, path: &str, is_batch: bool) -> u8 {
     }
 }
 
-/// Describes what standard input asks, and gives the status.
+/// Describes the request of standard input, and gives the status.
 fn describe_input(rt: &HostRuntime, catalogue: Option<&str>, is_batch: bool) -> u8 {
     match catalogue {
         Some(path) => describe_by_file(rt, path, is_batch),

@@ -8,7 +8,7 @@ use scl_cl::{
 use std::alloc::Global;
 use std::io;
 
-/// The words behind the name of the program.
+/// The words after the name of the program.
 static WORDS: [&str; 7] = [
     "-c",
     "-O2",

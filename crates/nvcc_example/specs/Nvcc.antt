@@ -6,7 +6,7 @@ use Rattle.scl_gnu_reading.specs.declared.gcc.data.Kind.TheVariants as kind
 use Rattle.scl_gnu_reading.specs.ClangRows.{clang_rows}
 use Rattle.scl_gnu_reading.specs.GccRows.{gcc_rows}
 
--- what nvcc reads otherwise than Gcc and Clang
+-- what nvcc reads differently from Gcc and Clang
 unfoldable pub nvcc_rows : List (Row Kind)
 nvcc_rows =
     row (codes "--threads") kind.Unhashed apart ∷

@@ -28,14 +28,14 @@ use scl_text::{CCompilerImpl, View};
 use std::alloc::Global;
 use std::{env, io};
 
-/// What nvcc reads otherwise than Gcc and Clang, in the order of the flags' bytes. A row of the last table owns its flag,
-/// so `-arch` names no architecture of Gcc's here, and may stand more than once.
+/// What nvcc reads differently from Gcc and Clang, in the order of the flags' bytes. A row of the last table owns its
+/// flag, so `-arch` names no architecture of Gcc's here, and may stand more than once.
 static NVCC: [ArgInfo<ArgData>; 4] = [
     // How many threads nvcc starts says nothing of what it makes.
     TakeArg("--threads", Kind::Unhashed, Separated),
     // A device's architecture is a word that the command keeps.
     TakeArg("-arch", Kind::PassThrough, Separated),
-    // So is what is made, and for which devices; the value may stand behind `=`.
+    // So is what is made, and for which devices; the value may follow `=`.
     TakeArg("-code", Kind::PassThrough, CanBeSeparated(Some(b'='))),
     TakeArg("-gencode", Kind::PassThrough, CanBeSeparated(Some(b'='))),
 ];

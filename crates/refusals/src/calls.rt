@@ -43,7 +43,7 @@ fn words(alloc: Global, texts: &[&str]) -> Mem<Vec<Vec<u8>>> {
     Ok(words)
 }
 
-/// Want of memory, if the iterator ended behind it.
+/// Out of memory, if the iterator ended after that error.
 fn after_error(has_ended: bool) -> Mem<bool> {
     if has_ended {
         Err(AllocError)
@@ -52,7 +52,7 @@ fn after_error(has_ended: bool) -> Mem<bool> {
     }
 }
 
-/// Whether an expansion gives so many words; after an error it is to give nothing.
+/// Whether an expansion gives this number of words; after an error it must give nothing.
 fn gives<I: Iterator<Item = Mem<Vec<u8>>>>(expansion: &mut I, count: u32) -> Mem<bool>
     requires { I.can_next expansion.now × IsFinite (I.remaining expansion.now) }
 {
@@ -124,7 +124,7 @@ fn has(view: &View, path: &[u8], was_added: bool) -> bool {
         && view.file(path) == added
 }
 
-/// Whether the view is as it is to be behind a file more.
+/// Whether the view is as it must be after one more file.
 fn adds(alloc: Global, view: &mut View, path: &[u8]) -> Mem<bool> {
     let added = add_file(alloc, view, path, b"y");
     if !has(view, path, added.is_ok()) {
@@ -202,7 +202,7 @@ fn answers_within(alloc: Global) -> Mem<bool> {
     Ok(matches!(&few, Err(TooManyWords)) && matches!(&enough, Ok(CompilerArguments::Ok(_))))
 }
 
-/// A command line with a bound on its words.
+/// A command line with a limit on its words.
 pub(crate) fn answer_within(alloc: Global) -> Ended {
     end_of(answers_within(alloc))
 }

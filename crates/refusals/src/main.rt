@@ -1,4 +1,4 @@
-//! Makes calls that ask for memory, and says how each ended: `examples/refusals.py` refuses each of their requests in turn.
+//! Makes calls that request memory, and says how each ended: `examples/refusals.py` refuses each of their requests in turn.
 #![tactic(auto)]
 
 mod calls;
@@ -11,7 +11,7 @@ use std::{fmt, io};
 enum Ended {
     /// It gave what it is to give.
     Done,
-    /// It answered want of memory, and left what it is to leave.
+    /// It reported that memory ran out, and left what it must leave.
     Refused,
     /// It did something else.
     Wrong,

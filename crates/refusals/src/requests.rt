@@ -33,7 +33,7 @@ pub(crate) static ROWS: [(&str, &[u8], &[u8]); 5] = [
     ),
 ];
 
-/// Asks for the answer; where memory is refused nothing may be written.
+/// Requests the answer; where memory is refused nothing may be written.
 pub(crate) fn ask(alloc: Global, request: &[u8], answer: &[u8]) -> Ended {
     let mut slice = [0; 512];
     let mut device = FailingWriter::new(&mut slice, 7, u64::MAX);

@@ -1,9 +1,9 @@
-//! What the system hands to the program, as bytes.
+//! What the system passes to the program, as bytes.
 use crate::fault::Fault;
 use std::alloc::{AllocError, Global};
 use std::env::{Env, FillError};
 
-/// What the system hands over.
+/// What the system passes.
 #[derive(Clone, Copy)]
 enum Source<'a> {
     Argument(usize),
@@ -25,7 +25,7 @@ fn too_long(alloc: Global, source: Source<'_>) -> Result<Fault, AllocError> {
     Ok(Fault::Input(text))
 }
 
-/// What the system hands over, if it has it: read into buffers of 2^8 to 2^22 bytes, which is more than a Linux kernel takes.
+/// What the system passes, if it has it: read into buffers of 2^8 to 2^22 bytes, which is more than a Linux kernel takes.
 fn bytes_of(rt: &HostRuntime, source: Source<'_>) -> Result<Option<Vec<u8>>, Fault> {
     let alloc = rt.alloc();
     for power in 8u32..23 {
@@ -42,7 +42,7 @@ fn bytes_of(rt: &HostRuntime, source: Source<'_>) -> Result<Option<Vec<u8>>, Fau
     Err(too_long(alloc, source)?)
 }
 
-/// All arguments behind the program's name.
+/// All arguments after the program's name.
 pub fn raw_arguments(rt: &HostRuntime) -> Result<Vec<Vec<u8>>, Fault> {
     let alloc = rt.alloc();
     let mut all = Vec::new(alloc);

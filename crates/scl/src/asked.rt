@@ -1,8 +1,8 @@
-//! What the program is asked.
+//! What the program is to do.
 use scl_cl::Compiler;
 use scl_explain::{Ending, EntryKind};
 
-/// What is asked of each command line.
+/// What is requested of each command line.
 #[derive(Drop)]
 pub struct Settings {
     /// The compiler, where one is named.
@@ -13,18 +13,18 @@ pub struct Settings {
     pub multiarch: bool,
     /// Whether the runs of the preprocessor are for a distant compiler.
     pub may_dist: bool,
-    /// The most words that it may have, if that is told.
+    /// The most words that it may have, if that is given.
     pub bound: Option<usize>,
-    /// The variables that are told.
+    /// The variables that are given.
     pub env_vars: Vec<(Vec<u8>, Vec<u8>)>,
     /// Whether the variables of this program's own environment do not count.
     pub has_no_own: bool,
 }
 
-/// What is asked about one command line.
+/// What is requested of one command line.
 #[derive(Drop)]
 pub struct LineArguments {
-    /// What is asked of it.
+    /// What is requested of it.
     pub settings: Settings,
     /// The words, the program's included.
     pub words: Vec<Vec<u8>>,
@@ -36,16 +36,16 @@ pub struct LineArguments {
     pub has_nuls: bool,
     /// Whether no command is written where a hazard is named.
     pub is_strict: bool,
-    /// Whether it is asked what may be kept, in place of hazards.
+    /// Whether the request is for what may be kept, in place of hazards.
     pub asks_kept: bool,
 }
 
-/// What is asked about a compile database.
+/// What is requested of a compile database.
 #[derive(Drop)]
 pub struct DatabaseArguments {
     /// Its path; `-` is standard input.
     pub path: String,
-    /// What is asked of each entry.
+    /// What is requested of each entry.
     pub settings: Settings,
     /// Whether machines read the answers.
     pub json: bool,
@@ -55,14 +55,14 @@ pub struct DatabaseArguments {
     pub only: Option<EntryKind>,
 }
 
-/// What is asked about some entries of a compile database.
+/// What is requested of some entries of a compile database.
 #[derive(Drop)]
 pub struct WhyArguments {
     /// The path of the database.
     pub path: String,
     /// The names of sources.
     pub files: Vec<String>,
-    /// What is asked of each entry.
+    /// What is requested of each entry.
     pub settings: Settings,
 }
 
@@ -77,25 +77,25 @@ pub enum Compare {
     Databases(String, String),
 }
 
-/// What is asked about what two command lines differ in.
+/// What is requested of the differences of two command lines.
 #[derive(Drop)]
 pub struct DiffArguments {
     /// What is compared.
     pub compare: Compare,
-    /// What is asked of each command line.
+    /// What is requested of each command line.
     pub settings: Settings,
 }
 
-/// What the command line asks for.
+/// What the command line requests.
 #[derive(Drop)]
 pub enum Wanted {
-    /// Nothing more: help was written, or a mistake told.
+    /// Nothing more: help was written, or a mistake reported.
     Done(Ending),
     /// What a command line is.
     Explain(LineArguments),
-    /// The command alone.
+    /// Only the command.
     Command(LineArguments),
-    /// The hazards alone.
+    /// Only the hazards.
     Check(LineArguments),
     /// The entries of a database.
     Database(DatabaseArguments),
@@ -111,7 +111,7 @@ pub enum Wanted {
     Page(String),
 }
 
-/// What is asked about flags.
+/// What is requested about flags.
 #[derive(Drop)]
 pub struct FlagArguments {
     /// The compiler, if only one's are wanted.
@@ -125,14 +125,14 @@ pub struct FlagArguments {
 pub struct KnownArguments {
     /// The path of the catalogue, if not the built-in one is meant.
     pub catalogue: Option<String>,
-    /// The compiler's version, where it is told.
+    /// The compiler's version, where it is given.
     pub version: Option<String>,
 }
 
 /// What the command line says.
 #[derive(Drop)]
 pub struct Options {
-    /// What it asks for.
+    /// What it requests.
     pub wanted: Wanted,
     /// What is known of compilers.
     pub known: KnownArguments,

@@ -108,7 +108,7 @@ impl<'p, W: Write + Drop> Answers<'p, W> {
         Ok(entries.wrong_end())
     }
 
-    /// Writes what stands behind the entries, and ends.
+    /// Writes what follows the entries, and ends.
     fn close(&mut self, rt: &HostRuntime, batch: &Batch<'_>) -> Result<Ending, Fault> {
         let text = batch.closing_text(rt.alloc(), &self.tally)?;
         self.writer
@@ -123,7 +123,7 @@ impl<'p, W: Write + Drop> Answers<'p, W> {
     }
 }
 
-/// Tells what is wrong with a database.
+/// Reports what is wrong with a database.
 fn wrong_database(rt: &HostRuntime, path: &str, error: &DatabaseError) -> Result<Ending, Fault> {
     let name = name_of(rt, path)?;
     let line = format!(in rt.alloc(); "{name}: {error}")?;
@@ -155,7 +155,7 @@ fn answer_database<R: Read>(
     }
 }
 
-/// The database at a path; none where the file is none, which is told.
+/// The database at a path; none where the file is none, which is reported.
 pub fn database_at(rt: &HostRuntime, path: &str) -> Result<Option<Database>, Fault> {
     let bytes = read_file(rt, path)?;
     match Database::of_text(rt.alloc(), &bytes)? {
@@ -167,7 +167,7 @@ pub fn database_at(rt: &HostRuntime, path: &str) -> Result<Option<Database>, Fau
     }
 }
 
-/// How entries are answered of which this is asked.
+/// How entries are answered of which this is requested.
 pub fn batch_of<'a>(
     rt: &HostRuntime,
     about: About<'a>,

@@ -81,7 +81,7 @@ fn entry_of<'d>(
     Ok(None)
 }
 
-/// What is compared of an entry; none where it is no command line, which is told.
+/// What is compared of an entry; none where it is no command line, which is reported.
 fn compared_entry(
     rt: &HostRuntime,
     batch: &Batch<'_>,
@@ -96,7 +96,7 @@ fn compared_entry(
     }
 }
 
-/// What is compared of the first entry of a source; none where there is none, which is told.
+/// What is compared of the first entry of a source; none where there is none, which is reported.
 fn compared_source(
     rt: &HostRuntime,
     batch: &Batch<'_>,
@@ -196,7 +196,7 @@ fn compare_all(
     }
     let others = taken.iter().filter(|is| !**is).count();
     let line = format!(in rt.alloc();
-        "entries in both: {pairs}; with equal rows of keys: {equal}; in the first alone: {alone}; in the second alone: {others}\n"
+        "entries in both: {pairs}; with equal rows of keys: {equal}; only in the first: {alone}; only in the second: {others}\n"
     )?;
     write(rt, line.as_str())?;
     Ok(ending_of(pairs == equal && alone == 0 && others == 0))

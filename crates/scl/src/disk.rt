@@ -54,7 +54,7 @@ enum Standing {
     File,
     /// A regular file without a byte.
     Empty,
-    /// A file whose size the system does not tell, as those of `/proc` are.
+    /// A file whose size the system does not report, as those of `/proc`.
     Unsized,
     Directory,
     Other,
@@ -94,7 +94,7 @@ fn standing_at(rt: &HostRuntime, path: &str) -> io::Result<Standing> {
     }
 }
 
-/// The text of a path, by which the system is asked.
+/// The text of a path, as the system is given it.
 fn text_of<'a>(alloc: Global, path: &'a [u8]) -> Mem<Result<&'a str, Unreadable>> {
     match str::from_utf8(path) {
         Ok(text) => Ok(Ok(text)),

@@ -15,7 +15,7 @@ pub enum Fault {
     /// The answer can't be written.
     #[error("the answer cannot be written: {0}")]
     Output(io::Error),
-    /// A file, or what else is asked of the system, can't be read.
+    /// A file, or what else is read from the system, can't be read.
     #[error("{0}")]
     Input(String),
 }
@@ -56,7 +56,7 @@ impl Fault {
     }
 }
 
-/// Tells a line on standard error. Where that takes nothing, the status alone tells.
+/// Reports a line on standard error. Where that takes nothing, only the status says so.
 pub fn warn<L: Display>(rt: &HostRuntime, line: &L) {
     let _ = eprintln!(rt; "scl: {line}");
 }

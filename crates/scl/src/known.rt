@@ -1,4 +1,4 @@
-//! What is known of compilers: the built-in catalogue, or one that is handed in, and the version that is told.
+//! What is known of compilers: the built-in catalogue, or one that is passed, and the version that is given.
 use crate::asked::{KnownArguments, Wanted};
 use crate::fault::{Fault, warn};
 use crate::file::{name_of, read_file};
@@ -11,7 +11,7 @@ use scl_effects_default::plain_names;
 use scl_explain::Ending;
 use scl_reader::is_apple;
 
-/// Answers what is asked, by what is known.
+/// Answers a request, by what is known.
 fn answer(rt: &HostRuntime, about: About<'_>, wanted: &Wanted) -> Result<Ending, Fault> {
     match wanted {
         Wanted::Done(ending) => Ok(*ending),
@@ -27,7 +27,7 @@ fn answer(rt: &HostRuntime, about: About<'_>, wanted: &Wanted) -> Result<Ending,
     }
 }
 
-/// Answers what is asked of a compiler of this version, by a catalogue.
+/// Answers a request about a compiler of this version, by a catalogue.
 fn answer_with<'a>(
     rt: &HostRuntime,
     catalogue: &Catalogue<'a>,
@@ -42,7 +42,7 @@ fn answer_with<'a>(
     answer(rt, about, wanted)
 }
 
-/// Tells the first wrong line of a catalogue, with the word that is wrong.
+/// Reports the first wrong line of a catalogue, with the word that is wrong.
 fn wrong_line(rt: &HostRuntime, path: &str, text: &[u8], bad: BadLine) -> Result<Ending, Fault> {
     let name = name_of(rt, path)?;
     let line = match bad.word(rt.alloc(), text)? {
@@ -56,7 +56,7 @@ fn wrong_line(rt: &HostRuntime, path: &str, text: &[u8], bad: BadLine) -> Result
     Ok(Ending::Usage)
 }
 
-/// Answers what is asked, by the catalogue of a file's text, which is read into the arena.
+/// Answers a request, by the catalogue of a file's text, which is read into the arena.
 fn answer_by_text<'a>(
     rt: &HostRuntime,
     path: &str,
@@ -72,7 +72,7 @@ fn answer_by_text<'a>(
     }
 }
 
-/// Answers what is asked, by the catalogue of a file.
+/// Answers a request, by the catalogue of a file.
 fn answer_by_file(
     rt: &HostRuntime,
     path: &str,
@@ -96,7 +96,7 @@ fn about<'a>(entries: &'a [Entry<'static>], version: Option<&'a str>) -> About<'
     }
 }
 
-/// Answers what is asked, by the built-in catalogue.
+/// Answers a request, by the built-in catalogue.
 fn answer_by_built_in(
     rt: &HostRuntime,
     version: Option<&str>,
@@ -119,12 +119,12 @@ fn is_numbers(text: &str) -> bool {
     is_number
 }
 
-/// Whether a text tells a version.
+/// Whether a text is a version.
 fn tells_version(text: &str) -> bool {
     is_numbers(text) || is_apple(Some(text))
 }
 
-/// Answers what is asked of a compiler of this version, where one is told, by the catalogue that is named.
+/// Answers a request about a compiler of this version, where one is given, by the catalogue that is named.
 pub fn answer_by(
     rt: &HostRuntime,
     known: &KnownArguments,

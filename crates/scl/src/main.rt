@@ -26,7 +26,7 @@ use crate::options::read_options;
 use scl_explain::Ending;
 use std::process::ExitCode;
 
-/// Does what the options ask for.
+/// Does what the options request.
 fn answer(rt: &HostRuntime, options: &Options) -> Result<Ending, Fault> {
     match &options.wanted {
         Wanted::Done(ending) => Ok(*ending),

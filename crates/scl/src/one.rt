@@ -36,7 +36,7 @@ pub fn copied(alloc: Global, words: &[Vec<u8>]) -> Result<Vec<Vec<u8>>, Fault> {
     Ok(copies)
 }
 
-/// The variables that count: those that are told, and then those of this program's environment.
+/// The variables that count: those that are given, and then those of this program's environment.
 pub fn variables_of(
     rt: &HostRuntime,
     settings: &Settings,
@@ -50,7 +50,7 @@ pub fn variables_of(
     Ok(pairs)
 }
 
-/// The command line of these words; none where they are no command line, which is told.
+/// The command line of these words; none where they are no command line, which is reported.
 pub fn case_of_words(
     rt: &HostRuntime,
     settings: &Settings,
@@ -87,7 +87,7 @@ fn is_whole_line(words: &[Vec<u8>]) -> bool {
     }
 }
 
-/// Tells why words are no command line.
+/// Reports why words are no command line.
 fn no_case(rt: &HostRuntime, error: &CaseError, words: &[Vec<u8>]) -> Result<(), Fault> {
     if is_whole_line(words) {
         let hint = "give each word of the command line by itself, without quotes around them all";
@@ -99,13 +99,13 @@ fn no_case(rt: &HostRuntime, error: &CaseError, words: &[Vec<u8>]) -> Result<(),
     Ok(())
 }
 
-/// The command line that is asked about; none where its words are no command line, which is told.
+/// The command line of the request; none where its words are no command line, which is reported.
 fn case_of(rt: &HostRuntime, asked: &LineArguments) -> Result<Option<Case>, Fault> {
     let directory = directory_of(rt, asked)?;
     case_of_words(rt, &asked.settings, &asked.words, directory)
 }
 
-/// Tells a person at a terminal what a command line names that is not there.
+/// Reports to a person at a terminal what a command line names that is not there.
 fn tell_absent(
     rt: &HostRuntime,
     about: &About<'_>,

@@ -149,7 +149,7 @@ fn check_command<'a>(alloc: Global) -> Result<Command<'a>, AllocError> {
     let kept = Arg::new(alloc, "keep")
         .long("keep")
         .action(ArgAction::SetTrue)
-        .help("Say whether the outcome may be kept under a key, in place of the hazards");
+        .help("Say whether the result may be kept under a key, in place of the hazards");
     let command = Command::new(alloc, "check")
         .about(texts::ABOUT_CHECK)
         .after_help(texts::EXAMPLE_CHECK)
@@ -262,7 +262,7 @@ fn count_of_words(matches: &ArgMatches<'_>) -> usize {
     matches.get_strs("words").map_or(0, |words| words.len())
 }
 
-/// How many arguments stand before the command line that is asked about.
+/// How many arguments stand before the command line of the request.
 fn count_of_own(arguments: &[Vec<u8>], matches: &ArgMatches<'_>) -> usize {
     let count = match matches.subcommand() {
         Some((_, inner)) => count_of_words(inner),
@@ -284,7 +284,7 @@ fn wrong_value(alloc: Global, matches: &ArgMatches<'_>) -> Result<Option<String>
     }
 }
 
-/// What is wrong with what `diff` is asked, if something is.
+/// What is wrong with a request of `diff`, if something is.
 fn wrong_diff(
     alloc: Global,
     arguments: &[Vec<u8>],
@@ -340,7 +340,7 @@ fn wrong_argument(
     }
 }
 
-/// The last arguments, so many, as they are.
+/// The last arguments, this number of them, as they are.
 fn last_words(
     alloc: Global,
     arguments: &[Vec<u8>],
@@ -396,7 +396,7 @@ fn pair_of(alloc: Global, text: &str) -> Result<(Vec<u8>, Vec<u8>), AllocError> 
     ))
 }
 
-/// The variables that are told, the last first, since of several values of a variable the first counts.
+/// The variables that are given, the last first, since of several values of a variable the first counts.
 fn variables_told(
     alloc: Global,
     matches: &ArgMatches<'_>,
@@ -610,7 +610,7 @@ fn nothing_known() -> KnownArguments {
     }
 }
 
-/// What is asked where nothing is left to do.
+/// The request where nothing is left to do.
 fn done(wanted: Wanted) -> Options {
     Options {
         wanted,
@@ -618,7 +618,7 @@ fn done(wanted: Wanted) -> Options {
     }
 }
 
-/// A mistake in one line: what stands behind `error: ` and before the first empty line of its text.
+/// A mistake in one line: what stands after `error: ` and before the first empty line of its text.
 fn mistake_line(alloc: Global, text: &str) -> Result<String, AllocError> {
     let mut line = String::new(alloc);
     for part in text.strip_prefix("error: ").unwrap_or(text).lines() {
@@ -633,7 +633,7 @@ fn mistake_line(alloc: Global, text: &str) -> Result<String, AllocError> {
     Ok(line)
 }
 
-/// Tells what is wrong with the program's own words.
+/// Reports what is wrong with the program's own words.
 fn wrong_words(rt: &HostRuntime, arguments: &[Vec<u8>], what: &str) -> Result<Wanted, AllocError> {
     let what = shown(rt.alloc(), what.as_bytes())?;
     let (name, blank) = called(arguments);
@@ -642,7 +642,7 @@ fn wrong_words(rt: &HostRuntime, arguments: &[Vec<u8>], what: &str) -> Result<Wa
     Ok(Wanted::Done(Ending::Usage))
 }
 
-/// Tells a mistake in one line, and writes help where that was asked for.
+/// Reports a mistake in one line, and writes help where that was requested.
 fn tell(rt: &HostRuntime, arguments: &[Vec<u8>], error: &Error) -> Result<Wanted, Fault> {
     if error.kind() == ErrorKind::OutOfMemory {
         return Err(Fault::Memory);
@@ -660,7 +660,7 @@ fn matches_of<'a>(alloc: Global, words: &'a [String]) -> Result<ArgMatches<'a>, 
     whole_command(alloc)?.try_get_matches_from(words)
 }
 
-/// What the arguments ask for; help and mistakes are told.
+/// What the arguments request; help is written and mistakes are reported.
 pub fn read_options(rt: &HostRuntime, arguments: &[Vec<u8>]) -> Result<Options, Fault> {
     let alloc = rt.alloc();
     let words = shown_words(alloc, arguments)?;

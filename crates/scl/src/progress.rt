@@ -2,7 +2,7 @@
 use std::io::{self, IsTerminal, Write};
 use std::time::{Duration, Instant};
 
-/// How far a long work is: told on standard error, on a terminal alone, once it took more than a second.
+/// How far a long work is: reported on standard error, only on a terminal, once it took more than a second.
 #[derive(Drop)]
 pub struct Progress<'a> {
     rt: &'a HostRuntime,
@@ -30,7 +30,7 @@ impl<'a> Progress<'a> {
         eprint!(self.rt; "\r{done} entries")
     }
 
-    /// So many are done. Where that can't be told, it is left untold.
+    /// This number is done. Where that can't be reported, nothing is.
     pub fn step(&mut self, done: u64) {
         if let Some(last) = self.last {
             let is_due = match last.elapsed(self.rt) {

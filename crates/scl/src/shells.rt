@@ -7,7 +7,7 @@ use std::alloc::{AllocError, Global};
 /// The shells for which there are completions.
 pub static SHELLS: [&str; 3] = ["bash", "zsh", "fish"];
 
-/// Appends a text with each of these characters behind a backslash, and a single quote as it stands in single quotes of a shell.
+/// Appends a text with each of these characters after a backslash, and a single quote as it stands in single quotes of a shell.
 fn push_quoted(text: &mut String, part: &str, marks: &str) -> Result<(), AllocError> {
     for c in part.chars() {
         if c == '\'' {
@@ -73,7 +73,7 @@ fn push_subcommand_names(text: &mut String, whole: &Command<'_>) -> Result<(), A
     Ok(())
 }
 
-/// Appends what bash offers behind an option with names for values.
+/// Appends what bash offers after an option with names for values.
 fn push_bash_values(text: &mut String, command: &Command<'_>) -> Result<(), AllocError> {
     for option in command.get_arguments() {
         let names = names_of(option);
@@ -88,7 +88,7 @@ fn push_bash_values(text: &mut String, command: &Command<'_>) -> Result<(), Allo
     Ok(())
 }
 
-/// Appends what bash offers behind each subcommand.
+/// Appends what bash offers after each subcommand.
 fn push_bash_commands(text: &mut String, whole: &Command<'_>) -> Result<(), AllocError> {
     for command in whole.get_subcommands() {
         let name = command.get_name();
@@ -117,7 +117,7 @@ fn bash(alloc: Global, whole: &Command<'_>) -> Result<String, AllocError> {
     Ok(text)
 }
 
-/// The characters that have a meaning in what zsh is told.
+/// The characters that have a meaning in what zsh is given.
 const ZSH_MARKS: &str = "[]:\\";
 
 fn push_zsh_option(text: &mut String, option: &Arg<'_>) -> Result<(), AllocError> {

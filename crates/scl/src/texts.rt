@@ -16,7 +16,7 @@ pub const ABOUT_COMMAND: &str = "Writes the command to run in the place of a com
 
 /// What `check` does.
 pub const ABOUT_CHECK: &str =
-    "Names each hazard of a compile command: where the compiler is known to do something else with the command that is built";
+    "Names each hazard of a compile command: where the compiler is known to make something else of the command that is built";
 
 /// What `database` does.
 pub const ABOUT_DATABASE: &str = "Answers each entry of a compile database";
@@ -30,7 +30,7 @@ pub const ABOUT_DIFF: &str =
 
 /// What `reasons` does.
 pub const ABOUT_REASONS: &str =
-    "Lists each reason why a command cannot be cached or its outcome not be kept, and each hazard, with a sentence for people";
+    "Lists each reason why a command cannot be cached or its result not be kept, and each hazard, with a sentence for people";
 
 /// What `flags` does.
 pub const ABOUT_FLAGS: &str = "Lists the flags of the compilers' tables, or says what one word is";
@@ -46,9 +46,9 @@ Example:
 
 /// How the program ends, and which compiler a command line is of.
 pub const STATUSES: &str =
-    "Statuses: 0 answered; 1 the rows of the keys are not equal (diff), or there is no key (check --keep); 2 wrong words, or a line of the catalogue is wrong; 3 out of memory; 4 a file cannot be read or the answer not be written; 5 the database is broken or has entries that are none (all others are answered); 10 cannot be cached; 11 compiles nothing; 12 a hazard; 13 a word holds a NUL, so no process can be given the command; 14 there is a command, and its outcome may not be kept in the cache.
+    "Statuses: 0 answered; 1 the rows of the keys are not equal (diff), or there is no key (check --keep); 2 wrong words, or a line of the catalogue is wrong; 3 out of memory; 4 a file cannot be read or the answer not be written; 5 the database is broken, or an entry is not valid (all others are answered); 10 cannot be cached; 11 compiles nothing; 12 a hazard; 13 a word holds a NUL, so no process can be given the command; 14 there is a command, and its result may not be kept in the cache.
 
-Which compiler: by the file name of the first word that is neither a launcher (ccache, sccache, distcc, icecc, recc, buildcache, env, nice, time, or one that --launcher names), nor an option of env (-u), nice (-n) or time before the compiler, nor an assignment (NAME=.., NAME of letters, digits and _); without .exe and a version it ends in clang-cl, clang++, clang, g++, gcc, c++ or cc (alone or behind a -), or is cl, dcc or cctc. cc and c++ are gcc and g++ unless --compiler says otherwise.
+Which compiler: by the file name of the first word that is neither a launcher (ccache, sccache, distcc, icecc, recc, buildcache, env, nice, time, or one that --launcher names), nor an option of env (-u), nice (-n) or time before the compiler, nor an assignment (NAME=.., NAME of letters, digits and _); without .exe and a version it ends in clang-cl, clang++, clang, g++, gcc, c++ or cc (the whole name, or what follows a -), or is cl, dcc or cctc. cc and c++ are gcc and g++ unless --compiler says otherwise.
 
 A response file is read where it is a regular file whose size the system tells, and has 67108864 bytes at most.
 
@@ -65,7 +65,7 @@ Example:
 
 /// How `command` ends, and calls of it.
 pub const EXAMPLE_COMMAND: &str =
-    "Ends with status 10 where the outcome cannot be cached, 11 where nothing is compiled, and 13 where a word holds a NUL; then no command is written. With --strict none is written where a hazard concerns more than messages, and the status is 12: run the command as given. With status 14 the command is written: it may be run, and its outcome may not be kept in the cache.
+    "Ends with status 10 where the outcome cannot be cached, 11 where nothing is compiled, and 13 where a word holds a NUL; then no command is written. With --strict none is written where a hazard concerns more than messages, and the status is 12: run the command as given. With status 14 the command is written: it may be run, and its result may not be kept in the cache.
 
 The command is a line for any shell. On a terminal a word with a character that cannot be seen stands in $'..', which bash, zsh and ksh read; with -0 each word is written as it is.
 
@@ -78,9 +78,9 @@ Example:
 
 /// What `check` writes, how it ends, and calls of it.
 pub const EXAMPLE_CHECK: &str =
-    "Writes a line for each hazard, its name and what happens. Ends with status 12 where there is one, 0 where there is none, 10 where the outcome cannot be cached, 11 where nothing is compiled, 13 where a word holds a NUL, and 14 where no hazard is named and the outcome may not be kept in the cache. Most hazards are known of gcc, clang and clang-cl.
+    "Writes a line for each hazard, its name and what happens. Ends with status 12 where there is one, 0 where there is none, 10 where the outcome cannot be cached, 11 where nothing is compiled, 13 where a word holds a NUL, and 14 where no hazard is named and the result may not be kept in the cache. Most hazards are known of gcc, clang and clang-cl.
 
-With --keep it writes a line for each row keep, with what it means. Then it ends with status 0 where the outcome may be kept under a key, 1 where it has none or an option is not known, and 14 where the compiler says that the outcome may not be kept.
+With --keep it writes a line for each row keep, with what it means. Then it ends with status 0 where the result may be kept under a key, 1 where it has none or an option is not known, and 14 where the compiler's rules say that the result may not be kept.
 
 Example:
     scl check gcc -c src/foo.c -MD -MT one -MT two -o foo.o
@@ -89,7 +89,7 @@ Example:
 
 /// What `database` reads and writes, and calls of it.
 pub const EXAMPLE_DATABASE: &str =
-    "Each entry has a \"directory\", and \"arguments\" or a \"command\" of shell words; in a directory with a drive or a backslash, of words as Windows splits them. Entries are answered as they are read. With --json each answer is an object in a line; otherwise a summary is written, with --only after a line for each entry of that kind. With --keep the summary counts what may be kept under a key.
+    "Each entry has a \"directory\", and \"arguments\" or a \"command\" of shell words; in a directory with a drive or a backslash, of words as Windows splits them. Entries are answered as they are read. With --json each answer is an object in a line; otherwise a summary is written. With --only a line for each entry of that kind comes first. With --keep the summary counts what may be kept under a key.
 
 Example:
     scl database build/compile_commands.json

@@ -78,7 +78,7 @@ abbrev pub OrderCountsOnTies : Type 0 → Type 0
 OrderCountsOnTies K = (tables others : List (List (Row K))) (word : List ℕ) → IsPermutation tables others →
     (option_map (λ row. row.flag) (owner_in tables word) ≡ option_map (λ row. row.flag) (owner_in others word)) × (ShareNoFlag tables → owner_in tables word ≡ owner_in others word)
 
--- ---- the bound on looks
+-- ---- the limit on looks
 
 -- the number of binary digits of n: enough for n, and no more
 abbrev pub CountsDigits : Type 0

@@ -16,9 +16,9 @@ use scl_values::ArgumentValue;
 /// - `last_fit_owns`: the last row that fits a word is its owner;
 /// - `owner_is_of_all_rows`: the owner of a word in several tables is its owner in one list of all their rows;
 /// - `last_table_wins`: of several tables the longest owner wins; of equally long ones the last table's;
-/// - `counts_digits`: `bits n` binary digits, which the bound on looks uses, are enough for n, and for n above 0 no fewer
+/// - `counts_digits`: `bits n` binary digits, which the limit on looks uses, are enough for n, and for n above 0 no fewer
 ///   are;
-/// - `looks_add_up`: the bound on the looks of a search in several tables is the sum of the tables' bounds.
+/// - `looks_add_up`: the limit on the looks of a search in several tables is the sum of the tables' limits.
 pub fn of_tables<K>()
     ensures flags_rise { FlagsRise K }
     ensures owner_is_longest_fit { OwnerIsLongestFit K }

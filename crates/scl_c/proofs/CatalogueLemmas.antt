@@ -40,7 +40,7 @@ no-six status (inr (inr (inr (inr e)))) six = absurd (cc)
 pub never_wrong : (Answers : Result (List ℕ) ℕ → Type 0) (request old new : List ℕ) (wanted : ℕ) (status : ℤ) → IsDescribed Answers request old new wanted status → status ≡ pos 6 → ⊥
 never_wrong Answers request old new wanted status h six = no-six status h.known six
 
--- what is told by the entries that are built in
+-- what the built-in entries state
 pub by_built_in : (entries : List Entry) (request old new : List ℕ) (wanted : ℕ) (status : ℤ) → entries ≡ built_in →
     IsDescribed (AnswersBytes (tables_with (record { groups = []; entries = entries })) request) request old new wanted status → IsDescribed (AnswersBytes (tables_with built_in_catalogue) request) request old new wanted status
 unfolding built_in_catalogue

@@ -1,4 +1,4 @@
--- What is given where a description is asked, by what is given of its text.
+-- What is given where a description is requested, by what is given of its text.
 use Rattle.std.proofs.Common.{◌≡◌, inl, inr, ℕ, ℤ, pos, true, false, List, Result, refl, rules}
 use Rattle.scl_c.specs.Texts.{IsTextGiven}
 use Rattle.scl_c.specs.Texts as texts

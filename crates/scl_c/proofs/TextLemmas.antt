@@ -12,6 +12,6 @@ again bytes old new wanted h = record {
   is_put = h.is_put;
 }
 
--- where a text is told, a command in it is read again
+-- where a text is given, a command in it is read again
 pub again_told : (bytes old new : List ℕ) (wanted : ℕ) (status : ℤ) → IsTextGiven (λ said. program_answer bytes ≡ said) old new wanted status → status ≡ pos 0 → HoldsReadAgain bytes old new wanted
 again_told bytes old new wanted status h is = again bytes old new wanted (h.given is)

@@ -1,4 +1,4 @@
--- What a call over texts in memory gives where a description is asked.
+-- What a call over texts in memory gives where a description is requested.
 use Rattle.std.specs.Prelude.{◌≡◌, ◌⊎◌, ◌-◌, ℕ, ℤ, pos, Bool, true, false, List, [], codes, get_or, Option, None, Some, Result, Ok, Err}
 use Rattle.std.specs.Str.{bytes_eq}
 use Rattle.scl_files.specs.Characters.{space}
@@ -7,7 +7,7 @@ use Rattle.scl_reader.specs.CommandLines.{Request}
 use Rattle.scl_reader.specs.Answers.{AnswerIsReadAgain}
 use Rattle.scl_cl.specs.Requests.{request_in}
 use Rattle.scl_describe.specs.Settings.{request_lines}
-use Rattle.scl_requests.specs.Requests.{first_is}
+use Rattle.scl_requests.specs.Requests.{is_described, kind_of}
 use Rattle.scl_c.specs.Texts.{IsGiven, IsLonger}
 
 -- ---- a bad line
@@ -51,10 +51,10 @@ pub record IsAskedAgain (bytes : List ℕ) : Type 0 where
   pub request_is : request_in (request_lines (lines_of bytes)) ≡ Ok request
   pub read_again : AnswerIsReadAgain request
 
-abbrev pub AskedAgainBy : (asks_name : Bool) → List ℕ → Type 0
-AskedAgainBy true bytes = Unit {0}
-AskedAgainBy false bytes = IsAskedAgain bytes
+abbrev pub AskedAgainIf : (is_described : Bool) → List ℕ → Type 0
+AskedAgainIf true bytes = IsAskedAgain bytes
+AskedAgainIf false bytes = Unit {0}
 
--- that is so of each request but those of a name, which have no command
+-- that is so of each request of a description; what else is answered has no command
 abbrev pub AsksReadAgain : List ℕ → Type 0
-AsksReadAgain bytes = AskedAgainBy (first_is (codes "name") (lines_of bytes)) bytes
+AsksReadAgain bytes = AskedAgainIf (is_described (kind_of (lines_of bytes))) bytes

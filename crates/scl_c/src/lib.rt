@@ -59,7 +59,7 @@ fn catalogue_of<'a>(entries: &'a [Entry<'static>]) -> Catalogue<'a>
     }
 }
 
-/// Answers the request whose text is in memory by a description of its answer, or by what a program's name means, as `describe`
+/// Answers the request whose text is in memory by a description of its answer, or by what its first line asks, as `describe`
 /// does (docs/PROTOCOL.md), with the hazards that the built-in catalogue knows. The statuses, `wanted` and `room` are as those of
 /// `scl_run`, but that the status is 5, in place of 2, where the bad line is one of a setting.
 #[tactic(auto, using(crate::proofs::AgainLemmas::asks_again, crate::proofs::CatalogueLemmas::by_built_in, crate::proofs::CatalogueLemmas::by_nothing))]

@@ -61,7 +61,8 @@ pub record Case : Type 0 where
   pub served : List Served
   pub conditions : List Condition
 
--- what an entry tells: a hazard and what becomes of it, something that is read, written, asked or loaded, a reason, or that nothing of the kind is done
+-- what an entry states: a hazard and what becomes of it, something that is read, written, asked or loaded, a reason, or that
+-- nothing of the kind is done
 pub data Tells : Type 0 where
   Hazard : Danger → Tells
   Effect : Verb → List ℕ → Tells

@@ -24,7 +24,7 @@ use Rattle.scl_catalogue.specs.declared.text.How.TheVariants as how
 
 -- ---- a command line as conditions see it
 
--- an option: how it stands in the tables, its word or flag, the name of its kind, its value, and what else is told of it
+-- an option: how it stands in the tables, its word or flag, the name of its kind, its value, and what else is known of it
 pub record OptionSeen : Type 0 where
   pub standing : Standing
   pub name : List ℕ
@@ -32,7 +32,7 @@ pub record OptionSeen : Type 0 where
   pub value : List ℕ
   pub marks : Marks
 
--- a line that has a record: who reads it, what is told of it, its options and inner options, and the words at each place
+-- a line that has a record: who reads it, what is known of it, its options and inner options, and the words at each place
 pub record LineSeen : Type 0 where
   pub compiler : Compiler
   pub version : Option Version
@@ -94,7 +94,7 @@ is_of class.Kind standing.Raw = false
 is_of class.Kind standing.Unknown = false
 is_of class.Kind standing.Known = true
 
--- the name by which a test of the class tells an option
+-- the name by which a test of the class knows an option
 abbrev pub name_by : Class → OptionSeen → List ℕ
 name_by class.Option o = o.name
 name_by class.Raw o = o.name

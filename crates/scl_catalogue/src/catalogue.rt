@@ -17,7 +17,7 @@ use std::alloc::Global;
 pub struct Catalogue<'a> {
     /// The groups that have a name.
     pub groups: &'a [Group<'a>],
-    /// The entries, in the order in which they are told.
+    /// The entries, in the order in which they are reported.
     pub entries: &'a [Entry<'a>],
 }
 
@@ -42,7 +42,7 @@ fn those_there<'a>(
 }
 
 impl<'a> Catalogue<'a> {
-    /// The entries that are there, in their order. It fails only for want of memory.
+    /// The entries that are there, in their order.
     #[tactic(auto, using(crate::proofs::FilterLemmas::kept_entries))]
     pub fn found(&self, alloc: Global, line: &Line<'_>) -> Mem<Vec<&'a Entry<'a>>>
         ensures { IfOk result (λ entries. map (λ entry. entry_of entry.now) entries.items ≡ found (catalogue_of self.now) (line_of line.now)) }

@@ -11,7 +11,7 @@ use crate::line::Line;
 use crate::relation::Relation;
 use crate::text::Text;
 
-/// What is told of a line beside its words and options.
+/// What is known of a line besides its words and options.
 #[derive(Clone, Copy, Debug, PartialEq, Eq)]
 pub enum Fact {
     /// It is one of the driver for C++.
@@ -20,11 +20,11 @@ pub enum Fact {
     Apple,
     /// The preprocessor runs.
     Preprocessed,
-    /// The compiler alone compiles the input in another language than the built command does.
+    /// The given command compiles the input in another language than the built command does.
     OtherLanguage,
-    /// A text that was put in place is split otherwise by the compiler.
+    /// A text that was put in place is split differently by the compiler.
     SplitOtherwise,
-    /// A text of the environment is split otherwise by the compiler.
+    /// A text of the environment is split differently by the compiler.
     EnvironmentSplitOtherwise,
     /// The first byte of the input's file name is its only dot.
     HiddenInput,
@@ -60,7 +60,7 @@ pub enum Place {
 /// What is asked of a line.
 #[derive(Clone, Copy, Debug)]
 pub enum Question<'a> {
-    /// The fact is told.
+    /// The line has the fact.
     Is(Fact),
     /// A word at the place passes.
     At(Place, Text<'a>),

@@ -35,23 +35,23 @@ pub enum Verb {
     Loads,
 }
 
-/// What an entry tells.
+/// What an entry states.
 #[derive(Clone, Copy, Debug)]
 pub enum Tells<'a> {
     /// The built command does something else than the given one.
     Hazard(Danger),
-    /// The compiler reads, writes or asks what the name's pattern tells.
+    /// The compiler reads, writes or asks what the name's pattern says.
     Effect(Verb, &'a [u8]),
     /// Why a line is answered as it is.
     Reason,
-    /// The options of its groups read, write and ask nothing that is not told otherwise.
+    /// The options of its groups read, write and ask nothing except what other entries state.
     Plain,
 }
 
 /// An entry of a catalogue.
 #[derive(Clone, Copy, Debug)]
 pub struct Entry<'a> {
-    /// What it tells.
+    /// What it states.
     pub tells: Tells<'a>,
     /// Its name.
     pub name: &'a [u8],

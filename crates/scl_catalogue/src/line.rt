@@ -6,7 +6,7 @@ use crate::case::{Compiler, Version};
 use crate::condition::Fact;
 use crate::seen::Seen;
 
-/// Which facts are told of a line.
+/// Which facts a line has.
 #[derive(Clone, Copy, Debug, PartialEq, Eq)]
 pub struct Facts {
     /// `Fact::Plusplus`.
@@ -40,11 +40,11 @@ pub struct Line<'a> {
     pub compiler: Compiler,
     /// Its version, where it is known.
     pub version: Option<Version>,
-    /// What is told of the line.
+    /// The facts that the line has.
     pub facts: Facts,
     /// The options that its words are cut into.
     pub options: &'a [Seen<'a>],
-    /// The options of the inner command line, in the order in which they are handed on.
+    /// The options of the inner command line, in the order in which they are passed on.
     pub inner: &'a [Seen<'a>],
     /// The words, with response files put in place.
     pub words: &'a [Vec<u8>],
@@ -63,7 +63,7 @@ pub struct Line<'a> {
 }
 
 impl Facts {
-    /// Whether the fact is told.
+    /// Whether the line has the fact.
     pub(crate) fn has(&self, fact: Fact) -> bool
         ensures { result ≡ has_fact self.now fact }
     {

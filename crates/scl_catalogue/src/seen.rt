@@ -13,7 +13,7 @@ pub enum Standing {
     Known,
 }
 
-/// What is told of an option beside its words.
+/// What is known of an option besides its words.
 #[derive(Clone, Copy, Debug, PartialEq, Eq)]
 pub enum Mark {
     /// It stands in one word and goes to the list of common words.
@@ -54,7 +54,7 @@ pub struct Seen<'a> {
     pub kind: &'a [u8],
     /// Its value; empty where it has none.
     pub value: &'a [u8],
-    /// What else is told of it.
+    /// What else is known of it.
     pub marks: Marks,
 }
 

@@ -21,7 +21,7 @@ same-line a b h = cc
 itself : (line : List ℕ) (lines : List (List ℕ)) (n : ℕ) (s : SoFar) (m : Mistake) → with_line s line ≡ Err m → IsFirstWrong n s (line ∷ lines) (record { line = n; mistake = m })
 itself line lines n s m h = record { front = []; line = line; rest = lines; so_far = s; is = refl; number = omega arith; right = refl; wrong = h }
 
--- the line is read, and one behind it is wrong
+-- the line is read, and one after it is wrong
 behind : (line : List ℕ) (lines : List (List ℕ)) (n : ℕ) (s next : SoFar) (bad : BadLine) → with_line s line ≡ Ok next → IsFirstWrong (n + 1) next lines bad → IsFirstWrong n s (line ∷ lines) bad
 behind line lines n s next bad h w = record {
   front = line ∷ w.front;

@@ -28,7 +28,7 @@ abbrev pub name_by : List ℕ → List ℕ → Result (Unit {0}) Mistake
 name_by name [] = Err mistake.WrongBraces
 name_by name (brace ∷ text) = cond (is_closed text) (Err mistake.WrongBraces) (cond (is_part name) (Ok tt) (Err mistake.UnknownName))
 
--- what stands behind an opening brace
+-- what follows an opening brace
 unfoldable pub name_read : List ℕ → Result (Unit {0}) Mistake
 name_read bs = name_by (until_mark 125 bs) (from_mark 125 bs)
 
@@ -62,7 +62,7 @@ is_of_options (Inner r) = true
 abbrev pub asks_for_options : Condition → Bool
 asks_for_options c = not c.is_denied && is_of_options c.question
 
--- what is told has the value of an option only where the case asks for options
+-- what is reported has the value of an option only where the case asks for options
 abbrev pub has_its_options : Tells → Case → Bool
 has_its_options tells c = not (has_value tells) || list_any asks_for_options c.conditions
 

@@ -33,7 +33,7 @@ effect_read (name ∷ verb ∷ []) = Err mistake.WrongEntry
 effect_read (name ∷ verb ∷ file ∷ []) = after (or_mistake mistake.WrongEntry (verb_named verb)) (λ v. after (file_read file) (λ _. Ok (NewEntry (Effect v file) name)))
 effect_read (name ∷ verb ∷ file ∷ other ∷ more) = Err mistake.WrongEntry
 
--- a name alone, of an entry that tells this
+-- only a name, of an entry that states this
 unfoldable pub name_read : Tells → List (List ℕ) → Result Said Mistake
 name_read tells [] = Err mistake.WrongEntry
 name_read tells (name ∷ []) = Ok (NewEntry tells name)

@@ -29,7 +29,7 @@ or_mistake m (Some x) = Ok x
 abbrev pub at_end : {A : Type 0} → List ℕ → A → Result A Mistake
 at_end bs x = cond (is_word (first_word bs)) (Err mistake.TooManyWords) (Ok x)
 
--- where a call stopped: want of memory says nothing of the text
+-- where a call stopped: out of memory says nothing of the text
 abbrev pub StopsAt : {A : Type 0} → Stop → Result A Mistake → Type 0
 StopsAt (stop.Mistake m) r = r ≡ Err m
 StopsAt stop.Memory r = Unit {0}

@@ -25,7 +25,7 @@ byte_of_digits None low bs = None
 byte_of_digits (Some high) None bs = None
 byte_of_digits (Some high) (Some low) bs = Some (high * 16 + low, bs)
 
--- the byte that two digits tell, and the bytes after them
+-- the byte that two digits stand for, and the bytes after them
 unfoldable pub hex_byte : List ℕ → Option (ℕ × List ℕ)
 hex_byte [] = None
 hex_byte (high ∷ []) = None

@@ -5,7 +5,7 @@ ghost use Rattle.scl_catalogue_text.specs.Cutting.{behind_blanks, first_word, fr
 use scl_values::Mem;
 use std::alloc::Global;
 
-/// The bytes from the first mark on; none where it lacks.
+/// The bytes from the first mark on; none where it is missing.
 fn from_mark(bytes: &[u8], mark: u8) -> &[u8]
     ensures from { result.now ≡ from_mark mark bytes.now }
     ensures within { length result.now ≤ length bytes.now }

@@ -30,7 +30,7 @@ fn is_closed(bytes: &[u8]) -> bool
     !from.is_empty()
 }
 
-/// Refuses what stands behind an opening brace if it is no name, closing brace and text.
+/// Refuses what follows an opening brace if it is no name, closing brace and text.
 #[tactic(auto, unfolding(crate::specs::Files::name_read))]
 fn check_name(bytes: &[u8]) -> Part<()>
     ensures { Reads (λ _. tt) result (name_read bytes.now) }
@@ -79,7 +79,7 @@ pub(crate) fn check_file(alloc: Global, file: &[u8]) -> Part<()>
     check_parts(&parts)
 }
 
-/// Whether the value of an option is told.
+/// Whether the value of an option is reported.
 fn has_value(tells: &Tells<'_>) -> bool
     ensures { result ≡ has_value (tells_of tells.now) }
 {
@@ -115,7 +115,7 @@ fn some_ask_for_options(conditions: &[Condition<'_>]) -> bool
     false
 }
 
-/// Whether the case asks for options, if the value of one is told.
+/// Whether the case asks for options, if the value of one is reported.
 pub(crate) fn has_its_options(tells: &Tells<'_>, case: &Case<'_>) -> bool
     ensures { result ≡ has_its_options (tells_of tells.now) (case_of case.now) }
 {

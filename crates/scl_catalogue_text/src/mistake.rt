@@ -14,7 +14,7 @@ pub enum Mistake {
     /// It is none of the lines that a catalogue has.
     #[error("a line is a comment, a group, an entry, its sentence or one of its cases")]
     UnknownLine,
-    /// A group's or a case's colon lacks.
+    /// A group's or a case's colon is missing.
     #[error("a colon lacks")]
     NoColon,
     /// An entry's line has other words.

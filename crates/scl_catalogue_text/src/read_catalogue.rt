@@ -183,8 +183,8 @@ fn text_read<'a>(alloc: Global, arena: &'a Bump, text: &'a [u8]) -> Result<Catal
     Ok(catalogue)
 }
 
-/// Reads a catalogue's text, placing what it holds in the arena. The first line that is wrong is told by its number;
-/// a catalogue that was written is read as it was.
+/// Reads a catalogue's text, placing what it holds in the arena. The first line that is wrong is reported by its
+/// number; a catalogue that was written is read as it was.
 pub fn read<'a>(alloc: Global, arena: &'a Bump, text: &'a [u8]) -> Result<Catalogue<'a>, ReadError>
     ensures reads { ReadsText catalogue_of result (read text.now) }
     ensures gives_back { GivesBack catalogue_of result text.now }

@@ -50,7 +50,7 @@ fn effect<'a>(room: Room<'a>, words: &[&'a [u8]]) -> Part<Said<'a>>
     Ok(Said::Entry(Tells::Effect(verb, file), name))
 }
 
-/// A name alone, of an entry that tells this.
+/// Only a name, of an entry that states this.
 #[tactic(auto, unfolding(crate::specs::Lines::name_read))]
 fn named<'a>(tells: Tells<'a>, words: &[&'a [u8]]) -> Part<Said<'a>>
     ensures { Reads said_of result (name_read (tells_of tells.entry) (map (λ word. word.now) words.now)) }
@@ -61,7 +61,7 @@ fn named<'a>(tells: Tells<'a>, words: &[&'a [u8]]) -> Part<Said<'a>>
     Ok(Said::Entry(tells, name))
 }
 
-/// A group of this name, whose tests stand behind the colon.
+/// A group of this name, whose tests follow the colon.
 #[tactic(auto, unfolding(crate::specs::Lines::group_line_by))]
 fn group_of<'a>(
     room: Room<'a>,

@@ -29,7 +29,7 @@ fn digit(byte: u8) -> Option<u8>
     }
 }
 
-/// The byte that two digits tell, and the bytes after them.
+/// The byte that two digits stand for, and the bytes after them.
 #[tactic(auto, unfolding(crate::specs::Reading::hex_byte))]
 fn hex_byte(bytes: &[u8]) -> Option<(u8, &[u8])>
     ensures { option_map (λ pair. (pair.0, pair.1.now)) result ≡ hex_byte bytes.now }

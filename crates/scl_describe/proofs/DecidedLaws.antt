@@ -1,4 +1,4 @@
--- Of a request the same is told on the disk as in a view with enough of it, and it has the same rows.
+-- Of a request the same is reported on the disk as in a view with enough of it, and it has the same rows.
 use Rattle.std.proofs.Common.{◌≡◌, ap, ◌∙◌}
 use Rattle.scl_files.specs.Views.{Viewed}
 use Rattle.scl_hazards.specs.Hazards.{Known}

@@ -74,7 +74,7 @@ entries-are tables s r found are =
     ∙ ap (λ is. all_entries (there is) options_is is (given found.questions)) are.told
     ∙ ap (all_entries (there (told_for tables s r)) options_is (told_for tables s r)) are.questions
 
--- the text of an answer and the rows behind it are a description
+-- the text of an answer and the rows after it are a description
 pub is-description : (tables : Tables) (s : Settings) (r : Request) (text : List ℕ) (found : Findings) → has_at_most s.bound r ≡ true → AreOf tables s r found
     → text ≡ text_of (answer_of found.answer) ++ entries_text (entries_given s r.compiler (run_words_by r.words found.told.hazards.items) found) → text ≡ description tables s r
 is-description tables s r text found within are is =
@@ -107,7 +107,7 @@ command-beside : (words : List (List ℕ)) (kept : Cacheable) → Each IsBeside 
 command-beside words cacheable.Yes = (refl, (refl, (refl, (refl, tt))))
 command-beside words cacheable.No = (refl, (refl, (refl, (refl, tt))))
 
--- the rows before a record's, the record's, and those behind
+-- the rows before a record's, the record's, and those after
 abbrev in_order : (before after : List Entry) → Parsed → List Entry
 in_order before after p = before ++ record_entries p ++ after
 

@@ -1,4 +1,4 @@
--- The rows of a request tell what it says, and share its words.
+-- The rows of a request say what it says, and share its words.
 use Rattle.std.proofs.Common.{◌≡◌, ℕ, Bool, true, false, List, [], ◌∷◌, ◌++◌, codes, Result, Ok, Err, length, refl, subst}
 use Rattle.scl_files.specs.Expanded.{standing}
 use Rattle.scl_files.specs.Sources.{indices}

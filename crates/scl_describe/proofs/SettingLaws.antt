@@ -7,7 +7,7 @@ use Rattle.scl_description.specs.Lines.{cut_at, with_first, line, lines_of}
 use Rattle.scl_description.proofs.WrittenFieldLaws.{lines-line}
 use Rattle.scl_describe.specs.Settings.{Settings, Setting, with_setting, with_line, number_from, setting_of, settings_from, settings_in, blanked, request_lines}
 
--- behind what is no digit no number comes
+-- after what is no digit no number comes
 pub none_stays : (digits : List ℕ) → number_from None digits ≡ None
 none_stays [] = refl
 none_stays (digit ∷ digits) = none_stays digits
@@ -41,7 +41,7 @@ lines-back (l ∷ ls) are = lines-line l (flat_map line ls) are.0 ∙ ap (λ res
 
 -- ---- read line by line
 
--- Of all bytes these are left behind lines that made these settings and this request.
+-- Of all bytes these are left after lines that made these settings and this request.
 pub record Set (all left : List ℕ) (settings : Settings) (request : List ℕ) : Type 0 where
   pub settings_are : settings_from settings (lines_of left) ≡ settings_in (lines_of all)
   pub request_is : request ++ flat_map line (request_lines (lines_of left)) ≡ flat_map line (request_lines (lines_of all))

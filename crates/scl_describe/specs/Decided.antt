@@ -1,4 +1,4 @@
--- What is told of a request is that on each disk of which its view has enough.
+-- What is reported of a request is the same on each disk of which its view has enough.
 use Rattle.std.specs.Prelude.{◌≡◌}
 use Rattle.scl_files.specs.Views.{Viewed}
 use Rattle.scl_hazards.specs.Hazards.{Known}

@@ -63,13 +63,13 @@ refused_entries reason because at =
 abbrev pub undone_entries : Option ℕ → List Entry
 undone_entries at = index_entry (codes "at") at ∷ []
 
--- ---- what a real compiler may do otherwise
+-- ---- what a real compiler may do differently
 
 -- the names of hazards
 abbrev pub hazards_entry : List Hazard → Entry
 hazards_entry found = words_entry (codes "hazard") (map (λ hazard. hazard.name) found)
 
--- ---- what the answer asks of the view
+-- ---- the questions of the answer
 
 abbrev pub kind_fields : List ℕ → List ℕ → List (List ℕ)
 kind_fields kind path = kind ∷ path ∷ []
@@ -82,7 +82,7 @@ question_entries q = wants_entry (codes "file") q.files ∷ wants_entry (codes "
 
 -- ---- all of it
 
--- what is told of the options, by the tables, and of the view, as far as it is wanted
+-- what is reported of the options, by the tables, and of the view, as far as it is wanted
 abbrev pub rows_for : Settings → Request → List RowTold
 rows_for s request = if_wanted (wanted s).options (rows_by request)
 
@@ -98,7 +98,7 @@ runs_for s compiler p = if_wanted (wanted s).runs (runs_with s.version compiler 
 abbrev pub kept_for : Settings → Cacheable → Compiler → RunWords → Told → (environment : List (List ℕ × List ℕ)) → Parsed → List Entry
 kept_for s cacheable compiler words told environment p = if_wanted (wanted s).key (kept_entries cacheable compiler words told environment p)
 
--- the rows of a record that a request's line is read as, whose outcome may be kept or not, if this is told
+-- the rows of a record that a request's line is read as, whose outcome may be kept or not, if this is given
 abbrev pub record_rows : Settings → Request → Told → Cacheable → Parsed → List Entry
 record_rows s request told kept p =
     let environment : List (List ℕ × List ℕ) = environment_by request.compiler request.environment in
@@ -110,11 +110,11 @@ outcome_entries s request told (compiled words kept) (Err v) = []
 outcome_entries s request told (cannot_cache reason beside) r = refused_entries reason beside (refused_at (rows_for s request))
 outcome_entries s request told not_compilation r = undone_entries (refused_at (rows_for s request))
 
--- the rows of what is told: of hazards, and of what is read, written, asked and loaded
+-- the rows of what is reported: of hazards, and of what is read, written, asked and loaded
 abbrev pub told_entries : Told → List Entry
 told_entries told = hazards_entry told.hazards ∷ effect_entries told.effects
 
--- the rows after the answer's lines, with what is told
+-- the rows after the answer's lines, with what is reported
 abbrev pub entries_with : Settings → Request → Told → List Entry
 entries_with s request told =
     version_entry ∷ []
@@ -124,7 +124,7 @@ entries_with s request told =
 abbrev pub answer_entries : Tables → Settings → Request → List Entry
 answer_entries tables s request = entries_with s request (told_for tables s request)
 
--- where a command line has more words than the bound
+-- where a command line has more words than the limit
 abbrev pub too_many_entries : List Entry
 too_many_entries = lone_entry (codes "too-many-words") ∷ version_entry ∷ []
 

@@ -31,7 +31,7 @@ use Rattle.scl_describe.specs.Settings.{Settings, wanted}
 use Rattle.scl_describe.specs.Wants.{if_wanted, questions_if, told_if}
 use Rattle.scl_describe.specs.Descriptions.{compiled_entries, kept_for, questions_for, rows_for, runs_for, told_for, question_entries, refused_entries, told_entries, undone_entries, version_entry}
 
--- the rows of a compilation by a compiler, as settings ask, with the words that run at a miss
+-- the rows of a compilation by a compiler, as settings request, with the words that run at a miss
 abbrev pub compilation_entries : Settings → Compiler → RunWords → Told → Compilation → List Entry
 compilation_entries s compiler words told compilation =
     let environment : List (List ℕ × List ℕ) = pairs_of compilation.command.env_vars.items in
@@ -50,7 +50,7 @@ entries_given s compiler words found =
     ++ outcome_given s compiler words (given_told found.told) (refused_at (map told found.rows.items)) found.answer
     ++ (options_given found.rows.items ∷ told_entries (given_told found.told) ++ question_entries (given found.questions))
 
--- these are the findings of a request whose program has the empty name, by tables and as settings ask
+-- these are the findings of a request whose program has the empty name, by tables and as settings request
 pub record AreOf (tables : Tables) (s : Settings) (request : Request) (found : Findings) : Type 0 where
   pub answer : answer_of found.answer ≡ answer_to request
   pub parts : HasParts (reading_by request.compiler request) [] (environment_by request.compiler request.environment) request.directory found.answer

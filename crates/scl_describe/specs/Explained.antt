@@ -25,7 +25,7 @@ abbrev pub is_refused_by_small : SmallPlace → Bool
 is_refused_by_small small_places.Refused = true
 is_refused_by_small _ = false
 
--- it is refused as the driver's option, or handed on
+-- it is refused as the driver's option, or passed on
 abbrev pub is_refused_somewhere : GnuKind → Bool
 is_refused_somewhere kind = is_refused_by_gnu (gnu.places_of kind).0 || is_refused_by_gnu (gnu.places_of kind).1
 

@@ -1,4 +1,4 @@
--- What a catalogue tells of a request's command line.
+-- What a catalogue says of a request's command line.
 use Rattle.std.specs.Prelude.{ℕ, Bool, List, ◌∷◌, ◌++◌, Option, None, Some}
 use Rattle.scl_catalogue.specs.declared.case.Version.{Version}
 use Rattle.scl_catalogue_text.specs.Reading.{version_read}
@@ -36,14 +36,14 @@ version_told (Some text) = version_read (major_and_minor text)
 abbrev pub known_by : Tables → Option (List ℕ) → Known
 known_by tables version = record { catalogue = tables.catalogue; plain = tables.plain; version = version_told version; is_apple = is_apple version }
 
--- what is told of a reading in an environment of these pairs, by whether there is a precompiled header that matters
+-- what is reported of a reading in an environment of these pairs, by whether there is a precompiled header that matters
 abbrev pub told_with : Known → List (List ℕ × List ℕ) → (has_header : Bool) → Reading → Told
 told_with known pairs has_header (Gnu r) = gnu_told known has_header r
 told_with known pairs has_header (Msvc r) = msvc_told known pairs r
 told_with known pairs has_header (Diab r) = diab_told known r
 told_with known pairs has_header (Tasking r) = tasking_told known r
 
--- what is told of a command line that was read
+-- what is reported of a command line that was read
 abbrev pub told_in : Known → Given → Reading → Told
 told_in known line reading = told_with known line.environment (has_precompiled_header line reading) reading
 

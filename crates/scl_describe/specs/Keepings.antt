@@ -50,7 +50,8 @@ judged_entries None (under key direct) = keeping_entries (under key direct) ++ r
 judged_entries (Some word) (under key direct) = row_entry (codes "keep") (codes "unknown" ∷ word ∷ []) ∷ []
 judged_entries unknown (not_kept why) = keeping_entries (not_kept why)
 
--- the rows of a record's key, by what is told of its compiler, or of why it has none; there are none of a command line that may not be kept
+-- the rows of a record's key, by what is reported of its compiler, or of why it has none; there are none of a command line that
+-- may not be kept
 abbrev pub kept_entries : Cacheable → Compiler → RunWords → Told → (environment : List (List ℕ × List ℕ)) → Parsed → List Entry
 kept_entries cacheable.Yes compiler words told environment p = judged_entries told.unknown (with_effects p told.effects (keeping_of compiler environment words p))
 kept_entries cacheable.No compiler words told environment p = []

@@ -16,7 +16,7 @@ abbrev pub number_field : Option ℕ → List ℕ
 number_field None = nothing
 number_field (Some n) = decimal n
 
--- the field of bytes that there may be, which may be any: they stand behind an equals sign
+-- the field of bytes that there may be, which may be any: they follow an equals sign
 abbrev pub bytes_field : Option (List ℕ) → List ℕ
 bytes_field None = nothing
 bytes_field (Some bytes) = codes "=" ++ bytes
@@ -29,7 +29,7 @@ place_fields row = origin_name row.origin ∷ name_of row.destination ∷ number
 abbrev pub flag_fields : Told → List (List ℕ)
 flag_fields row = bytes_field row.flag ∷ bytes_field row.value ∷ decimal (length row.given) ∷ []
 
--- what stands in the row of an option: behind those its words as given, and then those in the list that it goes to
+-- what stands in the row of an option: after those its words as given, and then those in the list that it goes to
 abbrev pub option_fields : Told → List (List ℕ)
 option_fields row = place_fields row ++ flag_fields row ++ row.given ++ row.printed
 

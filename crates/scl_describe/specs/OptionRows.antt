@@ -1,4 +1,4 @@
--- What is told of the options of a request, a row each.
+-- What is reported of the options of a request, a row each.
 use Rattle.std.specs.Prelude.{◌≡◌, ℕ, List, ◌++◌}
 use Rattle.scl_rows.specs.GnuRows.{gnu_rows}
 use Rattle.scl_rows.specs.KindNames.{diab_kind_name, tasking_kind_name}

@@ -1,9 +1,9 @@
--- What a description is asked beside its request, and the lines that say it.
-use Rattle.std.specs.Prelude.{ℕ, ◌+◌, ◌-◌, ◌*◌, ◌^◌, ◌&&◌, Bool, true, false, List, [], ◌∷◌, map, fold, codes, Option, Some, None, nat_le, nat_lt, is_some, unwrap_or, if◌then◌else◌, option_and_then}
-use Rattle.std.specs.List.{filter_map}
+-- The settings of a description beside its request, and the lines that say it.
+use Rattle.std.specs.Prelude.{ℕ, ◌+◌, ◌-◌, ◌*◌, ◌^◌, ◌&&◌, ◌||◌, ◌==◌, not, Bool, true, false, List, [], ◌∷◌, map, fold, codes, Option, Some, None, nat_eq, nat_le, nat_lt, is_some, unwrap_or, if◌then◌else◌, option_and_then}
+use Rattle.std.specs.List.{filter_map, list_any, starts_with}
 use Rattle.std.specs.Option.{option_map, option_to_list}
 use Rattle.std.specs.Str.{bytes_eq}
-use Rattle.scl_files.specs.Characters.{space}
+use Rattle.scl_files.specs.Characters.{backslash, slash, space}
 use Rattle.scl_files.specs.Decoding.{utf8_text}
 use Rattle.scl_description.specs.Fields.{field_of}
 use Rattle.scl_description.specs.Lines.{cut_at}
@@ -21,7 +21,7 @@ pub record Settings : Type 0 where
   pub bound : ℕ
   pub wants : Option Wants
 
--- where no line says otherwise
+-- where no line sets them
 abbrev pub no_settings : Settings
 no_settings = record { may_dist = false; rewrite_includes_only = false; cache_mode = false; version = None; bound = default_most; wants = None }
 
@@ -36,6 +36,8 @@ pub data Setting : Type 0 where
   Version : (text : List ℕ) → Setting
   Bound : (words : ℕ) → Setting
   Wanted : (part : Part) → Setting
+  -- a base directory, of which a description says nothing
+  Base : (dir : List ℕ) → Setting
 
 abbrev pub with_setting : Settings → Setting → Settings
 with_setting s MayDist = record s { may_dist = true }
@@ -43,6 +45,7 @@ with_setting s RewriteIncludesOnly = record s { rewrite_includes_only = true }
 with_setting s CacheMode = record s { cache_mode = true }
 with_setting s (Version text) = record s { version = Some text }
 with_setting s (Bound words) = record s { bound = words }
+with_setting s (Base dir) = s
 with_setting s (Wanted part) = record s { wants = Some (with_part (unwrap_or s.wants nothing_more) part) }
 
 -- ---- lines
@@ -70,12 +73,26 @@ setting_alone name =
 abbrev pub field_text : List ℕ → Option (List ℕ)
 field_text field = option_and_then utf8_text (field_of field)
 
+-- a directory that begins with a separator, or with a drive and one
+abbrev pub is_absolute : List ℕ → Bool
+is_absolute [] = false
+is_absolute (first ∷ rest) = first == slash || (first == backslash || (starts_with nat_eq rest (codes ":/") || starts_with nat_eq rest (codes ":\\")))
+
+-- a base directory is absolute and has no NUL
+abbrev pub base_if : List ℕ → Option (List ℕ)
+base_if dir = if is_absolute dir && not (list_any (λ byte. byte == 0) dir) then Some dir else None
+
+-- the base directory that a field stands for, if it stands for one
+abbrev pub base_in : List ℕ → Option (List ℕ)
+base_in field = option_and_then base_if (field_of field)
+
 -- the setting of this name and value
 abbrev pub setting_with : List ℕ → List ℕ → Option Setting
 setting_with name value =
     if bytes_eq name (codes "bound") then option_map Bound (number_of value)
     else (if bytes_eq name (codes "version") then option_map Version (field_text value)
-    else (if bytes_eq name (codes "wants") then option_map Wanted (part_of value) else None))
+    else (if bytes_eq name (codes "wants") then option_map Wanted (part_of value)
+    else (if bytes_eq name (codes "base") then option_map Base (base_in value) else None)))
 
 abbrev pub setting_in : List ℕ → Option (List ℕ × List ℕ) → Option Setting
 setting_in text None = setting_alone text

@@ -1,4 +1,4 @@
--- Which parts of a description are wanted, and what is then told.
+-- Which parts of a description are wanted, and what is then reported.
 use Rattle.std.specs.Prelude.{ℕ, Bool, true, false, ◌||◌, List, [], ◌∷◌, map, codes, find, Option, None, Some, if◌then◌else◌}
 use Rattle.std.specs.Borrow.{Bor}
 use Rattle.std.specs.Option.{option_map}
@@ -77,7 +77,7 @@ part_of name = part_in parts name
 abbrev pub everything : Wants
 everything = record { runs = true; key = true; tables = true; options = true; questions = true }
 
--- only what is always told
+-- only what is always reported
 abbrev pub nothing_more : Wants
 nothing_more = record { runs = false; key = false; tables = false; options = false; questions = false }
 
@@ -89,13 +89,13 @@ with_part w Tables = record w { tables = true }
 with_part w Options = record w { options = true }
 with_part w Asks = record w { questions = true }
 
--- ---- what is told
+-- ---- what is reported
 
 -- these, if they are wanted
 abbrev pub if_wanted : {A : Type 0} → Bool → List A → List A
 if_wanted wanted them = if wanted then them else []
 
--- What the tables tell. The key is judged by it.
+-- What the tables report. The key is judged by it.
 abbrev pub told_if : Wants → Told → Told
 told_if w told = if w.tables || w.key then told else nothing
 

@@ -17,8 +17,8 @@ pub struct About<'a> {
     pub catalogue: Catalogue<'a>,
     /// Names of options that read, write, ask and load nothing.
     pub plain: PlainNames<'a>,
-    /// The text of its version, if it is told: numbers such as `14` or `14.0.6`, of which the first two count for hazards,
-    /// or a text in which Apple's clang names itself.
+    /// The text of its version, if it is given: numbers such as `14` or `14.0.6`, of which the first two count for
+    /// hazards, or a text in which Apple's clang names itself.
     pub version: Option<&'a str>,
 }
 
@@ -45,7 +45,7 @@ fn version_told(text: Option<&str>) -> Option<Version>
     }
 }
 
-/// What tables know of a compiler whose version has this text, if it is told.
+/// What tables know of a compiler whose version has this text, if it is given.
 pub(crate) fn known_of<'a>(tables: &Tables<'a>, version: Option<&str>) -> Known<'a>
     ensures { result ≡ known_by (tables_of tables.now) (option_copied version.entry) }
 {

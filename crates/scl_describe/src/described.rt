@@ -72,7 +72,7 @@ fn push_environment(text: &mut Vec<u8>, pairs: &[(Vec<u8>, Vec<u8>)]) -> Mem<()>
     Ok(())
 }
 
-/// Appends a row for each path that is asked for.
+/// Appends a row for each path that is in question.
 #[tactic(auto, unfolding(scl_description::specs::Rows::entry_text))]
 fn push_wants(text: &mut Vec<u8>, kind: &str, paths: &[Vec<u8>]) -> Mem<()>
     ensures { OnOk result (text.new.items ≡ text.old.items ++ entry_text (wants_entry kind.now (words_of paths.now))) }
@@ -83,7 +83,7 @@ fn push_wants(text: &mut Vec<u8>, kind: &str, paths: &[Vec<u8>]) -> Mem<()>
     Ok(())
 }
 
-/// Appends the rows of what the answer asks of the view.
+/// Appends the rows of the answer's questions.
 fn push_questions(text: &mut Vec<u8>, questions: &Questions) -> Mem<()>
     ensures { OnOk result (text.new.items ≡ text.old.items ++ entries_text (question_entries (given questions.now))) }
 {
@@ -93,7 +93,7 @@ fn push_questions(text: &mut Vec<u8>, questions: &Questions) -> Mem<()>
     Ok(())
 }
 
-/// The words of the runs of the preprocessor that settings ask for, if they are wanted.
+/// The words of the runs of the preprocessor that settings request, if they are wanted.
 fn settings_runs(
     alloc: Global,
     compiler: Compiler,
@@ -249,7 +249,7 @@ fn push_effects(text: &mut Vec<u8>, effects: &[Effect]) -> Mem<()>
     Ok(())
 }
 
-/// Appends the rows of what is told.
+/// Appends the rows of what is reported.
 fn push_told(text: &mut Vec<u8>, told: &Told<'_>) -> Mem<()>
     ensures { OnOk result (text.new.items ≡ text.old.items ++ entries_text (told_entries (given_told told.now))) }
 {

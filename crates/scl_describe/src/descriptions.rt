@@ -1,4 +1,4 @@
-//! Descriptions: the answer's lines, and behind them rows of what was read.
+//! Descriptions: the answer's lines, and after them rows of what was read.
 ghost use Rattle.std.specs.Prelude.{◌≡◌, ◌≢◌, ◌^◌, ◌+◌, ◌<◌, ◌≤◌, ◌⊎◌, ℕ, List, length, map, take, IfOk, IfSome, Ok, Err};
 ghost use Rattle.std.specs.Io.KnownBytes.{Appends, IsAtEnd};
 ghost use Rattle.scl_devices.specs.Counts.{one_more, many_more};
@@ -31,7 +31,7 @@ use scl_text::{Mem, TooManyWords};
 use std::alloc::Global;
 use std::io::{Read, Write};
 
-/// What is described of a reading beside its answer, as far as it is wanted: its rows, what is told of it and its questions.
+/// What is described of a reading beside its answer, as far as it is wanted: its rows, what is reported of it and its questions.
 fn beside<'a>(
     alloc: Global,
     known: &Known<'a>,
@@ -137,9 +137,9 @@ impl<'a> Service for Descriptions<'a> {
     }
 }
 
-/// Reads the request to its end, and writes a description of its answer: the answer's lines as `run` writes them, and behind
-/// them rows of what was read, with what the tables know of compilers (docs/RULES.md, Descriptions). Lines `setting` say what
-/// the description is asked beside the request. It ends as `run` does.
+/// Reads the request to its end, and writes a description of its answer: the answer's lines as `run` writes them, and after
+/// them rows of what was read, with what the tables know of compilers (docs/RULES.md, Descriptions). Lines `setting` are the
+/// description's settings beside the request. It ends as `run` does.
 pub fn describe<R: Read, W: Write>(
     alloc: Global,
     tables: &Tables<'_>,
@@ -152,16 +152,16 @@ pub fn describe<R: Read, W: Write>(
     ensures bad_line { (n : ℕ) → result ≡ Outcome.BadLine n → IfSome (R.remaining reader.old.device) (λ bytes. DescribesBytes (tables_of tables.now) bytes (Err n)) }
     // No line is judged before all was read.
     ensures judged { IsJudged result → IsAtEnd (R.remaining reader.new.device) }
-    // The first read that fails ends the run, and is told.
+    // The first read that fails ends the run, and is reported.
     ensures read_failed { result ≡ Outcome.ReadFailed → (reader.new.failed ≡ one_more reader.old.failed)
         ⊎ (Gave (R.remaining reader.old.device) (R.remaining reader.new.device) (2 ^ 40) × (reader.new.failed ≡ reader.old.failed) × (many_more (2 ^ 40) reader.old.calls ≤ reader.new.calls)) }
-    // Whatever the reader tells, it is not read without end.
+    // Whatever the reader reports, it is not read without end.
     ensures reads { reader.new.calls ≤ reader.old.calls + 2 ^ 40 }
     ensures reader_told { result ≢ Outcome.ReadFailed → reader.new.failed ≡ reader.old.failed }
     // A beginning of the answer was written, not all of it, and the writer failed.
     ensures write_failed { result ≡ Outcome.WriteFailed → IfSome (R.remaining reader.old.device) (λ bytes.
         (text : List ℕ) × (n : ℕ) × DescribesBytes (tables_of tables.now) bytes (Ok text) × (n < length text) × Appends (W.contents writer.old.device) (W.contents writer.new.device) (take n text)) }
-    // The first write that fails ends the run, and is told.
+    // The first write that fails ends the run, and is reported.
     ensures writer_failed { result ≡ Outcome.WriteFailed → writer.new.failed ≡ one_more writer.old.failed }
     ensures writer_told { result ≢ Outcome.WriteFailed → writer.new.failed ≡ writer.old.failed }
     // Nothing was written.

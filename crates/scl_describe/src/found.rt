@@ -19,7 +19,7 @@ use std::alloc::Global;
 /// What became of each option of a command line that was read, whether that is refused or not, a row each: those of its words
 /// in order, those of inner command lines, and those that the rules add to a compilation. Where a row is refused, so is the
 /// command line, as the first such row says; where it is read, the rows make the lists of its record; and the words that they
-/// were cut from are those of the line (`laws::of_rows`; docs/RULES.md, Rows of options). It fails only for want of memory.
+/// were cut from are those of the line (`laws::of_rows`; docs/RULES.md, Rows of options).
 pub fn rows_of(alloc: Global, reading: &Reading) -> Mem<Vec<Row>>
     ensures { IfOk result (λ rows. map told rows.items ≡ rows_in reading.now) }
 {
@@ -31,9 +31,9 @@ pub fn rows_of(alloc: Global, reading: &Reading) -> Mem<Vec<Row>>
     }
 }
 
-/// What is told of a command line that was read: what its compiler is known to do otherwise with the built command than with the
-/// given one, what it reads, writes, asks and loads, and the first option of which nothing is known; nothing where there is no
-/// command (docs/RULES.md, Hazards). It fails only for want of memory.
+/// What is reported of a command line that was read: what its compiler is known to do differently with the built command than
+/// with the given one, what it reads, writes, asks and loads, and the first option of which nothing is known; nothing where
+/// there is no command (docs/RULES.md, Hazards).
 pub fn told_of<'a>(
     alloc: Global,
     known: &Known<'a>,
@@ -64,7 +64,7 @@ pub(crate) fn rows_wanted(alloc: Global, wants: Wants, reading: &Reading) -> Mem
     }
 }
 
-/// What is told, if it is wanted, or the key, which is judged by it.
+/// What is reported, if it is wanted, or the key, which is judged by it.
 pub(crate) fn told_wanted<'a>(
     alloc: Global,
     wants: Wants,
@@ -105,7 +105,7 @@ pub(crate) fn questions_wanted(
     }
 }
 
-/// The hazards of a command line that was read. It fails only for want of memory.
+/// The hazards of a command line that was read.
 pub fn hazards_of<'a>(
     alloc: Global,
     known: &Known<'a>,

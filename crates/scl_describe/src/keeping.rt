@@ -96,7 +96,7 @@ fn push_judged(text: &mut Vec<u8>, unknown: Option<&[u8]>, keeping: &Keeping) ->
     }
 }
 
-/// Appends the rows of a key, by what is told of the compiler, or of why there is none; none if the outcome may not be kept.
+/// Appends the rows of a key, by what is reported of the compiler, or of why there is none; none if the outcome may not be kept.
 pub(crate) fn push_kept(
     alloc: Global,
     text: &mut Vec<u8>,

@@ -13,7 +13,7 @@ ghost use Rattle.scl_describe.specs.OptionRows.{RowsShareWords, RowsTell};
 ghost use Rattle.scl_describe.specs.Explained.{AreExplained, is_refused_somewhere, is_refused_by_msvc, is_refused_by_small};
 
 /// Laws of reasons (docs/RULES.md, Sentences): each flag of a kind that a compiler's table refuses, as the driver's option or
-/// handed on, has a sentence for people (`scl_reasons`).
+/// passed on, has a sentence for people (`scl_reasons`).
 pub fn of_reasons()
     ensures gcc_and_clang { AreExplained is_refused_somewhere (all_rows clang_tables) }
     ensures cl { AreExplained (λ kind. is_refused_by_msvc (msvc.place kind)) (all_rows msvc_tables) }
@@ -32,11 +32,11 @@ pub fn of_rows()
     ensures rows_share_words { RowsShareWords }
 {}
 
-/// Laws of what is told of a request (docs/RULES.md, Questions): of every disk that has what its view has, and none of what its
-/// answer asks,
+/// Laws of what is reported of a request (docs/RULES.md, Questions): of every disk that has what its view has, and none of its
+/// answer's questions,
 ///
 /// - `rows_are_decided`: the rows are the same;
-/// - `telling_is_decided`: so is what is told, the hazards and effects, by whatever is known of the compiler.
+/// - `telling_is_decided`: so is what is reported, the hazards and effects, by whatever is known of the compiler.
 pub fn of_questions()
     ensures rows_are_decided { RowsAreDecided }
     ensures telling_is_decided { TellingIsDecided }

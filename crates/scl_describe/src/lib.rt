@@ -1,4 +1,4 @@
-//! Descriptions: an answer's lines, and behind them rows of what was read.
+//! Descriptions: an answer's lines, and after them rows of what was read.
 #![tactic(auto)]
 
 mod about;

@@ -22,7 +22,7 @@ fn number_field(alloc: Global, number: Option<usize>) -> Mem<Vec<u8>>
     }
 }
 
-/// The field of bytes that there may be, which may be any: they stand behind an equals sign.
+/// The field of bytes that there may be, which may be any: they follow an equals sign.
 fn bytes_field(alloc: Global, bytes: Option<&[u8]>) -> Mem<Vec<u8>>
     ensures { IfOk result (λ field. field.items ≡ bytes_field (option_copied bytes.entry)) }
 {

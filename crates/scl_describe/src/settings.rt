@@ -1,8 +1,8 @@
-//! What a description is asked beside its request: lines `setting`.
+//! The settings of a description beside its request: lines `setting`.
 ghost use Rattle.std.specs.Prelude.{◌≡◌, ◌++◌, IfOk, OnOk, string_bytes};
 ghost use Rattle.std.specs.Option.{option_map};
 ghost use Rattle.scl_description.specs.Lines.{line, lines_of};
-ghost use Rattle.scl_describe.specs.Settings.{no_settings, with_setting, with_line, blanked, with_digit, number_of, setting_alone, setting_with, setting_of, settings_in, field_text, request_lines, wanted};
+ghost use Rattle.scl_describe.specs.Settings.{no_settings, with_setting, with_line, blanked, with_digit, number_of, is_absolute, base_in, setting_alone, setting_with, setting_of, settings_in, field_text, request_lines, wanted};
 ghost use Rattle.scl_describe.specs.SettingsRead.{settings_by, set_by};
 
 use crate::wants::{Part, Wants, part_of};
@@ -11,7 +11,7 @@ use scl_reader::MOST;
 use scl_text::{Mem, from_local_codepage};
 use std::alloc::Global;
 
-/// What a description is asked beside its request (docs/RULES.md, Descriptions).
+/// The settings of a description beside its request (docs/RULES.md, Descriptions).
 #[derive(Debug, Drop)]
 pub(crate) struct Settings {
     pub may_dist: bool,
@@ -31,10 +31,12 @@ enum Setting {
     Version(String),
     Bound(usize),
     Wanted(Part),
+    /// A base directory: what tells keys by it reads the line itself.
+    Base(Vec<u8>),
 }
 
 impl Settings {
-    /// The settings where no line says otherwise.
+    /// The settings where no line sets them.
     fn new() -> Settings
         ensures { settings_by result ≡ no_settings }
     {
@@ -65,6 +67,7 @@ impl Settings {
             Setting::CacheMode => self.cache_mode = true,
             Setting::Version(text) => self.version = Some(text),
             Setting::Bound(words) => self.bound = words,
+            Setting::Base(_) => {}
             Setting::Wanted(part) => {
                 self.wants = Some(self.wants.unwrap_or(Wants::nothing_more()).with(part));
             }
@@ -126,6 +129,30 @@ fn field_text(alloc: Global, field: &[u8]) -> Mem<Option<String>>
     from_local_codepage(alloc, &bytes)
 }
 
+/// Whether a directory is absolute, of Windows too: it begins with a separator, or with a drive and one.
+fn is_absolute(dir: &[u8]) -> bool
+    ensures { result ≡ is_absolute dir.now }
+{
+    let Some((first, rest)) = dir.split_first() else {
+        return false;
+    };
+    *first == b'/' || *first == b'\\' || rest.starts_with(b":/") || rest.starts_with(b":\\")
+}
+
+/// The base directory that a field stands for, if it stands for one: it is absolute and has no NUL.
+fn base_in(alloc: Global, field: &[u8]) -> Mem<Option<Vec<u8>>>
+    ensures { IfOk result (λ dir. option_map (λ bytes. bytes.items) dir ≡ base_in field.now) }
+{
+    let Some(dir) = read_field(alloc, field)? else {
+        return Ok(None);
+    };
+    if is_absolute(&dir) && !dir.contains(&0) {
+        Ok(Some(dir))
+    } else {
+        Ok(None)
+    }
+}
+
 /// The setting of this name and value.
 fn setting_with(alloc: Global, name: &[u8], value: &[u8]) -> Mem<Option<Setting>>
     ensures { IfOk result (λ setting. option_map set_by setting ≡ setting_with name.now value.now) }
@@ -136,6 +163,8 @@ fn setting_with(alloc: Global, name: &[u8], value: &[u8]) -> Mem<Option<Setting>
         Ok(field_text(alloc, value)?.map(Setting::Version))
     } else if name == b"wants".as_slice() {
         Ok(part_of(value).map(Setting::Wanted))
+    } else if name == b"base".as_slice() {
+        Ok(base_in(alloc, value)?.map(Setting::Base))
     } else {
         Ok(None)
     }

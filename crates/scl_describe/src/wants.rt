@@ -2,24 +2,24 @@
 ghost use Rattle.std.specs.Prelude.{◌≡◌};
 ghost use Rattle.scl_describe.specs.Wants.{everything, nothing_more, part_in, part_of, parts, rows_of, with_part};
 
-/// A part of a description. Its rows are told together.
+/// A part of a description. Its rows are written together.
 #[derive(Debug, Clone, Copy, PartialEq, Eq)]
 pub(crate) enum Part {
-    /// What is told always.
+    /// What is always reported.
     Always,
     /// The runs of the preprocessor.
     Runs,
-    /// The key, and whether there is one. It is judged by what the tables tell.
+    /// The key, and whether there is one. It is judged by what the tables report.
     Key,
-    /// What tables tell of the compiler: hazards and effects.
+    /// What tables report of the compiler: hazards and effects.
     Tables,
     /// What became of the options.
     Options,
-    /// What the answer asks of the view.
+    /// The questions of the answer.
     Questions,
 }
 
-/// Which parts of a description are wanted, beside what is told always.
+/// Which parts of a description are wanted, besides what is always reported.
 #[derive(Debug, Clone, Copy, PartialEq, Eq)]
 pub(crate) struct Wants {
     pub(crate) runs: bool,
@@ -112,7 +112,7 @@ impl Wants {
         }
     }
 
-    /// Only what is told always.
+    /// Only what is always reported.
     pub(crate) fn nothing_more() -> Wants
         ensures { result ≡ nothing_more }
     {

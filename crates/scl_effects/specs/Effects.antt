@@ -1,4 +1,4 @@
--- What the compiler of a command line reads, writes, asks and loads, as a catalogue tells it.
+-- What the compiler of a command line reads, writes, asks and loads, as a catalogue states it.
 use Rattle.std.specs.Prelude.{ℕ, ◌==◌, Bool, List, [], ◌∷◌, ◌++◌, map, if◌then◌else◌}
 use Rattle.std.specs.List.{flat_map}
 use Rattle.scl_catalogue.specs.Form.{Catalogue, Entry, Tells}
@@ -54,7 +54,7 @@ effects_told l e (form.Effect verb file) = effects_by l e verb file
 effects_told l e form.Reason = []
 effects_told l e form.Plain = []
 
--- the effects that entries tell of a line, in their order
+-- the effects that entries state of a line, in their order
 abbrev pub effects_among : LineSeen → List Entry → List Effect
 effects_among l entries = flat_map (λ entry. effects_told l entry entry.tells) entries
 

@@ -12,7 +12,7 @@ use Rattle.scl_catalogue.specs.declared.speaking.Level.{Level}
 use Rattle.scl_catalogue.specs.declared.speaking.Level.TheVariants as level
 use Rattle.scl_effects.specs.Plain.{Row, is_plain_name}
 
--- an entry that tells what options do, or that they do nothing
+-- an entry that states what options do, or that they do nothing
 abbrev pub is_of_effects : Tells → Bool
 is_of_effects (form.Hazard danger) = false
 is_of_effects (form.Effect verb file) = true

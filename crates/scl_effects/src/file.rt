@@ -1,4 +1,4 @@
-//! Patterns of the names that an effect tells.
+//! Patterns of the names that an effect states.
 ghost use Rattle.std.specs.Prelude.{◌≡◌, ◌++◌, map, false, IfOk, OnOk};
 ghost use Rattle.std.specs.List.{slice_split};
 ghost use Rattle.std.specs.Option.{option_copied};

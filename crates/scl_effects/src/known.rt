@@ -9,7 +9,7 @@ ghost use Rattle.scl_effects.specs.Plain.{rows_of};
 use crate::plain::PlainNames;
 use scl_catalogue::{Catalogue, Entry, Level, Line, Seen, Standing, Tells};
 
-/// Whether an entry tells what options do, or that they do nothing.
+/// Whether an entry states what options do, or that they do nothing.
 fn is_of_effects(tells: &Tells<'_>) -> bool
     ensures { result ≡ is_of_effects (tells_of tells.now) }
 {
@@ -19,7 +19,7 @@ fn is_of_effects(tells: &Tells<'_>) -> bool
     }
 }
 
-/// Whether one of the entries tells what the option does.
+/// Whether one of the entries states what the option does.
 fn one_knows(entries: &[Entry<'_>], line: &Line<'_>, level: Level, option: &Seen<'_>) -> bool
     ensures { result ≡ list_any (knows (line_of line.now) level (seen_of option.now)) (map entry_of entries.now) }
 {

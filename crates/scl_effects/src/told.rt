@@ -1,4 +1,4 @@
-//! What entries tell of a line.
+//! What entries state of a line.
 ghost use Rattle.std.specs.Prelude.{◌≡◌, ◌++◌, map, IfOk, OnOk};
 ghost use Rattle.std.specs.List.{flat_map};
 ghost use Rattle.scl_catalogue.specs.Views.{entry_of, line_of, seen_of, tells_of};
@@ -92,7 +92,7 @@ fn push_each(
     Ok(())
 }
 
-/// Appends the effects of an entry that tells this one.
+/// Appends the effects of an entry that states this one.
 fn push_effects(
     alloc: Global,
     effects: &mut Vec<Effect>,
@@ -111,7 +111,7 @@ fn push_effects(
     }
 }
 
-/// Appends the effects that an entry tells.
+/// Appends the effects that an entry states.
 fn push_told(
     alloc: Global,
     effects: &mut Vec<Effect>,
@@ -126,7 +126,7 @@ fn push_told(
     }
 }
 
-/// The effects that entries tell of a line, in their order. It fails only for want of memory.
+/// The effects that entries state of a line, in their order.
 pub fn effects_among(alloc: Global, line: &Line<'_>, entries: &[&Entry<'_>]) -> Mem<Vec<Effect>>
     ensures { IfOk result (λ effects. effects.items ≡ effects_among (line_of line.now) (map (λ entry. entry_of entry.now) entries.now)) }
 {

@@ -100,7 +100,7 @@ WithoutDashesOptionsGoOn = cut (owner shapes) false (words "-- -bar -") ≡ cut_
 abbrev pub cut_alone : Row ℕ → Cutting ℕ
 cut_alone only = cut (owner (only ∷ [])) false (words "-foo")
 
--- a last flag lacks its value, or has the empty one where its row has an either shape without a delimiter
+-- a last flag has no value, or the empty one where its row has an either shape without a delimiter
 abbrev pub LastFlagsAreCut : Type 0
 LastFlagsAreCut =
     (cut_alone foo ≡ cut_short)

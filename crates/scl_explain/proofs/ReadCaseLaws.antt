@@ -46,7 +46,7 @@ module _ (case : Case) (view : Viewed) (reading : Reading) (read : reading ≡ r
       → rows ≡ rows_given wanted (reading_by case.compiler (request_of case view)) (rows_by (request_of case view))
   rows_read wanted rows h = h ∙ ap (λ said. rows_given wanted said (rows_in reading)) outcome_read ∙ ap (λ r. rows_given wanted (reading_by case.compiler (request_of case view)) (rows_in r)) read
 
--- what is loaded decides what is told
+-- what is loaded decides what is reported
 pub is_decided : (known : Known) (holds : Viewed → Type 0) (multiarch : Bool) (case : Case) (view : Viewed)
     → ((held : Viewed) → holds held → held.is_multiarch ≡ multiarch → IsLoaded held (load_for case multiarch) view) → IsDecided known holds multiarch case view
 is_decided known holds multiarch case view loaded = record {

@@ -1,4 +1,4 @@
--- What is asked about a command line, from all of its words.
+-- The request about a command line, from all of its words.
 use Rattle.std.specs.Prelude.{◌≡◌, ℕ, ◌+◌, false, List, [], ◌∷◌, ◌++◌, Option, None, Some, slice_index_or, take, drop}
 use Rattle.scl_values.specs.Words.{words_of}
 use Rattle.scl_text.specs.Commands.{pairs_of}
@@ -30,13 +30,13 @@ abbrev pub assigned : List (List ℕ) → List (List ℕ × List ℕ)
 assigned [] = []
 assigned (word ∷ words) = assigned words ++ assigned_by word
 
--- words, divided into those before one, that one and those behind it
+-- words, divided into those before one, that one and those after it
 pub record IsDivided (all : List (List ℕ)) (at : ℕ) (divided : Divided) : Type 0 where
   pub front : words_of divided.front.items ≡ take at all
   pub program : divided.program.items ≡ slice_index_or all at []
   pub words : words_of divided.words.items ≡ drop (at + 1) all
 
--- the program is the first word that may be one, the words are those behind it, and the variables those that words before it
+-- the program is the first word that may be one, the words are those after it, and the variables those that words before it
 -- assign, the last first, and then those that are given: of several values of a variable the first counts. The runs are for this
 -- machine
 pub record IsCase (launchers all : List (List ℕ)) (named : Option Compiler) (cwd : List ℕ) (env_vars : List (List ℕ × List ℕ)) (case : Case) : Type 0 where

@@ -26,7 +26,7 @@ ending_of program (compiled words kept) has_hazard = ending_of_command (some_hol
 ending_of program (cannot_cache reason beside) has_hazard = ending.CannotCache
 ending_of program not_compilation has_hazard = ending.CompilesNothing
 
--- how it ends where it is asked whether the outcome may be kept, by whether there is a key
+-- how it ends where the request is whether the outcome may be kept, by whether there is a key
 abbrev pub ending_of_keeping : Cacheable → (there_is_a_key : Bool) → Ending
 ending_of_keeping cacheable.No there_is_a_key = ending.NotKept
 ending_of_keeping cacheable.Yes true = ending.Answered

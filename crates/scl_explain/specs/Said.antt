@@ -20,7 +20,7 @@ use Rattle.scl_explain.specs.declared.reply.Form.{Form}
 use Rattle.scl_explain.specs.declared.reply.Reply.{Reply}
 use Rattle.scl_explain.specs.declared.status.Ending.TheVariants as ending
 
--- what is asked about a command line in a view
+-- the request about a command line in a view
 abbrev pub request_of : Case → Viewed → Request
 request_of case view = asked case.compiler (words_of case.words.items) case.cwd.items (pairs_of case.env_vars.items) view
 
@@ -33,7 +33,8 @@ compiles_nothing _ = false
 abbrev pub rows_given : Bool → Result Parsed Verdict → List Told → List Told
 rows_given wanted said rows = if wanted || compiles_nothing said then rows else []
 
--- what is told of a case on each disk of which this holds is what is told of it in the view: the answer, the record or why there is none, the rows, and the hazards that are known
+-- what is reported of a case on each disk of which this holds is what is reported of it in the view: the answer, the record or
+-- why there is none, the rows, and the hazards that are known
 pub record IsDecided (known : Known) (holds : Viewed → Type 0) (multiarch : Bool) (case : Case) (view : Viewed) : Type 0 where
   pub answer : (held : Viewed) → holds held → held.is_multiarch ≡ multiarch → answer_to (request_of case held) ≡ answer_to (request_of case view)
   pub outcome : (held : Viewed) → holds held → held.is_multiarch ≡ multiarch
@@ -41,14 +42,14 @@ pub record IsDecided (known : Known) (holds : Viewed → Type 0) (multiarch : Bo
   pub rows : (held : Viewed) → holds held → held.is_multiarch ≡ multiarch → rows_by (request_of case held) ≡ rows_by (request_of case view)
   pub hazards : (held : Viewed) → holds held → held.is_multiarch ≡ multiarch → hazards_by known (request_of case held) ≡ hazards_by known (request_of case view)
 
--- of a view that decides what is told on such disks, this is said of the answer and of the hazards that are known
+-- of a view that decides what is reported on such disks, this is said of the answer and of the hazards that are known
 pub record IsSaid (known : Known) (holds : Viewed → Type 0) (multiarch : Bool) (case : Case) (says : Answer → List Hazard → Type 0) : Type 0 where
   pub loaded : Viewed
   pub decided : IsDecided known holds multiarch case loaded
   pub said : says (answer_to (request_of case loaded)) (hazards_by known (request_of case loaded))
 
--- what is loaded for a command line: it may have so many words, with its response files in place, and open files so often as its bound says, and fewer than 2^12 files
--- may name each the next
+-- what is loaded for a command line: it may have as many words, with its response files in place, and open files as often as its
+-- limit says, and fewer than 2^12 files may name each the next
 abbrev pub load_for : Case → Bool → Load
 load_for case multiarch = record { asks = request_of case; is_multiarch = multiarch; most_words = case.bound; most_rounds = 4096 }
 

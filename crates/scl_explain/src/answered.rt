@@ -1,4 +1,4 @@
-//! What a command line is answered, with what its answer asks of a disk.
+//! What a command line is answered, with the questions of its answer to a disk.
 ghost use Rattle.std.specs.Prelude.{◌≡◌, ◌||◌, IfOk, IfErr, false, map, string_bytes};
 ghost use Rattle.std.specs.Option.{option_copied, option_map};
 ghost use Rattle.scl_files.specs.Views.{Viewed};
@@ -50,7 +50,7 @@ pub struct Answered<'a> {
     pub hazards: Vec<Hazard<'a>>,
     /// What became of each option; nothing where that is not wanted and something is compiled.
     pub rows: Vec<Row>,
-    /// What the disk has of what is asked.
+    /// What the disk has at the paths in question.
     pub view: View,
 }
 
@@ -80,7 +80,7 @@ struct Found<'a> {
     rows: Vec<Row>,
 }
 
-/// The text of the compiler's version, where that is told.
+/// The text of the compiler's version, where that is given.
 fn version_of(alloc: Global, about: &About<'_>) -> Mem<Option<String>>
     ensures { IfOk result (λ version. option_map string_bytes version ≡ option_copied about.now.version) }
 {
@@ -178,7 +178,7 @@ fn load_case<D: Disk>(
     }
 }
 
-/// What is told of what was loaded, with what was looked for as the view has it.
+/// What is reported of what was loaded, with what was looked for as the view has it.
 #[tactic(auto, using(crate::proofs::ReadCaseLaws::outcome_read))]
 fn told_of<'a>(
     alloc: Global,
@@ -218,10 +218,11 @@ fn told_of<'a>(
     })
 }
 
-/// The answer to a command line on a disk, which is asked for response files, directories and other paths, with the hazards and
+/// The answer to a command line on a disk, which is queried for response files, directories and other paths, with the hazards and
 /// the runs of the preprocessor by what is known of its compiler; `multiarch` says whether several architectures are allowed.
-/// Rows of options are given where `wants_rows` says so, and where nothing is compiled. A read that fails is `Disk` with its error;
-/// `TooManyWords` and `TooManyRounds` where response files give more words than the case's bound or are opened more often, or where 2^12 name each the next.
+/// Rows of options are given where `wants_rows` says so, and where nothing is compiled. A read that fails is `Disk` with its
+/// error; `TooManyWords` and `TooManyRounds` where response files give more words than the case's limit or are opened more often,
+/// or where 2^12 name each the next.
 pub fn answer_case<'a, D: Disk>(
     alloc: Global,
     disk: &D,

@@ -1,4 +1,4 @@
-//! A command line that is asked about.
+//! The command line of a request.
 ghost use Rattle.std.specs.Prelude.{◌≡◌, ◌+◌, ◌<◌, ◌++◌, IfOk, MatchResult, OnOk, Some, length};
 ghost use Rattle.scl_values.specs.Words.{words_of};
 ghost use Rattle.scl_text.specs.Commands.{pairs_of};
@@ -10,14 +10,14 @@ use scl_shell::{beginning, shown_command};
 use std::alloc::Global;
 use thiserror::Error;
 
-/// A command line that is asked about.
+/// The command line of a request.
 #[derive(Drop)]
 pub struct Case {
     /// The compiler whose command line it is.
     pub compiler: Compiler,
     /// The program, as it is named.
     pub program: Vec<u8>,
-    /// The words behind the program.
+    /// The words after the program.
     pub words: Vec<Vec<u8>>,
     /// The directory that it is run in.
     pub cwd: Vec<u8>,
@@ -48,7 +48,7 @@ struct Divided {
     words: Vec<Vec<u8>>,
 }
 
-/// The words before the program, the program, and those behind it.
+/// The words before the program, the program, and those after it.
 #[tactic(auto, using(crate::proofs::CaseLemmas::divided_rules))]
 fn divide(mut all: Vec<Vec<u8>>, at: usize) -> Mem<Divided>
     requires { at < length all.items }
@@ -114,10 +114,11 @@ fn quoted(alloc: Global, program: &[u8]) -> Mem<String> {
 }
 
 impl Case {
-    /// The command line that these words are, the program's included: launchers, also of these further names, and assignments before it are left out, and the
-    /// variables that are assigned come before `env_vars`, the last first, since of several values the first counts. It is
-    /// `named`'s, where a compiler is named, and else that of the compiler that the program's name names; `UnknownCompiler` where
-    /// it names none, `NoProgram` where no word may be a program. Its runs are for this machine, and its bound is 1,000,000.
+    /// The command line that these words are, the program's included: launchers, also of these further names, and assignments
+    /// before it are left out, and the variables that are assigned come before `env_vars`, the last first, since of several
+    /// values the first counts. It is `named`'s, where a compiler is named, and else that of the compiler that the program's name
+    /// names; `UnknownCompiler` where it names none, `NoProgram` where no word may be a program. Its runs are for this machine,
+    /// and its limit is 1,000,000.
     #[tactic(auto, using(crate::proofs::CaseLemmas::program_inside))]
     pub fn of_words(
         alloc: Global,

@@ -1,4 +1,4 @@
-//! The hazards of a command line, alone.
+//! Only the hazards of a command line.
 ghost use Rattle.std.specs.Prelude.{◌⊎◌, IfOk};
 ghost use Rattle.scl_reader.specs.AnswersGiven.{answer_of};
 ghost use Rattle.scl_describe.specs.Abouts.{known_for};

@@ -74,7 +74,7 @@ fn command_bytes(
     }
 }
 
-/// Why no command is written, if none is, or that its outcome may not be kept.
+/// Why no command is written, if none is, or that its result may not be kept.
 fn error_line<R: Report>(
     alloc: Global,
     case: &Case,
@@ -112,7 +112,7 @@ fn command_reply<R: Report>(
 
 /// The command to run in the place of a command line, quoted for a shell or each word with a NUL after it. Nothing is written
 /// where there is none, where a word of it holds a NUL, and of a strict form where a hazard concerns more than messages; then it ends as such, and
-/// so says the line of standard error, with why `report` says that nothing is compiled. That its outcome may not be kept is said
+/// so says the line of standard error, with why `report` says that nothing is compiled. That its result may not be kept is said
 /// there too.
 #[tactic(auto, using(crate::proofs::UnreadLaws::is_unread))]
 pub fn command<D: Disk, R: Report>(

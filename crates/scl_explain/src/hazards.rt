@@ -7,7 +7,7 @@ use scl_reader::Mem;
 use scl_shell::shown;
 use std::alloc::Global;
 
-/// Puts the names of hazards behind a text.
+/// Appends the names of hazards to a text.
 pub fn push_hazard_names(alloc: Global, text: &mut String, hazards: &[Hazard<'_>]) -> Mem<()> {
     for (at, hazard) in hazards.iter().enumerate() {
         let name = shown(alloc, hazard.name())?;

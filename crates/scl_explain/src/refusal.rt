@@ -24,7 +24,7 @@ fn push_missing(alloc: Global, text: &mut String, paths: &[Vec<u8>]) -> Mem<()> 
 }
 
 /// Why a command line can't be cached: the reason, the text beside it, and the response files that are not there, where the
-/// reason is one of them. Of a long text the beginning is told.
+/// reason is one of them. Of a long text the beginning is shown.
 pub fn refusal_text(
     alloc: Global,
     reason: &str,

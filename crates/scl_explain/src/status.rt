@@ -14,7 +14,7 @@ use scl_text::records::Cacheable;
 /// How the program ends.
 #[derive(Debug, Clone, Copy, PartialEq, Eq)]
 pub enum Ending {
-    /// What was asked is answered.
+    /// The request is answered.
     Answered,
     /// Two command lines have no equal keys.
     Different,
@@ -24,7 +24,7 @@ pub enum Ending {
     OutOfMemory,
     /// A file can't be read, or the answer not be written.
     FileFailed,
-    /// The database is broken, or has entries that are none; all others are answered.
+    /// The database is broken, or an entry is not valid; all others are answered.
     BadDatabase,
     /// The outcome can't be cached.
     CannotCache,
@@ -34,7 +34,7 @@ pub enum Ending {
     Hazard,
     /// A word of the command holds a NUL, so no process can be given it.
     HoldsNul,
-    /// There is a command, and its outcome may not be kept in the cache.
+    /// There is a command, and its result may not be kept in the cache.
     NotKept,
 }
 
@@ -85,8 +85,8 @@ impl Ending {
         }
     }
 
-    /// How it ends where it is asked whether the outcome may be kept under a key, by the rows of its description: as command lines
-    /// without equal keys do where it may not.
+    /// How it ends where the request is whether the result may be kept under a key, by the rows of its description: as command
+    /// lines without equal keys do where it may not.
     pub fn of_keeping(cacheable: Cacheable, rows: &[Vec<Vec<u8>>]) -> Ending
         ensures { result ≡ ending_of_keeping cacheable (has_key (runs_of rows.now)) }
     {

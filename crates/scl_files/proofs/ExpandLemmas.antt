@@ -1,4 +1,4 @@
--- The recursion of an expansion, with no bound on its depth.
+-- The recursion of an expansion, with no limit on its depth.
 use Rattle.std.proofs.Common.{◌≡◌, ℕ, zero, suc, ◌≤◌, List, [], ◌∷◌, ◌++◌, length, Option, None, Some, refl, sym, ap, arith}
 use Rattle.std.specs.List.{flat_map}
 use Rattle.scl_files.specs.Views.{File}

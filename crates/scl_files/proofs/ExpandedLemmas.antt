@@ -24,7 +24,7 @@ use Rattle.scl_files.proofs.ExpandLemmas.{expand-cons, expand-nil}
 use Rattle.scl_files.proofs.OpenLemmas.{opened-no_name}
 use Rattle.scl_files.proofs.OpeningLemmas.{openings-cons, openings-nil}
 
--- ---- the bound
+-- ---- the limit
 
 fits : (most n : ℕ) → n ≤ most → nat_le n most ≡ true
 fits most n h = le-leb n most h

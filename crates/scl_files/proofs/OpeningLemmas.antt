@@ -1,4 +1,4 @@
--- The recursion of the openings of an expansion, with no bound on its depth; and words that name no file.
+-- The recursion of the openings of an expansion, with no limit on its depth; and words that name no file.
 use Rattle.std.proofs.Common.{◌≡◌, ℕ, zero, suc, ◌≤◌, Bool, false, List, [], ◌∷◌, ◌++◌, length, Option, None, Some, is_some, refl, sym, ap, ◌∙◌, arith}
 use Rattle.std.specs.List.{flat_map, list_any}
 use Rattle.scl_files.specs.Views.{File}

@@ -1,4 +1,4 @@
--- What is told of cl's and clang-cl's command lines.
+-- What is reported of cl's and clang-cl's command lines.
 use Rattle.std.specs.Prelude.{ℕ, Bool, false, cond, ◌||◌, List, [], ◌++◌, Option, None, Some, unwrap_or}
 use Rattle.scl_catalogue.specs.Found.{LineSeen, OptionSeen}
 use Rattle.scl_catalogue.specs.declared.case.Compiler.{Compiler}
@@ -29,7 +29,7 @@ use Rattle.scl_hazards.specs.Told.{Told, of_record, told_of}
 abbrev pub cl_compiler : (is_clang : Bool) → Compiler
 cl_compiler is_clang = cond is_clang compilers.ClangCl compilers.Cl
 
--- the value of a variable is split otherwise: a text of UTF-8, as if a file began with its mark
+-- the value of a variable is split differently: a text of UTF-8, as if a file began with its mark
 abbrev pub splits_value : Option (List ℕ) → Bool
 splits_value None = false
 splits_value (Some value) = is_split_otherwise splitters.LlvmWindows expansions.Msvc (utf8_mark ++ value)
@@ -43,7 +43,7 @@ cl_options r = options_seen cl_kind_text (goes_to places.Common) r.outer.words r
 abbrev pub cl_inner : MsvcRead → List OptionSeen
 cl_inner r = options_seen gnu_kind_text (gnu.goes_to gnu_places.Common) r.handed r.inner.line.options
 
--- what is told of a line with this record, in an environment of these pairs
+-- what is reported of a line with this record, in an environment of these pairs
 abbrev pub cl_facts : List (List ℕ × List ℕ) → MsvcRead → Parsed → Facts
 cl_facts pairs r p = record {
   is_plusplus = false;
@@ -59,7 +59,7 @@ cl_facts pairs r p = record {
   has_precompiled_header = false;
 }
 
--- the command line with its record, where these facts and options are told
+-- the command line with its record, with these facts and options
 abbrev pub line_told : Option Version → MsvcRead → Parsed → Facts → (options inner : List OptionSeen) → LineSeen
 line_told version r p facts options inner = record {
   compiler = cl_compiler r.is_clang;
@@ -80,6 +80,6 @@ line_told version r p facts options inner = record {
 abbrev pub cl_line : Known → List (List ℕ × List ℕ) → MsvcRead → Parsed → LineSeen
 cl_line known pairs r p = line_told known.version r p (cl_facts pairs r p) (cl_options r) (cl_inner r)
 
--- what is told of a reading, if it has a record
+-- what is reported of a reading, if it has a record
 unfoldable pub msvc_told : Known → List (List ℕ × List ℕ) → MsvcRead → Told
 msvc_told known pairs r = of_record (λ p. told_of known (cl_line known pairs r p)) r.outcome

@@ -1,4 +1,4 @@
--- What is told of gcc's and clang's command lines.
+-- What is reported of gcc's and clang's command lines.
 use Rattle.std.specs.Prelude.{Bool, false, cond, List, [], Option, unwrap_or}
 use Rattle.scl_catalogue.specs.Found.{LineSeen, OptionSeen}
 use Rattle.scl_catalogue.specs.declared.case.Compiler.{Compiler}
@@ -39,7 +39,7 @@ gnu_options r = options_seen gnu_kind_text (goes_to places.Common) r.outer.words
 abbrev pub gnu_inner : GnuRead → List OptionSeen
 gnu_inner r = options_seen gnu_kind_text (goes_to places.Common) r.handed r.inner.line.options
 
--- what is told of a line with this record and these options
+-- what is reported of a line with this record and these options
 abbrev pub gnu_facts : (is_apple has_precompiled_header : Bool) → GnuRead → Parsed → List OptionSeen → Facts
 gnu_facts is_apple has_precompiled_header r p options = record {
   is_plusplus = r.plusplus;
@@ -55,7 +55,7 @@ gnu_facts is_apple has_precompiled_header r p options = record {
   has_precompiled_header = has_precompiled_header;
 }
 
--- the command line with its record, where these facts and options are told
+-- the command line with its record, with these facts and options
 abbrev pub line_told : Option Version → GnuRead → Parsed → Facts → (options inner : List OptionSeen) → LineSeen
 line_told version r p facts options inner = record {
   compiler = compiler_of r.compiler;
@@ -76,6 +76,6 @@ abbrev pub gnu_line : Known → (has_precompiled_header : Bool) → GnuRead → 
 gnu_line known has_precompiled_header r p =
     line_told known.version r p (gnu_facts known.is_apple has_precompiled_header r p (gnu_options r)) (gnu_options r) (gnu_inner r)
 
--- what is told of a reading, if it has a record
+-- what is reported of a reading, if it has a record
 unfoldable pub gnu_told : Known → (has_precompiled_header : Bool) → GnuRead → Told
 gnu_told known has_precompiled_header r = of_record (λ p. told_of known (gnu_line known has_precompiled_header r p)) r.outcome

@@ -1,4 +1,4 @@
--- Hazards: what a catalogue tells of the built command of a line.
+-- Hazards: what a catalogue says of the built command of a line.
 use Rattle.std.specs.Prelude.{ℕ, Bool, List, [], ◌∷◌, codes, Option, None, Some}
 use Rattle.std.specs.List.{flat_map}
 use Rattle.scl_catalogue.specs.Form.{Catalogue, Entry, Tells}
@@ -18,7 +18,7 @@ pub record Tables : Type 0 where
   pub catalogue : Catalogue
   pub plain : List Row
 
--- what is known of a compiler: the tables, the version that is meant, where one is told, and whether it is Apple's clang
+-- what is known of a compiler: the tables, the version that is meant, where one is given, and whether it is Apple's clang
 pub record Known : Type 0 where
   pub catalogue : Catalogue
   pub plain : List Row
@@ -40,7 +40,7 @@ told_as (form.Effect verb file) name consequence = None
 told_as form.Reason name consequence = None
 told_as form.Plain name consequence = None
 
--- the hazard that an entry tells, if it tells one
+-- the hazard that an entry states, if it states one
 abbrev pub hazard_told : Entry → Option Hazard
 hazard_told e = told_as e.tells e.name e.says
 
@@ -48,7 +48,7 @@ abbrev pub listed : Option Hazard → List Hazard
 listed None = []
 listed (Some hazard) = hazard ∷ []
 
--- the hazards that entries tell, in their order
+-- the hazards that entries state, in their order
 abbrev pub hazards_among : List Entry → List Hazard
 hazards_among entries = flat_map (λ entry. listed (hazard_told entry)) entries
 

@@ -1,4 +1,4 @@
--- The language in which the compiler alone compiles the input, and that of the built command.
+-- The language in which the given command compiles the input, and that of the built command.
 use Rattle.std.specs.Prelude.{ℕ, Bool, true, false, cond, not, ◌&&◌, nat_eq, List, [], ◌∷◌, drop, codes, Option, None, Some}
 use Rattle.std.specs.List.{starts_with}
 use Rattle.std.specs.Option.{option_or}
@@ -51,7 +51,7 @@ abbrev pub last_long_text : Option (List ℕ) → List OptionSeen → Option (Li
 last_long_text text [] = text
 last_long_text text (o ∷ os) = last_long_text (option_or (long_language o) text) os
 
--- the language of the built command: that of the record, unless the long spelling names one, which comes behind
+-- the language of the built command: that of the record, unless the long spelling names one, which comes after
 abbrev pub language_built : Language → Option (List ℕ) → Option Language
 language_built language None = Some language
 language_built language (Some text) = language_of_gcc_text text

@@ -79,7 +79,7 @@ bare s word stays = record {
   marks = record { stays = stays; is_apart = false; is_joined = false; is_delimiter_dropped = false; has_hidden_value = false };
 }
 
--- what is told of an option with a row, whose words are among these
+-- what is known of an option with a row, whose words are among these
 unfoldable pub marks_of : List (List ℕ) → List ℕ → List ℕ → Option ArgDisposition → (is_common : Bool) → Marks
 marks_of words flag value how is_common = record {
   stays = in_one_word how && is_common;

@@ -1,4 +1,4 @@
--- What is told of Diab's and TaskingVX's command lines.
+-- What is reported of Diab's and TaskingVX's command lines.
 use Rattle.std.specs.Prelude.{ℕ, Bool, false, List, [], Option, unwrap_or}
 use Rattle.scl_catalogue.specs.Found.{LineSeen, OptionSeen}
 use Rattle.scl_catalogue.specs.declared.case.Compiler.{Compiler}
@@ -23,7 +23,7 @@ use Rattle.scl_hazards.specs.Languages.{language_name}
 use Rattle.scl_hazards.specs.Options.{is_hidden, options_seen}
 use Rattle.scl_hazards.specs.Told.{Told, of_record, told_of}
 
--- what is told of a line with this record
+-- what is reported of a line with this record
 abbrev pub small_facts : Parsed → Facts
 small_facts p = record {
   is_plusplus = false;
@@ -39,7 +39,7 @@ small_facts p = record {
   has_precompiled_header = false;
 }
 
--- the command line with its record, where these options are told
+-- the command line with its record, with these options
 abbrev pub line_told : {K : Type 0} → Compiler → Option Version → SmallRead K → Parsed → List OptionSeen → LineSeen
 line_told compiler version r p options = record {
   compiler = compiler;
@@ -63,7 +63,7 @@ module _ {K : Type 0} (text : K → List ℕ) (common : Seen K → Bool) where
   abbrev pub small_line : Compiler → Known → SmallRead K → Parsed → LineSeen
   small_line compiler known r p = line_told compiler known.version r p (small_options r)
 
-  -- what is told of a reading, if it has a record
+  -- what is reported of a reading, if it has a record
   unfoldable pub small_told : Compiler → Known → SmallRead K → Told
   small_told compiler known r = of_record (λ p. told_of known (small_line compiler known r p)) r.outcome
 

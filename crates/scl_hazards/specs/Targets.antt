@@ -8,7 +8,7 @@ use Rattle.scl_catalogue.specs.declared.seen.Standing.{Standing}
 use Rattle.scl_catalogue.specs.declared.seen.Standing.TheVariants as standing
 use Rattle.scl_files.specs.Paths.{file_name, with_extension}
 
--- what stands behind a flag of three bytes in one word
+-- what follows a flag of three bytes in one word
 abbrev pub behind : (flag : List ℕ) → List ℕ → Option (List ℕ)
 behind flag word = cond (starts_with nat_eq word flag) (Some (drop 3 word)) None
 

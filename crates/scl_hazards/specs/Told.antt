@@ -1,4 +1,5 @@
--- What is told of a command line: its hazards, what its compiler reads, writes, asks and loads, and whether that is known of each option.
+-- What is reported of a command line: its hazards, what its compiler reads, writes, asks and loads, and whether that is known of
+-- each option.
 use Rattle.std.specs.Prelude.{ℕ, List, [], Option, None, Result, Ok, Err}
 use Rattle.std.specs.Option.{option_map}
 use Rattle.scl_catalogue.specs.Form.{Catalogue}
@@ -15,7 +16,7 @@ pub record Told : Type 0 where
   pub effects : List Effect
   pub unknown : Option (List ℕ)
 
--- what is told of a line by what is known of its compiler
+-- what is reported of a line by what is known of its compiler
 unfoldable pub told_of : Known → LineSeen → Told
 told_of known l = record { hazards = hazards_found known.catalogue l; effects = effects_found known.catalogue l; unknown = unknown_of known.catalogue known.plain l }
 
@@ -27,6 +28,6 @@ abbrev pub of_record : (Parsed → Told) → Result Parsed Verdict → Told
 of_record told (Ok p) = told p
 of_record told (Err said) = nothing
 
--- what the code tells
+-- what the code reports
 abbrev pub given : declared.Told → Told
 given t = record { hazards = t.hazards.items; effects = t.effects.items; unknown = option_map (λ name. name.items) t.unknown }

@@ -1,4 +1,4 @@
-//! What is told of cl's and clang-cl's command lines.
+//! What is reported of cl's and clang-cl's command lines.
 ghost use Rattle.std.specs.Prelude.{◌≡◌, IfOk, map};
 ghost use Rattle.std.specs.Option.{option_copied};
 ghost use Rattle.scl_catalogue.specs.Views.{line_of, seen_of};
@@ -64,7 +64,7 @@ fn value_of<'a>(env_vars: &'a [(Vec<u8>, Vec<u8>)], key: &[u8]) -> Option<&'a [u
     None
 }
 
-/// Whether the value of a variable is split otherwise: it is a text of UTF-8, as a file that begins with the mark.
+/// Whether the value of a variable is split differently: it is a text of UTF-8, as a file that begins with the mark.
 fn splits_value(alloc: Global, value: Option<&[u8]>) -> Mem<bool>
     ensures { IfOk result (λ it_is. it_is ≡ splits_value (option_copied value.entry)) }
 {
@@ -96,7 +96,6 @@ fn both_seen(alloc: Global, reading: &MsvcReading) -> Mem<BothSeen<'_>>
     Ok(BothSeen { outer, inner })
 }
 
-/// What is told of the line beside its words and options.
 fn cl_facts(
     alloc: Global,
     reading: &MsvcReading,
@@ -121,7 +120,7 @@ fn cl_facts(
     })
 }
 
-/// The command line with this record, of which these facts and options are told.
+/// The command line with this record, these facts and these options.
 fn line_told<'a>(
     known: &Known<'_>,
     reading: &'a MsvcReading,
@@ -148,7 +147,7 @@ fn line_told<'a>(
     }
 }
 
-/// What is told of a command line that has this record, in this environment.
+/// What is reported of a command line that has this record, in this environment.
 fn told_with<'r, 'a>(
     alloc: Global,
     known: &Known<'a>,
@@ -164,8 +163,8 @@ fn told_with<'r, 'a>(
     told_of(alloc, known, &line)
 }
 
-/// What is told of a command line of cl or of clang-cl, read in this environment, as of one of gcc; nothing where the line has no
-/// record (docs/RULES.md, Hazards). It fails only for want of memory.
+/// What is reported of a command line of cl or of clang-cl, read in this environment, as of one of gcc; nothing where the line
+/// has no record (docs/RULES.md, Hazards).
 #[tactic(auto, unfolding(crate::specs::ClangClHazards::msvc_told))]
 pub fn msvc_told<'a>(
     alloc: Global,

@@ -1,4 +1,4 @@
-//! Options that lack their delimiter in the built command.
+//! Options whose delimiter is dropped in the built command.
 ghost use Rattle.std.specs.Prelude.{◌≡◌};
 ghost use Rattle.scl_values.specs.Words.{words_of};
 ghost use Rattle.scl_hazards.specs.Options.{delimiter_of, is_delimited, lacks_delimiter, stands_delimited};

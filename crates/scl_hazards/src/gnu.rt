@@ -1,4 +1,4 @@
-//! What is told of gcc's and clang's command lines.
+//! What is reported of gcc's and clang's command lines.
 ghost use Rattle.std.specs.Prelude.{◌≡◌, IfOk, map, unwrap_or, []};
 ghost use Rattle.scl_catalogue.specs.Views.{line_of, seen_of};
 ghost use Rattle.scl_values.specs.Words.{words_of};
@@ -85,7 +85,6 @@ fn both_seen(alloc: Global, reading: &GnuReading) -> Mem<BothSeen<'_>>
     Ok(BothSeen { outer, inner })
 }
 
-/// What is told of the line beside its words and options.
 fn gnu_facts(
     alloc: Global,
     is_apple: bool,
@@ -118,7 +117,7 @@ fn gnu_facts(
     })
 }
 
-/// The command line with this record, of which these facts and options are told.
+/// The command line with this record, these facts and these options.
 fn line_told<'a>(
     known: &Known<'_>,
     reading: &'a GnuReading,
@@ -145,7 +144,7 @@ fn line_told<'a>(
     }
 }
 
-/// What is told of a command line that has this record.
+/// What is reported of a command line that has this record.
 fn told_with<'r, 'a>(
     alloc: Global,
     known: &Known<'a>,
@@ -168,10 +167,10 @@ fn told_with<'r, 'a>(
     told_of(alloc, known, &line)
 }
 
-/// What is told of a command line of gcc or clang: exactly the hazards and effects of which the catalogue has a case that is there,
-/// in its order, and the first option of which nothing is known; nothing where the line has no record (docs/RULES.md, Hazards).
-/// Whoever sees the files tells whether a precompiled header lies beside a file that the line includes, in a folder where it is
-/// searched for. It fails only for want of memory.
+/// What is reported of a command line of gcc or clang: exactly the hazards and effects of which the catalogue has a case that is
+/// there, in its order, and the first option of which nothing is known; nothing where the line has no record (docs/RULES.md,
+/// Hazards). Whoever sees the files says whether a precompiled header lies beside a file that the line includes, in a folder
+/// where it is searched for.
 #[tactic(auto, unfolding(crate::specs::GnuHazards::gnu_told))]
 pub fn gnu_told<'a>(
     alloc: Global,

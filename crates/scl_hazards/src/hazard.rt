@@ -1,4 +1,4 @@
-//! Hazards, as a catalogue tells them.
+//! Hazards, as a catalogue states them.
 ghost use Rattle.std.specs.Prelude.{◌≡◌, ◌++◌, map, IfOk, OnOk};
 ghost use Rattle.scl_catalogue.specs.Views.{entry_of};
 ghost use Rattle.scl_hazards.specs.Hazards.{hazard_told, listed, hazards_among};
@@ -47,7 +47,7 @@ impl<'a> Hazard<'a> {
     }
 }
 
-/// The hazard that an entry tells, if it tells one.
+/// The hazard that an entry states, if it states one.
 pub fn hazard_of<'a>(entry: &Entry<'a>) -> Option<Hazard<'a>>
     ensures { result ≡ hazard_told (entry_of entry.now) }
 {
@@ -61,7 +61,7 @@ pub fn hazard_of<'a>(entry: &Entry<'a>) -> Option<Hazard<'a>>
     }
 }
 
-/// Puts the hazard that an entry tells behind others, if it tells one.
+/// Appends the hazard that an entry states, if it states one.
 fn push_hazard<'a>(hazards: &mut Vec<Hazard<'a>>, entry: &Entry<'a>) -> Mem<()>
     ensures { OnOk result (hazards.new.items ≡ hazards.old.items ++ listed (hazard_told (entry_of entry.now))) }
 {

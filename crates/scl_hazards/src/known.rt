@@ -37,8 +37,8 @@ impl<'a> Model for Known<'a> {
 }
 
 impl<'a> Known<'a> {
-    /// What tables know of a compiler of this version, Apple's clang or another; where no version is told, each case and name is
-    /// meant.
+    /// What tables know of a compiler of this version, Apple's clang or another; where no version is given, each case and name
+    /// is meant.
     pub fn new(tables: &Tables<'a>, version: Option<Version>, is_apple: bool) -> Known<'a>
         ensures { result ≡ record { catalogue = (tables_of tables.now).catalogue; plain = (tables_of tables.now).plain; version = version; is_apple = is_apple } }
     {
@@ -63,7 +63,7 @@ impl<'a> Known<'a> {
         &self.tables.plain
     }
 
-    /// The version that is meant, where one is told.
+    /// The version that is meant, where one is given.
     pub(crate) fn version(&self) -> Option<Version>
         ensures { result ≡ self.now.version }
     {

@@ -1,4 +1,4 @@
-//! The language in which the compiler alone compiles the input, and that of the built command.
+//! The language in which the given command compiles the input, and that of the built command.
 ghost use Rattle.std.specs.Prelude.{◌≡◌, map, None};
 ghost use Rattle.std.specs.Option.{option_copied};
 ghost use Rattle.scl_catalogue.specs.Views.{seen_of};
@@ -114,7 +114,7 @@ fn same_language(one: Option<Language>, other: Option<Language>) -> bool
     }
 }
 
-/// Whether gcc or clang alone compiles the input in another language than the built command does.
+/// Whether the given command of gcc or clang compiles the input in another language than the built command does.
 pub(crate) fn is_other_language(
     plusplus: bool,
     input: &[u8],

@@ -1,5 +1,5 @@
-//! What a catalogue tells of command lines, as they were read: what a compiler does otherwise with the built command than with the
-//! given one, and what it reads, writes, asks and loads.
+//! What a catalogue says of command lines, as they were read: what a compiler does differently with the built command than with
+//! the given one, and what it reads, writes, asks and loads.
 #![tactic(auto)]
 
 mod clang_cl;

@@ -31,7 +31,7 @@ pub trait Kinded: ReadArg {
         ensures { result ≡ is_common (seen Self.kind_of Self.word_of option.now) };
 }
 
-/// Whether the file name of a path has a dot as its first byte alone.
+/// Whether the file name of a path has a dot as its first byte and nowhere else.
 pub(crate) fn is_hidden(path: &[u8]) -> bool
     ensures { result ≡ is_hidden path.now }
 {
@@ -81,7 +81,7 @@ fn bare<'a>(standing: Standing, word: &'a [u8], stays: bool) -> Seen<'a>
     }
 }
 
-/// What is told of an option with a row, whose words are among these.
+/// What is known of an option with a row, whose words are among these.
 #[tactic(auto, unfolding(crate::specs::Options::marks_of))]
 fn marks(
     words: &[Vec<u8>],

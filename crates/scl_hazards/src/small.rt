@@ -1,4 +1,4 @@
-//! What is told of Diab's and TaskingVX's command lines.
+//! What is reported of Diab's and TaskingVX's command lines.
 ghost use Rattle.std.specs.Prelude.{◌≡◌, IfOk, map};
 ghost use Rattle.scl_catalogue.specs.Views.{line_of, seen_of};
 ghost use Rattle.scl_text.specs.Records.{parsed_of};
@@ -57,7 +57,6 @@ impl Kinded for tasking_vx::ArgData {
     }
 }
 
-/// What is told of the line beside its words and options.
 fn small_facts(parsed: &ParsedArguments) -> Facts
     ensures { result ≡ small_facts (parsed_of parsed.now) }
 {
@@ -76,7 +75,7 @@ fn small_facts(parsed: &ParsedArguments) -> Facts
     }
 }
 
-/// The command line with this record, of which these options are told.
+/// The command line with this record and these options.
 fn line_told<'a, T: Rules>(
     compiler: Compiler,
     known: &Known<'_>,
@@ -103,7 +102,7 @@ fn line_told<'a, T: Rules>(
     }
 }
 
-/// What is told of a command line of this compiler that has this record.
+/// What is reported of a command line of this compiler that has this record.
 fn told_with<'r, 'a, T: Rules + Kinded>(
     alloc: Global,
     compiler: Compiler,
@@ -119,7 +118,7 @@ fn told_with<'r, 'a, T: Rules + Kinded>(
     told_of(alloc, known, &line)
 }
 
-/// What is told of a command line of this compiler.
+/// What is reported of a command line of this compiler.
 #[tactic(auto, unfolding(crate::specs::SmallHazards::small_told))]
 fn small_told<'a, T: Rules + Kinded>(
     alloc: Global,
@@ -137,8 +136,8 @@ fn small_told<'a, T: Rules + Kinded>(
     }
 }
 
-/// What is told of a command line of Diab, as of one of gcc; nothing where the line has no record (docs/RULES.md, Hazards). It
-/// fails only for want of memory.
+/// What is reported of a command line of Diab, as of one of gcc; nothing where the line has no record (docs/RULES.md,
+/// Hazards).
 pub fn diab_told<'a>(
     alloc: Global,
     known: &Known<'a>,
@@ -149,7 +148,7 @@ pub fn diab_told<'a>(
     small_told(alloc, Compiler::Diab, known, reading)
 }
 
-/// What is told of a command line of TaskingVX, as of one of Diab.
+/// What is reported of a command line of TaskingVX, as of one of Diab.
 pub fn tasking_told<'a>(
     alloc: Global,
     known: &Known<'a>,

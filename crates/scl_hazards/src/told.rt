@@ -1,4 +1,4 @@
-//! What a catalogue tells of a command line.
+//! What a catalogue says of a command line.
 ghost use Rattle.std.specs.Prelude.{◌≡◌, IfOk};
 ghost use Rattle.std.specs.Option.{option_copied, option_map};
 ghost use Rattle.scl_catalogue.specs.Views.{line_of};
@@ -11,10 +11,10 @@ use scl_effects::{Effect, effects_among, unknown_of};
 use scl_values::Mem;
 use std::alloc::Global;
 
-/// What is told of a command line.
+/// What is reported of a command line.
 #[derive(Debug, Drop)]
 pub struct Told<'a> {
-    /// What its compiler does otherwise with the built command, in the order of the catalogue.
+    /// What its compiler does differently with the built command, in the order of the catalogue.
     pub hazards: Vec<Hazard<'a>>,
     /// What its compiler reads, writes, asks and loads, in the order of the catalogue.
     pub effects: Vec<Effect>,
@@ -31,7 +31,7 @@ fn copied(alloc: Global, name: Option<&[u8]>) -> Mem<Option<Vec<u8>>>
     }
 }
 
-/// What is told of a line that has a record.
+/// What is reported of a line that has a record.
 #[tactic(auto, unfolding(crate::specs::Told::told_of))]
 pub(crate) fn told_of<'a>(alloc: Global, known: &Known<'a>, line: &Line<'_>) -> Mem<Told<'a>>
     ensures { IfOk result (λ told. given told ≡ told_of known.now (line_of line.now)) }
@@ -47,7 +47,7 @@ pub(crate) fn told_of<'a>(alloc: Global, known: &Known<'a>, line: &Line<'_>) -> 
     })
 }
 
-/// What is told of a line that has none.
+/// What is reported of a line that has none.
 pub(crate) fn nothing<'a>(alloc: Global) -> Told<'a>
     ensures { given result ≡ nothing }
 {

@@ -15,7 +15,7 @@ map-end f (y ∷ xs) x = ap (λ ys. f y ∷ ys) (map-end f xs x)
 flat-end : (f : List ℕ → List ℕ) (xs : List (List ℕ)) (x : List ℕ) → flat_map f (xs ++ x ∷ []) ≡ flat_map f xs ++ f x
 flat-end f xs x = flat_map-append f xs (x ∷ []) ∙ ap (λ ys. flat_map f xs ++ ys) (append-nil (f x))
 
--- one more, behind a comma
+-- one more, after a comma
 pub behind-more : (f : List ℕ → Entry) (g : Entry → List ℕ) (all : List (Vec ℕ Global)) (start done comma more : List ℕ) (i : ℕ) (word : Vec ℕ Global) (bytes : List ℕ) → i < length all
     → word ≡ get_or all i word → bytes ≡ word.items → comma ≡ done ++ 44 ∷ [] → more ≡ comma ++ g (f bytes)
     → done ≡ start ++ flat_map behind_comma (map g (map f (words_of (take i all)))) → more ≡ start ++ flat_map behind_comma (map g (map f (words_of (take (i + 1) all))))
@@ -31,7 +31,7 @@ behind-more f g all start done comma more i word bytes inside is named c m h =
     m ∙ ap (λ b. comma ++ g (f b)) named ∙ ap (λ bs. bs ++ one) c ∙ append_assoc done (44 ∷ []) one ∙ ap (λ bs. bs ++ (44 ∷ one)) h ∙ append_assoc start written (44 ∷ one)
     ∙ ap (λ bs. start ++ bs) (sym all_of)
 
--- the first, and the others behind it
+-- the first, and the others after it
 pub first-joined : (f : List ℕ → Entry) (g : Entry → List ℕ) (all : List (Vec ℕ Global)) (start one more : List ℕ) (first : Vec ℕ Global) (others : List (Vec ℕ Global)) (bytes : List ℕ)
     → all ≡ first ∷ others → bytes ≡ first.items → one ≡ start ++ g (f bytes) → more ≡ one ++ flat_map behind_comma (map g (map f (words_of others)))
     → more ≡ start ++ joined (map g (map f (words_of all)))

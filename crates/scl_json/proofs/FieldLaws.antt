@@ -6,7 +6,7 @@ use Rattle.scl_values.specs.Words.{words_of}
 use Rattle.scl_json.specs.Objects.{members_by}
 use Rattle.scl_json.specs.Texts.{behind_comma, joined, member, text, texts}
 
--- one more member, behind a comma
+-- one more member, after a comma
 pub behind-step : (json comma more rest total one : List ℕ) → json ++ (behind_comma one ++ rest) ≡ total → comma ≡ json ++ 44 ∷ [] → more ≡ comma ++ one → more ++ rest ≡ total
 behind-step json comma more rest total one h c m =
     ap (λ ms. ms ++ rest) m ∙ ap (λ ms. (ms ++ one) ++ rest) c ∙ append_assoc (json ++ 44 ∷ []) one rest ∙ append_assoc json (44 ∷ []) (one ++ rest) ∙ h

@@ -11,7 +11,7 @@ abbrev pub is_hex : ℕ → Bool
 is_hex c = between 48 c 57 || between 97 c 102
 
 -- what is between the quotes of a string: characters in UTF-8, of which a control, a quote or a backslash never is itself; a quote
--- or a backslash behind a backslash; `\u` with four digits
+-- or a backslash after a backslash; `\u` with four digits
 pub data IsInside : List ℕ → Type 0 where
   nothing : IsInside []
   character : (c : ℕ) (s : List ℕ) → all_scalars (c ∷ []) ≡ true → 32 ≤ c → c ≢ 34 → c ≢ 92 → IsInside s → IsInside (encode_utf8 c ++ s)

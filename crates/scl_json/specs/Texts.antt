@@ -26,7 +26,7 @@ is_mark c = c == 34 || c == 92
 abbrev pub is_plain : ℕ → Bool
 is_plain c = nat_le 32 c && nat_le c 126 && not (is_mark c)
 
--- a character in a text: by its number where it is hidden, behind a backslash where it has a meaning
+-- a character in a text: by its number where it is hidden, after a backslash where it has a meaning
 abbrev pub char_text : ℕ → List ℕ
 char_text c = cond (is_hidden c) (number_escape c) (cond (is_mark c) (92 ∷ encode_utf8 c) (encode_utf8 c))
 

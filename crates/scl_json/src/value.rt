@@ -10,7 +10,7 @@ use crate::members::Form;
 use crate::text::{push_member, push_text, push_texts};
 use scl_text::Mem;
 
-/// The fields of a row behind its name.
+/// The fields of a row after its name.
 pub(crate) type Rest<'a> = &'a [Vec<u8>];
 
 /// Appends what follows a row's name.

@@ -1,4 +1,4 @@
--- A hit is right: what is hashed of a key decides what is told and what was answered.
+-- A hit is right: what is hashed of a key decides what is stated and what was answered.
 use Rattle.std.proofs.Common.{◌≡◌, ℕ, Bool, true, false, cond, List, [], ◌∷◌, ◌++◌, map, codes, Option, Some, None, refl, ap, sym, subst, ◌∙◌, append-nil}
 use Rattle.std.specs.List.{flat_map}
 use Rattle.std.specs.Option.{option_to_list}
@@ -106,7 +106,7 @@ material-decides v w a b (x ∷ xs) (y ∷ ys) i j h =
       others = ap (λ o. o ++ answers v a xs) behind.0 ∙ ap (λ os. answered w b y ++ os) rest.others;
     }
 
--- ---- the facts of a key are those that are told
+-- ---- the facts of a key are those that are stated
 
 asked-behind : (ask : Ask) (name : List ℕ) → behind (codes "is") (hashed (asked ask name)) ≡ []
 asked-behind ask name = elim ask as (λ a. behind (codes "is") (hashed (asked a name)) ≡ []) [

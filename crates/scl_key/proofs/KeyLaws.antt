@@ -154,7 +154,7 @@ said-back : (b : Bool) → is_yes (yes_or_no b) ≡ b
 said-back true = refl
 said-back false = refl
 
--- the command of a record is that of what is told of it, with the words of the preprocessor put back
+-- the command of a record is that of what is stated of it, with the words of the preprocessor put back
 command-told : (c : Compiler) (p : Parsed) → command_by c (with_shown_of p (key_record c p)) ≡ command_by c p
 command-told c p = elim c as (λ d. command_by d (with_shown_of p (key_record c p)) ≡ command_by d p) [
   | compilers.Gcc ↦ refl
@@ -176,7 +176,7 @@ same-command c p q e = sym (command-told c p) ∙ ap (λ r. command_by c (with_s
 words-unless : (b d : Bool) (x y : List (List ℕ)) → b ≡ false → d ≡ false → cond b [] x ≡ cond d [] y → x ≡ y
 words-unless b d x y n m h = sym (ap (λ t. cond t [] x) n) ∙ h ∙ ap (λ t. cond t [] y) m
 
--- what is run, by the fact that tells it
+-- what is run, by the fact that states it
 abbrev ran_told : List (List ℕ) → Option (List (List ℕ)) → Option (List (List ℕ))
 ran_told fields command = cond (bytes_eq (first_of fields) (codes "built")) command (cond (bytes_eq (first_of fields) (codes "given")) (Some (behind_first fields)) None)
 

@@ -11,7 +11,7 @@ use Rattle.scl_reader.specs.declared.compiler.Compiler.{Compiler}
 use Rattle.scl_key.specs.declared.effect.Effect.{Effect}
 use Rattle.scl_key.specs.declared.effect.Effect.TheVariants.{Plain, Exact}
 use Rattle.scl_key.specs.declared.given.Brings.{Brings}
-use Rattle.scl_key.specs.declared.given.Brings.TheVariants.{Folder, Header, MacroFile, Other, Unknown}
+use Rattle.scl_key.specs.declared.given.Brings.TheVariants.{Folder, Header, MacroFile, Other, Dependencies, Unknown}
 use Rattle.scl_key.specs.Effects.{Judged, Row, front_effect, is_plain, judged_in, row}
 use Rattle.scl_key.specs.Families.{is_gnu}
 use Rattle.scl_key.specs.Given.{awaited_by, awaited_next, flags, given_by, given_in, headers, is_known, is_text, macro_files}
@@ -116,6 +116,7 @@ is_searched Folder = true
 is_searched Header = false
 is_searched MacroFile = false
 is_searched Other = true
+is_searched Dependencies = false
 is_searched Unknown = false
 
 -- what a word brings in, or belongs to

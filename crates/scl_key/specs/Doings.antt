@@ -1,4 +1,4 @@
--- What a key has of what a catalogue tells that the compiler does beside compiling.
+-- What a key has of what the compiler does besides compiling, as a catalogue states it.
 use Rattle.std.specs.Prelude.{ℕ, Bool, true, not, ◌&&◌, ◌||◌, ◌==◌, List, [], ◌∷◌, ◌++◌, length, map, filter, codes, if◌then◌else◌}
 use Rattle.std.specs.List.{flat_map, list_any}
 use Rattle.std.specs.Str.{bytes_eq}

@@ -203,7 +203,7 @@ abbrev pub suffixes : ℕ → List ℕ → List (List ℕ)
 suffixes mark [] = []
 suffixes mark (byte ∷ bytes) = if nat_eq byte mark then bytes ∷ suffixes mark bytes else suffixes mark bytes
 
--- the words that a word hands to the assembler, each with those after it
+-- the words that a word passes to the assembler, each with those after it
 abbrev pub handed_words : List ℕ → List (List ℕ)
 handed_words word = if starts_with nat_eq word (codes "-Wa,") then suffixes 44 word else []
 

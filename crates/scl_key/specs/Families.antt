@@ -45,7 +45,7 @@ has_plan ClangCl = true
 has_plan Diab = false
 has_plan Tasking = false
 
--- a compiler whose command lacks the words about dependencies: a run of the preprocessor writes that file
+-- a compiler whose command leaves out the words about dependencies: a run of the preprocessor writes that file
 abbrev pub notes_by_runs : Compiler → Bool
 notes_by_runs Gcc = false
 notes_by_runs Gxx = false

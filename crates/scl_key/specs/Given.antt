@@ -1,5 +1,5 @@
 -- The words of the preprocessor: what each brings in, and whether the text of a run has all of that.
-use Rattle.std.specs.Prelude.{ℕ, Bool, true, false, nat_eq, ◌&&◌, ◌||◌, not, List, [], ◌∷◌, ◌++◌, Option, Some, None, codes, find, map, filter, drop, length, if◌then◌else◌}
+use Rattle.std.specs.Prelude.{ℕ, Bool, true, false, nat_eq, ◌&&◌, ◌||◌, not, List, [], ◌∷◌, ◌++◌, Option, Some, None, codes, find, is_some, map, filter, drop, length, if◌then◌else◌}
 use Rattle.std.specs.Borrow.{Bor}
 use Rattle.std.specs.List.{list_all, list_any, starts_with}
 use Rattle.std.specs.Option.{option_map}
@@ -11,9 +11,10 @@ use Rattle.scl_text.specs.declared.language.Language.{Language}
 use Rattle.scl_text.specs.declared.language.Language.TheVariants as languages
 use Rattle.scl_key.specs.contracts.given.BringsPartialEq.TheImpl.{ghosts}
 use Rattle.scl_key.specs.declared.given.Brings.{Brings}
-use Rattle.scl_key.specs.declared.given.Brings.TheVariants.{Folder, Header, MacroFile, Other, Unknown}
+use Rattle.scl_key.specs.declared.given.Brings.TheVariants.{Folder, Header, MacroFile, Other, Dependencies, Unknown}
 use Rattle.scl_key.specs.Effects.{judged_in, keeps_macros}
 use Rattle.scl_key.specs.Families.{is_gnu}
+use Rattle.scl_key.specs.Made.{handed_file}
 
 -- a flag with a value, and what that brings in
 pub record Flag : Type 0 where
@@ -66,8 +67,12 @@ abbrev pub given_or : Option Given → List ℕ → Given
 given_or None word = given Unknown word
 given_or (Some g) word = g
 
+abbrev pub given_else : List ℕ → Given
+given_else word = if is_lone_flag word then given Other word else given_or (joined_by flags word) word
+
+-- what a word brings in that has no value after it; a file of dependencies is an output, and a run writes it too
 abbrev pub given_by : List ℕ → Given
-given_by word = if is_lone_flag word then given Other word else given_or (joined_by flags word) word
+given_by word = if is_some (handed_file word) then given Dependencies word else given_else word
 
 -- what a word brings in: as a value, where one is awaited; nothing by itself, where it is a flag that has its value after it
 abbrev pub given_unless : Option Brings → List ℕ → List Given
@@ -83,7 +88,7 @@ abbrev pub awaited_next : Option Brings → List ℕ → Option Brings
 awaited_next (Some brings) word = None
 awaited_next None word = awaited_by flags word
 
--- a value that lacks is unknown
+-- a value that is missing is unknown
 abbrev pub given_last : Option Brings → List Given
 given_last None = []
 given_last (Some brings) = given Unknown [] ∷ []
@@ -104,6 +109,7 @@ is_known Folder = true
 is_known Header = true
 is_known MacroFile = true
 is_known Other = true
+is_known Dependencies = true
 is_known Unknown = false
 
 -- the values among these that bring in this

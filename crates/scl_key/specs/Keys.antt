@@ -51,7 +51,7 @@ abbrev pub precompiled_parts : Compiler → Parsed → List Part
 precompiled_parts c p =
     if is_gcc c then pch (searched p) ∷ [] else []
 
--- the outcome has nothing of the sources that the text of a run lacks
+-- the outcome has nothing of the sources that is missing from the text of a run
 abbrev pub text_is_enough : Compiler → Parsed → Bool
 text_is_enough c p = shows c p && list_all (λ j. is_plain j.effect) (judged_in p.common_args)
 

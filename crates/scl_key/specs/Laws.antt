@@ -66,7 +66,7 @@ ran_with (hazardous hazard) command = None
 abbrev pub ran : Compiler → RunWords → Parsed → Option (List (List ℕ))
 ran c words p = ran_with words (command_by c p)
 
--- two command lines, each of a compiler, with an environment and what is run of it, are one but for words that runs show
+-- two command lines, each of a compiler, with an environment and what is run of it, are one except for words that runs show
 pub record AreOne (a b : Compiler) (e f : List (List ℕ × List ℕ)) (r s : RunWords) (p q : Parsed) : Type 0 where
   pub compiler_is : a ≡ b
   pub environment_is : flat_pairs e ≡ flat_pairs f
@@ -79,8 +79,8 @@ pub record AreOne (a b : Compiler) (e f : List (List ℕ × List ℕ)) (r s : Ru
   pub what_runs_is : ran a r p ≡ ran a s (with_shown_of p q)
   pub words_are_unless_shown : shows a p ≡ false → p.preprocessor_args ≡ q.preprocessor_args
 
--- Two command lines of which the same is told are by one compiler, and have one record and command, but for words that runs show:
--- for all eight compilers.
+-- Two command lines of which the same is stated are by one compiler, and have one record and command, except for words that
+-- runs show: for all eight compilers.
 abbrev pub KeysDecideCommands : Type 0
 KeysDecideCommands = (a b : Compiler) (e f : List (List ℕ × List ℕ)) (r s : RunWords) (p q : Parsed) → told a e r p ≡ told b f s q → AreOne a b e f r s p q
 
@@ -102,7 +102,7 @@ answers v c key = flat_map (answered v c) key
 abbrev pub material : World → Compiler → List Part → List (List ℕ)
 material v c key = flat_map (λ part. row_text (hashed part) ∷ answered v c part) key
 
--- two compilations by one compiler, each in its world, are alike as far as a key tells
+-- two compilations by one compiler, each in its world, are alike as far as a key says
 pub record AreAlike (v w : World) (c : Compiler) (e f : List (List ℕ × List ℕ)) (r s : RunWords) (p q : Parsed) : Type 0 where
   pub environment_is : flat_pairs e ≡ flat_pairs f
   pub run_words_are : run_words_fields r ≡ run_words_fields s

@@ -11,7 +11,7 @@ use Rattle.scl_reader.specs.declared.compiler.Compiler.{Compiler}
 use Rattle.scl_reader.specs.Answers.{command_by, runs_by}
 use Rattle.scl_key.specs.Families.{has_plan, is_gnu}
 use Rattle.scl_key.specs.Given.{has_macros}
-use Rattle.scl_key.specs.Made.{handed_file}
+use Rattle.scl_key.specs.Made.{handed_file, joined_file}
 use Rattle.scl_key.specs.Parts.{Part, plan, run, run_else}
 
 -- a header or a module: what is compiled keeps its macros for others
@@ -78,24 +78,28 @@ noted false (word ∷ words) = word ∷ noted (bytes_eq word (codes "-MF")) word
 abbrev pub noted_words : List (List ℕ) → List (List ℕ)
 noted_words words = if list_any (λ word. bytes_eq word (codes "-MF")) words then noted false words else []
 
--- a word that hands a file of dependencies to the preprocessor, as words about dependencies
+-- a word that passes a file of dependencies to the preprocessor, as words about dependencies
 abbrev pub noted_handed : List ℕ → List (List ℕ)
 noted_handed word =
     if is_some (handed_file word)
     then (if starts_with nat_eq word (codes "-Wp,-MD,") then codes "-MD" else codes "-MMD") ∷ codes "-MF" ∷ own_file ∷ []
     else []
 
+-- The last file counts: so the cache's own comes after those that are joined to their flag among the common words, if there are any.
+abbrev pub noted_common : List (List ℕ) → List (List ℕ)
+noted_common words = if list_any (λ word. is_some (joined_file word)) words then codes "-MF" ∷ own_file ∷ [] else []
+
 -- ---- the runs
 
 abbrev pub macro_words : Parsed → List (List ℕ)
 macro_words p = if is_header p.language || has_macros p then codes "-dD" ∷ [] else []
 
--- the record of the runs of Gcc and Clang: they write no file but that of dependencies, and tell macros where these count
+-- the record of the runs of Gcc and Clang: they write no file but that of dependencies, and print macros where these count
 abbrev pub noting_record : (macros : List (List ℕ)) → Parsed → Parsed
 noting_record macros p = record p {
   dependency_args = noted_words p.dependency_args ++ flat_map noted_handed p.preprocessor_args ++ flat_map noted_handed p.common_args;
   preprocessor_args = macros ++ without_output_files p.preprocessor_args;
-  common_args = without_output_files p.common_args;
+  common_args = without_output_files p.common_args ++ noted_common p.common_args;
 }
 
 -- by which a precompiled header is named in place of its text

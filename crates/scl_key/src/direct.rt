@@ -203,7 +203,7 @@ impl Brings {
     {
         match self {
             Brings::Folder | Brings::Other => true,
-            Brings::Header | Brings::MacroFile | Brings::Unknown => false,
+            Brings::Header | Brings::MacroFile | Brings::Dependencies | Brings::Unknown => false,
         }
     }
 }

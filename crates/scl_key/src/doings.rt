@@ -1,4 +1,4 @@
-//! What a key has of what a catalogue tells that the compiler does beside compiling.
+//! What a key has of what the compiler does besides compiling, as a catalogue states it.
 ghost use Rattle.std.specs.Prelude.{◌≡◌, ◌++◌, ◌∷◌, [], map, filter, IfOk, OnOk};
 ghost use Rattle.std.specs.List.{flat_map};
 ghost use Rattle.scl_text.specs.Records.{parsed_of};

@@ -11,9 +11,10 @@ use std::alloc::Global;
 /// What a word does beside compiling (docs/RULES.md, Keys).
 #[derive(Debug, Clone, Copy, PartialEq, Eq)]
 pub enum Effect {
-    /// Nothing: it reads and writes no file, and the outcome has nothing of the sources that their preprocessed text lacks.
+    /// Nothing: it reads and writes no file, and the outcome has nothing of the sources that is missing from their preprocessed
+    /// text.
     Plain,
-    /// The outcome may have what the text lacks, as columns and comments; so of a word that no table has.
+    /// The outcome may have what the text does not, as columns and comments; so of a word that no table has.
     Exact,
     /// The outcome has macros.
     Macros,
@@ -276,7 +277,7 @@ pub(crate) fn push_suffixes<'a>(found: &mut Vec<&'a [u8]>, mark: u8, text: &'a [
     Ok(())
 }
 
-/// Appends the words that a word hands to the assembler, each with those after it.
+/// Appends the words that a word passes to the assembler, each with those after it.
 fn push_handed<'a>(found: &mut Vec<&'a [u8]>, word: &'a [u8]) -> Mem<()>
     ensures { OnOk result (map (λ word. word.now) found.new.items ≡ map (λ word. word.now) found.old.items ++ handed_words word.now) }
 {
@@ -287,7 +288,7 @@ fn push_handed<'a>(found: &mut Vec<&'a [u8]>, word: &'a [u8]) -> Mem<()>
     }
 }
 
-/// Appends the words that words hand to the assembler.
+/// Appends the words that words pass to the assembler.
 fn push_all_handed<'a>(found: &mut Vec<&'a [u8]>, words: &'a [Vec<u8>]) -> Mem<()>
     ensures { OnOk result (map (λ word. word.now) found.new.items ≡ map (λ word. word.now) found.old.items ++ flat_map handed_words (words_of words.now)) }
 {

@@ -4,13 +4,14 @@ ghost use Rattle.std.specs.List.{list_all, list_any};
 ghost use Rattle.std.specs.Option.{option_map};
 ghost use Rattle.scl_values.specs.Words.{words_of};
 ghost use Rattle.scl_text.specs.Records.{parsed_of};
-ghost use Rattle.scl_key.specs.Given.{awaited_by, awaited_next, flags, flags_of, given_by, given_in, given_last, given_now, given_unless, has_macros, is_known, is_lone_flag, is_text, joined_by, shows, shows_by, values_among};
+ghost use Rattle.scl_key.specs.Given.{awaited_by, awaited_next, flags, flags_of, given_by, given_else, given_in, given_last, given_now, given_unless, has_macros, is_known, is_lone_flag, is_text, joined_by, shows, shows_by, values_among};
 ghost use Rattle.scl_key.specs.GivenViews.{given_of, all_given};
 ghost use Rattle.scl_key.specs.Effects.{judged_in, keeps_macros};
 ghost use Rattle.scl_key.specs.JudgedViews.{all_judged};
 
 use crate::effect::{Judged, judged_words};
 use crate::family::is_gnu;
+use crate::made::handed_file;
 use scl_reader::Compiler;
 use scl_text::Mem;
 use scl_text::language::Language;
@@ -28,6 +29,8 @@ pub enum Brings {
     MacroFile,
     /// What else the text of a run shows.
     Other,
+    /// A file of dependencies, which a run writes too.
+    Dependencies,
     /// What no table has.
     Unknown,
 }
@@ -108,9 +111,9 @@ fn is_lone_flag(word: &[u8]) -> bool
     word == NO_INCLUDES || word == NO_CXX_INCLUDES
 }
 
-/// What a word brings in that has no value after it.
-pub(crate) fn given_by(word: &[u8]) -> Given<'_>
-    ensures { given_of result ≡ given_by word.now }
+/// What a word brings in that hands no file of dependencies to the preprocessor.
+fn given_else(word: &[u8]) -> Given<'_>
+    ensures { given_of result ≡ given_else word.now }
 {
     if is_lone_flag(word) {
         return Given {
@@ -125,6 +128,19 @@ pub(crate) fn given_by(word: &[u8]) -> Given<'_>
             value: word,
         },
     }
+}
+
+/// What a word brings in that has no value after it.
+pub(crate) fn given_by(word: &[u8]) -> Given<'_>
+    ensures { given_of result ≡ given_by word.now }
+{
+    if handed_file(word).is_some() {
+        return Given {
+            brings: Brings::Dependencies,
+            value: word,
+        };
+    }
+    given_else(word)
 }
 
 /// What is awaited after a word.
@@ -163,7 +179,7 @@ fn push_now<'a>(given: &mut Vec<Given<'a>>, awaited: Option<Brings>, word: &'a [
     }
 }
 
-/// Appends a value that lacks.
+/// Appends a value that is missing.
 fn push_last(given: &mut Vec<Given<'_>>, awaited: Option<Brings>) -> Mem<()>
     ensures { OnOk result (all_given given.new.items ≡ all_given given.old.items ++ given_last awaited) }
 {
@@ -196,7 +212,11 @@ impl Brings {
         ensures { result ≡ is_known self }
     {
         match self {
-            Brings::Folder | Brings::Header | Brings::MacroFile | Brings::Other => true,
+            Brings::Folder
+            | Brings::Header
+            | Brings::MacroFile
+            | Brings::Other
+            | Brings::Dependencies => true,
             Brings::Unknown => false,
         }
     }

@@ -1,10 +1,10 @@
-//! The files that come out: those of the record, and those that it lacks.
+//! The files that come out: those of the record, and those that it does not name.
 ghost use Rattle.std.specs.Prelude.{◌≡◌, ◌++◌, ◌∷◌, [], map, None, IfOk, OnOk};
 ghost use Rattle.std.specs.List.{filter_map, last_or};
 ghost use Rattle.std.specs.Option.{option_copied, option_to_list};
 ghost use Rattle.scl_values.specs.Words.{words_of};
 ghost use Rattle.scl_text.specs.Records.{artifact, artifacts, parsed_of};
-ghost use Rattle.scl_key.specs.Made.{dependency_files, diagnostics_files, handed_file, made, named_file, unless_comma, unless_had, written_file};
+ghost use Rattle.scl_key.specs.Made.{dependency_files, diagnostics_files, handed_file, joined_file, made, named_file, unless_comma, unless_had, written_file};
 ghost use Rattle.scl_key.specs.Views.{outputs_of};
 
 use crate::effect::{has_comma, push_behind};
@@ -21,7 +21,7 @@ fn unless_comma(text: &[u8]) -> Option<&[u8]>
     if has_comma(text) { None } else { Some(text) }
 }
 
-/// The file of dependencies that a word hands to the preprocessor, and nothing else.
+/// The file of dependencies that a word passes to the preprocessor, and nothing else.
 pub(crate) fn handed_file(word: &[u8]) -> Option<&[u8]>
     ensures { option_copied result ≡ handed_file word.now }
 {
@@ -34,6 +34,13 @@ pub(crate) fn handed_file(word: &[u8]) -> Option<&[u8]>
     }
 }
 
+/// The file of dependencies that a word names which is joined to its flag.
+pub(crate) fn joined_file(word: &[u8]) -> Option<&[u8]>
+    ensures { option_copied result ≡ joined_file word.now }
+{
+    word.strip_prefix(b"-MF")
+}
+
 /// Appends a file, if there is one.
 fn push_some<'a>(files: &mut Vec<&'a [u8]>, file: Option<&'a [u8]>) -> Mem<()>
     ensures { OnOk result (map (λ f. f.now) files.new.items ≡ map (λ f. f.now) files.old.items ++ option_to_list (option_copied file.entry)) }
@@ -44,12 +51,22 @@ fn push_some<'a>(files: &mut Vec<&'a [u8]>, file: Option<&'a [u8]>) -> Mem<()>
     Ok(())
 }
 
-/// Appends the files of dependencies that words hand to the preprocessor.
+/// Appends the files of dependencies that words pass to the preprocessor.
 fn push_handed<'a>(files: &mut Vec<&'a [u8]>, words: &'a [Vec<u8>]) -> Mem<()>
     ensures { OnOk result (map (λ file. file.now) files.new.items ≡ map (λ file. file.now) files.old.items ++ filter_map handed_file (words_of words.now)) }
 {
     for word in words {
         push_some(files, handed_file(word))?;
+    }
+    Ok(())
+}
+
+/// Appends the files of dependencies that are joined to their flag.
+fn push_joined<'a>(files: &mut Vec<&'a [u8]>, words: &'a [Vec<u8>]) -> Mem<()>
+    ensures { OnOk result (map (λ file. file.now) files.new.items ≡ map (λ file. file.now) files.old.items ++ filter_map joined_file (words_of words.now)) }
+{
+    for word in words {
+        push_some(files, joined_file(word))?;
     }
     Ok(())
 }
@@ -64,16 +81,22 @@ fn last_of<'a>(files: &[&'a [u8]]) -> Option<&'a [u8]>
     }
 }
 
-/// Appends the file that the words about dependencies name last.
-fn push_named<'a>(alloc: Global, files: &mut Vec<&'a [u8]>, words: &'a [Vec<u8>]) -> Mem<()>
-    ensures { OnOk result (map (λ file. file.now) files.new.items ≡ map (λ file. file.now) files.old.items ++ named_file (words_of words.now)) }
+/// Appends the file that is named last, among the words about dependencies or joined to its flag among the common words.
+fn push_named<'a>(
+    alloc: Global,
+    files: &mut Vec<&'a [u8]>,
+    dependency: &'a [Vec<u8>],
+    common: &'a [Vec<u8>],
+) -> Mem<()>
+    ensures { OnOk result (map (λ file. file.now) files.new.items ≡ map (λ file. file.now) files.old.items ++ named_file (words_of dependency.now) (words_of common.now)) }
 {
     let mut named = Vec::new(alloc);
-    push_behind(&mut named, b"-MF", words)?;
+    push_behind(&mut named, b"-MF", dependency)?;
+    push_joined(&mut named, common)?;
     push_some(files, last_of(&named))
 }
 
-/// Appends the file that the words about dependencies name last, if one is written.
+/// Appends the file that is named last, if one is written.
 fn push_written<'a>(
     alloc: Global,
     files: &mut Vec<&'a [u8]>,
@@ -82,7 +105,7 @@ fn push_written<'a>(
     ensures { OnOk result (map (λ file. file.now) files.new.items ≡ map (λ file. file.now) files.old.items ++ written_file (parsed_of parsed.now)) }
 {
     if parsed.language.needs_c_preprocessing() {
-        push_named(alloc, files, &parsed.dependency_args)
+        push_named(alloc, files, &parsed.dependency_args, &parsed.common_args)
     } else {
         Ok(())
     }

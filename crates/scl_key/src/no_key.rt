@@ -237,7 +237,7 @@ fn push_unnamed_by(alloc: Global, unnamed: &mut Vec<Vec<u8>>, words: &[Vec<u8>])
     push_behind_flag(alloc, unnamed, words)
 }
 
-/// Appends the files of dependencies but for the first.
+/// Appends the files of dependencies except the first.
 fn push_second_files(alloc: Global, unnamed: &mut Vec<Vec<u8>>, parsed: &ParsedArguments) -> Mem<()>
     ensures { OnOk result (words_of unnamed.new.items ≡ words_of unnamed.old.items ++ drop 1 (dependency_files (parsed_of parsed.now))) }
 {

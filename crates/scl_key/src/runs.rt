@@ -1,5 +1,5 @@
 //! The runs whose texts go into a key, and the plan of the driver.
-ghost use Rattle.std.specs.Prelude.{◌≡◌, ◌++◌, [], map, false, IfOk, OnOk};
+ghost use Rattle.std.specs.Prelude.{◌≡◌, ◌++◌, [], map, false, is_some, IfOk, OnOk};
 ghost use Rattle.std.specs.List.{flat_map, list_any};
 ghost use Rattle.std.specs.Option.{option_map, option_to_list};
 ghost use Rattle.std.specs.Str.{bytes_eq};
@@ -8,12 +8,13 @@ ghost use Rattle.scl_text.specs.Commands.{command_by as command_with};
 ghost use Rattle.scl_text.specs.Records.{parsed_of, without_word};
 ghost use Rattle.scl_text.specs.Runs.{runs_of};
 ghost use Rattle.scl_key.specs.Given.{has_macros};
+ghost use Rattle.scl_key.specs.Made.{joined_file};
 ghost use Rattle.scl_key.specs.Parts.{plan, run, run_else};
-ghost use Rattle.scl_key.specs.Runs.{is_assembler, is_header, key_runs, macro_words, marked_runs, noted, noted_handed, noted_words, noting_record, plan_record, plans, run_parts, runs_else, shown_record, silent_record};
+ghost use Rattle.scl_key.specs.Runs.{is_assembler, is_header, key_runs, macro_words, marked_runs, noted, noted_common, noted_handed, noted_words, noting_record, plan_record, plans, run_parts, runs_else, shown_record, silent_record};
 ghost use Rattle.scl_key.specs.Views.{parts_of};
 
 use crate::family::is_gnu;
-use crate::made::handed_file;
+use crate::made::{handed_file, joined_file};
 use crate::part::Part;
 use scl_gnu::clang::Clang;
 use scl_gnu::gcc::{Gcc, without_output_files};
@@ -119,7 +120,7 @@ fn push_plan(parts: &mut Vec<Part>, words: Option<Vec<Vec<u8>>>) -> Mem<()>
     Ok(())
 }
 
-/// The words of the plan of a compiler's driver, if it tells one.
+/// The words of the plan of a compiler's driver, if it prints one.
 fn plan_words(
     alloc: Global,
     compiler: Compiler,
@@ -138,7 +139,7 @@ fn plan_words(
     }
 }
 
-/// Appends the plan of a compiler's driver, if it tells one.
+/// Appends the plan of a compiler's driver, if it prints one.
 pub(crate) fn push_plans(
     alloc: Global,
     parts: &mut Vec<Part>,
@@ -192,7 +193,7 @@ fn push_noted_words(alloc: Global, noted: &mut Vec<Vec<u8>>, words: &[Vec<u8>]) 
     }
 }
 
-/// Appends a word that hands a file of dependencies to the preprocessor, as words about dependencies.
+/// Appends a word that passes a file of dependencies to the preprocessor, as words about dependencies.
 fn push_noted_handed(alloc: Global, noted: &mut Vec<Vec<u8>>, word: &[u8]) -> Mem<()>
     ensures { OnOk result (words_of noted.new.items ≡ words_of noted.old.items ++ noted_handed word.now) }
 {
@@ -208,7 +209,7 @@ fn push_noted_handed(alloc: Global, noted: &mut Vec<Vec<u8>>, word: &[u8]) -> Me
     push_word(alloc, noted, OWN_FILE)
 }
 
-/// Appends all words that hand a file of dependencies to the preprocessor.
+/// Appends all words that pass a file of dependencies to the preprocessor.
 fn push_all_handed(alloc: Global, noted: &mut Vec<Vec<u8>>, words: &[Vec<u8>]) -> Mem<()>
     ensures { OnOk result (words_of noted.new.items ≡ words_of noted.old.items ++ flat_map noted_handed (words_of words.now)) }
 {
@@ -229,9 +230,41 @@ fn dependency_words(alloc: Global, parsed: &ParsedArguments) -> Mem<Vec<Vec<u8>>
     Ok(noted)
 }
 
+/// Whether one of these words names a file of dependencies that is joined to its flag.
+fn names_joined(words: &[Vec<u8>]) -> bool
+    ensures { result ≡ list_any (λ word. is_some (joined_file word)) (words_of words.now) }
+{
+    for word in words {
+        if joined_file(word).is_some() {
+            return true;
+        }
+    }
+    false
+}
+
+/// Appends the cache's own file, if one of these words names another.
+fn push_noted_common(alloc: Global, noted: &mut Vec<Vec<u8>>, words: &[Vec<u8>]) -> Mem<()>
+    ensures { OnOk result (words_of noted.new.items ≡ words_of noted.old.items ++ noted_common (words_of words.now)) }
+{
+    if !names_joined(words) {
+        return Ok(());
+    }
+    push_word(alloc, noted, DEPENDENCY_FILE)?;
+    push_word(alloc, noted, OWN_FILE)
+}
+
+/// The common words of the runs: none but the last file that is named is written.
+fn common_words(alloc: Global, parsed: &ParsedArguments) -> Mem<Vec<Vec<u8>>>
+    ensures { IfOk result (λ words. words_of words.items ≡ (noting_record [] (parsed_of parsed.now)).common_args) }
+{
+    let mut words = without_output_files(alloc, &parsed.common_args)?;
+    push_noted_common(alloc, &mut words, &parsed.common_args)?;
+    Ok(words)
+}
+
 // ---- the runs
 
-/// The words by which runs tell macros, if these count.
+/// The words by which runs print macros, if these count.
 fn macro_words(alloc: Global, macros: bool, parsed: &ParsedArguments) -> Mem<Vec<Vec<u8>>>
     requires macros { macros ≡ has_macros (parsed_of parsed.now) }
     ensures { IfOk result (λ words. words_of words.items ≡ macro_words (parsed_of parsed.now)) }
@@ -257,11 +290,11 @@ fn noting_record(
     let mut noting = parsed.copy(alloc)?;
     noting.dependency_args = dependency_words(alloc, parsed)?;
     noting.preprocessor_args = preprocessor;
-    noting.common_args = without_output_files(alloc, &parsed.common_args)?;
+    noting.common_args = common_words(alloc, parsed)?;
     Ok(noting)
 }
 
-/// The words but for those equal to one.
+/// The words except those equal to one.
 fn without_word(alloc: Global, word: &[u8], words: &[Vec<u8>]) -> Mem<Vec<Vec<u8>>>
     ensures { IfOk result (λ others. words_of others.items ≡ without_word word.now (words_of words.now)) }
 {

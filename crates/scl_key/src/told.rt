@@ -195,7 +195,7 @@ fn push_lists(
     Ok(())
 }
 
-/// Appends what else was read, but for what no command takes.
+/// Appends what else was read, except what no command takes.
 fn push_switches(alloc: Global, parts: &mut Vec<Part>, parsed: &ParsedArguments) -> Mem<()>
     ensures { OnOk result (parts_of parts.new.items ≡ parts_of parts.old.items ++ told_entries (switch_entries (record (parsed_of parsed.now) { too_hard_for_preprocessor_cache_mode = None }))) }
 {

@@ -52,14 +52,14 @@ module _ (holds : Viewed → Type 0) (load : Load) where
   pub unended : (view : Viewed) (leads : List Lead) → IsUnderWay load.most_rounds view leads → (held : Viewed) → holds held → held.is_multiarch ≡ load.is_multiarch → IsUnended held load
   unended view leads way held h m = record { view = view; are_looks = (way held h m).are_looks }
 
--- what a reading of a line asks is what the line's request asks
+-- the questions of a reading of a line are those of the line's request
 pub asks-so : (compiler : Compiler) (line : Given) (request : Request) (most : ℕ) (reading : Reading) (asked : Questions) → asked_for compiler line ≡ request
     → (has_at_most most (asked_for compiler line) ≡ true) × (reading ≡ read_of (asked_for compiler line)) → asked ≡ questions_in line reading
     → (has_at_most most request ≡ true) × (reading ≡ read_of request) × (asked ≡ questions_of request)
 asks-so compiler line request most reading asked is read asks =
     subst (λ r. (has_at_most most r ≡ true) × (reading ≡ read_of r) × (asked ≡ questions_of r)) is (read.0, read.1, asks ∙ ap (questions_in line) read.1)
 
--- if the disk has none of what a reading asks, the reading decides the record and the answer
+-- if the disk has none of a reading's questions, the reading decides the record and the answer
 module _ (holds : Viewed → Type 0) (line : DiskLine) (most most_rounds readings : ℕ) (before after : Viewed) (leads : List Lead) (q : Questions)
     (way : IsUnderWay holds (load_of line most most_rounds) readings before leads) (is : q ≡ questions_of (asked_on line before))
     (looked : IsLookedFor holds (HasNoneAsked q) (AreAllSame q) before after false) where

@@ -200,7 +200,7 @@ paths-more holds sought paths i path before middle after f g any h is either one
     map_more (λ word. word.items) paths i path h ∙ ap (λ p. words_of (take i paths) ++ p.items ∷ []) (sym is) in
     rw (taken, either) (one-more holds sought (words_of (take i paths)) path.items before middle after f g one two)
 
--- ---- all that is asked
+-- ---- all that is in question
 
 none-at : (disk : Viewed) (paths : List (List ℕ)) → AreAbsent kinds.File paths disk → HasNone disk.files paths
 none-at disk [] h = tt

@@ -120,7 +120,7 @@ AreFollowed holds fails directory rounds leads leads' before after (Err errors.T
 
 -- ---- a reading
 
--- No command line was too long, and nothing that the reading asks was found. Or something was found, and what is named by the
+-- No command line was too long, and none of the reading's questions was found. Or something was found, and what is named by the
 -- files that the reading lacked follows the leads. Or a command line was too long, or the disk fails.
 abbrev pub IsReadOnce : {E : Type 0} → (Viewed → Type 0) → (E → Type 0) → DiskLine → (most depth : ℕ) → (leads leads' : all.Leads) → (before after : Viewed)
     → Result (Option Reading) (LoadError E) → Type 0

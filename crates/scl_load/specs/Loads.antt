@@ -54,7 +54,7 @@ pub record IsLook (has_none : Viewed → Type 0) (are_same : Viewed → Viewed �
 abbrev pub IsLookedFor : (Viewed → Type 0) → (Viewed → Type 0) → (Viewed → Viewed → Type 0) → Viewed → Viewed → Bool → Type 0
 IsLookedFor holds has_none are_same before after found = (found ≡ false → after ≡ before) × ((disk : Viewed) → holds disk → Extends disk before → IsLook has_none are_same disk before after found)
 
--- the same for all that is asked
+-- the same for all that is in question
 abbrev pub AreAllSame : Questions → Viewed → Viewed → Type 0
 AreAllSame q disk view = AreSame kinds.File q.files disk view × AreSame kinds.Directory q.directories disk view × AreSame kinds.Existing q.existing disk view
 
@@ -96,7 +96,7 @@ IsInside load view file path = (kind : ExpansionKind) × (bytes : List ℕ) × (
     × Contains (paths_named kind (load.asks view).directory words) path
 
 -- Looks that make the view from nothing, with the number of readings that found something. Each look is for a response file
--- that the given words name, or words inside a file that was found. Or it is for all that a reading asks, if no command line
+-- that the given words name, or words inside a file that was found. Or it is for all of a reading's questions, if no command line
 -- is too long, and finds some of it.
 pub data AreLooks (disk : Viewed) (load : Load) : ℕ → Viewed → Type 0 where
   none : AreLooks disk load 0 (first_view load.is_multiarch)
@@ -106,8 +106,8 @@ pub data AreLooks (disk : Viewed) (load : Load) : ℕ → Viewed → Type 0 wher
       → IsLook (HasNoneAsked (questions_of (load.asks before))) (AreAllSame (questions_of (load.asks before))) disk before after true
       → AreLooks disk load (n + 1) after
 
--- A path that is reached in n steps. It is given (n is 0); or a reading asks for it, after n readings that found something;
--- or it is named by a file of the disk that is reached in one step less.
+-- A path that is reached in n steps. It is given (n is 0); or it is a question of a reading, after n readings that found
+-- something; or it is named by a file of the disk that is reached in one step less.
 pub data IsChain (disk : Viewed) (load : Load) : ℕ → List ℕ → Type 0 where
   given : (path : List ℕ) → IsGiven load path → IsChain disk load 0 path
   asked_file : (n : ℕ) (view : Viewed) (path : List ℕ) → AreLooks disk load n view → Contains (questions_of (load.asks view)).files path → IsChain disk load n path
@@ -119,7 +119,7 @@ pub record IsMade (disk : Viewed) (load : Load) (view : Viewed) : Type 0 where
   pub are_looks : AreLooks disk load readings view
   pub are_allowed : readings < load.most_rounds
 
--- it was made, no command line is too long, and the disk has none of what is asked
+-- it was made, no command line is too long, and the disk has none of the questions
 pub record IsLoaded (disk : Viewed) (load : Load) (view : Viewed) : Type 0 where
   pub is_made : IsMade disk load view
   pub extends : Extends disk view

@@ -2,7 +2,7 @@
 use scl_text::Mem;
 use std::alloc::Global;
 
-/// A disk that is asked what there is at paths. Each read may fail with an error of the disk's own.
+/// A disk that is queried for what there is at paths. Each read may fail with an error of the disk's own.
 pub trait Disk {
     ghost use Rattle.std.specs.Prelude.{◌≡◌, IfOk, IfErr};
     ghost use Rattle.std.specs.Option.{option_map};

@@ -1,4 +1,4 @@
-//! Loading from a disk the view that an answer asks for.
+//! Loading from a disk the view that an answer needs.
 #![tactic(auto)]
 
 mod disk;

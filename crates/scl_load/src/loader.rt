@@ -1,4 +1,4 @@
-//! Loading from a disk what an answer asks for.
+//! Loading from a disk what an answer needs.
 ghost use Rattle.std.specs.Prelude.{◌≡◌, IfOk, IfErr, MatchResult, true, false};
 ghost use Rattle.scl_files.specs.Views.{Viewed};
 ghost use Rattle.scl_reader.specs.Answers.{answer_to, reading_by};
@@ -47,7 +47,7 @@ pub struct DiskLine<'a> {
 /// The view that was loaded, and the reading of the command line in it.
 #[derive(Drop)]
 pub struct Loaded {
-    /// What the disk has of what is asked for.
+    /// What the disk has at the paths in question.
     pub view: View,
     /// The reading of the command line.
     pub reading: Reading,
@@ -67,7 +67,7 @@ impl<'a> DiskLine<'a> {
     }
 }
 
-/// The reading of the command line in a view, and what it asks of the view.
+/// The reading of the command line in a view, and its questions.
 fn read_in(
     alloc: Global,
     line: &DiskLine<'_>,
@@ -90,8 +90,8 @@ fn read_in(
     }
 }
 
-/// Reads the command line in the view, and looks for what the reading asks. If nothing is found, gives the reading. Otherwise
-/// appends to the leads, at this depth, what is named by the files that the reading lacked.
+/// Reads the command line in the view, and looks for the reading's questions. If nothing is found, gives the reading.
+/// Otherwise appends to the leads, at this depth, what is named by the files that the reading lacked.
 fn read_once<D: Disk>(
     alloc: Global,
     disk: &D,
@@ -126,9 +126,9 @@ fn read_once<D: Disk>(
     }
 }
 
-/// The view of what the answer to a command line asks of the disk, and the reading of the command line in it (docs/RULES.md,
+/// The view that the answer to a command line needs of the disk, and the reading of the command line in it (docs/RULES.md,
 /// Loading). First it looks for the response files that words name, and for those that their words name, each once. Then it
-/// reads the line and looks for what the reading asks besides, until nothing more is found. The errors:
+/// reads the line and looks for the reading's questions, until nothing more is found. The errors:
 ///
 /// - `TooManyRounds`: a chain of response files, each naming the next, has `rounds` files; or `rounds` readings each found
 ///   something.

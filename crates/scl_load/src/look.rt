@@ -1,4 +1,4 @@
-//! Looking for what is asked on a disk, and adding what is found to a view.
+//! Looking for what is in question on a disk, and adding what is found to a view.
 ghost use Rattle.std.specs.Prelude.{◌≡◌, ◌||◌, IfOk, IfErr};
 ghost use Rattle.scl_values.specs.Words.{words_of};
 ghost use Rattle.scl_reader.specs.QuestionsGiven.{given};
@@ -135,7 +135,7 @@ fn is_any(files: bool, directories: bool, existing: bool) -> bool
     files || directories || existing
 }
 
-/// Looks for all that is asked; says whether any of it was found.
+/// Looks for all that is in question; says whether any of it was found.
 pub(crate) fn look_for_all<D: Disk>(
     alloc: Global,
     disk: &D,

@@ -5,14 +5,14 @@ use std::alloc::Global;
 use std::process::Abort;
 use std::test::Fail;
 
-/// A request, whose files, directories and existing paths are what the disk has, and the paths of which the disk is asked.
+/// A request, whose files, directories and existing paths are what the disk has, and the paths that the disk is queried for.
 struct Asking {
     request: &'static str,
     reads: &'static [&'static str],
 }
 
 /// Files named in words, in files and in a circle; absent ones; those of inner command lines and of the environment; a file
-/// named inside an MSVC file, which is not asked for; directories of profiles; and a file for debug information.
+/// named inside an MSVC file, which is not queried; directories of profiles; and a file for debug information.
 static ASKINGS: [Asking; 12] = [
     Asking {
         request: "compiler gcc\ncwd /w\nword @a\nfile /w/a\t-c\\x20@b\nfile /w/b\tx.c\\x20@c\nfile /w/c\t-DC\nfile /w/z\t-DZ\n",

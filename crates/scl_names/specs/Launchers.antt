@@ -30,7 +30,7 @@ launcher_in more stem = launcher_among more stem (launcher_named stem)
 
 -- ---- options of launchers
 
--- an option of a launcher: alone, before its value, or with its value joined to it
+-- an option of a launcher: without a value, before its value, or with its value joined to it
 pub record LauncherOption : Type 0 where
   pub launcher : List ℕ
   pub text : List ℕ

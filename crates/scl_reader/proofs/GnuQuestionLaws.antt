@@ -1,4 +1,4 @@
--- Where the disk has none of what is asked of Gcc and Clang, it gives the same reading.
+-- Where the disk has none of the questions of Gcc and Clang, it gives the same reading.
 use Rattle.std.proofs.Common.{◌≡◌, ℕ, Bool, true, false, not, ◌||◌, cond, List, [], ◌∷◌, ◌++◌, map, filter, Option, None, Some, Result, Ok, Err, refl, sym, ap, subst, ◌∙◌}
 use Rattle.std.specs.Prelude.{is_some}
 use Rattle.std.specs.List.{flat_map, list_all, list_any}
@@ -48,7 +48,7 @@ use Rattle.scl_reader.specs.Questions.{if_none, no_directory, hash_files, Extend
 use Rattle.scl_reader.proofs.DecidedLaws.{IsGnuSettled, expanded-decided, gnu-expanded, gnu-settled, nothing-settled, settled-wanted}
 use Rattle.scl_reader.proofs.HandedLaws.{cut-handed, takes_rest}
 
--- ---- words that are handed on name no file
+-- ---- words that are passed on name no file
 
 abbrev pub is_apart : Shape → Bool
 is_apart bare = false

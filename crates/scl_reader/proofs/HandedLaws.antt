@@ -1,4 +1,4 @@
--- What holds of each word of a line holds of those that its options hand on, where the value of such an option is a word of its own.
+-- What holds of each word of a line holds of those that its options pass on, where the value of such an option is a word of its own.
 use Rattle.std.proofs.Common.{◌≡◌, ℕ, Bool, true, false, cond, ◌&&◌, ◌||◌, List, [], ◌∷◌, map, filter, Option, None, Some, refl, sym, ◌∙◌}
 use Rattle.std.specs.Str.{bytes_eq}
 use Rattle.scl_values.specs.Cuts.{raw, unknown, with_value, clean, Cutting, Piece, whole, needs_value, ends_options, mark, starts_with_dash, piece_at, owned_piece, piece_of, before, last_piece, all_raw, cut}
@@ -44,7 +44,7 @@ module _ {K : Type 0} (P : List ℕ → Type 0) where
 module _ {K : Type 0} (own : List ℕ → Option (Row K)) (dashes : Bool) (p : Seen K → Bool) (P : List ℕ → Type 0) (nothing : P [])
     (no_raw : (word : List ℕ) → p (Raw word) ≡ false) (no_unknown : (word : List ℕ) → p (Unknown word) ≡ false)
     (stand_apart : (word : List ℕ) (row : Row K) (value : List ℕ) (how : Option ArgDisposition) → own word ≡ Some row → p (Known row.flag row.kind value how) ≡ true → takes_rest row.shape ≡ false) where
-  -- what a word is cut into hands on nothing of which it does not hold, but for the next word
+  -- what a word is cut into passes on nothing of which it does not hold, except the next word
   abbrev IsHanded : Piece K → Type 0
   IsHanded (whole c) = p (shown c) ≡ true → P (text_of (shown c))
   IsHanded (needs_value row d last) = Unit {0}

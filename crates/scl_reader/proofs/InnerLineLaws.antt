@@ -1,4 +1,4 @@
--- Clang's inner command lines have at most so many words.
+-- Clang's inner command lines have at most n words.
 use Rattle.std.proofs.Common.{◌≡◌, ℕ, ◌≤◌, suc, Bool, true, false, cond, List, [], ◌∷◌, length, map, filter, Option, None, Some, Ok, sym, subst, arith}
 use Rattle.std.proofs.lemmas.Bool.{leb-true, le-leb}
 use Rattle.std.proofs.lemmas.List.{length-map}

@@ -1,4 +1,4 @@
--- Where the disk has none of what is asked of cl and clang-cl, it gives the same reading, and the same answer.
+-- Where the disk has none of the questions of cl and clang-cl, it gives the same reading, and the same answer.
 use Rattle.std.proofs.Common.{◌≡◌, ℕ, Bool, true, false, ◌||◌, List, ◌++◌, Option, None, Some, Result, Ok, Err, refl, ap, subst, ◌∙◌}
 use Rattle.std.specs.Prelude.{codes, if◌then◌else◌}
 use Rattle.scl_args.specs.Options.{◌>>=◌}
@@ -40,7 +40,7 @@ use Rattle.scl_reader.proofs.HandedLaws.{texts-either}
 abbrev pub lacked_in : MsvcRead → List (List ℕ)
 lacked_in r = r.outer.lacked ++ (r.xclang.lacked ++ r.clang.lacked)
 
--- an option that hands on a word to either inner line does so to one of the two
+-- an option that passes on a word to either inner line does so to one of the two
 either-bit : (a b : Bool) → (a || (b || false)) ≡ true → ((a || false) || (b || false)) ≡ true
 either-bit true b e = refl
 either-bit false b e = e

@@ -1,4 +1,4 @@
--- Where the disk has none of what is asked, the reading and the answer are the same, whatever the compiler.
+-- Where the disk has none of the questions, the reading and the answer are the same, whatever the compiler.
 use Rattle.std.proofs.Common.{◌≡◌, ℕ, true, false, List, [], ◌∷◌, ◌++◌, length, map, Option, None, Some, refl, ap, sym, subst, ◌∙◌, append_assoc}
 use Rattle.std.specs.List.{flat_map, list_any}
 use Rattle.std.specs.Option.{option_map_or}

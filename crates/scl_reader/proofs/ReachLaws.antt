@@ -25,7 +25,7 @@ module _ (kind : ExpansionKind) (compares : (path other : List ℕ) → hides ki
   abbrev Answered : List ℕ → Type 0
   Answered = IsAnswered kind directory files disk has
 
-  -- the disk has no file that the word asks for in vain, nor one that a word of a file does that it leads to by so many steps less one
+  -- the disk has no file that the word asks for in vain, nor one that a word of a file does that it leads to by one step less
   abbrev Good : ℕ → List ℕ → Type 0
   Good zero word = Unit {0}
   Good (suc n) word = Answered word × ((file : OpenFile) → opened kind directory files word ≡ Some file → Each (Good n) file.words)

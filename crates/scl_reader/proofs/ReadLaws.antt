@@ -1,4 +1,4 @@
--- A reading is by the compiler that was asked, and says what the words say; its answer is that to the request.
+-- A reading is by the compiler of the request, and says what the words say; its answer is that to the request.
 use Rattle.std.proofs.Common.{◌≡◌, ℕ, true, false, List, [], ◌∷◌, Result, Ok, length, refl, ap, sym, subst, ◌∙◌}
 use Rattle.scl_files.specs.Expanded.{standing}
 use Rattle.scl_files.specs.Sources.{indices}

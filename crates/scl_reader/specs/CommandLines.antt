@@ -16,7 +16,7 @@ pub record Given : Type 0 where
 abbrev pub given_by : CommandLine → Given
 given_by line = record { words = words_of line.words.now; directory = line.directory.now; environment = pairs_of line.environment.now; view = line.view.now }
 
--- what is asked of a compiler
+-- a request to a compiler
 pub record Request : Type 0 where
   pub compiler : Compiler
   pub directory : List ℕ
@@ -24,12 +24,12 @@ pub record Request : Type 0 where
   pub environment : List (List ℕ × List ℕ)
   pub view : Viewed
 
--- a compiler is asked for these words, in this directory, with this environment and view
+-- the request to a compiler with these words, in this directory, with this environment and view
 abbrev pub asked : Compiler → List (List ℕ) → List ℕ → List (List ℕ × List ℕ) → Viewed → Request
 asked compiler words directory environment view =
     record { compiler = compiler; directory = directory; words = words; environment = environment; view = view }
 
--- a compiler is asked for a command line
+-- the request to a compiler with a command line
 abbrev pub asked_for : Compiler → Given → Request
 asked_for compiler given = asked compiler given.words given.directory given.environment given.view
 

@@ -21,7 +21,7 @@ use Rattle.scl_reader.specs.declared.reading.Reading.TheVariants as reading
 abbrev pub longest : ℕ
 longest = 4096
 
--- whether the option has one of the flags, and a path behind it
+-- whether the option has one of the flags, and a path after it
 abbrev pub names_by : List (List ℕ) → Seen Kind → Bool
 names_by flags (Raw w) = false
 names_by flags (Unknown w) = false
@@ -55,7 +55,7 @@ places directory folders = directory ∷ map (join directory) folders
 abbrev pub precompiled_in : List (List ℕ) → List (List ℕ) → List (List ℕ)
 precompiled_in headers places = flat_map (λ header. flat_map (precompiled_at header) places) headers
 
--- so many headers are looked at, each counted at each place: this bounds the work
+-- how many headers are looked at, each counted at each place: this limits the work
 abbrev pub most : ℕ
 most = 4096
 

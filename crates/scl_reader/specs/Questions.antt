@@ -1,4 +1,4 @@
--- What the answer to a request asks of its view that the view does not have.
+-- The questions of the answer to a request: paths that its view does not have.
 use Rattle.std.specs.Prelude.{◌≡◌, ℕ, Bool, true, false, List, [], ◌∷◌, ◌++◌, codes, map, Option, None, Some, Result, Ok, Err}
 use Rattle.std.specs.List.{flat_map}
 use Rattle.scl_values.specs.Each.{Each}
@@ -13,7 +13,7 @@ use Rattle.scl_reader.specs.PrecompiledHeaders.{has_precompiled_header, precompi
 use Rattle.scl_reader.specs.Reads.{files_lacked, outcome_in, read_of}
 use Rattle.scl_reader.specs.declared.reading.Reading.{Reading}
 
--- what is asked for, by paths
+-- what is in question, by paths
 pub record Questions : Type 0 where
   pub files : List (List ℕ)
   pub directories : List (List ℕ)
@@ -59,7 +59,7 @@ headers_asked g r = flat_map (no_path g.view) (precompiled_headers g r)
 
 -- ---- all of them
 
--- what the reading of a command line asks of its view
+-- the questions of the reading of a command line
 abbrev pub questions_in : Given → Reading → Questions
 questions_in g r = record {
   files = map (λ file. file.path) (files_lacked r);
@@ -77,13 +77,13 @@ pub record Extends (disk view : Viewed) : Type 0 where
   pub existing : (path : List ℕ) → exists path view ≡ true → exists path disk ≡ true
   pub multiarch : disk.is_multiarch ≡ view.is_multiarch
 
--- the disk has none of what is asked for
+-- the disk has none of the questions
 pub record HasNoneOf (disk : Viewed) (q : Questions) : Type 0 where
   pub files : HasNone disk.files q.files
   pub directories : Each (λ path. is_directory path disk ≡ false) q.directories
   pub existing : Each (λ path. exists path disk ≡ false) q.existing
 
--- the request, asked of the disk
+-- the request, on the disk
 abbrev pub on_disk : Request → Viewed → Request
 on_disk r disk = record { compiler = r.compiler; directory = r.directory; words = r.words; environment = r.environment; view = disk }
 

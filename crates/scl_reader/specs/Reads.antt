@@ -114,7 +114,7 @@ lacked_of files = map (λ file. record { kind = file.kind; path = file.path.item
 
 -- ---- a law
 
--- a reading is by the compiler that was asked, and says what the words say
+-- a reading is by the compiler of the request, and says what the words say
 pub record IsReadBy (request : Request) : Type 0 where
   pub compiler : compiler_of (read_of request) ≡ request.compiler
   pub outcome : outcome_in (read_of request) ≡ reading_by request.compiler request

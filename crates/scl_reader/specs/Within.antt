@@ -1,4 +1,4 @@
--- Which command lines have at most so many words, response files put in place, and open files at most so many times.
+-- Which command lines have at most n words, response files put in place, and open files at most n times.
 use Rattle.std.specs.Prelude.{◌≡◌, ℕ, ◌&&◌, Bool, true, false, List, [], ◌∷◌, Result, Ok}
 use Rattle.scl_args.specs.Options.{texts}
 use Rattle.scl_files.specs.declared.expand.ExpansionKind.{ExpansionKind}
@@ -25,11 +25,11 @@ use Rattle.scl_reader.specs.Reads.{expanded}
 use Rattle.scl_reader.specs.declared.compiler.Compiler.{Compiler}
 use Rattle.scl_reader.specs.declared.compiler.Compiler.TheVariants as compilers
 
--- the bound where nothing else is said
+-- the limit where nothing else is said
 abbrev pub default_most : ℕ
 default_most = 1000000
 
--- whether the words of a line are within the bound, with response files of the kind put in place
+-- whether the words of a line are within the limit, with response files of the kind put in place
 abbrev pub is_line_within : ℕ → ExpansionKind → Given → Bool
 is_line_within most kind g = is_expanded_within most kind g.directory g.view.files g.words
 
@@ -37,7 +37,7 @@ is_line_within most kind g = is_expanded_within most kind g.directory g.view.fil
 abbrev pub is_gnu_within : ℕ → CCompilerKind → List (List (Row Kind)) → Given → Bool
 is_gnu_within most kind tables g = is_line_within most expansions.Gnu g && is_inner_within most kind tables g.directory g.view (expanded expansions.Gnu g)
 
--- whether each line of a command line, given and inner, is within the bound
+-- whether each line of a command line, given and inner, is within the limit
 abbrev pub has_at_most_by : ℕ → Compiler → Given → Bool
 has_at_most_by most compilers.Gcc g = is_gnu_within most kinds.Gcc (gcc_rows ∷ []) g
 has_at_most_by most compilers.Gxx g = is_gnu_within most kinds.Gcc (gcc_rows ∷ []) g
@@ -68,11 +68,11 @@ is_clang_driver compilers.Tasking = false
 abbrev pub clang_options : Request → Result (List (Seen Kind)) Verdict
 clang_options request = judged_words expansions.Gnu (verdict request.view.is_multiarch) clang_tables true request.directory request.view request.words
 
--- the inner command line that options hand on, with response files put in place
+-- the inner command line that options pass on, with response files put in place
 abbrev pub handed_on : Request → List (Seen Kind) → List (List ℕ)
 handed_on request options = expand expansions.Gnu request.directory request.view.files (texts (of (kind.XClang ∷ [])) options)
 
--- where the given line of a request to Clang has at most so many words, so has the inner one, if no option is refused
+-- where the given line of a request to Clang has at most n words, so has the inner one, if no option is refused
 abbrev pub ClangInnerIsWithin : Type 0
 ClangInnerIsWithin = (most : ℕ) (request : Request) (options : List (Seen Kind)) → is_clang_driver request.compiler ≡ true
     → is_within most (expand expansions.Gnu request.directory request.view.files request.words) ≡ true

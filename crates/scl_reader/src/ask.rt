@@ -1,4 +1,4 @@
-//! What is asked of a compiler, whichever of the served ones it is.
+//! What is queried of a compiler, whichever of the served ones it is.
 ghost use Rattle.std.specs.Prelude.{◌≡◌, IfOk, None, string_bytes};
 ghost use Rattle.std.specs.Option.{option_map};
 ghost use Rattle.scl_reader.specs.Apple.{is_apple};
@@ -14,7 +14,7 @@ use scl_small::tasking_vx::TaskingVX;
 use scl_text::{CCompilerImpl, Mem};
 use std::alloc::Global;
 
-/// What can be asked of every compiler that is served. A query holds what it is asked about: words, a record, settings.
+/// What can be queried of every compiler that is served. A query holds what it is about: words, a record, settings.
 pub(crate) trait Query: Sized {
     ghost use Rattle.std.specs.Prelude.{IfOk};
     ghost use Rattle.scl_text.specs.Commands.{command_by};
@@ -26,7 +26,7 @@ pub(crate) trait Query: Sized {
     /// What it gives by the definitions of a compiler.
     ghost gives: { Self → Definitions → Self.Answer → Type 0 };
 
-    /// The answer of a compiler. It fails only for want of memory.
+    /// The answer of a compiler.
     fn ask<C: CCompilerImpl>(self, alloc: Global, compiler: &C) -> Mem<Self::Answer>
         ensures { IfOk result (λ answer. gives self (record {
           reading = C.reading compiler.now;
@@ -55,7 +55,7 @@ fn clang(clangplusplus: bool, version: Option<String>) -> Clang
 
 impl Compiler {
     /// The answer to a query, by the definitions of the compiler with this name, of which no version is known (docs/RULES.md,
-    /// Compilers). It fails only for want of memory.
+    /// Compilers).
     pub(crate) fn ask<Q: Query>(self, alloc: Global, query: Q) -> Mem<Q::Answer>
         ensures { IfOk result (λ answer. Q.gives query (definitions_of self) answer) }
     {
@@ -63,7 +63,7 @@ impl Compiler {
     }
 
     /// The answer to a query, by the definitions of the compiler with this name, whose version has this text, if it is known
-    /// (docs/RULES.md, Compilers): no other than Clang's is asked. It fails only for want of memory.
+    /// (docs/RULES.md, Compilers): no other than Clang's is looked at.
     pub(crate) fn ask_with<Q: Query>(
         self,
         alloc: Global,

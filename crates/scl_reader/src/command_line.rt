@@ -2,11 +2,11 @@
 
 use scl_text::View;
 
-/// A command line: the words behind the program, and the directory, environment and files by which they are read. All are
+/// A command line: the words after the program, and the directory, environment and files by which they are read. All are
 /// bytes. Its ghost view is `given_by`.
 #[derive(Clone, Copy)]
 pub struct CommandLine<'a> {
-    /// The words behind the program.
+    /// The words after the program.
     pub words: &'a [Vec<u8>],
     /// The path of the directory in which they are read.
     pub directory: &'a [u8],

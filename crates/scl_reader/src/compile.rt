@@ -48,7 +48,7 @@ fn answer_record<C: CCompilerImpl, K: Kept>(
     }
 }
 
-/// What a command line, whose words are handed over, says.
+/// What a command line says; its words are moved in.
 #[derive(Drop)]
 struct Parse<'a> {
     words: Vec<Vec<u8>>,
@@ -77,7 +77,7 @@ impl<'a> Query for Parse<'a> {
     }
 }
 
-/// The answer of what a command line says, which is handed over.
+/// The answer of what a command line says, which is moved in.
 #[derive(Drop)]
 struct Answered<'a, K> {
     executable: &'a [u8],
@@ -119,7 +119,7 @@ impl<'a, K: Kept> Query for Answered<'a, K> {
     }
 }
 
-/// The answer of what a command line says, which is handed over.
+/// The answer of what a command line says, which is moved in.
 fn answer_outcome<K: Kept>(
     alloc: Global,
     compiler: Compiler,
@@ -142,7 +142,7 @@ fn answer_outcome<K: Kept>(
     compiler.ask(alloc, query)
 }
 
-/// What a command line, whose words are handed over, is answered.
+/// What a command line is answered; its words are moved in.
 fn compile_words<K: Kept>(
     alloc: Global,
     compiler: Compiler,
@@ -165,9 +165,9 @@ fn compile_words<K: Kept>(
 }
 
 impl Compiler {
-    /// What a command line is answered: the words behind the program `executable`, read in the directory `cwd`, with the
+    /// What a command line is answered: the words after the program `executable`, read in the directory `cwd`, with the
     /// environment `env_vars` and the files of `view`. All are bytes. Where the answer is a command, it is read again
-    /// (docs/RULES.md, Answers, and Cutting again). It fails only for want of memory.
+    /// (docs/RULES.md, Answers, and Cutting again).
     pub fn answer(
         self,
         alloc: Global,
@@ -187,8 +187,7 @@ impl Compiler {
         compile_words(alloc, self, executable, words, cwd, env_vars, view)
     }
 
-    /// What `answer` answers, to words that are handed over; what was read is made into the command, and not kept. It fails
-    /// only for want of memory.
+    /// What `answer` answers, to words that are moved in; what was read is made into the command, and not kept.
     pub fn command(
         self,
         alloc: Global,
@@ -209,7 +208,7 @@ impl Compiler {
 
 impl Reading {
     /// The answer to the command line that was read, with this program: what is kept of the record in directory, environment
-    /// and view of the line. It fails only for want of memory.
+    /// and view of the line.
     pub fn into_answer(
         self,
         alloc: Global,

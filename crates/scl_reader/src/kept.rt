@@ -45,7 +45,7 @@ pub trait Kept: Drop {
     /// It is kept of this record.
     ghost is_of: { Self → Parsed → Type 0 };
 
-    /// What is kept of a record, which is handed over. The errors are those of `generate_compile_commands_owned`.
+    /// What is kept of a record, which is moved in. The errors are those of `generate_compile_commands_owned`.
     fn keep<C: CCompilerImpl>(
         alloc: Global,
         compiler: &C,

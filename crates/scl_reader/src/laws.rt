@@ -12,7 +12,7 @@ pub fn of_equality()
     ensures compilers_are_told_apart { (a b : Compiler) → compilers.ghosts.eq a b ≡ true → a ≡ b }
 {}
 
-/// The law of readings: a reading is by the compiler that was asked, and says what the words say, as `Compiler::answer` reads
+/// The law of readings: a reading is by the compiler of the request, and says what the words say, as `Compiler::answer` reads
 /// them.
 pub fn of_readings()
     ensures readings_say { ReadingsSay }
@@ -27,8 +27,8 @@ pub fn of_answers()
     ensures records_have_commands { RecordsHaveCommands }
 {}
 
-/// Laws of what answers ask of a view (docs/RULES.md, Questions): of every disk that has what the view has, and none of what
-/// the answer to a request asks,
+/// Laws of the questions of answers (docs/RULES.md, Questions): of every disk that has what the view has, and none of the
+/// questions of the answer to a request,
 ///
 /// - `answers_are_decided`: the answer is the same;
 /// - `readings_are_decided`: so is the record, each of its fields, or the refusal, and with it the runs of the preprocessor;
@@ -43,8 +43,8 @@ pub fn of_questions()
 
 /// The law of inner lines of Clang (docs/RULES.md, Expansion):
 ///
-/// - `clang_inner_is_within`: where the given command line of a request has at most so many words, so has the inner one, if
-///   no option of the given one is refused.
+/// - `clang_inner_is_within`: where the given command line of a request has at most n words, so has the inner one, if no
+///   option of the given one is refused.
 pub fn of_bounds()
     ensures clang_inner_is_within { ClangInnerIsWithin }
 {}

@@ -1,5 +1,5 @@
 //! A command line of any compiler that is served, gcc, g++, clang, clang++, cl, clang-cl, diab or tasking, is read once
-//! (`Compiler::read`), and all that is said of it is a function of its reading: its record, its answer, what it asks of files.
+//! (`Compiler::read`), and all that is said of it is a function of its reading: its record, its answer, its questions.
 #![tactic(auto)]
 
 mod apple;

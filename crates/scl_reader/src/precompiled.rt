@@ -26,7 +26,7 @@ const LONGEST: usize = 4096;
 /// How many headers are looked at, each counted at each place.
 const MOST: usize = 4096;
 
-/// The test that options with one of these flags pass, and a path behind it.
+/// The test that options with one of these flags pass, and a path after it.
 #[derive(Clone, Copy)]
 struct NamesBy<'a>(&'a [&'static str]);
 
@@ -88,7 +88,7 @@ fn precompiled(alloc: Global, header: &[u8], extension: &[u8], place: &[u8]) -> 
     join(alloc, place, &name)
 }
 
-/// Puts the paths of a header's precompiled ones at a place behind others.
+/// Appends the paths of a header's precompiled ones at a place.
 fn push_at(alloc: Global, paths: &mut Vec<Vec<u8>>, header: &[u8], place: &[u8]) -> Mem<()>
     ensures { OnOk result (words_of paths.new.items ≡ words_of paths.old.items ++ precompiled_at header.now place.now) }
 {
@@ -97,7 +97,7 @@ fn push_at(alloc: Global, paths: &mut Vec<Vec<u8>>, header: &[u8], place: &[u8])
     Ok(())
 }
 
-/// Puts those at each of the places behind others.
+/// Appends those at each of the places.
 fn push_header(
     alloc: Global,
     paths: &mut Vec<Vec<u8>>,
@@ -246,8 +246,7 @@ impl Reading {
 
     /// Whether the view of this command line has a precompiled header that gcc, g++, clang or clang++ may take in the place of
     /// one that `-include` names, or the line names more headers and folders than are looked at. It matters for lines with
-    /// split debug information or `-Winvalid-pch`; of others it is false (docs/RULES.md, Questions). It fails only for want of
-    /// memory.
+    /// split debug information or `-Winvalid-pch`; of others it is false (docs/RULES.md, Questions).
     pub fn has_precompiled_header(&self, alloc: Global, line: &CommandLine<'_>) -> Mem<bool>
         ensures { IfOk result (λ has. has ≡ has_precompiled_header (given_by line.now) self.now) }
     {

@@ -1,4 +1,4 @@
-//! What an answer asks of a view that the view does not have.
+//! The questions of an answer: paths that its view does not have.
 ghost use Rattle.std.specs.Prelude.{◌≡◌, ◌++◌, [], true, false, map, IfOk, MatchResult, OnOk};
 ghost use Rattle.std.specs.List.{flat_map};
 ghost use Rattle.std.specs.Option.{option_copied};
@@ -20,8 +20,8 @@ use scl_text::records::{CompilerArguments, ParsedArguments};
 use scl_text::{Mem, TooManyWords, View};
 use std::alloc::Global;
 
-/// What the answer to a command line asks of a view that the view does not have (docs/RULES.md, Questions). A path may stand
-/// more than once.
+/// The questions of the answer to a command line: paths that its view does not have (docs/RULES.md, Questions). A path may
+/// stand more than once.
 #[derive(Debug, PartialEq, Eq, Drop)]
 pub struct Questions {
     /// The paths at which there may be response files.
@@ -32,7 +32,7 @@ pub struct Questions {
     pub existing: Vec<Vec<u8>>,
 }
 
-/// Puts a path behind others, where it is no directory of the view.
+/// Appends a path, where it is no directory of the view.
 fn push_directory(alloc: Global, paths: &mut Vec<Vec<u8>>, path: &[u8], view: &View) -> Mem<()>
     ensures { OnOk result (words_of paths.new.items ≡ words_of paths.old.items ++ no_directory view.now path.now) }
 {
@@ -53,7 +53,7 @@ fn absent_directories(alloc: Global, hashed: &[Vec<u8>], view: &View) -> Mem<Vec
     Ok(paths)
 }
 
-/// Puts a path behind others, where the view has nothing there.
+/// Appends a path, where the view has nothing there.
 fn push_path(paths: &mut Vec<Vec<u8>>, path: Vec<u8>, view: &View) -> Mem<()>
     ensures { OnOk result (words_of paths.new.items ≡ words_of paths.old.items ++ no_path view.now path.items) }
 {
@@ -79,7 +79,7 @@ fn absent_database(
     Ok(paths)
 }
 
-/// Puts those of the paths behind others at which the view has nothing.
+/// Appends those of the paths at which the view has nothing.
 fn push_absent(existing: &mut Vec<Vec<u8>>, paths: Vec<Vec<u8>>, view: &View) -> Mem<()>
     ensures { OnOk result (words_of existing.new.items ≡ words_of existing.old.items ++ flat_map (no_path view.now) (words_of paths.items)) }
 {
@@ -121,8 +121,7 @@ fn paths_of(alloc: Global, files: Vec<LackedFile>) -> Mem<Vec<Vec<u8>>>
 }
 
 impl Reading {
-    /// What the answer to this command line asks of its view that the view does not have, as `Compiler::open_questions` says
-    /// it. It fails only for want of memory.
+    /// The questions of the answer to this command line, as `Compiler::open_questions` says it.
     pub fn questions(&self, alloc: Global, line: &CommandLine<'_>) -> Mem<Questions>
         ensures { IfOk result (λ questions. given questions ≡ questions_in (given_by line.now) self.now) }
     {
@@ -141,10 +140,10 @@ impl Reading {
 }
 
 impl Compiler {
-    /// What the answer to a command line asks of a view that the view does not have: the response files that its words name,
-    /// those that words inside the files of the view name, and those of inner command lines; the directories in which
+    /// The questions of the answer to a command line, paths that the view does not have: the response files that its words
+    /// name, those that words inside the files of the view name, and those of inner command lines; the directories in which
     /// profiles may lie; the file that debug information may be added to; and the precompiled headers that matter
-    /// (docs/RULES.md, Questions). A disk that has what the view has, and none of what is asked, gives the same reading and
+    /// (docs/RULES.md, Questions). A disk that has what the view has, and none of the questions, gives the same reading and
     /// answer (`laws::of_questions`). `TooManyWords` where `answer_within` says so. The outer error is the refusal of memory.
     #[tactic(auto, using(crate::proofs::ReadLaws::answer_read))]
     pub fn open_questions(

@@ -160,7 +160,7 @@ fn read_tasking(
 impl Compiler {
     /// The command line, read once, where each of its lines, given and inner, has at most `most` words and openings of files;
     /// else `TooManyWords`, before any is refused (docs/RULES.md, Expansion). No work is done, and no memory taken, beyond what
-    /// the line, its files and that bound allow. The outer error is the refusal of memory.
+    /// the line, its files and that limit allow. The outer error is the refusal of memory.
     pub fn read(
         self,
         alloc: Global,

@@ -49,7 +49,7 @@ fn gnu_compiler(kind: CCompilerKind, plusplus: bool) -> Compiler
     }
 }
 
-/// Puts files of a kind, by their paths, behind others.
+/// Appends files of a kind, by their paths.
 fn push_lacked(
     alloc: Global,
     files: &mut Vec<LackedFile>,
@@ -65,7 +65,7 @@ fn push_lacked(
     Ok(())
 }
 
-/// Puts the files that the lines of cl or clang-cl lack, given and inner, behind others.
+/// Appends the files that the lines of cl or clang-cl lack, given and inner.
 fn push_lacked_of_cl(alloc: Global, files: &mut Vec<LackedFile>, reading: &MsvcReading) -> Mem<()>
     ensures { OnOk result (lacked_of files.new.items ≡ lacked_of files.old.items ++ files_lacked (Reading.Msvc reading.now)) }
 {
@@ -124,7 +124,7 @@ impl Reading {
     }
 
     /// The response files that its command lines name and the view lacks: those that given words ask for, then for cl and
-    /// clang-cl those that inner ones do, in order and as often as they are asked for. It fails only for want of memory.
+    /// clang-cl those that inner ones do, in order and as often as they are asked for.
     pub fn files_lacked(&self, alloc: Global) -> Mem<Vec<LackedFile>>
         ensures { IfOk result (λ files. lacked_of files.items ≡ files_lacked self.now) }
     {

@@ -44,8 +44,8 @@ impl<'a> Query for PreprocessRuns<'a> {
 
 impl Compiler {
     /// The words of the runs of the preprocessor for a record that this compiler read, in order: for a distant compiler or
-    /// not, with macros left in place where that is asked, for a cache of preprocessor runs or not; no version of the
-    /// compiler is known (docs/RULES.md, Preprocessing). It fails only for want of memory.
+    /// not, with macros left in place where that is requested, for a cache of preprocessor runs or not; no version of the
+    /// compiler is known (docs/RULES.md, Preprocessing).
     pub fn preprocess_runs(
         self,
         alloc: Global,
@@ -67,7 +67,7 @@ impl Compiler {
     }
 
     /// What `preprocess_runs` gives of a compiler whose version has this text, if it is known: from some version on Clang has
-    /// one more flag (docs/RULES.md, Preprocessing). It fails only for want of memory.
+    /// one more flag (docs/RULES.md, Preprocessing).
     pub fn preprocess_runs_with(
         self,
         alloc: Global,
@@ -91,7 +91,7 @@ impl Compiler {
 
 impl Reading {
     /// The words of the runs of the preprocessor for its record, as `Compiler::preprocess_runs_with` gives them; none without a
-    /// record. It fails only for want of memory.
+    /// record.
     pub fn runs(
         &self,
         alloc: Global,

@@ -1,4 +1,4 @@
-//! Answers to command lines within a bound.
+//! Answers to command lines within a limit.
 ghost use Rattle.std.specs.Prelude.{◌≡◌, true, false, IfOk, MatchResult};
 ghost use Rattle.scl_values.specs.Words.{words_of};
 ghost use Rattle.scl_text.specs.Commands.{pairs_of};
@@ -16,7 +16,7 @@ use std::alloc::Global;
 
 impl Compiler {
     /// Whether each command line that is read of the words, the given one and the inner ones, has at most `most` words and
-    /// openings of files (docs/RULES.md, Expansion). It fails only for want of memory.
+    /// openings of files (docs/RULES.md, Expansion).
     pub fn has_at_most(
         self,
         alloc: Global,
@@ -44,7 +44,7 @@ impl Compiler {
     }
 
     /// What `answer` answers, where each command line that is read of the words has at most `most` words and openings of
-    /// files; else `TooManyWords`, before any of them is refused (docs/RULES.md, Expansion). It fails only for want of memory.
+    /// files; else `TooManyWords`, before any of them is refused (docs/RULES.md, Expansion).
     #[tactic(auto, using(crate::proofs::ReadLaws::answer_read))]
     pub fn answer_within(
         self,

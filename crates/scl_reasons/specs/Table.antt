@@ -16,7 +16,7 @@ other = (codes "The compiler's table refuses this; run the command as given.")
 -- the explanations of every reason that a compiler of this repository gives
 unfoldable pub table : List Explained
 table =
-    explained_by (codes "A word or a value names a response file that was not put in its place; hand the file in, or write its words out.")
+    explained_by (codes "A word or a value names a response file that was not put in its place; give the file with the request, or write its words out.")
     ((codes "@") ∷ [])
     ∷ explained_by (codes "A flag has an empty value; write the value after it, or leave the flag out.")
     ((codes "empty value") ∷ [])
@@ -26,17 +26,17 @@ table =
     ((codes "multiple input files") ∷ [])
     ∷ explained_by (codes "No input is named; name the file to compile.")
     ((codes "no input file") ∷ [])
-    ∷ explained_by (codes "Neither the input's extension nor a flag tells its language; say it by -x, or /Tc or /Tp of cl, or give the file a known extension.")
+    ∷ explained_by (codes "Neither the input's extension nor a flag says its language; say it by -x, or /Tc or /Tp of cl, or give the file a known extension.")
     ((codes "unknown source language") ∷ [])
     ∷ explained_by (codes "The input has no file name, so the object has none; name a file.")
     ((codes "invalid input file") ∷ [])
     ∷ explained_by (codes "Several architectures are named; compile each by a command of its own, or allow several by the request's line multiarch.")
     ((codes "multiple different -arch, and SCCACHE_CACHE_MULTIARCH not set") ∷ [])
-    ∷ explained_by (codes "The path after -fmodule-output is not joined by =; write -fmodule-output=FILE, or the flag alone.")
+    ∷ explained_by (codes "The path after -fmodule-output is not joined by =; write -fmodule-output=FILE, or only the flag.")
     ((codes "unknown module output format") ∷ [])
-    ∷ explained_by (codes "A word that is no option is handed on after -Xclang; write it without -Xclang, or run the command as given.")
+    ∷ explained_by (codes "A word that is no option is passed on after -Xclang; write it without -Xclang, or run the command as given.")
     ((codes "Can't handle Raw arguments with -Xclang") ∷ [])
-    ∷ explained_by (codes "A flag is handed on after -Xclang that no table has, so nobody knows what it does; leave it out, or run the command as given.")
+    ∷ explained_by (codes "A flag is passed on after -Xclang that no table has, so nobody knows what it does; leave it out, or run the command as given.")
     ((codes "Can't handle UnknownFlag arguments with -Xclang") ∷ [])
     ∷ explained_by (codes "The object goes to nul, from where nothing can be read back; name a file.")
     ((codes "output to nul") ∷ [])
@@ -66,7 +66,7 @@ table =
     (codes "/dynamicdeopt:suffix") ∷ (codes "/dynamicdeopt:sync") ∷ (codes "/experimental:log") ∷ (codes "/ifcOnly") ∷ (codes "/ifcOutput") ∷ [])
     ∷ explained_by (codes "The flag lets the compiler read files that the answer does not name, so a cache would not see them change; run the command as given.")
     ((codes "--embed-dir") ∷ (codes "-FU") ∷ (codes "/FU") ∷ [])
-    ∷ explained_by (codes "Compiled modules are found or built under names that no word tells, so a cache would not see them change; name each file by -fmodule-file=, or run the command as given.")
+    ∷ explained_by (codes "Compiled modules have names that no word says, so a cache would not see them change; name each file by -fmodule-file=, or run the command as given.")
     ((codes "-experimental:module") ∷ (codes "-fbuiltin-module-map") ∷ (codes "-fcxx-modules") ∷ (codes "-fimplicit-modules") ∷ (codes "-fmodules") ∷
     (codes "-fmodules-cache-path") ∷ (codes "-fmodules-ts") ∷ (codes "-fmodules-user-build-path") ∷ (codes "-fprebuilt-implicit-modules") ∷
     (codes "-fprebuilt-module-path") ∷ (codes "-ifcMap") ∷ (codes "-ifcSearchDir") ∷ (codes "-interface") ∷ (codes "-internalPartition") ∷ (codes "-reference") ∷
@@ -86,11 +86,11 @@ table =
     ((codes "-P") ∷ [])
     ∷ explained_by (codes "The flag moves the directory that paths start from; change the directory before the compiler runs, and leave the flag out.")
     ((codes "-working-directory") ∷ [])
-    ∷ explained_by (codes "The language is not known, or can't be said so here: clang-cl takes only c++-module, and cl none; name a known one, or leave the flag out and let the file's extension tell.")
+    ∷ explained_by (codes "The language is not known, or can't be said so here: clang-cl takes only c++-module, and cl none; name a known one, or leave the flag out.")
     ((codes "-x") ∷ (codes "/x") ∷ [])
     ∷ explained_by (codes "Only clang-cl has module files that a flag names, and clang has them without -Xclang; name the file, or run the command as given.")
     ((codes "-fmodule-file") ∷ (codes "-fmodule-output") ∷ (codes "/fmodule-file") ∷ (codes "/fmodule-output") ∷ [])
-    ∷ explained_by (codes "The flag is the driver's and can't be handed on to the compiler proper; write it without -Xclang or -clang: before it.")
+    ∷ explained_by (codes "The flag is the driver's and can't be passed on to the compiler proper; write it without -Xclang or -clang: before it.")
     ((codes "--precompile") ∷ (codes "--precompile-reduced-bmi") ∷ (codes "-Werror=pedantic") ∷ (codes "-Wpedantic") ∷ (codes "-Xclang") ∷ (codes "-c") ∷
     (codes "-fintegrated-as") ∷ (codes "-fno-integrated-as") ∷ (codes "-gsplit-dwarf") ∷ (codes "-integrated-as") ∷ (codes "-no-integrated-as") ∷ (codes "-o") ∷
     (codes "-pedantic") ∷ (codes "-pedantic-errors") ∷ (codes "-std") ∷ [])

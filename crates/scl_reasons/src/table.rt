@@ -8,7 +8,7 @@ pub(crate) const OTHER: &str = "The compiler's table refuses this; run the comma
 /// to the inner command line.
 pub(crate) static EXPLANATIONS: &[Explanation] = &[
     explanation! {
-        "A word or a value names a response file that was not put in its place; hand the file in, or write its words out."
+        "A word or a value names a response file that was not put in its place; give the file with the request, or write its words out."
         "@"
     },
     explanation! {
@@ -28,7 +28,7 @@ pub(crate) static EXPLANATIONS: &[Explanation] = &[
         "no input file"
     },
     explanation! {
-        "Neither the input's extension nor a flag tells its language; say it by -x, or /Tc or /Tp of cl, or give the file a known extension."
+        "Neither the input's extension nor a flag says its language; say it by -x, or /Tc or /Tp of cl, or give the file a known extension."
         "unknown source language"
     },
     explanation! {
@@ -40,15 +40,15 @@ pub(crate) static EXPLANATIONS: &[Explanation] = &[
         "multiple different -arch, and SCCACHE_CACHE_MULTIARCH not set"
     },
     explanation! {
-        "The path after -fmodule-output is not joined by =; write -fmodule-output=FILE, or the flag alone."
+        "The path after -fmodule-output is not joined by =; write -fmodule-output=FILE, or only the flag."
         "unknown module output format"
     },
     explanation! {
-        "A word that is no option is handed on after -Xclang; write it without -Xclang, or run the command as given."
+        "A word that is no option is passed on after -Xclang; write it without -Xclang, or run the command as given."
         "Can't handle Raw arguments with -Xclang"
     },
     explanation! {
-        "A flag is handed on after -Xclang that no table has, so nobody knows what it does; leave it out, or run the command as given."
+        "A flag is passed on after -Xclang that no table has, so nobody knows what it does; leave it out, or run the command as given."
         "Can't handle UnknownFlag arguments with -Xclang"
     },
     explanation! {
@@ -100,7 +100,7 @@ pub(crate) static EXPLANATIONS: &[Explanation] = &[
         "--embed-dir" "-FU" "/FU"
     },
     explanation! {
-        "Compiled modules are found or built under names that no word tells, so a cache would not see them change; name each file by -fmodule-file=, or run the command as given."
+        "Compiled modules have names that no word says, so a cache would not see them change; name each file by -fmodule-file=, or run the command as given."
         "-experimental:module" "-fbuiltin-module-map" "-fcxx-modules" "-fimplicit-modules" "-fmodules"
         "-fmodules-cache-path" "-fmodules-ts" "-fmodules-user-build-path" "-fprebuilt-implicit-modules"
         "-fprebuilt-module-path" "-ifcMap" "-ifcSearchDir" "-interface" "-internalPartition" "-reference"
@@ -134,7 +134,7 @@ pub(crate) static EXPLANATIONS: &[Explanation] = &[
         "-working-directory"
     },
     explanation! {
-        "The language is not known, or can't be said so here: clang-cl takes only c++-module, and cl none; name a known one, or leave the flag out and let the file's extension tell."
+        "The language is not known, or can't be said so here: clang-cl takes only c++-module, and cl none; name a known one, or leave the flag out."
         "-x" "/x"
     },
     explanation! {
@@ -142,7 +142,7 @@ pub(crate) static EXPLANATIONS: &[Explanation] = &[
         "-fmodule-file" "-fmodule-output" "/fmodule-file" "/fmodule-output"
     },
     explanation! {
-        "The flag is the driver's and can't be handed on to the compiler proper; write it without -Xclang or -clang: before it."
+        "The flag is the driver's and can't be passed on to the compiler proper; write it without -Xclang or -clang: before it."
         "--precompile" "--precompile-reduced-bmi" "-Werror=pedantic" "-Wpedantic" "-Xclang" "-c"
         "-fintegrated-as" "-fno-integrated-as" "-gsplit-dwarf" "-integrated-as" "-no-integrated-as" "-o"
         "-pedantic" "-pedantic-errors" "-std"

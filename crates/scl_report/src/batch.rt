@@ -229,7 +229,7 @@ impl<'a> Batch<'a> {
         }
     }
 
-    /// Answers the next entry, and counts it; appends what is written of it. It fails only for want of memory.
+    /// Answers the next entry, and counts it; appends what is written of it.
     pub fn push_entry<D: Disk>(
         &self,
         alloc: Global,
@@ -285,7 +285,7 @@ impl<'a> Batch<'a> {
         }
     }
 
-    /// An entry and its outcome, and why it can or can't be cached. It fails only for want of memory.
+    /// An entry and its outcome, and why it can or can't be cached.
     pub fn why<D: Disk>(&self, alloc: Global, disk: &D, entry: u64, value: &Value) -> Mem<String>
     where
         D::Error: Display,
@@ -297,7 +297,7 @@ impl<'a> Batch<'a> {
         }
     }
 
-    /// What is written behind the entries.
+    /// What is written after the entries.
     pub fn closing_text(&self, alloc: Global, tally: &Tally) -> Mem<String> {
         if self.json {
             Ok(String::new(alloc))

@@ -39,7 +39,7 @@ fn field(row: &[Vec<u8>], at: usize) -> &[u8] {
     }
 }
 
-/// Whether rows are the same, but for the field at this place.
+/// Whether rows are the same, except for the field at this place.
 fn are_same(row: &[Vec<u8>], other: &[Vec<u8>], but: usize) -> bool {
     if row.len() != other.len() {
         return false;
@@ -91,7 +91,7 @@ fn push_option(alloc: Global, text: &mut String, row: &[Vec<u8>]) -> Mem<()> {
     text.push_str(")\n")
 }
 
-/// Appends the fields of a row behind its name.
+/// Appends the fields of a row after its name.
 fn push_fields(alloc: Global, text: &mut String, row: &[Vec<u8>]) -> Mem<()> {
     let fields = shown_words(alloc, row.get(1..).unwrap_or(&[]))?;
     write!(text, "    {fields}\n")
@@ -109,7 +109,7 @@ fn push_options(
     for row in rows {
         if is_named(row, "option") && !is_in(others, row, AT) {
             if is_first {
-                write!(text, "options of the {title} alone:\n")?;
+                write!(text, "options of the {title} only:\n")?;
                 is_first = false;
             }
             push_option(alloc, text, row)?;
@@ -131,7 +131,7 @@ fn push_rows(
         let is_of_key = is_named(row, "key") || is_named(row, "keep");
         if is_of_key && !is_in(others, row, usize::MAX) {
             if is_first {
-                write!(text, "key of the {title} alone:\n")?;
+                write!(text, "key of the {title} only:\n")?;
                 is_first = false;
             }
             push_fields(alloc, text, row)?;
@@ -190,7 +190,7 @@ impl Compared {
         write!(text, "the {title}: {outcome}\n")
     }
 
-    /// What differs: options, and rows of keys. It fails only for want of memory.
+    /// What differs: options, and rows of keys.
     pub fn difference(&self, alloc: Global, other: &Compared) -> Mem<String> {
         let mut text = String::new(alloc);
         self.push_outcome(&mut text, "first")?;

@@ -222,14 +222,14 @@ fn push_outcome(alloc: Global, text: &mut String, case: &Case, answered: &Answer
     }
 }
 
-/// What a command line is answered, in one line. It fails only for want of memory.
+/// What a command line is answered, in one line.
 pub(crate) fn outcome_text(alloc: Global, case: &Case, answered: &Answered<'_>) -> Mem<String> {
     let mut text = String::new(alloc);
     push_outcome(alloc, &mut text, case, answered)?;
     Ok(text)
 }
 
-/// An entry and its outcome, in one line. It fails only for want of memory.
+/// An entry and its outcome, in one line.
 pub fn entry_line(
     alloc: Global,
     entry: u64,

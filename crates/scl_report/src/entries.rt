@@ -10,21 +10,21 @@ const MARK: [u8; 3] = [0xef, 0xbb, 0xbf];
 /// Where the next byte of a database's text stands.
 #[derive(Clone, Copy)]
 enum At {
-    /// Behind so many bytes of the mark.
+    /// After this number of bytes of the mark.
     Mark(usize),
     /// Before the array.
     Before,
     /// Where an item may begin, or the array ends.
     First,
-    /// In an item, inside so many brackets.
+    /// In an item, inside this number of brackets.
     Item(u64),
     /// In a string of an item.
     Text(u64),
-    /// In a string of an item, behind a backslash.
+    /// In a string of an item, after a backslash.
     Escaped(u64),
-    /// Behind a comma.
+    /// After a comma.
     Next,
-    /// Behind the array.
+    /// After the array.
     Behind,
 }
 
@@ -52,7 +52,7 @@ fn begins_other(byte: u8) -> bool {
     matches!(byte, b'{' | b'"' | b'-' | b'0'..=b'9' | b't' | b'f' | b'n')
 }
 
-/// A byte of an item, inside so many brackets.
+/// A byte of an item, inside this number of brackets.
 fn in_item(depth: u64, byte: u8) -> (At, Does) {
     match byte {
         b',' if depth == 0 => (At::Next, Does::Ends),
@@ -177,7 +177,7 @@ impl EntryReader {
         }
     }
 
-    /// The entry whose text has ended, behind so many bytes.
+    /// The entry whose text has ended, after this number of bytes.
     fn ended(
         &mut self,
         alloc: Global,

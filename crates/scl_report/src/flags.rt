@@ -6,9 +6,9 @@ use scl_cl::{
     CommandLine, Compiler, MOST, Mem, TooManyWords, View, clang, diab, gcc, msvc, tasking_vx,
 };
 use scl_describe::{Destination, Row, rows_of};
+use scl_rows::NamedKind;
 use scl_shell::shown;
 use std::alloc::Global;
-use std::fmt::Debug;
 
 /// The titles of the columns.
 static TITLES: [&str; 4] = ["flag", "value", "kind", "goes to"];
@@ -16,7 +16,7 @@ static TITLES: [&str; 4] = ["flag", "value", "kind", "goes to"];
 /// Values by which it is tried where a flag goes: a name, a language, a choice.
 static VALUES: [&str; 3] = ["x", "c", "always"];
 
-/// The compilers whose tables are told, one of each that share theirs.
+/// The compilers whose tables are shown, one of each that share theirs.
 static COMPILERS: [Compiler; 5] = [
     Compiler::Gcc,
     Compiler::Clang,
@@ -30,7 +30,7 @@ static COMPILERS: [Compiler; 5] = [
 struct Flag {
     name: &'static str,
     value: Option<ArgDisposition>,
-    kind: String,
+    kind: &'static str,
 }
 
 /// The one of `COMPILERS` that has the compiler's tables.
@@ -56,7 +56,7 @@ fn title(compiler: Compiler) -> &'static str {
 }
 
 /// Appends the flags of a table's rows, of those that the word fits if there is one.
-fn push_rows<K: Copy + Debug + Drop>(
+fn push_rows<K: Copy + Drop + NamedKind>(
     alloc: Global,
     flags: &mut Vec<Flag>,
     rows: &[ArgRow<K>],
@@ -68,12 +68,10 @@ fn push_rows<K: Copy + Debug + Drop>(
                 ArgRow::Flag(_, _) => None,
                 ArgRow::TakeArg(_, _, disposition) => Some(*disposition),
             };
-            let kind = row.kind();
-            let kind = format!(in alloc; "{kind:?}")?;
             flags.push(Flag {
                 name: row.flag(),
                 value,
-                kind,
+                kind: row.kind().name(),
             })?;
         }
     }
@@ -186,12 +184,12 @@ fn cells(alloc: Global, compiler: Compiler, flag: &Flag) -> Mem<Vec<String>> {
     let place = place(alloc, compiler, flag)?;
     cells.push(String::from_str(alloc, flag.name)?)?;
     cells.push(value_text(alloc, flag.value)?)?;
-    cells.push(String::from_str(alloc, flag.kind.as_str())?)?;
+    cells.push(String::from_str(alloc, flag.kind)?)?;
     cells.push(String::from_str(alloc, fate(place))?)?;
     Ok(cells)
 }
 
-/// Appends the flags of a compiler's table that have so many bytes or more.
+/// Appends the flags of a compiler's table that have at least this number of bytes.
 fn push_table(
     alloc: Global,
     text: &mut String,

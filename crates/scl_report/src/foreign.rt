@@ -69,7 +69,7 @@ pub(crate) fn all_with_slashes(alloc: Global, texts: &[Vec<u8>]) -> Mem<Vec<Vec<
     Ok(changed)
 }
 
-/// Whether both are the same but for `/` in the place of backslashes.
+/// Whether both are the same except for `/` in the place of backslashes.
 fn are_alike(alloc: Global, one: &[Vec<u8>], other: &[Vec<u8>]) -> Mem<bool> {
     Ok(all_with_slashes(alloc, one)? == all_with_slashes(alloc, other)?)
 }
@@ -95,7 +95,7 @@ fn same_compilation(alloc: Global, one: &Compilation, other: &Compilation) -> Me
     )
 }
 
-/// Whether two answers are the same but for `/` in the place of backslashes.
+/// Whether two answers are the same except for `/` in the place of backslashes.
 pub(crate) fn same_answer(
     alloc: Global,
     one: &CompilerArguments<Compilation>,

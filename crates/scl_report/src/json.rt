@@ -123,7 +123,7 @@ fn push_ending(alloc: Global, text: &mut Vec<u8>, case: &Case, answered: &Answer
     }
 }
 
-/// Appends the rows of the program: what is asked about, what was read, and sentences for people.
+/// Appends the rows of the program: the request, what was read, and sentences for people.
 fn push_own_rows(
     alloc: Global,
     text: &mut Vec<u8>,

@@ -116,7 +116,7 @@ pub(crate) fn verdicts_of(alloc: Global, rows: &[Vec<Vec<u8>>]) -> Mem<Vec<Verdi
     Ok(verdicts)
 }
 
-/// What the rows `keep` of an answered command line say, in order. It fails only for want of memory.
+/// What the rows `keep` of an answered command line say, in order.
 pub(crate) fn verdicts(
     alloc: Global,
     about: &About<'_>,

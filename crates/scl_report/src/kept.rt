@@ -1,4 +1,4 @@
-//! Whether the outcome of a command line may be kept under a key, alone.
+//! Only whether the outcome of a command line may be kept under a key.
 use crate::keep::{Verdict, cacheable_of, judged_rows, verdict_text, verdicts_of};
 use crate::pages::Pages;
 use scl_cl::{Cacheable, Mem};
@@ -49,8 +49,8 @@ fn kept_reply(
 }
 
 /// Whether the outcome of a command line may be kept under a key: a line for each row `keep`, or for machines the object that
-/// `check` writes. It ends as answered where it may, as command lines without equal keys do where not, and as `check` does where no
-/// command can be run. It fails only for want of memory.
+/// `check` writes. It ends as answered where it may, as command lines without equal keys do where not, and as `check` does where
+/// no command can be run.
 pub fn check_kept<D: Disk>(
     alloc: Global,
     disk: &D,

@@ -182,7 +182,7 @@ fn push_rows(page: &mut Page, rows: &[Row]) -> Mem<()> {
     push_options(page.alloc, &mut page.text, rows)
 }
 
-/// What a command line is, for a person. It fails only for want of memory.
+/// What a command line is, for a person.
 pub fn explanation(
     alloc: Global,
     about: &About<'_>,

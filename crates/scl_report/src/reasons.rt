@@ -8,7 +8,7 @@ use scl_reasons::{Explanation, explanations};
 use scl_shell::shown;
 use std::alloc::Global;
 
-/// The compilers of which something is known, in the order in which they are told.
+/// The compilers of which something is known, in the order in which they are shown.
 const COMPILERS: [Compiler; 6] = [
     Compiler::Gcc,
     Compiler::Clang,

@@ -3,7 +3,7 @@ use scl_cl::Mem;
 use std::alloc::Global;
 use unicode_width::UnicodeWidthStr;
 
-/// The most columns of a terminal that a column of a table takes; what stands behind a wider cell goes to the next line.
+/// The most columns of a terminal that a column of a table takes; what follows a wider cell goes to the next line.
 const MOST: usize = 32;
 
 /// Lines of cells.

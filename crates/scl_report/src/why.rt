@@ -54,7 +54,7 @@ fn push_files(alloc: Global, text: &mut String, compilation: &Compilation) -> Me
     Ok(())
 }
 
-/// An entry and its outcome in a line, and why it can or can't be cached. It fails only for want of memory.
+/// An entry and its outcome in a line, and why it can or can't be cached.
 pub(crate) fn why_text(
     alloc: Global,
     about: &About<'_>,

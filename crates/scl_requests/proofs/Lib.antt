@@ -1,2 +1,7 @@
 pub mod NamingLaws
+pub mod JoiningLaws
+pub mod DepfileLaws
 pub mod RequestLaws
+pub mod SharedLaws
+pub mod VerdictLaws
+pub mod TextLaws

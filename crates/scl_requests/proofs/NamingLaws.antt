@@ -1,5 +1,5 @@
 -- The words of a request of a name.
-use Rattle.std.proofs.Common.{◌≡◌, ◌<◌, ℕ, List, [], ◌∷◌, ◌++◌, codes, length, get_or, Result, Ok, Err, Vec, refl, sym, ap, ◌∙◌}
+use Rattle.std.proofs.Common.{◌≡◌, ◌<◌, ℕ, List, [], ◌∷◌, ◌++◌, codes, length, get_or, Ok, Err, Vec, refl, sym, ap, ◌∙◌}
 use Rattle.std.proofs.lemmas.List.{get_or-map}
 use Rattle.std.specs.declared.alloc.Global.{Global}
 use Rattle.scl_values.specs.Words.{words_of}

@@ -1,28 +1,49 @@
 -- What is answered by the kind that the first line says.
-use Rattle.std.proofs.Common.{◌≡◌, ℕ, true, false, List, Result, Ok, Err, Vec, MatchResult, codes, subst, sym}
+use Rattle.std.proofs.Common.{◌≡◌, ℕ, List, Result, Ok, Err, Vec, MatchResult, drop, subst, sym, ap, refl}
 use Rattle.std.specs.declared.alloc.Global.{Global}
 use Rattle.scl_description.specs.Lines.{lines_of}
 use Rattle.scl_describe.specs.Descriptions.{DescribesBytes}
 use Rattle.scl_hazards.specs.Hazards.{Tables}
+use Rattle.scl_requests.specs.Depfiles.{IsSaid}
+use Rattle.scl_requests.specs.Joining.{joined}
 use Rattle.scl_requests.specs.Naming.{named}
-use Rattle.scl_requests.specs.Requests.{AnswersBy, AnswersBytes, first_is}
+use Rattle.scl_requests.specs.Requests.{AnswersBy, AnswersBytes, kind_of, shared_by}
+use Rattle.scl_requests.specs.declared.requests.Kind.{Kind}
+use Rattle.scl_requests.specs.declared.requests.Kind.TheVariants as kinds
+use Rattle.scl_shared_text.specs.BaseLines.{bases_in}
+use Rattle.scl_shared_text.specs.SharedTexts.{shared_text}
 
-by_name : (tables : Tables) (bytes : List ℕ) (said : Result (List ℕ) ℕ) → first_is (codes "name") (lines_of bytes) ≡ true → named (lines_of bytes) ≡ said → AnswersBytes tables bytes said
-by_name tables bytes said is h = subst (λ kind. AnswersBy kind tables bytes said) (sym is) h
+by_kind : (kind : Kind) (tables : Tables) (bytes : List ℕ) (said : Result (List ℕ) ℕ) → kind_of (lines_of bytes) ≡ kind → AnswersBy kind tables bytes said → AnswersBytes tables bytes said
+by_kind kind tables bytes said is h = subst (λ k. AnswersBy k tables bytes said) (sym is) h
 
-by_description : (tables : Tables) (bytes : List ℕ) (said : Result (List ℕ) ℕ) → first_is (codes "name") (lines_of bytes) ≡ false → DescribesBytes tables bytes said → AnswersBytes tables bytes said
-by_description tables bytes said is h = subst (λ kind. AnswersBy kind tables bytes said) (sym is) h
+shared : (tables : Tables) (bytes : List ℕ) (said described : Result (List ℕ) ℕ) → kind_of (lines_of bytes) ≡ kinds.Description → DescribesBytes tables bytes described
+    → said ≡ shared_by (bases_in (lines_of bytes)) described → AnswersBytes tables bytes said
+shared tables bytes said described is h e = by_kind kinds.Description tables bytes said is (record { described = described; describes = h; said_is = e })
 
 -- ---- what the code answers
 
-pub name_said : (tables : Tables) (bytes : List ℕ) (said : Result (Vec ℕ Global) ℕ) → first_is (codes "name") (lines_of bytes) ≡ true
+pub name_said : (tables : Tables) (bytes : List ℕ) (said : Result (Vec ℕ Global) ℕ) → kind_of (lines_of bytes) ≡ kinds.Name
     → MatchResult said (λ text. named (lines_of bytes) ≡ Ok text.items) (λ number. named (lines_of bytes) ≡ Err number)
     → MatchResult said (λ text. AnswersBytes tables bytes (Ok text.items)) (λ number. AnswersBytes tables bytes (Err number))
-name_said tables bytes (Ok text) is h = by_name tables bytes (Ok text.items) is h
-name_said tables bytes (Err number) is h = by_name tables bytes (Err number) is h
+name_said tables bytes (Ok text) is h = by_kind kinds.Name tables bytes (Ok text.items) is h
+name_said tables bytes (Err number) is h = by_kind kinds.Name tables bytes (Err number) is h
 
-pub description_said : (tables : Tables) (bytes : List ℕ) (said : Result (Vec ℕ Global) ℕ) → first_is (codes "name") (lines_of bytes) ≡ false
-    → MatchResult said (λ text. DescribesBytes tables bytes (Ok text.items)) (λ number. DescribesBytes tables bytes (Err number))
+pub text_said : (tables : Tables) (bytes text told : List ℕ) → kind_of (lines_of bytes) ≡ kinds.Description → DescribesBytes tables bytes (Ok text)
+    → told ≡ shared_text (bases_in (lines_of bytes)) text → AnswersBytes tables bytes (Ok told)
+text_said tables bytes text told is h e = shared tables bytes (Ok told) (Ok text) is h (ap Ok e)
+
+pub number_said : (tables : Tables) (bytes : List ℕ) (number : ℕ) → kind_of (lines_of bytes) ≡ kinds.Description → DescribesBytes tables bytes (Err number)
+    → AnswersBytes tables bytes (Err number)
+number_said tables bytes number is h = shared tables bytes (Err number) (Err number) is h refl
+
+pub join_said : (tables : Tables) (bytes : List ℕ) (lines : List (List ℕ)) (said : Result (Vec ℕ Global) ℕ) → kind_of (lines_of bytes) ≡ kinds.Join → lines ≡ drop 1 (lines_of bytes)
+    → MatchResult said (λ text. joined lines ≡ Ok text.items) (λ number. joined lines ≡ Err number)
     → MatchResult said (λ text. AnswersBytes tables bytes (Ok text.items)) (λ number. AnswersBytes tables bytes (Err number))
-description_said tables bytes (Ok text) is h = by_description tables bytes (Ok text.items) is h
-description_said tables bytes (Err number) is h = by_description tables bytes (Err number) is h
+join_said tables bytes lines (Ok text) is are h = by_kind kinds.Join tables bytes (Ok text.items) is (subst (λ ls. joined ls ≡ Ok text.items) are h)
+join_said tables bytes lines (Err number) is are h = by_kind kinds.Join tables bytes (Err number) is (subst (λ ls. joined ls ≡ Err number) are h)
+
+pub depfile_said : (tables : Tables) (bytes : List ℕ) (lines : List (List ℕ)) (said : Result (Vec ℕ Global) ℕ) → kind_of (lines_of bytes) ≡ kinds.Depfile → lines ≡ drop 1 (lines_of bytes)
+    → MatchResult said (λ text. IsSaid lines (Ok text.items)) (λ number. IsSaid lines (Err number))
+    → MatchResult said (λ text. AnswersBytes tables bytes (Ok text.items)) (λ number. AnswersBytes tables bytes (Err number))
+depfile_said tables bytes lines (Ok text) is are h = by_kind kinds.Depfile tables bytes (Ok text.items) is (subst (λ ls. IsSaid ls (Ok text.items)) are h)
+depfile_said tables bytes lines (Err number) is are h = by_kind kinds.Depfile tables bytes (Err number) is (subst (λ ls. IsSaid ls (Err number)) are h)

@@ -1,2 +1,6 @@
 pub mod Naming
+pub mod Joining
+pub mod Depfiles
 pub mod Requests
+pub mod SharedLaws
+pub mod TextLaws

@@ -23,7 +23,7 @@ compiler_entry compiler = maybe_entry (codes "compiler") (option_map name_of com
 abbrev pub name_entries : List (List ℕ) → List Entry
 name_entries words = index_entry (codes "program") (program_at words) ∷ compiler_entry (compiler_at words (program_at words)) ∷ version_entry ∷ []
 
--- lines with one of a compiler in the place of the first: which one is no matter, since only words are asked
+-- lines with one of a compiler in the place of the first: which one is no matter, since only words are looked at
 abbrev pub with_compiler : List (List ℕ) → List (List ℕ)
 with_compiler [] = codes "compiler gcc" ∷ []
 with_compiler (line ∷ lines) = codes "compiler gcc" ∷ lines

@@ -1,7 +1,10 @@
-//! Requests of each kind, told apart by their first line (docs/PROTOCOL.md, A request).
+//! Requests of each kind, distinguished by their first line (docs/PROTOCOL.md, A request).
 #![tactic(auto)]
 
+mod depfile;
+mod joining;
+pub mod laws;
 mod naming;
 mod requests;
 
-pub use requests::Requests;
+pub use requests::{Kind, Requests};

@@ -1,26 +1,68 @@
 //! Requests of each kind.
-ghost use Rattle.std.specs.Prelude.{◌≡◌, codes};
+ghost use Rattle.std.specs.Prelude.{◌≡◌, drop};
 ghost use Rattle.scl_description.specs.Lines.{lines_of};
-ghost use Rattle.scl_requests.specs.Requests.{first_is};
+ghost use Rattle.scl_requests.specs.Requests.{kind_in, kind_of};
 
+use crate::depfile::depfile_said;
+use crate::joining::joined;
 use crate::naming::named;
 use scl_cl::{Mem, Service};
 use scl_describe::{Descriptions, Tables};
 use scl_description::next_line;
+use scl_shared_text::{bases_in, shared_text};
 use std::alloc::Global;
 
-/// Whether a request asks what a program's name means.
-fn asks_name(bytes: &[u8]) -> bool
-    ensures { result ≡ first_is (codes "name") (lines_of bytes.now) }
+/// What a request asks.
+#[derive(Debug, Clone, Copy, PartialEq, Eq)]
+pub enum Kind {
+    /// What a program's name means.
+    Name,
+    /// The text of several runs of the preprocessor.
+    Join,
+    /// A dependency file.
+    Depfile,
+    /// A description.
+    Description,
+}
+
+/// What a request asks whose first line this is.
+fn kind_in(line: &[u8]) -> Kind
+    ensures { result ≡ kind_in line.now }
 {
-    match next_line(bytes) {
-        Some((line, _)) => line == b"name".as_slice(),
-        None => false,
+    if line == b"name".as_slice() {
+        Kind::Name
+    } else if line == b"join".as_slice() {
+        Kind::Join
+    } else if line == b"depfile".as_slice() {
+        Kind::Depfile
+    } else {
+        Kind::Description
     }
 }
 
-/// Answers a request whose first line is `name` by what the name of a program means, and each other one by a description, with
-/// what tables know of compilers (docs/PROTOCOL.md, A request).
+/// What a request asks.
+fn kind_of(bytes: &[u8]) -> Kind
+    ensures { result ≡ kind_of (lines_of bytes.now) }
+{
+    match next_line(bytes) {
+        Some((line, _)) => kind_in(line),
+        None => Kind::Description,
+    }
+}
+
+/// What comes after the first line.
+fn after_first(bytes: &[u8]) -> &[u8]
+    ensures { lines_of result.now ≡ drop 1 (lines_of bytes.now) }
+{
+    match next_line(bytes) {
+        Some((_, rest)) => rest,
+        None => bytes,
+    }
+}
+
+/// Answers a request by what its first line asks: what the name of a program means (`name`), the text of several runs of the
+/// preprocessor (`join`), a dependency file (`depfile`), and else a description, with what tables know of compilers, whose key
+/// is told by the base directories of lines `setting base` (docs/PROTOCOL.md, A request).
 #[derive(Debug, Clone, Copy)]
 pub struct Requests<'a> {
     /// What is known of compilers.
@@ -33,14 +75,22 @@ impl<'a> Service for Requests<'a> {
 
     ghost answers = { λ service bytes said. AnswersBytes (tables_of service.tables) bytes said };
 
-    #[tactic(auto, using(crate::proofs::RequestLaws::name_said, crate::proofs::RequestLaws::description_said))]
+    #[tactic(auto, using(crate::proofs::RequestLaws::name_said, crate::proofs::RequestLaws::join_said, crate::proofs::RequestLaws::depfile_said, crate::proofs::RequestLaws::text_said, crate::proofs::RequestLaws::number_said))]
     fn answer(&self, alloc: Global, bytes: Vec<u8>) -> Mem<Result<Vec<u8>, u64>> {
-        if asks_name(&bytes) {
-            return Ok(named(alloc, &bytes)?);
+        match kind_of(&bytes) {
+            Kind::Name => Ok(named(alloc, &bytes)?),
+            Kind::Join => Ok(joined(alloc, after_first(&bytes))?),
+            Kind::Depfile => Ok(depfile_said(alloc, after_first(&bytes))?),
+            Kind::Description => {
+                let bases = bases_in(alloc, &bytes)?;
+                let descriptions = Descriptions {
+                    tables: self.tables,
+                };
+                match descriptions.answer(alloc, bytes)? {
+                    Ok(text) => Ok(Ok(shared_text(alloc, &bases, text)?)),
+                    Err(number) => Ok(Err(number)),
+                }
+            }
         }
-        let descriptions = Descriptions {
-            tables: self.tables,
-        };
-        Ok(descriptions.answer(alloc, bytes)?)
     }
 }

@@ -8,7 +8,7 @@ use Rattle.scl_shell.specs.declared.split.Mode.TheVariants as mode
 abbrev pub begins_operator : ℕ → Bool
 begins_operator c = c == 38 || c == 124 || c == 59 || c == 60 || c == 62 || c == 40 || c == 41
 
--- a byte begins an operator where it stands neither in quotes nor behind a backslash
+-- a byte begins an operator where it stands neither in quotes nor after a backslash
 abbrev pub is_operator : Mode → ℕ → Bool
 is_operator mode.Plain c = begins_operator c
 is_operator mode.Escaped c = false

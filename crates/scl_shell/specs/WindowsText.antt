@@ -29,7 +29,7 @@ abbrev pub slashes : ℕ → List Item → List Item
 slashes zero is = is
 slashes (suc n) is = taken (backslashes (suc n)) ∷ is
 
--- behind n backslashes: before a quote each two of them are one, and an odd one makes the quote itself; all others are themselves
+-- after n backslashes: before a quote each two of them are one, and an odd one makes the quote itself; all others are themselves
 abbrev pub items : ℕ → List ℕ → List Item
 items n [] = slashes n []
 items n (c ∷ cs) =
@@ -38,7 +38,7 @@ items n (c ∷ cs) =
 
 -- ---- quotes
 
--- a gap between words, bytes of a word, or a quote right behind one that closes, which programs read in several ways
+-- a gap between words, bytes of a word, or a quote right after one that closes, which programs read in several ways
 pub data Part : Type 0 where
   gap : Part
   stands : List ℕ → Part
@@ -70,7 +70,7 @@ joined begun (gap ∷ ps) = onto (kept begun) (joined None ps)
 joined begun (stands bytes ∷ ps) = joined (with begun bytes) ps
 joined begun (unclear ∷ ps) = None
 
--- the words behind the program, if all programs read the same ones
+-- the words after the program, if all programs read the same ones
 abbrev pub words_behind : List ℕ → Option (List (List ℕ))
 words_behind text = joined None (parts places.Outside (items 0 text))
 
@@ -81,7 +81,7 @@ abbrev pub is_ended : List ℕ → Bool
 is_ended [] = true
 is_ended (c ∷ cs) = is_gap c
 
--- a program in quotes and what follows it, by the place of the closing quote, behind which a gap or the end has to be
+-- a program in quotes and what follows it, by the place of the closing quote, after which a gap or the end has to be
 abbrev pub quoted_at : List ℕ → Option ℕ → Option (List ℕ × List ℕ)
 quoted_at text None = None
 quoted_at text (Some at) = if is_ended (drop (at + 1) text) then Some (take at text, drop (at + 1) text) else None
@@ -113,6 +113,6 @@ abbrev pub said_of : Option (List ℕ × List ℕ) → Said
 said_of None = Err errors.Program
 said_of (Some p) = said_behind p.0 (words_behind p.1)
 
--- the program and the words behind it, or why there are none that all programs read
+-- the program and the words after it, or why there are none that all programs read
 abbrev pub windows_words : List ℕ → Said
 windows_words text = said_of (program_in text)

@@ -21,7 +21,7 @@ fn is_operator(mode: Mode, byte: u8) -> bool
 }
 
 /// The index of the first byte of a shell's text that begins an operator: `&`, `|`, `;`, `<`, `>`, `(` or `)`, outside quotes and
-/// not behind a backslash. A text with an operator is no single command line.
+/// not after a backslash. A text with an operator is no single command line.
 pub fn operator_at(text: &[u8]) -> Option<usize>
     ensures { result ≡ operator_at text.now }
 {

@@ -193,7 +193,7 @@ impl Words {
 pub(crate) enum Place {
     Outside,
     Inside,
-    /// Right behind a quote that closed.
+    /// Right after a quote that closed.
     Closing,
 }
 
@@ -272,7 +272,7 @@ impl Reader {
         }
     }
 
-    /// Reads a quote behind backslashes.
+    /// Reads a quote after backslashes.
     fn quote_behind(&mut self, count: usize) -> Mem<()>
         requires { self.old.backslashes ≡ 0 }
         ensures come { OnOk result ((rest : List ℕ) → left_in self.new rest ≡ left_in (record self.old { backslashes = count }) (34 ∷ rest)) }
@@ -314,7 +314,7 @@ impl Reader {
     }
 }
 
-/// The words behind a program; none where programs read them in several ways.
+/// The words after a program; none where programs read them in several ways.
 fn words_behind(alloc: Global, text: &[u8]) -> Mem<Option<Vec<Vec<u8>>>>
     ensures { IfOk result (λ said. option_map (λ words. words_of words.items) said ≡ words_behind text.now) }
 {
@@ -334,9 +334,9 @@ fn words_behind(alloc: Global, text: &[u8]) -> Mem<Option<Vec<Vec<u8>>>>
 ///
 /// - The program's name ends at a blank, or stands in quotes; a backslash in it is itself.
 /// - Space and tab separate words, outside quotes. The end closes quotes.
-/// - Of backslashes before a quote half stand; behind an odd one the quote is itself. All other backslashes are themselves.
+/// - Of backslashes before a quote half stand; after an odd one the quote is itself. All other backslashes are themselves.
 ///
-/// Where those two read otherwise than one another the error says so: `SecondQuote`, `Program`.
+/// Where those two read differently the error says so: `SecondQuote`, `Program`.
 pub fn windows_words(alloc: Global, text: &[u8]) -> Mem<Result<Vec<Vec<u8>>, WindowsError>>
     ensures words { IfOk result (λ said. IfOk said (λ words. windows_words text.now ≡ Ok (words_of words.items))) }
     ensures unclear { IfOk result (λ said. IfErr said (λ error. windows_words text.now ≡ Err error)) }

@@ -1,4 +1,4 @@
--- The bound on the looks of a search, and statements about their count.
+-- The limit on the looks of a search, and statements about their count.
 use Rattle.scl_values.specs.Row.{Row}
 use Rattle.std.specs.Prelude.{List, [], ◌∷◌, length, ℕ, zero, suc, ◌+◌, ◌-◌, ◌*◌, ◌/◌, ◌^◌, ◌<◌, ◌≤◌, cond, ◌==◌}
 
@@ -20,7 +20,7 @@ pub record CountsUpTo (old new n : ℕ) : Type 0 where
 abbrev pub Rises : ℕ → ℕ → Type 0
 Rises old new = old < 2 ^ 64 - 1 → old < new
 
--- the bound on the looks of a search: for each table (bytes of the word + 1) times (binary digits of the number of rows + 1)
+-- the limit on the looks of a search: for each table (bytes of the word + 1) times (binary digits of the number of rows + 1)
 abbrev pub looks_in : {K : Type 0} → List (List (Row K)) → List ℕ → ℕ
 looks_in [] word = 0
 looks_in (rows ∷ tables) word = (length word + 1) * (bits (length rows) + 1) + looks_in tables word

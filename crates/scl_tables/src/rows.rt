@@ -281,7 +281,7 @@ pub trait SearchableArgInfo<T: ArgumentValue> {
     }
 }
 
-/// The number of looks of a search for the key: at least one if it finds a row, and never more than the bound (docs/RULES.md,
+/// The number of looks of a search for the key: at least one if it finds a row, and never more than the limit (docs/RULES.md,
 /// Looks).
 pub fn looks<T: ArgumentValue, S: SearchableArgInfo<T>>(table: &S, key: &[u8]) -> u64
     ensures bound { result ≤ looks_in (S.tables table.now) key.now }

@@ -68,7 +68,7 @@ pub fn copy_path(alloc: Global, path: Option<&[u8]>) -> Mem<Option<Vec<u8>>>
     }
 }
 
-/// The path with this extension, if it is wanted; otherwise None, and it does not fail.
+/// The path with this extension, if it is wanted; else None, and it does not fail.
 pub fn with_extension_if(
     alloc: Global,
     is_wanted: bool,

@@ -27,7 +27,7 @@ use std::alloc::Global;
 pub struct Msvc {
     /// The prefix of the lines in which it prints the names of included files.
     pub includes_prefix: String,
-    /// Whether it is clang-cl; otherwise it is cl.
+    /// Whether it is clang-cl; else it is cl.
     pub is_clang: bool,
     /// Its version, if it is known.
     pub version: Option<String>,

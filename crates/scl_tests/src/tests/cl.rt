@@ -15,7 +15,7 @@ fn run_over(alloc: Global, request: &[u8]) -> (Outcome, Vec<u8>) {
     (outcome, written)
 }
 
-/// What a request asks; each of its lines is a request's.
+/// The request of a text whose lines are all a request's.
 pub(crate) fn asked_by(alloc: Global, request: &[u8]) -> Result<Request, Fail> {
     Ok(read_request(alloc, request)?.ok().ok_or("a bad line")?)
 }

@@ -13,7 +13,7 @@ fn record_of(alloc: Global, words: &str) -> Result<ParsedArguments, Fail> {
     records::record_of(alloc, &msvc(alloc, true)?, words.as_bytes())
 }
 
-/// Words of clang-cl and its error output, and behind ` => ` the text that it gives and which of its lines are kept, each with
+/// Words of clang-cl and its error output, and after ` => ` the text that it gives and which of its lines are kept, each with
 /// `|` for the end of a line.
 static TEXTS: &str = "
 -c x.c -depsx.d: Note:  a.h|warn|Note: b c.h|Note: a.h| => x.obj: x.c a.h |x.c:|a.h:| => warn|
@@ -79,7 +79,7 @@ fn errors_of_dependency_files_have_their_texts(rt: HostRuntime) -> Result<(), Fa
 /// The text of one dependency.
 static TEXT: &[u8] = b"x.obj: x.c a.h \nx.c:\na.h:\n";
 
-/// What a writer of so many calls, that takes so many bytes a call, is said to have taken.
+/// What a writer is said to have taken, by the number of its calls and of bytes that it takes a call.
 fn expect_fault(
     rt: &(impl Abort + Alloc<A = Global>),
     most: usize,

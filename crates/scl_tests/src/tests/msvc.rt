@@ -107,7 +107,7 @@ fn commands_lose_two_variables(rt: HostRuntime) -> Result<(), Fail> {
     Ok(expect_the_other(&rt, &command.env_vars)?)
 }
 
-/// The two flags are one behind a dash and a slash, or both are `@`.
+/// The two flags are one after a dash and a slash, or both are `@`.
 fn expect_same(rt: &impl Abort, dash: &str, slash: &str) {
     match dash.strip_prefix("-") {
         Some(name) => assert!(rt; slash.strip_prefix("/") == Some(name), "{slash}"),

@@ -57,7 +57,7 @@ fn runs_take_the_text_of_the_closure_and_the_words_to_ignore(rt: HostRuntime) ->
     expect_runs_with(&rt, CCompilerKind::Msvc, "-x zz -E -P -Q a.c")
 }
 
-/// Words, and behind ` =>` each word that is left of them.
+/// Words, and after ` =>` each word that is left of them.
 static KEPT: &str = r#"
 -Xpreprocessor -MF -Xpreprocessor x -DA => -DA
 -Xpreprocessor -MD -Xpreprocessor -DB => -Xpreprocessor -DB

@@ -26,7 +26,7 @@ impl Write for Refuses {
     }
 }
 
-/// A writer that takes so many bytes in all, and then none.
+/// A writer that takes this number of bytes in all, and then none.
 #[derive(Drop)]
 struct Takes(usize);
 
@@ -42,7 +42,7 @@ impl Write for Takes {
     }
 }
 
-/// A device that tells how many bytes it was asked for, and takes no others than its own.
+/// A device that reports how many bytes were requested, and takes no others than its own.
 #[derive(Drop)]
 struct Whole(&'static [u8]);
 

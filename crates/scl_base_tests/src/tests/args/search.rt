@@ -83,7 +83,7 @@ fn a_search_of_the_written_rows_looks_at_few(rt: HostRuntime) -> Result<(), Fail
 
 static NO_ROWS: [ArgRow<Kind>; 0] = [];
 
-/// Whether a search for the key finds no row, in so many looks at the most.
+/// Whether a search for the key finds no row, in at most this number of looks.
 fn finds_none<S: SearchableArgInfo<Value>>(tables: &S, key: &str, most: u64) -> bool {
     tables.search(key.as_bytes()).is_none() && looks(tables, key.as_bytes()) <= most
 }

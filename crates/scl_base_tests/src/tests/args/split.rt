@@ -3,7 +3,7 @@ use scl_args::{ArgParseError, split_os_string_arg};
 use std::process::Abort;
 use std::test::Fail;
 
-/// Compares the texts before and behind the first place of a text; a word that is wanted to have none is refused.
+/// Compares the texts before and after the first place of a text; a word that is wanted to have none is refused.
 fn expect_split(
     rt: &(impl Abort + AllocGlobal),
     word: &[u8],

@@ -112,7 +112,7 @@ fn add_naming(alloc: Global, view: &mut View, number: u32, is_twice: bool) -> Me
     view.add_file(numbered(alloc, number)?, text.into_bytes())
 }
 
-/// The words of the first of so many files, each of which names the next one; behind them is one with the words.
+/// The words of the first of this number of files. Each names the next one, and the last names one with the words.
 fn words_behind(alloc: Global, files: u32, is_twice: bool, words: &str) -> Mem<Vec<Vec<u8>>> {
     let mut view = View::new(alloc);
     for number in 0..files {

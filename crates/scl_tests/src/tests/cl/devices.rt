@@ -9,7 +9,7 @@ static REQUEST: &[u8] = b"compiler diab\nword -c\nword a.c\n";
 
 static ANSWER: &[u8] = b"ok\narg -c\narg a.c\narg -o\narg a.o\ncacheable yes\n";
 
-/// The outcome over a reader that gives three bytes a call and fails after so many calls, and what was written.
+/// The outcome over a reader that gives three bytes a call and fails after this number of calls, and what was written.
 fn run_reading(alloc: Global, request: &[u8], calls: u64) -> (Outcome, u64, Vec<u8>) {
     let mut written = Vec::new(alloc);
     let mut reader = Counted::new(FailingReader::new(request, 3, calls));
@@ -47,7 +47,7 @@ fn bytes_in_small_pieces_are_one_request(rt: HostRuntime) {
     assert!(rt; failures == 0);
 }
 
-/// A run over a writer that takes so many bytes a call into so much room, and fails after so many calls.
+/// A run over a writer with limits: the bytes that it takes a call, its room, and the calls after which it fails.
 fn expect_beginning(
     rt: &(impl Abort + Alloc<A = Global>),
     room: &mut [u8],

@@ -22,7 +22,7 @@ static CUDA: [ArgInfo<ArgData>; 2] = [
     TakeArg("-arch", Kind::PassThrough, Separated),
 ];
 
-/// The tables of Gcc and Clang, and a third where it is asked for.
+/// The tables of Gcc and Clang, and a third where it is requested.
 fn tables_with(alloc: Global, third: bool) -> Mem<Tables<FlagTable<'static, ArgData>>>
     ensures { IfOk result (λ tables. IsTrue (tables_hold_values holds_value (flat_map (λ table. table ∷ []) tables))) }
 {

@@ -1,0 +1,7 @@
+use Rattle.std.proofs.Common.{◌≡◌, map, take}
+use Rattle.scl_values.specs.Words.{words_of}
+use Rattle.scl_base_dirs.specs.Bases.{quoted}
+use Rattle.scl_base_dirs.proofs.spelling.quoted_dirs.Given as goal
+
+abbrev pub invariant-loop-dir : goal.invariant-loop-dir
+invariant-loop-dir l = words_of l.texts.items ≡ map (quoted l.quoting) (words_of (take l.dir-index l.dirs))

@@ -1,0 +1,121 @@
+-- Keys of two checkouts that differ in their base directories alone.
+use Rattle.std.specs.Prelude.{◌≡◌, ◌≢◌, ℕ, Bool, true, false, ◌&&◌, ◌||◌, List, [], ◌∷◌, ◌++◌, codes, filter, length, map, Option, None, Some, slice_index_or}
+use Rattle.std.specs.List.{join_with_byte}
+use Rattle.std.specs.Str.{bytes_eq}
+use Rattle.scl_values.specs.Each.{Each}
+use Rattle.scl_base_dirs.specs.declared.spelling.Spelling.TheVariants as spelled
+use Rattle.scl_base_dirs.specs.Bases.{Place, base_of, ends_component, fits, placed}
+use Rattle.scl_base_dirs.specs.Cuts.{has_none}
+use Rattle.scl_shared_key.specs.declared.verdict.InObject.TheVariants.{Yes}
+use Rattle.scl_shared_key.specs.Fields.{told_rows, value_at}
+use Rattle.scl_shared_key.specs.Maps.{debug_info_is_free, macros_are_free, maps_among}
+use Rattle.scl_shared_key.specs.Namings.{naming_of}
+use Rattle.scl_shared_key.specs.Rows.{row_naming, words_told}
+use Rattle.scl_shared_key.specs.Shareds.{shared_rows, shown_by}
+use Rattle.scl_shared_key.specs.Usuals.{are_usual}
+use Rattle.scl_shared_key.specs.Verdicts.{verdict}
+
+-- a path of any checkout: what follows the base with a number, or a path that is below no base
+pub data Path : Type 0 where
+  below : ℕ → List ℕ → Path
+  beside : List ℕ → Path
+
+-- a field of any checkout: what stands before its paths, the first path, and those behind each `=`
+pub record Field : Type 0 where
+  pub front : List ℕ
+  pub first : Path
+  pub more : List Path
+
+abbrev pub paths_of : Field → List Path
+paths_of field = field.first ∷ field.more
+
+-- the base directory with a number
+abbrev pub numbered_dir : List (List ℕ) → ℕ → List ℕ
+numbered_dir dirs number = slice_index_or dirs number []
+
+-- a path as it is in the checkout with these base directories
+abbrev pub path_at : List (List ℕ) → Path → List ℕ
+path_at dirs (below number rest) = numbered_dir dirs number ++ rest
+path_at dirs (beside path) = path
+
+abbrev pub field_at : List (List ℕ) → Field → List ℕ
+field_at dirs field = field.front ++ join_with_byte 61 (map (path_at dirs) (paths_of field))
+
+abbrev pub rows_at : List (List ℕ) → List (List Field) → List (List (List ℕ))
+rows_at dirs rows = map (map (field_at dirs)) rows
+
+-- the base that a path of any checkout has there
+abbrev pub place_at : List (List ℕ) → Path → Option Place
+place_at dirs (below number rest) = Some (placed number (numbered_dir dirs number))
+place_at dirs (beside path) = None
+
+-- in this checkout the path has that base and no other, and no `=`
+pub record IsPathAt (dirs : List (List ℕ)) (path : Path) : Type 0 where
+  pub by_base : base_of spelled.Word dirs (path_at dirs path) ≡ place_at dirs path
+  pub is_one : has_none 61 (path_at dirs path) ≡ true
+
+-- in this checkout the paths of the field begin where its front ends
+pub record IsFieldAt (dirs : List (List ℕ)) (field : Field) : Type 0 where
+  pub begin : value_at (field_at dirs field) ≡ length field.front
+  pub paths : Each (IsPathAt dirs) (paths_of field)
+
+abbrev pub AreRowsAt : List (List ℕ) → List (List Field) → Type 0
+AreRowsAt dirs rows = Each (Each (IsFieldAt dirs)) rows
+
+-- rows that differ in the bases alone are told alike
+abbrev pub RowsAreToldAlike : Type 0
+RowsAreToldAlike =
+    (dirs others : List (List ℕ)) (rows : List (List Field)) → AreRowsAt dirs rows → AreRowsAt others rows → told_rows dirs (rows_at dirs rows) ≡ told_rows others (rows_at others rows)
+
+-- Rows of two checkouts say the same of the object: whether it names a directory, which it does not, and what in a text names a source.
+pub record SayTheSame (dirs others : List (List ℕ)) (rows rows' : List (List (List ℕ))) : Type 0 where
+  pub verdicts : verdict dirs rows ≡ verdict others rows'
+  pub names_none : verdict dirs rows ≢ Yes
+  pub shown : shown_by dirs rows ≡ shown_by others rows'
+
+-- keys that differ in the bases alone are one key
+abbrev pub OnlyTheBasesDiffer : Type 0
+OnlyTheBasesDiffer =
+    (dirs others : List (List ℕ)) (rows : List (List Field))
+    → AreRowsAt dirs rows → AreRowsAt others rows → SayTheSame dirs others (rows_at dirs rows) (rows_at others rows)
+    → shared_rows dirs (rows_at dirs rows) ≡ shared_rows others (rows_at others rows)
+
+-- ---- when a path is one of a checkout, and when rows say the same
+
+-- with one base: behind it a component ends, and a path that is below none does not fit it
+abbrev pub IsPathOf : List ℕ → Path → Type 0
+IsPathOf dir (below number rest) = (number ≡ 0) × (ends_component spelled.Word rest ≡ true)
+IsPathOf dir (beside path) = fits spelled.Word dir path ≡ false
+
+-- of one base no more need be known
+abbrev pub OneBaseSuffices : Type 0
+OneBaseSuffices =
+    (dir : List ℕ) (path : Path) → dir ≢ [] → IsPathOf dir path → base_of spelled.Word (dir ∷ []) (path_at (dir ∷ []) path) ≡ place_at (dir ∷ []) path
+
+-- Where the value of a word begins, and what it makes the object name, what stands before its first `/` tells.
+abbrev pub FrontsTell : Type 0
+FrontsTell =
+    (front one other : List ℕ)
+    → (value_at (front ++ 0x2f ∷ one) ≡ value_at (front ++ 0x2f ∷ other)) × (naming_of (front ++ 0x2f ∷ one) ≡ naming_of (front ++ 0x2f ∷ other))
+
+-- a fact with this name says what is compiled, and by what
+abbrev pub is_heard : List ℕ → Bool
+is_heard name = bytes_eq name (codes "compiler") || (bytes_eq name (codes "language") || (bytes_eq name (codes "shown") || bytes_eq name (codes "compilation-flag")))
+
+abbrev pub is_heard_row : List (List ℕ) → Bool
+is_heard_row [] = false
+is_heard_row (kind ∷ []) = false
+is_heard_row (kind ∷ name ∷ []) = false
+is_heard_row (kind ∷ name ∷ value ∷ rest) = bytes_eq kind (codes "is") && is_heard name
+
+-- what makes verdicts equal: what is compiled, what each row makes the object name, and what the prefix maps leave
+pub record AreHeardAlike (dirs others : List (List ℕ)) (rows rows' : List (List (List ℕ))) : Type 0 where
+  pub usual : are_usual dirs ≡ are_usual others
+  pub facts : filter is_heard_row rows ≡ filter is_heard_row rows'
+  pub namings : map row_naming rows ≡ map row_naming rows'
+  pub debug_info : debug_info_is_free dirs (maps_among (words_told rows)) ≡ debug_info_is_free others (maps_among (words_told rows'))
+  pub macros : macros_are_free dirs (maps_among (words_told rows)) ≡ macros_are_free others (maps_among (words_told rows'))
+
+abbrev pub RowsHeardAlikeSayTheSame : Type 0
+RowsHeardAlikeSayTheSame =
+    (dirs others : List (List ℕ)) (rows rows' : List (List (List ℕ))) → AreHeardAlike dirs others rows rows' → verdict dirs rows ≢ Yes → SayTheSame dirs others rows rows'

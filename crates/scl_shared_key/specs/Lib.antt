@@ -1,0 +1,9 @@
+pub mod Fields
+pub mod Laws
+pub mod MapViews
+pub mod Maps
+pub mod Namings
+pub mod Rows
+pub mod Shareds
+pub mod Usuals
+pub mod Verdicts

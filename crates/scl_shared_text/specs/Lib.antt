@@ -1,0 +1,2 @@
+pub mod BaseLines
+pub mod SharedTexts
