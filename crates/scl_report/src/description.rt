@@ -1,8 +1,10 @@
 //! The description of a command line on a disk, as text: that of its request, with what was found on the disk.
+use scl_base_dirs::base_dirs;
 use scl_cl::{Mem, Service};
 use scl_describe::{About, Descriptions, Tables};
 use scl_description::{push_field, push_row, push_word, push_words, push_yes};
 use scl_explain::{Answered, Case};
+use scl_shared_text::shared_text;
 use std::alloc::Global;
 
 /// Appends a line of two fields with a tab between them.
@@ -64,7 +66,7 @@ fn request_text(
     Ok(text)
 }
 
-/// The description of an answered command line.
+/// The description of an answered command line, whose key is told by base directories.
 pub(crate) fn description(
     alloc: Global,
     about: &About<'_>,
@@ -78,7 +80,7 @@ pub(crate) fn description(
         },
     };
     match service.answer(alloc, request_text(alloc, about, case, answered)?)? {
-        Ok(text) => Ok(text),
+        Ok(text) => shared_text(alloc, &base_dirs(alloc, &case.base_dirs)?, text),
         Err(number) => {
             let mut text = Vec::new(alloc);
             let why = format!(in alloc; "line {number} of the request is wrong")?;
