@@ -12,7 +12,7 @@ use Rattle.scl_catalogue_default.specs.Part8.{part_8}
 use Rattle.scl_catalogue_default.specs.Part9.{part_9}
 use Rattle.scl_catalogue_default.specs.Part10.{part_10}
 
--- its entries, in the order in which they are reported
+-- its entries, in the order in which they are told
 unfoldable pub built_in : List Entry
 built_in = part_1 ++ part_2 ++ part_3 ++ part_4 ++ part_5 ++ part_6 ++ part_7 ++ part_8 ++ part_9 ++ part_10
 

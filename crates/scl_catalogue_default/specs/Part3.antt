@@ -141,7 +141,7 @@ dependency_file_handed_on_entry = entry (Hazard danger.SideFile) (codes "depende
     [])
 
 unfoldable pub dependency_names_of_input_entry : Entry
-dependency_names_of_input_entry = entry (Hazard danger.SideFile) (codes "dependency-names-of-input")
+dependency_names_of_input_entry = entry (Hazard danger.Run) (codes "dependency-names-of-input")
     (codes "The run of the preprocessor names the target after the input, so that a kept object has another dependency file.") (
     case (meant compiler.Clang None None ∷ []) (asked (Is fact.Preprocessed) ∷ asked (Is fact.RenamedObject) ∷ asked (Given (Any handed_rules_group)) ∷ denied (Given (Any handed_target_group)) ∷ []) ∷
     [])

@@ -248,7 +248,7 @@ fn dependency_file_handed_on_entry() -> Entry<'static>
 }
 
 static ENTRY_DEPENDENCY_NAMES_OF_INPUT: Entry<'static> = entry! {
-    Hazard SideFile b"dependency-names-of-input"
+    Hazard Run b"dependency-names-of-input"
     b"The run of the preprocessor names the target after the input, so that a kept object has another dependency file."
     [(Clang) : {Is Preprocessed} {Is RenamedObject} {Given Any (part_2 HANDED_RULES)} {not Given Any (part_2 HANDED_TARGET)}]
 };
