@@ -1,7 +1,8 @@
-"""What bench/pages looks for in pages by hand: sentences that are too long, headings that nobody finds, names that are not there."""
+"""What bench/pages looks for: in pages by hand long sentences, headings and names that are not there; in every file what a merge left open."""
 import glob
 import os
 import re
+import subprocess
 
 MOST = 30
 ITEM = re.compile(r"\s*(?:[-*]|\d+\.) ")
@@ -72,3 +73,11 @@ def unknown_names(file):
     with open(file, encoding="utf-8") as it:
         named = set(NAME.findall(it.read()))
     return [f"{file} names {it}, and nothing here has that name" for it in sorted(named - words) if not os.path.exists(it)]
+
+
+def unmerged():
+    """The conflict markers in text files, except in those that git ignores."""
+    words = ["git", "grep", "--no-index", "--exclude-standard", "-nIE", r"^(<{7}|>{7})( |$)"]
+    found = subprocess.run(words, stdout=subprocess.PIPE, check=False, text=True, errors="replace").stdout
+    for path, number, marker in (line.split(":", 2) for line in found.splitlines()):
+        yield f"{path} has a conflict marker in line {number}: {marker}"

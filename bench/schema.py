@@ -3,6 +3,7 @@ import json
 import re
 
 TABLE = "crates/scl_json/src/members.rt"
+NAMES = "crates/scl_hazards/src/names.rt"
 LINE = re.compile(r'^    "([^"]+)" "([^"]+)" (\w+) \[([^\]]*)\],$', re.M)
 TEXT = {"$ref": "#/$defs/text"}
 TEXTS = {"type": "array", "items": TEXT}
@@ -23,12 +24,18 @@ def members(text):
     return [(row, name, form, re.findall(r'"([^"]+)"', fields)) for row, name, form, fields in LINE.findall(text)]
 
 
+def dangers():
+    """The names of the dangers of hazards."""
+    with open(NAMES, encoding="utf-8") as it:
+        return re.findall(r'Danger::\w+ => "([a-z-]+)"', it.read())
+
+
 def form_of(form, fields, rows):
     """The schema of a member of this form."""
     if form == "Named":
         return {"enum": rows}
     if form == "Objects":
-        named = {**{name: TEXT for name in fields}, "words": TEXTS}
+        named = {**{name: {"enum": dangers()} if name == "danger" else TEXT for name in fields}, "words": TEXTS}
         return {"type": "array", "items": {"type": "object", "properties": named, "additionalProperties": False}}
     return FORMS[form]
 

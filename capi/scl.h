@@ -114,6 +114,9 @@ typedef struct scl_request {
     scl_bytes catalogue;        /* the text of the catalogue of hazards; empty: the built-in one */
     scl_words settings;         /* more lines `setting`: what follows that word, as `bound 10`; with `wants run` and its like
                                    what a row that is not wanted would have said is empty, and without `keep` nothing stops keeping */
+    scl_words bases;            /* directories that differ from checkout to checkout, absolute and without a NUL: paths of the key are
+                                   written by them (docs/PROTOCOL.md, A key in every checkout) */
+    bool keep_shown;            /* each word `-D..` counts in the key: there is no row `key shown` */
 } scl_request;
 
 enum scl_outcome { SCL_COMPILED = 0, SCL_CANNOT_CACHE = 1, SCL_NOT_COMPILATION = 2 };
@@ -171,7 +174,12 @@ enum scl_key_kind {
     SCL_KEY_SOURCES,
     SCL_KEY_SOURCES_IF_SHOWN,
     SCL_KEY_TIMES,
-    SCL_KEY_REFUSE_IF_SHOWN
+    SCL_KEY_REFUSE_IF_SHOWN,
+    SCL_KEY_BASES,
+    SCL_KEY_BASES_IF_BESIDE,
+    SCL_KEY_BASES_IF_SHOWN,
+    SCL_KEY_BASES_IF_PLANNED,
+    SCL_KEY_SHOWN
 };
 
 /* A row of a key: scl_key_at gives it. */
@@ -180,6 +188,7 @@ typedef struct scl_key_row {
     scl_words fields; /* after the row's name */
     bool is_asked;    /* its answer goes into the key */
     bool is_named;    /* of the row itself only the name goes into the key, and not the fields */
+    bool may_be_left_out; /* the row goes into the key only if its macro counts (docs/PROTOCOL.md, A key) */
 } scl_key_row;
 
 /* What was read (docs/RULES.md, Records). */
@@ -225,6 +234,7 @@ typedef struct scl_answer {
     scl_words reads_like, writes_like; /* the beginnings of names of such files, where more is not known */
     scl_words asks;                    /* what options ask of the machine: processor, directory */
     scl_words loads_like;              /* as reads_like, of files that are loaded */
+    scl_bytes directory_in_object;     /* with a key and bases: whether the object names one, `yes`, `no` or `mapped` */
 } scl_answer;
 
 /* The memory for an answer: its texts, its words, its pairs, its outputs, and its runs, options and rows of a key. */
@@ -314,7 +324,7 @@ static inline scl_request scl_request_of(const char *compiler, const scl_bytes *
     it.directory = it.version = it.catalogue = scl_no_bytes[0];
     it.words = scl_words_of(words, len);
     it.environment = it.files = scl_pairs_of(scl_no_pairs, 0);
-    it.directories = it.existing = it.settings = scl_words_of(scl_no_bytes, 0);
+    it.directories = it.existing = it.settings = it.bases = scl_words_of(scl_no_bytes, 0);
     return it;
 }
 
@@ -447,7 +457,8 @@ static inline scl_key_row scl_key_at(const scl_answer *answer, size_t place) {
     scl_key_row it;
     it.kind = scl_key_kind_of(named ? row.at[0] : scl_no_bytes[0]); /* (the empty name is not known) */
     it.fields = scl_words_of(row.at + named, row.len - named);
-    it.is_asked = it.kind != SCL_KEY_IS && it.kind != SCL_KEY_OUTPUT;
+    it.may_be_left_out = it.kind == SCL_KEY_SHOWN;
+    it.is_asked = it.kind != SCL_KEY_IS && it.kind != SCL_KEY_OUTPUT && it.kind != SCL_KEY_BASES && !it.may_be_left_out;
     it.is_named = it.kind == SCL_KEY_PLAN || it.kind == SCL_KEY_RUN || it.kind == SCL_KEY_RUN_ELSE || it.kind == SCL_KEY_PCH;
     return it;
 }
@@ -528,6 +539,27 @@ static inline int32_t scl_join(const scl_ran *runs, size_t len, int32_t *status,
     }
     *status = SCL_TO(int32_t, number);
     return SCL_OK;
+}
+
+/* What a run of the preprocessor wrote, with the names in its line markers written by their bases (docs/PROTOCOL.md, A request).
+ * `quoting` is how the compiler quotes names: "gcc" or "clang". Only where the answer is SCL_OK is there anything to free; there are no
+ * messages. SCL_BAD: a base is not absolute or has a NUL, or `quoting` is another. SCL_NEWER: the library does not answer such requests,
+ * or this header does not know the answer. */
+static inline int32_t scl_map(const scl_bytes *bases, size_t len, const char *quoting, scl_bytes text, scl_texts *mapped) {
+    scl_writer to = {SCL_NULL, 0, 0, false};
+    size_t size = 0;
+    int32_t told = SCL_NO_MEMORY;
+    scl_put(&to, "map\n");
+    scl_put_words(&to, "base ", scl_words_of(bases, len));
+    scl_put_line(&to, "quoting ", scl_text(quoting));
+    scl_put_line(&to, "text ", text);
+    if (!to.has_failed) told = scl_text_new(scl_describe, to.at, to.len, &mapped->block, &size);
+    free(to.at);
+    if (told != SCL_OK) return told == SCL_BAD && (size < 2 || size > len + 2) ? SCL_NEWER : told;
+    mapped->messages = scl_no_bytes[0];
+    if (scl_field_of(scl_bytes_of(mapped->block, size), "text", &mapped->text) && scl_read_in_place(mapped->block, &mapped->text)) return SCL_OK;
+    free(mapped->block);
+    return SCL_NEWER;
 }
 
 /* The dependency file of a command of clang-cl, and the lines of its error output that are shown (docs/PROTOCOL.md, A request). The

@@ -35,10 +35,11 @@ MOST_FIELDS = {"hazard": 1, "cacheable": 1, "output": 3, "environment": 2, "lang
 # How many fields a row of a key has at least and at most after its name (docs/PROTOCOL.md, A key).
 KEYS = {b"is": (1, None), b"output": (2, 3), b"directory": (0, 0), b"compiler": (0, 0), b"plan": (0, None), b"env": (1, 1), b"unset": (1, 1),
         b"file": (1, 1), b"maybe": (1, 1), b"regular": (1, 1), b"run": (0, None), b"run-else": (0, None), b"pch": (0, None), b"sources": (0, 0),
-        b"sources-if-shown": (1, 1), b"times": (0, 0), b"refuse-if-shown": (1, 1)}
+        b"sources-if-shown": (1, 1), b"times": (0, 0), b"refuse-if-shown": (1, 1), b"bases": (0, 0), b"bases-if-beside": (0, 0),
+        b"bases-if-shown": (1, 1), b"bases-if-planned": (1, 1), b"shown": (1, 1)}
 # Wishes, and the lines of a request that say them.
 SETTINGS = {"is_multiarch": b"multiarch", "may_dist": b"setting may-dist", "rewrite_includes_only": b"setting rewrite-includes-only",
-            "cache_mode": b"setting cache-mode"}
+            "cache_mode": b"setting cache-mode", "keep_shown": b"setting keep-shown"}
 WISHES = [*SETTINGS, "wants_runs", "wants_questions", "wants_hazards", "wants_options", "wants_key"]
 
 
@@ -132,6 +133,7 @@ class Answer:
     writes_like: list[bytes] = _member(default_factory=list)
     loads_like: list[bytes] = _member(default_factory=list)
     asks: list[bytes] = _member(default_factory=list)  # what options ask of the machine: processor, directory
+    directory_in_object: bytes | None = None  # with a key and bases: whether the object names one, b"yes", b"no" or b"mapped"
     environment: list[tuple[bytes, bytes]] = _member(default_factory=list)
     record: Record | None = None
     runs: list[list[bytes]] = _member(default_factory=list)
@@ -214,6 +216,17 @@ def depfile(prefix: bytes, messages: bytes, words: Iterable[bytes], *given: Any,
     return (of[b"text"][0], of[b"kept"][0]) if b"text" in of else None
 
 
+def map(bases: Iterable[bytes], quoting: bytes, text: bytes) -> bytes:
+    """What a run of the preprocessor wrote, with the names in its line markers written by their bases. These are absolute and have no NUL.
+    The quoting is how the compiler quotes names: b"gcc" or b"clang"."""
+    lines = [b"map", *(b"base " + field(it) for it in bases), b"quoting " + field(quoting), b"text " + field(text), b""]
+    try:
+        of = dict(rows(describe(b"\n".join(lines))))
+    except BadLine as bad:
+        raise (Newer("line 1") if bad.number == 1 else ValueError("a base or a quoting that is none")) from None
+    return of[b"text"]
+
+
 def field(it: bytes) -> bytes:
     """Bytes as they stand in a request or a row."""
     if not isinstance(it, bytes):
@@ -227,14 +240,15 @@ def rows(description: bytes) -> list[list[bytes]]:
 
 
 def request(compiler: bytes, words: Iterable[bytes], directory: bytes = b"", environment: _Pairs = (), files: _Pairs = (), directories: Iterable[bytes] = (),
-            existing: Iterable[bytes] = (), most_words: int = 0, version: bytes = b"", settings: Iterable[bytes] = (), **wishes: bool) -> bytes:
+            existing: Iterable[bytes] = (), most_words: int = 0, version: bytes = b"", settings: Iterable[bytes] = (), bases: Iterable[bytes] = (),
+            **wishes: bool) -> bytes:
     """The text of a request."""
     lines = [b"compiler " + field(compiler), b"cwd " + field(directory)]
     lines += [b"%s %s" % (name, field(it)) for name, them in ((b"word", words), (b"dir", directories), (b"exists", existing)) for it in them]
     lines += [b"%s %s\t%s" % (name, field(key), field(value)) for name, them in ((b"env", environment), (b"file", files)) for key, value in them]
     lines += [line for name, line in SETTINGS.items() if wishes.get(name)]
     lines += [b"setting bound %d" % most_words] * bool(most_words) + [b"setting version " + field(version)] * bool(version)
-    lines += [b"setting " + it for it in settings]
+    lines += [b"setting base " + field(it) for it in bases] + [b"setting " + it for it in settings]
     return b"\n".join(lines) + b"\n"
 
 
@@ -274,7 +288,7 @@ def _answer(outcome: int, of: _Rows, wishes: dict[str, Any]) -> Answer:
         return answer
     answer.keep = [it for it in of.get("keep", []) if it != [b"yes"]]
     if wishes.get("wants_key"):
-        answer.key, answer.direct = of.get("key", []), of.get("direct", [])
+        answer.key, answer.direct, answer.directory_in_object = of.get("key", []), of.get("direct", []), _text(of, "directory-in-object")
     has_unknown = any(len(fields) > MOST_FIELDS.get(name, len(fields)) for name, them in of.items() for fields in them)
     answer.has_unknown = has_unknown or not all(_is_known_key(*it) for it in answer.key) or not all(_is_known_keep(*it) for it in answer.keep)
     answer.is_cacheable = _text(of, "cacheable") == b"yes" and not answer.has_unknown and not answer.keep
@@ -289,7 +303,7 @@ def ask(compiler: bytes, words: Iterable[bytes], *given: Any, catalogue: bytes |
     """The answer to the words after a program; request says what else may be given. Words, paths and names are bytes, environment
     and files pairs of bytes, and most_words limits words, and how often files are opened: 0 is 1,000,000. Wishes are those of
     scl_request: is_multiarch, wants_runs, may_dist, rewrite_includes_only, cache_mode, wants_questions, wants_hazards,
-    wants_options and wants_key. A catalogue is the text of one in the place of the built-in one."""
+    wants_options, wants_key and keep_shown. A catalogue is the text of one in the place of the built-in one."""
     try:
         text = describe(request(compiler, words, *given, **named), catalogue)
     except BadCatalogue:

@@ -109,6 +109,8 @@ static inline void scl_put_settings(scl_writer *to, const scl_request *request) 
     if (request->cache_mode) scl_put(to, "setting cache-mode\n");
     if (request->most_words) scl_put_bound(to, request->most_words);
     if (request->version.len) scl_put_line(to, "setting version ", request->version);
+    scl_put_words(to, "setting base ", request->bases);
+    if (request->keep_shown) scl_put(to, "setting keep-shown\n");
     for (i = 0; i < request->settings.len; i++) {
         scl_put(to, "setting ");
         scl_put_field(to, request->settings.at[i], true);
@@ -303,6 +305,7 @@ static const scl_known_row scl_known_rows[] = {
     {"because", SCL_ROW_TEXT, 0, SCL_AT(text), SCL_AT(has_text), 0},
     {"sentence", SCL_ROW_TEXT, 0, SCL_AT(sentence), 0, 0},
     {"at", SCL_ROW_INDEX, 0, SCL_AT(at), SCL_AT(has_at), 0},
+    {"directory-in-object", SCL_ROW_TEXT, 0, SCL_AT(directory_in_object), 0, SCL_WISH(wants_key)},
 };
 enum { SCL_KNOWN_ROWS = sizeof scl_known_rows / sizeof *scl_known_rows };
 
@@ -328,6 +331,7 @@ static const scl_known_key scl_known_keys[] = {
     {"is", 1, SIZE_MAX}, {"output", 2, 3}, {"directory", 0, 0},       {"compiler", 0, 0},        {"plan", 0, SIZE_MAX},       {"env", 1, 1},
     {"unset", 1, 1},     {"file", 1, 1},   {"maybe", 1, 1},           {"regular", 1, 1},         {"run", 0, SIZE_MAX},        {"run-else", 0, SIZE_MAX},
     {"pch", 0, SIZE_MAX}, {"sources", 0, 0}, {"sources-if-shown", 1, 1}, {"times", 0, 0},       {"refuse-if-shown", 1, 1},
+    {"bases", 0, 0},     {"bases-if-beside", 0, 0}, {"bases-if-shown", 1, 1}, {"bases-if-planned", 1, 1}, {"shown", 1, 1},
 };
 enum { SCL_KEYS = sizeof scl_known_keys / sizeof *scl_known_keys }; /* (a kind that is not known) */
 

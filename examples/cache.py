@@ -18,8 +18,13 @@ OTHER_TEXT = re.compile(rb"^(?![ \t]*$|# \d|#line|#define|#undef)", re.M)  # wha
 NUMBER = re.compile(rb"\\x\{?([0-9a-fA-F]+)\}?|\\u00([0-9a-fA-F]{2})|\\([0-7]{1,3})")  # a byte
 MARKED = rb'^(#[ \t]*(?:line)?[ \t]*\d+[ \t]*")(.*)'  # the same, as docs/RULES.md has it (Line markers)
 RAW = re.compile(rb'^(?!#[ \t]*(?:line)?[ \t]*\d+[ \t]*").*R"', re.M)  # lines below it may look like markers
+MACRO = re.compile(rb"-D([^=(]*)(.*)", re.S)  # a word that defines one: its name, and the rest
+NAME = re.compile(rb"\w+")
+BROUGHT = b"L LL U UL ULL char double float int long short signed unsigned"  # names from macros that compilers define
 shown = []  # what each run of the preprocessor wrote
+complaints = []  # what it wrote to standard error
 sources = []  # the files that its markers name
+names = set()  # the names in these files
 leading = []  # the headers that it includes before any other text
 stamps = {}  # the files that were read, and how each was then
 planned = []  # what the driver would start
@@ -55,14 +60,16 @@ def unescaped(field): return re.sub(rb"\\x(..)", lambda it: bytes([int(it[1], 16
 def key_of(told_rows, rows):
     named = b"plan", b"run", b"run-else", b"pch"
     heads = [row[0] if row[0] in named else b" ".join(map(escaped, row)) for row in told_rows]
-    return digest_all(it for head, row in zip(heads, rows) for it in (head, answer(row, rows) or b"")).hex().encode()
+    hashed = ((head, row) for head, row in zip(heads, rows) if counts(row, rows))
+    return digest_all(it for head, row in hashed for it in (head, answer(row, rows) or b"")).hex().encode()
 def digest(data): return hashlib.sha256(data).digest()
 def digest_all(parts): return digest(b"".join(map(digest, parts)))
 
 # ---- 3. Answer the rows that ask (docs/PROTOCOL.md, A key)
 def answer(row, rows):
     match row:
-        case [b"is", _, *_] | [b"output", _, _] | [b"output", _, _, b"optional"] | [b"bases"]: return b""  # (a fact)
+        case [b"is", _, *_] | [b"output", _, _] | [b"output", _, _, b"optional"]: return b""  # (a fact)
+        case [b"bases"] | [b"shown", _]: return b""
         case [b"directory"]: return told(directory())
         case [b"compiler"]: return basename(COMMAND[0]) + sum_of_program(program_file(COMMAND[0]))
         case [b"plan", *words]: return plan(words, input_of(rows))
@@ -73,7 +80,7 @@ def answer(row, rows):
         case [b"regular", path]: note(path)
         case [b"run", *words]: return preprocessed(words, may_fail=any(it[0] == b"run-else" for it in rows))
         case [b"run-else", *words]: return b"-" if shown else preprocessed(words, may_fail=False) + loaded()
-        case [b"pch", *pairs]: return read_all(precompiled(list(zip(pairs[::2], pairs[1::2]))))
+        case [b"pch", *fields]: return read_all(precompiled(pairs(fields)))
         case [b"sources"]: return read_all(sources + [input_of(rows)])
         case [b"sources-if-shown", what]: return read_all(sources + [input_of(rows)]) if has(shown, what) else b"-"
         case [b"times"]: return digest_all(b"%s %r" % (told(it), stamp(it)[:2]) for it in sources if isfile(it))
@@ -84,6 +91,21 @@ def answer(row, rows):
         case [b"bases-if-shown", what]: return all_bases(has(map(as_assembled, shown), what))
         case [b"bases-if-planned", what]: return all_bases(has(planned, what))
         case _: raise KeepNothing("a row that is not known")
+def counts(row, rows):  # a macro that no source names is neither expanded nor tested
+    if row[0] != b"shown": return True
+    if not names: names.update(names_in([BROUGHT, *map(content, filter(isfile, [*sources, input_of(rows)]))]))
+    others = names_in(MACRO.match(it[1])[2] for it in rows if it[0] == b"shown" and it is not row)
+    name = MACRO.match(row[1])[1]
+    least = 1 if any(map(needs_sources, rows)) else 3  # the shortest piece of which `##` makes the name
+    wanted = {name, *(name[:end] for end in range(least, len(name)))}
+    is_named = not wanted.isdisjoint(names | others) or not re.fullmatch(rb"\w+", name)
+    return is_named or any(complaints) or any(map(has_header, rows))
+def needs_sources(row): return row == [b"sources"] or row[0] == b"sources-if-shown" and has(shown, row[1])
+def names_in(texts): return set(NAME.findall(b"\n".join(texts)))
+def has_header(row):  # that is precompiled, or may be: what it was made of, no marker names
+    is_one = lambda path: isfile(path) or exists(path) and path.endswith((b".gch", b".pch"))
+    return row[0] == b"pch" and precompiled(pairs(row[1:])) or row[0] == b"maybe" and is_one(row[1]) and abspath(row[1]) not in made
+def pairs(fields): return list(zip(fields[::2], fields[1::2]))
 def input_of(rows): return next(row[2] for row in rows if row[:2] == [b"is", b"input"])
 def has(texts, pattern): return any(re.search(pattern, text, re.M) for text in texts)
 def directory():
@@ -106,6 +128,7 @@ def preprocessed(words, may_fail):  # what a run writes, also into a file of the
         ran = quietly([COMMAND[0], *(own.name if word == b"\0" else word for word in words)])
         if ran.returncode: return need(may_fail and not shown, "no run") or b"-"
         shown.append(ran.stdout)
+        complaints.append(ran.stderr)
         take_markers(ran.stdout)
         return told_run(ran.stdout) + digest(told_text(unbroken(content(own.name))))
 def take_markers(text):  # the flag 1 stands where a file begins that is included
@@ -118,8 +141,8 @@ def take_markers(text):  # the flag 1 stands where a file begins that is include
         if name not in sources: sources.append(name)
         if b"1" in marker[2].split() and not (other and other.start() < marker.start()): leading.append(name)
 def loaded(): return read_all(map(c_string, LOADED.findall(shown[0])))
-def precompiled(pairs):  # where a search can find a precompiled header: files, and folders of files
-    of = lambda kind: [name for what, name in pairs if what == kind]
+def precompiled(places):  # where a search can find a precompiled header: files, and folders of files
+    of = lambda kind: [name for what, name in places if what == kind]
     headers = leading + of(b"header")
     folders = of(b"folder") + [dirname(it) for it in headers + of(b"beside")]
     folders += [it for name in of(b"variable") for it in VARIABLES.get(name, b"").split(b":")]
@@ -232,7 +255,7 @@ def quietly(words, more={}):
     return subprocess.run(words, stdin=subprocess.DEVNULL, capture_output=True, env={**VARIABLES, **more})
 def log(what, why):  # (names may be in any encoding)
     with open(VARIABLES.get(b"CACHE_LOG", os.devnull), "a", errors="surrogateescape") as file:
-        print(what, why, "|", *sys.argv[1:], file=file)
+        print(*(str(it).replace("\n", " ") for it in [what, why, "|", *sys.argv[1:]]), file=file)  # (one line)
 
 # ---- a call
 def asked():  # all rows, those of the key as they are told, and these with the directories put back

@@ -97,8 +97,9 @@ inline const char *sentence(Status status) noexcept {
 struct KeyRow {
     std::string_view name;
     Words fields;
-    bool is_asked; // its answer goes into the key
-    bool is_named; // of the row itself only the name goes into the key
+    bool is_asked;        // its answer goes into the key
+    bool is_named;        // of the row itself only the name goes into the key
+    bool may_be_left_out; // the row goes into the key only if its macro counts
 };
 
 // An answer, or the status that says why there is none: then every list is empty, and nothing may be kept.
@@ -143,13 +144,13 @@ public:
     KeyRow key_at(std::size_t at) const noexcept {
         const scl_key_row row = scl_key_at(&raw(), at);
         const Words fields = words(raw().key.at[at]);
-        return {fields.empty() ? std::string_view() : fields[0], words(row.fields), row.is_asked, row.is_named};
+        return {fields.empty() ? std::string_view() : fields[0], words(row.fields), row.is_asked, row.is_named, row.may_be_left_out};
     }
 };
 
 // A request: its members `wants_..` and the others of scl_request are set in raw().
 class Request {
-    std::vector<scl_bytes> words_, directories_, existing_, settings_;
+    std::vector<scl_bytes> words_, directories_, existing_, settings_, bases_;
     std::vector<scl_pair> environment_, files_;
     scl_request raw_;
     scl_bytes compiler_;
@@ -169,6 +170,7 @@ public:
     void add_directory(std::string_view path) { directories_.push_back(bytes(path)); }
     void add_existing(std::string_view path) { existing_.push_back(bytes(path)); }
     void add_setting(std::string_view line) { settings_.push_back(bytes(line)); }
+    void add_base(std::string_view path) { bases_.push_back(bytes(path)); }
 
     [[nodiscard]] Answer ask() const noexcept {
         scl_request request = raw_;
@@ -179,6 +181,7 @@ public:
         request.directories = scl_words_of(directories_.data(), directories_.size());
         request.existing = scl_words_of(existing_.data(), existing_.size());
         request.settings = scl_words_of(settings_.data(), settings_.size());
+        request.bases = scl_words_of(bases_.data(), bases_.size());
         return Answer(request);
     }
 };

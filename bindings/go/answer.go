@@ -42,7 +42,8 @@ const many = int(^uint(0) >> 1)
 // keys has the rows of a key, and how many fields may follow the name.
 var keys = map[string]struct{ least, most int }{"is": {1, many}, "output": {2, 3}, "directory": {0, 0}, "compiler": {0, 0}, "plan": {0, many},
 	"env": {1, 1}, "unset": {1, 1}, "file": {1, 1}, "maybe": {1, 1}, "regular": {1, 1}, "run": {0, many}, "run-else": {0, many}, "pch": {0, many},
-	"sources": {0, 0}, "sources-if-shown": {1, 1}, "times": {0, 0}, "refuse-if-shown": {1, 1}}
+	"sources": {0, 0}, "sources-if-shown": {1, 1}, "times": {0, 0}, "refuse-if-shown": {1, 1}, "bases": {0, 0}, "bases-if-beside": {0, 0},
+	"bases-if-shown": {1, 1}, "bases-if-planned": {1, 1}, "shown": {1, 1}}
 
 // kept has the rows `keep`, and how many fields each has.
 var kept = map[string]int{"yes": 1, "no": 3, "unknown": 2}

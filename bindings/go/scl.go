@@ -44,6 +44,7 @@ type Request struct {
 	Multiarch   bool     // several architectures are allowed
 	Settings    []string // lines `setting` of docs/PROTOCOL.md, without that word, as `bound 10`
 	Catalogue   string   // the text of a catalogue of hazards; empty: the built-in one
+	Bases       []string // directories that differ from checkout to checkout: paths of the key are written by them
 }
 
 // Text is the request's text.
@@ -68,6 +69,9 @@ func (r *Request) Text() string {
 	}
 	if r.Multiarch {
 		to.WriteString("multiarch\n")
+	}
+	for _, base := range r.Bases {
+		fmt.Fprintf(&to, "setting base %s\n", field(base))
 	}
 	for _, setting := range r.Settings {
 		fmt.Fprintf(&to, "setting %s\n", escaped(setting, " \\"))

@@ -16,8 +16,8 @@ func told(rows string) *Answer {
 }
 
 func TestBytesAreWrittenAsFields(t *testing.T) {
-	request := Request{Compiler: "gcc", Directory: "/w d", Words: []string{"a b\\\xff"}, Files: []Pair{{"/r", "x\n"}}, Settings: []string{"version a b"}}
-	wanted := "compiler gcc\ncwd /w\\x20d\nword a\\x20b\\x5c\\xff\nfile /r\tx\\x0a\nsetting version a b\n"
+	request := Request{Compiler: "gcc", Directory: "/w d", Words: []string{"a b\\\xff"}, Files: []Pair{{"/r", "x\n"}}, Settings: []string{"version a b"}, Bases: []string{"/w d"}}
+	wanted := "compiler gcc\ncwd /w\\x20d\nword a\\x20b\\x5c\\xff\nfile /r\tx\\x0a\nsetting base /w\\x20d\nsetting version a b\n"
 	if request.Text() != wanted {
 		t.Errorf("%q", request.Text())
 	}
@@ -31,7 +31,8 @@ func TestFieldsAreRead(t *testing.T) {
 }
 
 func TestWhatIsNotKnownIsNotKept(t *testing.T) {
-	for rows, isKept := range map[string]bool{"": true, "notes a b c\nkey env A\n": true, "key what A\n": false, "key env\n": false, "key env A B\n": false,
+	for rows, isKept := range map[string]bool{"": true, "notes a b c\nkey env A\n": true, "key what A\n": false, "key bases\nkey bases-if-beside\nkey bases-if-shown a\nkey bases-if-planned a\n": true,
+		"key shown -DA\n": true, "key shown\n": false, "key env\n": false, "key env A B\n": false,
 		"keep yes\n": true, "keep yes x\n": false, "keep unknown x\n": false, "keep no hazard x\n": false, "keep not\n": false, "hazard a b\n": false} {
 		if told(rows).IsCacheable != isKept {
 			t.Errorf("%q: %v", rows, !isKept)

@@ -16,7 +16,8 @@ const MOST_FIELDS = {arg: 1, hazard: 1, cacheable: 1, output: 3, environment: 2,
 // The rows of a key, and how many fields may follow the name.
 const KEYS = {is: [1, Infinity], output: [2, 3], directory: [0, 0], compiler: [0, 0], plan: [0, Infinity], env: [1, 1], unset: [1, 1], file: [1, 1],
   maybe: [1, 1], regular: [1, 1], run: [0, Infinity], "run-else": [0, Infinity], pch: [0, Infinity], sources: [0, 0], "sources-if-shown": [1, 1],
-  times: [0, 0], "refuse-if-shown": [1, 1]};
+  times: [0, 0], "refuse-if-shown": [1, 1], bases: [0, 0], "bases-if-beside": [0, 0], "bases-if-shown": [1, 1], "bases-if-planned": [1, 1],
+  shown: [1, 1]};
 
 // The rows `keep`, and how many fields each has.
 const KEPT = {yes: 1, no: 3, unknown: 2};
@@ -25,11 +26,12 @@ const field = (it) => Buffer.from(it).toString("latin1").replace(/[^!-[\]-~]/g, 
 const bytes = (it) => Buffer.from(it.replace(/\\x(..)/g, (_, digits) => String.fromCharCode(parseInt(digits, 16))), "latin1");
 
 /** The text of a request. */
-export function request({compiler, words = [], directory = "", environment = [], files = [], directories = [], existing = [], settings = []}) {
+export function request({compiler, words = [], directory = "", environment = [], files = [], directories = [], existing = [], settings = [],
+  bases = []}) {
   const pairs = (name, them) => them.map(([key, value]) => `${name} ${field(key)}\t${field(value)}`);
   const lines = [`compiler ${field(compiler)}`, `cwd ${field(directory)}`, ...words.map((it) => `word ${field(it)}`), ...pairs("env", environment),
     ...pairs("file", files), ...directories.map((it) => `dir ${field(it)}`), ...existing.map((it) => `exists ${field(it)}`),
-    ...settings.map((it) => `setting ${it}`)];
+    ...bases.map((it) => `setting base ${field(it)}`), ...settings.map((it) => `setting ${it}`)];
   return lines.map((it) => it + "\n").join("");
 }
 

@@ -6,7 +6,8 @@
 //   cache --stats        what it did, and how often
 //   cache --why          the rows of the last miss that the miss before it of the same output did not have
 //
-// CACHE names its folder (~/.cache/scl), CACHE_SIZE its bytes at most (5e9), CACHE_LOG a file for a line a call.
+// CACHE names its folder (~/.cache/scl), CACHE_SIZE its bytes at most (5e9), CACHE_LOG a file for a line a call. CACHE_BASES
+// may have base directories, with `:` between them, so that keys are one in every checkout (docs/CACHE.md, Two checkouts).
 // Status: the compiler's; 64: called wrongly; 126, 127: the compiler can't be started, or is not there.
 #include <algorithm>
 #include <fcntl.h>
@@ -35,6 +36,8 @@ static void need(bool it, const Bytes &why) { if (!it) throw KeepNothing(why); }
 static Words operator+(Words all, const Words &more) { return all.insert(all.end(), more.begin(), more.end()), all; }
 static bool has(const Words &all, const Bytes &it) { return std::find(all.begin(), all.end(), it) != all.end(); }
 static Words words_of(const scl::Words &list) { return Words(list.begin(), list.end()); }
+template <class List, class Is> static bool any(const List &all, Is is) { return std::any_of(all.begin(), all.end(), is); }
+template <class Make> static Words each(Words all, Make make) { return std::transform(all.begin(), all.end(), all.begin(), make), all; }
 
 // FNV-1a of 128 bits: good against chance. It is none against malice, but who can write sources can write objects.
 static Bytes sum_of(const Bytes &text) {
@@ -77,6 +80,7 @@ static Cut cut(const Bytes &text, const Bytes &pattern, size_t most = SIZE_MAX) 
     return all;
 }
 static bool matches(const Bytes &text, const Bytes &pattern) { return !cut(text, pattern, 1).found.empty(); }
+static bool is_in(const Words &all, const Bytes &pattern) { return any(all, [&](const Bytes &it) { return matches(it, pattern); }); }
 static Bytes without(const Bytes &text, const Bytes &pattern) {
     Bytes all;
     for (const Bytes &it : cut(text, pattern).between) all += it;
@@ -97,6 +101,8 @@ static Bytes unescaped(const Bytes &text, bool is_string) {
     }
     return all;
 }
+static bool is_one_of(char it, const char *marks) { return isalnum(uint8_t(it)) || (it && strchr(marks, it)); }
+
 // What stands between the first quote and the last one, as compilers write it.
 static const Bytes string_pattern = "\"([^\"\\\n]|\\\\.)*\"";
 static Bytes unquoted(const Bytes &text) {
@@ -105,6 +111,20 @@ static Bytes unquoted(const Bytes &text) {
 }
 // A text as an assembler gets it: strings side by side are joined.
 static Bytes as_assembled(const Bytes &text) { return unescaped(without(text, "\"[ \t\n\v\f\r]*\""), false); }
+
+// The macro that a word defines, as -DA=1.
+static Bytes macro_of(const Bytes &word) { return word.substr(2, word.find_first_of("=(") - 2); }
+static bool is_of_name(char it) { return is_one_of(it, "_"); }
+static const Bytes brought = "L LL U UL ULL char double float int long short signed unsigned\n";  // by compilers' own macros
+// Whether a text can name the macro. It may make a name of pieces, so a beginning counts.
+static bool is_named(const Bytes &macro, const Bytes &text) {
+    for (size_t at = text.find(macro[0]); at != Bytes::npos; at = text.find(macro[0], at + 1)) {
+        const auto begin = text.begin() + ptrdiff_t(at);
+        const size_t len = size_t(std::find_if_not(begin, text.end(), is_of_name) - begin);
+        if ((!at || !is_of_name(text[at - 1])) && !macro.compare(0, len, text, at, len)) return true;
+    }
+    return false;
+}
 
 // ---- files
 
@@ -323,11 +343,11 @@ static Ran run(const Words &words, bool is_quiet, Bytes variable = "") {
 }
 
 static Bytes value_of(const Bytes &name) { return getenv(name.c_str()) ? Bytes("=") + getenv(name.c_str()) : "-"; }
-static Words folders_of_path() { return cut(value_of("PATH").substr(1), ":").between; }
+static Words parts_of(const Bytes &variable) { return cut(value_of(variable).substr(1), ":").between; }
 
 // The file of a program; empty: there is none.
 static Bytes program_of(const Bytes &name) {
-    for (const Bytes &folder : name.find('/') != Bytes::npos ? Words{""} : folders_of_path())
+    for (const Bytes &folder : name.find('/') != Bytes::npos ? Words{""} : parts_of("PATH"))
         if (const Bytes file = inside(folder, name); is_file(file) && !access(file.c_str(), X_OK)) return file;
     return "";
 }
@@ -347,6 +367,81 @@ static Bytes sum_of_program(const Bytes &path) {
         return ask('=', "/etc/ld.so.cache"), sums;
     });
 }
+
+// ---- base directories: in keys and entries NUL and `<baseN>` stand for base N, and two NULs for one
+
+struct Base { Bytes path, told; };
+static std::vector<Base> given_bases() {
+    std::vector<Base> all;
+    for (const Bytes &it : parts_of("CACHE_BASES"))
+        if (const Bytes path = without(it, "[/\\\\]+$"); !path.empty())
+            all.push_back({path, Bytes("\0<base", 6) + std::to_string(all.size()) + ">"});
+    return all;
+}
+static std::vector<Base> bases = given_bases();  // none, if the object names one of them
+template <class Is> static const Base *base_that(Is is) {  // the longest
+    const Base *found = nullptr;
+    for (const Base &it : bases)
+        if (is(it) && (!found || it.path.size() > found->path.size())) found = &it;
+    return found;
+}
+static bool stands_at(const Bytes &text, size_t at, const Bytes &it) { return !text.compare(at, it.size(), it); }
+static bool is_below(const Base &it, const Bytes &path) { return stands_at(path + "/", 0, it.path + "/"); }
+static bool has_base(const Bytes &text) { return any(bases, [&](const Base &it) { return text.find(it.path) != Bytes::npos; }); }
+static bool is_beside(const Bytes &path) {
+    return any(bases, [&](const Base &it) { return stands_at(path, 0, it.path) && !is_below(it, path); });
+}
+// The bases belong in the key after all, if the object may name them.
+static Bytes all_bases(bool are_named) {
+    Bytes all;
+    for (const Base &it : bases) all += packed({it.told, it.path});
+    return are_named ? all : "-";
+}
+static Bytes told(const Bytes &path) {
+    const Base *const base = base_that([&](const Base &it) { return is_below(it, path); });
+    return base ? base->told + path.substr(base->path.size()) : path;
+}
+struct ByTold { bool operator()(const Bytes &a, const Bytes &b) const { return told(a) < told(b); } };
+using Paths = std::set<Bytes, ByTold>;  // in the same order in every checkout
+// What a run wrote: the library tells the names in its line markers.
+static Bytes told_run(const Bytes &text, const char *quoting) {
+    if (bases.empty()) return text;
+    std::vector<scl_bytes> list;
+    for (const Base &it : bases) list.push_back(scl::bytes(it.path));
+    scl_texts mapped;
+    need(scl_map(list.data(), list.size(), quoting, scl::bytes(text), &mapped) == SCL_OK, "a run can't be told");
+    const Bytes all(scl::view(mapped.text));
+    return free(mapped.block), all;
+}
+// A plan, messages or rules of make: a base is told that stands as a whole name, or begins one.
+static bool is_of_path(char it) { return uint8_t(it) >= 0x80 || is_one_of(it, "_.+@~-"); }
+static bool is_named_at(const Base &base, const Bytes &text, size_t at) {
+    const size_t end = at + base.path.size();
+    if (!stands_at(text, at, base.path) || (end < text.size() && is_of_path(text[end]))) return false;
+    if (!at || (!is_of_path(text[at - 1]) && text[at - 1] != '/')) return true;
+    const size_t line = text.rfind('\n', at - 1) + 1;  // (a flag like -I may stand before it, or the end of a colour)
+    return matches(text.substr(line, at - line), "((^|[\"' \t\v\f\r])-[A-Z]|\x1b\\[[0-9;]*[mK])$");
+}
+static Bytes told_text(const Bytes &text) {
+    Bytes all;
+    for (size_t at = 0; at < text.size(); at++) {
+        const Base *const base = base_that([&](const Base &it) { return is_named_at(it, text, at); });
+        all += base ? base->told : Bytes(text[at] || bases.empty() ? 1 : 2, text[at]);
+        at += base ? base->path.size() - 1 : 0;
+    }
+    return all;
+}
+static Bytes put_back(const Bytes &text) {
+    Bytes all;
+    for (size_t at = 0; at < text.size(); at++) {
+        const Base *const base = base_that([&](const Base &it) { return stands_at(text, at, it.told); });
+        all += base ? base->path : Bytes(1, text[at]);
+        at += base ? base->told.size() - 1 : !text[at] && !bases.empty();
+    }
+    return all;
+}
+// Where rules of make have ends of lines depends on the lengths of names.
+static Bytes unbroken(const Bytes &text) { return bases.empty() ? text : without(text, "\\\\\n[ \t]*"); }
 
 // ---- 1. ask
 
@@ -369,6 +464,7 @@ static scl::Answer described(const Bytes &compiler, char **words) {
     request.set_directory(texts.front());
     request.raw().wants_questions = request.raw().wants_key = true;
     for (; *words; words++) request.add_word(*words);
+    for (const Base &it : bases) request.add_base(it.path);
     for (;;) {
         const size_t count = texts.size();
         scl::Answer answer = request.ask();
@@ -385,8 +481,8 @@ static scl::Answer described(const Bytes &compiler, char **words) {
 
 struct Row {
     scl_key_row is;
-    Words words;    // the name, and the fields
-    Bytes sum;      // of the answer
+    Words told, words;  // the name and the fields: as the bases tell them, and as they are used
+    Bytes sum;          // of the answer
 };
 
 struct Key {
@@ -396,7 +492,11 @@ struct Key {
     std::vector<Row> rows;
     std::vector<Words> direct;      // rows `direct`: the name, and the fields
     std::map<Bytes, bool> outputs;  // whether each may lack
-    bool has_colors, has_else = false, has_failed = false;
+    std::set<Bytes> rules;          // the outputs with rules of make
+    Words shown;                    // words that define macros: each may be left out of the key,
+    bool do_all_count = false;      // unless a run warns, or there may be a precompiled header
+    Bytes planned;                  // what the driver wrote of its plan
+    bool has_colors, is_clang = false, has_else = false, has_failed = false;
     Words texts, sources, first;    // what runs wrote; the files that they name; those that they name before other text
 
     Key(const Bytes &program, scl::Answer &&answer) : compiler(program), said(std::move(answer)) {
@@ -406,7 +506,9 @@ struct Key {
         command = words_of(said.command());
         has_colors = isatty(2) || said.record().color == SCL_COLOR_ON;
         const scl::Lists key(said.raw().key.at, said.raw().key.len), rest(said.raw().direct.at, said.raw().direct.len);
-        for (size_t i = 0; i < key.size(); i++) take({scl_key_at(&said.raw(), i), words_of(key[i]), ""});
+        if (scl_key_at(&said.raw(), 0).kind != SCL_KEY_BASES) bases.clear();
+        for (size_t i = 0; i < key.size(); i++)
+            take({scl_key_at(&said.raw(), i), words_of(key[i]), each(words_of(key[i]), put_back), ""});
         for (const scl::Words &row : rest) direct.push_back(words_of(row));
         for (const auto &[path, may_lack] : outputs) {
             struct stat it;
@@ -419,8 +521,11 @@ struct Key {
         const Words &it = row.words;
         rows.push_back(row);
         if (row.is.kind == SCL_KEY_OUTPUT) outputs[it[2]] = it.size() > 3;
+        if (row.is.kind == SCL_KEY_OUTPUT && it[1] == "d") rules.insert(it[2]);
+        if (row.is.kind == SCL_KEY_SHOWN) shown.push_back(it[1]);
         if (row.is.kind == SCL_KEY_RUN_ELSE) has_else = true;
         if (row.is.kind != SCL_KEY_IS || it.size() < 3) return;
+        if (it[1] == "compiler") is_clang = it[2].rfind("clang", 0) == 0;
         if (it[1] == "input") input = it[2];
         if (it[1] == "run-words" && it[2] == "given") command.assign(it.begin() + 3, it.end());
     }
@@ -438,12 +543,21 @@ struct Key {
         return remembered("key" + start, [&] { return ask_where_headers_are(hash_rows()); });
     }
     Bytes hash_rows() {
-        Bytes sums;
-        for (Row &row : rows) {
+        Bytes sums, text = brought;
+        for (Row &row : rows)
             if (row.is.is_asked && row.sum.empty()) row.sum = sum_of(answer(row));
-            sums += sum_of(row.is.is_named ? row.words[0] : packed(row.words)) + row.sum;
-        }
+        for (const Bytes &path : shown.empty() ? shown : all_sources()) text += is_file(path) ? content(path) + "\n" : "";
+        const auto is_left_out = [&](const Row &row) { return row.is.may_be_left_out && !counts(row.words[1], text); };
+        rows.erase(std::remove_if(rows.begin(), rows.end(), is_left_out), rows.end());
+        for (const Row &row : rows) sums += sum_of(row.is.is_named ? row.words[0] : packed(row.told)) + row.sum;
         return sum_of(sums);
+    }
+    // Whether a source can name the macro. One that none can name changes nothing (docs/PROTOCOL.md, A key).
+    bool counts(const Bytes &word, const Bytes &text) const {
+        const Bytes macro = macro_of(word);
+        if (do_all_count || macro.empty() || !std::all_of(macro.begin(), macro.end(), is_of_name)) return true;
+        const auto names = [&](const Bytes &it) { return it != word && is_named(macro, it.substr(2 + macro_of(it).size())); };
+        return is_named(macro, text) || any(shown, names);
     }
 
     // ---- 3. answer them
@@ -452,21 +566,25 @@ struct Key {
         const Words fields(row.words.begin() + 1, row.words.end());
         const Bytes it = fields.empty() ? "" : fields[0];
         switch (row.is.kind) {
-        case SCL_KEY_DIRECTORY: return directory();
+        case SCL_KEY_DIRECTORY: return told(directory());
         case SCL_KEY_COMPILER: return fs::path(compiler).filename().string() + sum_of_program(program_of(compiler));
-        case SCL_KEY_PLAN: return of_driver(fields, [&] { return plan(fields); });
+        case SCL_KEY_PLAN: return planned_by(fields);
         case SCL_KEY_ENV: return value_of(it);
         case SCL_KEY_UNSET: return need(value_of(it) == "-", "set: " + it), "";
         case SCL_KEY_FILE: return need(is_file(it), "no file: " + it), read(it);
-        case SCL_KEY_MAYBE: return made.count(whole(it)) ? "" : read(it);  // what the command writes, it does not read
+        case SCL_KEY_MAYBE:  // (what the command writes, it does not read)
+            return made.count(whole(it)) ? "" : (do_all_count |= is_file(it), read(it));
         case SCL_KEY_REGULAR: return note(it), "";
         case SCL_KEY_RUN: return preprocessed(fields);
         case SCL_KEY_RUN_ELSE: return has_failed ? preprocessed(fields) : "-";
         case SCL_KEY_PCH: return read_all(precompiled(fields));
         case SCL_KEY_SOURCES: return read_all(all_sources());
-        case SCL_KEY_SOURCES_IF_SHOWN: return is_shown(it) ? read_all(all_sources()) : "-";
+        case SCL_KEY_SOURCES_IF_SHOWN: return is_in(texts, it) ? read_all(all_sources()) : "-";
         case SCL_KEY_TIMES: return stamps_of_sources();
         case SCL_KEY_REFUSE_IF_SHOWN: return refuse_if_shown(it), "";
+        case SCL_KEY_BASES_IF_BESIDE: return all_bases(any(sources + Words{input, directory()}, is_beside));
+        case SCL_KEY_BASES_IF_SHOWN: return all_bases(is_in(each(texts, as_assembled), it));
+        case SCL_KEY_BASES_IF_PLANNED: return all_bases(matches(planned, it));
         default: throw KeepNothing("a row that is not known");
         }
     }
@@ -477,7 +595,7 @@ struct Key {
     }
     static Bytes read_all(const Words &paths) {
         Bytes sums;
-        for (const Bytes &path : paths) sums += sum_of(path) + sum_of(read(path));
+        for (const Bytes &path : paths) sums += sum_of(told(path)) + sum_of(read(path));
         return sums;
     }
     static Bytes directory() {
@@ -487,15 +605,12 @@ struct Key {
     Words all_sources() const { return has(sources, input) ? sources : sources + Words{input}; }
     Bytes stamps_of_sources() const {
         Bytes all;
-        for (const Bytes &path : sources) all += packed({path, Stamp(path).size_and_time});
+        for (const Bytes &path : sources) all += packed({told(path), Stamp(path).size_and_time});
         return all;
     }
-    bool is_shown(const Bytes &pattern) const {
-        return std::any_of(texts.begin(), texts.end(), [&](const Bytes &it) { return matches(it, pattern); });
-    }
     void refuse_if_shown(const Bytes &pattern) const {
-        for (const Bytes &it : sources.empty() ? texts + Words{content(input)} : texts)
-            need(!matches(as_assembled(it), pattern), "shown: " + pattern);
+        const Words all = sources.empty() ? texts + Words{content(input)} : texts;
+        need(!is_in(each(all, as_assembled), pattern), "shown: " + pattern);
     }
 
     // What is found with the compiler's driver. One takes 2 to 30 milliseconds to start; so it is remembered for the
@@ -504,7 +619,7 @@ struct Key {
     template <class Find> Bytes of_driver(const Words &words, Find find) const {
         const Bytes program = program_of(compiler);
         if (is_script(program)) return find();
-        const Bytes place = packed({compiler, program, Stamp(program).text, answer_to("@" + program), here.string()});
+        const Bytes place = packed({compiler, program, Stamp(program).text, answer_to("@" + program), here.string(), all_bases(true)});
         Words variables, flags;
         for (char **it = environ; *it; it++) variables.push_back(*it);
         for (const Bytes &it : words) flags.push_back(it == input ? "x" : outputs.count(it) ? "y" : it);
@@ -521,7 +636,7 @@ struct Key {
         const Ran ran = run(Words{compiler, "-###", "-print-search-dirs"} + flags, true, "LC_ALL=C");
         const Words lists = cut(ran.out, "^(install|programs|libraries): .*$").found;
         if (ran.status || lists.size() < 2 || !is_of_driver_itself(ran.err)) return "";
-        for (const Bytes &folder : folders_of_path()) ask('=', folder);
+        for (const Bytes &folder : parts_of("PATH")) ask('=', folder);
         for (const Bytes &list : lists)
             for (const Bytes &folder : cut(without(list, "^[a-z]+: =?"), ":").between)
                 ask('=', folder), ask('=', inside(folder, ".."));
@@ -533,17 +648,22 @@ struct Key {
         const Bytes program = program_of(compiler), file = fs::canonical(program, ignored).string();
         const Words itself = {"COLLECT_GCC=" + compiler, "InstalledDir: " + folder_of(program), "InstalledDir: " + folder_of(file)};
         const Words names = cut(text, "^(COLLECT_GCC=|InstalledDir: ).*$").found;
-        return std::any_of(names.begin(), names.end(), [&](const Bytes &it) { return has(itself, it); });
+        return any(names, [&](const Bytes &it) { return has(itself, it); });
     }
 
     // What the driver would start, and the bytes of each program and file that it names.
+    Bytes planned_by(const Words &words) {
+        const Words parts = unpacked(of_driver(words, [&] { return plan(words); }));
+        return told_text(planned = parts.at(0)) + parts.at(1);
+    }
     Bytes plan(const Words &words) const {
         const Bytes own = store + "/scl-plan";
         fs::create_directories(own, ignored);
         const Ran ran = run(Words{compiler, "-###"} + words, true, "TMPDIR=" + own);
         need(!ran.status, "the plan fails");
-        Bytes text = without(ran.err, "[^ =\"\n]*/scl-plan/[^ \"\n]*"), sums;  // (names of temporary files)
-        std::set<Bytes> paths;
+        const Bytes text = without(ran.err, "[^ =\"\n]*/scl-plan/[^ \"\n]*");  // (names of temporary files)
+        Bytes sums;
+        Paths paths;
         for (const Bytes &it : cut(text, "^ (" + string_pattern + "|[^ \"\n]+)").found)
             paths.insert(program_of(it[1] == '"' ? unquoted(it) : it.substr(1)));
         for (const Bytes &it : cut(text, string_pattern + "|[^ \"\n]+").found) {
@@ -551,11 +671,11 @@ struct Key {
             paths.insert({word, word.substr(word.find('=') + 1)});
         }
         for (const Bytes &path : paths) {
-            if (path.empty() || path == input || made.count(whole(path))) continue;
+            if (path.empty() || whole(path) == whole(input) || made.count(whole(path))) continue;
             ask(is_file(path) ? '=' : '?', path);
-            if (is_file(path)) sums += sum_of(path) + sum_of_program(path);
+            if (is_file(path)) sums += packed({told(path), sum_of_program(path)});
         }
-        return text + sums;
+        return packed({text, sums});
     }
 
     // What the preprocessor writes, also into a file of the cache's own.
@@ -565,11 +685,14 @@ struct Key {
         const Ran ran = run(Words{compiler} + words, true);
         const Bytes written = is_file(own) ? content(own) : "";
         unlink(own.c_str());
+        do_all_count |= !ran.err.empty();
         if (ran.status && has_else && !has_failed) return has_failed = true, "failed";
         need(!ran.status, "a run fails");
         texts.push_back(ran.out);
         take_markers(ran.out);
-        return ran.out + sum_of(written) + (has_failed ? read_all(loaded()) : "");
+        const Bytes all = told_run(ran.out, is_clang ? "clang" : "gcc") + sum_of(told_text(unbroken(written)));
+        static const Bytes loaded = "^#pragma GCC pch_preprocess " + string_pattern;  // precompiled headers
+        return all + (has_failed ? read_all(each(cut(ran.out, loaded).found, unquoted)) : "");
     }
 
     // A line marker is `# N "P" FLAGS` or `#line N "P"`. The flag 1 stands where a file begins that is included.
@@ -587,16 +710,8 @@ struct Key {
         }
     }
 
-    // The precompiled headers that the last run loaded.
-    Words loaded() const {
-        Words all;
-        for (const Bytes &it : cut(texts.back(), "^#pragma GCC pch_preprocess " + string_pattern).found)
-            all.push_back(unquoted(it));
-        return all;
-    }
-
     // The precompiled headers that a search can find (docs/PROTOCOL.md, A key): files, and files of folders.
-    Words precompiled(const Words &pairs) const {
+    Words precompiled(const Words &pairs) {
         Words headers = first, folders, all;
         for (size_t i = 0; i + 1 < pairs.size(); i += 2) {
             const Bytes &what = pairs[i], &name = pairs[i + 1];
@@ -605,7 +720,7 @@ struct Key {
             if (what == "beside") folders.push_back(folder_of(name));
             if (what == "variable" && getenv(name.c_str())) folders = folders + cut(getenv(name.c_str()), ":").between;
         }
-        std::set<Bytes> paths;
+        Paths paths;
         for (const Bytes &header : headers) folders.push_back(folder_of(header));
         for (const Bytes &header : headers + sources) paths.insert(header + ".gch");
         for (const Bytes &header : headers)
@@ -617,7 +732,14 @@ struct Key {
                 ask('=', it);
                 if (kind_of(it) && !is_folder(it)) all.push_back(it);
             }
-        return all;
+        return do_all_count |= !all.empty(), all;
+    }
+
+    // No base is left within a word, and no message may quote one from a source.
+    bool is_told(const Bytes &messages) const {
+        const Bytes told = told_text(messages);
+        const auto names_base = [](const Bytes &path) { return is_file(path) && has_base(content(path)); };
+        return !has_base(told) && (told == messages || !any(sources, names_base));
     }
 
     // ---- 4. direct mode: the key is remembered. What was read for it is asked already; so only what may come is not
@@ -698,13 +820,14 @@ static int compile(const Key &key, const Bytes &name, bool &is_kept) {
     need(ran.status != 126 && ran.status != 127, "it can't be started");  // (it may have too many words)
     fwrite(ran.out.data(), 1, ran.out.size(), stdout);
     show(ran.err, key);
-    is_kept = !ran.status && ran.out.empty() && is_as_it_was();
+    is_kept = !ran.status && ran.out.empty() && is_as_it_was() && key.is_told(ran.err);
     for (const auto &[path, may_lack] : key.outputs) {
-        const bool is_written = is_file(path) && Stamp(path).text != before[path];
-        if (is_written) parts.insert(parts.end(), {path, content(path)});
-        is_kept = is_kept && (is_written || may_lack);
+        const bool is_written = is_file(path) && Stamp(path).text != before[path], has_rules = key.rules.count(path);
+        const Bytes text = is_written ? content(path) : "", kept = has_rules ? told_text(text) : text;
+        if (is_written) parts.insert(parts.end(), {told(path), kept});
+        is_kept = is_kept && (is_written || may_lack) && !(has_rules && has_base(kept));
     }
-    if (is_kept) put(name, Words{ran.err} + parts);
+    if (is_kept) put(name, Words{told_text(ran.err)} + parts);
     return ran.status;
 }
 
@@ -713,9 +836,11 @@ static int compile(const Key &key, const Bytes &name, bool &is_kept) {
 static bool restore(const Key &key, const Bytes &name) {
     Words parts;
     if (!get(name, parts)) return false;
-    for (size_t i = 1; i + 1 < parts.size(); i += 2)
-        if (key.outputs.count(parts[i])) need(write_file(parts[i], parts[i + 1]), "can't be written: " + parts[i]);
-    return show(parts.at(0), key), true;
+    for (size_t i = 1; i + 1 < parts.size(); i += 2) {
+        const Bytes path = put_back(parts[i]), text = key.rules.count(path) ? put_back(parts[i + 1]) : parts[i + 1];
+        if (key.outputs.count(path)) need(write_file(path, text), "can't be written: " + path);
+    }
+    return show(put_back(parts.at(0)), key), true;
 }
 
 // ---- what is said of the cache
@@ -727,6 +852,7 @@ static void count(const Bytes &what, const Bytes &why, char **words) {
     if (!getenv("CACHE_LOG")) return;
     Bytes line = what + " " + why + " |";
     for (; *words; words++) line += Bytes(" ") + *words;
+    std::replace(line.begin(), line.end(), '\n', ' ');  // (a name may have one)
     std::ofstream(getenv("CACHE_LOG"), std::ios::app) << line + "\n";
 }
 static int print_counts() {

@@ -207,6 +207,26 @@ static int structs(void) {
     return 0;
 }
 
+/* scl_map, with memory refused in turn. */
+static int maps(void) {
+    const scl_bytes bases[] = {scl_text("/w")}, run = scl_text("# 1 \"/w/a.c\"\nint a;\n");
+    static const char mapped[] = "# 1 \"\0<base0>/a.c\"\nint a;\n";
+    scl_texts it;
+    int refused = 0;
+    for (failing = 0;; failing++, refused++) {
+        calls = 0;
+        int32_t status = scl_map(bases, 1, "gcc", run, &it);
+        int is_same = status == SCL_OK && it.text.len == sizeof mapped - 1 && !memcmp(it.text.at, mapped, sizeof mapped - 1);
+        if (status == SCL_OK) free(it.block);
+        if (live) FAIL("scl_map leaks where request %ld is refused", failing);
+        if (status == SCL_OK ? !is_same : status != SCL_NO_MEMORY) FAIL("scl_map: status %d where request %ld is refused", (int)status, failing);
+        if (status == SCL_OK && calls <= failing) break;
+    }
+    failing = -1;
+    printf("scl_map: %d refusals\n", refused);
+    return 0;
+}
+
 /* A request that memset made is answered, and has the bound of a million words. */
 static int zeros(void) {
     enum { MOST = 1000000 };
@@ -267,5 +287,5 @@ int main(void) {
     static uint8_t whole[2048];
     size_t wanted = 0;
     if (call(scl_run, whole, sizeof whole, &wanted) != SCL_OK) FAIL("scl_run does not answer");
-    return texts("scl_run", scl_run) || texts("scl_describe", scl_describe) || texts("scl_describe_with", by_catalogue) || catalogues() || new_texts("scl_describe", scl_describe) || structs() || zeros() || threads(whole);
+    return texts("scl_run", scl_run) || texts("scl_describe", scl_describe) || texts("scl_describe_with", by_catalogue) || catalogues() || new_texts("scl_describe", scl_describe) || structs() || maps() || zeros() || threads(whole);
 }

@@ -21,6 +21,12 @@ int main() {
     assert(answer.outputs().size() == 1 && answer.outputs()[0].path == "a.o" && !answer.outputs()[0].is_optional);
     assert(answer.key_size() > 1 && answer.key_at(0).name == "is" && !answer.key_at(0).is_asked);
 
+    scl::Request based("gcc", {"-c", "/w/a.c"});
+    based.add_base("/w");
+    based.raw().wants_key = true;
+    const scl::Answer shared = based.ask();
+    assert(shared.key_at(0).name == "bases" && !shared.key_at(0).is_asked && scl::view(shared.raw().directory_in_object) == "no");
+
     scl::Answer moved = std::move(answer);
     assert(moved && moved.is_cacheable() && moved.command()[0] == "-x");
     moved = asked("-E");

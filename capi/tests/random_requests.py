@@ -17,6 +17,7 @@ WORDS = [b"-c", b"-o", b"a.o", b"a.c", b"b.cc", b"-O2", b"-MD", b"-MF", b"x.d", 
 FILES = [(b"/w/r", b"-DQ -O1"), (b"/w/s", b"@r '-DS=a b' -MT\n"), (b"/w/b", b"\xff\xfe\x00")]
 VARIABLES = [(b"CL", b"/DZ"), (b"_CL_", b"/O2 \xff"), (b"LANG", b"C"), (b"A B", b"")]
 WANTED = [b"run", b"keep", b"key", b"hazard", b"option", b"wants", b"input"]
+BASES = [b"/w", b"/w///", b"/w/p", b"/of others", b"/"]
 VERSIONS = [b"14.0.6", b"12", b"9.3", b"clang version 15.0.7", b"\xce\xbb"]
 
 
@@ -29,6 +30,7 @@ def request_of(chance):
     named = {"environment": chance.sample(VARIABLES, chance.randrange(3)), "files": chance.sample(FILES, chance.randrange(4)),
              "existing": [b"/w/z.pdb"] * (chance.random() < 0.5), "directories": [b"/w/p"] * (chance.random() < 0.5),
              "version": chance.choice(VERSIONS) if chance.random() < 0.5 else b"", "most_words": chance.choice([0, 0, 0, 1000, 4]),
+             "bases": chance.choices(BASES, k=chance.choice([0, 0, 1, 2])),
              "settings": [b"wants " + it for it in chance.sample(WANTED, chance.choice([0, 0, 1, 2]))]}
     return name, words, {**named, **{it: chance.random() < 0.3 for it in scl.SETTINGS}}
 
@@ -57,7 +59,8 @@ def rows_of(answer):
     if answer.outcome == scl.COMPILED:
         rows.update({"run": answer.runs, "environment": [list(pair) for pair in answer.environment], "hazard": [[it.encode()] for it in answer.hazards],
                      "arg": [[it] for it in answer.command], "cacheable": [[b"yes" if answer.is_cacheable else b"no"]],
-                     "key": answer.key, "keep": answer.keep, "direct": answer.direct})
+                     "key": answer.key, "keep": answer.keep, "direct": answer.direct,
+                     "directory-in-object": [] if answer.directory_in_object is None else [[answer.directory_in_object]]})
         rows.update({name: [[it] for it in getattr(answer, of)] for name, of in scl.EFFECTS.items()})
     if answer.outcome == scl.CANNOT_CACHE:
         rows.update({"reason": [[answer.reason]], "because": [] if answer.text is None else [[answer.text]], "sentence": [[answer.sentence]]})

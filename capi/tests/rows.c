@@ -101,7 +101,7 @@ static list lists[] = {{.row = "arg"}, {.row = "dependency"}, {.row = "preproces
 enum { LISTS = sizeof lists / sizeof *lists, RUN = 12, OPTION, ENVIRONMENT, OUTPUT, KEY, KEEP };
 static uint32_t key_kinds[MOST];
 static size_t unknown_keys, unknown_keeps;
-static const char *const singles[] = {"input", "compilation-flag", "depfile", "too-hard", "reason", "because", "sentence"};
+static const char *const singles[] = {"input", "compilation-flag", "depfile", "too-hard", "reason", "because", "sentence", "directory-in-object"};
 enum { SINGLES = sizeof singles / sizeof *singles };
 static scl_bytes texts[SINGLES];
 static const char *const yeses[] = {"double-dash-input", "external-assembler", "show-includes", "explicit-language", "profile-generate", "no-rewrite-includes-only"};
@@ -194,7 +194,7 @@ static void make_answer(void) {
     at = below(2) ? 0 : 1 + below(100000);
     unknown_keys = unknown_keeps = 0;
     has_yes = outcome ? 0 : (unsigned)below(1u << YESES);
-    has_text = outcome == 0 ? 3 + 4 * (unsigned)below(4) : outcome == 1 ? 16 + 32 * (unsigned)below(4) : 0;
+    has_text = outcome == 0 ? 3 + 4 * (unsigned)below(4) + 128 * (unsigned)below(2) : outcome == 1 ? 16 + 32 * (unsigned)below(4) : 0;
     for (size_t i = 0; i < SINGLES; i++) texts[i] = random_bytes();
     for (size_t i = 0; i < LISTS; i++) {
         lists[i].len = outcome == 0 || (i >= 9 && i < 12) || i == OPTION ? below(MOST + 1) : 0;
@@ -246,9 +246,10 @@ static void check_key(const scl_answer *a, const scl_request *r) {
     size_t put = 0, unknown = 0;
     for (size_t i = 0; i < a->key.len; i++) {
         scl_key_row it = scl_key_at(a, i);
-        bool is_asked = it.kind > SCL_KEY_OUTPUT;
+        bool is_macro = it.kind == SCL_KEY_SHOWN, is_asked = it.kind > SCL_KEY_OUTPUT && it.kind != SCL_KEY_BASES && !is_macro;
         if (it.kind == SCL_KEYS && ++unknown) continue;
-        if (put == lists[KEY].len || it.kind != key_kinds[put] || it.is_asked != is_asked || it.fields.len != key_fields(put)) FAIL("row %zu of the key is another", i);
+        if (put == lists[KEY].len || it.kind != key_kinds[put] || it.fields.len != key_fields(put)) FAIL("row %zu of the key is another", i);
+        if (it.is_asked != is_asked || it.may_be_left_out != is_macro) FAIL("row %zu of the key is read differently", i);
         for (size_t k = 0; k < it.fields.len; k++)
             if (!is_same(it.fields.at[k], lists[KEY].words[put])) FAIL("row %zu of the key has another field", i);
         put++;
@@ -280,11 +281,11 @@ static void check_lists(const scl_answer *a, const scl_request *r) {
 }
 
 static void check_told(const scl_answer *a, const scl_request *r) {
-    const scl_bytes told[] = {a->record.input, a->record.compilation_flag, a->record.depfile, a->record.too_hard, a->reason, a->text, a->sentence};
+    const scl_bytes told[] = {a->record.input, a->record.compilation_flag, a->record.depfile, a->record.too_hard, a->reason, a->text, a->sentence, a->directory_in_object};
     const bool yes[] = {a->record.double_dash_input, a->record.uses_external_assembler, a->record.show_includes,
                         a->record.explicit_language, a->record.profile_generate, a->record.suppress_rewrite_includes_only};
     for (size_t i = 0; i < SINGLES; i++)
-        if (!is_same(told[i], has_text & 1u << i ? texts[i] : scl_text(""))) FAIL("%s is another", singles[i]);
+        if (!is_same(told[i], has_text & 1u << i && (i < 7 || r->wants_key) ? texts[i] : scl_text(""))) FAIL("%s is another", singles[i]);
     for (size_t i = 0; i < YESES; i++)
         if (yes[i] != (has_yes >> i & 1)) FAIL("%s is %d", yeses[i], yes[i]);
     if (a->record.has_depfile != (has_text >> 2 & 1) || a->record.has_too_hard != (has_text >> 3 & 1) || a->has_text != (has_text >> 5 & 1)) FAIL("what there is is read differently");
@@ -328,7 +329,7 @@ static void check_rooms(const scl_request *request, bool is_valid) {
 /* ---- requests */
 
 static const scl_request *random_request(void) {
-    static scl_bytes words[MOST], directories[MOST];
+    static scl_bytes words[MOST], directories[MOST], bases[MOST];
     static scl_pair variables[MOST], files[MOST];
     static scl_request request;
     scl_request *r = &request;
@@ -336,6 +337,7 @@ static const scl_request *random_request(void) {
     for (size_t i = 0; i < MOST; i++) {
         words[i] = random_bytes();
         directories[i] = random_bytes();
+        bases[i] = random_bytes();
         variables[i].key = random_bytes(), variables[i].value = random_bytes();
         files[i].key = random_bytes(), files[i].value = random_bytes();
     }
@@ -350,6 +352,8 @@ static const scl_request *random_request(void) {
     r->is_multiarch = below(2), r->wants_runs = below(2), r->may_dist = below(2), r->rewrite_includes_only = below(2), r->cache_mode = below(2);
     r->wants_questions = below(2), r->wants_hazards = below(4), r->wants_options = below(2), r->wants_key = below(2);
     if (below(2)) r->version = random_bytes();
+    if (below(2)) r->bases.at = bases, r->bases.len = below(MOST + 1);
+    r->keep_shown = below(2);
     if (!below(4)) r->catalogue = scl_text("# c");
     return r;
 }
@@ -373,6 +377,8 @@ static void check_request(const scl_request *r) {
     if (r->cache_mode) add(&want, "setting cache-mode\n");
     if (r->most_words) sprintf(digits, "setting bound %zu\n", r->most_words), add(&want, digits);
     if (r->version.len) add(&want, "setting version "), add_field(&want, r->version), add(&want, "\n");
+    for (size_t i = 0; i < r->bases.len; i++) add(&want, "setting base "), add_field(&want, r->bases.at[i]), add(&want, "\n");
+    if (r->keep_shown) add(&want, "setting keep-shown\n");
     if (want.len != asked.len || memcmp(want.at, asked.at, want.len)) FAIL("the request is %.*s", (int)asked.len, (const char *)asked.at);
     if (is_by_catalogue != (r->catalogue.len > 0)) FAIL("the catalogue is passed over");
 }
@@ -488,6 +494,20 @@ static void check_join(const char *answer, int32_t status, int32_t told, int32_t
     free(joined.block);
 }
 
+/* What scl_map reads of an answer, and what it asked. */
+#define MAPPED "map\nbase /w\nbase /x\\x20y\nquoting clang\ntext #\\x201\\x20\"/w/a.c\"\\x0a\n"
+static void check_map(const char *answer, int32_t status, size_t line, int32_t told) {
+    static const scl_bytes bases[] = {{(const uint8_t *)"/w", 2}, {(const uint8_t *)"/x y", 4}};
+    scl_texts mapped;
+    say(answer, status, line);
+    if (scl_map(bases, 2, "clang", scl_text("# 1 \"/w/a.c\"\n"), &mapped) != told) FAIL("a mapped text: another status");
+    said_status = 0;
+    if (asked.len != sizeof MAPPED - 1 || memcmp(asked.at, MAPPED, sizeof MAPPED - 1)) FAIL("a mapped text: another request, of %zu bytes", asked.len);
+    if (told != SCL_OK) return;
+    if (mapped.text.len != 4 || memcmp(mapped.text.at, "\0<b\n", 4) || mapped.messages.len) FAIL("a mapped text: other texts");
+    free(mapped.block);
+}
+
 /* What scl_depfile reads of an answer, and what it asked. */
 #define SHOWN "depfile\nshown N:\\x20\tN:\\x20a\\x0a\ncompiler clang-cl\ncwd \nword x.c\n"
 static void check_depfile(const char *answer, int32_t status, size_t line, int32_t told, bool is_wanted) {
@@ -517,6 +537,14 @@ static void check_others(void) {
     check_join("", SCL_BAD, SCL_NEWER, 0);
     check_join("", SCL_NO_MEMORY, SCL_NO_MEMORY, 0);
     if (scl_join(bad, 1, &ended, &joined) != SCL_BAD) FAIL("a status below 0 is taken");
+    check_map("text \\x00<b\\x0a\nversion 1\n", SCL_OK, 0, SCL_OK);
+    check_map("text \\x0\nversion 1\n", SCL_OK, 0, SCL_NEWER);
+    check_map("version 1\n", SCL_OK, 0, SCL_NEWER);
+    check_map("", SCL_BAD, 1, SCL_NEWER);
+    check_map("", SCL_BAD, 2, SCL_BAD);
+    check_map("", SCL_BAD, 4, SCL_BAD);
+    check_map("", SCL_BAD, 5, SCL_NEWER);
+    check_map("", SCL_NO_MEMORY, 0, SCL_NO_MEMORY);
     check_depfile("text a:\\x20b\\x0a\nkept k\nversion 1\n", SCL_OK, 0, SCL_OK, true);
     check_depfile("version 1\n", SCL_OK, 0, SCL_OK, false);
     check_depfile("not-utf-8\nversion 1\n", SCL_OK, 0, SCL_BAD, false);

@@ -5,7 +5,7 @@
 #include "scl.h"
 
 enum { MOST = 256 };
-static scl_bytes words[MOST], directories[MOST], existing[MOST], settings[MOST];
+static scl_bytes words[MOST], directories[MOST], existing[MOST], settings[MOST], bases[MOST];
 static scl_pair variables[MOST], files[MOST];
 
 static void fail(const char *why) {
@@ -39,6 +39,8 @@ static void take_setting(scl_request *r, scl_bytes text) {
     if (scl_is(text, "may-dist")) r->may_dist = true;
     else if (scl_is(text, "rewrite-includes-only")) r->rewrite_includes_only = true;
     else if (scl_is(text, "cache-mode")) r->cache_mode = true;
+    else if (scl_is(text, "keep-shown")) r->keep_shown = true;
+    else if (begins(text, "base ")) bases[r->bases.len++] = kept(behind(text, 5));
     else if (begins(text, "version ")) r->version = kept(behind(text, 8));
     else if (begins(text, "bound ") && begins(text, "bound 0")) settings[r->settings.len++] = text;
     else if (begins(text, "bound ")) r->most_words = strtoull((const char *)text.at + 6, NULL, 10);
@@ -46,7 +48,7 @@ static void take_setting(scl_request *r, scl_bytes text) {
 }
 
 static void take_line(scl_request *r, scl_bytes line) {
-    if (r->words.len + 1 == MOST || r->files.len + 1 == MOST || r->settings.len + 1 == MOST) fail("too much is asked");
+    if (r->words.len + 1 == MOST || r->files.len + 1 == MOST || r->settings.len + 1 == MOST || r->bases.len + 1 == MOST) fail("too much is asked");
     if (begins(line, "compiler ")) r->compiler = behind(line, 9);
     else if (begins(line, "cwd ")) r->directory = kept(behind(line, 4));
     else if (begins(line, "word ")) words[r->words.len++] = kept(behind(line, 5));
@@ -63,7 +65,7 @@ static void take_line(scl_request *r, scl_bytes line) {
 static scl_request blank(void) {
     scl_request r;
     memset(&r, 0, sizeof r);
-    r.words.at = words, r.directories.at = directories, r.existing.at = existing, r.settings.at = settings;
+    r.words.at = words, r.directories.at = directories, r.existing.at = existing, r.settings.at = settings, r.bases.at = bases;
     r.environment.at = variables, r.files.at = files;
     r.wants_runs = r.wants_questions = r.wants_hazards = r.wants_options = r.wants_key = true;
     return r;
@@ -145,6 +147,7 @@ static void put_answer(scl_writer *to, const scl_answer *a) {
     scl_put_words(to, "writes-like ", a->writes_like);
     scl_put_words(to, "loads-like ", a->loads_like);
     scl_put_words(to, "asks ", a->asks);
+    if (a->directory_in_object.len) scl_put_line(to, "directory-in-object ", a->directory_in_object);
     scl_put_words(to, "hazard ", a->hazards);
     scl_put_words(to, "wants file ", a->questions.files);
     scl_put_words(to, "wants dir ", a->questions.directories);

@@ -22,7 +22,7 @@ static size_t look(const scl_answer *answer, scl_pair *files, scl_request *reque
 }
 
 static void decide(const scl_answer *answer) {
-    size_t asked = 0;
+    size_t asked = 0, macros = 0;
     if (answer->outcome == SCL_CANNOT_CACHE) {
         printf("  run it as given: %s\n", (const char *)answer->reason.at);
     } else if (answer->keep.len && answer->keep.at[0].len > 2) {
@@ -30,8 +30,11 @@ static void decide(const scl_answer *answer) {
     } else if (answer->outcome != SCL_COMPILED || !answer->is_cacheable || !answer->key.len) {
         printf("  run it as given\n");
     } else {
-        for (size_t i = 0; i < answer->key.len; i++) asked += scl_key_at(answer, i).is_asked;
-        printf("  hash %zu rows, look up %zu\n", answer->key.len - asked, asked);
+        for (size_t i = 0; i < answer->key.len; i++) {
+            const scl_key_row row = scl_key_at(answer, i);
+            asked += row.is_asked, macros += row.may_be_left_out;
+        }
+        printf("  hash %zu rows, look up %zu, hash %zu if it counts\n", answer->key.len - asked - macros, asked, macros);
     }
 }
 

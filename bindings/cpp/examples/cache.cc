@@ -20,12 +20,12 @@ static bool look(const scl::Answer &answer, scl::Request &request) {
 }
 
 static void decide(const scl::Answer &answer) {
-    std::size_t asked = 0;
-    for (std::size_t at = 0; at < answer.key_size(); at++) asked += answer.key_at(at).is_asked;
+    std::size_t asked = 0, macros = 0;
+    for (std::size_t at = 0; at < answer.key_size(); at++) asked += answer.key_at(at).is_asked, macros += answer.key_at(at).may_be_left_out;
     if (answer.is_refused()) std::cout << "  run it as given: " << answer.reason() << '\n';
     else if (!answer.keep().empty() && answer.keep()[0].size() > 2) std::cout << "  run it as given: " << answer.keep()[0][1] << ' ' << answer.keep()[0][2] << '\n';
     else if (!answer.is_cacheable() || !answer.key_size()) std::cout << "  run it as given\n";
-    else std::cout << "  hash " << answer.key_size() - asked << " rows, look up " << asked << '\n';
+    else std::cout << "  hash " << answer.key_size() - asked - macros << " rows, look up " << asked << ", hash " << macros << " if it counts\n";
 }
 
 static bool cache(std::string_view line, std::initializer_list<std::string_view> words) {

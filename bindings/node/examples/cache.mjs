@@ -24,8 +24,8 @@ function decision(answer) {
   if (answer.outcome === "cannot-cache") return `run it as given: ${answer.word("reason")}`;
   if (keep) return `run it as given: ${keep.slice(1).join(" ")}`;
   if (!answer.isCacheable || !names.length) return "run it as given";
-  const facts = names.filter((name) => name === "is" || name === "output").length;
-  return `hash ${facts} rows, look up ${names.length - facts}`;
+  const facts = names.filter((name) => name === "is" || name === "output").length, macros = names.filter((name) => name === "shown").length;
+  return `hash ${facts} rows, look up ${names.length - facts - macros}, hash ${macros} if it counts`;
 }
 
 for (const line of ["gcc -c a.c @flags", "gcc -E a.c", "gcc -c a.c -o -"]) {

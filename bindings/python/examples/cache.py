@@ -25,8 +25,9 @@ def decision(answer):
         return "run it as given: " + b" ".join(answer.keep[0][1:]).decode()
     if not answer.is_cacheable or not answer.key:
         return "run it as given"
-    facts = sum(name in (b"is", b"output") for name, *_ in answer.key)
-    return f"hash {facts} rows, look up {len(answer.key) - facts}"
+    names = [name for name, *_ in answer.key]
+    facts, macros = names.count(b"is") + names.count(b"output"), names.count(b"shown")
+    return f"hash {facts} rows, look up {len(names) - facts - macros}, hash {macros} if it counts"
 
 
 for line in (b"gcc -c a.c @flags", b"gcc -E a.c", b"gcc -c a.c -o -"):

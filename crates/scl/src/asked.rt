@@ -15,6 +15,10 @@ pub struct Settings {
     pub may_dist: bool,
     /// The most words that it may have, if that is given.
     pub bound: Option<usize>,
+    /// The base directories by which keys are told.
+    pub base_dirs: Vec<Vec<u8>>,
+    /// Whether macros of the command stay where they are in keys.
+    pub keeps_shown: bool,
     /// The variables that are given.
     pub env_vars: Vec<(Vec<u8>, Vec<u8>)>,
     /// Whether the variables of this program's own environment do not count.

@@ -184,6 +184,8 @@ pub fn batch_of<'a>(
         multiarch: settings.multiarch,
         may_dist: settings.may_dist,
         bound: settings.bound.unwrap_or(MOST),
+        base_dirs: copied(rt.alloc(), &settings.base_dirs)?,
+        keeps_shown: settings.keeps_shown,
         json,
         keep: false,
         only,

@@ -70,6 +70,8 @@ pub fn case_of_words(
         Ok(mut case) => {
             case.may_dist = settings.may_dist;
             case.bound = settings.bound.unwrap_or(MOST);
+            case.base_dirs = copied(alloc, &settings.base_dirs)?;
+            case.keeps_shown = settings.keeps_shown;
             Ok(Some(case))
         }
         Err(error) => {

@@ -55,7 +55,8 @@ fn with_common<'a>(alloc: Global, command: Command<'a>) -> Result<Command<'a>, A
         .value_name("NAME")
         .action(ArgAction::Append)
         .help("Pass over programs of this name, which start the compiler; it may be given again");
-    let command = with_environment(alloc, with_bound(alloc, command)?)?;
+    let command = with_base(alloc, with_bound(alloc, command)?)?;
+    let command = with_environment(alloc, command)?;
     with_catalogue(
         alloc,
         command
@@ -75,6 +76,23 @@ fn with_bound<'a>(alloc: Global, command: Command<'a>) -> Result<Command<'a>, Al
         "Refuse a command line of more than N words, or one that opens files more than N times, in place of 1000000",
     );
     command.arg(distant)?.arg(bound)
+}
+
+fn with_base<'a>(alloc: Global, command: Command<'a>) -> Result<Command<'a>, AllocError> {
+    let base = Arg::new(alloc, "base")
+        .long("base")
+        .value_name("DIR")
+        .action(ArgAction::Append)
+        .help(
+            "Write keys by this base directory, an absolute path, as in every other checkout (--json); it may be given again",
+        );
+    let keep = Arg::new(alloc, "keep-shown")
+        .long("keep-shown")
+        .action(ArgAction::SetTrue)
+        .help(
+            "Keep macros of the command as facts of its key, also those that no source may name (--json)",
+        );
+    command.arg(base)?.arg(keep)
 }
 
 fn with_environment<'a>(alloc: Global, command: Command<'a>) -> Result<Command<'a>, AllocError> {
@@ -136,7 +154,7 @@ fn command_command<'a>(alloc: Global) -> Result<Command<'a>, AllocError> {
     let strict = Arg::new(alloc, "strict")
         .long("strict")
         .action(ArgAction::SetTrue)
-        .help("Write no command where a hazard is named");
+        .help("Write no command where a hazard concerns the files that it makes");
     let command = Command::new(alloc, "command")
         .about(texts::ABOUT_COMMAND)
         .after_help(texts::EXAMPLE_COMMAND)
@@ -271,6 +289,16 @@ fn count_of_own(arguments: &[Vec<u8>], matches: &ArgMatches<'_>) -> usize {
     arguments.len().saturating_sub(count)
 }
 
+/// What is wrong with the base directories, if something is.
+fn wrong_base(alloc: Global, inner: &ArgMatches<'_>) -> Result<Option<String>, AllocError> {
+    for dir in inner.get_strs("base").unwrap_or(&[]) {
+        if !dir.starts_with('/') {
+            return Ok(Some(format!(in alloc; "'{dir}' is no absolute path for --base")?));
+        }
+    }
+    Ok(None)
+}
+
 /// What is wrong with the values of options, if something is.
 fn wrong_value(alloc: Global, matches: &ArgMatches<'_>) -> Result<Option<String>, AllocError> {
     let Some((_, inner)) = matches.subcommand() else {
@@ -280,7 +308,7 @@ fn wrong_value(alloc: Global, matches: &ArgMatches<'_>) -> Result<Option<String>
         Some(text) if number_of(text).is_none() => {
             Ok(Some(format!(in alloc; "'{text}' is no number for --bound")?))
         }
-        Some(_) | None => Ok(None),
+        Some(_) | None => wrong_base(alloc, inner),
     }
 }
 
@@ -416,6 +444,14 @@ fn launchers_named(alloc: Global, matches: &ArgMatches<'_>) -> Result<Vec<Vec<u8
     Ok(names)
 }
 
+fn dirs_named(alloc: Global, matches: &ArgMatches<'_>) -> Result<Vec<Vec<u8>>, AllocError> {
+    let mut dirs = Vec::new(alloc);
+    for dir in matches.get_strs("base").unwrap_or(&[]) {
+        dirs.push(Vec::from_slice(alloc, dir.as_bytes())?)?;
+    }
+    Ok(dirs)
+}
+
 fn settings_of(alloc: Global, matches: &ArgMatches<'_>) -> Result<Settings, AllocError> {
     Ok(Settings {
         compiler: compiler_named(matches),
@@ -423,6 +459,8 @@ fn settings_of(alloc: Global, matches: &ArgMatches<'_>) -> Result<Settings, Allo
         multiarch: matches.get_flag("multiarch"),
         may_dist: matches.get_flag("may-dist"),
         bound: matches.get_str("bound").and_then(number_of),
+        base_dirs: dirs_named(alloc, matches)?,
+        keeps_shown: matches.get_flag("keep-shown"),
         env_vars: variables_told(alloc, matches)?,
         has_no_own: matches.get_flag("clear-env"),
     })

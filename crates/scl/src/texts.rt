@@ -65,7 +65,7 @@ Example:
 
 /// How `command` ends, and calls of it.
 pub const EXAMPLE_COMMAND: &str =
-    "Ends with status 10 where the outcome cannot be cached, 11 where nothing is compiled, and 13 where a word holds a NUL; then no command is written. With --strict none is written where a hazard concerns more than messages, and the status is 12: run the command as given. With status 14 the command is written: it may be run, and its result may not be kept in the cache.
+    "Ends with status 10 where the outcome cannot be cached, 11 where nothing is compiled, and 13 where a word holds a NUL; then no command is written. With --strict none is written where a hazard concerns the files that are made, and the status is 12: run the command as given. With status 14 the command is written: it may be run, and its result may not be kept in the cache.
 
 The command is a line for any shell. On a terminal a word with a character that cannot be seen stands in $'..', which bash, zsh and ksh read; with -0 each word is written as it is.
 

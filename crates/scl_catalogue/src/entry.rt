@@ -20,6 +20,8 @@ pub enum Danger {
     SideFile,
     /// Messages differ.
     Messages,
+    /// The run of the preprocessor leaves another file; the built command does not.
+    Run,
 }
 
 /// What an option does to a file, or asks of the machine.

@@ -95,7 +95,7 @@ order_of_languages_entry = entry (Hazard danger.Object) (codes "order-of-languag
 
 unfoldable pub language_unknown_entry : Entry
 language_unknown_entry = entry (Hazard danger.Failure) (codes "language-unknown")
-    (codes "The compiler has no such language to be told.") (
+    (codes "The compiler does not know this language.") (
     case (meant compiler.Gcc None None ∷ []) (asked (At place.Language (text (is (codes "cuda") ∷ is (codes "c++-module") ∷ is (codes "hip") ∷ []) [])) ∷ denied (Given (Before language_group input_group)) ∷ []) ∷
     case (meant compiler.Gcc None None ∷ []) (asked (At place.Language (text (is (codes "cuda") ∷ is (codes "c++-module") ∷ is (codes "hip") ∷ []) [])) ∷ asked (Given (Before input_group language_group)) ∷ []) ∷
     case (meant compiler.Gcc None None ∷ []) (asked (At place.Language (text (is (codes "rs") ∷ []) [])) ∷ asked (Given (Before (unnamed (test class.Kind (text (is (codes "language") ∷ []) []) (Value (text (is (codes "rs") ∷ []) []) ∷ []) ∷ [])) input_group)) ∷ []) ∷

@@ -116,7 +116,7 @@ target_unasked_entry = entry (Hazard danger.SideFile) (codes "target-unasked")
 
 unfoldable pub target_handed_on_entry : Entry
 target_handed_on_entry = entry (Hazard danger.SideFile) (codes "target-handed-on")
-    (codes "The dependency file names the object beside the target that is handed on to the preprocessor.") (
+    (codes "The dependency file names the object beside the target that is passed on to the preprocessor.") (
     case (meant compiler.Gcc None None ∷ []) (asked (Is fact.Preprocessed) ∷ asked (Given (Any need_group)) ∷ asked (Given (Any handed_target_group)) ∷ denied (Given (Any target_group)) ∷ []) ∷
     case (meant compiler.Gcc None None ∷ []) (asked (Is fact.Preprocessed) ∷ asked (Given (Any long_rules_group)) ∷ asked (Given (Any handed_target_group)) ∷ denied (Given (Any output_group)) ∷ denied (Given (Any target_group)) ∷ []) ∷
     [])
@@ -136,13 +136,13 @@ joined_dependency_file_entry = entry (Hazard danger.SideFile) (codes "joined-dep
 
 unfoldable pub dependency_file_handed_on_entry : Entry
 dependency_file_handed_on_entry = entry (Hazard danger.SideFile) (codes "dependency-file-handed-on")
-    (codes "Another dependency file is written than the one that is handed on to the preprocessor.") (
+    (codes "Another dependency file is written than the one that is passed on to the preprocessor.") (
     case (meant compiler.Clang None None ∷ []) (asked (Is fact.Preprocessed) ∷ asked (Given (Any (unnamed (test class.Kind (text (is (codes "need-dep-target") ∷ is (codes "dep-argument-path") ∷ []) []) [] ∷ [])))) ∷ asked (Given (Any (unnamed (test class.Flag (text (is (codes "-Wp") ∷ is (codes "-Xpreprocessor") ∷ []) []) (Part (text (is (codes "-MD") ∷ is (codes "-MMD") ∷ is (codes "-MF") ∷ []) []) ∷ []) ∷ [])))) ∷ []) ∷
     [])
 
 unfoldable pub dependency_names_of_input_entry : Entry
-dependency_names_of_input_entry = entry (Hazard danger.SideFile) (codes "dependency-names-of-input")
-    (codes "The run of the preprocessor names the target after the input, so that a kept object has another dependency file.") (
+dependency_names_of_input_entry = entry (Hazard danger.Run) (codes "dependency-names-of-input")
+    (codes "The run of the preprocessor names the target after the input, so the run leaves another dependency file.") (
     case (meant compiler.Clang None None ∷ []) (asked (Is fact.Preprocessed) ∷ asked (Is fact.RenamedObject) ∷ asked (Given (Any handed_rules_group)) ∷ denied (Given (Any handed_target_group)) ∷ []) ∷
     [])
 

@@ -128,7 +128,7 @@ crash_entry = entry Plain (codes "crash")
 
 unfoldable pub remarks_entry : Entry
 remarks_entry = entry Plain (codes "remarks")
-    (codes "What the optimizers did is told in messages.") (
+    (codes "Messages say what the optimizers did.") (
     case (meant compiler.Gcc None None ∷ []) (asked (Given (Any (unnamed (test class.Unknown (text (begins (codes "-fopt-info") ∷ []) (holds (codes "=") ∷ [])) [] ∷ [])))) ∷ []) ∷
     [])
 

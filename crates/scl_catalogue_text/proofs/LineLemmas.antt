@@ -82,6 +82,7 @@ danger-name danger.Object = record { read = refl; unbroken = refl; bytes = refl 
 danger-name danger.Failure = record { read = refl; unbroken = refl; bytes = refl }
 danger-name danger.SideFile = record { read = refl; unbroken = refl; bytes = refl }
 danger-name danger.Messages = record { read = refl; unbroken = refl; bytes = refl }
+danger-name danger.Run = record { read = refl; unbroken = refl; bytes = refl }
 
 record IsVerb (v : Verb) : Type 0 where
   read : verb_named (verb_name v) ≡ Some v

@@ -114,13 +114,15 @@ danger_name danger.Object = codes "object"
 danger_name danger.Failure = codes "failure"
 danger_name danger.SideFile = codes "side-file"
 danger_name danger.Messages = codes "messages"
+danger_name danger.Run = codes "run"
 
 abbrev pub danger_named : List ℕ → Option Danger
 danger_named word =
     cond (bytes_eq word (danger_name danger.Object)) (Some danger.Object) (
     cond (bytes_eq word (danger_name danger.Failure)) (Some danger.Failure) (
     cond (bytes_eq word (danger_name danger.SideFile)) (Some danger.SideFile) (
-    cond (bytes_eq word (danger_name danger.Messages)) (Some danger.Messages) (None))))
+    cond (bytes_eq word (danger_name danger.Messages)) (Some danger.Messages) (
+    cond (bytes_eq word (danger_name danger.Run)) (Some danger.Run) (None)))))
 
 abbrev pub verb_name : Verb → List ℕ
 verb_name verb.Reads = codes "reads"

@@ -131,6 +131,8 @@ pub(crate) fn danger_named(word: &[u8]) -> Option<Danger>
         Some(Danger::SideFile)
     } else if is(word, "messages") {
         Some(Danger::Messages)
+    } else if is(word, "run") {
+        Some(Danger::Run)
     } else {
         None
     }

@@ -21,6 +21,7 @@ concerns_files dangers.Object = true
 concerns_files dangers.Failure = true
 concerns_files dangers.SideFile = true
 concerns_files dangers.Messages = false
+concerns_files dangers.Run = false
 
 -- the first hazard that concerns files
 abbrev pub barring : List Hazard → Option Hazard

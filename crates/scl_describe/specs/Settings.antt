@@ -36,8 +36,9 @@ pub data Setting : Type 0 where
   Version : (text : List ℕ) → Setting
   Bound : (words : ℕ) → Setting
   Wanted : (part : Part) → Setting
-  -- a base directory, of which a description says nothing
+  -- how a key is told: a description says nothing of it
   Base : (dir : List ℕ) → Setting
+  KeepShown : Setting
 
 abbrev pub with_setting : Settings → Setting → Settings
 with_setting s MayDist = record s { may_dist = true }
@@ -46,6 +47,7 @@ with_setting s CacheMode = record s { cache_mode = true }
 with_setting s (Version text) = record s { version = Some text }
 with_setting s (Bound words) = record s { bound = words }
 with_setting s (Base dir) = s
+with_setting s KeepShown = s
 with_setting s (Wanted part) = record s { wants = Some (with_part (unwrap_or s.wants nothing_more) part) }
 
 -- ---- lines
@@ -67,7 +69,8 @@ abbrev pub setting_alone : List ℕ → Option Setting
 setting_alone name =
     if bytes_eq name (codes "may-dist") then Some MayDist
     else (if bytes_eq name (codes "rewrite-includes-only") then Some RewriteIncludesOnly
-    else (if bytes_eq name (codes "cache-mode") then Some CacheMode else None))
+    else (if bytes_eq name (codes "cache-mode") then Some CacheMode
+    else (if bytes_eq name (codes "keep-shown") then Some KeepShown else None)))
 
 -- the text in UTF-8 that a field stands for, if it stands for one
 abbrev pub field_text : List ℕ → Option (List ℕ)

@@ -18,3 +18,4 @@ set_by (lines.Version text) = settings.Version (string_bytes text)
 set_by (lines.Bound words) = settings.Bound words
 set_by (lines.Wanted part) = settings.Wanted part
 set_by (lines.Base dir) = settings.Base dir.items
+set_by lines.KeepShown = settings.KeepShown

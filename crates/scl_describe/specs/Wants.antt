@@ -52,6 +52,7 @@ parts =
     ∷ row "key" Key
     ∷ row "direct" Key
     ∷ row "keep" Key
+    ∷ row "directory-in-object" Key
     ∷ row "hazard" Tables
     ∷ row "reads" Tables
     ∷ row "reads-like" Tables

@@ -24,7 +24,7 @@ pub fn concerns_files(danger: Danger) -> bool
 {
     match danger {
         Danger::Object | Danger::Failure | Danger::SideFile => true,
-        Danger::Messages => false,
+        Danger::Messages | Danger::Run => false,
     }
 }
 

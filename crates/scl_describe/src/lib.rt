@@ -20,3 +20,4 @@ pub use scl_hazards::{
     danger_name,
 };
 pub use scl_rows::{Destination, Origin, Row};
+pub use settings::{base_in, number_of};

@@ -31,8 +31,10 @@ enum Setting {
     Version(String),
     Bound(usize),
     Wanted(Part),
-    /// A base directory: what tells keys by it reads the line itself.
+    /// A base directory. What tells keys reads this line itself, and the next one.
     Base(Vec<u8>),
+    /// Macros of the command stay where they are in the key.
+    KeepShown,
 }
 
 impl Settings {
@@ -67,7 +69,7 @@ impl Settings {
             Setting::CacheMode => self.cache_mode = true,
             Setting::Version(text) => self.version = Some(text),
             Setting::Bound(words) => self.bound = words,
-            Setting::Base(_) => {}
+            Setting::Base(_) | Setting::KeepShown => {}
             Setting::Wanted(part) => {
                 self.wants = Some(self.wants.unwrap_or(Wants::nothing_more()).with(part));
             }
@@ -87,9 +89,9 @@ fn with_digit(number: usize, digit: u8) -> Option<usize>
         .checked_add(usize::from(digit - b'0'))
 }
 
-/// The number that decimal digits write.
+/// The number that decimal digits write. There is none if there is no digit, a byte is no digit, or the number is 2^64 or more.
 #[tactic(auto, using(crate::proofs::SettingLaws::none_stays))]
-fn number_of(digits: &[u8]) -> Option<usize>
+pub fn number_of(digits: &[u8]) -> Option<usize>
     ensures { result ≡ number_of digits.now }
 {
     if digits.is_empty() {
@@ -114,6 +116,8 @@ fn setting_alone(name: &[u8]) -> Option<Setting>
         Some(Setting::RewriteIncludesOnly)
     } else if name == b"cache-mode".as_slice() {
         Some(Setting::CacheMode)
+    } else if name == b"keep-shown".as_slice() {
+        Some(Setting::KeepShown)
     } else {
         None
     }
@@ -140,7 +144,7 @@ fn is_absolute(dir: &[u8]) -> bool
 }
 
 /// The base directory that a field stands for, if it stands for one: it is absolute and has no NUL.
-fn base_in(alloc: Global, field: &[u8]) -> Mem<Option<Vec<u8>>>
+pub fn base_in(alloc: Global, field: &[u8]) -> Mem<Option<Vec<u8>>>
     ensures { IfOk result (λ dir. option_map (λ bytes. bytes.items) dir ≡ base_in field.now) }
 {
     let Some(dir) = read_field(alloc, field)? else {

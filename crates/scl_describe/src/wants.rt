@@ -30,7 +30,7 @@ pub(crate) struct Wants {
 }
 
 /// The names of rows, each with its part.
-static PARTS: [(&'static str, Part); 40] = [
+static PARTS: [(&'static str, Part); 41] = [
     ("version", Part::Always),
     ("input", Part::Always),
     ("language", Part::Always),
@@ -60,6 +60,7 @@ static PARTS: [(&'static str, Part); 40] = [
     ("key", Part::Key),
     ("direct", Part::Key),
     ("keep", Part::Key),
+    ("directory-in-object", Part::Key),
     ("hazard", Part::Tables),
     ("reads", Part::Tables),
     ("reads-like", Part::Tables),

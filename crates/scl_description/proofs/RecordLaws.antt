@@ -16,7 +16,7 @@ use Rattle.scl_description.specs.Records.{record_entries, record_names, output_r
 use Rattle.scl_description.proofs.RowLaws.{rows-back}
 
 -- what follows the name in the entries
-abbrev found : List Entry → List ℕ → List (List (List ℕ))
+abbrev pub found : List Entry → List ℕ → List (List (List ℕ))
 found entries name = flat_map (λ e. cond (bytes_eq e.name name) e.rests []) entries
 
 one-entry : (name other : List ℕ) (rests : List (List (List ℕ))) → flat_map (behind name) (map (λ rest. other ∷ rest) rests) ≡ cond (bytes_eq other name) rests []
@@ -33,7 +33,7 @@ one-entry name other rests = either (bytes_eq other name) refl where
   either true e = given rests e
   either false e = lacking rests e
 
-rests-found : (entries : List Entry) (name : List ℕ) → rests_at (rows_of entries) name ≡ found entries name
+pub rests-found : (entries : List Entry) (name : List ℕ) → rests_at (rows_of entries) name ≡ found entries name
 rests-found [] name = refl
 rests-found (e ∷ es) name =
     flat_map-append (behind name) (entry_rows e) (rows_of es)
@@ -54,7 +54,7 @@ yes-given : (holds : Bool) → yes_back (yes_rests holds ++ []) ≡ holds
 yes-given true = refl
 yes-given false = refl
 
-output-given : (a : Artifact) → output_back (output_rest a) ≡ a
+pub output-given : (a : Artifact) → output_back (output_rest a) ≡ a
 output-given a = elim (a.optional) as (λ o. output_back (output_rest (artifact a.name a.path o)) ≡ artifact a.name a.path o) [ true ↦ refl | false ↦ refl ]
 
 outputs-given : (outputs : List Artifact) → map output_back (map output_rest outputs ++ []) ≡ outputs
@@ -67,7 +67,7 @@ language-given l = grind arith
 color-given : (c : ColorMode) → color_back ((color_text c ∷ []) ∷ []) ≡ c
 color-given c = grind arith
 
-record-found : (p : Parsed) → record_by (found (record_entries p)) ≡ p
+pub record-found : (p : Parsed) → record_by (found (record_entries p)) ≡ p
 record-found p =
     rw (
       yes-given p.double_dash_input,

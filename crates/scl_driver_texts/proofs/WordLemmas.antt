@@ -1,10 +1,9 @@
 -- Bytes before a byte 0, and what readers do with the bytes to come.
-use Rattle.std.proofs.Common.{◌≡◌, ◌≢◌, ℕ, zero, suc, ◌<◌, ◌≤◌, ◌==◌, ltb, true, false, cond, List, ◌∷◌, None, Some, Result, Ok, Err, OnOk, position, take, length, refl, arith}
+use Rattle.std.proofs.Common.{◌≡◌, ℕ, ◌<◌, ◌≤◌, ltb, true, false, cond, List, None, Some, Result, Ok, Err, OnOk, position, take, length, refl, arith}
 use Rattle.std.proofs.lemmas.Bool.{ltb-true, false≢true}
 use Rattle.std.proofs.lemmas.Grind.{common_steps}
 use Rattle.std.specs.List.{position_or_len}
-use Rattle.scl_driver_texts.specs.Pieces.{Item, taken, is_nul, before_nul}
-use Rattle.scl_driver_texts.specs.WindowsWords.{backslashes, slashes}
+use Rattle.scl_driver_texts.specs.Pieces.{is_nul, before_nul}
 
 some_position : (bytes : List ℕ) (i : ℕ) → position is_nul bytes ≡ Some i → (position_or_len is_nul bytes ≡ i) × (i < length bytes)
 some_position bytes i h =
@@ -31,15 +30,7 @@ inside-some bytes i h = (some_position bytes i h).1
 
 pub ruleset nul_rules = (before-some, before-none, inside-some)
 
--- at least one backslash is an item
-pub slashes-some : (n : ℕ) (is : List Item) → n ≢ 0 → slashes n is ≡ taken (backslashes n) ∷ is
-slashes-some zero is h = absurd (h refl)
-slashes-some (suc n) is h = refl
-
 -- an implication between facts that hold on success
 pub on_ok : {A E : Type 0} {P Q : Type 0} (r : Result A E) → (P → Q) → OnOk r P → OnOk r Q
 on_ok (Ok x) f h = f h
 on_ok (Err e) f h = tt
-
-pub differs : (a b : ℕ) → a ≢ b → (a == b) ≡ false
-differs a b h = grind arith

@@ -2,12 +2,10 @@
 use Rattle.std.specs.Prelude.{ℕ, List, ◌++◌}
 use Rattle.std.specs.Option.{option_map}
 use Rattle.scl_values.specs.Words.{words_of}
-use Rattle.scl_driver_texts.specs.Pieces.{Item, Piece, joined}
+use Rattle.scl_driver_texts.specs.Pieces.{Piece, joined}
 use Rattle.scl_driver_texts.specs.GnuWords as gnu
-use Rattle.scl_driver_texts.specs.WindowsWords as windows
 use Rattle.scl_driver_texts.specs.declared.words.Words.{Words}
 use Rattle.scl_driver_texts.specs.declared.gnu_words.Reader.{Reader}
-use Rattle.scl_driver_texts.specs.declared.windows_words.WindowsReader.{WindowsReader}
 
 -- all words, if these pieces are still to come
 abbrev pub made : Words → List Piece → List (List ℕ)
@@ -16,11 +14,3 @@ made w ps = words_of w.whole.items ++ joined (option_map (λ word. word.items) w
 -- all words, if these bytes are still to come
 abbrev pub left : Reader → List ℕ → List (List ℕ)
 left r bytes = made r.words (gnu.pieces r.dialect r.quote (gnu.items r.dialect r.is_taken bytes))
-
--- all words, if these items are still to come
-abbrev pub to_come : WindowsReader → List Item → List (List ℕ)
-to_come r is = made r.words (windows.pieces r.place is)
-
--- all words, if these bytes are still to come
-abbrev pub left_in_windows : WindowsReader → List ℕ → List (List ℕ)
-left_in_windows r bytes = to_come r (windows.items r.backslashes bytes)

@@ -3,8 +3,12 @@ ghost use Rattle.std.specs.Prelude.{◌≡◌, List, [], ◌∷◌, None, OnOk, 
 ghost use Rattle.scl_values.specs.Words.{words_of};
 ghost use Rattle.scl_driver_texts.specs.Pieces.{Piece, gap, stands, lost, joined};
 ghost use Rattle.scl_driver_texts.specs.Readers.{made};
+ghost use Rattle.scl_driver_texts.specs.WindowsWords.{pieces};
+ghost use Rattle.scl_windows_words.specs.Parts.{Part};
+ghost use Rattle.scl_windows_words.specs.Reading.{marked, stepped, stood};
 
 use scl_values::Mem;
+use scl_windows_words::{Mark, Step};
 use std::alloc::Global;
 
 /// The complete words, and the one that has begun.
@@ -50,9 +54,53 @@ impl Words {
 
     /// Drops the word that has begun.
     pub(crate) fn lose(&mut self)
-        ensures { made self.new [] ≡ made self.old (lost ∷ []) }
+        ensures { (ps : List Piece) → made self.new ps ≡ made self.old (lost ∷ ps) }
     {
         self.begun = None;
+    }
+
+    fn slashes(&mut self, count: usize) -> Mem<()>
+        ensures { OnOk result ((ps : List Part) → made self.new (pieces ps) ≡ made self.old (pieces (stood count ps))) }
+    {
+        if count == 0 {
+            return Ok(());
+        }
+        let bytes = vec![in self.alloc; b'\\'; count]?;
+        self.stand(&bytes)
+    }
+
+    /// Reads a mark of Windows; a quote that follows one that closes is itself, and the end in quotes drops the word.
+    fn mark(&mut self, mark: Mark) -> Mem<()>
+        ensures { OnOk result ((ps : List Part) → made self.new (pieces ps) ≡ made self.old (pieces (marked mark ps))) }
+    {
+        match mark {
+            Mark::Nothing => Ok(()),
+            Mark::Separates => self.end(),
+            Mark::Opens => self.stand(b""),
+            Mark::Stands(byte) => self.stand(&[byte]),
+            Mark::Doubles => self.stand(b"\""),
+            Mark::StaysOpen => {
+                self.lose();
+                Ok(())
+            }
+        }
+    }
+
+    /// Reads a step of Windows.
+    pub(crate) fn step(&mut self, step: Step) -> Mem<()>
+        ensures { OnOk result ((ps : List Part) → made self.new (pieces ps) ≡ made self.old (pieces (stepped step ps))) }
+    {
+        self.slashes(step.backslashes)?;
+        self.mark(step.mark)
+    }
+
+    /// All words, after the last step of Windows.
+    pub(crate) fn finish_after(self, step: Step) -> Mem<Vec<Vec<u8>>>
+        ensures { IfOk result (λ words. words_of words.items ≡ made self (pieces (stepped step []))) }
+    {
+        let mut words = self;
+        words.step(step)?;
+        words.finish()
     }
 
     /// All words.

@@ -38,7 +38,7 @@ pub record IsDivided (all : List (List ℕ)) (at : ℕ) (divided : Divided) : Ty
 
 -- the program is the first word that may be one, the words are those after it, and the variables those that words before it
 -- assign, the last first, and then those that are given: of several values of a variable the first counts. The runs are for this
--- machine
+-- machine, and there is no base directory
 pub record IsCase (launchers all : List (List ℕ)) (named : Option Compiler) (cwd : List ℕ) (env_vars : List (List ℕ × List ℕ)) (case : Case) : Type 0 where
   pub at : ℕ
   pub program_at : program_behind launchers all ≡ Some at
@@ -49,6 +49,8 @@ pub record IsCase (launchers all : List (List ℕ)) (named : Option Compiler) (c
   pub variables : pairs_of case.env_vars.items ≡ assigned (take at all) ++ env_vars
   pub may_dist : case.may_dist ≡ false
   pub bound : case.bound ≡ default_most
+  pub base_dirs : case.base_dirs.items ≡ []
+  pub keeps_shown : case.keeps_shown ≡ false
 
 -- no word may be a program, or no compiler is named and the program's name names none
 abbrev pub IsNoCase : (launchers all : List (List ℕ)) → Option Compiler → CaseError → Type 0

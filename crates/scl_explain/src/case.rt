@@ -27,6 +27,10 @@ pub struct Case {
     pub may_dist: bool,
     /// The most words that it may have, and the most files that it may open.
     pub bound: usize,
+    /// The base directories by which its key is told.
+    pub base_dirs: Vec<Vec<u8>>,
+    /// Whether macros of the command stay where they are in its key.
+    pub keeps_shown: bool,
 }
 
 /// Why words are no command line of a compiler that is served.
@@ -118,7 +122,7 @@ impl Case {
     /// before it are left out, and the variables that are assigned come before `env_vars`, the last first, since of several
     /// values the first counts. It is `named`'s, where a compiler is named, and else that of the compiler that the program's name
     /// names; `UnknownCompiler` where it names none, `NoProgram` where no word may be a program. Its runs are for this machine,
-    /// and its limit is 1,000,000.
+    /// its limit is 1,000,000, and it has no base directory.
     #[tactic(auto, using(crate::proofs::CaseLemmas::program_inside))]
     pub fn of_words(
         alloc: Global,
@@ -151,6 +155,8 @@ impl Case {
             env_vars,
             may_dist: false,
             bound: MOST,
+            base_dirs: Vec::new(alloc),
+            keeps_shown: false,
         }))
     }
 }

@@ -26,7 +26,7 @@ use std::fmt::Display;
 pub struct CommandForm {
     /// How its words are written.
     pub words: WordForm,
-    /// Whether none is written where a hazard is named that concerns more than messages.
+    /// Whether none is written where a hazard is named that concerns files.
     pub is_strict: bool,
 }
 
@@ -111,7 +111,7 @@ fn command_reply<R: Report>(
 }
 
 /// The command to run in the place of a command line, quoted for a shell or each word with a NUL after it. Nothing is written
-/// where there is none, where a word of it holds a NUL, and of a strict form where a hazard concerns more than messages; then it ends as such, and
+/// where there is none, where a word of it holds a NUL, and of a strict form where a hazard concerns files; then it ends as such, and
 /// so says the line of standard error, with why `report` says that nothing is compiled. That its result may not be kept is said
 /// there too.
 #[tactic(auto, using(crate::proofs::UnreadLaws::is_unread))]

@@ -63,6 +63,7 @@ danger_name dangers.Object = codes "object"
 danger_name dangers.Failure = codes "failure"
 danger_name dangers.SideFile = codes "side-file"
 danger_name dangers.Messages = codes "messages"
+danger_name dangers.Run = codes "run"
 
 abbrev pub compiler_name : Compiler → List ℕ
 compiler_name compilers.Gcc = codes "gcc"

@@ -16,6 +16,7 @@ pub fn danger_name(danger: Danger) -> &'static str
         Danger::Failure => "failure",
         Danger::SideFile => "side-file",
         Danger::Messages => "messages",
+        Danger::Run => "run",
     }
 }
 

@@ -59,6 +59,7 @@ table =
     ∷ alone (codes "key") (codes "key") Rows
     ∷ alone (codes "direct") (codes "direct") Rows
     ∷ alone (codes "keep") (codes "keep") Rows
+    ∷ alone (codes "directory-in-object") (codes "directory_in_object") One
     ∷ alone (codes "entry") (codes "entry") Number
     ∷ alone (codes "file") (codes "file") One
     ∷ alone (codes "error") (codes "error") One

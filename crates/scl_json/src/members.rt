@@ -85,6 +85,7 @@ static MEMBERS: &[Member] = &members![
     "key" "key" Rows [],
     "direct" "direct" Rows [],
     "keep" "keep" Rows [],
+    "directory-in-object" "directory_in_object" One [],
     "entry" "entry" Number [],
     "file" "file" One [],
     "error" "error" One [],

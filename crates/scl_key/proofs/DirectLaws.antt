@@ -1,8 +1,6 @@
 -- A direct hit is right: the rows of a first key decide the key, and with a list its answers.
 use Rattle.std.proofs.Common.{◌≡◌, ℕ, Bool, true, false, cond, List, [], ◌∷◌, ◌++◌, codes, refl, ap, sym, ◌∙◌}
-use Rattle.std.specs.List.{flat_map}
 use Rattle.scl_values.specs.Each.{Each}
-use Rattle.scl_text.specs.Records.{Parsed}
 use Rattle.scl_description.specs.Rows.{IsRow, row_text}
 use Rattle.scl_description.specs.Records.{first_field}
 use Rattle.scl_reader.specs.declared.compiler.Compiler.{Compiler}
@@ -11,9 +9,9 @@ use Rattle.scl_key.specs.declared.part.Ask.TheVariants as asks
 use Rattle.scl_key.specs.Directs.{Direct, env, search, first, named, refuse_if_read, direct_fields, directs}
 use Rattle.scl_key.specs.Keys.{key_of}
 use Rattle.scl_key.specs.Parts.{Part, asked, fields, hashed, is_asked}
-use Rattle.scl_key.specs.Told.{RunWords, told}
-use Rattle.scl_key.specs.Laws.{World, Listing, answered, answers, material, early, is_early, part_back, valued, valued_rows, AreOne, DirectHitsAreRight}
-use Rattle.scl_key.proofs.KeyLaws.{part-back, fact_of, facts_in, facts-decide}
+use Rattle.scl_key.specs.Told.{told}
+use Rattle.scl_key.specs.Laws.{World, answered, answers, material, early, is_early, part_back, valued, valued_rows, AreOne, DirectHitsAreRight}
+use Rattle.scl_key.proofs.KeyLaws.{part-back, facts_in, facts-decide}
 use Rattle.scl_key.proofs.HitLaws.{one-row, head_text, tail_texts, is_none, answered_by, front, facts-of-key, hits-right}
 
 -- ---- rows decide what they are of

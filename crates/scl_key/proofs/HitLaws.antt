@@ -1,12 +1,10 @@
 -- A hit is right: what is hashed of a key decides what is stated and what was answered.
-use Rattle.std.proofs.Common.{◌≡◌, ℕ, Bool, true, false, cond, List, [], ◌∷◌, ◌++◌, map, codes, Option, Some, None, refl, ap, sym, subst, ◌∙◌, append-nil}
-use Rattle.std.specs.List.{flat_map}
+use Rattle.std.proofs.Common.{◌≡◌, ℕ, Bool, true, false, cond, List, [], ◌∷◌, ◌++◌, map, codes, refl, ap, sym, ◌∙◌, append-nil}
 use Rattle.std.specs.Option.{option_to_list}
 use Rattle.std.specs.Str.{bytes_eq}
 use Rattle.std.proofs.lemmas.Grind.{flat_map-append}
-use Rattle.scl_values.specs.Each.{Each}
 use Rattle.scl_text.specs.Records.{Artifact, Parsed}
-use Rattle.scl_description.specs.Rows.{IsRow, row_text, rows_text, rows_in, behind, rests_at}
+use Rattle.scl_description.specs.Rows.{IsRow, row_text, rows_in, behind, rests_at}
 use Rattle.scl_description.proofs.RowLaws.{rows-back}
 use Rattle.scl_reader.specs.declared.compiler.Compiler.{Compiler}
 use Rattle.scl_reader.specs.Answers.{command_by}
@@ -20,8 +18,8 @@ use Rattle.scl_key.specs.Parts.{Part, is, output, directory, compiler, plan, ask
 use Rattle.scl_key.specs.Reads.{files_perhaps}
 use Rattle.scl_key.specs.Runs.{plans, plan_record, run_parts, key_runs, runs_else}
 use Rattle.scl_key.specs.Told.{RunWords, flat_pairs, told}
-use Rattle.scl_key.specs.Laws.{World, answered, answers, material, AreOne, AreAlike, AreWellBehaved, CanBeHashed, AHitIsRight, HitsAreRight, ran, with_shown_of}
-use Rattle.scl_key.proofs.KeyLaws.{fact_of, facts_in, facts-decide, same-ran}
+use Rattle.scl_key.specs.Laws.{World, answered, answers, material, AreOne, CanBeHashed, HitsAreRight, ran}
+use Rattle.scl_key.proofs.KeyLaws.{fact_of, facts_in, facts-decide}
 
 -- ---- what is hashed decides rows and answers
 

@@ -1,25 +1,23 @@
 -- A key is read back from its rows, and decides the command.
-use Rattle.std.proofs.Common.{◌≡◌, ℕ, Bool, true, false, cond, List, [], ◌∷◌, ◌++◌, map, codes, Option, Some, None, unwrap_or, refl, ap, sym, subst, ◌∙◌, append-nil}
+use Rattle.std.proofs.Common.{◌≡◌, ℕ, Bool, true, false, cond, List, [], ◌∷◌, ◌++◌, map, codes, Option, Some, None, unwrap_or, refl, ap, sym, ◌∙◌}
 use Rattle.std.specs.List.{flat_map}
 use Rattle.std.specs.Str.{bytes_eq}
 use Rattle.std.proofs.lemmas.Grind.{flat_map-append}
-use Rattle.scl_values.specs.Each.{Each}
 use Rattle.scl_text.specs.Records.{Parsed}
-use Rattle.scl_description.specs.Rows.{Entry, IsRow, entry_rows, rows_of, rows_in, behind, rests_at, entries_text}
+use Rattle.scl_description.specs.Rows.{Entry, entry_rows, rows_of, rests_at}
 use Rattle.scl_description.specs.Records.{record_entries, record_by}
 use Rattle.scl_description.proofs.RowLaws.{rows-back}
-use Rattle.scl_description.proofs.RecordLaws.{entries-rows}
+use Rattle.scl_description.proofs.RecordLaws.{rests-found, output-given, record-found, entries-rows}
 use Rattle.scl_reader.specs.declared.compiler.Compiler.{Compiler}
 use Rattle.scl_reader.specs.declared.compiler.Compiler.TheVariants as compilers
 use Rattle.scl_reader.specs.Answers.{command_by}
 use Rattle.scl_reader.specs.Compilers.{name_of, compiler_named}
-use Rattle.scl_key.proofs.RecordLaws.{rests-found, record-found, output-given}
 use Rattle.scl_key.specs.declared.part.Ask.{Ask}
 use Rattle.scl_key.specs.declared.part.Ask.TheVariants as asks
 use Rattle.scl_key.specs.Given.{shows}
-use Rattle.scl_key.specs.Parts.{Part, is, output, directory, compiler, plan, asked, run, run_else, pch, sources, times, fields, part_entry, key_entries}
-use Rattle.scl_key.specs.Told.{RunWords, built, given, hazardous, flat_pairs, key_record, run_words_fields, yes_or_no, told_entry, told_entries, told}
-use Rattle.scl_key.specs.Laws.{part_back, key_in, KeysReadBack, with_shown_of, ran_with, ran, AreOne, KeysDecideCommands}
+use Rattle.scl_key.specs.Parts.{Part, is, output, directory, compiler, plan, asked, run, run_else, pch, sources, times, fields, key_entries}
+use Rattle.scl_key.specs.Told.{RunWords, built, given, hazardous, key_record, run_words_fields, yes_or_no, told_entry, told_entries, told}
+use Rattle.scl_key.specs.Laws.{part_back, key_in, KeysReadBack, with_shown_of, ran_with, AreOne, KeysDecideCommands}
 
 -- ---- rows are read back
 

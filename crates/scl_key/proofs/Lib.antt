@@ -1,6 +1,5 @@
 pub mod PartLaws
 pub mod PathLaws
-pub mod RecordLaws
 pub mod KeyLaws
 pub mod HitLaws
 pub mod DirectLaws

@@ -8,7 +8,6 @@ use Rattle.scl_text.specs.Records.{Parsed}
 use Rattle.scl_text.specs.declared.language.Language.{Language}
 use Rattle.scl_description.specs.Rows.{Entry, row_entry}
 use Rattle.scl_reader.specs.declared.compiler.Compiler.{Compiler}
-use Rattle.scl_key.specs.declared.effect.Effect.{Effect}
 use Rattle.scl_key.specs.declared.effect.Effect.TheVariants.{Plain, Exact}
 use Rattle.scl_key.specs.declared.given.Brings.{Brings}
 use Rattle.scl_key.specs.declared.given.Brings.TheVariants.{Folder, Header, MacroFile, Other, Dependencies, Unknown}

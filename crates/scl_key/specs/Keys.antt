@@ -59,9 +59,9 @@ text_is_enough c p = shows c p && list_all (λ j. is_plain j.effect) (judged_in 
 abbrev pub telling : List ℕ
 telling = codes "__builtin_(COLUMN|LINE|FILE|source_location)|diagnostic[ \t]+error|__has_embed|#[ \t]*embed"
 
--- the same for Clang, which names what has no name by its column
+-- the same for Clang, which names what has no name by its column, and expands macros in pragmas that its runs write as they stand
 abbrev pub clang_telling : List ℕ
-clang_telling = codes "__builtin_(COLUMN|LINE|FILE|source_location|dump_struct)|__PRETTY_FUNCTION__|diagnostic[ \t]+error|__has_embed|#[ \t]*embed"
+clang_telling = codes "__builtin_(COLUMN|LINE|FILE|source_location|dump_struct)|__PRETTY_FUNCTION__|diagnostic[ \t]+error|__has_embed|#[ \t]*embed|#[ \t]*pragma[ \t]+([^GSpc \t]|p[^uo]|c[^l]|clang[ \t]+[^d \t]|GCC[ \t]+[^vdspew \t])"
 
 abbrev pub telling_of : Compiler → List ℕ
 telling_of c = if is_clang c then clang_telling else telling

@@ -1,8 +1,8 @@
 -- What a key is worth.
-use Rattle.std.specs.Prelude.{◌≡◌, ℕ, Bool, true, false, List, [], ◌∷◌, ◌++◌, map, codes, find, Option, None, Some, unwrap_or, if◌then◌else◌}
+use Rattle.std.specs.Prelude.{◌≡◌, ℕ, Bool, true, false, List, [], ◌∷◌, map, codes, find, Option, None, Some, unwrap_or, if◌then◌else◌}
 use Rattle.std.specs.List.{flat_map}
 use Rattle.std.specs.Str.{bytes_eq}
-use Rattle.scl_text.specs.Records.{Artifact, Parsed}
+use Rattle.scl_text.specs.Records.{Parsed}
 use Rattle.scl_values.specs.Each.{Each}
 use Rattle.scl_description.specs.Rows.{IsRow, row_text, rows_in, rows_of, rests_at, entries_text}
 use Rattle.scl_description.specs.Records.{first_field, output_back}

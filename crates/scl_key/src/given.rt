@@ -111,7 +111,7 @@ fn is_lone_flag(word: &[u8]) -> bool
     word == NO_INCLUDES || word == NO_CXX_INCLUDES
 }
 
-/// What a word brings in that hands no file of dependencies to the preprocessor.
+/// What a word brings in, if it passes no file of dependencies to the preprocessor.
 fn given_else(word: &[u8]) -> Given<'_>
     ensures { given_of result ≡ given_else word.now }
 {

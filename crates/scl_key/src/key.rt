@@ -48,9 +48,9 @@ pub enum Keeping {
 const TELLING: &str =
     "__builtin_(COLUMN|LINE|FILE|source_location)|diagnostic[ \t]+error|__has_embed|#[ \t]*embed";
 
-/// The same for Clang, which names what has no name by its column.
+/// The same for Clang, which names what has no name by its column, and expands macros in pragmas that its runs write as they stand.
 const CLANG_TELLING: &str =
-    "__builtin_(COLUMN|LINE|FILE|source_location|dump_struct)|__PRETTY_FUNCTION__|diagnostic[ \t]+error|__has_embed|#[ \t]*embed";
+    "__builtin_(COLUMN|LINE|FILE|source_location|dump_struct)|__PRETTY_FUNCTION__|diagnostic[ \t]+error|__has_embed|#[ \t]*embed|#[ \t]*pragma[ \t]+([^GSpc \t]|p[^uo]|c[^l]|clang[ \t]+[^d \t]|GCC[ \t]+[^vdspew \t])";
 
 /// What in a text reads a file that nobody names, or may: an assembler's directives, and its macros that make such.
 const READING: &str =

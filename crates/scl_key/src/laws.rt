@@ -3,13 +3,13 @@ ghost use Rattle.scl_key.specs.Laws.{DirectHitsAreRight, HitsAreRight, KeysDecid
 
 /// Laws of keys (docs/RULES.md, Keys):
 ///
-/// - `keys_read_back`: a key is read back from its rows, so that two keys of one text are one;
-/// - `keys_decide_commands`: two command lines of which the same is stated are by one compiler, and have one record and
-///   command, but for words that every run shows;
-/// - `hits_are_right`: if a compiler makes the same files of what is stated alike and answered alike, a hit gives what
-///   a compilation would give;
-/// - `direct_hits_are_right`: if the first key of direct mode is one and a list is as it was, the key is that which runs would
-///   give, if first key and list decide what runs show.
+/// - `keys_read_back`: a key can be read back from its rows, so two keys with the same text are equal;
+/// - `keys_decide_commands`: if the keys of two command lines have the same facts, the two have the same compiler, record and
+///   command, except for words that every run shows;
+/// - `hits_are_right`: suppose a compiler makes the same files whenever facts and answers are the same. Then a hit gives
+///   what a compilation would give;
+/// - `direct_hits_are_right`: suppose the first key of direct mode and a list decide what runs show. If both are as they were,
+///   the key is the one that runs would give.
 pub fn of_keys()
     ensures keys_read_back { KeysReadBack }
     ensures keys_decide_commands { KeysDecideCommands }

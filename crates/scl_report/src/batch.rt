@@ -11,7 +11,7 @@ use scl_describe::About;
 use scl_explain::{Answered, Case, Counts, Ending, EntryKind, answer_case, load_error_text};
 use scl_load::Disk;
 use scl_shell::shown_briefly;
-use scl_text::command::copy_pairs;
+use scl_text::command::{copy_pairs, copy_words};
 use serde_json::Value;
 use std::alloc::Global;
 use std::fmt::Display;
@@ -35,6 +35,10 @@ pub struct Batch<'a> {
     pub may_dist: bool,
     /// The most words that an entry may have.
     pub bound: usize,
+    /// The base directories by which keys are told.
+    pub base_dirs: Vec<Vec<u8>>,
+    /// Whether macros of the command stay where they are in keys.
+    pub keeps_shown: bool,
     /// Whether machines read the answers.
     pub json: bool,
     /// Whether it is counted what may be kept under a key.
@@ -60,6 +64,8 @@ fn slashed_case(alloc: Global, case: &Case) -> Mem<Case> {
         env_vars: copy_pairs(alloc, &case.env_vars)?,
         may_dist: case.may_dist,
         bound: case.bound,
+        base_dirs: copy_words(alloc, &case.base_dirs)?,
+        keeps_shown: case.keeps_shown,
     })
 }
 
@@ -223,6 +229,8 @@ impl<'a> Batch<'a> {
             Ok(mut case) => {
                 case.may_dist = self.may_dist;
                 case.bound = self.bound;
+                case.base_dirs = copy_words(alloc, &self.base_dirs)?;
+                case.keeps_shown = self.keeps_shown;
                 Ok(Ok(case))
             }
             Err(error) => Ok(Err(error)),

@@ -1,8 +1,9 @@
 //! The description of a command line on a disk, as text: that of its request, with what was found on the disk.
 use scl_cl::{Mem, Service};
-use scl_describe::{About, Descriptions, Tables};
+use scl_describe::{About, Tables};
 use scl_description::{push_field, push_row, push_word, push_words, push_yes};
 use scl_explain::{Answered, Case};
+use scl_requests::Requests;
 use std::alloc::Global;
 
 /// Appends a line of two fields with a tab between them.
@@ -39,13 +40,19 @@ fn push_facts(text: &mut Vec<u8>, answered: &Answered<'_>) -> Mem<()> {
     push_yes(text, "multiarch", answered.view.multiarch())
 }
 
-/// Appends the lines of settings.
+/// Appends the lines of settings, those too that say how the key is told.
 fn push_settings(alloc: Global, text: &mut Vec<u8>, about: &About<'_>, case: &Case) -> Mem<()> {
     if let Some(version) = about.version {
         push_row(text, "setting", &[b"version", version.as_bytes()])?;
     }
     if case.may_dist {
         push_word(text, "setting", b"may-dist")?;
+    }
+    for dir in &case.base_dirs {
+        push_row(text, "setting", &[b"base", dir])?;
+    }
+    if case.keeps_shown {
+        push_word(text, "setting", b"keep-shown")?;
     }
     let bound = format!(in alloc; "{}", case.bound)?;
     push_row(text, "setting", &[b"bound", bound.as_bytes()])
@@ -71,7 +78,7 @@ pub(crate) fn description(
     case: &Case,
     answered: &Answered<'_>,
 ) -> Mem<Vec<u8>> {
-    let service = Descriptions {
+    let service = Requests {
         tables: Tables {
             catalogue: about.catalogue,
             plain: about.plain,

@@ -1,5 +1,6 @@
 pub mod NamingLaws
 pub mod JoiningLaws
+pub mod MappingLaws
 pub mod DepfileLaws
 pub mod RequestLaws
 pub mod SharedLaws

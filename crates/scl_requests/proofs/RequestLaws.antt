@@ -1,23 +1,24 @@
 -- What is answered by the kind that the first line says.
 use Rattle.std.proofs.Common.{◌≡◌, ℕ, List, Result, Ok, Err, Vec, MatchResult, drop, subst, sym, ap, refl}
+use Rattle.std.specs.List.{list_any}
 use Rattle.std.specs.declared.alloc.Global.{Global}
 use Rattle.scl_description.specs.Lines.{lines_of}
 use Rattle.scl_describe.specs.Descriptions.{DescribesBytes}
 use Rattle.scl_hazards.specs.Hazards.{Tables}
 use Rattle.scl_requests.specs.Depfiles.{IsSaid}
 use Rattle.scl_requests.specs.Joining.{joined}
+use Rattle.scl_requests.specs.Mapping.{mapped}
 use Rattle.scl_requests.specs.Naming.{named}
-use Rattle.scl_requests.specs.Requests.{AnswersBy, AnswersBytes, kind_of, shared_by}
+use Rattle.scl_requests.specs.Requests.{AnswersBy, AnswersBytes, kind_of, shared_by, told_by}
 use Rattle.scl_requests.specs.declared.requests.Kind.{Kind}
 use Rattle.scl_requests.specs.declared.requests.Kind.TheVariants as kinds
-use Rattle.scl_shared_text.specs.BaseLines.{bases_in}
-use Rattle.scl_shared_text.specs.SharedTexts.{shared_text}
+use Rattle.scl_shared_text.specs.BaseLines.{bases_in, is_keep_shown}
 
 by_kind : (kind : Kind) (tables : Tables) (bytes : List ℕ) (said : Result (List ℕ) ℕ) → kind_of (lines_of bytes) ≡ kind → AnswersBy kind tables bytes said → AnswersBytes tables bytes said
 by_kind kind tables bytes said is h = subst (λ k. AnswersBy k tables bytes said) (sym is) h
 
 shared : (tables : Tables) (bytes : List ℕ) (said described : Result (List ℕ) ℕ) → kind_of (lines_of bytes) ≡ kinds.Description → DescribesBytes tables bytes described
-    → said ≡ shared_by (bases_in (lines_of bytes)) described → AnswersBytes tables bytes said
+    → said ≡ shared_by (bases_in (lines_of bytes)) (list_any is_keep_shown (lines_of bytes)) described → AnswersBytes tables bytes said
 shared tables bytes said described is h e = by_kind kinds.Description tables bytes said is (record { described = described; describes = h; said_is = e })
 
 -- ---- what the code answers
@@ -29,7 +30,7 @@ name_said tables bytes (Ok text) is h = by_kind kinds.Name tables bytes (Ok text
 name_said tables bytes (Err number) is h = by_kind kinds.Name tables bytes (Err number) is h
 
 pub text_said : (tables : Tables) (bytes text told : List ℕ) → kind_of (lines_of bytes) ≡ kinds.Description → DescribesBytes tables bytes (Ok text)
-    → told ≡ shared_text (bases_in (lines_of bytes)) text → AnswersBytes tables bytes (Ok told)
+    → told ≡ told_by (bases_in (lines_of bytes)) (list_any is_keep_shown (lines_of bytes)) text → AnswersBytes tables bytes (Ok told)
 text_said tables bytes text told is h e = shared tables bytes (Ok told) (Ok text) is h (ap Ok e)
 
 pub number_said : (tables : Tables) (bytes : List ℕ) (number : ℕ) → kind_of (lines_of bytes) ≡ kinds.Description → DescribesBytes tables bytes (Err number)
@@ -41,6 +42,12 @@ pub join_said : (tables : Tables) (bytes : List ℕ) (lines : List (List ℕ)) (
     → MatchResult said (λ text. AnswersBytes tables bytes (Ok text.items)) (λ number. AnswersBytes tables bytes (Err number))
 join_said tables bytes lines (Ok text) is are h = by_kind kinds.Join tables bytes (Ok text.items) is (subst (λ ls. joined ls ≡ Ok text.items) are h)
 join_said tables bytes lines (Err number) is are h = by_kind kinds.Join tables bytes (Err number) is (subst (λ ls. joined ls ≡ Err number) are h)
+
+pub map_said : (tables : Tables) (bytes : List ℕ) (lines : List (List ℕ)) (said : Result (Vec ℕ Global) ℕ) → kind_of (lines_of bytes) ≡ kinds.Map → lines ≡ drop 1 (lines_of bytes)
+    → MatchResult said (λ text. mapped lines ≡ Ok text.items) (λ number. mapped lines ≡ Err number)
+    → MatchResult said (λ text. AnswersBytes tables bytes (Ok text.items)) (λ number. AnswersBytes tables bytes (Err number))
+map_said tables bytes lines (Ok text) is are h = by_kind kinds.Map tables bytes (Ok text.items) is (subst (λ ls. mapped ls ≡ Ok text.items) are h)
+map_said tables bytes lines (Err number) is are h = by_kind kinds.Map tables bytes (Err number) is (subst (λ ls. mapped ls ≡ Err number) are h)
 
 pub depfile_said : (tables : Tables) (bytes : List ℕ) (lines : List (List ℕ)) (said : Result (Vec ℕ Global) ℕ) → kind_of (lines_of bytes) ≡ kinds.Depfile → lines ≡ drop 1 (lines_of bytes)
     → MatchResult said (λ text. IsSaid lines (Ok text.items)) (λ number. IsSaid lines (Err number))

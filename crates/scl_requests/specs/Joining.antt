@@ -1,5 +1,5 @@
 -- What runs of the preprocessor for several architectures wrote, and what is answered of them.
-use Rattle.std.specs.Prelude.{ℕ, ℤ, pos, ◌+◌, ◌^◌, List, [], ◌∷◌, codes, nat_lt, is_some, Option, None, Some, Result, Ok, Err, if◌then◌else◌, option_and_then}
+use Rattle.std.specs.Prelude.{ℕ, ℤ, pos, ◌+◌, ◌^◌, ◌==◌, ◌||◌, Bool, List, [], ◌∷◌, length, codes, nat_lt, is_some, Option, None, Some, Result, Ok, Err, if◌then◌else◌, option_and_then}
 use Rattle.std.specs.Fmt.{signed_decimal}
 use Rattle.std.specs.List.{filter_map}
 use Rattle.std.specs.Str.{bytes_eq}
@@ -41,10 +41,14 @@ run_after parts = if bytes_eq parts.0 (codes "ran") then run_in parts.1 else Non
 abbrev pub run_of : List ℕ → Option ArchOutput
 run_of line = option_and_then run_after (cut_at space line)
 
--- the number of the first line that tells no run; the first of these lines has number n
+-- whether a line tells a run, or is empty
+abbrev pub is_told : List ℕ → Bool
+is_told line = is_some (run_of line) || length line == 0
+
+-- the number of the first line that tells no run and is not empty; the first of these lines has number n
 abbrev pub first_untold : ℕ → List (List ℕ) → Option ℕ
 first_untold n [] = None
-first_untold n (line ∷ lines) = if is_some (run_of line) then first_untold (n + 1) lines else Some n
+first_untold n (line ∷ lines) = if is_told line then first_untold (n + 1) lines else Some n
 
 -- the rows of what the joined runs gave
 abbrev pub join_entries : Output → List Entry

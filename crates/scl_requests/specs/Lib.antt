@@ -1,5 +1,7 @@
 pub mod Naming
 pub mod Joining
+pub mod Mapping
+pub mod MappingRead
 pub mod Depfiles
 pub mod Requests
 pub mod SharedLaws

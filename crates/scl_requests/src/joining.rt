@@ -2,46 +2,17 @@
 ghost use Rattle.std.specs.Prelude.{◌≡◌, IfOk, MatchOption, MatchResult, None, Some, Ok, Err};
 ghost use Rattle.std.specs.List.{filter_map};
 ghost use Rattle.std.specs.Option.{option_map};
-ghost use Rattle.scl_describe.specs.Settings.{number_of, with_digit};
 ghost use Rattle.scl_description.specs.Lines.{lines_of};
 ghost use Rattle.scl_description.specs.Rows.{entries_text};
 ghost use Rattle.scl_gnu.specs.Runs.{arch_output, arch_outputs, output_of};
 ghost use Rattle.scl_requests.specs.Joining.{first_untold, join_entries, joined, run_cut, run_in, run_of, status_of};
 
 use scl_cl::Mem;
+use scl_describe::number_of;
 use scl_description::{cut_at, next_line, push_word, read_field, read_two_fields};
 use scl_gnu::gcc::join_passes;
 use scl_text::records::PassOutput;
 use std::alloc::Global;
-
-/// A number and one more decimal digit.
-fn with_digit(number: usize, digit: u8) -> Option<usize>
-    ensures { result ≡ with_digit number digit }
-{
-    if !digit.is_ascii_digit() {
-        return None;
-    }
-    number
-        .checked_mul(10)?
-        .checked_add(usize::from(digit - b'0'))
-}
-
-/// The number that decimal digits write.
-#[tactic(auto, using(scl_describe::proofs::SettingLaws::none_stays))]
-fn number_of(digits: &[u8]) -> Option<usize>
-    ensures { result ≡ number_of digits.now }
-{
-    if digits.is_empty() {
-        return None;
-    }
-    let mut number = 0;
-    let mut left = digits;
-    while let Some((digit, rest)) = left.split_first() {
-        number = with_digit(number, *digit)?;
-        left = rest;
-    }
-    Some(number)
-}
 
 /// The exit status that decimal digits write.
 fn status_of(digits: &[u8]) -> Option<i32>
@@ -97,8 +68,8 @@ fn run_of(alloc: Global, line: &[u8]) -> Mem<Option<(Vec<u8>, PassOutput)>>
     }
 }
 
-/// The runs that lines tell, of which the first has the number 2, or the number of the first that tells none.
-#[tactic(auto, using(crate::proofs::JoiningLaws::goes_on, crate::proofs::JoiningLaws::is_stopped, crate::proofs::JoiningLaws::all_told, crate::proofs::JoiningLaws::none_untold))]
+/// The runs that lines tell, of which the first has the number 2, or the number of the first that tells none and is not empty.
+#[tactic(auto, using(crate::proofs::JoiningLaws::goes_on, crate::proofs::JoiningLaws::goes_on_blank, crate::proofs::JoiningLaws::is_stopped, crate::proofs::JoiningLaws::all_told, crate::proofs::JoiningLaws::none_untold))]
 fn runs_of(alloc: Global, bytes: &[u8]) -> Mem<Result<Vec<(Vec<u8>, PassOutput)>, u64>>
     ensures told { IfOk result (λ read. MatchResult read (λ runs. arch_outputs runs.items ≡ filter_map run_of (lines_of bytes.now)) (λ number. Unit)) }
     ensures untold { IfOk result (λ read. MatchResult read (λ runs. first_untold 2 (lines_of bytes.now) ≡ None) (λ number. first_untold 2 (lines_of bytes.now) ≡ Some number)) }
@@ -107,10 +78,11 @@ fn runs_of(alloc: Global, bytes: &[u8]) -> Mem<Result<Vec<(Vec<u8>, PassOutput)>
     let mut number = 2;
     let mut left = bytes;
     while let Some((line, rest)) = next_line(left) {
-        let Some(run) = run_of(alloc, line)? else {
-            return Ok(Err(number));
-        };
-        runs.push(run)?;
+        match run_of(alloc, line)? {
+            Some(run) => runs.push(run)?,
+            None if line.is_empty() => {}
+            None => return Ok(Err(number)),
+        }
         number += 1;
         left = rest;
     }

@@ -4,6 +4,7 @@
 mod depfile;
 mod joining;
 pub mod laws;
+mod mapping;
 mod naming;
 mod requests;
 

@@ -5,11 +5,12 @@ ghost use Rattle.scl_requests.specs.Requests.{kind_in, kind_of};
 
 use crate::depfile::depfile_said;
 use crate::joining::joined;
+use crate::mapping::mapped;
 use crate::naming::named;
 use scl_cl::{Mem, Service};
 use scl_describe::{Descriptions, Tables};
 use scl_description::next_line;
-use scl_shared_text::{bases_in, shared_text};
+use scl_shared_text::{bases_in, keeps_shown, shared_text, shown_text};
 use std::alloc::Global;
 
 /// What a request asks.
@@ -19,6 +20,8 @@ pub enum Kind {
     Name,
     /// The text of several runs of the preprocessor.
     Join,
+    /// A preprocessed text told by base directories.
+    Map,
     /// A dependency file.
     Depfile,
     /// A description.
@@ -33,6 +36,8 @@ fn kind_in(line: &[u8]) -> Kind
         Kind::Name
     } else if line == b"join".as_slice() {
         Kind::Join
+    } else if line == b"map".as_slice() {
+        Kind::Map
     } else if line == b"depfile".as_slice() {
         Kind::Depfile
     } else {
@@ -61,8 +66,9 @@ fn after_first(bytes: &[u8]) -> &[u8]
 }
 
 /// Answers a request by what its first line asks: what the name of a program means (`name`), the text of several runs of the
-/// preprocessor (`join`), a dependency file (`depfile`), and else a description, with what tables know of compilers, whose key
-/// is told by the base directories of lines `setting base` (docs/PROTOCOL.md, A request).
+/// preprocessor (`join`), a preprocessed text told by base directories (`map`), a dependency file (`depfile`), and else a
+/// description, with what tables know of compilers, whose key is told by the base directories of lines `setting base`, and has its
+/// macros at its end unless `setting keep-shown` says otherwise (docs/PROTOCOL.md, A request).
 #[derive(Debug, Clone, Copy)]
 pub struct Requests<'a> {
     /// What is known of compilers.
@@ -75,19 +81,24 @@ impl<'a> Service for Requests<'a> {
 
     ghost answers = { λ service bytes said. AnswersBytes (tables_of service.tables) bytes said };
 
-    #[tactic(auto, using(crate::proofs::RequestLaws::name_said, crate::proofs::RequestLaws::join_said, crate::proofs::RequestLaws::depfile_said, crate::proofs::RequestLaws::text_said, crate::proofs::RequestLaws::number_said))]
+    #[tactic(auto, using(crate::proofs::RequestLaws::name_said, crate::proofs::RequestLaws::join_said, crate::proofs::RequestLaws::map_said, crate::proofs::RequestLaws::depfile_said, crate::proofs::RequestLaws::text_said, crate::proofs::RequestLaws::number_said))]
     fn answer(&self, alloc: Global, bytes: Vec<u8>) -> Mem<Result<Vec<u8>, u64>> {
         match kind_of(&bytes) {
             Kind::Name => Ok(named(alloc, &bytes)?),
             Kind::Join => Ok(joined(alloc, after_first(&bytes))?),
+            Kind::Map => Ok(mapped(alloc, after_first(&bytes))?),
             Kind::Depfile => Ok(depfile_said(alloc, after_first(&bytes))?),
             Kind::Description => {
                 let bases = bases_in(alloc, &bytes)?;
+                let keep = keeps_shown(&bytes);
                 let descriptions = Descriptions {
                     tables: self.tables,
                 };
                 match descriptions.answer(alloc, bytes)? {
-                    Ok(text) => Ok(Ok(shared_text(alloc, &bases, text)?)),
+                    Ok(text) => {
+                        let shared = shared_text(alloc, &bases, text)?;
+                        Ok(Ok(shown_text(alloc, keep, shared)?))
+                    }
                     Err(number) => Ok(Err(number)),
                 }
             }

@@ -64,6 +64,34 @@ whole_words =
     ∷ row "-fstack-clash-protection" Nothing
     ∷ row "-fcolor-diagnostics" Nothing
     ∷ row "-Wa,--noexecstack" Nothing
+    ∷ row "-fno-strict-overflow" Nothing
+    ∷ row "-fstrict-overflow" Nothing
+    ∷ row "-fno-delete-null-pointer-checks" Nothing
+    ∷ row "-fno-ident" Nothing
+    ∷ row "-fno-trapping-math" Nothing
+    ∷ row "-ffast-math" Nothing
+    ∷ row "-fno-signed-zeros" Nothing
+    ∷ row "-ffp-contract=off" Nothing
+    ∷ row "-fmerge-all-constants" Nothing
+    ∷ row "-funwind-tables" Nothing
+    ∷ row "-fno-unwind-tables" Nothing
+    ∷ row "-ftree-vectorize" Nothing
+    ∷ row "-fno-tree-vectorize" Nothing
+    ∷ row "-fno-inline" Nothing
+    ∷ row "-finline-functions" Nothing
+    ∷ row "-ffreestanding" Nothing
+    ∷ row "-fno-optimize-sibling-calls" Nothing
+    ∷ row "-fno-lifetime-dse" Nothing
+    ∷ row "-fmessage-length=0" Nothing
+    ∷ row "-mno-red-zone" Nothing
+    ∷ row "-mfpmath=sse" Nothing
+    ∷ row "-ftrapv" Nothing
+    ∷ row "-fno-pic" Nothing
+    ∷ row "-fno-PIE" Nothing
+    ∷ row "-mfma" Nothing
+    ∷ row "-maes" Nothing
+    ∷ row "-mbmi2" Nothing
+    ∷ row "-mpopcnt" Nothing
     ∷ row "-g0" Nothing
     ∷ row "-g" DebugInfo
     ∷ row "-g1" DebugInfo
@@ -92,6 +120,8 @@ fronts =
     ∷ row "-mcpu=" Nothing
     ∷ row "-msse" Nothing
     ∷ row "-mavx" Nothing
+    ∷ row "-ftrivial-auto-var-init=" Nothing
+    ∷ row "-ftemplate-depth=" Nothing
     ∷ row "-Wa," Anything
     ∷ row "-Wp," Anything
     ∷ row "-Wl," Anything

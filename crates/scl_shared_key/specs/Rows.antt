@@ -1,6 +1,6 @@
 -- The rows of a key, as far as they say what the object names.
-use Rattle.std.specs.Prelude.{ℕ, Bool, false, ◌&&◌, ◌||◌, List, [], ◌∷◌, Vec, map, Option, Some, None, codes, if◌then◌else◌}
-use Rattle.std.specs.List.{filter_map, list_any}
+use Rattle.std.specs.Prelude.{ℕ, Bool, false, nat_eq, nat_lt, ◌&&◌, ◌||◌, not, List, [], ◌∷◌, Vec, length, map, Option, Some, None, codes, if◌then◌else◌}
+use Rattle.std.specs.List.{filter_map, list_any, starts_with}
 use Rattle.std.specs.Str.{bytes_eq}
 use Rattle.std.specs.declared.alloc.Global.{Global}
 use Rattle.scl_values.specs.Words.{words_of}
@@ -78,3 +78,25 @@ maps_reach rows = is_by_gcc rows || is_said (codes "language") (codes "C") rows
 -- C or C++ is compiled to an object, and runs show the words of the preprocessor
 abbrev pub compiles_shown_text : List (List (List ℕ)) → Bool
 compiles_shown_text rows = is_said (codes "shown") (codes "yes") rows && (is_said (codes "compilation-flag") (codes "-c") rows && is_c_or_cxx rows)
+
+-- ---- macros
+
+-- a word that defines a macro
+abbrev pub is_macro : List ℕ → Bool
+is_macro word = starts_with nat_eq word (codes "-D") && nat_lt 2 (length word)
+
+-- the row has a path that looks like one: of the input, or of an output
+abbrev pub has_path_like_macro : List (List ℕ) → Bool
+has_path_like_macro [] = false
+has_path_like_macro (kind ∷ []) = false
+has_path_like_macro (kind ∷ name ∷ []) = false
+has_path_like_macro (kind ∷ name ∷ value ∷ rest) =
+    is_macro value && (bytes_eq kind (codes "output") || (bytes_eq kind (codes "is") && bytes_eq name (codes "input")))
+
+abbrev pub is_by_clang : List (List (List ℕ)) → Bool
+is_by_clang rows = is_said (codes "compiler") (codes "clang") rows || is_said (codes "compiler") (codes "clang++") rows
+
+-- Of macros no more counts than the texts of runs show of them.
+abbrev pub texts_show_macros : List (List (List ℕ)) → Bool
+texts_show_macros rows =
+    compiles_shown_text rows && ((is_by_gcc rows || is_by_clang rows) && not (may_name_anything rows || list_any has_path_like_macro rows))

@@ -11,6 +11,7 @@ mod usual;
 mod verdict;
 
 pub use naming::Naming;
+pub use row::{is_macro, texts_show_macros};
 pub use shared::{Shared, share};
 pub use verdict::InObject;
 

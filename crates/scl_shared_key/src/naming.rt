@@ -20,7 +20,7 @@ pub enum Naming {
 }
 
 /// Words.
-static WHOLE_WORDS: [(&'static str, Naming); 51] = [
+static WHOLE_WORDS: [(&'static str, Naming); 79] = [
     ("-ansi", Naming::Nothing),
     ("-pipe", Naming::Nothing),
     ("-pthread", Naming::Nothing),
@@ -62,6 +62,34 @@ static WHOLE_WORDS: [(&'static str, Naming); 51] = [
     ("-fstack-clash-protection", Naming::Nothing),
     ("-fcolor-diagnostics", Naming::Nothing),
     ("-Wa,--noexecstack", Naming::Nothing),
+    ("-fno-strict-overflow", Naming::Nothing),
+    ("-fstrict-overflow", Naming::Nothing),
+    ("-fno-delete-null-pointer-checks", Naming::Nothing),
+    ("-fno-ident", Naming::Nothing),
+    ("-fno-trapping-math", Naming::Nothing),
+    ("-ffast-math", Naming::Nothing),
+    ("-fno-signed-zeros", Naming::Nothing),
+    ("-ffp-contract=off", Naming::Nothing),
+    ("-fmerge-all-constants", Naming::Nothing),
+    ("-funwind-tables", Naming::Nothing),
+    ("-fno-unwind-tables", Naming::Nothing),
+    ("-ftree-vectorize", Naming::Nothing),
+    ("-fno-tree-vectorize", Naming::Nothing),
+    ("-fno-inline", Naming::Nothing),
+    ("-finline-functions", Naming::Nothing),
+    ("-ffreestanding", Naming::Nothing),
+    ("-fno-optimize-sibling-calls", Naming::Nothing),
+    ("-fno-lifetime-dse", Naming::Nothing),
+    ("-fmessage-length=0", Naming::Nothing),
+    ("-mno-red-zone", Naming::Nothing),
+    ("-mfpmath=sse", Naming::Nothing),
+    ("-ftrapv", Naming::Nothing),
+    ("-fno-pic", Naming::Nothing),
+    ("-fno-PIE", Naming::Nothing),
+    ("-mfma", Naming::Nothing),
+    ("-maes", Naming::Nothing),
+    ("-mbmi2", Naming::Nothing),
+    ("-mpopcnt", Naming::Nothing),
     ("-g0", Naming::Nothing),
     ("-g", Naming::DebugInfo),
     ("-g1", Naming::DebugInfo),
@@ -75,7 +103,7 @@ static WHOLE_WORDS: [(&'static str, Naming); 51] = [
 ];
 
 /// Beginnings of words; the first that fits says. What a macro does, the text of the run shows.
-static FRONTS: [(&'static str, Naming); 20] = [
+static FRONTS: [(&'static str, Naming); 22] = [
     ("-D", Naming::Nothing),
     ("-U", Naming::Nothing),
     ("-O", Naming::Nothing),
@@ -89,6 +117,8 @@ static FRONTS: [(&'static str, Naming); 20] = [
     ("-mcpu=", Naming::Nothing),
     ("-msse", Naming::Nothing),
     ("-mavx", Naming::Nothing),
+    ("-ftrivial-auto-var-init=", Naming::Nothing),
+    ("-ftemplate-depth=", Naming::Nothing),
     ("-Wa,", Naming::Anything),
     ("-Wp,", Naming::Anything),
     ("-Wl,", Naming::Anything),

@@ -1,8 +1,9 @@
 //! The rows of a key, as far as they say what the object names.
 ghost use Rattle.std.specs.Prelude.{◌≡◌, ◌++◌, ◌∷◌, [], map, IfOk, OnOk};
+ghost use Rattle.std.specs.List.{list_any};
 ghost use Rattle.std.specs.Option.{option_map};
 ghost use Rattle.scl_values.specs.Words.{words_of};
-ghost use Rattle.scl_shared_key.specs.Rows.{compiles_shown_text, fact_naming, has_debug_info, is_by_gcc, is_c_or_cxx, is_said, is_told_output, maps_reach, may_name_anything, nothing_if, row_naming, rows_of, says, tells_word, word_told, words_told};
+ghost use Rattle.scl_shared_key.specs.Rows.{compiles_shown_text, fact_naming, has_debug_info, has_path_like_macro, is_by_clang, is_by_gcc, is_c_or_cxx, is_macro, is_said, is_told_output, maps_reach, may_name_anything, nothing_if, row_naming, rows_of, says, tells_word, texts_show_macros, word_told, words_told};
 
 use crate::naming::{Naming, naming_of};
 use scl_values::Mem;
@@ -170,4 +171,53 @@ pub(crate) fn compiles_shown_text(rows: &[Vec<Vec<u8>>]) -> bool
     is_said(b"shown", b"yes", rows)
         && is_said(b"compilation-flag", b"-c", rows)
         && is_c_or_cxx(rows)
+}
+
+/// Whether a word defines a macro.
+pub fn is_macro(word: &[u8]) -> bool
+    ensures { result ≡ is_macro word.now }
+{
+    word.starts_with(b"-D") && word.len() > 2
+}
+
+/// Whether a row has a path that looks like a word that defines a macro.
+fn has_path_like_macro(row: &[Vec<u8>]) -> bool
+    ensures { result ≡ has_path_like_macro (words_of row.now) }
+{
+    match row {
+        [kind, name, value, ..] => {
+            is_macro(value)
+                && (kind.as_slice() == b"output".as_slice()
+                    || (kind.as_slice() == b"is".as_slice()
+                        && name.as_slice() == b"input".as_slice()))
+        }
+        _ => false,
+    }
+}
+
+fn have_path_like_macro(rows: &[Vec<Vec<u8>>]) -> bool
+    ensures { result ≡ list_any has_path_like_macro (rows_of rows.now) }
+{
+    for row in rows {
+        if has_path_like_macro(row) {
+            return true;
+        }
+    }
+    false
+}
+
+/// Whether the compiler is Clang.
+fn is_by_clang(rows: &[Vec<Vec<u8>>]) -> bool
+    ensures { result ≡ is_by_clang (rows_of rows.now) }
+{
+    is_said(b"compiler", b"clang", rows) || is_said(b"compiler", b"clang++", rows)
+}
+
+/// Whether of macros no more counts than the texts of a key's runs show of them (docs/RULES.md, Words that the runs show).
+pub fn texts_show_macros(rows: &[Vec<Vec<u8>>]) -> bool
+    ensures { result ≡ texts_show_macros (rows_of rows.now) }
+{
+    compiles_shown_text(rows)
+        && (is_by_gcc(rows) || is_by_clang(rows))
+        && !(may_name_anything(rows) || have_path_like_macro(rows))
 }

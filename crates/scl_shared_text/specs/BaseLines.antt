@@ -1,6 +1,7 @@
--- Lines of a request that name base directories.
-use Rattle.std.specs.Prelude.{ℕ, nat_eq, List, drop, length, map, Option, None, codes, if◌then◌else◌}
+-- Lines of a request that say how keys are told.
+use Rattle.std.specs.Prelude.{ℕ, nat_eq, Bool, List, drop, length, map, Option, None, codes, if◌then◌else◌}
 use Rattle.std.specs.List.{filter_map, starts_with}
+use Rattle.std.specs.Str.{bytes_eq}
 use Rattle.scl_base_dirs.specs.Bases.{trimmed}
 use Rattle.scl_description.specs.Fields.{field_of}
 
@@ -15,3 +16,7 @@ dirs_in lines = filter_map base_line lines
 -- the same, as bases: without the separators at their ends
 abbrev pub bases_in : List (List ℕ) → List (List ℕ)
 bases_in lines = map trimmed (dirs_in lines)
+
+-- words that the runs show stay in the key
+abbrev pub is_keep_shown : List ℕ → Bool
+is_keep_shown text = bytes_eq text (codes "setting keep-shown")

@@ -1,2 +1,4 @@
 pub mod BaseLines
 pub mod SharedTexts
+pub mod ShownTexts
+pub mod Laws

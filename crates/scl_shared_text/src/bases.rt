@@ -1,9 +1,10 @@
-//! Lines of a request that name base directories.
+//! Lines of a request that say how keys are told.
 ghost use Rattle.std.specs.Prelude.{◌≡◌, ◌++◌, ◌∷◌, [], IfOk, OnOk};
+ghost use Rattle.std.specs.List.{list_any};
 ghost use Rattle.std.specs.Option.{option_map};
 ghost use Rattle.scl_values.specs.Words.{words_of};
 ghost use Rattle.scl_description.specs.Lines.{lines_of};
-ghost use Rattle.scl_shared_text.specs.BaseLines.{base_line, bases_in, dirs_in};
+ghost use Rattle.scl_shared_text.specs.BaseLines.{base_line, bases_in, dirs_in, is_keep_shown};
 
 use scl_base_dirs::base_dirs;
 use scl_description::{next_line, read_field};
@@ -49,4 +50,24 @@ pub fn bases_in(alloc: Global, bytes: &[u8]) -> Mem<Vec<Vec<u8>>>
 {
     let dirs = dirs_in(alloc, bytes)?;
     base_dirs(alloc, &dirs)
+}
+
+fn is_keep_shown(text: &[u8]) -> bool
+    ensures { result ≡ is_keep_shown text.now }
+{
+    text == b"setting keep-shown".as_slice()
+}
+
+/// Whether a request says that words which the runs show stay in the key.
+pub fn keeps_shown(bytes: &[u8]) -> bool
+    ensures { result ≡ list_any is_keep_shown (lines_of bytes.now) }
+{
+    let mut left = bytes;
+    while let Some((line, rest)) = next_line(left) {
+        if is_keep_shown(line) {
+            return true;
+        }
+        left = rest;
+    }
+    false
 }

@@ -2,10 +2,13 @@
 #![tactic(auto)]
 
 mod bases;
+pub mod laws;
 mod shared;
+mod shown;
 
-pub use bases::bases_in;
+pub use bases::{bases_in, keeps_shown};
 pub use shared::shared_text;
+pub use shown::shown_text;
 
 #[cfg(test)]
 mod tests;

@@ -69,7 +69,7 @@ fn key_among(alloc: Global, rows: &[Vec<Vec<u8>>]) -> Mem<Vec<Vec<Vec<u8>>>>
 }
 
 /// The rows of a key, each its fields after `key`.
-fn key_in(alloc: Global, text: &[u8]) -> Mem<Vec<Vec<Vec<u8>>>>
+pub(crate) fn key_in(alloc: Global, text: &[u8]) -> Mem<Vec<Vec<Vec<u8>>>>
     ensures { IfOk result (λ key. rows_of key.items ≡ key_in text.now) }
 {
     let rows = read_rows(alloc, text)?;
@@ -122,8 +122,11 @@ fn text_by(alloc: Global, in_object: InObject, rows: &[Vec<Vec<u8>>], text: Vec<
 pub fn shared_text(alloc: Global, dirs: &[Vec<u8>], text: Vec<u8>) -> Mem<Vec<u8>>
     ensures { IfOk result (λ shared. shared.items ≡ shared_text (words_of dirs.now) text.items) }
 {
+    if dirs.is_empty() {
+        return Ok(text);
+    }
     let key = key_in(alloc, &text)?;
-    if dirs.is_empty() || key.is_empty() {
+    if key.is_empty() {
         return Ok(text);
     }
     let shared = share(alloc, dirs, key)?;

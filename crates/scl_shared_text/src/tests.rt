@@ -1,4 +1,4 @@
-use crate::{bases_in, shared_text};
+use crate::{bases_in, shared_text, shown_text};
 use std::alloc::Global;
 use std::test::Fail;
 
@@ -41,5 +41,20 @@ fn without_bases(rt: HostRuntime) -> Result<(), Fail> {
     let text = Vec::from_slice(alloc, KEY.as_bytes())?;
     let shared = shared_text(alloc, &[], text)?;
     assert_eq!(rt; shared.as_slice(), KEY.as_bytes());
+    Ok(())
+}
+
+const MACROS: &str =
+    "ok\narg -DA=1\nkey is compiler gcc\nkey is shown yes\nkey is language C\nkey is compilation-flag -c\nkey is common -DA=1\nkey is common -O2\nkey plan -c -DA=1 -O2 a.c\nkey run -E -DA=1 -O2 a.c\nkeep yes\n";
+
+#[test]
+fn macros_at_the_end(rt: HostRuntime) -> Result<(), Fail> {
+    let alloc = rt.alloc();
+    let text = Vec::from_slice(alloc, MACROS.as_bytes())?;
+    let shown = shown_text(alloc, false, text)?;
+    assert_eq!(rt;
+        shown.as_slice(),
+        b"ok\narg -DA=1\nkey is compiler gcc\nkey is shown yes\nkey is language C\nkey is compilation-flag -c\nkey is common -O2\nkey plan -c -O2 a.c\nkey run -E -DA=1 -O2 a.c\nkeep yes\nkey shown -DA=1\n".as_slice()
+    );
     Ok(())
 }

@@ -1,20 +1,13 @@
 -- Words of a command line of Windows, one part after another.
-use Rattle.std.proofs.Common.{◌≡◌, ◌≢◌, ℕ, zero, suc, ◌==◌, Bool, true, false, cond, List, [], ◌∷◌, ◌++◌, Option, None, Some, Result, Ok, Err, OnOk, refl, sym, ap, ◌∙◌, append_assoc, arith}
+use Rattle.std.proofs.Common.{◌≡◌, ℕ, Bool, true, false, cond, List, [], ◌∷◌, ◌++◌, Option, None, Some, Result, Ok, Err, OnOk, refl, sym, ap, ◌∙◌, append_assoc}
+use Rattle.scl_windows_words.specs.Parts.{Part, gap}
 use Rattle.scl_shell.specs.ShellText.{kept}
-use Rattle.scl_shell.specs.WindowsText.{Item, taken, backslashes, slashes, Part, gap, joined, onto}
-
--- at least one backslash is an item
-pub slashes-some : (n : ℕ) (is : List Item) → n ≢ 0 → slashes n is ≡ taken (backslashes n) ∷ is
-slashes-some zero is h = absurd (h refl)
-slashes-some (suc n) is h = refl
+use Rattle.scl_shell.specs.WindowsText.{joined, onto}
 
 -- an implication between facts that hold on success
 pub on_ok : {A E : Type 0} {P Q : Type 0} (r : Result A E) → (P → Q) → OnOk r P → OnOk r Q
 on_ok (Ok x) f h = f h
 on_ok (Err e) f h = tt
-
-pub differs : (a b : ℕ) → a ≢ b → (a == b) ≡ false
-differs a b h = grind arith
 
 -- words before words before others
 pub onto-onto : (a b : List (List ℕ)) (o : Option (List (List ℕ))) → onto a (onto b o) ≡ onto (a ++ b) o

@@ -1,14 +1,17 @@
 //! Splitting a command line of Windows into words.
-ghost use Rattle.std.specs.Prelude.{◌≡◌, ◌==◌, ◌+◌, ◌<◌, ◌≤◌, ◌^◌, ◌++◌, ◌∷◌, ℕ, List, [], None, Some, Ok, Err, OnOk, IfOk, IfErr, IfSome, length, position, false};
+ghost use Rattle.std.specs.Prelude.{◌≡◌, ◌<◌, ◌++◌, ◌∷◌, List, [], None, Some, Ok, Err, OnOk, IfOk, IfErr, IfSome, length, position};
 ghost use Rattle.std.specs.List.{list_any};
 ghost use Rattle.std.specs.Option.{option_map};
 ghost use Rattle.scl_values.specs.Words.{words_of};
 ghost use Rattle.scl_shell.specs.ShellReader.{begun_of};
 ghost use Rattle.scl_shell.specs.ShellText.{kept, with};
-ghost use Rattle.scl_shell.specs.WindowsReader.{both, left_in, made, to_come};
-ghost use Rattle.scl_shell.specs.WindowsText.{Item, Part, bare, bare_at, bare_program, gap, is_ended, is_gap, is_quote, joined, program_in, quoted_at, slashes, stands, taken, unclear, windows_words, words_behind};
+ghost use Rattle.scl_shell.specs.WindowsReader.{both, made};
+ghost use Rattle.scl_shell.specs.WindowsText.{bare_at, bare_program, is_ended, is_gap, is_quote, joined, program_in, quoted_at, windows_words, words_behind};
+ghost use Rattle.scl_windows_words.specs.Parts.{Part, doubled, gap, stands};
+ghost use Rattle.scl_windows_words.specs.Reading.{marked, stepped, stood};
 
 use scl_values::Mem;
+use scl_windows_words::{Gaps, Mark, Reader, Step};
 use std::alloc::Global;
 use thiserror::Error;
 
@@ -26,7 +29,7 @@ pub enum WindowsError {
 fn is_gap(byte: u8) -> bool
     ensures { result ≡ is_gap byte }
 {
-    matches!(byte, b' ' | b'\t')
+    Gaps::Blanks.has(byte)
 }
 
 fn is_quote(byte: u8) -> bool
@@ -169,9 +172,50 @@ impl Words {
 
     /// Reads a quote that programs read in several ways.
     fn give_up(&mut self)
-        ensures { (ps : List Part) → made self.new ps ≡ made self.old (unclear ∷ ps) }
+        ensures { (ps : List Part) → made self.new ps ≡ made self.old (doubled ∷ ps) }
     {
         self.is_unclear = true;
+    }
+
+    fn slashes(&mut self, count: usize) -> Mem<()>
+        ensures { OnOk result ((ps : List Part) → made self.new ps ≡ made self.old (stood count ps)) }
+    {
+        if count == 0 {
+            return Ok(());
+        }
+        let bytes = vec![in self.alloc; b'\\'; count]?;
+        self.stand(&bytes)
+    }
+
+    fn mark(&mut self, mark: Mark) -> Mem<()>
+        ensures { OnOk result ((ps : List Part) → made self.new ps ≡ made self.old (marked mark ps)) }
+    {
+        match mark {
+            Mark::Nothing | Mark::StaysOpen => Ok(()),
+            Mark::Separates => self.part(),
+            Mark::Opens => self.stand(b""),
+            Mark::Stands(byte) => self.stand(&[byte]),
+            Mark::Doubles => {
+                self.give_up();
+                Ok(())
+            }
+        }
+    }
+
+    fn step(&mut self, step: Step) -> Mem<()>
+        ensures { OnOk result ((ps : List Part) → made self.new ps ≡ made self.old (stepped step ps)) }
+    {
+        self.slashes(step.backslashes)?;
+        self.mark(step.mark)
+    }
+
+    /// All words, after the last step.
+    fn finish_after(self, step: Step) -> Mem<Option<Vec<Vec<u8>>>>
+        ensures { IfOk result (λ said. option_map (λ words. words_of words.items) said ≡ made self (stepped step [])) }
+    {
+        let mut words = self;
+        words.step(step)?;
+        words.finish()
     }
 
     /// All words.
@@ -188,146 +232,16 @@ impl Words {
     }
 }
 
-/// The context of an item.
-#[derive(Clone, Copy)]
-pub(crate) enum Place {
-    Outside,
-    Inside,
-    /// Right after a quote that closed.
-    Closing,
-}
-
-/// The words so far, the context of the next item, and the backslashes before it.
-#[derive(Drop)]
-pub(crate) struct Reader {
-    alloc: Global,
-    words: Words,
-    place: Place,
-    backslashes: usize,
-}
-
-impl Reader {
-    /// Reads bytes that are themselves.
-    fn take(&mut self, bytes: &[u8]) -> Mem<()>
-        ensures come { OnOk result ((is : List Item) → to_come self.new is ≡ to_come self.old (taken bytes.now ∷ is)) }
-        ensures kept { self.new.backslashes ≡ self.old.backslashes }
-    {
-        self.place = match self.place {
-            Place::Outside | Place::Closing => Place::Outside,
-            Place::Inside => Place::Inside,
-        };
-        self.words.stand(bytes)
-    }
-
-    /// Reads backslashes that are themselves.
-    fn slashes(&mut self, count: usize) -> Mem<()>
-        ensures come { OnOk result ((is : List Item) → to_come self.new is ≡ to_come self.old (slashes count is)) }
-        ensures kept { self.new.backslashes ≡ self.old.backslashes }
-    {
-        if count == 0 {
-            return Ok(());
-        }
-        let bytes = vec![in self.alloc; b'\\'; count]?;
-        self.take(&bytes)
-    }
-
-    /// Reads a quote that may open or close.
-    fn quote(&mut self) -> Mem<()>
-        ensures come { OnOk result ((is : List Item) → to_come self.new is ≡ to_come self.old (bare 34 ∷ is)) }
-        ensures kept { self.new.backslashes ≡ self.old.backslashes }
-    {
-        match self.place {
-            Place::Outside => {
-                self.place = Place::Inside;
-                self.words.stand(b"")
-            }
-            Place::Inside => {
-                self.place = Place::Closing;
-                Ok(())
-            }
-            Place::Closing => {
-                self.place = Place::Inside;
-                self.words.give_up();
-                Ok(())
-            }
-        }
-    }
-
-    /// Reads a byte that is no quote.
-    fn other(&mut self, byte: u8) -> Mem<()>
-        requires { (byte == 34) ≡ false }
-        ensures come { OnOk result ((is : List Item) → to_come self.new is ≡ to_come self.old (bare byte ∷ is)) }
-        ensures kept { self.new.backslashes ≡ self.old.backslashes }
-    {
-        match self.place {
-            Place::Inside => self.words.stand(&[byte]),
-            Place::Outside | Place::Closing => {
-                self.place = Place::Outside;
-                if is_gap(byte) {
-                    self.words.part()
-                } else {
-                    self.words.stand(&[byte])
-                }
-            }
-        }
-    }
-
-    /// Reads a quote after backslashes.
-    fn quote_behind(&mut self, count: usize) -> Mem<()>
-        requires { self.old.backslashes ≡ 0 }
-        ensures come { OnOk result ((rest : List ℕ) → left_in self.new rest ≡ left_in (record self.old { backslashes = count }) (34 ∷ rest)) }
-        ensures none { self.new.backslashes ≡ 0 }
-    {
-        self.slashes(count / 2)?;
-        if count % 2 == 0 {
-            self.quote()
-        } else {
-            self.take(b"\"")
-        }
-    }
-
-    fn step(&mut self, byte: u8) -> Mem<()>
-        requires { self.old.backslashes + 1 < 2 ^ 64 }
-        ensures left { OnOk result ((rest : List ℕ) → left_in self.new rest ≡ left_in self.old (byte ∷ rest)) }
-        ensures count { self.new.backslashes ≤ self.old.backslashes + 1 }
-    {
-        if byte == b'\\' {
-            self.backslashes += 1;
-            return Ok(());
-        }
-        let count = self.backslashes;
-        self.backslashes = 0;
-        if byte == b'"' {
-            return self.quote_behind(count);
-        }
-        self.slashes(count)?;
-        self.other(byte)
-    }
-
-    fn finish(self) -> Mem<Option<Vec<Vec<u8>>>>
-        ensures { IfOk result (λ said. option_map (λ words. words_of words.items) said ≡ left_in self []) }
-    {
-        let mut reader = self;
-        let count = reader.backslashes;
-        reader.slashes(count)?;
-        reader.words.finish()
-    }
-}
-
 /// The words after a program; none where programs read them in several ways.
 fn words_behind(alloc: Global, text: &[u8]) -> Mem<Option<Vec<Vec<u8>>>>
     ensures { IfOk result (λ said. option_map (λ words. words_of words.items) said ≡ words_behind text.now) }
 {
-    let mut reader = Reader {
-        alloc,
-        words: Words::new(alloc),
-        place: Place::Outside,
-        backslashes: 0,
-    };
+    let mut words = Words::new(alloc);
+    let mut reader = Reader::new(Gaps::Blanks);
     for byte in text {
-        reader.step(*byte)?;
+        words.step(reader.read(*byte))?;
     }
-    reader.finish()
+    words.finish_after(reader.finish())
 }
 
 /// The words of a command line of Windows, the program's name first, as `CommandLineToArgvW` and the C runtime read them. The rules:

@@ -36,13 +36,16 @@ func decision(answer *scl.Answer) string {
 	if !answer.IsCacheable || len(names) == 0 {
 		return "run it as given"
 	}
-	facts := 0
+	facts, macros := 0, 0
 	for _, name := range names {
-		if name == "is" || name == "output" {
+		switch name {
+		case "is", "output":
 			facts++
+		case "shown":
+			macros++
 		}
 	}
-	return fmt.Sprintf("hash %d rows, look up %d", facts, len(names)-facts)
+	return fmt.Sprintf("hash %d rows, look up %d, hash %d if it counts", facts, len(names)-facts-macros, macros)
 }
 
 func main() {

@@ -1,5 +1,5 @@
-// The key of `gcc -c a.c -O2`: which rows a cache hashes as they are, and which it looks up and hashes with their answer
-// (docs/CACHE.md). Of a row `by name` the fields say where to look, and only the name is hashed.
+// The key of `gcc -c a.c -O2 -DX=1`: which rows a cache hashes as they are, which it looks up and hashes with their answer, and
+// which it hashes only if the macro counts (docs/CACHE.md). Of a row `by name` the fields say where to look, and only the name is hashed.
 package main
 
 import (
@@ -10,7 +10,7 @@ import (
 )
 
 func main() {
-	answer, err := (&scl.Request{Compiler: "gcc", Words: []string{"-c", "a.c", "-O2"}}).Ask()
+	answer, err := (&scl.Request{Compiler: "gcc", Words: []string{"-c", "a.c", "-O2", "-DX=1"}}).Ask()
 	if err != nil {
 		log.Fatal(err)
 	}
@@ -22,6 +22,8 @@ func main() {
 		switch row[0] {
 		case "is", "output":
 			fmt.Println("hash", strings.Join(row, " "))
+		case "shown":
+			fmt.Println("hash if it counts", strings.Join(row, " "))
 		case "plan", "run", "run-else", "pch":
 			fmt.Println("look up", row[0]+", by name")
 		default:

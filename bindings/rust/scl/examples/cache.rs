@@ -32,11 +32,14 @@ fn decision(answer: &Answer) -> String {
     if let Some((reason, word)) = answer.keep_no().next() {
         return format!("run it as given: {} {}", text(reason), text(word));
     }
-    let (asked, facts): (Vec<_>, Vec<_>) = answer.key().partition(|row| row.is_asked());
-    if !answer.is_cacheable() || facts.is_empty() {
+    let rows: Vec<_> = answer.key().collect();
+    if !answer.is_cacheable() || rows.is_empty() {
         return "run it as given".into();
     }
-    format!("hash {} rows, look up {}", facts.len(), asked.len())
+    let asked = rows.iter().filter(|row| row.is_asked()).count();
+    let macros = rows.iter().filter(|row| row.may_be_left_out()).count();
+    let hashed = rows.len() - asked - macros;
+    format!("hash {hashed} rows, look up {asked}, hash {macros} if it counts")
 }
 
 fn main() -> Result<(), Error> {

@@ -1,9 +1,11 @@
-//! The key of `gcc -c a.c -O2`: which rows a cache hashes as they are, and which it looks up and hashes with their answer
-//! (docs/CACHE.md). Of a row `by name` the fields say where to look, and only the name is hashed.
+//! The key of `gcc -c a.c -O2 -DX=1`: which rows a cache hashes as they are, which it looks up and hashes with their answer, and
+//! which it hashes only if the macro counts (docs/CACHE.md). Of a row `by name` the fields say where to look, and only the name is hashed.
 use scl::Request;
 
 fn main() -> Result<(), scl::Error> {
-    let answer = Request::new("gcc").words(["-c", "a.c", "-O2"]).ask()?;
+    let answer = Request::new("gcc")
+        .words(["-c", "a.c", "-O2", "-DX=1"])
+        .ask()?;
     if !answer.is_cacheable() || answer.key().next().is_none() {
         println!("keep nothing");
         return Ok(());
@@ -21,9 +23,14 @@ fn main() -> Result<(), scl::Error> {
                 .iter()
                 .map(|field| String::from_utf8_lossy(field))
                 .collect();
+            let what = if row.may_be_left_out() {
+                "hash if it counts"
+            } else {
+                "hash"
+            };
             println!(
                 "{}",
-                ["hash", &name]
+                [what, &name]
                     .into_iter()
                     .chain(fields.iter().map(|it| &**it))
                     .collect::<Vec<_>>()

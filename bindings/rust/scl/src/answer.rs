@@ -50,12 +50,17 @@ pub struct KeyRow<'a> {
 impl KeyRow<'_> {
     /// Whether its answer goes into the key.
     pub fn is_asked(&self) -> bool {
-        !matches!(&*self.name, b"is" | b"output")
+        !matches!(&*self.name, b"is" | b"output" | b"bases" | b"shown")
     }
 
     /// Whether of the row itself only the name goes into the key.
     pub fn is_named(&self) -> bool {
         matches!(&*self.name, b"plan" | b"run" | b"run-else" | b"pch")
+    }
+
+    /// Whether the row goes into the key only if its macro counts.
+    pub fn may_be_left_out(&self) -> bool {
+        &*self.name == b"shown"
     }
 
     /// Whether the row is one of this protocol, with as many fields.
@@ -64,10 +69,13 @@ impl KeyRow<'_> {
             (b"is", count) => count > 0,
             (b"output", count) => count == 2 || count == 3,
             (b"plan" | b"run" | b"run-else" | b"pch", _) => true,
-            (b"directory" | b"compiler" | b"sources" | b"times", count) => count == 0,
+            (
+                b"directory" | b"compiler" | b"sources" | b"times" | b"bases" | b"bases-if-beside",
+                count,
+            ) => count == 0,
             (
                 b"env" | b"unset" | b"file" | b"maybe" | b"regular" | b"sources-if-shown"
-                | b"refuse-if-shown",
+                | b"refuse-if-shown" | b"bases-if-shown" | b"bases-if-planned" | b"shown",
                 count,
             ) => count == 1,
             _ => false,
@@ -306,9 +314,14 @@ mod tests {
         assert!(told("").is_cacheable());
         assert!(told("notes a b c\nkey env A\n").is_cacheable());
         assert!(told("key env A\nkeep yes\n").is_cacheable());
+        let shared =
+            "key bases\nkey bases-if-beside\nkey bases-if-shown a\nkey bases-if-planned a\n";
+        assert!(told(&format!("{shared}key shown -DA\n")).is_cacheable());
         for rows in [
             "key what A\n",
             "key env\n",
+            "key shown\n",
+            "key bases /w\n",
             "key env A B\n",
             "keep no hazard x\n",
             "keep not\n",

@@ -104,6 +104,11 @@ impl Request {
         self
     }
 
+    /// A directory that differs from checkout to checkout: paths of the key are written by it.
+    pub fn base(&mut self, path: impl AsRef<[u8]>) -> &mut Request {
+        self.line("setting base ", path.as_ref(), None)
+    }
+
     /// The text of a catalogue of hazards, in the place of the built-in one.
     pub fn catalogue(&mut self, text: impl AsRef<[u8]>) -> &mut Request {
         self.catalogue = Some(text.as_ref().to_vec());
@@ -204,8 +209,9 @@ mod tests {
             .words([&b"a b\\\xff"[..]])
             .file("/r", "x\n")
             .setting("version a b")
+            .base("/w d")
             .directory("/w d");
-        let text = b"compiler gcc\ncwd /w\\x20d\nword a\\x20b\\x5c\\xff\nfile /r\tx\\x0a\nsetting version a b\n";
+        let text = b"compiler gcc\ncwd /w\\x20d\nword a\\x20b\\x5c\\xff\nfile /r\tx\\x0a\nsetting version a b\nsetting base /w\\x20d\n";
         assert_eq!(request.text(), text);
     }
 

@@ -160,7 +160,7 @@ fn order_of_languages_entry() -> Entry<'static>
 
 static ENTRY_LANGUAGE_UNKNOWN: Entry<'static> = entry! {
     Hazard Failure b"language-unknown"
-    b"The compiler has no such language to be told."
+    b"The compiler does not know this language."
     [(Gcc) : {At Language Is b"cuda" Is b"c++-module" Is b"hip"} {not Given Before (part_1 LANGUAGE) (part_1 INPUT)}]
     [(Gcc) : {At Language Is b"cuda" Is b"c++-module" Is b"hip"} {Given Before (part_1 INPUT) (part_1 LANGUAGE)}]
     [(Gcc) : {At Language Is b"rs"} {Given Before ([Kind {Is b"language"} {Value Is b"rs"}]) (part_1 INPUT)}]

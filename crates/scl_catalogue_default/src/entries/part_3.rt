@@ -195,7 +195,7 @@ fn target_unasked_entry() -> Entry<'static>
 
 static ENTRY_TARGET_HANDED_ON: Entry<'static> = entry! {
     Hazard SideFile b"target-handed-on"
-    b"The dependency file names the object beside the target that is handed on to the preprocessor."
+    b"The dependency file names the object beside the target that is passed on to the preprocessor."
     [(Gcc) : {Is Preprocessed} {Given Any (part_2 NEED)} {Given Any (part_2 HANDED_TARGET)} {not Given Any (part_2 TARGET)}]
     [(Gcc) : {Is Preprocessed} {Given Any (part_2 LONG_RULES)} {Given Any (part_2 HANDED_TARGET)} {not Given Any (part_1 OUTPUT)} {not Given Any (part_2 TARGET)}]
 };
@@ -236,7 +236,7 @@ fn joined_dependency_file_entry() -> Entry<'static>
 
 static ENTRY_DEPENDENCY_FILE_HANDED_ON: Entry<'static> = entry! {
     Hazard SideFile b"dependency-file-handed-on"
-    b"Another dependency file is written than the one that is handed on to the preprocessor."
+    b"Another dependency file is written than the one that is passed on to the preprocessor."
     [(Clang) : {Is Preprocessed} {Given Any ([Kind {Is b"need-dep-target" Is b"dep-argument-path"}])} {Given Any ([Flag {Is b"-Wp" Is b"-Xpreprocessor"} {Part Is b"-MD" Is b"-MMD" Is b"-MF"}])}]
 };
 
@@ -248,8 +248,8 @@ fn dependency_file_handed_on_entry() -> Entry<'static>
 }
 
 static ENTRY_DEPENDENCY_NAMES_OF_INPUT: Entry<'static> = entry! {
-    Hazard SideFile b"dependency-names-of-input"
-    b"The run of the preprocessor names the target after the input, so that a kept object has another dependency file."
+    Hazard Run b"dependency-names-of-input"
+    b"The run of the preprocessor names the target after the input, so the run leaves another dependency file."
     [(Clang) : {Is Preprocessed} {Is RenamedObject} {Given Any (part_2 HANDED_RULES)} {not Given Any (part_2 HANDED_TARGET)}]
 };
 

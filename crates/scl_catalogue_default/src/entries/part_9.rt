@@ -246,7 +246,7 @@ fn crash_entry() -> Entry<'static>
 
 static ENTRY_REMARKS: Entry<'static> = entry! {
     Plain b"remarks"
-    b"What the optimizers did is told in messages."
+    b"Messages say what the optimizers did."
     [(Gcc) : {Given Any ([Unknown {Begins b"-fopt-info" ; Holds b"="}])}]
 };
 

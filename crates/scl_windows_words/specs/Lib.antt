@@ -1,0 +1,3 @@
+-- What the contracts of public functions cite.
+pub mod Parts
+pub mod Reading
