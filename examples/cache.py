@@ -20,7 +20,6 @@ MARKED = rb'^(#[ \t]*(?:line)?[ \t]*\d+[ \t]*")(.*)'  # the same, as docs/RULES.
 RAW = re.compile(rb'^(?!#[ \t]*(?:line)?[ \t]*\d+[ \t]*").*R"', re.M)  # lines below it may look like markers
 MACRO = re.compile(rb"-D([^=(]*)(.*)", re.S)  # a word that defines one: its name, and the rest
 NAME = re.compile(rb"\w+")
-BROUGHT = b"L LL U UL ULL char double float int long short signed unsigned"  # names from macros that compilers define
 shown = []  # what each run of the preprocessor wrote
 complaints = []  # what it wrote to standard error
 sources = []  # the files that its markers name
@@ -93,7 +92,7 @@ def answer(row, rows):
         case _: raise KeepNothing("a row that is not known")
 def counts(row, rows):  # a macro that no source names is neither expanded nor tested
     if row[0] != b"shown": return True
-    if not names: names.update(names_in([BROUGHT, *map(content, filter(isfile, [*sources, input_of(rows)]))]))
+    if not names: names.update(names_in(map(content, filter(isfile, [*sources, input_of(rows)]))))
     others = names_in(MACRO.match(it[1])[2] for it in rows if it[0] == b"shown" and it is not row)
     name = MACRO.match(row[1])[1]
     least = 1 if any(map(needs_sources, rows)) else 3  # the shortest piece of which `##` makes the name
@@ -255,7 +254,7 @@ def quietly(words, more={}):
     return subprocess.run(words, stdin=subprocess.DEVNULL, capture_output=True, env={**VARIABLES, **more})
 def log(what, why):  # (names may be in any encoding)
     with open(VARIABLES.get(b"CACHE_LOG", os.devnull), "a", errors="surrogateescape") as file:
-        print(*(str(it).replace("\n", " ") for it in [what, why, "|", *sys.argv[1:]]), file=file)  # (one line)
+        print(what, why, "|", *sys.argv[1:], file=file)
 
 # ---- a call
 def asked():  # all rows, those of the key as they are told, and these with the directories put back

@@ -115,7 +115,6 @@ static Bytes as_assembled(const Bytes &text) { return unescaped(without(text, "\
 // The macro that a word defines, as -DA=1.
 static Bytes macro_of(const Bytes &word) { return word.substr(2, word.find_first_of("=(") - 2); }
 static bool is_of_name(char it) { return is_one_of(it, "_"); }
-static const Bytes brought = "L LL U UL ULL char double float int long short signed unsigned\n";  // by compilers' own macros
 // Whether a text can name the macro. It may make a name of pieces, so a beginning counts.
 static bool is_named(const Bytes &macro, const Bytes &text) {
     for (size_t at = text.find(macro[0]); at != Bytes::npos; at = text.find(macro[0], at + 1)) {
@@ -543,7 +542,7 @@ struct Key {
         return remembered("key" + start, [&] { return ask_where_headers_are(hash_rows()); });
     }
     Bytes hash_rows() {
-        Bytes sums, text = brought;
+        Bytes sums, text;
         for (Row &row : rows)
             if (row.is.is_asked && row.sum.empty()) row.sum = sum_of(answer(row));
         for (const Bytes &path : shown.empty() ? shown : all_sources()) text += is_file(path) ? content(path) + "\n" : "";
@@ -852,7 +851,6 @@ static void count(const Bytes &what, const Bytes &why, char **words) {
     if (!getenv("CACHE_LOG")) return;
     Bytes line = what + " " + why + " |";
     for (; *words; words++) line += Bytes(" ") + *words;
-    std::replace(line.begin(), line.end(), '\n', ' ');  // (a name may have one)
     std::ofstream(getenv("CACHE_LOG"), std::ios::app) << line + "\n";
 }
 static int print_counts() {

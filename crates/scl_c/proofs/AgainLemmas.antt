@@ -1,6 +1,5 @@
 -- Where a description is given, a command that it has is read again.
 use Rattle.std.proofs.Common.{◌≡◌, ℕ, ℤ, pos, List, Result, Ok, Err, refl}
-use Rattle.std.specs.List.{list_any}
 use Rattle.scl_hazards.specs.Hazards.{Tables}
 use Rattle.scl_description.specs.Lines.{lines_of}
 use Rattle.scl_reader.specs.CommandLines.{Request}
@@ -11,14 +10,14 @@ use Rattle.scl_describe.specs.Descriptions.{DescribesBytes, IsDescriptionOf}
 use Rattle.scl_requests.specs.Requests.{AnswersBy, AnswersBytes, is_described, kind_of, shared_by}
 use Rattle.scl_requests.specs.declared.requests.Kind.{Kind}
 use Rattle.scl_requests.specs.declared.requests.Kind.TheVariants as kinds
-use Rattle.scl_shared_text.specs.BaseLines.{bases_in, is_keep_shown}
+use Rattle.scl_shared_text.specs.BaseLines.{bases_in}
 use Rattle.scl_c.specs.Described.{AskedAgainIf, AsksReadAgain, IsAskedAgain, IsDescribed}
 
 asks : (tables : Tables) (s : Settings) (bytes text : List ℕ) (r : Result Request ℕ) → request_in (request_lines (lines_of bytes)) ≡ r → IsDescriptionOf tables s r (Ok text) → IsAskedAgain bytes
 asks tables s bytes text (Ok request) e h = record { request = request; request_is = e; read_again = answers_again request }
 asks tables s bytes text (Err n) e h = absurd h
 
-described : (tables : Tables) (bytes text : List ℕ) (d : Result (List ℕ) ℕ) → DescribesBytes tables bytes d → Ok text ≡ shared_by (bases_in (lines_of bytes)) (list_any is_keep_shown (lines_of bytes)) d → IsAskedAgain bytes
+described : (tables : Tables) (bytes text : List ℕ) (d : Result (List ℕ) ℕ) → DescribesBytes tables bytes d → Ok text ≡ shared_by (bases_in (lines_of bytes)) d → IsAskedAgain bytes
 described tables bytes text (Ok plain) h e = asks tables (settings_in (lines_of bytes)) bytes plain (request_in (request_lines (lines_of bytes))) refl h
 described tables bytes text (Err n) h e = absurd (cc)
 

@@ -18,7 +18,7 @@ use Rattle.scl_text.specs.Languages.{needs_c_preprocessing}
 use Rattle.scl_text.specs.Records.{Parsed}
 use Rattle.scl_values.specs.Seen.{Seen}
 use Rattle.scl_hazards.specs.Hazards.{Known}
-use Rattle.scl_hazards.specs.KindTexts.{diab_kind_text, tasking_kind_text}
+use Rattle.scl_kinds.specs.KindNames.{diab_kind_text, tasking_kind_text}
 use Rattle.scl_hazards.specs.Languages.{language_name}
 use Rattle.scl_hazards.specs.Options.{is_hidden, options_seen}
 use Rattle.scl_hazards.specs.Told.{Told, of_record, told_of}

@@ -6,7 +6,6 @@ mod clang_cl;
 mod delimiter;
 mod gnu;
 mod hazard;
-mod kind_texts;
 mod known;
 mod language;
 mod names;

@@ -6,7 +6,7 @@ use scl_cl::{
     CommandLine, Compiler, MOST, Mem, TooManyWords, View, clang, diab, gcc, msvc, tasking_vx,
 };
 use scl_describe::{Destination, Row, rows_of};
-use scl_rows::NamedKind;
+use scl_kinds::NamedKind;
 use scl_shell::shown;
 use std::alloc::Global;
 
@@ -71,7 +71,7 @@ fn push_rows<K: Copy + Drop + NamedKind>(
             flags.push(Flag {
                 name: row.flag(),
                 value,
-                kind: row.kind().name(),
+                kind: row.kind().names().name,
             })?;
         }
     }

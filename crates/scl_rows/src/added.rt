@@ -8,11 +8,11 @@ ghost use Rattle.scl_rows.specs.GnuRows.{row_added, row_apart, row_joined, rows_
 ghost use Rattle.scl_rows.specs.Rows.{told};
 
 use crate::destination::Destination;
-use crate::kind_names::NamedKind;
 use crate::origin::Origin;
 use crate::row::{Row, append_rows};
 use scl_args::{Mem, OfKinds, Options};
 use scl_gnu_reading::gcc::{ArgData, Kind, needs_target};
+use scl_kinds::NamedKind;
 use scl_text::language::Language;
 use scl_text::outputs::output_path;
 use scl_text::path::with_extension;
@@ -35,7 +35,7 @@ fn row_added(
         given: Vec::new(alloc),
         flag: Some(flag),
         value: Some(Vec::from_slice(alloc, value)?),
-        kind: kind.name(),
+        kind: kind.names().name,
         destination,
         origin: Origin::Added,
         printed: words,

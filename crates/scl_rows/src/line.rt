@@ -10,12 +10,12 @@ ghost use Rattle.scl_rows.specs.Lines.{first_said, line_rows, row_dangling, row_
 ghost use Rattle.scl_rows.specs.Rows.{told};
 
 use crate::destination::Destination;
-use crate::kind_names::NamedKind;
 use crate::origin::Origin;
 use crate::row::{Row, append_rows, row_of};
 use crate::ways::Ways;
 use scl_args::{Argument, Mem, ReadArg};
 use scl_files::first_at;
+use scl_kinds::NamedKind;
 use scl_text::refusal::{Refusal, argument_parse};
 use scl_text::{Dangling, ReadLine, word_count};
 use std::alloc::Global;
@@ -94,7 +94,7 @@ fn end_kind<K: NamedKind>(owner: &Option<(&'static str, K)>) -> &'static str
     ensures { result.now ≡ unwrap_or (option_map K.name_of (option_map (λ owner. owner.1) owner.now)) (codes "unknown") }
 {
     match owner {
-        Some((_, kind)) => kind.name(),
+        Some((_, kind)) => kind.names().name,
         None => "unknown",
     }
 }

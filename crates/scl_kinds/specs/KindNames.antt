@@ -1,5 +1,6 @@
 -- The names of kinds of options.
-use Rattle.std.specs.Prelude.{ℕ, List, codes}
+use Rattle.std.specs.Prelude.{ℕ, ◌+◌, ◌&&◌, nat_le, Bool, cond, List, [], ◌∷◌, drop, codes}
+use Rattle.std.specs.List.{flat_map}
 use Rattle.scl_gnu_reading.specs.declared.gcc.data.Kind as gnu
 use Rattle.scl_gnu_reading.specs.declared.gcc.data.Kind.TheVariants as gnu_kind
 use Rattle.scl_msvc_reading.specs.declared.msvc.data.Kind as msvc
@@ -8,6 +9,17 @@ use Rattle.scl_small.specs.declared.diab.data.Kind as diab
 use Rattle.scl_small.specs.declared.diab.data.Kind.TheVariants as diab_kind
 use Rattle.scl_small.specs.declared.tasking_vx.data.Kind as tasking
 use Rattle.scl_small.specs.declared.tasking_vx.data.Kind.TheVariants as tasking_kind
+
+abbrev pub is_capital : ℕ → Bool
+is_capital c = nat_le 65 c && nat_le c 90
+
+-- a capital in lower case after a `-`; other characters are themselves
+abbrev pub lowered : ℕ → List ℕ
+lowered c = cond (is_capital c) (45 ∷ c + 32 ∷ []) (c ∷ [])
+
+-- a catalogue's name of a kind, from the name in descriptions: `too-hard-flag` from `TooHardFlag`
+unfoldable pub kebab : List ℕ → List ℕ
+kebab name = drop 1 (flat_map lowered name)
 
 -- of Gcc and Clang
 abbrev pub gnu_kind_name : gnu.Kind → List ℕ
@@ -101,3 +113,17 @@ tasking_kind_name tasking_kind.PassThrough = codes "PassThrough"
 tasking_kind_name tasking_kind.PreprocessorArgument = codes "PreprocessorArgument"
 tasking_kind_name tasking_kind.PreprocessorArgumentPath = codes "PreprocessorArgumentPath"
 tasking_kind_name tasking_kind.DepFile = codes "DepFile"
+
+-- ---- what a catalogue calls them
+
+abbrev pub gnu_kind_text : gnu.Kind → List ℕ
+gnu_kind_text kind = kebab (gnu_kind_name kind)
+
+abbrev pub cl_kind_text : msvc.Kind → List ℕ
+cl_kind_text kind = kebab (msvc_kind_name kind)
+
+abbrev pub diab_kind_text : diab.Kind → List ℕ
+diab_kind_text kind = kebab (diab_kind_name kind)
+
+abbrev pub tasking_kind_text : tasking.Kind → List ℕ
+tasking_kind_text kind = kebab (tasking_kind_name kind)
