@@ -25,7 +25,7 @@ How to read a row:
 - **Options** are the words or flags that do it, by compiler. `x*` begins with x, and `*x*` holds x. A word after *of kind* is a kind of docs/FLAGS.md, in small letters. *Inner* options follow `-Xclang` or `/clang:`.
 - *Unless .. follows*: such an option after it undoes it. *With* and *without* say what else has to stand, or must not.
 
-The facts are of gcc 12.2, clang and clang-cl 14.0 and GNU as 2.40. `catalogue/sweep COMPILER` compiles with each flag that a compiler lists, and compares what it touches with what is said here.
+The facts are of gcc 12.2, clang and clang-cl 14.0 and GNU as 2.40. `trials/sweep COMPILER` compiles with each flag that a compiler lists, and compares what it touches with what is said here.
 Of 16,163 lines of the three compilers 5,864 compile and may be kept. Each file that one of these read, wrote or looked for is named by a row."""
 
 

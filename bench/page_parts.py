@@ -7,7 +7,7 @@ import schema
 
 HELP, DESCRIBE, HEADER = "crates/scl/src/texts.rt", "crates/describe/src/main.rt", "capi/scl.h"
 MEMBERS = "crates/scl_json/src/members.rt"
-CASES, COMMANDS, FIRST = "examples/campaign.txt", "tests/rows/pages.txt", "bindings/expected/first.txt"
+CASES, COMMANDS, FIRST = "trials/campaign.txt", "tests/rows/pages.txt", "bindings/expected/first.txt"
 REQUESTS = "tests/rows/requests.txt"
 SHOWN = re.compile(r"    \$ (scl .*?)(?:  +#.*)?$")
 SENT = re.compile(r"    \$ printf '(.*)' \| (describe|ccline)$")

@@ -51,7 +51,7 @@ def headings(path):
 
 def unknown_headings(made):
     """The headings that a page or a source cites, as `docs/RULES.md, Owners` does, and that the page has not."""
-    sources = [it for folder in ("crates/*/src/**/*.rt", "bench/*", "examples/*", "capi/*", "capi/examples/*") for it in glob.glob(folder, recursive=True)]
+    sources = [it for folder in ("crates/*/src/**/*.rt", "bench/*", "trials/*", "examples/*", "capi/*", "capi/examples/*") for it in glob.glob(folder, recursive=True)]
     files = [*(path for path, _ in pages(made)), *sorted(filter(os.path.isfile, sources))]
     known = {os.path.basename(path)[:-3]: headings(path) for path in [*glob.glob("docs/*.md"), "CONTRIBUTING.md", "CHANGELOG.md"]}
     for file in files:
