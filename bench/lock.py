@@ -1,23 +1,29 @@
-"""The lock of the edits in wrong/, which the gate does not try: the key of all that a refusal stands on, and a try of edits.
+"""The lock of the edits in wrong/, which the gate does not try: for each the key of all that its refusal stands on.
 
-A wrong body that was refused stays so while its key does. The key is made of
+A wrong body that was refused stays so while its key does. The key is made of parts:
 
+  - the toolchain, as `rt version` names it: another prover may find what this one did not
   - the lines of the edit that change files, and these files, without their comments
-  - of its crate and of each below: the line of crates.txt; specs/ whole; and of src/ what stands outside the bodies of
-    functions, which is signatures, clauses, types, tables, constants and macros
+  - of its crate and of each below: the line of crates.txt; each file of specs/; and of each file of src/ its outline, which is what
+    stands outside the bodies of functions: signatures, clauses, types, tables, constants and macros
 
-Proofs are no part of it, nor what steers them: they cannot make a wrong body right. A file `lock` in wrong/ has a line for
-each edit, its name and its key. What else a merge leaves there a try removes."""
+Proofs are no part of it, nor what steers them: they cannot make a wrong body right. A file `lock` in wrong/ has lines
+
+  toolchain NAME        what tried the edits
+  edit NAME KEY SUM ..  an edit and its key; four digits of the sums of its text and of each file that it changes
+  crate NAME SUM ..     a crate whose parts are in the keys; four digits of the sum of each
+
+Only the key decides: the short sums say what changed. What else a merge leaves there a try removes."""
 import hashlib
 import os
 import re
-import shutil
 import subprocess
-import tempfile
 
 from outline import Source
 
-LINE = re.compile(r"([a-z0-9_]+) ([0-9a-f]{24})")
+EDIT = re.compile(r"edit ([a-z0-9_]+) ([0-9a-f]{24})((?: [0-9a-f]{4})+)")
+CRATE = re.compile(r"crate (\w+)((?: [0-9a-f]{4})+)")
+TOOLCHAIN = re.compile(r"toolchain (.+)")
 SPEC_COMMENT = re.compile(r"^\s*--.*\n", re.M)
 
 
@@ -38,99 +44,92 @@ def code_of(path, text):
     return Source(text).code() if path.endswith(".rt") else SPEC_COMMENT.sub("", text)
 
 
+def short(parts):
+    """Four digits of the sum of each part, with its name in it: enough to say which one changed."""
+    return [sum_of(it)[:4] for it in parts.items()]
+
+
 class Keys:
-    """The keys of edits, each crate read once."""
+    """The keys of edits and the parts that they are made of, by the names that a reader knows them by. Each crate is read once."""
 
     def __init__(self):
-        self.sums = {}
+        self.crates = {}
+        self.toolchain = subprocess.run(["rt", "version"], capture_output=True, text=True, check=True).stdout.strip()
         self.given = dict(re.findall(r"^(\w+)([^\n#]*)$", text_of("crates.txt"), re.M))
 
     def of_crate(self, crate):
-        """A sum of what edits of this crate, and of those above it, read of it."""
-        if crate.name not in self.sums:
-            parts = [crate.name, self.given[crate.name].strip()]
-            for part in ("src", "specs"):
-                for at, folders, files in os.walk(f"{crate.folder}/{part}"):
+        """The parts of a crate that edits of it, and of those above it, read."""
+        if crate.name not in self.crates:
+            parts = {f"the line of {crate.name} in crates.txt": self.given[crate.name].strip()}
+            for folder in ("src", "specs"):
+                for at, folders, files in os.walk(f"{crate.folder}/{folder}"):
                     folders.sort()
                     for file in sorted(files):
-                        text = text_of(f"{at}/{file}")
-                        parts += [f"{at[len(crate.folder) :]}/{file}", Source(text).outline() if file.endswith(".rt") else SPEC_COMMENT.sub("", text)]
-            self.sums[crate.name] = sum_of(parts)
-        return self.sums[crate.name]
+                        path, text = f"{at.removeprefix('crates/')}/{file}", text_of(f"{at}/{file}")
+                        if file.endswith(".rt"):
+                            parts[f"the outline of {path}"] = Source(text).outline()
+                        else:
+                            parts[path] = SPEC_COMMENT.sub("", text)
+            self.crates[crate.name] = {name: sum_of([text]) for name, text in parts.items()}
+        return self.crates[crate.name]
+
+    def of_text(self, edit):
+        """The parts that are the edit's own: its text and the files that it changes."""
+        lines = [it for it in text_of(edit.path).split("\n") if it.startswith(("file:", "old:", "new:"))]
+        files = {f"{edit.crate.name}/{path}": sum_of([code_of(path, edit.was[path])]) for path in sorted(edit.was)}
+        return {"its own text": sum_of(lines), **files}
 
     def of_edit(self, edit):
-        lines = [it for it in text_of(edit.path).split("\n") if it.startswith(("file:", "old:", "new:"))]
-        files = [it for path in sorted(edit.was) for it in (path, code_of(path, edit.was[path]))]
-        below = sorted({it.name: it for it in edit.crate.below}.items())
-        return sum_of([*lines, *files, self.of_crate(edit.crate), *(self.of_crate(it) for _, it in below)])
+        crates = sorted([edit.crate, *edit.crate.below], key=lambda it: it.name)
+        parts = [self.of_text(edit), *map(self.of_crate, crates)]
+        return sum_of([self.toolchain, *(text for it in parts for part in it.items() for text in part)])
 
 
-def lines_of(crate):
-    file = f"{crate.folder}/wrong/lock"
-    return text_of(file).splitlines() if os.path.isfile(file) else []
+class Lock:
+    """The file `lock` of a crate."""
+
+    def __init__(self, crate):
+        self.crate, self.file = crate, f"{crate.folder}/wrong/lock"
+        lines = text_of(self.file).splitlines() if os.path.isfile(self.file) else []
+        self.edits = {it[1]: (it[2], it[3].split()) for it in map(EDIT.fullmatch, lines) if it}
+        self.crates = {it[1]: it[2].split() for it in map(CRATE.fullmatch, lines) if it}
+        self.toolchain = next((it[1] for it in map(TOOLCHAIN.fullmatch, lines) if it), "")
+        self.odd = [it for it in lines if not any(form.fullmatch(it) for form in (EDIT, CRATE, TOOLCHAIN))]
+
+    def why_stale(self, edit, keys):
+        """Why the lock does not have the key of an edit, by what changed since it was refused; nothing if it has it."""
+        if edit.name not in self.edits:
+            return "was never tried"
+        key, sums = self.edits[edit.name]
+        if key == keys.of_edit(edit):
+            return ""
+        found = ["the toolchain"] if self.toolchain != keys.toolchain else []
+        found += changed(keys.of_text(edit), sums)
+        for crate in (edit.crate, *edit.crate.below):
+            found += changed(keys.of_crate(crate), self.crates.get(crate.name, []), f"a file of {crate.name} that is gone")
+        # a file whose outline changed has changed
+        found = [it for it in found if f"the outline of {it}" not in found] or ["what the lock does not name"]
+        more = f" and {len(found) - 3} more" if len(found) > 3 else ""
+        return f"was refused before a change of {', '.join(found[:3])}{more}"
+
+    def renew(self, edits, keys, is_refused):
+        """Writes the lock anew. Of the crate's edits in wrong/ it has those that were refused, and those that were not tried and are there."""
+        known = {it.name: it for it in edits}
+        kept = {name: it for name, it in self.edits.items() if name in known and known[name] not in is_refused}
+        kept.update((name, (keys.of_edit(it), short(keys.of_text(it)))) for name, it in known.items() if is_refused.get(it))
+        if not kept:
+            if os.path.isfile(self.file):
+                os.remove(self.file)
+            return
+        crates = sorted([self.crate, *self.crate.below], key=lambda it: it.name)
+        lines = [f"toolchain {keys.toolchain}"]
+        lines += [" ".join(["edit", name, key, *sums]) for name, (key, sums) in sorted(kept.items())]
+        lines += [" ".join(["crate", it.name, *short(keys.of_crate(it))]) for it in crates]
+        with open(self.file, "w", encoding="utf-8") as it:
+            it.write("".join(f"{line}\n" for line in lines))
 
 
-def read(crate):
-    """The keys that the lock of a crate has, by the names of its edits."""
-    return dict(it.groups() for it in map(LINE.fullmatch, lines_of(crate)) if it)
-
-
-def odd_lines(crate):
-    """The lines of the lock that have no name and key."""
-    return [it for it in lines_of(crate) if not LINE.fullmatch(it)]
-
-
-def write(crate, keys):
-    file = f"{crate.folder}/wrong/lock"
-    if keys:
-        with open(file, "w", encoding="utf-8") as it:
-            it.write("".join(f"{name} {keys[name]}\n" for name in sorted(keys)))
-    elif os.path.isfile(file):
-        os.remove(file)
-
-
-def differing(crate, edits, keys):
-    """The edits whose key the lock does not have, each with why."""
-    known = read(crate)
-    for edit in edits:
-        if edit.name not in known:
-            yield edit, "was never tried"
-        elif known[edit.name] != keys.of_edit(edit):
-            yield edit, "was refused, but what it stands on has changed since"
-
-
-class Tries:
-    """A copy of the crates in which edits are tried: only what is put into must-fail/ there is tried, and nothing here is changed."""
-
-    def __enter__(self):
-        self.room = tempfile.mkdtemp(prefix="edits-")
-        shutil.copytree("crates", f"{self.room}/crates", ignore=shutil.ignore_patterns("out", "must-fail"))
-        for file in ("crates.txt", "HANDLES"):
-            if os.path.isfile(file):
-                shutil.copy(file, self.room)
-        return self
-
-    def __exit__(self, *_):
-        shutil.rmtree(self.room, ignore_errors=True)
-
-    def verdicts(self, chosen):
-        """What the prover says of each of these edits, by crates: whether it is refused, and the verdict. `rt ci` proves a crate
-        as it stands before it tries an edit, since one that is not proved refuses all; it takes what earlier runs proved."""
-        for crate, edits in chosen.items():
-            os.makedirs(f"{self.room}/{crate.folder}/must-fail")
-            for edit in edits:
-                shutil.copy(edit.path, f"{self.room}/{crate.folder}/must-fail")
-        how = {"stdin": subprocess.DEVNULL, "stdout": subprocess.PIPE, "stderr": subprocess.STDOUT, "errors": "replace"}
-        done = subprocess.run(["rt", "ci", *(it.name for it in chosen)], cwd=self.room, **how)
-        told = dict(re.findall(r"must-fail (\w+/\w+)\.edit: (.*)", done.stdout))
-        unproved = dict(re.findall(r"^rt: (\w+)(?:: its tests are)? (NOT PROVED.*)", done.stdout, re.M))
-        for crate, edits in chosen.items():
-            why = unproved.get(crate.name, f"no verdict: rt ci ended with status {done.returncode}")
-            for edit in edits:
-                verdict = told.get(f"{crate.name}/{edit.name}")
-                yield edit, is_refusal(verdict or ""), verdict or f"is not tried: {crate.name}: {why}"
-
-
-def is_refusal(verdict):
-    """Whether a verdict says that a clause refuses the edit, and not only that a name of a proof is lost, or that the prover met a limit."""
-    return verdict.startswith("refused, as it must be") and not verdict.startswith("refused, as it must be (only ")
+def changed(parts, known, gone=None):
+    """The names of the parts whose short sums are not known; what is gone where all are, and one more is."""
+    found = [name for name, it in zip(parts, short(parts)) if it not in known]
+    return found or ([gone] if gone and len(known) > len(parts) else [])

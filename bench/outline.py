@@ -27,6 +27,36 @@ class Item:
         name = re.match(rf"{BEFORE.pattern}{re.escape(kind)} (\w+)", head)
         self.name = name[1] if name else ""
         self.clauses, self.members = [], []
+        # its lines with the attributes and comments before it, to which the checker may point
+        self.first, self.last = line, line
+
+
+class Function:
+    """A function of a source: its name, whether its value can be a constant's, its lines from 1, and what the checker may write before
+    its name: the type, or the type and the trait."""
+
+    def __init__(self, item, owners):
+        self.name, self.first, self.last, self.owners = item.name, item.first + 1, item.last + 1, owners
+        self.is_const = re.search(r"\bconst .*?\bfn\b", item.head) is not None
+
+
+def without_brackets(text):
+    """The text without what stands between < and >, of which `->` is none."""
+    kept, depth = [], 0
+    for at, byte in enumerate(text):
+        depth += (byte == "<") - (byte == ">" and text[at - 1] != "-")
+        if not depth and byte != ">":
+            kept.append(byte)
+    return "".join(kept)
+
+
+def owners_of(block):
+    """What the checker writes for a block before the names of its functions: of an impl the type, with the trait after it; of a trait its name."""
+    if block.kind != "impl":
+        return {block.name}
+    head = without_brackets(block.head).partition("impl")[2].partition(" where ")[0]
+    names = [re.split(r"::|[& ]", it.strip())[-1] for it in reversed(head.split(" for "))]
+    return {"".join(names)}
 
 
 class Source:
@@ -82,11 +112,12 @@ class Source:
 
     def items_of(self, at, end):
         items = []
-        at = self.begins(at, end)
+        before, at = at, self.begins(at, end)
         while at < end:
-            item, at = self.item(at, end)
+            item, after = self.item(at, end)
+            item.first = min(item.line, self.lines[before] + 1)
             items.append(item)
-            at = self.begins(at, end)
+            before, at = after, self.begins(after, end)
         return items
 
     def item(self, begin, end):
@@ -131,6 +162,7 @@ class Source:
                         continue
                     self.left_out |= set(range(at + 1, closed))
                     at = closed
+                item.last = self.lines[at]
                 return item, at + 1
             at = self.ends.get(at, at) + 1
         return item or Item("fn", self.said(begin, end), self.lines[begin]), end
@@ -145,6 +177,14 @@ class Source:
                 opened = next((it for it in range(at, end) if self.tokens[it][1] == "{"), None)
                 if opened:
                     found.append(Item("ghost", self.said(at, self.ends[opened] + 1), self.lines[at]))
+        return found
+
+    def functions(self):
+        """The functions of the file and of its blocks."""
+        found = [Function(it, {""}) for it in self.items if it.kind == "fn"]
+        for block in self.items:
+            if block.kind in BLOCKS:
+                found += [Function(it, owners_of(block)) for it in block.members if it.kind == "fn"]
         return found
 
     def code(self):
