@@ -1,11 +1,11 @@
 #!/usr/bin/env -S PYTHONCOERCECLOCALE=0 python3
 """cache.py COMPILER WORD ..: a compiler cache that knows no flag of any compiler. docs/CACHE.md goes through it.
 
-DESCRIBE names the program `describe`, CACHE a folder. CACHE_LOG may name a file, for a line a call: hit, miss, unkept
+DESCRIBE names the program `describe`, CACHE a folder, made if there is none. CACHE_LOG may name a file, for a line a call: hit, miss, unkept
 or given, and why. CACHE_BASES may have base directories, with `:` between them: those of the checkout and the build, so
 that keys are one in every checkout. Status: the compiler's; 64: called wrongly; 127: the compiler can't be started. The
 first line has a variable so that Python does not change the language of the compiler's messages."""
-import hashlib, marshal, os, pathlib, re, shutil, subprocess, sys, tempfile, time
+import hashlib, os, pathlib, re, shutil, stat as kinds, subprocess, sys, tempfile, time
 from os.path import abspath, basename, dirname, exists, isabs, isdir, isfile, islink, join, lexists, samefile
 
 VARIABLES, STARTED = os.environb, time.time_ns() - 10**7  # (clocks of file systems are coarse)
@@ -169,8 +169,8 @@ def sum_of_program(path):  # and of its libraries
     return b"".join(map(sum_of, [path, *re.findall(rb"=> (/\S+)", quietly([b"ldd", path]).stdout)]))
 def sum_of(path):  # remembered by the file's stamp
     known = join(STORE, digest(repr((path, stamp(path))).encode()).hex().encode())
-    if not exists(known): write(known, digest(content(path)))
-    return content(known)
+    if (sum := stored(known)) is None: write(known, sum := digest(content(path)))
+    return sum
 
 # ---- A path below base N is told as NUL, `<baseN>` and the rest (docs/PROTOCOL.md, A key in every checkout)
 def given_bases(): return [it.rstrip(b"/\\") for it in VARIABLES.get(b"CACHE_BASES", b"").split(b":") if it]
@@ -214,13 +214,14 @@ def compile_and_keep(entry, rows, outputs):
     is_whole = not ran.returncode and not ran.stdout and all(path in written or outputs[path] for path in outputs)
     is_kept = is_whole and all(stamp(path) == was and (not was or was[3] < STARTED) for path, was in stamps.items())
     is_kept = is_kept and is_told(ran.stderr, [content(path) for path in written if path in rules])
-    texts = {told(path): told_text(content(path)) if path in rules else content(path) for path in written}
-    if is_kept: keep(entry, (told_text(ran.stderr), texts))
+    texts = [it for path in written for it in (told(path), told_text(content(path)) if path in rules else content(path))]
+    if is_kept: keep(entry, [told_text(ran.stderr), *texts])
     log("miss" if is_kept else "unkept", entry[-64:].decode())
     return ran.returncode
 def keep(entry, parts):
-    try: write(entry, digest(packed := marshal.dumps(parts)) + packed)
+    try: write(entry, digest(all := packed(parts)) + all)
     except OSError: pass  # the store may be full: the next call is a miss again
+def packed(parts): return b"".join(b"%d:%s" % (len(it), it) for it in parts)  # each after its length
 def write(path, data):  # by another name first, so that nobody sees a part; a link is replaced, not followed
     part = b"%s.%d" % (path, os.getpid())
     try:
@@ -234,21 +235,41 @@ def show(messages, rows):  # built commands force colours
 
 # ---- 5. A hit: put back what was kept. What is no whole entry is a miss
 def restore(entry, rows, outputs):
-    kept = content(entry) if isfile(entry) else b""
+    kept = stored(entry) or b""
     if digest(kept[32:]) != kept[:32]: return False
-    messages, files = marshal.loads(kept[32:])
+    messages, *others = unpacked(kept[32:])
+    files = dict(pairs(others))
     for path, text in ((path, files[told(path)]) for path in outputs if told(path) in files):
         write(path, put_back(text) if path in rules else text)
     show(put_back(messages), rows)
     log("hit", entry[-64:].decode())
     return True
+def unpacked(text):
+    size, colon, rest = text.partition(b":")
+    return [rest[: int(size)], *unpacked(rest[int(size) :])] if colon else []
+
+# ---- the store: a folder of one's own. What another owner, a link, a pipe or a device may bring is not read
+def stored(path):  # None: there is nothing
+    try: file = os.open(path, os.O_RDONLY | os.O_NOFOLLOW | os.O_NONBLOCK)
+    except FileNotFoundError: return None
+    except OSError: raise KeepNothing("no own file: " + os.fsdecode(path)) from None
+    with open(file, "rb") as it:
+        need(is_own(os.fstat(file), kinds.S_ISREG), b"no own file: " + path)
+        return it.read()
+def is_own(it, is_kind): return is_kind(it.st_mode) and it.st_uid == os.geteuid()
+def has_store():  # that others may not write
+    try: os.makedirs(abspath(STORE), 0o700)
+    except FileExistsError: pass
+    except OSError: return False
+    it = os.lstat(abspath(STORE))
+    return is_own(it, kinds.S_ISDIR) and not it.st_mode & 0o022
 
 # ---- tools
 def content(path): return pathlib.Path(os.fsdecode(path)).read_bytes()
 def stamp(path):  # size and times; None: there is nothing
     it = os.stat(path) if exists(path) else None
     return it and (it.st_size, it.st_mtime_ns, it.st_ino, it.st_ctime_ns)
-def is_own(path):  # a link would be replaced, where a compiler writes through it
+def is_alone(path):  # a link would be replaced, where a compiler writes through it
     return not lexists(path) or isfile(path) and not islink(path) and os.stat(path).st_nlink == 1
 def program_file(name): return os.fsencode(shutil.which(name) or b"")
 def quietly(words, more={}):
@@ -272,13 +293,15 @@ def asked():  # all rows, those of the key as they are told, and these with the 
 def call():
     rows, told_key, key = asked()
     outputs = {row[2]: row[3:] == [b"optional"] for row in key if row[0] == b"output"}  # whether each may lack
-    for path in outputs: need(is_own(path), b"an output is no file, or has two names: " + path)
+    for path in outputs: need(is_alone(path), b"an output is no file, or has two names: " + path)
     entry = join(STORE, key_of(told_key, key))
     return 0 if restore(entry, rows, outputs) else compile_and_keep(entry, rows, outputs)
 def stop(text, status): sys.exit(print(text, file=sys.stderr) or status)
 
 def main():
-    if not COMMAND or b"DESCRIBE" not in VARIABLES or not STORE or not isdir(STORE): stop(__doc__, 64)
+    if COMMAND[:1] in ([b"--help"], [b"-h"]): sys.exit(print(__doc__))
+    if not COMMAND or b"DESCRIBE" not in VARIABLES or not STORE: stop(__doc__, 64)
+    if not has_store(): stop(f"cache.py: {os.fsdecode(STORE)}: no folder of your own that only you may write", 64)
     try: sys.exit(call())
     except (KeepNothing, OSError, ValueError) as why:  # (a ValueError: a word has a NUL, which only a file can have)
         log("given", why)  # what can't be written, the compiler says in its words

@@ -6,7 +6,7 @@
 //   cache --stats        what it did, and how often
 //   cache --why          the rows of the last miss that the miss before it of the same output did not have
 //
-// CACHE names its folder (~/.cache/scl), CACHE_SIZE its bytes at most (5e9), CACHE_LOG a file for a line a call. CACHE_BASES
+// CACHE names its folder (~/.cache/scl; docs/CACHE.md, Trust), CACHE_SIZE its bytes at most (5e9), CACHE_LOG a file for a line a call. CACHE_BASES
 // may have base directories, with `:` between them, so that keys are one in every checkout (docs/CACHE.md, Two checkouts).
 // Status: the compiler's; 64: called wrongly; 126, 127: the compiler can't be started, or is not there.
 #include <algorithm>
@@ -206,16 +206,43 @@ static bool is_as_it_was() {
 // ---- the store: lists by name. Before each stands its sum: one that is broken is as good as none
 
 static Bytes store;
-static Bytes place_of(const Bytes &name) { return store + "/" + name.substr(0, 2) + "/" + name; }
+static bool is_own(const struct stat &it, mode_t kind) { return (it.st_mode & S_IFMT) == kind && it.st_uid == geteuid(); }
+// A folder that only its owner may write, and no link. It is made, if there is none.
+static bool has_folder(const Bytes &path) {
+    struct stat it;
+    mkdir(path.c_str(), 0700);
+    return !lstat(path.c_str(), &it) && is_own(it, S_IFDIR) && !(it.st_mode & 022);
+}
+// Opens a file of one's own: a link is not followed, and a pipe is not waited for. Below 0: there is none.
+static int open_own(const Bytes &path, int flags) {
+    const int file = open(path.c_str(), flags | O_NOFOLLOW | O_NONBLOCK | O_CLOEXEC, 0600);
+    struct stat it;
+    if (file < 0 && errno == ENOENT) return file;
+    if (file >= 0 && !fstat(file, &it) && is_own(it, S_IFREG)) return file;
+    if (file >= 0) close(file);
+    throw KeepNothing("no own file: " + path);
+}
+static Bytes stored(const Bytes &path) {
+    const int file = open_own(path, O_RDONLY);
+    Bytes text;
+    char part[1 << 16];
+    for (ssize_t got; file >= 0 && (got = read(file, part, sizeof part)) > 0;) text.append(part, size_t(got));
+    if (file >= 0) close(file);
+    return text;
+}
+static Bytes place_of(const Bytes &name) {
+    const Bytes folder = store + "/" + name.substr(0, 2);
+    need(has_folder(folder), "no own folder: " + folder);
+    return folder + "/" + name;
+}
 static bool get(const Bytes &name, Words &parts) {
-    const Bytes path = place_of(name), text = is_file(path) ? content(path) : "";
+    const Bytes path = place_of(name), text = stored(path);
     const size_t end = std::min(text.find(' '), text.size());
     if (text.empty() || sum_of(text.substr(end + 1)) != text.substr(0, end)) return false;
     fs::last_write_time(path, fs::file_time_type::clock::now(), ignored);  // (what was not used for longest goes first)
     return parts = unpacked(text.substr(end + 1)), true;
 }
 static void put(const Bytes &name, const Words &parts) {
-    fs::create_directories(folder_of(place_of(name)), ignored);
     write_file(place_of(name), sum_of(packed(parts)) + " " + packed(parts));
 }
 
@@ -225,7 +252,7 @@ static void remove_oldest() {
     std::vector<std::tuple<int64_t, double, Bytes>> all;
     double size = 0, limit = getenv("CACHE_SIZE") ? atof(getenv("CACHE_SIZE")) : 5e9;
     for (const Bytes &folder : files_in(store))
-        for (const Bytes &path : files_in(folder)) {
+        for (const Bytes &path : has_folder(folder) ? files_in(folder) : Words()) {
             const Stamp is(path);
             const Bytes name = fs::path(path).filename().string();
             const bool is_entry = fs::path(folder).filename() == name.substr(0, 2) && matches(name, "^[0-9]+[.][0-9]+");
@@ -658,7 +685,7 @@ struct Key {
     }
     Bytes plan(const Words &words) const {
         const Bytes own = store + "/scl-plan";
-        fs::create_directories(own, ignored);
+        need(has_folder(own), "no own folder: " + own);
         const Ran ran = run(Words{compiler, "-###"} + words, true, "TMPDIR=" + own);
         need(!ran.status, "the plan fails");
         const Bytes text = without(ran.err, "[^ =\"\n]*/scl-plan/[^ \"\n]*");  // (names of temporary files)
@@ -847,8 +874,11 @@ static bool restore(const Key &key, const Bytes &name) {
 
 // A byte a call, and at each 64th a look at the size.
 static void count(const Bytes &what, const Bytes &why, char **words) {
-    std::ofstream(store + "/counts", std::ios::app) << what[0];
-    if (fs::file_size(store + "/counts", ignored) % 64 == 0) remove_oldest();
+    try {
+        const int counts = open_own(store + "/counts", O_WRONLY | O_APPEND | O_CREAT);
+        if (write(counts, &what[0], 1) == 1 && lseek(counts, 0, SEEK_END) % 64 == 0) remove_oldest();
+        close(counts);
+    } catch (const KeepNothing &) {}  // (it can't be written: then nothing is counted)
     if (!getenv("CACHE_LOG")) return;
     Bytes line = what + " " + why + " |";
     for (; *words; words++) line += Bytes(" ") + *words;
@@ -856,7 +886,7 @@ static void count(const Bytes &what, const Bytes &why, char **words) {
     std::ofstream(getenv("CACHE_LOG"), std::ios::app) << line + "\n";
 }
 static int print_counts() {
-    const Bytes all = is_file(store + "/counts") ? content(store + "/counts") : "";
+    const Bytes all = stored(store + "/counts");
     for (const char *what : {"direct", "hit", "miss", "unkept", "given"})
         printf("%s %td\n", what, std::count(all.begin(), all.end(), *what));
     return 0;
@@ -866,11 +896,12 @@ static void note_why(const Key &key) {
     const Bytes name = sum_of("why" + packed(Words(made.begin(), made.end())));
     Words now, before;
     get(name, before);
-    std::ofstream why(store + "/why");
+    Bytes why;
     for (const Row &row : key.rows) {
         now.push_back(packed(row.words) + row.sum);
-        if (!has(before, now.back())) why << row.words[0] << " " << (row.words.size() > 1 ? row.words[1] : "") << "\n";
+        if (!has(before, now.back())) why += row.words[0] + " " + (row.words.size() > 1 ? row.words[1] : "") + "\n";
     }
+    write_file(store + "/why", why);
     put(name, now);
 }
 
@@ -890,12 +921,21 @@ static int call(char **words) try {
     return perror(words[0]), status;
 }
 
+// The store, and what is written in it by its name; empty, if all is one's own.
+static Bytes strange() try {
+    fs::create_directories(folder_of(store), ignored);
+    if (!has_folder(store)) return store + ": no folder of your own that only you may write";
+    for (const char *name : {"/counts", "/why"}) close(open_own(store + name, O_RDONLY));
+    return "";
+} catch (const KeepNothing &it) { return it.what(); }
+
 int main(int number, char **words) {
     const Bytes first = number > 1 ? words[1] : "-", named = value_of("CACHE").substr(1), home = value_of("HOME").substr(1);
     store = whole(named.empty() ? home + "/.cache/scl" : named);
-    fs::create_directories(store, ignored);
+    store.erase(store.find_last_not_of('/') + 1);  // (with a slash at its end a link would be followed)
+    if (const Bytes why = strange(); !why.empty()) return fprintf(stderr, "cache: %s\n", why.c_str()), 64;
     if (first == "--stats") return print_counts();
-    if (first == "--why") return printf("%s", is_file(store + "/why") ? content(store + "/why").c_str() : ""), 0;
+    if (first == "--why") return printf("%s", stored(store + "/why").c_str()), 0;
     if (first[0] == '-') return fprintf(stderr, "usage: cache COMPILER WORD .. | cache --stats | cache --why\n"), 64;
     return call(words + 1);
 }
