@@ -102,18 +102,17 @@ typedef struct scl_request {
     size_t most_words;          /* that a command line may have, response files put in place, and how often it may open files: */
                                 /*   0 is 1,000,000, SIZE_MAX is no limit */
     bool is_multiarch;          /* several architectures are allowed */
-    bool wants_runs;            /* the answer has the runs of the preprocessor: */
+    bool wants_runs;            /* the answer has the runs of the preprocessor (what is not wanted is not computed): */
     bool may_dist;              /*   for a distant compiler */
     bool rewrite_includes_only; /*   with macros left in place */
     bool cache_mode;            /*   for a cache of preprocessor runs */
     bool wants_questions;       /* the answer has the paths, not passed in, that could change it */
-    bool wants_hazards;         /* the answer has the hazards of the command line */
-    bool wants_options;         /* the answer has what became of each option */
-    bool wants_key;             /* the answer has the rows of the key */
+    bool wants_hazards;         /* the answer has the hazards of the command line, and what it reads, writes, loads and asks */
+    bool wants_options;         /* the answer has what became of each option, and the index of the word that is refused */
+    bool wants_key;             /* the answer has the rows of the key, whether the result may be kept, and what it reads, writes .. */
     scl_bytes version;          /* the text of the compiler's version, in UTF-8 (docs/PROTOCOL.md, `setting version`) */
     scl_bytes catalogue;        /* the text of the catalogue of hazards; empty: the built-in one */
-    scl_words settings;         /* more lines `setting`: what follows that word, as `bound 10`; with `wants run` and its like
-                                   what a row that is not wanted would have said is empty, and without `keep` nothing stops keeping */
+    scl_words settings;         /* more lines `setting`: what follows that word, as `bound 10` */
     scl_words bases;            /* directories that differ from checkout to checkout, absolute and without a NUL: paths of the key are
                                    written by them (docs/PROTOCOL.md, A key in every checkout) */
     bool keep_shown;            /* each word `-D..` counts in the key: there is no row `key shown` */
@@ -211,7 +210,7 @@ typedef struct scl_questions {
 /* What an outcome does not have is empty, or false. Each text has a NUL after it, which its length does not count. */
 typedef struct scl_answer {
     uint32_t outcome;
-    bool is_cacheable; /* whether the result of the command may be kept; false if there is a row `keep`, and not `keep yes` */
+    bool is_cacheable; /* whether the result of the command may be kept: true only with wants_key, and if each row `keep` is `keep yes` */
     bool has_text;
     scl_bytes reason;      /* SCL_CANNOT_CACHE */
     scl_bytes text;        /* beside the reason, where has_text */
@@ -344,9 +343,15 @@ static inline scl_request scl_valid_request(const scl_request *request) {
 /* scl_run or scl_describe. */
 typedef int32_t scl_respond(const uint8_t *request, size_t request_len, uint8_t *room, size_t room_len, size_t *wanted);
 
+/* Room that most answers fit in: words stand in up to a dozen rows, and files in fewer. */
+static inline size_t scl_first_room(size_t request_len) {
+    size_t of_words = request_len < 1u << 20 ? request_len : 1u << 20;
+    return 16384 + 14 * of_words + (request_len < SIZE_MAX / 4 ? 2 * request_len : 0);
+}
+
 /* Answers a request's text with memory of its own: by scl_describe_with, if there is a catalogue. */
 static inline int32_t scl_respond_new(scl_respond *respond, scl_bytes catalogue, scl_bytes request, char **text, size_t *wanted) {
-    size_t size = 4096 + (request.len < SIZE_MAX / 16 ? 8 * request.len : 0);
+    size_t size = scl_first_room(request.len);
     for (;;) {
         char *block = SCL_TO(char *, malloc(size + 1));
         int32_t status;
@@ -434,18 +439,30 @@ static inline scl_room scl_room_in(void *block, const scl_sizes *sizes) {
 /* What most answers to the request take. */
 static inline scl_sizes scl_usual_sizes(const scl_request *request) {
     scl_sizes it;
-    size_t i, times = request->wants_runs ? 4 : 2;
+    size_t i, len = request->words.len, times = 4; /* how often a word stands in the answer */
     it.bytes = 1024;
-    it.slots = 64 + times * request->words.len;
+    it.slots = 64;
     it.pairs = request->environment.len;
     it.outputs = 4;
-    it.runs = request->wants_runs ? 2 : 0;
+    it.runs = 0;
+    if (request->wants_runs) {
+        times += 2;
+        it.runs += 2;
+    }
+    if (request->wants_options) {
+        times += 10;
+        it.runs += len + 8;
+        it.bytes += 64 * (len + 8);
+        it.slots += 80;
+    }
     if (request->wants_key) {
-        it.runs += 48;
-        it.bytes += 4096;
+        times += 14;
+        it.runs += 2 * len + 48;
+        it.bytes += 16 * len + 4096;
         it.slots += 160;
     }
-    for (i = 0; i < request->words.len; i++) it.bytes += times * (request->words.at[i].len + 1);
+    it.slots += times * len;
+    for (i = 0; i < len; i++) it.bytes += times * (request->words.at[i].len + 1);
     for (i = 0; i < it.pairs; i++) it.bytes += request->environment.at[i].key.len + request->environment.at[i].value.len + 2;
     return it;
 }

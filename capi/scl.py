@@ -11,7 +11,6 @@ from __future__ import annotations
 
 import ctypes as c
 import os
-import re
 from dataclasses import dataclass, field as _member
 from typing import Any, Callable, Dict, Iterable, List, Tuple
 
@@ -140,6 +139,8 @@ class Answer:
     hazards: list[str] = _member(default_factory=list)
 
 
+_PLAIN = bytes(it for it in range(0x21, 0x7F) if it != ord("\\"))  # what stands for itself in a field
+_PIECE = 1 << 16  # how long a piece of a text is that is mapped
 _Pairs = Iterable[Tuple[bytes, bytes]]
 _Rows = Dict[str, List[List[bytes]]]  # the fields of each row, by its name
 
@@ -158,13 +159,14 @@ if _lib.scl_version() != PROTOCOL:
 
 
 def _respond(call: Callable[..., int], request: bytes, *before: Any) -> bytes:
-    size, wanted = 4096 + 8 * len(request), c.c_size_t()
+    # (most answers to a short request fit; that to a long text is hardly longer than the text)
+    size, wanted = 16384 + min(16 * len(request), len(request) + (1 << 22)), c.c_size_t()
     room = c.create_string_buffer(size)
     while (status := call(*before, request, len(request), room, len(room), c.byref(wanted))) == SHORT:
         room = c.create_string_buffer(wanted.value)
     if status != OK:
         raise {BAD: BadLine(wanted.value), NEWER: Newer(f"line {wanted.value}"), BAD_CATALOGUE: BadCatalogue(wanted.value)}.get(status) or MemoryError
-    return room.raw[: wanted.value]
+    return c.string_at(room, wanted.value)
 
 
 def run(request: bytes) -> bytes:
@@ -219,6 +221,22 @@ def depfile(prefix: bytes, messages: bytes, words: Iterable[bytes], *given: Any,
 def map(bases: Iterable[bytes], quoting: bytes, text: bytes) -> bytes:
     """What a run of the preprocessor wrote, with the names in its line markers written by their bases. These are absolute and have no NUL.
     The quoting is how the compiler quotes names: b"gcc" or b"clang"."""
+    known, mark, mapped, at = [*bases], b"/mark", [], 0
+    while mark in text:
+        mark += b"-"
+    # To take little memory a text goes in pieces of whole lines. A marker stands after each; once it comes back as it was, a line began a raw
+    # string, and the rest stays as it is (docs/RULES.md, Line markers).
+    last = b'# 1 "%s"' % mark
+    while known and 0 <= (end := text.find(b"\n", at + _PIECE)):
+        piece = _mapped([*known, mark], quoting, text[at : end + 1] + last)
+        is_raw, at = piece.endswith(last), end + 1
+        mapped.append(piece[: piece.rindex(b"\n") + 1])
+        if is_raw:
+            return b"".join([*mapped, text[at:]])
+    return b"".join([*mapped, _mapped(known, quoting, text[at:])])
+
+
+def _mapped(bases: list[bytes], quoting: bytes, text: bytes) -> bytes:
     lines = [b"map", *(b"base " + field(it) for it in bases), b"quoting " + field(quoting), b"text " + field(text), b""]
     try:
         of = dict(rows(describe(b"\n".join(lines))))
@@ -227,16 +245,24 @@ def map(bases: Iterable[bytes], quoting: bytes, text: bytes) -> bytes:
     return of[b"text"]
 
 
-def field(it: bytes) -> bytes:
-    """Bytes as they stand in a request or a row."""
+def field(it: bytes, plain: bytes = b"") -> bytes:
+    """Bytes as they stand in a request or a row; those of `plain` stand for themselves."""
     if not isinstance(it, bytes):
         raise TypeError(f"wanted are bytes, not {it!r}")
-    return re.sub(rb"[^!-\[\]-~]", lambda byte: b"\\x%02x" % ord(byte[0]), it)
+    others = it.translate(None, _PLAIN + plain)
+    for byte in sorted({*others}, key=lambda byte: byte != ord("\\")):  # (a backslash first, before others bring more)
+        it = it.replace(b"%c" % byte, b"\\x%02x" % byte)
+    return it
 
 
 def rows(description: bytes) -> list[list[bytes]]:
     """The rows of a description's text, in order: the fields of each, as bytes, of which the first is its name."""
-    return [[re.sub(rb"\\x(..)", lambda it: bytes.fromhex(it[1].decode()), field) for field in line.split(b" ")] for line in description.split(b"\n")[:-1]]
+    return [[_unescaped(field) for field in line.split(b" ")] for line in description.split(b"\n")[:-1]]
+
+
+def _unescaped(field: bytes) -> bytes:
+    # (in a field a backslash begins `\\xHH`, as in a string of Python)
+    return field.decode("unicode_escape").encode("latin-1") if b"\\" in field else field
 
 
 def request(compiler: bytes, words: Iterable[bytes], directory: bytes = b"", environment: _Pairs = (), files: _Pairs = (), directories: Iterable[bytes] = (),
@@ -248,7 +274,7 @@ def request(compiler: bytes, words: Iterable[bytes], directory: bytes = b"", env
     lines += [b"%s %s\t%s" % (name, field(key), field(value)) for name, them in ((b"env", environment), (b"file", files)) for key, value in them]
     lines += [line for name, line in SETTINGS.items() if wishes.get(name)]
     lines += [b"setting bound %d" % most_words] * bool(most_words) + [b"setting version " + field(version)] * bool(version)
-    lines += [b"setting base " + field(it) for it in bases] + [b"setting " + it for it in settings]
+    lines += [b"setting base " + field(it) for it in bases] + [b"setting " + field(it, b" \\") for it in settings]
     return b"\n".join(lines) + b"\n"
 
 

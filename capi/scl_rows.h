@@ -102,8 +102,19 @@ static inline void scl_put_bound(scl_writer *to, size_t number) {
     scl_put(to, "\n");
 }
 
+/* What is not wished for is not computed; `version` is one of the rows that always come. */
+static inline void scl_put_wants(scl_writer *to, const scl_request *request) {
+    scl_put(to, "setting wants version\n");
+    if (request->wants_runs) scl_put(to, "setting wants run\n");
+    if (request->wants_questions) scl_put(to, "setting wants wants\n");
+    if (request->wants_hazards) scl_put(to, "setting wants hazard\n");
+    if (request->wants_options) scl_put(to, "setting wants option\n");
+    if (request->wants_key) scl_put(to, "setting wants key\n");
+}
+
 static inline void scl_put_settings(scl_writer *to, const scl_request *request) {
     size_t i;
+    scl_put_wants(to, request);
     if (request->may_dist) scl_put(to, "setting may-dist\n");
     if (request->rewrite_includes_only) scl_put(to, "setting rewrite-includes-only\n");
     if (request->cache_mode) scl_put(to, "setting cache-mode\n");
@@ -516,7 +527,7 @@ static inline void scl_take_rows(scl_taking *t) {
     memset(t->counts, 0, sizeof t->counts);
     while (scl_next_row(&rows, &row)) scl_take_row(t, row);
     if (rows.len) t->is_broken = true;
-    if (t->answer.has_unknown || t->is_kept_never) t->answer.is_cacheable = false;
+    if (t->answer.has_unknown || t->is_kept_never || !t->request->wants_key) t->answer.is_cacheable = false;
 }
 
 /* Counts the rows of a description: SCL_OK, SCL_TOO_MANY_WORDS or SCL_NEWER. */

@@ -72,19 +72,9 @@ func (r Row) isKnown() bool {
 func answerOf(text string) (*Answer, error) {
 	first, rest, isLine := strings.Cut(text, "\n")
 	outcome, _, _ := strings.Cut(first, " ")
-	answer := &Answer{Outcome: Outcome(outcome)}
-	for _, line := range strings.SplitAfter(rest, "\n") {
-		if !strings.HasSuffix(line, "\n") {
-			isLine = isLine && line == ""
-			break
-		}
-		fields := strings.Split(line[:len(line)-1], " ")
-		for at, it := range fields {
-			fields[at] = unescaped(it)
-		}
-		answer.Rows = append(answer.Rows, Row{fields[0], fields[1:]})
-	}
-	if !isLine || answer.Word("version") != protocol {
+	rows, isWhole := rowsOf(rest)
+	answer := &Answer{Outcome: Outcome(outcome), Rows: rows}
+	if !isLine || !isWhole || answer.Word("version") != protocol {
 		return nil, ErrNewer
 	}
 	switch outcome {
@@ -99,6 +89,22 @@ func answerOf(text string) (*Answer, error) {
 		answer.IsCacheable = answer.IsCacheable && row.isKnown() && !row.isRefusal()
 	}
 	return answer, nil
+}
+
+// rowsOf reads the rows of a text, and says whether the last one has its end.
+func rowsOf(text string) ([]Row, bool) {
+	var rows []Row
+	for _, line := range strings.SplitAfter(text, "\n") {
+		if !strings.HasSuffix(line, "\n") {
+			return rows, line == ""
+		}
+		fields := strings.Split(line[:len(line)-1], " ")
+		for at, it := range fields {
+			fields[at] = unescaped(it)
+		}
+		rows = append(rows, Row{fields[0], fields[1:]})
+	}
+	return rows, true
 }
 
 // unescaped gives the bytes that a field stands for.

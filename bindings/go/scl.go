@@ -16,6 +16,7 @@ import "C"
 import (
 	"errors"
 	"fmt"
+	"strconv"
 	"strings"
 	"unsafe"
 )
@@ -86,6 +87,29 @@ func (r *Request) Ask() (*Answer, error) {
 		return nil, err
 	}
 	return answerOf(text)
+}
+
+// Name says which word of a whole command line is the program, by its index, launchers passed over; -1 if each is a launcher or belongs
+// to one. And which compiler it is by its name, as a Request takes it; "" if the name is not known.
+func Name(words []string) (program int, compiler string, err error) {
+	var request strings.Builder
+	request.WriteString("name\n")
+	for _, word := range words {
+		fmt.Fprintf(&request, "word %s\n", field(word))
+	}
+	text, err := respond("", request.String())
+	if errors.Is(err, ErrUnknownCompiler) {
+		err = ErrNewer
+	}
+	rows, isWhole := rowsOf(text)
+	said := Answer{Rows: rows}
+	if err == nil && (!isWhole || said.Word("version") != protocol) {
+		err = ErrNewer
+	}
+	if program, isNumber := strconv.Atoi(said.Word("program")); err == nil && isNumber == nil {
+		return program, said.Word("compiler"), nil
+	}
+	return -1, "", err
 }
 
 // bytesOf gives bytes with a first one to point at, and their number.

@@ -65,6 +65,26 @@ func TestErrorsAreToldApart(t *testing.T) {
 	}
 }
 
+func TestASettingIsOneLine(t *testing.T) {
+	request := Request{Compiler: "gcc", Words: []string{"-c", "a.c"}, Settings: []string{"bound 9\nword -E"}}
+	if _, err := request.Ask(); !errors.Is(err, ErrNewer) {
+		t.Error(err)
+	}
+}
+
+func TestTheProgramIsNamed(t *testing.T) {
+	for _, it := range []struct {
+		words    []string
+		program  int
+		compiler string
+	}{{[]string{"ccache", "gcc-12", "-c"}, 1, "gcc"}, {[]string{"/usr/bin/x86_64-linux-gnu-g++"}, 0, "g++"}, {[]string{"rustc"}, 0, ""},
+		{[]string{"env", "A=b"}, -1, ""}, {nil, -1, ""}, {[]string{"a\nword gcc"}, 0, ""}} {
+		if program, compiler, err := Name(it.words); program != it.program || compiler != it.compiler || err != nil {
+			t.Errorf("%q: %d %q %v", it.words, program, compiler, err)
+		}
+	}
+}
+
 func TestALongAnswerHasRoom(t *testing.T) {
 	request := Request{Compiler: "gcc", Words: []string{"-c", "a.c"}}
 	for at := 0; at < 5000; at++ {

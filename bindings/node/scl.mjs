@@ -22,7 +22,9 @@ const KEYS = {is: [1, Infinity], output: [2, 3], directory: [0, 0], compiler: [0
 // The rows `keep`, and how many fields each has.
 const KEPT = {yes: 1, no: 3, unknown: 2};
 
-const field = (it) => Buffer.from(it).toString("latin1").replace(/[^!-[\]-~]/g, (byte) => "\\x" + byte.charCodeAt(0).toString(16).padStart(2, "0"));
+// Each byte that does not stand for itself is written as two digits; in a setting blanks and backslashes stand for themselves.
+const escaped = (it, others) => Buffer.from(it).toString("latin1").replace(others, (byte) => "\\x" + byte.charCodeAt(0).toString(16).padStart(2, "0"));
+const field = (it) => escaped(it, /[^!-[\]-~]/g), setting = (it) => escaped(it, /[^ -~]/g);
 const bytes = (it) => Buffer.from(it.replace(/\\x(..)/g, (_, digits) => String.fromCharCode(parseInt(digits, 16))), "latin1");
 
 /** The text of a request. */
@@ -31,7 +33,7 @@ export function request({compiler, words = [], directory = "", environment = [],
   const pairs = (name, them) => them.map(([key, value]) => `${name} ${field(key)}\t${field(value)}`);
   const lines = [`compiler ${field(compiler)}`, `cwd ${field(directory)}`, ...words.map((it) => `word ${field(it)}`), ...pairs("env", environment),
     ...pairs("file", files), ...directories.map((it) => `dir ${field(it)}`), ...existing.map((it) => `exists ${field(it)}`),
-    ...bases.map((it) => `setting base ${field(it)}`), ...settings.map((it) => `setting ${it}`)];
+    ...bases.map((it) => `setting base ${field(it)}`), ...settings.map((it) => `setting ${setting(it)}`)];
   return lines.map((it) => it + "\n").join("");
 }
 
@@ -72,24 +74,26 @@ export class Answer {
 // What a status of the program means (docs/PROTOCOL.md, Statuses).
 const STATUSES = {3: "out of memory", 65: "a bad catalogue"};
 
-/** A running `describe --batch`; its other words may name a catalogue. */
-export class Scl {
+// A running program, and what was asked of it.
+class Running {
   #process;
-  #text = "";
   #waiting = [];
+  #lines = [];
+  #pieces = []; // of the line that has no end yet
+  isOver = false;
 
-  constructor(program = "describe", words = []) {
+  constructor(program, words) {
     this.#process = spawn(program, [...words, "--batch"], {stdio: ["pipe", "pipe", "inherit"]});
     this.#process.stdout.setEncoding("latin1").on("data", (more) => this.#take(more));
     this.#process.stdin.on("error", () => {});
-    this.#process.on("error", (error) => this.#fail(error)).on("close", (status) => this.#fail(new Error(STATUSES[status] ?? `${program} ended, status ${status}`)));
+    this.#process.on("error", (error) => this.#end(error)).on("exit", () => (this.isOver = true))
+      .on("close", (status) => this.#end(new Error(STATUSES[status] ?? `${program} ended, status ${status}`)));
   }
 
-  /** The answer to a request. It throws where a line of the request is bad, or the answer is not known here. */
-  ask(given) {
+  ask(text) {
     return new Promise((resolve, reject) => {
       this.#waiting.push({resolve, reject});
-      this.#process.stdin.write(request(given) + "end\n");
+      this.#process.stdin.write(text + "end\n");
     });
   }
 
@@ -97,23 +101,59 @@ export class Scl {
     this.#process.stdin.end();
   }
 
-  #fail(error) {
+  #end(error) {
+    this.isOver = true;
     for (const {reject} of this.#waiting.splice(0)) reject(error);
   }
 
-  // (each description ends in a line `end`, and no row has that name)
   #take(more) {
-    const texts = (this.#text + more).split(/(?<=^|\n)end\n/);
-    this.#text = texts.pop();
-    for (const text of texts) {
-      const {resolve, reject} = this.#waiting.shift();
-      const bad = /^bad-line (\d+)$/m.exec(text);
-      try {
-        if (bad) throw new Error(bad[1] === "1" ? "no such compiler" : "not known to this library");
-        resolve(new Answer(text.trimEnd()));
-      } catch (error) {
-        reject(error);
-      }
+    const [rest, ...begun] = more.split("\n");
+    this.#pieces.push(rest);
+    for (const piece of begun) {
+      this.#takeLine(this.#pieces.join(""));
+      this.#pieces = [piece];
     }
+  }
+
+  // (each description ends in a line `end`, and no row has that name)
+  #takeLine(line) {
+    if (line === "end") this.#settle(this.#lines.splice(0), this.#waiting.shift());
+    else this.#lines.push(line);
+  }
+
+  #settle(lines, {resolve, reject}) {
+    const bad = /^bad-line (\d+)$/.exec(lines[0]);
+    try {
+      if (bad) throw new Error(bad[1] === "1" ? "no such compiler" : "not known to this library");
+      resolve(new Answer(lines.join("\n")));
+    } catch (error) {
+      reject(error);
+    }
+  }
+}
+
+/** `describe --batch`, started at the first request, and again at the next one if it ended; its other words may name a catalogue. */
+export class Scl {
+  #program;
+  #words;
+  #running;
+  #isClosed = false;
+
+  constructor(program = "describe", words = []) {
+    this.#program = program;
+    this.#words = words;
+  }
+
+  /** The answer to a request. It throws where a line of the request is bad, the answer is not known here, or the program ends. */
+  async ask(given) {
+    const text = request(given);
+    if (this.#isClosed) throw new Error("closed");
+    if (!this.#running || this.#running.isOver) this.#running = new Running(this.#program, this.#words);
+    return this.#running.ask(text);
+  }
+
+  close() {
+    this.#isClosed = true;
+    this.#running?.close();
   }
 }

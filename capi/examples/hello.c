@@ -19,7 +19,7 @@ int main(int argc, char **argv) {
     for (size_t i = 0; i < len; i++) words[i] = scl_text(argv[i + 3]);
 
     scl_request request = scl_request_of(argv[2], words, len);
-    request.wants_runs = request.wants_questions = request.wants_hazards = true;
+    request.wants_runs = request.wants_questions = request.wants_hazards = request.wants_key = true;
     scl_given given;
     int32_t status = scl_ask_new(&request, &given);
     free(words);

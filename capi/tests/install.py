@@ -251,7 +251,7 @@ def main():
     parser = argparse.ArgumentParser(prog="capi/tests/install.py", add_help=False)
     for name in ("--library", "--programs"):
         parser.add_argument(name)
-    parser.add_argument("--help", action="store_true")
+    parser.add_argument("--help", "-h", action="store_true")
     given = parser.parse_args()
     if given.help:
         print(__doc__)
@@ -262,6 +262,7 @@ def main():
         check_glibc(told)
         tried, lacking = check_page(folder, room)
         tree = glob.glob(f"{room}/empty/scl-*-linux")[0]
+        run([sys.executable, f"{os.path.dirname(os.path.realpath(__file__))}/launcher.py", f"{tree}/bin/scl"])
         lacking += check_texts(tree) + check_wheel(folder, room) + check_package(folder, room)
     also = f"; not there, so not tried: {', '.join(lacking)}" if lacking else ""
     print(f"a release, made twice, is the same bytes, and runs by docs/INSTALL.md in an empty folder: {', '.join(tried)}{also}")

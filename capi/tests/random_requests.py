@@ -5,6 +5,7 @@ how; the status is 1 where two answers differ."""
 import random
 import subprocess
 import sys
+import tracemalloc
 from collections import Counter
 
 import scl
@@ -102,23 +103,30 @@ def answers(program, requests):
     return [it + b"\n" for it in ran.split(b"\nend\n")[:-1]]
 
 
+def kept_rows(said):
+    """The rows of a description, with `cacheable` as the rows `keep` have it."""
+    rows = rows_in(said)
+    kept = [it for it in rows.pop("keep", []) if it != [b"yes"]]
+    return {**rows, "keep": kept, "cacheable": [[b"no"]]} if kept else rows
+
+
 def main(ccline, describe, told, count, seed):
     chance, kinds, hazards = random.Random(seed), Counter(), 0
     asked = [request_of(chance) for _ in range(count)]
     requests = [scl.request(name, words, b"/w", **named) for name, words, named in asked]
-    for (name, words, named), request, said, structs in zip(asked, requests, answers([describe, "--batch"], requests), answers([told], requests), strict=True):
+    # (what a struct wishes for is a switch, and the program told sets them all)
+    whole = [b"".join(it for it in request.splitlines(keepends=True) if not it.startswith(b"setting wants ")) for request in requests]
+    for request, said, structs in zip(whole, answers([describe, "--batch"], whole), answers([told], whole), strict=True):
+        check_told(request, structs, kept_rows(said))
+    for (name, words, named), request, said in zip(asked, requests, answers([describe, "--batch"], requests), strict=True):
         plain = b"".join(it for it in request.splitlines(keepends=True) if not it.startswith(b"setting "))
         ran = subprocess.run([ccline], input=plain, stdout=subprocess.PIPE, check=True).stdout
         if scl.run(plain) != ran:
             differs(plain, "scl_run", scl.run(plain), ran)
         if scl.describe(request) != said:
             differs(request, "scl_describe", scl.describe(request), said)
-        rows = rows_in(said)
-        kept = [it for it in rows.pop("keep", []) if it != [b"yes"]]
-        if kept:
-            rows["keep"], rows["cacheable"] = kept, [[b"no"]]
+        rows = kept_rows(said)
         kinds[check_ask(name, words, named, rows)] += 1
-        check_told(request, structs, rows)
         hazards += len(rows.get("hazard", []))
     counts = ", ".join(f"{number} {kind}" for kind, number in sorted(kinds.items()))
     print(f"{count} random requests: the calls, the structs, ccline and describe agree: {counts}; {hazards} hazards")
@@ -146,6 +154,7 @@ def errors():
     raises(scl.Newer, scl.ask, b"gcc", [b"-c", b"a.c"], settings=[b"what-none-knows"])
     raises(scl.Newer, scl.describe, b"compiler gcc\nsetting what-none-knows 1\n")
     raises(scl.Newer, scl.ask, b"gcc", [b"-c", b"a.c"], settings=[b"wants what-none-knows"])
+    raises(scl.Newer, scl.ask, b"gcc", [b"-c", b"a.c"], settings=[b"bound 9\nword -E"])
     for words, named in (([b"ccache", b"gcc-12", b"-c"], (1, b"gcc")), ([b"rustc"], (0, None)), ([b"env", b"A=b"], (None, None))):
         if scl.name(words) != named:
             sys.exit(f"random_requests: {words} are named {scl.name(words)}")
@@ -167,6 +176,23 @@ def errors():
         sys.exit("random_requests: rows are taken apart differently")
 
 
+def maps():
+    """A long text is mapped in pieces as at once, with at most three times its bytes."""
+    lines = [b'# %d "/w/%d.h" 1\n    if (a) { return "\\n"; }\n' % (at, at) for at in range(60_000)]
+    for raw in (b"", b'# 1 "/w/R\"(x.h"\n', b'char *a = R"(\n'):
+        text = b"".join([*lines[:40_000], raw, *lines[40_000:]])
+        tracemalloc.start()
+        mapped = scl.map([b"/w"], b"gcc", text)
+        _, most = tracemalloc.get_traced_memory()
+        tracemalloc.stop()
+        if most > 3 * len(text):
+            sys.exit(f"random_requests: to map {len(text)} bytes takes {most}")
+        until = text.index(raw) if raw.endswith(b"(\n") else len(text)
+        if mapped != text[:until].replace(b'"/w/', b'"\0<base0>/') + text[until:]:
+            sys.exit(f"random_requests: a text with {raw} is mapped differently")
+
+
 if __name__ == "__main__":
     errors()
+    maps()
     main(*sys.argv[1:4], int(sys.argv[4]), int(sys.argv[5]))

@@ -291,7 +291,7 @@ static void check_told(const scl_answer *a, const scl_request *r) {
     if (a->record.has_depfile != (has_text >> 2 & 1) || a->record.has_too_hard != (has_text >> 3 & 1) || a->has_text != (has_text >> 5 & 1)) FAIL("what there is is read differently");
     if (a->outcome != outcome || (outcome == 0 && (a->record.language != language || a->record.color != color))) FAIL("outcome, language or colour is another");
     bool has_unknown = unknown_keeps || (unknown_keys && r->wants_key);
-    if (a->is_cacheable != (outcome == 0 && is_kept && !has_unknown && !lists[KEEP].len) || a->has_unknown != has_unknown) FAIL("what may be kept is read differently");
+    if (a->is_cacheable != (outcome == 0 && r->wants_key && is_kept && !has_unknown && !lists[KEEP].len) || a->has_unknown != has_unknown) FAIL("what may be kept is read differently");
     if (a->has_at != (at > 0) || a->at != (at ? at - 1 : 0)) FAIL("the index is another");
     check_lists(a, r);
 }
@@ -372,6 +372,12 @@ static void check_request(const scl_request *r) {
     for (size_t i = 0; i < r->directories.len; i++) add(&want, "dir "), add_field(&want, r->directories.at[i]), add(&want, "\n");
     for (size_t i = 0; i < r->existing.len; i++) add(&want, "exists "), add_field(&want, r->existing.at[i]), add(&want, "\n");
     if (r->is_multiarch) add(&want, "multiarch\n");
+    add(&want, "setting wants version\n");
+    if (r->wants_runs) add(&want, "setting wants run\n");
+    if (r->wants_questions) add(&want, "setting wants wants\n");
+    if (r->wants_hazards) add(&want, "setting wants hazard\n");
+    if (r->wants_options) add(&want, "setting wants option\n");
+    if (r->wants_key) add(&want, "setting wants key\n");
     if (r->may_dist) add(&want, "setting may-dist\n");
     if (r->rewrite_includes_only) add(&want, "setting rewrite-includes-only\n");
     if (r->cache_mode) add(&want, "setting cache-mode\n");

@@ -5,7 +5,7 @@
 int main(void) {
     const scl_bytes words[] = {scl_text("-c"), scl_text("a.c"), scl_text("-O2")};
     scl_request request = scl_request_of("gcc", words, 3);
-    request.wants_hazards = true;
+    request.wants_hazards = request.wants_key = true;
 
     scl_given given;
     if (scl_ask_new(&request, &given) != SCL_OK) return 1;

@@ -4,7 +4,7 @@
 
 int main() {
     scl::Request request("gcc", {"-c", "a.c", "-O2"});
-    request.raw().wants_hazards = true;
+    request.raw().wants_hazards = request.raw().wants_key = true;
     const scl::Answer answer = request.ask();
     if (!answer) return 1;
     if (!answer.is_compiled() || !answer.hazards().empty()) {

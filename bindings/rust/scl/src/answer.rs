@@ -135,6 +135,13 @@ impl<'a> Row<'a> {
     }
 }
 
+/// The rows of a text.
+pub(crate) fn rows_in(text: &[u8]) -> impl Iterator<Item = Row<'_>> {
+    text.split(|&byte| byte == b'\n')
+        .filter(|line| !line.is_empty())
+        .map(|line| Row { line })
+}
+
 /// The bytes that a field stands for; they are borrowed where it has no escape.
 fn read_field(field: &[u8]) -> Cow<'_, [u8]> {
     if !field.contains(&b'\\') {
@@ -186,11 +193,7 @@ impl Answer {
 
     /// All rows, in order.
     pub fn rows(&self) -> impl Iterator<Item = Row<'_>> {
-        self.text
-            .split(|&byte| byte == b'\n')
-            .skip(1)
-            .filter(|line| !line.is_empty())
-            .map(|line| Row { line })
+        rows_in(&self.text).skip(1)
     }
 
     /// The rows of this name, in order.

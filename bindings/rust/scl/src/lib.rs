@@ -13,7 +13,9 @@
 //! (docs/PROTOCOL.md).
 
 mod answer;
+mod name;
 mod request;
 
 pub use answer::{Answer, KeyRow, Outcome, Output, Row};
+pub use name::{name, Name};
 pub use request::{Error, Request};

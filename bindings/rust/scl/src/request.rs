@@ -130,6 +130,14 @@ impl Request {
         Answer::of(respond(self.catalogue.as_deref(), &self.text())?)
     }
 
+    /// The text that the library answers to a request of a name, with the words of this one.
+    pub(crate) fn naming(&self) -> Result<Vec<u8>, Error> {
+        respond(None, &[b"name\n", &self.lines[..]].concat()).map_err(|error| match error {
+            Error::UnknownCompiler => Error::Newer,
+            other => other,
+        })
+    }
+
     fn line(&mut self, keyword: &str, field: &[u8], value: Option<&[u8]>) -> &mut Request {
         self.lines.extend(keyword.as_bytes());
         put_field(&mut self.lines, field);
@@ -228,6 +236,7 @@ mod tests {
         assert_eq!(ask("rustc", "bound 9"), Err(Error::UnknownCompiler));
         assert_eq!(ask("gcc", "what-none-knows"), Err(Error::Newer));
         assert_eq!(ask("gcc", "bound 1"), Err(Error::TooManyWords));
+        assert_eq!(ask("gcc", "bound 9\nword -E"), Err(Error::Newer));
         let with_catalogue = |text: &str| {
             Request::new("gcc")
                 .words(["-c", "a.c"])

@@ -1,0 +1,79 @@
+// node --test scl.test.mjs: the program is that of DESCRIBE, or `describe` on PATH.
+import assert from "node:assert/strict";
+import {existsSync, mkdtempSync, rmSync} from "node:fs";
+import {tmpdir} from "node:os";
+import {join} from "node:path";
+import {test} from "node:test";
+import {Answer, Scl, request} from "./scl.mjs";
+
+const DESCRIBE = process.env.DESCRIBE ?? "describe";
+const plain = {compiler: "gcc", words: ["-c", "a.c"]};
+
+// Asks a program of a shell's text, in which $0 is a path at which there is nothing yet.
+async function asking(script, use) {
+  const room = mkdtempSync(join(tmpdir(), "scl-"));
+  const scl = new Scl("/bin/sh", ["-c", script, join(room, "it")]);
+  try {
+    await use(scl, join(room, "it"));
+  } finally {
+    scl.close();
+    rmSync(room, {recursive: true});
+  }
+}
+
+test("bytes are written as fields", () => {
+  const text = request({compiler: "gcc", directory: "/w d", words: [Buffer.from("a b\\\xff", "latin1")], files: [["/r", "x\n"]], settings: ["version a b"], bases: ["/w d"]});
+  assert.equal(text, "compiler gcc\ncwd /w\\x20d\nword a\\x20b\\x5c\\xff\nfile /r\tx\\x0a\nsetting base /w\\x20d\nsetting version a b\n");
+});
+
+test("a setting is one line", async () => {
+  const scl = new Scl(DESCRIBE);
+  const forged = scl.ask({...plain, settings: ["bound 9\nend\ncompiler gcc\nword -E\nword forged.c"]}), next = scl.ask(plain);
+  await assert.rejects(forged, /not known to this library/);
+  assert.deepEqual((await next).words("arg").map(String), ["-x", "c", "-c", "-o", "a.o", "-fdiagnostics-color=always", "a.c"]);
+  scl.close();
+});
+
+test("what is no text is rejected, and the next answer is its own", async () => {
+  const scl = new Scl(DESCRIBE);
+  const wrong = scl.ask({compiler: "gcc", words: [7]}), next = scl.ask(plain);
+  await assert.rejects(wrong, TypeError);
+  assert.equal((await next).outcome, "ok");
+  scl.close();
+});
+
+test("an answer's last field may be empty", () => {
+  assert.deepEqual(new Answer("ok\nversion 1\nenvironment K \n").fields("environment").map((it) => it.map(String)), [["K", ""]]);
+});
+
+test("when the program ends, what waits is rejected, and the next request starts it anew", () =>
+  asking(`if test -e $0; then exec ${DESCRIBE} --batch; fi; : > $0; read line; exit 3`, async (scl, mark) => {
+    await Promise.all([scl.ask(plain), scl.ask(plain)].map((it) => assert.rejects(it, /out of memory/)));
+    assert(existsSync(mark));
+    assert.equal((await scl.ask(plain)).outcome, "ok");
+  }));
+
+test("after close nothing is asked", async () => {
+  const scl = new Scl(DESCRIBE);
+  scl.close();
+  await assert.rejects(scl.ask(plain), /closed/);
+});
+
+test("a program that is not there is reported each time", async () => {
+  const scl = new Scl("/no/such/program");
+  for (const _ of [1, 2]) await assert.rejects(scl.ask(plain), /ENOENT/);
+});
+
+test("four times the text takes at most eight times as long", async () => {
+  const took = async (size) => {
+    const before = process.cpuUsage();
+    await asking(`printf 'ok\\nversion 1\\narg '; head -c ${size} /dev/zero | tr '\\0' a; printf '\\nend\\n'; cat > /dev/null`, async (scl) => {
+      assert.equal((await scl.ask(plain)).word("arg").length, size);
+    });
+    const {user, system} = process.cpuUsage(before);
+    return user + system;
+  };
+  await took(1e6);
+  const once = await took(8e6), fourfold = await took(32e6);
+  assert(fourfold < 8 * once + 100000, `${once} and ${fourfold} microseconds`);
+});
