@@ -8,9 +8,13 @@ use scl_cl::{Counted, Outcome, serve, serve_each};
 use scl_describe::{Catalogue, Entry, Tables};
 use scl_effects_default::plain_names;
 use scl_requests::Requests;
+use scl_shell::shown_briefly;
 use std::alloc::AllocError;
+use std::fs::Metadata;
 use std::io::{self, ErrorKind};
+use std::os::unix::fs::MetadataExt;
 use std::process::ExitCode;
+use std::rt::Files;
 use std::{env, fs};
 
 /// What `--help` prints.
@@ -124,38 +128,64 @@ fn describe_by_built_in(rt: &HostRuntime, is_batch: bool) -> u8 {
 
 /// Reports that a file can't be read, and gives the status.
 fn refuse_file(rt: &HostRuntime, path: &str, error: &io::Error) -> u8 {
-    if error.kind() == ErrorKind::OutOfMemory {
-        return tell(rt, Outcome::OutOfMemory);
+    match shown_briefly(rt.alloc(), path.as_bytes()) {
+        Ok(path) if error.kind() != ErrorKind::OutOfMemory => {
+            let _ = eprintln!(rt; "describe: {path}: {error}");
+            Outcome::ReadFailed.status()
+        }
+        Ok(_) | Err(_) => tell(rt, Outcome::OutOfMemory),
     }
-    let _ = eprintln!(rt; "describe: {path}: {error}");
-    Outcome::ReadFailed.status()
 }
 
-/// The wrong line of a text with the word that is wrong.
-fn wrong_line(rt: &HostRuntime, text: &[u8], bad: BadLine) -> Result<String, AllocError> {
+/// The wrong line of a file's text, with the word that is wrong.
+fn wrong_line(
+    rt: &HostRuntime,
+    path: &str,
+    text: &[u8],
+    bad: BadLine,
+) -> Result<String, AllocError> {
+    let path = shown_briefly(rt.alloc(), path.as_bytes())?;
     match bad.word(rt.alloc(), text)? {
         Some(word) => {
-            let word = String::from_utf8_lossy(rt.alloc(), word)?;
-            Ok(format!(in rt.alloc(); "{}: {word}: {}", bad.line, bad.mistake)?)
+            let word = shown_briefly(rt.alloc(), word)?;
+            Ok(format!(in rt.alloc(); "{path}:{}: {word}: {}", bad.line, bad.mistake)?)
         }
-        None => Ok(format!(in rt.alloc(); "{}: {}", bad.line, bad.mistake)?),
+        None => Ok(format!(in rt.alloc(); "{path}:{}: {}", bad.line, bad.mistake)?),
     }
 }
 
 /// Reports the first wrong line of a catalogue, and gives the status.
 fn refuse_line(rt: &HostRuntime, path: &str, text: &[u8], bad: BadLine) -> u8 {
-    match wrong_line(rt, text, bad) {
+    match wrong_line(rt, path, text, bad) {
         Ok(line) => {
-            let _ = eprintln!(rt; "describe: {path}:{line}");
+            let _ = eprintln!(rt; "describe: {line}");
             65
         }
         Err(_) => tell(rt, Outcome::OutOfMemory),
     }
 }
 
+/// Whether a file is one of those of `/proc`, whose size the system does not report.
+fn is_unsized(rt: &HostRuntime, metadata: &Metadata) -> bool {
+    let proc = rt.metadata("/proc");
+    metadata.len() == 0 && proc.is_ok_and(|proc| proc.dev() == metadata.dev())
+}
+
+/// The bytes of a regular file. No other is opened, since reads of it may wait for ever.
+fn file_bytes(rt: &HostRuntime, path: &str) -> io::Result<Vec<u8>> {
+    let metadata = rt.metadata(path)?;
+    if !metadata.is_file() {
+        return Err(io::Error::other("it is no regular file"));
+    }
+    if is_unsized(rt, &metadata) {
+        return Err(io::Error::other("the system does not say how large it is"));
+    }
+    fs::read(rt, path)
+}
+
 /// Describes by the catalogue of a file, or reports its first wrong line, and gives the status.
 fn describe_by_file(rt: &HostRuntime, path: &str, is_batch: bool) -> u8 {
-    let text = match fs::read(rt, path) {
+    let text = match file_bytes(rt, path) {
         Ok(text) => text,
         Err(error) => return refuse_file(rt, path, &error),
     };

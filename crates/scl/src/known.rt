@@ -1,7 +1,7 @@
 //! What is known of compilers: the built-in catalogue, or one that is passed, and the version that is given.
 use crate::asked::{KnownArguments, Wanted};
 use crate::fault::{Fault, warn};
-use crate::file::{name_of, read_file};
+use crate::file::{name_of, read_regular_file};
 use crate::{batch, diff, one, why};
 use bumpalo::Bump;
 use scl_catalogue_default::built_in_entries;
@@ -10,6 +10,7 @@ use scl_describe::{About, Catalogue, Entry};
 use scl_effects_default::plain_names;
 use scl_explain::Ending;
 use scl_reader::is_apple;
+use scl_shell::shown_briefly;
 
 /// Answers a request, by what is known.
 fn answer(rt: &HostRuntime, about: About<'_>, wanted: &Wanted) -> Result<Ending, Fault> {
@@ -47,7 +48,7 @@ fn wrong_line(rt: &HostRuntime, path: &str, text: &[u8], bad: BadLine) -> Result
     let name = name_of(rt, path)?;
     let line = match bad.word(rt.alloc(), text)? {
         Some(word) => {
-            let word = String::from_utf8_lossy(rt.alloc(), word)?;
+            let word = shown_briefly(rt.alloc(), word)?;
             format!(in rt.alloc(); "{name}:{}: {word}: {}", bad.line, bad.mistake)?
         }
         None => format!(in rt.alloc(); "{name}:{}: {}", bad.line, bad.mistake)?,
@@ -79,7 +80,7 @@ fn answer_by_file(
     version: Option<&str>,
     wanted: &Wanted,
 ) -> Result<Ending, Fault> {
-    let text = read_file(rt, path)?;
+    let text = read_regular_file(rt, path)?;
     let arena = Bump::new(rt.alloc());
     answer_by_text(rt, path, &arena, &text, version, wanted)
 }

@@ -13,6 +13,3 @@ pub use base::{Base, base_dirs, base_of};
 pub use run::{RunMapper, map_pieces, map_run};
 pub use spelling::{Quoting, Spelling, quoted_dirs};
 pub use told::{map_path, map_word};
-
-#[cfg(test)]
-mod tests;

@@ -3,6 +3,7 @@ use Rattle.std.proofs.Common.{◌≡◌, ◌∙◌, ℕ, ◌+◌, ◌-◌, ◌*�
 use Rattle.std.proofs.lemmas.Bool.{lt-ltb, ltb-true}
 use Rattle.std.proofs.lemmas.Fmt.{decimal_by_steps}
 use Rattle.std.proofs.lemmas.List.{append-nil}
+use Rattle.std.specs.Char.{is_ascii_control}
 use Rattle.std.specs.Fmt.{decimal}
 use Rattle.std.specs.List.{list_all, list_any}
 use Rattle.std.specs.Prelude.{option_and_then}
@@ -18,7 +19,7 @@ use Rattle.scl_catalogue_text.specs.Reading.{all_served, bound_read, case_by, ca
 use Rattle.scl_catalogue_text.specs.Writable.{IsCase, has_one, is_bound, is_served}
 use Rattle.scl_catalogue_text.specs.Written.{bound_words, case_text, condition_text, joined, served_words, spaced, version_text}
 use Rattle.scl_catalogue_text.proofs.ConditionLemmas.{conditions-bytes, conditions-written, is_of_line}
-use Rattle.scl_catalogue_text.proofs.GroupLemmas.{joined-bytes, lacks-all}
+use Rattle.scl_catalogue_text.proofs.GroupLemmas.{HasNoControl, joined-bytes, lacks-all, other-than-control}
 use Rattle.scl_catalogue_text.proofs.SplitLemmas.{from-append, is_unbroken, parts-joined, until-append, words-blank, words-spaced}
 use Rattle.scl_catalogue_text.proofs.TestLemmas.{all-append, all-weaker, and-left, and-right, both, lacks-passed, lacks_mark, or-left}
 use Rattle.scl_catalogue_text.proofs.TextLemmas.{all-mapped, each-written, spaced-bytes}
@@ -118,10 +119,10 @@ version-unbroken v h =
 -- ---- compilers
 
 abbrev pub is_of_served : ℕ → Bool
-is_of_served b = not (list_any (λ m. b == m) (10 ∷ 44 ∷ 58 ∷ []))
+is_of_served b = not (list_any (λ m. b == m) (44 ∷ 58 ∷ []) || is_ascii_control b)
 
 abbrev pub is_of_compilers : ℕ → Bool
-is_of_compilers b = not (list_any (λ m. b == m) (10 ∷ 58 ∷ []))
+is_of_compilers b = not (list_any (λ m. b == m) (58 ∷ []) || is_ascii_control b)
 
 record IsName (c : Compiler) : Type 0 where
   read : compiler_named (compiler_name c) ≡ Some c
@@ -152,8 +153,11 @@ bounds-unbroken None (Some v) h k = both (version-unbroken v k) refl
 bounds-unbroken (Some v) None h k = both (version-unbroken v h) refl
 bounds-unbroken (Some v) (Some w) h k = both (version-unbroken v h) (both (version-unbroken w k) refl)
 
+version-control : HasNoControl is_of_version
+version-control b h = grind arith
+
 version-of-served : (v : Version) → is_bound (Some v) ≡ true → list_all is_of_served (version_text v) ≡ true
-version-of-served v h = lacks-all is_of_version (10 ∷ 44 ∷ 58 ∷ []) (version_text v) refl (version-bytes v h)
+version-of-served v h = lacks-all is_of_version (44 ∷ 58 ∷ []) (version_text v) version-control refl (version-bytes v h)
 
 bounds-bytes : (since until : Option Version) → is_bound since ≡ true → is_bound until ≡ true → list_all (list_all is_of_served) (words_of_bounds since until) ≡ true
 bounds-bytes None None h k = refl
@@ -200,7 +204,7 @@ all-served (s ∷ ss) o h =
     ∙ rw (first-served s one, each-written served_read served_text is_served served-written ss others) refl)
 
 served-of-compilers : (s : Served) → is_served s ≡ true → list_all is_of_compilers (served_text s) ≡ true
-served-of-compilers s h = lacks-all is_of_served (10 ∷ 58 ∷ []) (served_text s) refl (served-bytes s h)
+served-of-compilers s h = lacks-all is_of_served (58 ∷ []) (served_text s) (other-than-control (44 ∷ 58 ∷ [])) refl (served-bytes s h)
 
 compilers-bytes : (ss : List Served) → list_all is_served ss ≡ true → list_all is_of_compilers (joined 44 (map served_text ss)) ≡ true
 compilers-bytes ss h = joined-bytes is_of_compilers 44 refl (map served_text ss) (all-mapped is_served (list_all is_of_compilers) served_text served-of-compilers ss h)
@@ -220,7 +224,7 @@ case-written gs c h =
     ap (λ bs. case_by gs bs (from_mark 58 (head ++ 58 ∷ rest))) until ∙ (ap (case_by gs head) from ∙ rw (all-served c.served some each, conditions-written gs c.conditions h.some h.conditions) refl)
 
 line-of-compilers : (bs : List ℕ) → list_all is_of_compilers bs ≡ true → list_all is_of_line bs ≡ true
-line-of-compilers bs h = lacks-all is_of_compilers (10 ∷ []) bs refl h
+line-of-compilers bs h = lacks-all is_of_compilers [] bs (other-than-control (58 ∷ [])) refl h
 
 pub case-bytes : (gs : List Group) (c : Case) → IsCase gs c → list_all is_of_line (case_text c) ≡ true
 case-bytes gs c h =

@@ -1,6 +1,7 @@
 -- Conditions, read again.
-use Rattle.std.proofs.Common.{◌≡◌, ◌∙◌, ℕ, ◌==◌, Bool, true, false, not, ◌&&◌, cond, List, [], ◌∷◌, ◌++◌, map, codes, Option, None, Some, Result, Ok, Err, refl, sym, ap}
+use Rattle.std.proofs.Common.{◌≡◌, ◌∙◌, ℕ, ◌==◌, Bool, true, false, not, ◌&&◌, ◌||◌, cond, List, [], ◌∷◌, ◌++◌, map, codes, Option, None, Some, Result, Ok, Err, refl, sym, ap, arith}
 use Rattle.std.proofs.lemmas.List.{append-nil}
+use Rattle.std.specs.Char.{is_ascii_control}
 use Rattle.std.specs.List.{list_all, list_any}
 use Rattle.std.specs.Str.{bytes_eq}
 use Rattle.scl_catalogue.specs.Form.{Text, Group, Relation, Any, Two, Before, Unfollowed, Last, Question, Is, At, Given, Inner, Condition}
@@ -14,7 +15,7 @@ use Rattle.scl_catalogue_text.specs.Outcome.{after, at_end, each}
 use Rattle.scl_catalogue_text.specs.Reading.{condition_by, condition_read, conditions_read, group_read, is_relation, of_one, of_two, question_by, question_of_names, relation_of_one, relation_of_parts, relation_of_two, relation_read, text_read}
 use Rattle.scl_catalogue_text.specs.Writable.{AreConditions, CanBeAsked, IsQuestion, IsRelation, has_one, is_text, lacks}
 use Rattle.scl_catalogue_text.specs.Written.{condition_text, group_text, joined, question_text, relation_text, text_text, two_texts}
-use Rattle.scl_catalogue_text.proofs.GroupLemmas.{group-begins, group-behind, group-lacks, group-written, joined-bytes, lacks-all}
+use Rattle.scl_catalogue_text.proofs.GroupLemmas.{group-begins, group-behind, group-lacks, group-written, HasNoControl, joined-bytes, lacks-all, other-than-control}
 use Rattle.scl_catalogue_text.proofs.SplitLemmas.{IsBehindWord, behind-blank, behind-none, first-word, is_unbroken, other-words, parts-joined, parts-next, parts-one}
 use Rattle.scl_catalogue_text.proofs.TestLemmas.{all-append, all-weaker, and-left, and-right, both, lacks-passed, lacks_mark}
 use Rattle.scl_catalogue_text.proofs.TextLemmas.{begins-text, behind-text, is_of_text, of-text, text-written}
@@ -22,16 +23,16 @@ use Rattle.scl_catalogue_text.proofs.TextLemmas.{begins-text, behind-text, is_of
 -- ---- which bytes are not in it
 
 abbrev pub is_of_group : ℕ → Bool
-is_of_group b = not (list_any (λ m. b == m) (10 ∷ 59 ∷ 62 ∷ []))
+is_of_group b = not (list_any (λ m. b == m) (59 ∷ 62 ∷ []) || is_ascii_control b)
 
 abbrev pub is_of_condition : ℕ → Bool
-is_of_condition b = not (list_any (λ m. b == m) (10 ∷ 59 ∷ []))
+is_of_condition b = not (list_any (λ m. b == m) (59 ∷ []) || is_ascii_control b)
 
 abbrev pub is_of_line : ℕ → Bool
-is_of_line b = not (list_any (λ m. b == m) (10 ∷ []))
+is_of_line b = not (is_ascii_control b)
 
 pub group-of-condition : (gs : List Group) (g : Group) → CanBeAsked gs g → list_all is_of_condition (group_text g) ≡ true
-group-of-condition gs g h = lacks-all is_of_group (10 ∷ 59 ∷ []) (group_text g) refl (group-lacks gs g h)
+group-of-condition gs g h = lacks-all is_of_group (59 ∷ []) (group_text g) (other-than-control (59 ∷ 62 ∷ [])) refl (group-lacks gs g h)
 
 pub group-lacks-mark : (gs : List Group) (g : Group) → CanBeAsked gs g → lacks_mark 62 (group_text g) ≡ true
 group-lacks-mark gs g h = lacks-passed is_of_group 62 refl (group_text g) (group-lacks gs g h)
@@ -203,9 +204,12 @@ denied-written gs false q h = let c = question-cut gs q h in rw (c.first, c.othe
 pub condition-written : (gs : List Group) (c : Condition) → IsQuestion gs c.question → condition_read gs (condition_text c) ≡ Ok c
 condition-written gs c h = denied-written gs c.is_denied c.question h
 
+text-control : HasNoControl is_of_text
+text-control b h = grind arith
+
 question-bytes : (gs : List Group) (q : Question) → IsQuestion gs q → list_all is_of_condition (question_text q) ≡ true
 question-bytes gs (Is f) h = (fact-name f).bytes
-question-bytes gs (At p text) h = all-append is_of_condition (place_name p) (text_text text) (place-name p).bytes (lacks-all is_of_text (10 ∷ 59 ∷ []) (text_text text) refl (of-text text h))
+question-bytes gs (At p text) h = all-append is_of_condition (place_name p) (text_text text) (place-name p).bytes (lacks-all is_of_text (59 ∷ []) (text_text text) text-control refl (of-text text h))
 question-bytes gs (Given r) h = relation-bytes gs r h
 question-bytes gs (Inner r) h = relation-bytes gs r h
 
@@ -233,7 +237,7 @@ unfolding conditions_read
 conditions-written gs cs o h = rw (conditions-cut gs cs o h) (each-condition gs cs h)
 
 line-of-condition : (bs : List ℕ) → list_all is_of_condition bs ≡ true → list_all is_of_line bs ≡ true
-line-of-condition bs h = lacks-all is_of_condition (10 ∷ []) bs refl h
+line-of-condition bs h = lacks-all is_of_condition [] bs (other-than-control (59 ∷ [])) refl h
 
 pub conditions-bytes : (gs : List Group) (cs : List Condition) → AreConditions gs cs → list_all is_of_line (joined 59 (map condition_text cs)) ≡ true
 conditions-bytes gs cs h = joined-bytes is_of_line 59 refl (map condition_text cs) (all-weaker (list_all is_of_condition) (list_all is_of_line) line-of-condition (map condition_text cs) (all-bytes gs cs h))

@@ -1,8 +1,9 @@
 -- Tests and groups, read again.
-use Rattle.std.proofs.Common.{◌≡◌, ◌∙◌, ℕ, ◌==◌, Bool, true, false, not, ◌&&◌, ◌||◌, List, [], ◌∷◌, ◌++◌, map, filter, Option, Some, Result, Ok, Err, append_assoc, refl, sym, ap}
+use Rattle.std.proofs.Common.{◌≡◌, ◌∙◌, ℕ, ◌==◌, Bool, true, false, not, ◌&&◌, ◌||◌, List, [], ◌∷◌, ◌++◌, map, filter, Option, Some, Result, Ok, Err, append_assoc, refl, sym, ap, arith}
 use Rattle.std.proofs.lemmas.Bool.{eqb-true, not-true}
 use Rattle.std.proofs.lemmas.List.{append-nil}
 use Rattle.std.proofs.lemmas.List.Splits.{slice_split-cons_no}
+use Rattle.std.specs.Char.{is_ascii_control}
 use Rattle.std.specs.List.{list_all, list_any, onto_first}
 use Rattle.scl_catalogue.specs.Form.{Text, Demand, Marked, Value, Part, Test, Group}
 use Rattle.scl_catalogue.specs.declared.seen.Mark.{Mark}
@@ -17,7 +18,7 @@ use Rattle.scl_catalogue_text.specs.Writable.{CanBeAsked, IsNamedOr, are_tests, 
 use Rattle.scl_catalogue_text.specs.Written.{demand_text, group_text, joined, named_text, spaced, test_text, tests_text, text_text}
 use Rattle.scl_catalogue_text.specs.declared.mistake.Mistake.{Mistake}
 use Rattle.scl_catalogue_text.proofs.SplitLemmas.{IsBehindWord, behind-blank, behind-none, first-word, is_unbroken, other-words, parts-append, parts-joined, parts-mark, words-spaced}
-use Rattle.scl_catalogue_text.proofs.TestLemmas.{all-append, all-weaker, and-left, and-right, both, lacks-passed, lacks_mark, or-left}
+use Rattle.scl_catalogue_text.proofs.TestLemmas.{all-append, all-weaker, and-left, and-right, both, lacks-passed, lacks_mark, or-false-right, or-left}
 use Rattle.scl_catalogue_text.proofs.TextLemmas.{BeginsWord, all-mapped, begins-text, behind-text, each-written, is_of_text, of-text, text-written}
 
 -- ---- demands
@@ -219,7 +220,7 @@ tests-stand gs ts h =
     ap (group_of_words gs (tests_text ts)) w.is ∙ rw (tests-written ts h) refl
 
 abbrev pub is_of_name : ℕ → Bool
-is_of_name b = not (list_any (λ m. b == m) (32 ∷ 10 ∷ 58 ∷ 59 ∷ 62 ∷ []))
+is_of_name b = not (list_any (λ m. b == m) (32 ∷ 58 ∷ 59 ∷ 62 ∷ []) || is_ascii_control b)
 
 pub name-unbroken : (name : List ℕ) → is_group_name name ≡ true → is_unbroken name ≡ true
 name-unbroken name h = both (and-left (has_one name) (list_all is_of_name name) h) (lacks-passed is_of_name 32 refl name (and-right (has_one name) (list_all is_of_name name) h))
@@ -247,15 +248,30 @@ passed-none : (p : ℕ → Bool) (b : ℕ) → p b ≡ true → (ms : List ℕ) 
 passed-none p b h [] k = refl
 passed-none p b h (m ∷ ms) k = passed-more p b m ms h (and-left (not (p m)) (list_all (λ n. not (p n)) ms) k) (passed-none p b h ms (and-right (not (p m)) (list_all (λ n. not (p n)) ms) k)) (b == m) refl
 
-pub lacks-all : (p : ℕ → Bool) (ms bs : List ℕ) → list_all (λ m. not (p m)) ms ≡ true → list_all p bs ≡ true → lacks ms bs ≡ true
-lacks-all p ms bs h k = all-weaker p (λ b. not (list_any (λ m. b == m) ms)) (λ b passed. passed-none p b passed ms h) bs k
+neither : (a b : Bool) → not a ≡ true → b ≡ false → not (a || b) ≡ true
+neither true b h k = h
+neither false b h k = rw k refl
 
-named-lacks : (name : List ℕ) (ts : List Test) (gs : List Group) (g : Group) → IsNamedOr gs name g → ts ≡ g.tests → lacks (10 ∷ 59 ∷ 62 ∷ []) (named_text name ts) ≡ true
-named-lacks [] ts gs g h e = rw e (lacks-all is_of_tests (10 ∷ 59 ∷ 62 ∷ []) (tests_text g.tests) refl (of-tests g.tests h))
-named-lacks (b ∷ bs) ts gs g h e = lacks-all is_of_name (10 ∷ 59 ∷ 62 ∷ []) (b ∷ bs) refl (and-right (has_one (b ∷ bs)) (list_all is_of_name (b ∷ bs)) h.0)
+-- no byte that passes is a control character
+abbrev pub HasNoControl : (ℕ → Bool) → Type 0
+HasNoControl p = (b : ℕ) → p b ≡ true → is_ascii_control b ≡ false
+
+-- a test of which this is a part
+pub other-than-control : (ms : List ℕ) → HasNoControl (λ b. not (list_any (λ m. b == m) ms || is_ascii_control b))
+other-than-control ms b h = or-false-right (list_any (λ m. b == m) ms) (is_ascii_control b) h
+
+pub lacks-all : (p : ℕ → Bool) (ms bs : List ℕ) → HasNoControl p → list_all (λ m. not (p m)) ms ≡ true → list_all p bs ≡ true → lacks ms bs ≡ true
+lacks-all p ms bs c h k = all-weaker p (λ b. not (list_any (λ m. b == m) ms || is_ascii_control b)) (λ b passed. neither (list_any (λ m. b == m) ms) (is_ascii_control b) (passed-none p b passed ms h) (c b passed)) bs k
+
+pub tests-control : HasNoControl is_of_tests
+tests-control b h = grind arith
+
+named-lacks : (name : List ℕ) (ts : List Test) (gs : List Group) (g : Group) → IsNamedOr gs name g → ts ≡ g.tests → lacks (59 ∷ 62 ∷ []) (named_text name ts) ≡ true
+named-lacks [] ts gs g h e = rw e (lacks-all is_of_tests (59 ∷ 62 ∷ []) (tests_text g.tests) tests-control refl (of-tests g.tests h))
+named-lacks (b ∷ bs) ts gs g h e = lacks-all is_of_name (59 ∷ 62 ∷ []) (b ∷ bs) (other-than-control (32 ∷ 58 ∷ 59 ∷ 62 ∷ [])) refl (and-right (has_one (b ∷ bs)) (list_all is_of_name (b ∷ bs)) h.0)
 
 -- what stands for a group has no mark of those above it
-pub group-lacks : (gs : List Group) (g : Group) → CanBeAsked gs g → lacks (10 ∷ 59 ∷ 62 ∷ []) (group_text g) ≡ true
+pub group-lacks : (gs : List Group) (g : Group) → CanBeAsked gs g → lacks (59 ∷ 62 ∷ []) (group_text g) ≡ true
 group-lacks gs g h = named-lacks g.name g.tests gs g h refl
 
 -- what stands for a group begins with a blank

@@ -1,7 +1,9 @@
 -- The lines of a catalogue's text, read again.
-use Rattle.std.proofs.Common.{◌≡◌, ◌∙◌, ℕ, ◌+◌, ◌==◌, Bool, true, false, not, ◌&&◌, cond, List, [], ◌∷◌, ◌++◌, map, codes, Option, None, Some, Result, Ok, Err, append_assoc, refl, sym, ap}
+use Rattle.std.proofs.Common.{◌≡◌, ◌∙◌, ℕ, ◌+◌, ◌==◌, Bool, true, false, not, ◌&&◌, ◌||◌, cond, List, [], ◌∷◌, ◌++◌, map, codes, Option, None, Some, Result, Ok, Err, append_assoc, refl, sym, ap}
+use Rattle.std.proofs.lemmas.Bool.{not-true}
 use Rattle.std.proofs.lemmas.List.{append-nil}
 use Rattle.std.proofs.lemmas.List.Folds.{list_all-append}
+use Rattle.std.specs.Char.{is_ascii_control}
 use Rattle.std.specs.List.{list_all, list_any}
 use Rattle.std.specs.Str.{bytes_eq}
 use Rattle.scl_catalogue.specs.Form.{Group, Case, Test, Tells, Hazard, Effect, Reason, Plain, Entry, Catalogue}
@@ -17,13 +19,13 @@ use Rattle.scl_catalogue_text.specs.Lines.{NewCase, NewEntry, NewGroup, Nothing,
 use Rattle.scl_catalogue_text.specs.Names.{compiler_name, danger_name, danger_named, verb_name, verb_named}
 use Rattle.scl_catalogue_text.specs.Outcome.{after, after_line, at_end, at_line}
 use Rattle.scl_catalogue_text.specs.Reading.{case_read, group_named, tests_read}
-use Rattle.scl_catalogue_text.specs.Writable.{AreCases, AreEntries, AreGroups, CanBeWritten, IsCase, IsEntry, are_tests, has_one, HasWords, is_group_name, is_plain_word, is_served, lacks}
+use Rattle.scl_catalogue_text.specs.Writable.{AreCases, AreEntries, AreGroups, CanBeWritten, IsCase, IsEntry, are_tests, has_one, HasWords, is_group_name, is_plain_word, is_served}
 use Rattle.scl_catalogue_text.specs.Written.{case_text, condition_text, entry_lines, group_line, head_text, joined, lines_of, lines_of_entries, lines_text, spaced, tests_text, written}
 use Rattle.scl_catalogue_text.specs.declared.mistake.BadLine.{BadLine}
 use Rattle.scl_catalogue_text.specs.declared.mistake.Mistake.{Mistake}
 use Rattle.scl_catalogue_text.proofs.CaseLemmas.{begins-compiler, case-bytes, case-written}
 use Rattle.scl_catalogue_text.proofs.ConditionLemmas.{is_of_line}
-use Rattle.scl_catalogue_text.proofs.GroupLemmas.{is_of_name, is_of_tests, lacks-all, name-unbroken, of-tests, tests-written}
+use Rattle.scl_catalogue_text.proofs.GroupLemmas.{is_of_name, is_of_tests, lacks-all, name-unbroken, of-tests, other-than-control, tests-control, tests-written}
 use Rattle.scl_catalogue_text.proofs.SplitLemmas.{behind-none, first-word, from-append, is_unbroken, other-words, parts-lines, until-append, words-spaced}
 use Rattle.scl_catalogue_text.proofs.TestLemmas.{all-append, all-weaker, and-left, and-right, both, lacks-passed, lacks_mark}
 use Rattle.scl_catalogue_text.proofs.TextLemmas.{spaced-bytes}
@@ -66,11 +68,14 @@ group-written-line gs g h k l = group-head gs (g.name ++ 58 ∷ tests_text g.tes
 
 -- ---- entries
 
+abbrev is_of_word : ℕ → Bool
+is_of_word b = not (list_any (λ m. b == m) (32 ∷ []) || is_ascii_control b)
+
 plain-unbroken : (name : List ℕ) → is_plain_word name ≡ true → is_unbroken name ≡ true
-plain-unbroken name h = both (and-left (has_one name) (lacks (32 ∷ 10 ∷ []) name) h) (lacks-passed (λ b. not (list_any (λ m. b == m) (32 ∷ 10 ∷ []))) 32 refl name (and-right (has_one name) (lacks (32 ∷ 10 ∷ []) name) h))
+plain-unbroken name h = both (and-left (has_one name) (list_all is_of_word name) h) (lacks-passed is_of_word 32 refl name (and-right (has_one name) (list_all is_of_word name) h))
 
 plain-line : (name : List ℕ) → is_plain_word name ≡ true → list_all is_of_line name ≡ true
-plain-line name h = lacks-all (λ b. not (list_any (λ m. b == m) (32 ∷ 10 ∷ []))) (10 ∷ []) name refl (and-right (has_one name) (lacks (32 ∷ 10 ∷ []) name) h)
+plain-line name h = lacks-all is_of_word [] name (other-than-control (32 ∷ [])) refl (and-right (has_one name) (list_all is_of_word name) h)
 
 record IsDanger (d : Danger) : Type 0 where
   read : danger_named (danger_name d) ≡ Some d
@@ -150,6 +155,25 @@ nothing-line : (gs : List Group) → line_read gs [] ≡ Ok Nothing
 unfolding line_read first_word
 nothing-line gs = refl
 
+-- ---- lines without control characters
+
+group-line-bytes : (g : Group) → is_group_name g.name ≡ true → are_tests g.tests ≡ true → list_all is_of_line (group_line g) ≡ true
+group-line-bytes g h k =
+    all-append is_of_line g.name (58 ∷ tests_text g.tests) (lacks-all is_of_name [] g.name (other-than-control (32 ∷ 58 ∷ 59 ∷ 62 ∷ [])) refl (and-right (has_one g.name) (list_all is_of_name g.name) h)) (lacks-all is_of_tests [] (tests_text g.tests) tests-control refl (of-tests g.tests k))
+
+head-bytes : (tells : Tells) (name : List ℕ) → is_plain_word name ≡ true → HasWords tells → list_all is_of_line (head_text tells name) ≡ true
+head-bytes (Hazard d) name h k = spaced-bytes is_of_line refl (name ∷ danger_name d ∷ []) (both (plain-line name h) (both (danger-name d).bytes refl))
+head-bytes (Effect v file) name h k = spaced-bytes is_of_line refl (name ∷ verb_name v ∷ file ∷ []) (both (plain-line name h) (both (verb-name v).bytes (both (plain-line file k.0) refl)))
+head-bytes Reason name h k = spaced-bytes is_of_line refl (name ∷ []) (both (plain-line name h) refl)
+head-bytes Plain name h k = spaced-bytes is_of_line refl (name ∷ []) (both (plain-line name h) refl)
+
+without-control : (bs : List ℕ) → list_all is_of_line bs ≡ true → list_any is_ascii_control bs ≡ false
+without-control [] h = refl
+without-control (b ∷ bs) h = rw (not-true (is_ascii_control b) (and-left (is_of_line b) (list_all is_of_line bs) h), without-control bs (and-right (is_of_line b) (list_all is_of_line bs) h)) refl
+
+line-added : (s : SoFar) (line : List ℕ) → list_all is_of_line line ≡ true → with_line s line ≡ after (line_read s.groups line) (added s)
+line-added s line h = rw (without-control line h) refl
+
 -- ---- texts
 
 abbrev state : List Group → List Entry → Option Entry → SoFar
@@ -163,7 +187,7 @@ groups-read : (gs above : List Group) (n : ℕ) (rest : List (List ℕ)) (r : Re
 groups-read [] above n rest r h k = ap (λ gs. lines_read n (state gs [] None) rest) (sym (append-nil above)) ∙ k n
 groups-read (g ∷ gs) above n rest r h k =
     let line : line_read above (group_line g) ≡ Ok (NewGroup g) = group-written-line above g h.0 h.1 h.2 in
-    let read : with_line (state above [] None) (group_line g) ≡ Ok (state (above ++ g ∷ []) [] None) = rw line refl in
+    let read : with_line (state above [] None) (group_line g) ≡ Ok (state (above ++ g ∷ []) [] None) = line-added (state above [] None) (group_line g) (group-line-bytes g h.0 h.1) ∙ rw line refl in
     step n (state above [] None) (state (above ++ g ∷ []) [] None) (group_line g) (map group_line gs ++ rest) read
     ∙ groups-read gs (above ++ g ∷ []) (n + 1) rest r h.3 (λ m. ap (λ all. lines_read m (state all [] None) rest) (append_assoc above (g ∷ []) gs) ∙ k m)
 
@@ -175,21 +199,21 @@ cases-read : (cs before : List Case) (gs : List Group) (es : List Entry) (tells 
 cases-read [] before gs es tells name says n rest r h o k = ap (λ cs. lines_read n (state gs es (Some (entry_with tells name says cs))) rest) (sym (append-nil before)) ∙ k n
 cases-read (c ∷ cs) before gs es tells name says n rest r h o k =
     let line : line_read gs (case_text c) ≡ Ok (NewCase c) = case-line gs c h.0 in
-    let read : with_line (state gs es (Some (entry_with tells name says before))) (case_text c) ≡ Ok (state gs es (Some (entry_with tells name says (before ++ c ∷ [])))) = rw (line, and-left (has_its_options tells c) (list_all (has_its_options tells) cs) o) refl in
+    let read : with_line (state gs es (Some (entry_with tells name says before))) (case_text c) ≡ Ok (state gs es (Some (entry_with tells name says (before ++ c ∷ [])))) = line-added (state gs es (Some (entry_with tells name says before))) (case_text c) (case-bytes gs c h.0) ∙ rw (line, and-left (has_its_options tells c) (list_all (has_its_options tells) cs) o) refl in
     step n (state gs es (Some (entry_with tells name says before))) (state gs es (Some (entry_with tells name says (before ++ c ∷ [])))) (case_text c) (map case_text cs ++ rest) read
     ∙ cases-read cs (before ++ c ∷ []) gs es tells name says (n + 1) rest r h.1 (and-right (has_its_options tells c) (list_all (has_its_options tells) cs) o) (λ m. ap (λ all. lines_read m (state gs es (Some (entry_with tells name says all))) rest) (append_assoc before (c ∷ []) cs) ∙ k m)
 
-head-added : (gs : List Group) (es above : List Entry) (last : Option Entry) (tells : Tells) (name : List ℕ) → with_last es last ≡ above → list_any (λ other. bytes_eq other.name name) above ≡ false → line_read gs (head_text tells name) ≡ Ok (NewEntry tells name)
+head-added : (gs : List Group) (es above : List Entry) (last : Option Entry) (tells : Tells) (name : List ℕ) → with_last es last ≡ above → list_any (λ other. bytes_eq other.name name) above ≡ false → list_all is_of_line (head_text tells name) ≡ true → line_read gs (head_text tells name) ≡ Ok (NewEntry tells name)
     → with_line (state gs es last) (head_text tells name) ≡ Ok (state gs above (Some (entry_with tells name [] [])))
-head-added gs es above last tells name e h line = rw (line, e, h) refl
+head-added gs es above last tells name e h bytes line = line-added (state gs es last) (head_text tells name) bytes ∙ rw (line, e, h) refl
 
 entries-read : (entries above : List Entry) (gs : List Group) (es : List Entry) (last : Option Entry) (n : ℕ) → with_last es last ≡ above → AreEntries gs above entries → lines_read n (state gs es last) (lines_of_entries entries ++ [] ∷ []) ≡ Ok (record { groups = gs; entries = above ++ entries })
 entries-read [] above gs es last n e h = rw (nothing-line gs, e) (ap (λ all. Ok (record { groups = gs; entries = all })) (sym (append-nil above)))
 entries-read (f ∷ entries) above gs es last n e h =
     let is = h.0 in
     let rest : List (List ℕ) = lines_of_entries entries ++ [] ∷ [] in
-    let head = head-added gs es above last f.tells f.name e h.1 (head-written gs f.tells f.name is.name is.tells) in
-    let said : with_line (state gs above (Some (entry_with f.tells f.name [] []))) (codes "  says " ++ f.says) ≡ Ok (state gs above (Some (entry_with f.tells f.name f.says []))) = rw (says-written gs f.says) refl in
+    let head = head-added gs es above last f.tells f.name e h.1 (head-bytes f.tells f.name is.name is.tells) (head-written gs f.tells f.name is.name is.tells) in
+    let said : with_line (state gs above (Some (entry_with f.tells f.name [] []))) (codes "  says " ++ f.says) ≡ Ok (state gs above (Some (entry_with f.tells f.name f.says []))) = line-added (state gs above (Some (entry_with f.tells f.name [] []))) (codes "  says " ++ f.says) is.says ∙ rw (says-written gs f.says) refl in
     let others : (m : ℕ) → lines_read m (state gs above (Some f)) rest ≡ Ok (record { groups = gs; entries = above ++ f ∷ entries }) =
     λ m. entries-read entries (above ++ f ∷ []) gs above (Some f) m refl h.2 ∙ ap (λ all. Ok (record { groups = gs; entries = all })) (append_assoc above (f ∷ []) entries) in
     ap (lines_read n (state gs es last)) (append_assoc (entry_lines f) (lines_of_entries entries) ([] ∷ []))
@@ -201,16 +225,6 @@ entries-read (f ∷ entries) above gs es last n e h =
 
 line-lacks : (bs : List ℕ) → list_all is_of_line bs ≡ true → lacks_mark 10 bs ≡ true
 line-lacks bs h = lacks-passed is_of_line 10 refl bs h
-
-group-line-bytes : (g : Group) → is_group_name g.name ≡ true → are_tests g.tests ≡ true → list_all is_of_line (group_line g) ≡ true
-group-line-bytes g h k =
-    all-append is_of_line g.name (58 ∷ tests_text g.tests) (lacks-all is_of_name (10 ∷ []) g.name refl (and-right (has_one g.name) (list_all is_of_name g.name) h)) (lacks-all is_of_tests (10 ∷ []) (tests_text g.tests) refl (of-tests g.tests k))
-
-head-bytes : (tells : Tells) (name : List ℕ) → is_plain_word name ≡ true → HasWords tells → list_all is_of_line (head_text tells name) ≡ true
-head-bytes (Hazard d) name h k = spaced-bytes is_of_line refl (name ∷ danger_name d ∷ []) (both (plain-line name h) (both (danger-name d).bytes refl))
-head-bytes (Effect v file) name h k = spaced-bytes is_of_line refl (name ∷ verb_name v ∷ file ∷ []) (both (plain-line name h) (both (verb-name v).bytes (both (plain-line file k.0) refl)))
-head-bytes Reason name h k = spaced-bytes is_of_line refl (name ∷ []) (both (plain-line name h) refl)
-head-bytes Plain name h k = spaced-bytes is_of_line refl (name ∷ []) (both (plain-line name h) refl)
 
 groups-lack : (gs above : List Group) → AreGroups above gs → list_all (lacks_mark 10) (map group_line gs) ≡ true
 groups-lack [] above h = refl

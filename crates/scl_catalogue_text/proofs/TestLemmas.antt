@@ -33,6 +33,11 @@ pub all-weaker : {X : Type 0} (p q : X → Bool) → ((x : X) → p x ≡ true �
 all-weaker p q w [] h = refl
 all-weaker p q w (x ∷ xs) h = both (w x (and-left (p x) (list_all p xs) h)) (all-weaker p q w xs (and-right (p x) (list_all p xs) h))
 
+pub or-false-right : (a b : Bool) → not (a || b) ≡ true → b ≡ false
+or-false-right true b h = let no : false ≡ true = h in cc
+or-false-right false true h = let no : false ≡ true = h in cc
+or-false-right false false h = refl
+
 no-mark : (p : ℕ → Bool) (m b : ℕ) → p m ≡ false → p b ≡ true → (t : Bool) → (b == m) ≡ t → not t ≡ true
 no-mark p m b h k true e = let same : b ≡ m = eqb-true b m e in let no : p m ≡ true = rw same at k in let f : false ≡ true = sym h ∙ no in cc
 no-mark p m b h k false e = refl

@@ -1,5 +1,6 @@
 -- How the lines of a catalogue's text are read.
 use Rattle.std.specs.Prelude.{ℕ, ◌+◌, ◌==◌, Bool, false, cond, not, ◌||◌, List, [], ◌∷◌, ◌++◌, codes, Option, None, Some, Result, Ok, Err}
+use Rattle.std.specs.Char.{is_ascii_control}
 use Rattle.std.specs.List.{list_any}
 use Rattle.std.specs.Str.{bytes_eq}
 use Rattle.scl_catalogue.specs.Form.{Group, Case, Tells, Hazard, Effect, Reason, Plain, Entry, Catalogue}
@@ -109,9 +110,9 @@ added s (NewEntry tells name) = cond (list_any (λ e. bytes_eq e.name name) (clo
 added s (Says says) = goes_on s s.last (λ e. with_sentence e.says says e)
 added s (NewCase c) = goes_on s s.last (with_case c)
 
--- what is read so far, with this line
+-- what is read so far, with this line, in which no byte is a control character
 abbrev pub with_line : SoFar → List ℕ → Result SoFar Mistake
-with_line s line = after (line_read s.groups line) (added s)
+with_line s line = cond (list_any is_ascii_control line) (Err mistake.ControlByte) (after (line_read s.groups line) (added s))
 
 abbrev pub lines_read : ℕ → SoFar → List (List ℕ) → Result Catalogue BadLine
 lines_read n s [] = Ok (catalogue_so_far s)

@@ -1,5 +1,6 @@
 -- Which catalogues can be written as a text.
-use Rattle.std.specs.Prelude.{◌≡◌, ℕ, nat_lt, ◌==◌, Bool, true, false, not, ◌&&◌, List, [], ◌∷◌, ◌++◌, Option, None, Some, Ok}
+use Rattle.std.specs.Prelude.{◌≡◌, ℕ, nat_lt, ◌==◌, Bool, true, false, not, ◌&&◌, ◌||◌, List, [], ◌∷◌, ◌++◌, Option, None, Some, Ok}
+use Rattle.std.specs.Char.{is_ascii_control}
 use Rattle.std.specs.List.{list_all, list_any}
 use Rattle.std.specs.Str.{bytes_eq}
 use Rattle.scl_catalogue.specs.Form.{Pattern, Text, Demand, Marked, Value, Part, Test, Group, Relation, Any, Two, Before, Unfollowed, Last, Question, Is, At, Given, Inner, Condition, Case, Tells, Hazard, Effect, Reason, Plain, Entry, Catalogue}
@@ -12,17 +13,17 @@ abbrev pub has_one : {A : Type 0} → List A → Bool
 has_one [] = false
 has_one (x ∷ xs) = true
 
--- none of the marks is among the bytes
+-- none of the marks is among the bytes, and no control character
 abbrev pub lacks : List ℕ → List ℕ → Bool
-lacks marks bs = list_all (λ b. not (list_any (λ m. b == m) marks)) bs
+lacks marks bs = list_all (λ b. not (list_any (λ m. b == m) marks || is_ascii_control b)) bs
 
--- a word without blanks and line ends
+-- a word without blanks
 abbrev pub is_plain_word : List ℕ → Bool
-is_plain_word bs = has_one bs && lacks (32 ∷ 10 ∷ []) bs
+is_plain_word bs = has_one bs && lacks (32 ∷ []) bs
 
 -- one that can stand before a colon, and in a condition
 abbrev pub is_group_name : List ℕ → Bool
-is_group_name bs = has_one bs && lacks (32 ∷ 10 ∷ 58 ∷ 59 ∷ 62 ∷ []) bs
+is_group_name bs = has_one bs && lacks (32 ∷ 58 ∷ 59 ∷ 62 ∷ []) bs
 
 abbrev pub is_bytes : List ℕ → Bool
 is_bytes bs = list_all (λ b. nat_lt b 256) bs
@@ -95,7 +96,7 @@ HasWords Plain = Unit {0}
 pub record IsEntry (gs : List Group) (e : Entry) : Type 0 where
   pub name : is_plain_word e.name ≡ true
   pub tells : HasWords e.tells
-  pub says : lacks (10 ∷ []) e.says ≡ true
+  pub says : lacks [] e.says ≡ true
   pub cases : AreCases gs e.cases
   pub options : list_all (has_its_options e.tells) e.cases ≡ true
 
@@ -108,7 +109,7 @@ abbrev pub AreGroups : List Group → List Group → Type 0
 AreGroups above [] = Unit {0}
 AreGroups above (g ∷ gs) = (is_group_name g.name ≡ true) × (are_tests g.tests ≡ true) × (group_named above g.name ≡ None) × AreGroups (above ++ g ∷ []) gs
 
--- names are words, each used once; groups, tests and cases have something in them; bytes and versions are such; a value is one of options that a case asks for
+-- names are words, each used once; no name, file or sentence has a control character; groups, tests and cases have something in them; bytes and versions are such; a value is one of options that a case asks for
 pub record CanBeWritten (c : Catalogue) : Type 0 where
   pub groups : AreGroups [] c.groups
   pub entries : AreEntries c.groups [] c.entries

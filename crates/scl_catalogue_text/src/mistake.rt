@@ -77,6 +77,9 @@ pub enum Mistake {
     /// More words stand than are read.
     #[error("too many words")]
     TooManyWords,
+    /// A byte is a control character of ASCII.
+    #[error("a line has no control character: no tab, and no carriage return at its end")]
+    ControlByte,
 }
 
 /// The first line of a text that is wrong, and why.

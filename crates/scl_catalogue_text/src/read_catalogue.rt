@@ -1,5 +1,6 @@
 //! Reads the text of a catalogue (catalogue/README.md).
 ghost use Rattle.std.specs.Prelude.{◌≡◌, ◌+◌, ◌<◌, ◌^◌, length, map, None, IfErr, IfOk, OnOk};
+ghost use Rattle.std.specs.Char.{is_ascii_control};
 ghost use Rattle.std.specs.List.{list_any};
 ghost use Rattle.std.specs.Str.{bytes_eq};
 ghost use Rattle.scl_catalogue.specs.Views.{case_of, catalogue_of, entry_of, group_of, tells_of};
@@ -60,6 +61,12 @@ fn has_name(entries: &[Entry<'_>], name: &[u8]) -> bool
         }
     }
     false
+}
+
+fn has_control(line: &[u8]) -> bool
+    ensures { result ≡ list_any is_ascii_control line.now }
+{
+    line.iter().any(|byte| byte.is_ascii_control())
 }
 
 impl<'a> Reader<'a> {
@@ -128,6 +135,9 @@ impl<'a> Reader<'a> {
     fn add(&mut self, bytes: &'a [u8]) -> Part<()>
         ensures { Reads (λ _. so_far self.new) result (with_line (so_far self.old) bytes.now) }
     {
+        if has_control(bytes) {
+            return Err(Stop::Mistake(Mistake::ControlByte));
+        }
         match line(self.room, &self.groups, bytes)? {
             Said::Nothing => Ok(()),
             Said::Group(group) => self.add_group(group),

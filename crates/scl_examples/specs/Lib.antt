@@ -5,3 +5,4 @@ pub mod Paths
 pub mod Texts
 pub mod Decoded
 pub mod Languages
+pub mod Words

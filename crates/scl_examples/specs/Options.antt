@@ -3,9 +3,9 @@ use Rattle.std.specs.Prelude.{◌≡◌, ℕ, true, false, List, [], ◌∷◌, 
 use Prim.Native.String.{String}
 use Rattle.std.specs.Option.{option_map}
 use Rattle.scl_values.specs.Cuts.{Cut, Cutting, raw, unknown, flag, with_value, clean, dangling, cut}
-use Rattle.scl_values.specs.Row.{Row, row, bare, apart, joined, either}
+use Rattle.scl_values.specs.Row.{Row, Shape, row, bare, apart, joined, either}
 use Rattle.scl_values.specs.Spell.{spell_value, normal_how}
-use Rattle.scl_values.specs.Tables.{owner, owner_in}
+use Rattle.scl_values.specs.Tables.{is_table, owner, owner_in}
 use Rattle.scl_values.specs.declared.argument.ArgDisposition.{ArgDisposition}
 use Rattle.scl_values.specs.declared.argument.ArgDisposition.TheVariants as how
 use Rattle.scl_values.specs.declared.argument.NormalizedDisposition.TheVariants as side
@@ -154,3 +154,29 @@ LongestOfTablesAreFound =
     × (found (include ∷ include_pch ∷ other_include ∷ []) "-include" ≡ Some 2)
     × (found (include ∷ include_pch ∷ other_include ∷ []) "-include-pch" ≡ Some 1)
     × (found (include ∷ include_pch ∷ other_include ∷ []) "-inc" ≡ None)
+
+-- without rows, or without tables, nothing is found
+abbrev pub NothingIsFoundWithoutRows : Type 0
+NothingIsFoundWithoutRows = (found [] "-include" ≡ None) × (found ([] ∷ []) "-abcd" ≡ None)
+
+-- the row `-foo` of this shape by itself
+abbrev pub foo_of : Shape → List (Row ℕ)
+foo_of shape = row (codes "-foo") 1 shape ∷ []
+
+-- a value that may stand on either side is joined after the delimiter only
+abbrev pub DelimitersStandAfterFlags : Type 0
+DelimitersStandAfterFlags =
+    (found (foo_of (either (Some equals)) ∷ []) "-foo" ≡ Some 1)
+    × (found (foo_of (either (Some equals)) ∷ []) "-foo=" ≡ Some 1)
+    × (found (foo_of (either (Some equals)) ∷ []) "-foo=bar" ≡ Some 1)
+    × (found (foo_of (either (Some equals)) ∷ []) "-foobar" ≡ None)
+    × (found (foo_of (either (Some equals)) ∷ []) "-fo" ≡ None)
+
+-- rows make a table if their flags rise by bytes and each delimiter is below 128
+abbrev pub RisingRowsMakeATable : Type 0
+RisingRowsMakeATable =
+    (is_table shapes ≡ true)
+    × (is_table (bar ∷ bar ∷ []) ≡ false)
+    × (is_table (plop ∷ bar ∷ []) ≡ false)
+    × (is_table (foo_of (joined (Some 127))) ≡ true)
+    × (is_table (foo_of (joined (Some 128))) ≡ false)

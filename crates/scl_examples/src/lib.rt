@@ -5,9 +5,10 @@
 
 ghost use Rattle.scl_examples.specs.Decoded.{TextsAreReadByTheirMarks, HighBytesAreRead, LocalTextsAreRead};
 ghost use Rattle.scl_examples.specs.Languages.{ExtensionsHaveLanguages, LanguagesHaveTexts, OtherTextsAreRead, LanguagesNeedPreprocessing};
-ghost use Rattle.scl_examples.specs.Options.{ValuesArePrinted, ValuesAreMoved, WordsAfterDashesAreRaw, WithoutDashesOptionsGoOn, LastFlagsAreCut, LongestFlagsAreFound, LongestOfTablesAreFound};
+ghost use Rattle.scl_examples.specs.Options.{ValuesArePrinted, ValuesAreMoved, WordsAfterDashesAreRaw, WithoutDashesOptionsGoOn, LastFlagsAreCut, LongestFlagsAreFound, LongestOfTablesAreFound, NothingIsFoundWithoutRows, DelimitersStandAfterFlags, RisingRowsMakeATable};
 ghost use Rattle.scl_examples.specs.Paths.{PathsAreJoined, ExtensionsAreChanged, FileNamesAreChanged, FileNamesAndExtensionsAreFound, ComponentsAreCompared};
 ghost use Rattle.scl_examples.specs.Texts.{GnuTextsHaveSeparators, MsvcTextsHaveSeparators, DiabTextsHaveSeparators, DiabTextsHaveNoEmptyWord, DiabTextsHaveNoQuote, GnuTextsHaveQuotesAndEscapes, MsvcTextsHaveQuotes};
+ghost use Rattle.scl_examples.specs.Words.{ArchitecturesAreFound, WordsAreQuoted};
 
 /// Rows of options: what they print, what words are cut into, and which row owns a word.
 pub fn of_options()
@@ -18,6 +19,9 @@ pub fn of_options()
     ensures last_flags_are_cut { LastFlagsAreCut }
     ensures longest_flags_are_found { LongestFlagsAreFound }
     ensures longest_of_tables_are_found { LongestOfTablesAreFound }
+    ensures nothing_is_found_without_rows { NothingIsFoundWithoutRows }
+    ensures delimiters_stand_after_flags { DelimitersStandAfterFlags }
+    ensures rising_rows_make_a_table { RisingRowsMakeATable }
 {}
 
 /// Rows of paths: joined, changed, taken apart and compared.
@@ -57,4 +61,10 @@ pub fn of_languages()
     ensures languages_have_texts { LanguagesHaveTexts }
     ensures other_texts_are_read { OtherTextsAreRead }
     ensures languages_need_preprocessing { LanguagesNeedPreprocessing }
+{}
+
+/// Rows of lists of words: the architectures among them, and what messages show of them.
+pub fn of_words()
+    ensures architectures_are_found { ArchitecturesAreFound }
+    ensures words_are_quoted { WordsAreQuoted }
 {}

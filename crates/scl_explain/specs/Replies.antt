@@ -4,6 +4,7 @@ use Rattle.std.specs.List.{flat_map, list_any}
 use Rattle.scl_describe.specs.Keepings.{concerns_files}
 use Rattle.scl_hazards.specs.Hazards.{Hazard}
 use Rattle.scl_reader.specs.Answers.{Answer, compiled, cannot_cache, not_compilation}
+use Rattle.scl_shell.specs.Shown.{shown}
 use Rattle.scl_explain.specs.CommandTexts.{command_text}
 use Rattle.scl_explain.specs.Nuls.{some_hold_nul}
 use Rattle.scl_explain.specs.declared.words.WordForm.{WordForm}
@@ -12,7 +13,7 @@ use Rattle.scl_explain.specs.declared.reply.Form.TheVariants as form
 
 -- the line of a hazard: its name, and what happens
 abbrev pub hazard_line : Hazard → List ℕ
-hazard_line hazard = hazard.name ++ codes ": " ++ hazard.consequence ++ 10 ∷ []
+hazard_line hazard = shown hazard.name ++ codes ": " ++ shown hazard.consequence ++ 10 ∷ []
 
 abbrev pub hazards_text : List Hazard → List ℕ
 hazards_text hazards = flat_map hazard_line hazards

@@ -17,12 +17,14 @@ pub fn push_hazard_names(alloc: Global, text: &mut String, hazards: &[Hazard<'_>
     Ok(())
 }
 
-fn push_hazard_line(text: &mut Vec<u8>, hazard: &Hazard<'_>) -> Mem<()>
+fn push_hazard_line(alloc: Global, text: &mut Vec<u8>, hazard: &Hazard<'_>) -> Mem<()>
     ensures { OnOk result (text.new.items ≡ text.old.items ++ hazard_line hazard.now) }
 {
-    text.extend_from_slice(hazard.name())?;
+    let name = shown(alloc, hazard.name())?;
+    let consequence = shown(alloc, hazard.consequence())?;
+    text.extend_from_slice(name.as_bytes())?;
     text.extend_from_slice(b": ")?;
-    text.extend_from_slice(hazard.consequence())?;
+    text.extend_from_slice(consequence.as_bytes())?;
     text.push(b'\n')?;
     Ok(())
 }
@@ -33,7 +35,7 @@ pub(crate) fn hazards_text(alloc: Global, hazards: &[Hazard<'_>]) -> Mem<Vec<u8>
 {
     let mut text = Vec::new(alloc);
     for hazard in hazards {
-        push_hazard_line(&mut text, hazard)?;
+        push_hazard_line(alloc, &mut text, hazard)?;
     }
     Ok(text)
 }

@@ -5,6 +5,7 @@ use Rattle.std.specs.Char.{encode_utf8}
 use Rattle.std.specs.List.{flat_map}
 use Rattle.std.specs.Str.{chars, IsUtf8}
 use Rattle.scl_json.specs.Texts.{char_text, is_mark, is_plain, number_escape}
+use Rattle.scl_shell.proofs.ShownLaws.{seen_ascii}
 use Rattle.scl_shell.specs.Quoted.{between}
 use Rattle.scl_shell.specs.Shown.{is_hidden}
 
@@ -30,11 +31,8 @@ plain-number c p = grind arith
 pub plain-between : (c : ℕ) → is_plain c ≡ true → between 32 c 126 ≡ true
 plain-between c p = grind arith
 
-seen-ascii : (c : ℕ) → between 32 c 126 ≡ true → is_hidden c ≡ false
-seen-ascii c h = grind arith
-
 plain-seen : (c : ℕ) → is_plain c ≡ true → is_hidden c ≡ false
-plain-seen c p = seen-ascii c (plain-between c p)
+plain-seen c p = seen_ascii c (plain-between c p)
 
 pub plain-mark : (c : ℕ) → is_plain c ≡ true → is_mark c ≡ false
 plain-mark c p = grind arith

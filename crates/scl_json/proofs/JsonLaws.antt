@@ -86,7 +86,7 @@ no-control : (c : ℕ) → between 0 c 0x1f ≡ false → 32 ≤ c
 no-control c h = grind arith
 
 seen-low : (c : ℕ) → is_hidden c ≡ false → 32 ≤ c
-seen-low c h = no-control c (or_left _ _ (or_left _ _ (or_left _ _ (or_left _ _ (or_left _ _ (or_left _ _ (or_left _ _ (or_left _ _ h))))))))
+seen-low c h = no-control c (or_left _ _ (or_left _ _ h))
 
 inside-char : (c : ℕ) (s : List ℕ) (hidden marks : Bool) → is_hidden c ≡ hidden → is_mark c ≡ marks → all_scalars (c ∷ []) ≡ true → IsInside s
     → IsInside (cond hidden (number_escape c) (cond marks (92 ∷ encode_utf8 c) (encode_utf8 c)) ++ s)

@@ -1,5 +1,5 @@
 -- What a word of the command makes the object name of the place where it is made: tables, a word a line. What no table has may make it
--- name anything. catalogue/directories.txt has what was tried.
+-- name anything. trials/directories.txt has what was tried.
 use Rattle.std.specs.Prelude.{ℕ, Bool, true, false, nat_eq, List, [], ◌∷◌, Option, codes, find, map, unwrap_or}
 use Rattle.std.specs.Borrow.{Bor}
 use Rattle.std.specs.List.{starts_with}

@@ -14,6 +14,3 @@ pub use naming::Naming;
 pub use row::{is_macro, texts_show_macros};
 pub use shared::{Shared, share};
 pub use verdict::InObject;
-
-#[cfg(test)]
-mod tests;

@@ -9,6 +9,3 @@ mod shown;
 pub use bases::{bases_in, keeps_shown};
 pub use shared::shared_text;
 pub use shown::shown_text;
-
-#[cfg(test)]
-mod tests;

@@ -12,7 +12,7 @@ use Rattle.std.specs.Str.{IsUtf8, is_utf8, IsAscii, chars, all_scalars, encode_u
 use Rattle.std.specs.Str.Lossy.{utf8_lossy}
 use Rattle.scl_shell.specs.Laws.{ShownIsVisible, ShownWordsAreVisible, DollarQuotesAreReadBack}
 use Rattle.scl_shell.specs.Quoted.{between, is_bare, in_quotes, in_single_quotes, quoted}
-use Rattle.scl_shell.specs.Shown.{is_hidden, is_visible, octal, escaped, shown, shown_briefly, in_dollar_quotes, dollar_quoted, shown_word, shown_next, shown_text}
+use Rattle.scl_shell.specs.Shown.{is_hidden, is_ignorable, is_visible, octal, escaped, shown, shown_briefly, in_dollar_quotes, dollar_quoted, shown_word, shown_next, shown_text}
 use Rattle.scl_shell.specs.DollarQuotes.{InDollarQuotes}
 use Rattle.scl_shell.specs.DollarQuotes.InDollarQuotes.{nothing, one, itself, octal as by_octal}
 
@@ -55,8 +55,29 @@ visible_append a b h k =
 visible_nil : is_visible [] ≡ true
 visible_nil = visible_by [] [] IsUtf8-nil chars-nil refl
 
-seen_ascii : (c : ℕ) → between 32 c 126 ≡ true → is_hidden c ≡ false
-seen_ascii c h = grind arith
+neither : (a b : Bool) → a ≡ false → b ≡ false → (a || b) ≡ false
+neither true b h k = h
+neither false b h k = k
+
+above : (low c high : ℕ) → c < 127 → nat_lt 126 low ≡ true → between low c high ≡ false
+above low c high h k = grind arith
+
+other : (n c : ℕ) → c < 127 → nat_lt 126 n ≡ true → (c == n) ≡ false
+other n c h k = grind arith
+
+not_ignorable : (c : ℕ) → c < 127 → is_ignorable c ≡ false
+unfolding is_ignorable
+not_ignorable c h =
+    neither _ _ (neither _ _ (neither _ _ (neither _ _ (neither _ _ (neither _ _ (neither _ _ (neither _ _ (neither _ _ (neither _ _ (neither _ _ (neither _ _ (neither _ _ (neither _ _ (neither _ _ (neither _ _ (other 0xad c h refl) (other 0x34f c h refl)) (other 0x61c c h refl)) (above 0x115f c 0x1160 h refl)) (above 0x17b4 c 0x17b5 h refl)) (above 0x180b c 0x180f h refl)) (above 0x200b c 0x200f h refl)) (above 0x2028 c 0x202e h refl)) (above 0x2060 c 0x206f h refl)) (other 0x3164 c h refl)) (above 0xfe00 c 0xfe0f h refl)) (other 0xfeff c h refl)) (other 0xffa0 c h refl)) (above 0xfff0 c 0xfffb h refl)) (above 0x1bca0 c 0x1bca3 h refl)) (above 0x1d173 c 0x1d17a h refl)) (above 0xe0000 c 0xe0fff h refl)
+
+no_control : (c : ℕ) → between 32 c 126 ≡ true → between 0 c 0x1f ≡ false
+no_control c h = grind arith
+
+below_delete : (c : ℕ) → between 32 c 126 ≡ true → c < 127
+below_delete c h = grind arith
+
+pub seen_ascii : (c : ℕ) → between 32 c 126 ≡ true → is_hidden c ≡ false
+seen_ascii c h = neither _ _ (neither _ _ (no_control c h) (above 0x7f c 0x9f (below_delete c h) refl)) (not_ignorable c (below_delete c h))
 
 one_ascii : (c : ℕ) → between 32 c 126 ≡ true → IsAscii (c ∷ [])
 one_ascii c h zero = grind arith

@@ -5,12 +5,18 @@ use Rattle.std.specs.Str.{chars, is_utf8}
 use Rattle.scl_shell.specs.ShellText.{single_quote, backslash}
 use Rattle.scl_shell.specs.Quoted.{between, quoted}
 
--- the characters that a terminal obeys, or that turn or hide what is beside them: controls (C0, DEL, C1), marks of direction
--- and of line ends, characters without width, tags
+-- characters that turn or hide what is beside them, or are not seen: ends of lines and paragraphs, marks of direction and of
+-- notes, and what Unicode names Default_Ignorable_Code_Point
+unfoldable pub is_ignorable : ℕ → Bool
+is_ignorable c =
+    c == 0xad || c == 0x34f || c == 0x61c || between 0x115f c 0x1160 || between 0x17b4 c 0x17b5 || between 0x180b c 0x180f
+    || between 0x200b c 0x200f || between 0x2028 c 0x202e || between 0x2060 c 0x206f || c == 0x3164 || between 0xfe00 c 0xfe0f
+    || c == 0xfeff || c == 0xffa0 || between 0xfff0 c 0xfffb || between 0x1bca0 c 0x1bca3 || between 0x1d173 c 0x1d17a
+    || between 0xe0000 c 0xe0fff
+
+-- those, and controls (C0, DEL, C1), which a terminal obeys
 abbrev pub is_hidden : ℕ → Bool
-is_hidden c =
-    between 0 c 0x1f || between 0x7f c 0x9f || c == 0x61c || between 0x200b c 0x200f || between 0x2028 c 0x202e
-    || between 0x2060 c 0x206f || c == 0xfeff || between 0xfff9 c 0xfffb || between 0xe0000 c 0xe007f
+is_hidden c = between 0 c 0x1f || between 0x7f c 0x9f || is_ignorable c
 
 -- bytes that are shown unchanged: UTF-8 without hidden characters
 abbrev pub is_visible : List ℕ → Bool

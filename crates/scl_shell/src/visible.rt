@@ -4,29 +4,47 @@ ghost use Rattle.std.specs.List.{list_all, flat_map};
 ghost use Rattle.std.specs.Str.{chars};
 ghost use Rattle.std.specs.String.{string_bytes};
 ghost use Rattle.scl_values.specs.Words.{words_of};
-ghost use Rattle.scl_shell.specs.Shown.{is_hidden, is_visible, octal, escaped, shown, shown_briefly, in_dollar_quotes, dollar_quoted, shown_word, shown_next, shown_text};
+ghost use Rattle.scl_shell.specs.Shown.{is_hidden, is_ignorable, is_visible, octal, escaped, shown, shown_briefly, in_dollar_quotes, dollar_quoted, shown_word, shown_next, shown_text};
 
 use crate::quote::push_quoted;
 use scl_values::Mem;
 use std::alloc::Global;
 use std::str;
 
-/// Whether a terminal obeys a character, or the character turns or hides what is beside it.
-pub fn is_hidden(c: char) -> bool
-    ensures { result ≡ is_hidden c }
+/// Whether a character turns or hides what is beside it, or is not seen: ends of lines and paragraphs, marks of direction and of
+/// notes, and what Unicode names `Default_Ignorable_Code_Point`.
+#[tactic(auto, unfolding(crate::specs::Shown::is_ignorable))]
+fn is_ignorable(c: char) -> bool
+    ensures { result ≡ is_ignorable c }
 {
     matches!(
         c,
-        '\0'..='\u{1f}'
-            | '\u{7f}'..='\u{9f}'
+        '\u{ad}'
+            | '\u{34f}'
             | '\u{61c}'
+            | '\u{115f}'..='\u{1160}'
+            | '\u{17b4}'..='\u{17b5}'
+            | '\u{180b}'..='\u{180f}'
             | '\u{200b}'..='\u{200f}'
             | '\u{2028}'..='\u{202e}'
             | '\u{2060}'..='\u{206f}'
+            | '\u{3164}'
+            | '\u{fe00}'..='\u{fe0f}'
             | '\u{feff}'
-            | '\u{fff9}'..='\u{fffb}'
-            | '\u{e0000}'..='\u{e007f}'
+            | '\u{ffa0}'
+            | '\u{fff0}'..='\u{fffb}'
+            | '\u{1bca0}'..='\u{1bca3}'
+            | '\u{1d173}'..='\u{1d17a}'
+            | '\u{e0000}'..='\u{e0fff}'
     )
+}
+
+/// Whether a terminal obeys a character, as it does controls (C0, DEL, C1), or the character turns or hides what is beside it, or
+/// is not seen.
+pub fn is_hidden(c: char) -> bool
+    ensures { result ≡ is_hidden c }
+{
+    matches!(c, '\0'..='\u{1f}' | '\u{7f}'..='\u{9f}') || is_ignorable(c)
 }
 
 fn has_none_hidden(text: &str) -> bool
@@ -87,8 +105,8 @@ fn push_shown(text: &mut Vec<u8>, bytes: &[u8]) -> Mem<()>
 }
 
 /// Bytes made visible. UTF-8 without hidden characters is unchanged; of any other bytes, each that is not from space to `~`
-/// is written as a backslash and three octal digits. Hidden are control characters, marks of direction, and characters
-/// without width. The text has none of them (`laws::of_shown_bytes`).
+/// is written as a backslash and three octal digits. The text has no hidden character (`is_hidden`,
+/// `laws::of_shown_bytes`).
 #[tactic(auto, using(crate::proofs::ShownLaws::shown_whole))]
 pub fn shown(alloc: Global, bytes: &[u8]) -> Mem<String>
     ensures { IfOk result (λ text. string_bytes text ≡ shown bytes.now) }
