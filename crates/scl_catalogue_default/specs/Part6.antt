@@ -73,8 +73,8 @@ prototypes_entry = entry (Effect verb.Writes (codes "{value}")) (codes "prototyp
     [])
 
 unfoldable pub remarks_in_file_entry : Entry
-remarks_in_file_entry = entry (Effect verb.Writes (codes "{value}")) (codes "remarks-in-file")
-    (codes "What the optimizers did is written.") (
+remarks_in_file_entry = entry (Effect verb.Writes (codes "{value}*")) (codes "remarks-in-file")
+    (codes "What the optimizers did is added to the file at each run.") (
     case (meant compiler.Gcc None None ∷ []) (asked (Given (Any (unnamed (test class.Unknown (text (begins (codes "-fopt-info=") ∷ begins (codes "-fopt-info-all=") ∷ begins (codes "-fopt-info-all-optall=") ∷ begins (codes "-fopt-info-inline=") ∷ begins (codes "-fopt-info-inline-all=") ∷ begins (codes "-fopt-info-inline-missed=") ∷ begins (codes "-fopt-info-inline-note=") ∷ begins (codes "-fopt-info-inline-optimized=") ∷ begins (codes "-fopt-info-internals=") ∷ begins (codes "-fopt-info-ipa=") ∷ begins (codes "-fopt-info-ipa-missed=") ∷ begins (codes "-fopt-info-ipa-optimized=") ∷ begins (codes "-fopt-info-loop=") ∷ begins (codes "-fopt-info-loop-all=") ∷ begins (codes "-fopt-info-loop-missed=") ∷ begins (codes "-fopt-info-loop-note=") ∷ begins (codes "-fopt-info-loop-optimized=") ∷ begins (codes "-fopt-info-missed=") ∷ begins (codes "-fopt-info-missed-optall=") ∷ begins (codes "-fopt-info-note=") ∷ begins (codes "-fopt-info-omp=") ∷ begins (codes "-fopt-info-omp-missed=") ∷ begins (codes "-fopt-info-omp-optimized=") ∷ begins (codes "-fopt-info-optall=") ∷ begins (codes "-fopt-info-optimized=") ∷ begins (codes "-fopt-info-optimized-missed=") ∷ begins (codes "-fopt-info-optimized-optall=") ∷ begins (codes "-fopt-info-vec=") ∷ begins (codes "-fopt-info-vec-all=") ∷ begins (codes "-fopt-info-vec-missed=") ∷ begins (codes "-fopt-info-vec-note=") ∷ begins (codes "-fopt-info-vec-optall=") ∷ begins (codes "-fopt-info-vec-optimized=") ∷ begins (codes "-fopt-info-vec-optimized-missed=") ∷ []) []) [] ∷ [])))) ∷ []) ∷
     [])
 

@@ -141,8 +141,8 @@ fn prototypes_entry() -> Entry<'static>
 }
 
 static ENTRY_REMARKS_IN_FILE: Entry<'static> = entry! {
-    Effect Writes b"{value}" b"remarks-in-file"
-    b"What the optimizers did is written."
+    Effect Writes b"{value}*" b"remarks-in-file"
+    b"What the optimizers did is added to the file at each run."
     [(Gcc) : {Given Any ([Unknown {Begins b"-fopt-info=" Begins b"-fopt-info-all=" Begins b"-fopt-info-all-optall=" Begins b"-fopt-info-inline=" Begins b"-fopt-info-inline-all=" Begins b"-fopt-info-inline-missed=" Begins b"-fopt-info-inline-note=" Begins b"-fopt-info-inline-optimized=" Begins b"-fopt-info-internals=" Begins b"-fopt-info-ipa=" Begins b"-fopt-info-ipa-missed=" Begins b"-fopt-info-ipa-optimized=" Begins b"-fopt-info-loop=" Begins b"-fopt-info-loop-all=" Begins b"-fopt-info-loop-missed=" Begins b"-fopt-info-loop-note=" Begins b"-fopt-info-loop-optimized=" Begins b"-fopt-info-missed=" Begins b"-fopt-info-missed-optall=" Begins b"-fopt-info-note=" Begins b"-fopt-info-omp=" Begins b"-fopt-info-omp-missed=" Begins b"-fopt-info-omp-optimized=" Begins b"-fopt-info-optall=" Begins b"-fopt-info-optimized=" Begins b"-fopt-info-optimized-missed=" Begins b"-fopt-info-optimized-optall=" Begins b"-fopt-info-vec=" Begins b"-fopt-info-vec-all=" Begins b"-fopt-info-vec-missed=" Begins b"-fopt-info-vec-note=" Begins b"-fopt-info-vec-optall=" Begins b"-fopt-info-vec-optimized=" Begins b"-fopt-info-vec-optimized-missed="}])}]
 };
 
