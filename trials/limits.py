@@ -77,6 +77,7 @@ FILES = {
     "s.c": "int size = sizeof('a');\n",
     "t.c": 'char x[] = "??=";\n',
     "u.c": "int main(void) { return p(); }\n",
+    "v.hip": "static __attribute__((device)) int v = 3;\nint *p() { return &v; }\n",
     "v.cc": "#include <vector>\nint main() { return std::vector<int>{1}.size() - 1; }\n",
     **dict.fromkeys(["w.o", "y.o"], "b.o -pipe"),
 }

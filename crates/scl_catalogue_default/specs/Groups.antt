@@ -334,7 +334,7 @@ cl_joined_output_group = group (codes "CL_JOINED_OUTPUT") (
 abbrev pub cl_fatal_group : Group
 cl_fatal_group = group (codes "CL_FATAL") (
     test class.Flag (text (is (codes "-WX") ∷ is (codes "/WX") ∷ []) []) [] ∷
-    test class.Unknown (text (is (codes "-Werror") ∷ []) []) [] ∷
+    test class.Unknown (text (is (codes "-Werror") ∷ is (codes "-Werror=unknown-argument") ∷ []) []) [] ∷
     [])
 
 abbrev pub cl_debug_group : Group
@@ -357,6 +357,17 @@ cl_cut_short_group = group (codes "CL_CUT_SHORT") (
 abbrev pub cl_preprocessor_group : Group
 cl_preprocessor_group = group (codes "CL_PREPROCESSOR") (
     test class.Flag (text (is (codes "-D") ∷ is (codes "/D") ∷ is (codes "-FI") ∷ is (codes "/FI") ∷ is (codes "-I") ∷ is (codes "/I") ∷ is (codes "-U") ∷ is (codes "/U") ∷ is (codes "-imsvc") ∷ is (codes "/imsvc") ∷ []) []) [] ∷
+    [])
+
+abbrev pub cl_silent_group : Group
+cl_silent_group = group (codes "CL_SILENT") (
+    test class.Flag (text (is (codes "-W0") ∷ is (codes "/W0") ∷ is (codes "-w") ∷ is (codes "/w") ∷ []) []) [] ∷
+    test class.Unknown (text (is (codes "-Qunused-arguments") ∷ []) []) [] ∷
+    [])
+
+abbrev pub cl_dropped_group : Group
+cl_dropped_group = group (codes "CL_DROPPED") (
+    test class.Flag (text (is (codes "-MP") ∷ is (codes "/MP") ∷ is (codes "-sourceDependencies") ∷ is (codes "/sourceDependencies") ∷ []) []) [] ∷
     [])
 
 abbrev pub debugging_group : Group

@@ -1,9 +1,15 @@
 -- Entries of the catalogue that is built in; `catalogue/build` writes it.
 use Rattle.std.specs.Prelude.{List, [], ◌∷◌, codes, None}
 use Rattle.scl_catalogue.specs.Form.{Entry, Any, Given, Inner, Plain}
-use Rattle.scl_catalogue_default.specs.Words.{is, begins, text, test, unnamed, asked, meant, case, entry}
+use Rattle.scl_catalogue_default.specs.Words.{is, begins, holds, text, test, unnamed, asked, meant, case, entry}
 use Rattle.scl_catalogue.specs.declared.case.Compiler.TheVariants as compiler
 use Rattle.scl_catalogue.specs.declared.test.Class.TheVariants as class
+
+unfoldable pub remarks_entry : Entry
+remarks_entry = entry Plain (codes "remarks")
+    (codes "Messages say what the optimizers did.") (
+    case (meant compiler.Gcc None None ∷ []) (asked (Given (Any (unnamed (test class.Unknown (text (begins (codes "-fopt-info") ∷ []) (holds (codes "=") ∷ [])) [] ∷ [])))) ∷ []) ∷
+    [])
 
 unfoldable pub option_of_cl_entry : Entry
 option_of_cl_entry = entry Plain (codes "option-of-cl")
@@ -31,4 +37,4 @@ options_of_others_entry = entry Plain (codes "options-of-others")
     [])
 
 unfoldable pub part_10 : List Entry
-part_10 = option_of_cl_entry ∷ inner_words_entry ∷ option_of_microsoft_entry ∷ options_of_others_entry ∷ []
+part_10 = remarks_entry ∷ option_of_cl_entry ∷ inner_words_entry ∷ option_of_microsoft_entry ∷ options_of_others_entry ∷ []

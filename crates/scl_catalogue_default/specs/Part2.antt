@@ -33,8 +33,9 @@ order_of_outputs_entry = entry (Hazard danger.Object) (codes "order-of-outputs")
 
 unfoldable pub output_elsewhere_entry : Entry
 output_elsewhere_entry = entry (Hazard danger.Object) (codes "output-elsewhere")
-    (codes "The compiler writes another file than the object that the record names, or none.") (
+    (codes "The compiler writes another file than one that the record names, or none.") (
     case (meant compiler.Gcc None None ∷ meant compiler.Clang None None ∷ []) (asked (Given (Last long_output_group (unnamed (test class.Kind (text (is (codes "output") ∷ []) []) [] ∷ [])))) ∷ []) ∷
+    case (meant compiler.Gcc None None ∷ []) (asked (Given (Any (unnamed (test class.Kind (text (is (codes "coverage") ∷ is (codes "test-coverage") ∷ []) []) [] ∷ [])))) ∷ asked (Given (Any (unnamed (test class.Unknown (text (is (codes "-dumpbase") ∷ is (codes "--dumpbase") ∷ is (codes "--dumpdir") ∷ []) []) [] ∷ [])))) ∷ []) ∷
     case (meant compiler.Gcc None None ∷ []) (asked (Given (Any (unnamed (test class.Unknown (text (is (codes "-###") ∷ is (codes "--help") ∷ is (codes "--version") ∷ is (codes "--target-help") ∷ is (codes "-dumpfullversion") ∷ is (codes "-dumpmachine") ∷ is (codes "-dumpspecs") ∷ is (codes "-dumpversion") ∷ begins (codes "-print-") ∷ begins (codes "--print-") ∷ []) []) [] ∷ [])))) ∷ []) ∷
     case (meant compiler.Gcc None None ∷ []) (asked (At place.Language (text (is (codes "rs") ∷ []) [])) ∷ denied (Given (Any language_group)) ∷ []) ∷
     case (meant compiler.Clang None None ∷ []) (asked (Given (Any (unnamed (test class.Unknown (text (is (codes "-###") ∷ is (codes "-help") ∷ is (codes "--help") ∷ is (codes "--help-hidden") ∷ is (codes "--version") ∷ is (codes "-dumpmachine") ∷ is (codes "-dumpversion") ∷ begins (codes "-ccc-print-") ∷ begins (codes "-print-") ∷ begins (codes "--print-") ∷ []) (is (codes "-print-ivar-layout") ∷ is (codes "-print-rocm-search-dirs") ∷ is (codes "--print-rocm-search-dirs") ∷ [])) [] ∷ [])))) ∷ []) ∷
@@ -76,6 +77,7 @@ several_device_outputs_entry = entry (Hazard danger.Object) (codes "several-devi
     (codes "The compilation has outputs for devices, which are named or marked otherwise.") (
     case (meant compiler.Clang None None ∷ []) (asked (Given (Any (unnamed (test class.Unknown (text (begins (codes "-fopenmp-targets=") ∷ []) []) [] ∷ [])))) ∷ []) ∷
     case (meant compiler.Clang None None ∷ []) (asked (At place.Language (text (is (codes "cuda") ∷ is (codes "hip") ∷ []) [])) ∷ asked (Given (Any (unnamed (test class.Unknown (text (begins (codes "--cuda-device-only") ∷ begins (codes "--offload-device-only") ∷ begins (codes "-cuid=") ∷ begins (codes "-fuse-cuid=") ∷ []) []) [] ∷ [])))) ∷ []) ∷
+    case (meant compiler.Clang None None ∷ []) (asked (At place.Language (text (is (codes "cuda") ∷ is (codes "hip") ∷ []) [])) ∷ asked (Given (Last (unnamed (test class.Unknown (text (is (codes "-fcuda-rdc") ∷ is (codes "-fgpu-rdc") ∷ []) []) [] ∷ [])) (unnamed (test class.Unknown (text (is (codes "-fno-cuda-rdc") ∷ is (codes "-fno-gpu-rdc") ∷ []) []) [] ∷ [])))) ∷ []) ∷
     [])
 
 unfoldable pub output_is_another_flag_entry : Entry

@@ -2,7 +2,7 @@
 use Rattle.std.specs.Prelude.{List, [], ◌∷◌, codes, None, Some}
 use Rattle.scl_catalogue.specs.Form.{Entry, Marked, Value, Part, Any, Two, Before, Last, Is, At, Given, Inner, Hazard}
 use Rattle.scl_catalogue_default.specs.Words.{is, begins, holds, text, test, unnamed, asked, denied, version, meant, case, entry}
-use Rattle.scl_catalogue_default.specs.Groups.{output_group, standard_group, known_standard_group, no_standard_group, without_trigraphs_group, c23_group, trigraphs_group, need_group, target_group, dependency_file_group, targets_group, handed_rules_group, handed_target_group, long_rules_group, dependency_rules_group, asked_dependencies_group, other_dependencies_group, inner_dependencies_group, fatal_group, not_fatal_group, silent_group, silent_unused_group, unused_fatal_group, unused_not_fatal_group, unused_off_group, unused_on_group, unknown_fatal_group, unknown_not_fatal_group, unknown_off_group, unknown_on_group, cl_fatal_group, cl_cut_short_group}
+use Rattle.scl_catalogue_default.specs.Groups.{output_group, standard_group, known_standard_group, no_standard_group, without_trigraphs_group, c23_group, trigraphs_group, need_group, target_group, targets_group, handed_rules_group, handed_target_group, long_rules_group, dependency_rules_group, asked_dependencies_group, other_dependencies_group, inner_dependencies_group, fatal_group, not_fatal_group, silent_group, silent_unused_group, unused_fatal_group, unused_not_fatal_group, unused_off_group, unused_on_group, unknown_fatal_group, unknown_not_fatal_group, unknown_off_group, unknown_on_group, cl_fatal_group, cl_cut_short_group}
 use Rattle.scl_catalogue.specs.declared.case.Compiler.TheVariants as compiler
 use Rattle.scl_catalogue.specs.declared.entry.Danger.TheVariants as danger
 use Rattle.scl_catalogue.specs.declared.test.Class.TheVariants as class
@@ -146,11 +146,11 @@ dependency_names_of_input_entry = entry (Hazard danger.Run) (codes "dependency-n
     case (meant compiler.Clang None None ∷ []) (asked (Is fact.Preprocessed) ∷ asked (Is fact.RenamedObject) ∷ asked (Given (Any handed_rules_group)) ∷ denied (Given (Any handed_target_group)) ∷ []) ∷
     [])
 
-unfoldable pub hidden_object_entry : Entry
-hidden_object_entry = entry (Hazard danger.SideFile) (codes "hidden-object")
-    (codes "The object's name begins with its only dot, and the compiler names the dependency file otherwise.") (
-    case (meant compiler.Gcc None None ∷ meant compiler.Clang None None ∷ []) (asked (Is fact.Preprocessed) ∷ asked (Given (Any need_group)) ∷ asked (Is fact.HiddenObject) ∷ denied (Given (Any dependency_file_group)) ∷ []) ∷
+unfoldable pub dependency_names_of_dumps_entry : Entry
+dependency_names_of_dumps_entry = entry (Hazard danger.SideFile) (codes "dependency-names-of-dumps")
+    (codes "The dependency file is named as dumps are, and the built command names it after the object.") (
+    case (meant compiler.Gcc None None ∷ []) (asked (Is fact.Preprocessed) ∷ asked (Given (Any (unnamed (test class.Unknown (text (is (codes "-dumpbase") ∷ is (codes "--dumpbase") ∷ is (codes "--dumpdir") ∷ []) []) [] ∷ [])))) ∷ asked (Given (Any (unnamed (test class.Unknown (text (begins (codes "--write-") ∷ []) []) [] ∷ test class.Flag (text (is (codes "-MD") ∷ is (codes "-MMD") ∷ []) []) [] ∷ [])))) ∷ denied (Given (Any output_group)) ∷ denied (Given (Any (unnamed (test class.Kind (text (is (codes "dep-argument-path") ∷ []) []) [] ∷ test class.Unknown (text (begins (codes "-MF") ∷ []) []) [] ∷ [])))) ∷ []) ∷
     [])
 
 unfoldable pub part_3 : List Entry
-part_3 = flag_cut_short_entry ∷ value_printed_joined_entry ∷ value_printed_apart_entry ∷ delimiter_dropped_entry ∷ order_of_searched_folders_entry ∷ order_of_included_files_entry ∷ order_of_prefixes_entry ∷ order_of_standard_libraries_entry ∷ trigraphs_before_standard_entry ∷ two_targets_entry ∷ quoted_target_entry ∷ target_unasked_entry ∷ target_handed_on_entry ∷ joined_target_entry ∷ joined_dependency_file_entry ∷ dependency_file_handed_on_entry ∷ dependency_names_of_input_entry ∷ hidden_object_entry ∷ []
+part_3 = flag_cut_short_entry ∷ value_printed_joined_entry ∷ value_printed_apart_entry ∷ delimiter_dropped_entry ∷ order_of_searched_folders_entry ∷ order_of_included_files_entry ∷ order_of_prefixes_entry ∷ order_of_standard_libraries_entry ∷ trigraphs_before_standard_entry ∷ two_targets_entry ∷ quoted_target_entry ∷ target_unasked_entry ∷ target_handed_on_entry ∷ joined_target_entry ∷ joined_dependency_file_entry ∷ dependency_file_handed_on_entry ∷ dependency_names_of_input_entry ∷ dependency_names_of_dumps_entry ∷ []

@@ -1,14 +1,20 @@
 -- Entries of the catalogue that is built in; `catalogue/build` writes it.
 use Rattle.std.specs.Prelude.{List, [], ◌∷◌, codes, None}
 use Rattle.scl_catalogue.specs.Form.{Entry, Marked, Value, Any, Two, Before, Last, Is, At, Given, Inner, Hazard}
-use Rattle.scl_catalogue_default.specs.Words.{is, begins, holds, text, test, unnamed, asked, denied, meant, case, entry}
-use Rattle.scl_catalogue_default.specs.Groups.{language_group, output_group, split_group, color_group, color_never_group, need_group, target_group, dependency_file_group, dependency_rules_group, using_target_group, diagnostics_file_group, unused_group, fatal_group, not_fatal_group, silent_unused_group, unused_fatal_group, unused_not_fatal_group, unused_off_group, unused_on_group, unused_block_group, cl_output_group, cl_cut_short_group}
+use Rattle.scl_catalogue_default.specs.Words.{is, begins, text, test, unnamed, asked, denied, meant, case, entry}
+use Rattle.scl_catalogue_default.specs.Groups.{language_group, output_group, split_group, color_group, color_never_group, need_group, target_group, dependency_file_group, dependency_rules_group, using_target_group, diagnostics_file_group, unused_group, fatal_group, not_fatal_group, silent_unused_group, unused_fatal_group, unused_not_fatal_group, unused_off_group, unused_on_group, unused_block_group, cl_cut_short_group}
 use Rattle.scl_catalogue.specs.declared.case.Compiler.TheVariants as compiler
 use Rattle.scl_catalogue.specs.declared.entry.Danger.TheVariants as danger
 use Rattle.scl_catalogue.specs.declared.test.Class.TheVariants as class
 use Rattle.scl_catalogue.specs.declared.seen.Mark.TheVariants as mark
 use Rattle.scl_catalogue.specs.declared.condition.Fact.TheVariants as fact
 use Rattle.scl_catalogue.specs.declared.condition.Place.TheVariants as place
+
+unfoldable pub hidden_object_entry : Entry
+hidden_object_entry = entry (Hazard danger.SideFile) (codes "hidden-object")
+    (codes "The object's name begins with its only dot, and the compiler names the dependency file otherwise.") (
+    case (meant compiler.Gcc None None ∷ meant compiler.Clang None None ∷ []) (asked (Is fact.Preprocessed) ∷ asked (Given (Any need_group)) ∷ asked (Is fact.HiddenObject) ∷ denied (Given (Any dependency_file_group)) ∷ []) ∷
+    [])
 
 unfoldable pub color_value_unknown_entry : Entry
 color_value_unknown_entry = entry (Hazard danger.Failure) (codes "color-value-unknown")
@@ -130,11 +136,5 @@ response_file_quoting_entry = entry (Hazard danger.Object) (codes "response-file
     case (meant compiler.ClangCl None None ∷ []) (asked (Given (Any (unnamed (test class.Unknown (text (begins (codes "--rsp-quoting") ∷ []) []) [] ∷ [])))) ∷ asked (At place.File (text (begins [] ∷ []) [])) ∷ []) ∷
     [])
 
-unfoldable pub object_beside_input_entry : Entry
-object_beside_input_entry = entry (Hazard danger.Object) (codes "object-beside-input")
-    (codes "The object is written beside the input, where clang-cl writes it where it runs.") (
-    case (meant compiler.ClangCl None None ∷ []) (asked (At place.Input (text (holds (codes "/") ∷ []) [])) ∷ denied (Given (Any cl_output_group)) ∷ []) ∷
-    [])
-
 unfoldable pub part_4 : List Entry
-part_4 = color_value_unknown_entry ∷ unused_words_for_assembler_entry ∷ unused_dependency_words_entry ∷ unused_words_block_entry ∷ diagnostics_file_entry ∷ remarks_file_entry ∷ diagnostics_file_dropped_entry ∷ color_forgotten_entry ∷ c_as_cxx_unsaid_entry ∷ unused_words_said_entry ∷ inner_input_entry ∷ inner_value_at_entry ∷ inner_response_file_entry ∷ response_file_in_environment_entry ∷ environment_split_otherwise_entry ∷ nested_response_file_entry ∷ response_file_quoting_entry ∷ object_beside_input_entry ∷ []
+part_4 = hidden_object_entry ∷ color_value_unknown_entry ∷ unused_words_for_assembler_entry ∷ unused_dependency_words_entry ∷ unused_words_block_entry ∷ diagnostics_file_entry ∷ remarks_file_entry ∷ diagnostics_file_dropped_entry ∷ color_forgotten_entry ∷ c_as_cxx_unsaid_entry ∷ unused_words_said_entry ∷ inner_input_entry ∷ inner_value_at_entry ∷ inner_response_file_entry ∷ response_file_in_environment_entry ∷ environment_split_otherwise_entry ∷ nested_response_file_entry ∷ response_file_quoting_entry ∷ []

@@ -1,8 +1,8 @@
 -- Entries of the catalogue that is built in; `catalogue/build` writes it.
 use Rattle.std.specs.Prelude.{List, [], ◌∷◌, codes, None}
 use Rattle.scl_catalogue.specs.Form.{Entry, Marked, Value, Any, Before, Last, Is, At, Given, Inner, Hazard, Effect}
-use Rattle.scl_catalogue_default.specs.Words.{is, begins, ends, text, test, unnamed, asked, denied, meant, case, entry}
-use Rattle.scl_catalogue_default.specs.Groups.{cl_output_group, cl_fatal_group}
+use Rattle.scl_catalogue_default.specs.Words.{is, begins, ends, holds, text, test, unnamed, asked, denied, meant, case, entry}
+use Rattle.scl_catalogue_default.specs.Groups.{unused_fatal_group, unused_not_fatal_group, unused_off_group, unused_on_group, cl_output_group, cl_fatal_group, cl_silent_group, cl_dropped_group}
 use Rattle.scl_catalogue.specs.declared.case.Compiler.TheVariants as compiler
 use Rattle.scl_catalogue.specs.declared.entry.Danger.TheVariants as danger
 use Rattle.scl_catalogue.specs.declared.entry.Verb.TheVariants as verb
@@ -10,6 +10,12 @@ use Rattle.scl_catalogue.specs.declared.test.Class.TheVariants as class
 use Rattle.scl_catalogue.specs.declared.seen.Mark.TheVariants as mark
 use Rattle.scl_catalogue.specs.declared.condition.Fact.TheVariants as fact
 use Rattle.scl_catalogue.specs.declared.condition.Place.TheVariants as place
+
+unfoldable pub object_beside_input_entry : Entry
+object_beside_input_entry = entry (Hazard danger.Object) (codes "object-beside-input")
+    (codes "The object is written beside the input, where clang-cl writes it where it runs.") (
+    case (meant compiler.ClangCl None None ∷ []) (asked (At place.Input (text (holds (codes "/") ∷ []) [])) ∷ denied (Given (Any cl_output_group)) ∷ []) ∷
+    [])
 
 unfoldable pub hidden_output_entry : Entry
 hidden_output_entry = entry (Hazard danger.Object) (codes "hidden-output")
@@ -42,7 +48,9 @@ unfoldable pub unused_words_dropped_entry : Entry
 unused_words_dropped_entry = entry (Hazard danger.Failure) (codes "unused-words-dropped")
     (codes "Clang-cl stops at words that the built command lacks.") (
     case (meant compiler.ClangCl None None ∷ []) (asked (Given (Any (unnamed (test class.Flag (text (is (codes "/deps") ∷ []) []) [] ∷ [])))) ∷ []) ∷
-    case (meant compiler.ClangCl None None ∷ []) (asked (Given (Any cl_fatal_group)) ∷ asked (Given (Any (unnamed (test class.Flag (text (is (codes "-MP") ∷ is (codes "/MP") ∷ is (codes "-deps") ∷ is (codes "-sourceDependencies") ∷ is (codes "/sourceDependencies") ∷ []) []) [] ∷ [])))) ∷ []) ∷
+    case (meant compiler.ClangCl None None ∷ []) (asked (Given (Any cl_fatal_group)) ∷ asked (Given (Any (unnamed (test class.Flag (text (is (codes "-deps") ∷ []) []) [] ∷ [])))) ∷ []) ∷
+    case (meant compiler.ClangCl None None ∷ []) (asked (Given (Any cl_dropped_group)) ∷ asked (Given (Last unused_fatal_group unused_not_fatal_group)) ∷ denied (Given (Any cl_silent_group)) ∷ denied (Given (Last unused_off_group unused_on_group)) ∷ []) ∷
+    case (meant compiler.ClangCl None None ∷ []) (asked (Given (Any cl_dropped_group)) ∷ asked (Given (Last (unnamed (test class.Flag (text (is (codes "-WX") ∷ is (codes "/WX") ∷ []) []) [] ∷ test class.Unknown (text (is (codes "-Werror") ∷ []) []) [] ∷ [])) (unnamed (test class.Flag (text (is (codes "-WX-") ∷ is (codes "/WX-") ∷ []) []) [] ∷ test class.Unknown (text (is (codes "-Wno-error") ∷ []) []) [] ∷ [])))) ∷ denied (Given (Any cl_silent_group)) ∷ denied (Given (Last unused_off_group unused_on_group)) ∷ denied (Given (Any unused_fatal_group)) ∷ denied (Given (Any unused_not_fatal_group)) ∷ []) ∷
     [])
 
 unfoldable pub order_of_warnings_entry : Entry
@@ -121,11 +129,5 @@ session_file_entry = entry (Effect verb.Reads (codes "{value}")) (codes "session
     case (meant compiler.Clang None None ∷ []) (asked (Given (Any (unnamed (test class.Unknown (text (begins (codes "-fbuild-session-file=") ∷ []) []) [] ∷ [])))) ∷ []) ∷
     [])
 
-unfoldable pub symbol_map_entry : Entry
-symbol_map_entry = entry (Effect verb.Reads (codes "{value}")) (codes "symbol-map")
-    (codes "The file renames symbols.") (
-    case (meant compiler.Clang None None ∷ []) (asked (Given (Any (unnamed (test class.Unknown (text (begins (codes "-frewrite-map-file=") ∷ []) []) [] ∷ [])))) ∷ []) ∷
-    [])
-
 unfoldable pub part_5 : List Entry
-part_5 = hidden_output_entry ∷ backslash_folder_entry ∷ intermediate_files_entry ∷ slash_before_xclang_entry ∷ unused_words_dropped_entry ∷ order_of_warnings_entry ∷ specs_entry ∷ sampled_profile_entry ∷ sampled_profile_of_fixed_name_entry ∷ counted_branches_entry ∷ counted_branches_elsewhere_entry ∷ instrumented_profile_entry ∷ functions_to_count_entry ∷ functions_to_trace_entry ∷ functions_to_check_entry ∷ functions_to_log_entry ∷ session_file_entry ∷ symbol_map_entry ∷ []
+part_5 = object_beside_input_entry ∷ hidden_output_entry ∷ backslash_folder_entry ∷ intermediate_files_entry ∷ slash_before_xclang_entry ∷ unused_words_dropped_entry ∷ order_of_warnings_entry ∷ specs_entry ∷ sampled_profile_entry ∷ sampled_profile_of_fixed_name_entry ∷ counted_branches_entry ∷ counted_branches_elsewhere_entry ∷ instrumented_profile_entry ∷ functions_to_count_entry ∷ functions_to_trace_entry ∷ functions_to_check_entry ∷ functions_to_log_entry ∷ session_file_entry ∷ []

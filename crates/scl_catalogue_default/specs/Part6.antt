@@ -7,6 +7,12 @@ use Rattle.scl_catalogue.specs.declared.case.Compiler.TheVariants as compiler
 use Rattle.scl_catalogue.specs.declared.entry.Verb.TheVariants as verb
 use Rattle.scl_catalogue.specs.declared.test.Class.TheVariants as class
 
+unfoldable pub symbol_map_entry : Entry
+symbol_map_entry = entry (Effect verb.Reads (codes "{value}")) (codes "symbol-map")
+    (codes "The file renames symbols.") (
+    case (meant compiler.Clang None None ∷ []) (asked (Given (Any (unnamed (test class.Unknown (text (begins (codes "-frewrite-map-file=") ∷ []) []) [] ∷ [])))) ∷ []) ∷
+    [])
+
 unfoldable pub index_of_link_entry : Entry
 index_of_link_entry = entry (Effect verb.Reads (codes "{value}")) (codes "index-of-link")
     (codes "The summary of a link says what is taken from other objects.") (
@@ -116,11 +122,5 @@ split_debug_information_entry = entry (Effect verb.Writes (codes "{object-stem}.
     case (meant compiler.Clang None None ∷ []) (asked (Given (Last (unnamed (test class.Unknown (text (is (codes "-gsplit-dwarf=split") ∷ []) []) [] ∷ [])) (unnamed (test class.Unknown (text (is (codes "-gno-split-dwarf") ∷ []) []) [] ∷ test class.Unknown (text (is (codes "-gsplit-dwarf=single") ∷ []) []) [] ∷ [])))) ∷ []) ∷
     [])
 
-unfoldable pub diagnostics_entry : Entry
-diagnostics_entry = entry (Effect verb.Writes (codes "{value}")) (codes "diagnostics")
-    (codes "Messages are written in a form for programs.") (
-    case (meant compiler.Clang None None ∷ []) (asked (Given (Any (unnamed (test class.Flag (text (is (codes "--serialize-diagnostics") ∷ []) []) [] ∷ [])))) ∷ []) ∷
-    [])
-
 unfoldable pub part_6 : List Entry
-part_6 = index_of_link_entry ∷ cached_stats_entry ∷ precompiled_header_entry ∷ header_compiled_before_entry ∷ file_of_mapped_name_entry ∷ words_for_assembler_entry ∷ modules_of_a_module_entry ∷ plugin_entry ∷ plugin_of_llvm_entry ∷ prototypes_entry ∷ remarks_in_file_entry ∷ optimization_record_entry ∷ optimization_remarks_entry ∷ counts_removed_entry ∷ coverage_notes_entry ∷ coverage_notes_in_file_entry ∷ split_debug_information_entry ∷ diagnostics_entry ∷ []
+part_6 = symbol_map_entry ∷ index_of_link_entry ∷ cached_stats_entry ∷ precompiled_header_entry ∷ header_compiled_before_entry ∷ file_of_mapped_name_entry ∷ words_for_assembler_entry ∷ modules_of_a_module_entry ∷ plugin_entry ∷ plugin_of_llvm_entry ∷ prototypes_entry ∷ remarks_in_file_entry ∷ optimization_record_entry ∷ optimization_remarks_entry ∷ counts_removed_entry ∷ coverage_notes_entry ∷ coverage_notes_in_file_entry ∷ split_debug_information_entry ∷ []

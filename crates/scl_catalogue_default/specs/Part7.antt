@@ -6,6 +6,12 @@ use Rattle.scl_catalogue.specs.declared.case.Compiler.TheVariants as compiler
 use Rattle.scl_catalogue.specs.declared.entry.Verb.TheVariants as verb
 use Rattle.scl_catalogue.specs.declared.test.Class.TheVariants as class
 
+unfoldable pub diagnostics_entry : Entry
+diagnostics_entry = entry (Effect verb.Writes (codes "{value}")) (codes "diagnostics")
+    (codes "Messages are written in a form for programs.") (
+    case (meant compiler.Clang None None ∷ []) (asked (Given (Any (unnamed (test class.Flag (text (is (codes "--serialize-diagnostics") ∷ []) []) [] ∷ [])))) ∷ []) ∷
+    [])
+
 unfoldable pub interface_stubs_entry : Entry
 interface_stubs_entry = entry (Effect verb.Writes (codes "{object-stem}.ifs")) (codes "interface-stubs")
     (codes "Stubs of the interface are written.") (
@@ -110,11 +116,5 @@ run_times_entry = entry (Effect verb.Writes (codes "{value}*")) (codes "run-time
     case (meant compiler.Clang None None ∷ meant compiler.ClangCl None None ∷ []) (asked (Given (Any (unnamed (test class.Unknown (text (begins (codes "-fproc-stat-report=") ∷ []) []) [] ∷ [])))) ∷ []) ∷
     [])
 
-unfoldable pub module_folder_entry : Entry
-module_folder_entry = entry (Effect verb.Writes (codes "gcm.cache/*")) (codes "module-folder")
-    (codes "The header is compiled as a module.") (
-    case (meant compiler.Gcc None None ∷ []) (asked (Given (Any (unnamed (test class.Unknown (text (is (codes "-fmodule-header") ∷ begins (codes "-fmodule-header=") ∷ []) []) [] ∷ [])))) ∷ []) ∷
-    [])
-
 unfoldable pub part_7 : List Entry
-part_7 = interface_stubs_entry ∷ time_trace_entry ∷ time_trace_in_file_entry ∷ assembler_listing_entry ∷ assembler_dependencies_entry ∷ handed_listing_entry ∷ dependencies_entry ∷ object_of_another_option_entry ∷ final_code_entry ∷ final_code_beside_object_entry ∷ declarations_for_go_entry ∷ declarations_for_ada_entry ∷ dumped_passes_entry ∷ dumped_passes_elsewhere_entry ∷ compared_code_entry ∷ assembly_left_entry ∷ run_times_entry ∷ module_folder_entry ∷ []
+part_7 = diagnostics_entry ∷ interface_stubs_entry ∷ time_trace_entry ∷ time_trace_in_file_entry ∷ assembler_listing_entry ∷ assembler_dependencies_entry ∷ handed_listing_entry ∷ dependencies_entry ∷ object_of_another_option_entry ∷ final_code_entry ∷ final_code_beside_object_entry ∷ declarations_for_go_entry ∷ declarations_for_ada_entry ∷ dumped_passes_entry ∷ dumped_passes_elsewhere_entry ∷ compared_code_entry ∷ assembly_left_entry ∷ run_times_entry ∷ []

@@ -7,6 +7,12 @@ use Rattle.scl_catalogue.specs.declared.case.Compiler.TheVariants as compiler
 use Rattle.scl_catalogue.specs.declared.entry.Verb.TheVariants as verb
 use Rattle.scl_catalogue.specs.declared.test.Class.TheVariants as class
 
+unfoldable pub module_folder_entry : Entry
+module_folder_entry = entry (Effect verb.Writes (codes "gcm.cache/*")) (codes "module-folder")
+    (codes "The header is compiled as a module.") (
+    case (meant compiler.Gcc None None ∷ []) (asked (Given (Any (unnamed (test class.Unknown (text (is (codes "-fmodule-header") ∷ begins (codes "-fmodule-header=") ∷ []) []) [] ∷ [])))) ∷ []) ∷
+    [])
+
 unfoldable pub messages_in_file_entry : Entry
 messages_in_file_entry = entry (Effect verb.Writes (codes "*")) (codes "messages-in-file")
     (codes "Messages are written in a form for programs.") (
@@ -128,15 +134,5 @@ named_by_key_entry = entry Plain (codes "named-by-key")
     case (meant compiler.Clang None None ∷ []) (asked (Given (Any (unnamed (test class.Unknown (text (begins (codes "-fbasic-block-sections=list=") ∷ []) []) [] ∷ test class.Flag (text (is (codes "-mllvm") ∷ []) []) (Value (text (begins (codes "-cgscc-inline-replay=") ∷ begins (codes "-dfsan-abilist=") ∷ begins (codes "-pgo-test-profile-file=") ∷ begins (codes "-prefetch-hints-file=") ∷ begins (codes "-sample-profile-file=") ∷ []) []) ∷ []) ∷ [])))) ∷ []) ∷
     [])
 
-unfoldable pub machine_entry : Entry
-machine_entry = entry Plain (codes "machine")
-    (codes "It says for which machine the code is.") (
-    case (meant compiler.Gcc None None ∷ meant compiler.Clang None None ∷ []) (asked (Given (Any (unnamed (test class.Unknown (text (begins (codes "-G") ∷ begins (codes "-m") ∷ []) (begins (codes "-mcpu=native") ∷ begins (codes "-mdevices-csv-loc=") ∷ begins (codes "-mllvm") ∷ begins (codes "-mmlir") ∷ begins (codes "-march=native") ∷ begins (codes "-mtune=native") ∷ [])) [] ∷ test class.Flag (text (is (codes "-G") ∷ is (codes "-V") ∷ is (codes "-b") ∷ is (codes "-mconstructor-aliases") ∷ is (codes "-mrelax-all") ∷ []) []) [] ∷ [])))) ∷ []) ∷
-    case (meant compiler.Clang None None ∷ []) (asked (Given (Any (unnamed (test class.Flag (text (is (codes "--target") ∷ is (codes "-target") ∷ []) []) [] ∷ test class.Unknown (text (begins (codes "--target=") ∷ begins (codes "-Xarch_") ∷ []) []) [] ∷ [])))) ∷ []) ∷
-    case (meant compiler.ClangCl None None ∷ []) (asked (Given (Any (unnamed (test class.Unknown (text (begins (codes "-m") ∷ begins (codes "--target=") ∷ []) (begins (codes "-march=native") ∷ begins (codes "-mcpu=native") ∷ begins (codes "-mtune=native") ∷ [])) [] ∷ test class.Flag (text (begins (codes "-arch:") ∷ begins (codes "/arch:") ∷ []) []) [] ∷ [])))) ∷ []) ∷
-    case (meant compiler.ClangCl None None ∷ []) (asked (Inner (Any (unnamed (test class.Unknown (text (begins (codes "-m") ∷ begins (codes "--target=") ∷ []) (begins (codes "-march=native") ∷ begins (codes "-mcpu=native") ∷ begins (codes "-mtune=native") ∷ [])) [] ∷ test class.Flag (text (is (codes "-mconstructor-aliases") ∷ is (codes "-mrelax-all") ∷ []) []) [] ∷ [])))) ∷ []) ∷
-    case (meant compiler.Clang None None ∷ meant compiler.ClangCl None None ∷ []) (asked (Inner (Any (unnamed (test class.Unknown (text (is (codes "-target-feature") ∷ is (codes "-target-cpu") ∷ is (codes "-tune-cpu") ∷ is (codes "-target-abi") ∷ is (codes "-triple") ∷ is (codes "-aux-triple") ∷ is (codes "-target-linker-version") ∷ []) []) [] ∷ [])))) ∷ []) ∷
-    [])
-
 unfoldable pub part_8 : List Entry
-part_8 = messages_in_file_entry ∷ dependencies_of_modules_entry ∷ logs_of_checked_calls_entry ∷ kept_intermediates_entry ∷ drawn_graphs_entry ∷ statistics_in_file_entry ∷ dependencies_of_inner_words_entry ∷ native_instructions_entry ∷ native_tuning_entry ∷ folder_in_debug_information_entry ∷ folder_of_counts_entry ∷ folder_in_syntax_tree_entry ∷ input_entry ∷ named_by_record_entry ∷ shown_by_preprocessor_entry ∷ named_by_plan_entry ∷ named_by_key_entry ∷ machine_entry ∷ []
+part_8 = module_folder_entry ∷ messages_in_file_entry ∷ dependencies_of_modules_entry ∷ logs_of_checked_calls_entry ∷ kept_intermediates_entry ∷ drawn_graphs_entry ∷ statistics_in_file_entry ∷ dependencies_of_inner_words_entry ∷ native_instructions_entry ∷ native_tuning_entry ∷ folder_in_debug_information_entry ∷ folder_of_counts_entry ∷ folder_in_syntax_tree_entry ∷ input_entry ∷ named_by_record_entry ∷ shown_by_preprocessor_entry ∷ named_by_plan_entry ∷ named_by_key_entry ∷ []

@@ -6,6 +6,16 @@ use Rattle.scl_catalogue_default.specs.Groups.{debugging_group, not_debugging_gr
 use Rattle.scl_catalogue.specs.declared.case.Compiler.TheVariants as compiler
 use Rattle.scl_catalogue.specs.declared.test.Class.TheVariants as class
 
+unfoldable pub machine_entry : Entry
+machine_entry = entry Plain (codes "machine")
+    (codes "It says for which machine the code is.") (
+    case (meant compiler.Gcc None None ∷ meant compiler.Clang None None ∷ []) (asked (Given (Any (unnamed (test class.Unknown (text (begins (codes "-G") ∷ begins (codes "-m") ∷ []) (begins (codes "-mcpu=native") ∷ begins (codes "-mdevices-csv-loc=") ∷ begins (codes "-mllvm") ∷ begins (codes "-mmlir") ∷ begins (codes "-march=native") ∷ begins (codes "-mtune=native") ∷ [])) [] ∷ test class.Flag (text (is (codes "-G") ∷ is (codes "-V") ∷ is (codes "-b") ∷ is (codes "-mconstructor-aliases") ∷ is (codes "-mrelax-all") ∷ []) []) [] ∷ [])))) ∷ []) ∷
+    case (meant compiler.Clang None None ∷ []) (asked (Given (Any (unnamed (test class.Flag (text (is (codes "--target") ∷ is (codes "-target") ∷ []) []) [] ∷ test class.Unknown (text (begins (codes "--target=") ∷ begins (codes "-Xarch_") ∷ []) []) [] ∷ [])))) ∷ []) ∷
+    case (meant compiler.ClangCl None None ∷ []) (asked (Given (Any (unnamed (test class.Unknown (text (begins (codes "-m") ∷ begins (codes "--target=") ∷ []) (begins (codes "-march=native") ∷ begins (codes "-mcpu=native") ∷ begins (codes "-mtune=native") ∷ [])) [] ∷ test class.Flag (text (begins (codes "-arch:") ∷ begins (codes "/arch:") ∷ []) []) [] ∷ [])))) ∷ []) ∷
+    case (meant compiler.ClangCl None None ∷ []) (asked (Inner (Any (unnamed (test class.Unknown (text (begins (codes "-m") ∷ begins (codes "--target=") ∷ []) (begins (codes "-march=native") ∷ begins (codes "-mcpu=native") ∷ begins (codes "-mtune=native") ∷ [])) [] ∷ test class.Flag (text (is (codes "-mconstructor-aliases") ∷ is (codes "-mrelax-all") ∷ []) []) [] ∷ [])))) ∷ []) ∷
+    case (meant compiler.Clang None None ∷ meant compiler.ClangCl None None ∷ []) (asked (Inner (Any (unnamed (test class.Unknown (text (is (codes "-target-feature") ∷ is (codes "-target-cpu") ∷ is (codes "-tune-cpu") ∷ is (codes "-target-abi") ∷ is (codes "-triple") ∷ is (codes "-aux-triple") ∷ is (codes "-target-linker-version") ∷ []) []) [] ∷ [])))) ∷ []) ∷
+    [])
+
 unfoldable pub optimization_entry : Entry
 optimization_entry = entry Plain (codes "optimization")
     (codes "It says how good the code shall be.") (
@@ -126,11 +136,5 @@ crash_entry = entry Plain (codes "crash")
     case (meant compiler.Clang None None ∷ meant compiler.ClangCl None None ∷ []) (asked (Given (Any (unnamed (test class.Unknown (text (begins (codes "-fcrash-diagnostics-dir=") ∷ []) []) [] ∷ [])))) ∷ []) ∷
     [])
 
-unfoldable pub remarks_entry : Entry
-remarks_entry = entry Plain (codes "remarks")
-    (codes "Messages say what the optimizers did.") (
-    case (meant compiler.Gcc None None ∷ []) (asked (Given (Any (unnamed (test class.Unknown (text (begins (codes "-fopt-info") ∷ []) (holds (codes "=") ∷ [])) [] ∷ [])))) ∷ []) ∷
-    [])
-
 unfoldable pub part_9 : List Entry
-part_9 = optimization_entry ∷ warnings_entry ∷ standard_of_language_entry ∷ link_entry ∷ switched_off_entry ∷ debug_information_entry ∷ handed_to_assembler_entry ∷ handed_to_llvm_entry ∷ maps_of_paths_entry ∷ values_of_gcc_and_clang_entry ∷ values_of_gcc_entry ∷ values_of_clang_entry ∷ inner_values_of_both_entry ∷ inner_values_of_clang_entry ∷ values_of_clang_cl_entry ∷ folder_of_notes_entry ∷ crash_entry ∷ remarks_entry ∷ []
+part_9 = machine_entry ∷ optimization_entry ∷ warnings_entry ∷ standard_of_language_entry ∷ link_entry ∷ switched_off_entry ∷ debug_information_entry ∷ handed_to_assembler_entry ∷ handed_to_llvm_entry ∷ maps_of_paths_entry ∷ values_of_gcc_and_clang_entry ∷ values_of_gcc_entry ∷ values_of_clang_entry ∷ inner_values_of_both_entry ∷ inner_values_of_clang_entry ∷ values_of_clang_cl_entry ∷ folder_of_notes_entry ∷ crash_entry ∷ []

@@ -1,9 +1,22 @@
 //! Entries of the catalogue that is built in; `catalogue/build` writes them.
 ghost use Rattle.std.specs.Prelude.{◌≡◌, map};
 ghost use Rattle.scl_catalogue.specs.Views.{entry_of};
-ghost use Rattle.scl_catalogue_default.specs.Part10.{option_of_cl_entry, inner_words_entry, option_of_microsoft_entry, options_of_others_entry, part_10};
+ghost use Rattle.scl_catalogue_default.specs.Part10.{remarks_entry, option_of_cl_entry, inner_words_entry, option_of_microsoft_entry, options_of_others_entry, part_10};
 
 use scl_catalogue::Entry;
+
+static ENTRY_REMARKS: Entry<'static> = entry! {
+    Plain b"remarks"
+    b"Messages say what the optimizers did."
+    [(Gcc) : {Given Any ([Unknown {Begins b"-fopt-info" ; Holds b"="}])}]
+};
+
+#[tactic(auto, unfolding(crate::specs::Part10::remarks_entry))]
+fn remarks_entry() -> Entry<'static>
+    ensures { entry_of result ≡ remarks_entry }
+{
+    ENTRY_REMARKS
+}
 
 static ENTRY_OPTION_OF_CL: Entry<'static> = entry! {
     Plain b"option-of-cl"
@@ -59,10 +72,11 @@ fn options_of_others_entry() -> Entry<'static>
 }
 
 #[tactic(auto, unfolding(crate::specs::Part10::part_10))]
-pub(crate) fn part() -> [Entry<'static>; 4]
+pub(crate) fn part() -> [Entry<'static>; 5]
     ensures { map entry_of result ≡ part_10 }
 {
     [
+        remarks_entry(),
         option_of_cl_entry(),
         inner_words_entry(),
         option_of_microsoft_entry(),

@@ -1,7 +1,7 @@
 //! Entries of the catalogue that is built in; `catalogue/build` writes them.
 ghost use Rattle.std.specs.Prelude.{◌≡◌, map};
 ghost use Rattle.scl_catalogue.specs.Views.{entry_of};
-ghost use Rattle.scl_catalogue_default.specs.Part3.{flag_cut_short_entry, value_printed_joined_entry, value_printed_apart_entry, delimiter_dropped_entry, order_of_searched_folders_entry, order_of_included_files_entry, order_of_prefixes_entry, order_of_standard_libraries_entry, trigraphs_before_standard_entry, two_targets_entry, quoted_target_entry, target_unasked_entry, target_handed_on_entry, joined_target_entry, joined_dependency_file_entry, dependency_file_handed_on_entry, dependency_names_of_input_entry, hidden_object_entry, part_3};
+ghost use Rattle.scl_catalogue_default.specs.Part3.{flag_cut_short_entry, value_printed_joined_entry, value_printed_apart_entry, delimiter_dropped_entry, order_of_searched_folders_entry, order_of_included_files_entry, order_of_prefixes_entry, order_of_standard_libraries_entry, trigraphs_before_standard_entry, two_targets_entry, quoted_target_entry, target_unasked_entry, target_handed_on_entry, joined_target_entry, joined_dependency_file_entry, dependency_file_handed_on_entry, dependency_names_of_input_entry, dependency_names_of_dumps_entry, part_3};
 
 use scl_catalogue::Entry;
 
@@ -260,17 +260,17 @@ fn dependency_names_of_input_entry() -> Entry<'static>
     ENTRY_DEPENDENCY_NAMES_OF_INPUT
 }
 
-static ENTRY_HIDDEN_OBJECT: Entry<'static> = entry! {
-    Hazard SideFile b"hidden-object"
-    b"The object's name begins with its only dot, and the compiler names the dependency file otherwise."
-    [(Gcc) (Clang) : {Is Preprocessed} {Given Any (part_2 NEED)} {Is HiddenObject} {not Given Any (part_2 DEPENDENCY_FILE)}]
+static ENTRY_DEPENDENCY_NAMES_OF_DUMPS: Entry<'static> = entry! {
+    Hazard SideFile b"dependency-names-of-dumps"
+    b"The dependency file is named as dumps are, and the built command names it after the object."
+    [(Gcc) : {Is Preprocessed} {Given Any ([Unknown {Is b"-dumpbase" Is b"--dumpbase" Is b"--dumpdir"}])} {Given Any ([Unknown {Begins b"--write-"}] [Flag {Is b"-MD" Is b"-MMD"}])} {not Given Any (part_1 OUTPUT)} {not Given Any ([Kind {Is b"dep-argument-path"}] [Unknown {Begins b"-MF"}])}]
 };
 
-#[tactic(auto, unfolding(crate::specs::Part3::hidden_object_entry))]
-fn hidden_object_entry() -> Entry<'static>
-    ensures { entry_of result ≡ hidden_object_entry }
+#[tactic(auto, unfolding(crate::specs::Part3::dependency_names_of_dumps_entry))]
+fn dependency_names_of_dumps_entry() -> Entry<'static>
+    ensures { entry_of result ≡ dependency_names_of_dumps_entry }
 {
-    ENTRY_HIDDEN_OBJECT
+    ENTRY_DEPENDENCY_NAMES_OF_DUMPS
 }
 
 #[tactic(auto, unfolding(crate::specs::Part3::part_3))]
@@ -295,6 +295,6 @@ pub(crate) fn part() -> [Entry<'static>; 18]
         joined_dependency_file_entry(),
         dependency_file_handed_on_entry(),
         dependency_names_of_input_entry(),
-        hidden_object_entry(),
+        dependency_names_of_dumps_entry(),
     ]
 }

@@ -1,9 +1,22 @@
 //! Entries of the catalogue that is built in; `catalogue/build` writes them.
 ghost use Rattle.std.specs.Prelude.{◌≡◌, map};
 ghost use Rattle.scl_catalogue.specs.Views.{entry_of};
-ghost use Rattle.scl_catalogue_default.specs.Part4.{color_value_unknown_entry, unused_words_for_assembler_entry, unused_dependency_words_entry, unused_words_block_entry, diagnostics_file_entry, remarks_file_entry, diagnostics_file_dropped_entry, color_forgotten_entry, c_as_cxx_unsaid_entry, unused_words_said_entry, inner_input_entry, inner_value_at_entry, inner_response_file_entry, response_file_in_environment_entry, environment_split_otherwise_entry, nested_response_file_entry, response_file_quoting_entry, object_beside_input_entry, part_4};
+ghost use Rattle.scl_catalogue_default.specs.Part4.{hidden_object_entry, color_value_unknown_entry, unused_words_for_assembler_entry, unused_dependency_words_entry, unused_words_block_entry, diagnostics_file_entry, remarks_file_entry, diagnostics_file_dropped_entry, color_forgotten_entry, c_as_cxx_unsaid_entry, unused_words_said_entry, inner_input_entry, inner_value_at_entry, inner_response_file_entry, response_file_in_environment_entry, environment_split_otherwise_entry, nested_response_file_entry, response_file_quoting_entry, part_4};
 
 use scl_catalogue::Entry;
+
+static ENTRY_HIDDEN_OBJECT: Entry<'static> = entry! {
+    Hazard SideFile b"hidden-object"
+    b"The object's name begins with its only dot, and the compiler names the dependency file otherwise."
+    [(Gcc) (Clang) : {Is Preprocessed} {Given Any (part_2 NEED)} {Is HiddenObject} {not Given Any (part_2 DEPENDENCY_FILE)}]
+};
+
+#[tactic(auto, unfolding(crate::specs::Part4::hidden_object_entry))]
+fn hidden_object_entry() -> Entry<'static>
+    ensures { entry_of result ≡ hidden_object_entry }
+{
+    ENTRY_HIDDEN_OBJECT
+}
 
 static ENTRY_COLOR_VALUE_UNKNOWN: Entry<'static> = entry! {
     Hazard Failure b"color-value-unknown"
@@ -244,24 +257,12 @@ fn response_file_quoting_entry() -> Entry<'static>
     ENTRY_RESPONSE_FILE_QUOTING
 }
 
-static ENTRY_OBJECT_BESIDE_INPUT: Entry<'static> = entry! {
-    Hazard Object b"object-beside-input"
-    b"The object is written beside the input, where clang-cl writes it where it runs."
-    [(ClangCl) : {At Input Holds b"/"} {not Given Any (part_4 CL_OUTPUT)}]
-};
-
-#[tactic(auto, unfolding(crate::specs::Part4::object_beside_input_entry))]
-fn object_beside_input_entry() -> Entry<'static>
-    ensures { entry_of result ≡ object_beside_input_entry }
-{
-    ENTRY_OBJECT_BESIDE_INPUT
-}
-
 #[tactic(auto, unfolding(crate::specs::Part4::part_4))]
 pub(crate) fn part() -> [Entry<'static>; 18]
     ensures { map entry_of result ≡ part_4 }
 {
     [
+        hidden_object_entry(),
         color_value_unknown_entry(),
         unused_words_for_assembler_entry(),
         unused_dependency_words_entry(),
@@ -279,6 +280,5 @@ pub(crate) fn part() -> [Entry<'static>; 18]
         environment_split_otherwise_entry(),
         nested_response_file_entry(),
         response_file_quoting_entry(),
-        object_beside_input_entry(),
     ]
 }

@@ -1,9 +1,22 @@
 //! Entries of the catalogue that is built in; `catalogue/build` writes them.
 ghost use Rattle.std.specs.Prelude.{◌≡◌, map};
 ghost use Rattle.scl_catalogue.specs.Views.{entry_of};
-ghost use Rattle.scl_catalogue_default.specs.Part5.{hidden_output_entry, backslash_folder_entry, intermediate_files_entry, slash_before_xclang_entry, unused_words_dropped_entry, order_of_warnings_entry, specs_entry, sampled_profile_entry, sampled_profile_of_fixed_name_entry, counted_branches_entry, counted_branches_elsewhere_entry, instrumented_profile_entry, functions_to_count_entry, functions_to_trace_entry, functions_to_check_entry, functions_to_log_entry, session_file_entry, symbol_map_entry, part_5};
+ghost use Rattle.scl_catalogue_default.specs.Part5.{object_beside_input_entry, hidden_output_entry, backslash_folder_entry, intermediate_files_entry, slash_before_xclang_entry, unused_words_dropped_entry, order_of_warnings_entry, specs_entry, sampled_profile_entry, sampled_profile_of_fixed_name_entry, counted_branches_entry, counted_branches_elsewhere_entry, instrumented_profile_entry, functions_to_count_entry, functions_to_trace_entry, functions_to_check_entry, functions_to_log_entry, session_file_entry, part_5};
 
 use scl_catalogue::Entry;
+
+static ENTRY_OBJECT_BESIDE_INPUT: Entry<'static> = entry! {
+    Hazard Object b"object-beside-input"
+    b"The object is written beside the input, where clang-cl writes it where it runs."
+    [(ClangCl) : {At Input Holds b"/"} {not Given Any (part_4 CL_OUTPUT)}]
+};
+
+#[tactic(auto, unfolding(crate::specs::Part5::object_beside_input_entry))]
+fn object_beside_input_entry() -> Entry<'static>
+    ensures { entry_of result ≡ object_beside_input_entry }
+{
+    ENTRY_OBJECT_BESIDE_INPUT
+}
 
 static ENTRY_HIDDEN_OUTPUT: Entry<'static> = entry! {
     Hazard Object b"hidden-output"
@@ -64,7 +77,9 @@ static ENTRY_UNUSED_WORDS_DROPPED: Entry<'static> = entry! {
     Hazard Failure b"unused-words-dropped"
     b"Clang-cl stops at words that the built command lacks."
     [(ClangCl) : {Given Any ([Flag {Is b"/deps"}])}]
-    [(ClangCl) : {Given Any (part_4 CL_FATAL)} {Given Any ([Flag {Is b"-MP" Is b"/MP" Is b"-deps" Is b"-sourceDependencies" Is b"/sourceDependencies"}])}]
+    [(ClangCl) : {Given Any (part_4 CL_FATAL)} {Given Any ([Flag {Is b"-deps"}])}]
+    [(ClangCl) : {Given Any (part_4 CL_DROPPED)} {Given Last (part_3 UNUSED_FATAL) (part_3 UNUSED_NOT_FATAL)} {not Given Any (part_4 CL_SILENT)} {not Given Last (part_3 UNUSED_OFF) (part_3 UNUSED_ON)}]
+    [(ClangCl) : {Given Any (part_4 CL_DROPPED)} {Given Last ([Flag {Is b"-WX" Is b"/WX"}] [Unknown {Is b"-Werror"}]) ([Flag {Is b"-WX-" Is b"/WX-"}] [Unknown {Is b"-Wno-error"}])} {not Given Any (part_4 CL_SILENT)} {not Given Last (part_3 UNUSED_OFF) (part_3 UNUSED_ON)} {not Given Any (part_3 UNUSED_FATAL)} {not Given Any (part_3 UNUSED_NOT_FATAL)}]
 };
 
 #[tactic(auto, unfolding(crate::specs::Part5::unused_words_dropped_entry))]
@@ -234,24 +249,12 @@ fn session_file_entry() -> Entry<'static>
     ENTRY_SESSION_FILE
 }
 
-static ENTRY_SYMBOL_MAP: Entry<'static> = entry! {
-    Effect Reads b"{value}" b"symbol-map"
-    b"The file renames symbols."
-    [(Clang) : {Given Any ([Unknown {Begins b"-frewrite-map-file="}])}]
-};
-
-#[tactic(auto, unfolding(crate::specs::Part5::symbol_map_entry))]
-fn symbol_map_entry() -> Entry<'static>
-    ensures { entry_of result ≡ symbol_map_entry }
-{
-    ENTRY_SYMBOL_MAP
-}
-
 #[tactic(auto, unfolding(crate::specs::Part5::part_5))]
 pub(crate) fn part() -> [Entry<'static>; 18]
     ensures { map entry_of result ≡ part_5 }
 {
     [
+        object_beside_input_entry(),
         hidden_output_entry(),
         backslash_folder_entry(),
         intermediate_files_entry(),
@@ -269,6 +272,5 @@ pub(crate) fn part() -> [Entry<'static>; 18]
         functions_to_check_entry(),
         functions_to_log_entry(),
         session_file_entry(),
-        symbol_map_entry(),
     ]
 }

@@ -1,9 +1,22 @@
 //! Entries of the catalogue that is built in; `catalogue/build` writes them.
 ghost use Rattle.std.specs.Prelude.{◌≡◌, map};
 ghost use Rattle.scl_catalogue.specs.Views.{entry_of};
-ghost use Rattle.scl_catalogue_default.specs.Part6.{index_of_link_entry, cached_stats_entry, precompiled_header_entry, header_compiled_before_entry, file_of_mapped_name_entry, words_for_assembler_entry, modules_of_a_module_entry, plugin_entry, plugin_of_llvm_entry, prototypes_entry, remarks_in_file_entry, optimization_record_entry, optimization_remarks_entry, counts_removed_entry, coverage_notes_entry, coverage_notes_in_file_entry, split_debug_information_entry, diagnostics_entry, part_6};
+ghost use Rattle.scl_catalogue_default.specs.Part6.{symbol_map_entry, index_of_link_entry, cached_stats_entry, precompiled_header_entry, header_compiled_before_entry, file_of_mapped_name_entry, words_for_assembler_entry, modules_of_a_module_entry, plugin_entry, plugin_of_llvm_entry, prototypes_entry, remarks_in_file_entry, optimization_record_entry, optimization_remarks_entry, counts_removed_entry, coverage_notes_entry, coverage_notes_in_file_entry, split_debug_information_entry, part_6};
 
 use scl_catalogue::Entry;
+
+static ENTRY_SYMBOL_MAP: Entry<'static> = entry! {
+    Effect Reads b"{value}" b"symbol-map"
+    b"The file renames symbols."
+    [(Clang) : {Given Any ([Unknown {Begins b"-frewrite-map-file="}])}]
+};
+
+#[tactic(auto, unfolding(crate::specs::Part6::symbol_map_entry))]
+fn symbol_map_entry() -> Entry<'static>
+    ensures { entry_of result ≡ symbol_map_entry }
+{
+    ENTRY_SYMBOL_MAP
+}
 
 static ENTRY_INDEX_OF_LINK: Entry<'static> = entry! {
     Effect Reads b"{value}" b"index-of-link"
@@ -233,24 +246,12 @@ fn split_debug_information_entry() -> Entry<'static>
     ENTRY_SPLIT_DEBUG_INFORMATION
 }
 
-static ENTRY_DIAGNOSTICS: Entry<'static> = entry! {
-    Effect Writes b"{value}" b"diagnostics"
-    b"Messages are written in a form for programs."
-    [(Clang) : {Given Any ([Flag {Is b"--serialize-diagnostics"}])}]
-};
-
-#[tactic(auto, unfolding(crate::specs::Part6::diagnostics_entry))]
-fn diagnostics_entry() -> Entry<'static>
-    ensures { entry_of result ≡ diagnostics_entry }
-{
-    ENTRY_DIAGNOSTICS
-}
-
 #[tactic(auto, unfolding(crate::specs::Part6::part_6))]
 pub(crate) fn part() -> [Entry<'static>; 18]
     ensures { map entry_of result ≡ part_6 }
 {
     [
+        symbol_map_entry(),
         index_of_link_entry(),
         cached_stats_entry(),
         precompiled_header_entry(),
@@ -268,6 +269,5 @@ pub(crate) fn part() -> [Entry<'static>; 18]
         coverage_notes_entry(),
         coverage_notes_in_file_entry(),
         split_debug_information_entry(),
-        diagnostics_entry(),
     ]
 }

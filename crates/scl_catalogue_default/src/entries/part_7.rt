@@ -1,9 +1,22 @@
 //! Entries of the catalogue that is built in; `catalogue/build` writes them.
 ghost use Rattle.std.specs.Prelude.{◌≡◌, map};
 ghost use Rattle.scl_catalogue.specs.Views.{entry_of};
-ghost use Rattle.scl_catalogue_default.specs.Part7.{interface_stubs_entry, time_trace_entry, time_trace_in_file_entry, assembler_listing_entry, assembler_dependencies_entry, handed_listing_entry, dependencies_entry, object_of_another_option_entry, final_code_entry, final_code_beside_object_entry, declarations_for_go_entry, declarations_for_ada_entry, dumped_passes_entry, dumped_passes_elsewhere_entry, compared_code_entry, assembly_left_entry, run_times_entry, module_folder_entry, part_7};
+ghost use Rattle.scl_catalogue_default.specs.Part7.{diagnostics_entry, interface_stubs_entry, time_trace_entry, time_trace_in_file_entry, assembler_listing_entry, assembler_dependencies_entry, handed_listing_entry, dependencies_entry, object_of_another_option_entry, final_code_entry, final_code_beside_object_entry, declarations_for_go_entry, declarations_for_ada_entry, dumped_passes_entry, dumped_passes_elsewhere_entry, compared_code_entry, assembly_left_entry, run_times_entry, part_7};
 
 use scl_catalogue::Entry;
+
+static ENTRY_DIAGNOSTICS: Entry<'static> = entry! {
+    Effect Writes b"{value}" b"diagnostics"
+    b"Messages are written in a form for programs."
+    [(Clang) : {Given Any ([Flag {Is b"--serialize-diagnostics"}])}]
+};
+
+#[tactic(auto, unfolding(crate::specs::Part7::diagnostics_entry))]
+fn diagnostics_entry() -> Entry<'static>
+    ensures { entry_of result ≡ diagnostics_entry }
+{
+    ENTRY_DIAGNOSTICS
+}
 
 static ENTRY_INTERFACE_STUBS: Entry<'static> = entry! {
     Effect Writes b"{object-stem}.ifs" b"interface-stubs"
@@ -228,24 +241,12 @@ fn run_times_entry() -> Entry<'static>
     ENTRY_RUN_TIMES
 }
 
-static ENTRY_MODULE_FOLDER: Entry<'static> = entry! {
-    Effect Writes b"gcm.cache/*" b"module-folder"
-    b"The header is compiled as a module."
-    [(Gcc) : {Given Any ([Unknown {Is b"-fmodule-header" Begins b"-fmodule-header="}])}]
-};
-
-#[tactic(auto, unfolding(crate::specs::Part7::module_folder_entry))]
-fn module_folder_entry() -> Entry<'static>
-    ensures { entry_of result ≡ module_folder_entry }
-{
-    ENTRY_MODULE_FOLDER
-}
-
 #[tactic(auto, unfolding(crate::specs::Part7::part_7))]
 pub(crate) fn part() -> [Entry<'static>; 18]
     ensures { map entry_of result ≡ part_7 }
 {
     [
+        diagnostics_entry(),
         interface_stubs_entry(),
         time_trace_entry(),
         time_trace_in_file_entry(),
@@ -263,6 +264,5 @@ pub(crate) fn part() -> [Entry<'static>; 18]
         compared_code_entry(),
         assembly_left_entry(),
         run_times_entry(),
-        module_folder_entry(),
     ]
 }

@@ -1,9 +1,22 @@
 //! Entries of the catalogue that is built in; `catalogue/build` writes them.
 ghost use Rattle.std.specs.Prelude.{◌≡◌, map};
 ghost use Rattle.scl_catalogue.specs.Views.{entry_of};
-ghost use Rattle.scl_catalogue_default.specs.Part8.{messages_in_file_entry, dependencies_of_modules_entry, logs_of_checked_calls_entry, kept_intermediates_entry, drawn_graphs_entry, statistics_in_file_entry, dependencies_of_inner_words_entry, native_instructions_entry, native_tuning_entry, folder_in_debug_information_entry, folder_of_counts_entry, folder_in_syntax_tree_entry, input_entry, named_by_record_entry, shown_by_preprocessor_entry, named_by_plan_entry, named_by_key_entry, machine_entry, part_8};
+ghost use Rattle.scl_catalogue_default.specs.Part8.{module_folder_entry, messages_in_file_entry, dependencies_of_modules_entry, logs_of_checked_calls_entry, kept_intermediates_entry, drawn_graphs_entry, statistics_in_file_entry, dependencies_of_inner_words_entry, native_instructions_entry, native_tuning_entry, folder_in_debug_information_entry, folder_of_counts_entry, folder_in_syntax_tree_entry, input_entry, named_by_record_entry, shown_by_preprocessor_entry, named_by_plan_entry, named_by_key_entry, part_8};
 
 use scl_catalogue::Entry;
+
+static ENTRY_MODULE_FOLDER: Entry<'static> = entry! {
+    Effect Writes b"gcm.cache/*" b"module-folder"
+    b"The header is compiled as a module."
+    [(Gcc) : {Given Any ([Unknown {Is b"-fmodule-header" Begins b"-fmodule-header="}])}]
+};
+
+#[tactic(auto, unfolding(crate::specs::Part8::module_folder_entry))]
+fn module_folder_entry() -> Entry<'static>
+    ensures { entry_of result ≡ module_folder_entry }
+{
+    ENTRY_MODULE_FOLDER
+}
 
 static ENTRY_MESSAGES_IN_FILE: Entry<'static> = entry! {
     Effect Writes b"*" b"messages-in-file"
@@ -245,28 +258,12 @@ fn named_by_key_entry() -> Entry<'static>
     ENTRY_NAMED_BY_KEY
 }
 
-static ENTRY_MACHINE: Entry<'static> = entry! {
-    Plain b"machine"
-    b"It says for which machine the code is."
-    [(Gcc) (Clang) : {Given Any ([Unknown {Begins b"-G" Begins b"-m" ; Begins b"-mcpu=native" Begins b"-mdevices-csv-loc=" Begins b"-mllvm" Begins b"-mmlir" Begins b"-march=native" Begins b"-mtune=native"}] [Flag {Is b"-G" Is b"-V" Is b"-b" Is b"-mconstructor-aliases" Is b"-mrelax-all"}])}]
-    [(Clang) : {Given Any ([Flag {Is b"--target" Is b"-target"}] [Unknown {Begins b"--target=" Begins b"-Xarch_"}])}]
-    [(ClangCl) : {Given Any ([Unknown {Begins b"-m" Begins b"--target=" ; Begins b"-march=native" Begins b"-mcpu=native" Begins b"-mtune=native"}] [Flag {Begins b"-arch:" Begins b"/arch:"}])}]
-    [(ClangCl) : {Inner Any ([Unknown {Begins b"-m" Begins b"--target=" ; Begins b"-march=native" Begins b"-mcpu=native" Begins b"-mtune=native"}] [Flag {Is b"-mconstructor-aliases" Is b"-mrelax-all"}])}]
-    [(Clang) (ClangCl) : {Inner Any ([Unknown {Is b"-target-feature" Is b"-target-cpu" Is b"-tune-cpu" Is b"-target-abi" Is b"-triple" Is b"-aux-triple" Is b"-target-linker-version"}])}]
-};
-
-#[tactic(auto, unfolding(crate::specs::Part8::machine_entry))]
-fn machine_entry() -> Entry<'static>
-    ensures { entry_of result ≡ machine_entry }
-{
-    ENTRY_MACHINE
-}
-
 #[tactic(auto, unfolding(crate::specs::Part8::part_8))]
 pub(crate) fn part() -> [Entry<'static>; 18]
     ensures { map entry_of result ≡ part_8 }
 {
     [
+        module_folder_entry(),
         messages_in_file_entry(),
         dependencies_of_modules_entry(),
         logs_of_checked_calls_entry(),
@@ -284,6 +281,5 @@ pub(crate) fn part() -> [Entry<'static>; 18]
         shown_by_preprocessor_entry(),
         named_by_plan_entry(),
         named_by_key_entry(),
-        machine_entry(),
     ]
 }

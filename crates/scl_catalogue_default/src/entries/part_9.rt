@@ -1,9 +1,26 @@
 //! Entries of the catalogue that is built in; `catalogue/build` writes them.
 ghost use Rattle.std.specs.Prelude.{◌≡◌, map};
 ghost use Rattle.scl_catalogue.specs.Views.{entry_of};
-ghost use Rattle.scl_catalogue_default.specs.Part9.{optimization_entry, warnings_entry, standard_of_language_entry, link_entry, switched_off_entry, debug_information_entry, handed_to_assembler_entry, handed_to_llvm_entry, maps_of_paths_entry, values_of_gcc_and_clang_entry, values_of_gcc_entry, values_of_clang_entry, inner_values_of_both_entry, inner_values_of_clang_entry, values_of_clang_cl_entry, folder_of_notes_entry, crash_entry, remarks_entry, part_9};
+ghost use Rattle.scl_catalogue_default.specs.Part9.{machine_entry, optimization_entry, warnings_entry, standard_of_language_entry, link_entry, switched_off_entry, debug_information_entry, handed_to_assembler_entry, handed_to_llvm_entry, maps_of_paths_entry, values_of_gcc_and_clang_entry, values_of_gcc_entry, values_of_clang_entry, inner_values_of_both_entry, inner_values_of_clang_entry, values_of_clang_cl_entry, folder_of_notes_entry, crash_entry, part_9};
 
 use scl_catalogue::Entry;
+
+static ENTRY_MACHINE: Entry<'static> = entry! {
+    Plain b"machine"
+    b"It says for which machine the code is."
+    [(Gcc) (Clang) : {Given Any ([Unknown {Begins b"-G" Begins b"-m" ; Begins b"-mcpu=native" Begins b"-mdevices-csv-loc=" Begins b"-mllvm" Begins b"-mmlir" Begins b"-march=native" Begins b"-mtune=native"}] [Flag {Is b"-G" Is b"-V" Is b"-b" Is b"-mconstructor-aliases" Is b"-mrelax-all"}])}]
+    [(Clang) : {Given Any ([Flag {Is b"--target" Is b"-target"}] [Unknown {Begins b"--target=" Begins b"-Xarch_"}])}]
+    [(ClangCl) : {Given Any ([Unknown {Begins b"-m" Begins b"--target=" ; Begins b"-march=native" Begins b"-mcpu=native" Begins b"-mtune=native"}] [Flag {Begins b"-arch:" Begins b"/arch:"}])}]
+    [(ClangCl) : {Inner Any ([Unknown {Begins b"-m" Begins b"--target=" ; Begins b"-march=native" Begins b"-mcpu=native" Begins b"-mtune=native"}] [Flag {Is b"-mconstructor-aliases" Is b"-mrelax-all"}])}]
+    [(Clang) (ClangCl) : {Inner Any ([Unknown {Is b"-target-feature" Is b"-target-cpu" Is b"-tune-cpu" Is b"-target-abi" Is b"-triple" Is b"-aux-triple" Is b"-target-linker-version"}])}]
+};
+
+#[tactic(auto, unfolding(crate::specs::Part9::machine_entry))]
+fn machine_entry() -> Entry<'static>
+    ensures { entry_of result ≡ machine_entry }
+{
+    ENTRY_MACHINE
+}
 
 static ENTRY_OPTIMIZATION: Entry<'static> = entry! {
     Plain b"optimization"
@@ -244,24 +261,12 @@ fn crash_entry() -> Entry<'static>
     ENTRY_CRASH
 }
 
-static ENTRY_REMARKS: Entry<'static> = entry! {
-    Plain b"remarks"
-    b"Messages say what the optimizers did."
-    [(Gcc) : {Given Any ([Unknown {Begins b"-fopt-info" ; Holds b"="}])}]
-};
-
-#[tactic(auto, unfolding(crate::specs::Part9::remarks_entry))]
-fn remarks_entry() -> Entry<'static>
-    ensures { entry_of result ≡ remarks_entry }
-{
-    ENTRY_REMARKS
-}
-
 #[tactic(auto, unfolding(crate::specs::Part9::part_9))]
 pub(crate) fn part() -> [Entry<'static>; 18]
     ensures { map entry_of result ≡ part_9 }
 {
     [
+        machine_entry(),
         optimization_entry(),
         warnings_entry(),
         standard_of_language_entry(),
@@ -279,6 +284,5 @@ pub(crate) fn part() -> [Entry<'static>; 18]
         values_of_clang_cl_entry(),
         folder_of_notes_entry(),
         crash_entry(),
-        remarks_entry(),
     ]
 }

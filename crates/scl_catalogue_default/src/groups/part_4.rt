@@ -39,7 +39,7 @@ pub(crate) const CL_JOINED_OUTPUT: Group<'static> = group! {
 pub(crate) const CL_FATAL: Group<'static> = group! {
     b"CL_FATAL"
     [Flag {Is b"-WX" Is b"/WX"}]
-    [Unknown {Is b"-Werror"}]
+    [Unknown {Is b"-Werror" Is b"-Werror=unknown-argument"}]
 };
 
 pub(crate) const CL_DEBUG: Group<'static> = group! {
@@ -62,6 +62,17 @@ pub(crate) const CL_CUT_SHORT: Group<'static> = group! {
 pub(crate) const CL_PREPROCESSOR: Group<'static> = group! {
     b"CL_PREPROCESSOR"
     [Flag {Is b"-D" Is b"/D" Is b"-FI" Is b"/FI" Is b"-I" Is b"/I" Is b"-U" Is b"/U" Is b"-imsvc" Is b"/imsvc"}]
+};
+
+pub(crate) const CL_SILENT: Group<'static> = group! {
+    b"CL_SILENT"
+    [Flag {Is b"-W0" Is b"/W0" Is b"-w" Is b"/w"}]
+    [Unknown {Is b"-Qunused-arguments"}]
+};
+
+pub(crate) const CL_DROPPED: Group<'static> = group! {
+    b"CL_DROPPED"
+    [Flag {Is b"-MP" Is b"/MP" Is b"-sourceDependencies" Is b"/sourceDependencies"}]
 };
 
 pub(crate) const DEBUGGING: Group<'static> = group! {
