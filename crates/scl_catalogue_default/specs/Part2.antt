@@ -77,6 +77,7 @@ several_device_outputs_entry = entry (Hazard danger.Object) (codes "several-devi
     (codes "The compilation has outputs for devices, which are named or marked otherwise.") (
     case (meant compiler.Clang None None ∷ []) (asked (Given (Any (unnamed (test class.Unknown (text (begins (codes "-fopenmp-targets=") ∷ []) []) [] ∷ [])))) ∷ []) ∷
     case (meant compiler.Clang None None ∷ []) (asked (At place.Language (text (is (codes "cuda") ∷ is (codes "hip") ∷ []) [])) ∷ asked (Given (Any (unnamed (test class.Unknown (text (begins (codes "--cuda-device-only") ∷ begins (codes "--offload-device-only") ∷ begins (codes "-cuid=") ∷ begins (codes "-fuse-cuid=") ∷ []) []) [] ∷ [])))) ∷ []) ∷
+    case (meant compiler.Clang None None ∷ []) (asked (Given (Any (unnamed (test class.Unknown (text (begins (codes "--cuda-gpu-arch=") ∷ begins (codes "--offload-arch=") ∷ []) []) [] ∷ [])))) ∷ denied (At place.Language (text (is (codes "cuda") ∷ is (codes "hip") ∷ []) [])) ∷ []) ∷
     case (meant compiler.Clang None None ∷ []) (asked (At place.Language (text (is (codes "cuda") ∷ is (codes "hip") ∷ []) [])) ∷ asked (Given (Last (unnamed (test class.Unknown (text (is (codes "-fcuda-rdc") ∷ is (codes "-fgpu-rdc") ∷ []) []) [] ∷ [])) (unnamed (test class.Unknown (text (is (codes "-fno-cuda-rdc") ∷ is (codes "-fno-gpu-rdc") ∷ []) []) [] ∷ [])))) ∷ []) ∷
     [])
 

@@ -10,7 +10,7 @@ unfoldable pub machine_entry : Entry
 machine_entry = entry Plain (codes "machine")
     (codes "It says for which machine the code is.") (
     case (meant compiler.Gcc None None ∷ meant compiler.Clang None None ∷ []) (asked (Given (Any (unnamed (test class.Unknown (text (begins (codes "-G") ∷ begins (codes "-m") ∷ []) (begins (codes "-mcpu=native") ∷ begins (codes "-mdevices-csv-loc=") ∷ begins (codes "-mllvm") ∷ begins (codes "-mmlir") ∷ begins (codes "-march=native") ∷ begins (codes "-mtune=native") ∷ [])) [] ∷ test class.Flag (text (is (codes "-G") ∷ is (codes "-V") ∷ is (codes "-b") ∷ is (codes "-mconstructor-aliases") ∷ is (codes "-mrelax-all") ∷ []) []) [] ∷ [])))) ∷ []) ∷
-    case (meant compiler.Clang None None ∷ []) (asked (Given (Any (unnamed (test class.Flag (text (is (codes "--target") ∷ is (codes "-target") ∷ []) []) [] ∷ test class.Unknown (text (begins (codes "--target=") ∷ begins (codes "-Xarch_") ∷ []) []) [] ∷ [])))) ∷ []) ∷
+    case (meant compiler.Clang None None ∷ []) (asked (Given (Any (unnamed (test class.Flag (text (is (codes "--target") ∷ is (codes "-target") ∷ []) []) [] ∷ test class.Unknown (text (begins (codes "--target=") ∷ begins (codes "-Xarch_") ∷ begins (codes "--offload-arch=") ∷ begins (codes "--cuda-gpu-arch=") ∷ []) (holds (codes "native") ∷ [])) [] ∷ [])))) ∷ []) ∷
     case (meant compiler.ClangCl None None ∷ []) (asked (Given (Any (unnamed (test class.Unknown (text (begins (codes "-m") ∷ begins (codes "--target=") ∷ []) (begins (codes "-march=native") ∷ begins (codes "-mcpu=native") ∷ begins (codes "-mtune=native") ∷ [])) [] ∷ test class.Flag (text (begins (codes "-arch:") ∷ begins (codes "/arch:") ∷ []) []) [] ∷ [])))) ∷ []) ∷
     case (meant compiler.ClangCl None None ∷ []) (asked (Inner (Any (unnamed (test class.Unknown (text (begins (codes "-m") ∷ begins (codes "--target=") ∷ []) (begins (codes "-march=native") ∷ begins (codes "-mcpu=native") ∷ begins (codes "-mtune=native") ∷ [])) [] ∷ test class.Flag (text (is (codes "-mconstructor-aliases") ∷ is (codes "-mrelax-all") ∷ []) []) [] ∷ [])))) ∷ []) ∷
     case (meant compiler.Clang None None ∷ meant compiler.ClangCl None None ∷ []) (asked (Inner (Any (unnamed (test class.Unknown (text (is (codes "-target-feature") ∷ is (codes "-target-cpu") ∷ is (codes "-tune-cpu") ∷ is (codes "-target-abi") ∷ is (codes "-triple") ∷ is (codes "-aux-triple") ∷ is (codes "-target-linker-version") ∷ []) []) [] ∷ [])))) ∷ []) ∷

@@ -5,7 +5,7 @@ ghost use Rattle.scl_effects_default.specs.Names.{plain_names};
 
 use scl_effects::{PlainNames, PlainRow};
 
-static ROWS: [PlainRow<'static>; 31] = [
+static ROWS: [PlainRow<'static>; 32] = [
     row! {
         (Gcc) (Clang) (ClangCl) : b"-f"
         b"PIC PIE access-control align-functions aligned-new asm associative-math asynchronous-unwind-tables builtin cf-protection char8_t common data-sections debug-types-section delete-null-pointer-checks diagnostics-color diagnostics-parseable-fixits diagnostics-show-option diagnostics-show-template-tree dollars-in-identifiers elide-constructors eliminate-unused-debug-symbols eliminate-unused-debug-types exceptions finite-loops finite-math-only for-scope freestanding function-sections gnu-keywords gnu89-inline hosted ident inline-functions instrument-functions jump-tables keep-static-consts lax-vector-conversions lto math-errno merge-all-constants ms-extensions mudflap mudflapth omit-frame-pointer openmp openmp-simd operator-names optimize-sibling-calls pack-struct pch-preprocess pic pie plt reciprocal-math rounding-math rtti sanitize-address-use-after-scope sanitize-recover sanitize-undefined-trap-on-error semantic-interposition short-enums short-wchar show-column signed-bitfields signed-char signed-zeros sized-deallocation split-stack stack-clash-protection stack-protector stack-protector-all stack-protector-strong strict-aliasing strict-enums strict-overflow time-report trapping-math trapv unit-at-a-time"
@@ -16,11 +16,11 @@ static ROWS: [PlainRow<'static>; 31] = [
     },
     row! {
         (Gcc) (Clang) (ClangCl) : b"--"
-        b"trigraphs"
+        b"pipe trigraphs"
     },
     row! {
         (Gcc) (Clang) (ClangCl) : b"-"
-        b"C CC H S dD dI dM no-canonical-prefixes nostartfiles nostdlib pg pie pthread r rdynamic s shared static t time undef v"
+        b"C CC H S dD dI dM no-canonical-prefixes no-pie nostartfiles nostdlib pg pie pthread r rdynamic s shared static t time undef v"
     },
     row! {
         (Gcc) (Clang) : b"-Wa,"
@@ -76,7 +76,7 @@ static ROWS: [PlainRow<'static>; 31] = [
     },
     row! {
         (Gcc) : b"-"
-        b"Mmodules Mno-modules dA dH dN dU dp dx no-integrated-cpp no-pie nodefaultlibs p pass-exit-codes traditional-cpp"
+        b"Mmodules Mno-modules dA dH dN dU dp dx no-integrated-cpp nodefaultlibs p pass-exit-codes traditional-cpp"
     },
     row! {
         (Clang) (ClangCl) : b"-fsanitize-"
@@ -115,12 +115,16 @@ static ROWS: [PlainRow<'static>; 31] = [
         b"strict-return strict-vtable-pointers struct-path-tbaa threadsafe-statics trigraphs underscoring unique-basic-block-section-names unique-internal-linkage-names unique-section-names use-init-array use-line-directives validate-ast-input-files-content vectorize visibility-from-dllstorageclass visibility-global-new-delete-hidden visibility-inlines-hidden-static-local-var wasm-exceptions whole-file whole-program-vtables writable-strings xl-pragma-pack zvector"
     },
     row! {
+        (Clang) : b"-f"
+        b"debug-macro tree-slp-vectorize tree-vectorize"
+    },
+    row! {
         (Clang) (ClangCl) : b"--"
-        b"cuda-compile-host-device cuda-device-only cuda-host-only cuda-noopt-device-debug cuda-path-ignore-env end-no-unused-arguments gpu-bundle-output gpu-use-aux-triple-only no-cuda-version-check no-gpu-bundle-output no-pedantic pipe relocatable-pch shared start-no-unused-arguments static via-file-asm"
+        b"cuda-compile-host-device cuda-device-only cuda-host-only cuda-noopt-device-debug cuda-path-ignore-env end-no-unused-arguments gpu-bundle-output gpu-use-aux-triple-only no-cuda-version-check no-gpu-bundle-output no-pedantic relocatable-pch shared start-no-unused-arguments static via-file-asm"
     },
     row! {
         (Clang) (ClangCl) : b"-"
-        b"Qn Qunused-arguments Qy canonical-prefixes emit-ast emit-llvm ibuiltininc no-pedantic no-pthread nobuiltininc nogpuinc nogpulib nohipwrapperinc nostdlibinc shared-libsan static-libgfortran static-libsan static-openmp static-pie via-file-asm"
+        b"Qn Qunused-arguments Qy canonical-prefixes emit-ast emit-llvm ibuiltininc no-pedantic no-pthread nobuiltininc nocudainc nocudalib nogpuinc nogpulib nohipwrapperinc nostdlibinc shared-libsan static-libgfortran static-libsan static-openmp static-pie via-file-asm"
     },
     row! {
         (Clang since 16 0) : b"-f"

@@ -121,6 +121,7 @@ static ENTRY_SEVERAL_DEVICE_OUTPUTS: Entry<'static> = entry! {
     b"The compilation has outputs for devices, which are named or marked otherwise."
     [(Clang) : {Given Any ([Unknown {Begins b"-fopenmp-targets="}])}]
     [(Clang) : {At Language Is b"cuda" Is b"hip"} {Given Any ([Unknown {Begins b"--cuda-device-only" Begins b"--offload-device-only" Begins b"-cuid=" Begins b"-fuse-cuid="}])}]
+    [(Clang) : {Given Any ([Unknown {Begins b"--cuda-gpu-arch=" Begins b"--offload-arch="}])} {not At Language Is b"cuda" Is b"hip"}]
     [(Clang) : {At Language Is b"cuda" Is b"hip"} {Given Last ([Unknown {Is b"-fcuda-rdc" Is b"-fgpu-rdc"}]) ([Unknown {Is b"-fno-cuda-rdc" Is b"-fno-gpu-rdc"}])}]
 };
 

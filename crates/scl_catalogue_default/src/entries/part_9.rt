@@ -9,7 +9,7 @@ static ENTRY_MACHINE: Entry<'static> = entry! {
     Plain b"machine"
     b"It says for which machine the code is."
     [(Gcc) (Clang) : {Given Any ([Unknown {Begins b"-G" Begins b"-m" ; Begins b"-mcpu=native" Begins b"-mdevices-csv-loc=" Begins b"-mllvm" Begins b"-mmlir" Begins b"-march=native" Begins b"-mtune=native"}] [Flag {Is b"-G" Is b"-V" Is b"-b" Is b"-mconstructor-aliases" Is b"-mrelax-all"}])}]
-    [(Clang) : {Given Any ([Flag {Is b"--target" Is b"-target"}] [Unknown {Begins b"--target=" Begins b"-Xarch_"}])}]
+    [(Clang) : {Given Any ([Flag {Is b"--target" Is b"-target"}] [Unknown {Begins b"--target=" Begins b"-Xarch_" Begins b"--offload-arch=" Begins b"--cuda-gpu-arch=" ; Holds b"native"}])}]
     [(ClangCl) : {Given Any ([Unknown {Begins b"-m" Begins b"--target=" ; Begins b"-march=native" Begins b"-mcpu=native" Begins b"-mtune=native"}] [Flag {Begins b"-arch:" Begins b"/arch:"}])}]
     [(ClangCl) : {Inner Any ([Unknown {Begins b"-m" Begins b"--target=" ; Begins b"-march=native" Begins b"-mcpu=native" Begins b"-mtune=native"}] [Flag {Is b"-mconstructor-aliases" Is b"-mrelax-all"}])}]
     [(Clang) (ClangCl) : {Inner Any ([Unknown {Is b"-target-feature" Is b"-target-cpu" Is b"-tune-cpu" Is b"-target-abi" Is b"-triple" Is b"-aux-triple" Is b"-target-linker-version"}])}]
