@@ -1,0 +1,4 @@
+//! A lookup: questions until there is a key.
+#![tactic(auto)]
+
+pub mod laws;
