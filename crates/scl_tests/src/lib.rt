@@ -1,4 +1,4 @@
-//! Tests of the compilers and of the program, and of what crosses the crates.
+//! Tests of what no clause says and no program shows.
 #![tactic(auto)]
 
 #[cfg(test)]

@@ -1,5 +1,0 @@
-//! Records, views, and expansions of response files.
-
-mod expand;
-mod records;
-mod view;
