@@ -24,7 +24,7 @@ pub use scl_args::Counted;
 pub use scl_gnu::{clang, gcc};
 pub use scl_msvc::msvc;
 pub use scl_reader::{
-    BuiltCommand, CommandLine, Compilation, Compiler, LackedFile, MOST, Questions, Reading,
+    BuiltCommand, CommandLine, Compilation, Compiler, LackedFile, Limits, Questions, Reading,
 };
 pub use scl_small::{diab, tasking_vx};
 pub use scl_text as text;

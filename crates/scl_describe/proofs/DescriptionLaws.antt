@@ -75,7 +75,7 @@ entries-are tables s r found are =
     ∙ ap (all_entries (there (told_for tables s r)) options_is (told_for tables s r)) are.questions
 
 -- the text of an answer and the rows after it are a description
-pub is-description : (tables : Tables) (s : Settings) (r : Request) (text : List ℕ) (found : Findings) → has_at_most s.bound r ≡ true → AreOf tables s r found
+pub is-description : (tables : Tables) (s : Settings) (r : Request) (text : List ℕ) (found : Findings) → has_at_most s.limits r ≡ true → AreOf tables s r found
     → text ≡ text_of (answer_of found.answer) ++ entries_text (entries_given s r.compiler (run_words_by r.words found.told.hazards.items) found) → text ≡ description tables s r
 is-description tables s r text found within are is =
     is
@@ -83,7 +83,7 @@ is-description tables s r text found within are is =
     ∙ ap (λ es. text_of (answer_to r) ++ entries_text es) (entries-are tables s r found are)
     ∙ ap (λ b. cond b (text_of (answer_to r) ++ entries_text (answer_entries tables s r)) (entries_text too_many_entries)) (sym within)
 
-pub too-long : (tables : Tables) (s : Settings) (r : Request) (text : List ℕ) → has_at_most s.bound r ≡ false → text ≡ entries_text too_many_entries → text ≡ description tables s r
+pub too-long : (tables : Tables) (s : Settings) (r : Request) (text : List ℕ) → has_at_most s.limits r ≡ false → text ≡ entries_text too_many_entries → text ≡ description tables s r
 too-long tables s r text within is = is ∙ ap (λ b. cond b (text_of (answer_to r) ++ entries_text (answer_entries tables s r)) (entries_text too_many_entries)) (sym within)
 
 -- ---- a record is read back

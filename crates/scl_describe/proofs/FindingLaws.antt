@@ -28,17 +28,17 @@ module _ (tables : Tables) (s : Settings) (request : Request) (line : Given) (is
   abbrev there : Given → Request
   there = asked_for request.compiler
 
-  pub is_described : (reading : Reading) (text : List ℕ) → (has_at_most s.bound (there line) ≡ true) × (reading ≡ read_of (there line))
+  pub is_described : (reading : Reading) (text : List ℕ) → (has_at_most s.limits (there line) ≡ true) × (reading ≡ read_of (there line))
       → IsTextOf (known_by tables s.version) s request.compiler reading line text → text ≡ description tables s request
   is_described reading text read its =
       let found : Findings = its.found in
       let IsIn : Given → Type 0 = λ g. text ≡ text_of (answer_of found.answer) ++ entries_text (entries_given s request.compiler (run_words_by g.words found.told.hazards.items) found) in
-      let On : Given → Type 0 = λ g. (has_at_most s.bound (there g) ≡ true) × (AreFound (known_by tables s.version) (wanted s) (read_of (there g)) g found × IsIn g) in
+      let On : Given → Type 0 = λ g. (has_at_most s.limits (there g) ≡ true) × (AreFound (known_by tables s.version) (wanted s) (read_of (there g)) g found × IsIn g) in
       let here : On (given_in request) = subst On is_its (read.0, (subst (λ r. AreFound (known_by tables s.version) (wanted s) r line found) read.1 its.are_found, its.is)) in
       is-description tables s request text found here.0 (found-of tables s request found here.1.0) here.1.1
 
-  pub is_too_long : (text : List ℕ) → has_at_most s.bound (there line) ≡ false → text ≡ entries_text too_many_entries → text ≡ description tables s request
-  is_too_long text within is = too-long tables s request text (subst (λ g. has_at_most s.bound (there g) ≡ false) is_its within) is
+  pub is_too_long : (text : List ℕ) → has_at_most s.limits (there line) ≡ false → text ≡ entries_text too_many_entries → text ≡ description tables s request
+  is_too_long text within is = too-long tables s request text (subst (λ g. has_at_most s.limits (there g) ≡ false) is_its within) is
 
 -- the description of a request that bytes make, by their settings, is a description of these bytes
 pub describes_bytes : (tables : Tables) (bytes lines text : List ℕ) (s : Settings) (request : Request) → s ≡ settings_in (lines_of bytes) → lines_of lines ≡ request_lines (lines_of bytes)

@@ -130,7 +130,7 @@ too_many_entries = lone_entry (codes "too-many-words") ∷ version_entry ∷ []
 
 abbrev pub description : Tables → Settings → Request → List ℕ
 description tables s request =
-    if has_at_most s.bound request then text_of (answer_to request) ++ entries_text (answer_entries tables s request) else entries_text too_many_entries
+    if has_at_most s.limits request then text_of (answer_to request) ++ entries_text (answer_entries tables s request) else entries_text too_many_entries
 
 -- what a description of the request may be, or the number of its bad line
 abbrev pub IsDescriptionOf : Tables → Settings → Result Request ℕ → Result (List ℕ) ℕ → Type 0
@@ -153,6 +153,6 @@ command_entries words cacheable.No = lone_entry (codes "ok") ∷ words_entry (co
 -- A description of a command gives the record that was read.
 abbrev pub DescriptionsReadBack : Type 0
 DescriptionsReadBack = (tables : Tables) (s : Settings) (request : Request) (words : List (List ℕ)) (kept : Cacheable) (p : Parsed)
-    → has_at_most s.bound request ≡ true → answer_to request ≡ compiled words kept → reading_by request.compiler request ≡ Ok p
+    → has_at_most s.limits request ≡ true → answer_to request ≡ compiled words kept → reading_by request.compiler request ≡ Ok p
     → Each IsRow (rows_of (command_entries words kept ++ answer_entries tables s request))
     → record_in (description tables s request) ≡ p

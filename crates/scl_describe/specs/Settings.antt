@@ -7,23 +7,24 @@ use Rattle.scl_files.specs.Characters.{backslash, slash, space}
 use Rattle.scl_files.specs.Decoding.{utf8_text}
 use Rattle.scl_description.specs.Fields.{field_of}
 use Rattle.scl_description.specs.Lines.{cut_at}
-use Rattle.scl_reader.specs.Within.{default_most}
+use Rattle.scl_files.specs.Within.{standard}
+use Rattle.scl_files.specs.declared.expand.Limits.{Limits}
 use Rattle.scl_describe.specs.declared.wants.Part.{Part}
 use Rattle.scl_describe.specs.declared.wants.Wants.{Wants}
 use Rattle.scl_describe.specs.Wants.{everything, nothing_more, part_of, with_part}
 
--- whether the runs of the preprocessor are for a distant compiler, leave macros in place, and are kept in a cache; the text of Clang's version, if it is known; how many words a command line may have, and how often it may open files; and which parts are wanted, if a line says so
+-- whether the runs of the preprocessor are for a distant compiler, leave macros in place, and are kept in a cache; the text of Clang's version, if it is known; how much a command line may have, once its response files are put in place; and which parts are wanted, if a line says so
 pub record Settings : Type 0 where
   pub may_dist : Bool
   pub rewrite_includes_only : Bool
   pub cache_mode : Bool
   pub version : Option (List ℕ)
-  pub bound : ℕ
+  pub limits : Limits
   pub wants : Option Wants
 
 -- where no line sets them
 abbrev pub no_settings : Settings
-no_settings = record { may_dist = false; rewrite_includes_only = false; cache_mode = false; version = None; bound = default_most; wants = None }
+no_settings = record { may_dist = false; rewrite_includes_only = false; cache_mode = false; version = None; limits = standard; wants = None }
 
 -- the parts that are wanted: all, where no line names one
 abbrev pub wanted : Settings → Wants
@@ -34,7 +35,8 @@ pub data Setting : Type 0 where
   RewriteIncludesOnly : Setting
   CacheMode : Setting
   Version : (text : List ℕ) → Setting
-  Bound : (words : ℕ) → Setting
+  Words : (words : ℕ) → Setting
+  Bytes : (bytes : ℕ) → Setting
   Wanted : (part : Part) → Setting
   -- how a key is told: a description says nothing of it
   Base : (dir : List ℕ) → Setting
@@ -45,7 +47,8 @@ with_setting s MayDist = record s { may_dist = true }
 with_setting s RewriteIncludesOnly = record s { rewrite_includes_only = true }
 with_setting s CacheMode = record s { cache_mode = true }
 with_setting s (Version text) = record s { version = Some text }
-with_setting s (Bound words) = record s { bound = words }
+with_setting s (Words words) = record s { limits = record { words = words; bytes = s.limits.bytes } }
+with_setting s (Bytes bytes) = record s { limits = record { words = s.limits.words; bytes = bytes } }
 with_setting s (Base dir) = s
 with_setting s KeepShown = s
 with_setting s (Wanted part) = record s { wants = Some (with_part (unwrap_or s.wants nothing_more) part) }
@@ -92,10 +95,11 @@ base_in field = option_and_then base_if (field_of field)
 -- the setting of this name and value
 abbrev pub setting_with : List ℕ → List ℕ → Option Setting
 setting_with name value =
-    if bytes_eq name (codes "bound") then option_map Bound (number_of value)
+    if bytes_eq name (codes "bound") then option_map Words (number_of value)
+    else (if bytes_eq name (codes "bytes") then option_map Bytes (number_of value)
     else (if bytes_eq name (codes "version") then option_map Version (field_text value)
     else (if bytes_eq name (codes "wants") then option_map Wanted (part_of value)
-    else (if bytes_eq name (codes "base") then option_map Base (base_in value) else None)))
+    else (if bytes_eq name (codes "base") then option_map Base (base_in value) else None))))
 
 abbrev pub setting_in : List ℕ → Option (List ℕ × List ℕ) → Option Setting
 setting_in text None = setting_alone text

@@ -8,14 +8,15 @@ use Rattle.scl_describe.specs.declared.settings.Setting as line
 use Rattle.scl_describe.specs.declared.settings.Setting.TheVariants as lines
 
 abbrev pub settings_by : code.Settings → Settings
-settings_by s = record { may_dist = s.may_dist; rewrite_includes_only = s.rewrite_includes_only; cache_mode = s.cache_mode; version = option_map string_bytes s.version; bound = s.bound; wants = s.wants }
+settings_by s = record { may_dist = s.may_dist; rewrite_includes_only = s.rewrite_includes_only; cache_mode = s.cache_mode; version = option_map string_bytes s.version; limits = s.limits; wants = s.wants }
 
 abbrev pub set_by : line.Setting → Setting
 set_by lines.MayDist = settings.MayDist
 set_by lines.RewriteIncludesOnly = settings.RewriteIncludesOnly
 set_by lines.CacheMode = settings.CacheMode
 set_by (lines.Version text) = settings.Version (string_bytes text)
-set_by (lines.Bound words) = settings.Bound words
+set_by (lines.Words words) = settings.Words words
+set_by (lines.Bytes bytes) = settings.Bytes bytes
 set_by (lines.Wanted part) = settings.Wanted part
 set_by (lines.Base dir) = settings.Base dir.items
 set_by lines.KeepShown = settings.KeepShown

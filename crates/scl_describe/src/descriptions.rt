@@ -102,7 +102,7 @@ fn request_description(
     ensures { IfOk result (λ text. text.items ≡ description (tables_of tables.now) (settings_by settings.now) (asked_by request.now)) }
 {
     let (compiler, line) = (request.compiler, request.line());
-    match compiler.read(alloc, &line, settings.bound)? {
+    match compiler.read(alloc, &line, settings.limits)? {
         Ok(reading) => {
             let known = known_of(tables, settings.version.as_deref());
             let text = reading_text(alloc, &known, compiler, settings, reading, &line)?;

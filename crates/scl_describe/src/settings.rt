@@ -7,7 +7,7 @@ ghost use Rattle.scl_describe.specs.SettingsRead.{settings_by, set_by};
 
 use crate::wants::{Part, Wants, part_of};
 use scl_description::{cut_at, next_line, read_field};
-use scl_reader::MOST;
+use scl_reader::Limits;
 use scl_text::{Mem, from_local_codepage};
 use std::alloc::Global;
 
@@ -18,7 +18,7 @@ pub(crate) struct Settings {
     pub rewrite_includes_only: bool,
     pub cache_mode: bool,
     pub version: Option<String>,
-    pub bound: usize,
+    pub limits: Limits,
     pub wants: Option<Wants>,
 }
 
@@ -29,7 +29,8 @@ enum Setting {
     RewriteIncludesOnly,
     CacheMode,
     Version(String),
-    Bound(usize),
+    Words(usize),
+    Bytes(usize),
     Wanted(Part),
     /// A base directory. What tells keys reads this line itself, and the next one.
     Base(Vec<u8>),
@@ -47,7 +48,7 @@ impl Settings {
             rewrite_includes_only: false,
             cache_mode: false,
             version: None,
-            bound: MOST,
+            limits: Limits::standard(),
             wants: None,
         }
     }
@@ -68,7 +69,8 @@ impl Settings {
             Setting::RewriteIncludesOnly => self.rewrite_includes_only = true,
             Setting::CacheMode => self.cache_mode = true,
             Setting::Version(text) => self.version = Some(text),
-            Setting::Bound(words) => self.bound = words,
+            Setting::Words(words) => self.limits.words = words,
+            Setting::Bytes(bytes) => self.limits.bytes = bytes,
             Setting::Base(_) | Setting::KeepShown => {}
             Setting::Wanted(part) => {
                 self.wants = Some(self.wants.unwrap_or(Wants::nothing_more()).with(part));
@@ -162,7 +164,9 @@ fn setting_with(alloc: Global, name: &[u8], value: &[u8]) -> Mem<Option<Setting>
     ensures { IfOk result (λ setting. option_map set_by setting ≡ setting_with name.now value.now) }
 {
     if name == b"bound".as_slice() {
-        Ok(number_of(value).map(Setting::Bound))
+        Ok(number_of(value).map(Setting::Words))
+    } else if name == b"bytes".as_slice() {
+        Ok(number_of(value).map(Setting::Bytes))
     } else if name == b"version".as_slice() {
         Ok(field_text(alloc, value)?.map(Setting::Version))
     } else if name == b"wants".as_slice() {

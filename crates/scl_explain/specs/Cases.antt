@@ -4,7 +4,7 @@ use Rattle.scl_values.specs.Words.{words_of}
 use Rattle.scl_text.specs.Commands.{pairs_of}
 use Rattle.scl_names.specs.Launchers.{assignment_at, program_behind}
 use Rattle.scl_names.specs.Names.{compiler_of}
-use Rattle.scl_reader.specs.Within.{default_most}
+use Rattle.scl_files.specs.Within.{standard}
 use Rattle.scl_reader.specs.declared.compiler.Compiler.{Compiler}
 use Rattle.scl_explain.specs.declared.case.Case.{Case}
 use Rattle.scl_explain.specs.declared.case.CaseError.{CaseError}
@@ -48,7 +48,7 @@ pub record IsCase (launchers all : List (List ℕ)) (named : Option Compiler) (c
   pub directory : case.cwd.items ≡ cwd
   pub variables : pairs_of case.env_vars.items ≡ assigned (take at all) ++ env_vars
   pub may_dist : case.may_dist ≡ false
-  pub bound : case.bound ≡ default_most
+  pub limits : case.limits ≡ standard
   pub base_dirs : case.base_dirs.items ≡ []
   pub keeps_shown : case.keeps_shown ≡ false
 

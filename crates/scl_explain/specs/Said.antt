@@ -51,7 +51,7 @@ pub record IsSaid (known : Known) (holds : Viewed → Type 0) (multiarch : Bool)
 -- what is loaded for a command line: it may have as many words, with its response files in place, and open files as often as its
 -- limit says, and fewer than 2^12 files may name each the next
 abbrev pub load_for : Case → Bool → Load
-load_for case multiarch = record { asks = request_of case; is_multiarch = multiarch; most_words = case.bound; most_rounds = 4096 }
+load_for case multiarch = record { asks = request_of case; is_multiarch = multiarch; most = case.limits; most_rounds = 4096 }
 
 -- a load for a command line ends by this error, on each disk of which this holds
 abbrev pub IsNotLoaded : {E : Type 0} → (Viewed → Type 0) → Bool → Case → LoadError E → Type 0

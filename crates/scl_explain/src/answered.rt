@@ -172,7 +172,7 @@ fn load_case<D: Disk>(
         environment: &case.env_vars,
         multiarch,
     };
-    match load(alloc, disk, &line, case.bound, MOST_ROUNDS)? {
+    match load(alloc, disk, &line, case.limits, MOST_ROUNDS)? {
         Ok(loaded) => Ok(Ok(loaded)),
         Err(error) => Ok(Err(error)),
     }

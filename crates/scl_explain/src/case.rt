@@ -5,7 +5,7 @@ ghost use Rattle.scl_text.specs.Commands.{pairs_of};
 ghost use Rattle.scl_explain.specs.Cases.{IsCase, IsDivided, IsNoCase, assigned, assigned_by, compiler_for};
 
 use scl_names::{assignment_at, compiler_of, program_behind};
-use scl_reader::{Compiler, MOST, Mem};
+use scl_reader::{Compiler, Limits, Mem};
 use scl_shell::{beginning, shown_command};
 use std::alloc::Global;
 use thiserror::Error;
@@ -25,8 +25,8 @@ pub struct Case {
     pub env_vars: Vec<(Vec<u8>, Vec<u8>)>,
     /// Whether the runs of the preprocessor are for a distant compiler.
     pub may_dist: bool,
-    /// The most words that it may have, and the most files that it may open.
-    pub bound: usize,
+    /// How much it may have, once its response files are put in place.
+    pub limits: Limits,
     /// The base directories by which its key is told.
     pub base_dirs: Vec<Vec<u8>>,
     /// Whether macros of the command stay where they are in its key.
@@ -154,7 +154,7 @@ impl Case {
             cwd,
             env_vars,
             may_dist: false,
-            bound: MOST,
+            limits: Limits::standard(),
             base_dirs: Vec::new(alloc),
             keeps_shown: false,
         }))

@@ -1,14 +1,15 @@
 -- What is known of words before they are cut: of a walk over them, and of words that are not expanded.
 use Rattle.std.proofs.Common.{◌≡◌, ℕ, suc, ◌+◌, ◌<◌, ◌≤◌, ◌&&◌, ◌||◌, Bool, true, false, List, [], ◌∷◌, ◌++◌, length, drop, get_or, replicate, Option, None, Some, Vec, ◌⊎◌, inl, inr, is_some, refl, sym, ap, subst, ◌∙◌, add-one, append_assoc, drop-cons, length-append, length-drop, ◌-◌, arith}
-use Rattle.std.proofs.lemmas.Bool.{leb-true, le-leb}
+use Rattle.std.proofs.lemmas.Bool.{and_from}
 use Rattle.std.proofs.lemmas.List.{append-nil, length-map, nil_from_length}
 use Rattle.std.specs.List.{flat_map, list_any}
-use Rattle.std.specs.Prelude.{Result, Ok, Err, nat_le}
+use Rattle.scl_files.specs.Within.{is_within}
+use Rattle.std.specs.Prelude.{Result, Ok, Err}
 use Rattle.std.specs.declared.alloc.Global.{Global}
 use Rattle.scl_values.specs.Words.{words_of}
 use Rattle.scl_files.specs.Expand.{expand}
 use Rattle.scl_files.specs.Expanded.{ExpandedWords, IsExpanded, Stands, expanded_by}
-use Rattle.scl_files.specs.Openings.{is_expanded_within, openings, texts_once}
+use Rattle.scl_files.specs.Openings.{are_opened_within, is_expanded_within, openings, texts_once}
 use Rattle.scl_files.specs.ResponseFiles.{file_name_in, named}
 use Rattle.scl_files.specs.Sources.{ats_expanded, first_at}
 use Rattle.scl_files.specs.Views.{File}
@@ -16,45 +17,15 @@ use Rattle.scl_files.specs.Walks.{AreTooMany, IsWithin, WalksOn}
 use Rattle.scl_files.specs.Wanted.{lacked, lacked_by, wanted}
 use Rattle.scl_files.specs.declared.expand.ExpansionKind.{ExpansionKind}
 use Rattle.scl_files.specs.declared.expand.ExpansionKind.TheVariants as kinds
+use Rattle.scl_files.specs.declared.expand.Limits.{Limits}
 use Rattle.scl_files.specs.declared.expand.TooManyWords.{TooManyWords}
 use Rattle.scl_files.specs.declared.line.Expanded.{Expanded}
 use Rattle.scl_files.specs.declared.line.Walked.{Walked}
 use Rattle.scl_files.proofs.ExpandLaws.{neither, plain_words, unnamed}
 use Rattle.scl_files.proofs.ExpandLemmas.{expand-cons, expand-nil}
+use Rattle.scl_files.proofs.LimitLemmas.{both_fit, both_within, not_within, too_many_more}
 use Rattle.scl_files.proofs.OpenLemmas.{opened-no_name}
 use Rattle.scl_files.proofs.OpeningLemmas.{openings-cons, openings-nil}
-
--- ---- the limit
-
-fits : (most n : ℕ) → n ≤ most → nat_le n most ≡ true
-fits most n h = le-leb n most h
-
-exceeds : (most n : ℕ) → most < n → nat_le n most ≡ false
-exceeds most n h = elim (nat_le n most) as (λ b. nat_le n most ≡ b → b ≡ false) [
-  | true ↦ λ e. let within : n ≤ most = leb-true n most e in absurd (omega arith)
-  | false ↦ λ _. refl
-] refl
-
-no_and : (b : Bool) → (b && false) ≡ false
-no_and true = refl
-no_and false = refl
-
-pub within_both : (most : ℕ) (words paths : List (List ℕ)) → length words ≤ most → length paths ≤ most → (nat_le (length words) most && nat_le (length paths) most) ≡ true
-within_both most words paths h k = rw (fits most (length words) h, fits most (length paths) k) refl
-
-pub not_within : (most : ℕ) (words paths : List (List ℕ)) → AreTooMany most words paths → (nat_le (length words) most && nat_le (length paths) most) ≡ false
-not_within most words paths (inl h) = rw (exceeds most (length words) h) refl
-not_within most words paths (inr h) = rw (exceeds most (length paths) h) (no_and (nat_le (length words) most))
-
-longer : (most : ℕ) (xs ys all : List (List ℕ)) → xs ++ ys ≡ all → most < length xs → most < length all
-longer most xs ys all e h =
-    let both : length (xs ++ ys) ≡ length xs + length ys = length-append xs ys in
-    let same : length (xs ++ ys) ≡ length all = ap length e in
-    omega arith
-
-pub too_many_more : (most : ℕ) (xs ys all ps qs paths : List (List ℕ)) → xs ++ ys ≡ all → ps ++ qs ≡ paths → AreTooMany most xs ps → AreTooMany most all paths
-too_many_more most xs ys all ps qs paths e o (inl h) = inl (longer most xs ys all e h)
-too_many_more most xs ys all ps qs paths e o (inr h) = inr (longer most ps qs paths o h)
 
 -- ---- words one by one
 
@@ -78,16 +49,16 @@ module _ (kind : ExpansionKind) (directory : List ℕ) (files : List File) where
       rw (openings-cons kind directory files word words, openings-cons kind directory files word [], openings-nil kind directory files) (simp append-nil refl)
 
   -- the walk has come to the end of these words; these are left, with their indices
-  pub record IsWalking (most : ℕ) (words left : List (List ℕ)) (ats ats_left : List (Option ℕ)) (old new : Walked) : Type 0 where
+  pub record IsWalking (most : Limits) (words left : List (List ℕ)) (ats ats_left : List (Option ℕ)) (old new : Walked) : Type 0 where
     pub words_are : words_of new.words.items ++ expand kind directory files left ≡ words_of old.words.items ++ expand kind directory files words
     pub openings_are : words_of new.openings.items ++ openings kind directory files left ≡ words_of old.openings.items ++ openings kind directory files words
     pub ats_are : new.ats.items ++ ats_expanded kind directory files left ats_left ≡ old.ats.items ++ ats_expanded kind directory files words ats
-    pub within : IsWithin most new
+    pub within : IsWithin most files new
 
-  pub walk_begins : (most : ℕ) (words : List (List ℕ)) (ats : List (Option ℕ)) (w : Walked) → IsWithin most w → IsWalking most words words ats ats w w
+  pub walk_begins : (most : Limits) (words : List (List ℕ)) (ats : List (Option ℕ)) (w : Walked) → IsWithin most files w → IsWalking most words words ats ats w w
   walk_begins most words ats w h = record { words_are = refl; openings_are = refl; ats_are = refl; within = h }
 
-  module _ (most : ℕ) (words : List (List ℕ)) (word : List ℕ) (rest : List (List ℕ)) (ats left next : List (Option ℕ)) (old before : Walked) (walking : IsWalking most words (word ∷ rest) ats left old before) where
+  module _ (most : Limits) (words : List (List ℕ)) (word : List ℕ) (rest : List (List ℕ)) (ats left next : List (Option ℕ)) (old before : Walked) (walking : IsWalking most words (word ∷ rest) ats left old before) where
     words_come : (words_of before.words.items ++ expand kind directory files (word ∷ [])) ++ expand kind directory files rest ≡ words_of old.words.items ++ expand kind directory files words
     words_come =
         append_assoc (words_of before.words.items) (expand kind directory files (word ∷ [])) (expand kind directory files rest)
@@ -114,13 +85,13 @@ module _ (kind : ExpansionKind) (directory : List ℕ) (files : List File) where
           within = on.3;
         }
 
-    pub walk_stops : AreTooMany most (words_of before.words.items ++ expand kind directory files (word ∷ [])) (words_of before.openings.items ++ openings kind directory files (word ∷ []))
-        → AreTooMany most (words_of old.words.items ++ expand kind directory files words) (words_of old.openings.items ++ openings kind directory files words)
+    pub walk_stops : AreTooMany most files (words_of before.words.items ++ expand kind directory files (word ∷ [])) (words_of before.openings.items ++ openings kind directory files (word ∷ []))
+        → AreTooMany most files (words_of old.words.items ++ expand kind directory files words) (words_of old.openings.items ++ openings kind directory files words)
     walk_stops many =
-        too_many_more most (words_of before.words.items ++ expand kind directory files (word ∷ [])) (expand kind directory files rest) _
+        too_many_more most files (words_of before.words.items ++ expand kind directory files (word ∷ [])) (expand kind directory files rest) _
         (words_of before.openings.items ++ openings kind directory files (word ∷ [])) (openings kind directory files rest) _ words_come openings_come many
 
-  pub walk_ends : (most : ℕ) (words : List (List ℕ)) (ats left : List (Option ℕ)) (old new : Walked) → IsWalking most words [] ats left old new
+  pub walk_ends : (most : Limits) (words : List (List ℕ)) (ats left : List (Option ℕ)) (old new : Walked) → IsWalking most words [] ats left old new
       → WalksOn most kind directory files words (old.ats.items ++ ats_expanded kind directory files words ats) old (Ok tt) new
   walk_ends most words ats left old new walking = (
     sym (append-nil (words_of new.words.items)) ∙ ap (λ ws. words_of new.words.items ++ ws) (sym (expand-nil kind directory files)) ∙ walking.words_are,
@@ -165,14 +136,14 @@ plain_texts : (kind : ExpansionKind) (directory : List ℕ) (files : List File) 
 unfolding texts_once
 plain_texts kind directory files words h = rw (plain_openings kind directory files words h) refl
 
-module _ (most : ℕ) (kind : ExpansionKind) (directory : List ℕ) (files : List File) (words : List (List ℕ)) (ats : List (Option ℕ)) where
+module _ (most : Limits) (kind : ExpansionKind) (directory : List ℕ) (files : List File) (words : List (List ℕ)) (ats : List (Option ℕ)) where
   record_is : (ws ts ls : List (List ℕ)) (own : List (Option ℕ)) → ws ≡ expand kind directory files words → own ≡ ats_expanded kind directory files words ats → ts ≡ texts_once kind directory files words → ls ≡ wanted kind directory files words
       → record { words = ws; ats = own; texts = ts; lacked = ls } ≡ expanded_by kind directory files words ats
   record_is ws ts ls own e a t l = rw (e, a, t, l) refl
 
   pub plain_expanded : (said : Result Expanded TooManyWords) → list_any (λ word. is_some (file_name_in kind word)) words ≡ false → length ats ≡ length words → Stands most words ats said → IsExpanded most kind directory files words ats said
   plain_expanded (Ok e) h k stands = (
-    rw (plain_words kind directory files words h, plain_openings kind directory files words h) (within_both most words [] (leb-true (length words) most stands.0) (omega arith)),
+    rw (plain_words kind directory files words h, plain_openings kind directory files words h) (and_from (is_within most words) (are_opened_within most files []) stands.0 (both_fit most.words most.bytes 0 0 (omega arith) (omega arith))),
     stands.1 ∙ record_is words [] [] ats (sym (plain_words kind directory files words h)) (sym (plain_ats kind directory files words ats h k)) (sym (plain_texts kind directory files words h)) (sym (plain_wanted kind directory files words h)),
   )
   plain_expanded (Err e) h k stands = rw (plain_words kind directory files words h, plain_openings kind directory files words h) (rw stands refl)
@@ -185,20 +156,16 @@ module _ (most : ℕ) (kind : ExpansionKind) (directory : List ℕ) (files : Lis
   named_expanded old new texts lacking ew eo ea on t l =
       let words_are : words_of new.words.items ≡ expand kind directory files words = on.0 ∙ ap (λ (ws : List (Vec ℕ Global)). words_of ws ++ expand kind directory files words) ew in
       let openings_are : words_of new.openings.items ≡ openings kind directory files words = on.1 ∙ ap (λ (ws : List (Vec ℕ Global)). words_of ws ++ openings kind directory files words) eo in
-      let ats_are : new.ats.items ≡ ats_expanded kind directory files words ats = on.2 ∙ ap (λ (own : List (Option ℕ)). own ++ ats_expanded kind directory files words ats) ea in
-      let word_count : length (words_of new.words.items) ≡ length new.words.items = length-map new.words.items (λ word. word.items) in
-      let opening_count : length (words_of new.openings.items) ≡ length new.openings.items = length-map new.openings.items (λ word. word.items) in
-      let few_words : length new.words.items ≤ most = on.3.0 in
-      let few_openings : length new.openings.items ≤ most = on.3.1 in (
-        rw (← words_are, ← openings_are) (within_both most (words_of new.words.items) (words_of new.openings.items) (omega arith) (omega arith)),
+      let ats_are : new.ats.items ≡ ats_expanded kind directory files words ats = on.2 ∙ ap (λ (own : List (Option ℕ)). own ++ ats_expanded kind directory files words ats) ea in (
+        rw (← words_are, ← openings_are) (both_within most files new on.3),
         record_is (words_of new.words.items) texts lacking new.ats.items words_are ats_are t l,
       )
 
   pub named_too_many : (old : Walked) → old.words.items ≡ [] → old.openings.items ≡ []
-      → AreTooMany most (words_of old.words.items ++ expand kind directory files words) (words_of old.openings.items ++ openings kind directory files words) → is_expanded_within most kind directory files words ≡ false
+      → AreTooMany most files (words_of old.words.items ++ expand kind directory files words) (words_of old.openings.items ++ openings kind directory files words) → is_expanded_within most kind directory files words ≡ false
   named_too_many old ew eo many =
-      not_within most (expand kind directory files words) (openings kind directory files words)
-      (too_many_more most (words_of old.words.items ++ expand kind directory files words) [] (expand kind directory files words) (words_of old.openings.items ++ openings kind directory files words) [] (openings kind directory files words)
+      not_within most files (expand kind directory files words) (openings kind directory files words)
+      (too_many_more most files (words_of old.words.items ++ expand kind directory files words) [] (expand kind directory files words) (words_of old.openings.items ++ openings kind directory files words) [] (openings kind directory files words)
       (append-nil (words_of old.words.items ++ expand kind directory files words) ∙ ap (λ (ws : List (Vec ℕ Global)). words_of ws ++ expand kind directory files words) ew)
       (append-nil (words_of old.openings.items ++ openings kind directory files words) ∙ ap (λ (ws : List (Vec ℕ Global)). words_of ws ++ openings kind directory files words) eo)
       many)

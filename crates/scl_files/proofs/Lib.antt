@@ -9,6 +9,7 @@ pub mod ExtensionLaws
 pub mod FilesLemmas
 pub mod GnuLaws
 pub mod GnuLemmas
+pub mod LimitLemmas
 pub mod MsvcLaws
 pub mod MsvcLemmas
 pub mod OnceLemmas

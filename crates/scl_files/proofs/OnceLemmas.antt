@@ -39,7 +39,7 @@ once-more (p ∷ ps) path =
     ∙ filter-append (λ other. not (same_path p other)) (each_once ps) (if_new (is_among path ps) path)
     ∙ ap (λ l. filter (λ other. not (same_path p other)) (each_once ps) ++ l) (new-filtered (λ other. not (same_path p other)) (same_path p path) (is_among path ps) path refl))
 
-texts-append : (files : List File) (xs ys : List (List ℕ)) → texts_at files (xs ++ ys) ≡ texts_at files xs ++ texts_at files ys
+pub texts-append : (files : List File) (xs ys : List (List ℕ)) → texts_at files (xs ++ ys) ≡ texts_at files xs ++ texts_at files ys
 texts-append files [] ys = refl
 texts-append files (x ∷ xs) ys =
     ap (λ l. option_to_list (bytes_at x files) ++ l) (texts-append files xs ys)

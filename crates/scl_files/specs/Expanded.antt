@@ -8,6 +8,7 @@ use Rattle.scl_files.specs.Views.{File}
 use Rattle.scl_files.specs.Wanted.{wanted}
 use Rattle.scl_files.specs.Within.{is_within}
 use Rattle.scl_files.specs.declared.expand.ExpansionKind.{ExpansionKind}
+use Rattle.scl_files.specs.declared.expand.Limits.{Limits}
 use Rattle.scl_files.specs.declared.expand.TooManyWords.{TooManyWords}
 use Rattle.scl_files.specs.declared.line.Expanded.{Expanded}
 
@@ -35,13 +36,13 @@ standing words ats = record { words = words; ats = ats; texts = []; lacked = [] 
 abbrev pub expanded_of : Expanded → ExpandedWords
 expanded_of e = record { words = words_of e.words.items; ats = e.ats.items; texts = words_of e.texts.items; lacked = words_of e.lacked.items }
 
--- the result is exactly this if the words and the openings are at most `most`; else it is `TooManyWords`
-abbrev pub IsExpanded : ℕ → ExpansionKind → List ℕ → List File → List (List ℕ) → List (Option ℕ) → Result Expanded TooManyWords → Type 0
+-- the result is exactly this if the words and the openings are within the limits; else it is `TooManyWords`
+abbrev pub IsExpanded : Limits → ExpansionKind → List ℕ → List File → List (List ℕ) → List (Option ℕ) → Result Expanded TooManyWords → Type 0
 IsExpanded most kind directory files words ats said =
     MatchResult said (λ e. (is_expanded_within most kind directory files words ≡ true) × (expanded_of e ≡ expanded_by kind directory files words ats))
     (λ _. is_expanded_within most kind directory files words ≡ false)
 
 -- the same for words that are not expanded
-abbrev pub Stands : ℕ → List (List ℕ) → List (Option ℕ) → Result Expanded TooManyWords → Type 0
+abbrev pub Stands : Limits → List (List ℕ) → List (Option ℕ) → Result Expanded TooManyWords → Type 0
 Stands most words ats said =
     MatchResult said (λ e. (is_within most words ≡ true) × (expanded_of e ≡ standing words ats)) (λ _. is_within most words ≡ false)

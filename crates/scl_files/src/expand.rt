@@ -76,6 +76,29 @@ pub fn expand_words(
     Ok(words)
 }
 
-/// An expansion exceeds its limit of words, or of opened files.
+/// How much a command line may have, once its response files are put in place.
+#[derive(Debug, Clone, Copy, PartialEq, Eq)]
+pub struct Limits {
+    /// How many words it may have, and how often it may open files.
+    pub words: usize,
+    /// How many bytes its words may have together, and those of the files' texts, each as often as it is opened.
+    pub bytes: usize,
+}
+
+impl Limits {
+    ghost use Rattle.scl_files.specs.Within.{standard};
+
+    /// The limits where nothing else is said: a million words and openings of files, and 64 MB.
+    pub fn standard() -> Limits
+        ensures { result ≡ standard }
+    {
+        Limits {
+            words: 1_000_000,
+            bytes: 1 << 26,
+        }
+    }
+}
+
+/// An expansion exceeds its limits: of words, of opened files, or of the bytes of either.
 #[derive(Debug, Clone, Copy, PartialEq, Eq)]
 pub struct TooManyWords;

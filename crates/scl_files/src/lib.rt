@@ -21,7 +21,8 @@ mod wanted;
 pub use decode::{from_local_codepage, read_text};
 pub use diab_text::split_diab;
 pub use expand::{
-    ExpandAtArgs, ExpansionKind, GnuExpand, MsvcExpand, TooManyWords, expand_all, expand_words,
+    ExpandAtArgs, ExpansionKind, GnuExpand, Limits, MsvcExpand, TooManyWords, expand_all,
+    expand_words,
 };
 pub use gnu_text::split_gnu_response_file_args;
 pub use line::{Expanded, expand_line, standing_line};

@@ -1,12 +1,15 @@
 //! A command line with response files expanded, and all that is known of it before it is cut.
+ghost use Rattle.std.specs.Option.{option_to_list};
 ghost use Rattle.std.specs.Prelude.{◌≡◌, [], ◌∷◌, ◌++◌, IfOk, length, replicate};
 ghost use Rattle.scl_values.specs.Words.{words_of};
 ghost use Rattle.scl_files.specs.Expand.{expand};
 ghost use Rattle.scl_files.specs.Expanded.{IsExpanded, Stands};
 ghost use Rattle.scl_files.specs.Sources.{ats_expanded};
+ghost use Rattle.scl_files.specs.Views.{bytes_at};
 ghost use Rattle.scl_files.specs.Walks.{IsWithin, WalksOn};
+ghost use Rattle.scl_files.specs.Within.{bytes_in, is_within};
 
-use crate::expand::{ExpansionKind, TooManyWords, name_files};
+use crate::expand::{ExpansionKind, Limits, TooManyWords, name_files};
 use crate::expansion::{Expansion, Step};
 use crate::sourced::{Sourced, behind, first_at, push_at};
 use crate::texts::texts_once;
@@ -28,39 +31,106 @@ pub struct Expanded {
     pub lacked: Vec<Vec<u8>>,
 }
 
-/// The words so far, the index of the given word from which each came, and the paths of the files that were opened.
+/// The words so far, the index of the given word from which each came, the paths of the files that were opened, and the bytes
+/// of the words and of the files' texts.
 #[derive(Drop)]
 struct Walked {
     words: Vec<Vec<u8>>,
     ats: Vec<Option<usize>>,
     openings: Vec<Vec<u8>>,
+    word_bytes: usize,
+    text_bytes: usize,
 }
 
 impl Walked {
+    ghost use Rattle.std.specs.Prelude.{OnOk, OnErr, false};
+    ghost use Rattle.scl_files.specs.Openings.{are_opened_within};
+    ghost use Rattle.scl_files.specs.Walks.{HasFewOpenings, HasFewWords, HasRestOf, HasWordsOf};
+
     fn new(alloc: Global) -> Walked
         ensures words { result.words.items ≡ [] }
         ensures ats { result.ats.items ≡ [] }
         ensures openings { result.openings.items ≡ [] }
+        ensures word_bytes { result.word_bytes ≡ 0 }
+        ensures text_bytes { result.text_bytes ≡ 0 }
     {
         Walked {
             words: Vec::new(alloc),
             ats: Vec::new(alloc),
             openings: Vec::new(alloc),
+            word_bytes: 0,
+            text_bytes: 0,
         }
+    }
+
+    /// Appends a word, unless that exceeds the limits.
+    #[tactic(auto, using(crate::proofs::LimitLemmas::word_more, crate::proofs::LimitLemmas::count_over, crate::proofs::LimitLemmas::bytes_over))]
+    fn push_word(&mut self, word: Vec<u8>, most: Limits) -> Mem<Result<(), TooManyWords>>
+        requires { HasFewWords most self.old }
+        ensures words { IfOk result (λ said. OnOk said (words_of self.new.words.items ≡ words_of self.old.words.items ++ word.items ∷ [])) }
+        ensures within { IfOk result (λ said. OnOk said (HasFewWords most self.new)) }
+        ensures rest { IfOk result (λ said. OnOk said (HasRestOf self.old self.new)) }
+        ensures too_many { IfOk result (λ said. OnErr said (is_within most (words_of self.old.words.items ++ word.items ∷ []) ≡ false)) }
+    {
+        if self.words.len() == most.words {
+            return Ok(Err(TooManyWords));
+        }
+        if word.len() > most.bytes - self.word_bytes {
+            return Ok(Err(TooManyWords));
+        }
+        self.word_bytes += word.len();
+        self.words.push(word)?;
+        Ok(Ok(()))
+    }
+
+    /// Appends the path of a file that was opened, unless that exceeds the limits.
+    #[tactic(auto, using(crate::proofs::LimitLemmas::opening_more, crate::proofs::LimitLemmas::opening_count_over, crate::proofs::LimitLemmas::opening_bytes_over))]
+    fn push_opening(
+        &mut self,
+        path: Vec<u8>,
+        view: &View,
+        most: Limits,
+    ) -> Mem<Result<(), TooManyWords>>
+        requires { HasFewOpenings most view.now.files self.old }
+        ensures openings { IfOk result (λ said. OnOk said (words_of self.new.openings.items ≡ words_of self.old.openings.items ++ path.items ∷ [])) }
+        ensures within { IfOk result (λ said. OnOk said (HasFewOpenings most view.now.files self.new)) }
+        ensures rest { IfOk result (λ said. OnOk said (HasWordsOf self.old self.new)) }
+        ensures too_many { IfOk result (λ said. OnErr said (are_opened_within most view.now.files (words_of self.old.openings.items ++ path.items ∷ []) ≡ false)) }
+    {
+        if self.openings.len() == most.words {
+            return Ok(Err(TooManyWords));
+        }
+        let bytes = text_bytes(view, &path);
+        if bytes > most.bytes - self.text_bytes {
+            return Ok(Err(TooManyWords));
+        }
+        self.text_bytes += bytes;
+        self.openings.push(path)?;
+        Ok(Ok(()))
     }
 }
 
-/// Appends what a word expands to, unless that exceeds the limit.
+/// How many bytes the file at the path has; 0 if there is none.
+fn text_bytes(view: &View, path: &[u8]) -> usize
+    ensures { result ≡ bytes_in (option_to_list (bytes_at path.now view.now.files)) }
+{
+    match view.file(path) {
+        Some(text) => text.len(),
+        None => 0,
+    }
+}
+
+/// Appends what a word expands to, unless that exceeds the limits.
 fn walk_word(
     alloc: Global,
     kind: ExpansionKind,
     cwd: &[u8],
     word: &[u8],
     view: &View,
-    most: usize,
+    most: Limits,
     all: &mut Walked,
 ) -> Mem<Result<(), TooManyWords>>
-    requires { IsWithin most all.old }
+    requires { IsWithin most view.now.files all.old }
     ensures { IfOk result (λ said. WalksOn most kind cwd.now view.now.files (word.now ∷ []) all.old.ats.items all.old said all.new) }
 {
     let alone = vec![in alloc; Vec::from_slice(alloc, word)?]?;
@@ -68,16 +138,14 @@ fn walk_word(
     loop {
         match expansion.step()? {
             Step::Word(word) => {
-                if all.words.len() == most {
-                    return Ok(Err(TooManyWords));
+                if let Err(too_many) = all.push_word(word, most)? {
+                    return Ok(Err(too_many));
                 }
-                all.words.push(word)?;
             }
             Step::Opened(path) => {
-                if all.openings.len() == most {
-                    return Ok(Err(TooManyWords));
+                if let Err(too_many) = all.push_opening(path, view, most)? {
+                    return Ok(Err(too_many));
                 }
-                all.openings.push(path)?;
             }
             Step::Closed => {}
             Step::End => return Ok(Ok(())),
@@ -93,10 +161,10 @@ fn walk_given(
     word: &[u8],
     at: Option<usize>,
     view: &View,
-    most: usize,
+    most: Limits,
     all: &mut Walked,
 ) -> Mem<Result<(), TooManyWords>>
-    requires { IsWithin most all.old }
+    requires { IsWithin most view.now.files all.old }
     ensures { IfOk result (λ said. WalksOn most kind cwd.now view.now.files (word.now ∷ [])
         (all.old.ats.items ++ replicate (length (expand kind cwd.now view.now.files (word.now ∷ []))) at) all.old said all.new) }
 {
@@ -116,10 +184,10 @@ fn walk(
     cwd: &[u8],
     given: &Sourced,
     view: &View,
-    most: usize,
+    most: Limits,
     all: &mut Walked,
 ) -> Mem<Result<(), TooManyWords>>
-    requires { IsWithin most all.old }
+    requires { IsWithin most view.now.files all.old }
     ensures { IfOk result (λ said. WalksOn most kind cwd.now view.now.files (words_of given.now.words.items)
         (all.old.ats.items ++ ats_expanded kind cwd.now view.now.files (words_of given.now.words.items) given.now.ats.items) all.old said all.new) }
 {
@@ -141,7 +209,7 @@ fn expand_named(
     cwd: &[u8],
     given: &Sourced,
     view: &View,
-    most: usize,
+    most: Limits,
 ) -> Mem<Result<Expanded, TooManyWords>>
     ensures { IfOk result (λ said. IsExpanded most kind cwd.now view.now.files (words_of given.now.words.items) given.now.ats.items said) }
 {
@@ -160,12 +228,29 @@ fn expand_named(
     }))
 }
 
-/// The given words unchanged, if they are at most `most`; else `TooManyWords`.
-#[tactic(auto, using(crate::proofs::SourceLaws::words_count))]
-pub fn standing_line(alloc: Global, given: Sourced, most: usize) -> Result<Expanded, TooManyWords>
+/// Whether the words are within the limits.
+fn are_within(words: &[Vec<u8>], most: Limits) -> bool
+    ensures { result ≡ is_within most (words_of words.now) }
+{
+    if words.len() > most.words {
+        return false;
+    }
+    let mut left = most.bytes;
+    for word in words {
+        let bytes = word.as_slice().len();
+        if bytes > left {
+            return false;
+        }
+        left -= bytes;
+    }
+    true
+}
+
+/// The given words unchanged, if they are within the limits; else `TooManyWords`.
+pub fn standing_line(alloc: Global, given: Sourced, most: Limits) -> Result<Expanded, TooManyWords>
     ensures { Stands most (words_of given.words.items) given.ats.items result }
 {
-    if given.words.len() > most {
+    if !are_within(&given.words, most) {
         return Err(TooManyWords);
     }
     Ok(Expanded {
@@ -177,15 +262,15 @@ pub fn standing_line(alloc: Global, given: Sourced, most: usize) -> Result<Expan
 }
 
 /// The given words with response files expanded, and all that is known of them before they are cut (docs/RULES.md,
-/// Expansion). If there are more than `most` words, or more than `most` openings of files, the result is `TooManyWords`, as
-/// soon as the limit is exceeded. A text is held once, however often it is opened.
+/// Expansion). If the words or the openings of files exceed the limits, the result is `TooManyWords`, as soon as they do. A
+/// text is held once, however often it is opened.
 pub fn expand_line(
     alloc: Global,
     kind: ExpansionKind,
     cwd: &[u8],
     given: Sourced,
     view: &View,
-    most: usize,
+    most: Limits,
 ) -> Mem<Result<Expanded, TooManyWords>>
     ensures { IfOk result (λ said. IsExpanded most kind cwd.now view.now.files (words_of given.words.items) given.ats.items said) }
 {

@@ -8,6 +8,7 @@ use Rattle.scl_files.specs.Openings.{is_expanded_within}
 use Rattle.scl_files.specs.Sources.{ats_expanded}
 use Rattle.scl_files.specs.Views.{Viewed}
 use Rattle.scl_files.specs.declared.expand.ExpansionKind.TheVariants as expansions
+use Rattle.scl_files.specs.declared.expand.Limits.{Limits}
 use Rattle.scl_gnu_reading.specs.ClangRows.{clang_tables}
 use Rattle.scl_gnu_reading.specs.Inners.{inner_verdict}
 use Rattle.scl_gnu_reading.specs.Readings.{read, reading, recorded}
@@ -52,7 +53,7 @@ pub read_is : (compiler : CCompilerKind) (plusplus : Bool) (tables : List (List 
 read_is compiler plusplus tables directory view e outer inner handed ats said eo eh ea ei es = rw (es, ei, ea, eh, eo) refl
 
 -- the same if the inner line is within the limit, and if it is not
-module _ (most : ℕ) (compiler : CCompilerKind) (plusplus : Bool) (tables : List (List (Row Kind))) (directory : List ℕ) (view : Viewed) (e : ExpandedWords) (outer : LineRead Kind) (handed : List (List ℕ))
+module _ (most : Limits) (compiler : CCompilerKind) (plusplus : Bool) (tables : List (List (Row Kind))) (directory : List ℕ) (view : Viewed) (e : ExpandedWords) (outer : LineRead Kind) (handed : List (List ℕ))
     (is_outer : outer ≡ outer_read compiler tables view e) (are_handed : handed ≡ handed_words outer.line) where
   inner_within_is : (within : Bool) → is_expanded_within most expansions.Gnu directory view.files handed ≡ within → is_inner_within most compiler tables directory view e ≡ within
   inner_within_is within h =

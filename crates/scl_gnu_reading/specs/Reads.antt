@@ -6,6 +6,7 @@ use Rattle.scl_files.specs.Openings.{is_expanded_within}
 use Rattle.scl_files.specs.Views.{Viewed}
 use Rattle.scl_files.specs.declared.expand.ExpansionKind.TheVariants as expansions
 use Rattle.scl_files.specs.declared.expand.TooManyWords.{TooManyWords}
+use Rattle.scl_files.specs.declared.expand.Limits.{Limits}
 use Rattle.scl_gnu_reading.specs.ClangRows.{clang_tables}
 use Rattle.scl_gnu_reading.specs.Inners.{inner_verdict}
 use Rattle.scl_gnu_reading.specs.Kinds.{of}
@@ -46,8 +47,8 @@ handed_ats outer = ats_passing (of (kind.XClang ∷ [])) outer.options outer.ats
 abbrev pub inner_read : (List (Seen Kind) → Seen Kind → Option Verdict) → List ℕ → Viewed → List (List ℕ) → List (Option ℕ) → LineRead Kind
 inner_read verdict directory view words ats = line_read verdict (owner_in clang_tables) false (expanded_by expansions.Gnu directory view.files words ats)
 
--- the result is the line if its words and openings are at most `most`; else it is `TooManyWords`
-abbrev pub IsInnerRead : (List (Seen Kind) → Seen Kind → Option Verdict) → ℕ → List ℕ → Viewed → List (List ℕ) → List (Option ℕ) → Result (LineRead Kind) TooManyWords → Type 0
+-- the result is the line if its words and openings are within the limits; else it is `TooManyWords`
+abbrev pub IsInnerRead : (List (Seen Kind) → Seen Kind → Option Verdict) → Limits → List ℕ → Viewed → List (List ℕ) → List (Option ℕ) → Result (LineRead Kind) TooManyWords → Type 0
 IsInnerRead verdict most directory view words ats said =
     let within = is_expanded_within most expansions.Gnu directory view.files words in
     MatchResult said (λ line. (within ≡ true) × (line ≡ inner_read verdict directory view words ats)) (λ _. within ≡ false)
@@ -74,8 +75,8 @@ read_by compiler plusplus tables directory view e =
       outcome = outcome_by compiler plusplus directory view outer.line inner.line;
     }
 
--- whether the inner line has at most `most` words and at most `most` openings
-abbrev pub is_inner_within : ℕ → CCompilerKind → List (List (Row Kind)) → List ℕ → Viewed → ExpandedWords → Bool
+-- whether the words and openings of the inner line are within the limits
+abbrev pub is_inner_within : Limits → CCompilerKind → List (List (Row Kind)) → List ℕ → Viewed → ExpandedWords → Bool
 is_inner_within most compiler tables directory view e =
     is_expanded_within most expansions.Gnu directory view.files (handed_words (outer_read compiler tables view e).line)
 

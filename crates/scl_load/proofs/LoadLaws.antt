@@ -2,6 +2,7 @@
 use Rattle.std.proofs.Common.{◌≡◌, ◌+◌, ◌<◌, ◌++◌, ℕ, true, false, List, Option, None, Some, Ok, Err, inl, Contains, map, refl, sym, ap, subst, ◌∙◌}
 use Rattle.scl_files.specs.Views.{Viewed}
 use Rattle.scl_files.specs.declared.expand.ExpansionKind.{ExpansionKind}
+use Rattle.scl_files.specs.declared.expand.Limits.{Limits}
 use Rattle.scl_values.specs.Each.{Each}
 use Rattle.scl_values.specs.Words.{words_of}
 use Rattle.scl_reader.specs.Answers.{answer_to, reading_by}
@@ -29,7 +30,7 @@ module _ (holds : Viewed → Type 0) (load : Load) where
   IsUnderWay readings view leads = (held : Viewed) → holds held → held.is_multiarch ≡ load.is_multiarch → IsLed held load readings view leads
 
   pub last-reading : (readings : ℕ) (before after : Viewed) (leads : List Lead) (q : Questions) → readings < load.most_rounds → IsUnderWay readings before leads
-      → has_at_most load.most_words (load.asks before) ≡ true → q ≡ questions_of (load.asks before) → IsLookedFor holds (HasNoneAsked q) (AreAllSame q) before after false
+      → has_at_most load.most (load.asks before) ≡ true → q ≡ questions_of (load.asks before) → IsLookedFor holds (HasNoneAsked q) (AreAllSame q) before after false
       → (held : Viewed) → holds held → held.is_multiarch ≡ load.is_multiarch → IsLoaded held load after
   last-reading readings before after leads q allowed way within is looked held h m =
       let here = way held h m in
@@ -41,7 +42,7 @@ module _ (holds : Viewed → Type 0) (load : Load) where
         has_none = subst (HasNoneOf held) is found.1;
       })
 
-  pub too-long : (readings : ℕ) (view : Viewed) (leads : List Lead) → readings < load.most_rounds → IsUnderWay readings view leads → has_at_most load.most_words (load.asks view) ≡ false
+  pub too-long : (readings : ℕ) (view : Viewed) (leads : List Lead) → readings < load.most_rounds → IsUnderWay readings view leads → has_at_most load.most (load.asks view) ≡ false
       → (held : Viewed) → holds held → held.is_multiarch ≡ load.is_multiarch → IsTooLong held load
   too-long readings view leads allowed way longer held h m = record {
     view = view;
@@ -53,14 +54,14 @@ module _ (holds : Viewed → Type 0) (load : Load) where
   unended view leads way held h m = record { view = view; are_looks = (way held h m).are_looks }
 
 -- the questions of a reading of a line are those of the line's request
-pub asks-so : (compiler : Compiler) (line : Given) (request : Request) (most : ℕ) (reading : Reading) (asked : Questions) → asked_for compiler line ≡ request
+pub asks-so : (compiler : Compiler) (line : Given) (request : Request) (most : Limits) (reading : Reading) (asked : Questions) → asked_for compiler line ≡ request
     → (has_at_most most (asked_for compiler line) ≡ true) × (reading ≡ read_of (asked_for compiler line)) → asked ≡ questions_in line reading
     → (has_at_most most request ≡ true) × (reading ≡ read_of request) × (asked ≡ questions_of request)
 asks-so compiler line request most reading asked is read asks =
     subst (λ r. (has_at_most most r ≡ true) × (reading ≡ read_of r) × (asked ≡ questions_of r)) is (read.0, read.1, asks ∙ ap (questions_in line) read.1)
 
 -- if the disk has none of a reading's questions, the reading decides the record and the answer
-module _ (holds : Viewed → Type 0) (line : DiskLine) (most most_rounds readings : ℕ) (before after : Viewed) (leads : List Lead) (q : Questions)
+module _ (holds : Viewed → Type 0) (line : DiskLine) (most : Limits) (most_rounds readings : ℕ) (before after : Viewed) (leads : List Lead) (q : Questions)
     (way : IsUnderWay holds (load_of line most most_rounds) readings before leads) (is : q ≡ questions_of (asked_on line before))
     (looked : IsLookedFor holds (HasNoneAsked q) (AreAllSame q) before after false) where
   pub same-answer : (held : Viewed) → holds held → held.is_multiarch ≡ line.multiarch → answer_to (asked_on line held) ≡ answer_to (asked_on line after)
@@ -79,7 +80,7 @@ module _ (holds : Viewed → Type 0) (line : DiskLine) (most most_rounds reading
 
 -- ---- a load goes on
 
-module _ (disk : Viewed) (line : DiskLine) (most most_rounds : ℕ) where
+module _ (disk : Viewed) (line : DiskLine) (most : Limits) (most_rounds : ℕ) where
   abbrev load : Load
   load = load_of line most most_rounds
 
@@ -121,7 +122,7 @@ module _ (disk : Viewed) (line : DiskLine) (most most_rounds : ℕ) where
             (found-leads readings before after led.are_looks look.extends));
       }
 
-module _ {E : Type 0} (holds : Viewed → Type 0) (fails : E → Type 0) (line : DiskLine) (most most_rounds readings : ℕ) (before after : Viewed) (leads more : all.Leads)
+module _ {E : Type 0} (holds : Viewed → Type 0) (fails : E → Type 0) (line : DiskLine) (most : Limits) (most_rounds readings : ℕ) (before after : Viewed) (leads more : all.Leads)
     (way : IsUnderWay holds (load_of line most most_rounds) readings before (leads_of leads)) where
   pub followed : {R : Type 0} (r : R) → AreFollowed {R = R} {E = E} holds fails line.directory.now most_rounds leads more before after (Ok r)
       → IsUnderWay holds (load_of line most most_rounds) readings after (leads_of more)
@@ -151,7 +152,7 @@ module _ {E : Type 0} (holds : Viewed → Type 0) (fails : E → Type 0) where
   followed-fails R directory rounds leads more before after errors.TooManyWords f = tt
   followed-fails R directory rounds leads more before after errors.TooManyRounds f = tt
 
-  pub read-fails : (line : DiskLine) (most depth : ℕ) (leads more : all.Leads) (before after : Viewed) (error : LoadError E)
+  pub read-fails : (line : DiskLine) (most : Limits) (depth : ℕ) (leads more : all.Leads) (before after : Viewed) (error : LoadError E)
       → IsReadOnce holds fails line most depth leads more before after (Err error) → IsDiskError fails error
   read-fails line most depth leads more before after (errors.Disk error) f = f
   read-fails line most depth leads more before after errors.TooManyWords f = tt

@@ -5,6 +5,7 @@ use Rattle.scl_files.specs.ResponseFiles.{arguments, named}
 use Rattle.scl_files.specs.Views.{Viewed, bytes_at}
 use Rattle.scl_files.specs.declared.expand.ExpansionKind.{ExpansionKind}
 use Rattle.scl_files.specs.declared.expand.ExpansionKind.TheVariants as expansions
+use Rattle.scl_files.specs.declared.expand.Limits.{Limits}
 use Rattle.scl_reader.specs.Compilers.{expansion_of}
 use Rattle.scl_reader.specs.Questions.{Extends, questions_of}
 use Rattle.scl_reader.specs.Reads.{Lacked, files_lacked, read_of}
@@ -122,7 +123,7 @@ AreFollowed holds fails directory rounds leads leads' before after (Err errors.T
 
 -- No command line was too long, and none of the reading's questions was found. Or something was found, and what is named by the
 -- files that the reading lacked follows the leads. Or a command line was too long, or the disk fails.
-abbrev pub IsReadOnce : {E : Type 0} → (Viewed → Type 0) → (E → Type 0) → DiskLine → (most depth : ℕ) → (leads leads' : all.Leads) → (before after : Viewed)
+abbrev pub IsReadOnce : {E : Type 0} → (Viewed → Type 0) → (E → Type 0) → DiskLine → (most : Limits) → (depth : ℕ) → (leads leads' : all.Leads) → (before after : Viewed)
     → Result (Option Reading) (LoadError E) → Type 0
 IsReadOnce holds fails line most depth leads leads' before after (Ok (Some reading)) = let request = asked_on line before in
     (has_at_most most request ≡ true) × (reading ≡ read_of request) × IsLookedFor holds (HasNoneAsked (questions_of request)) (AreAllSame (questions_of request)) before after false

@@ -6,6 +6,7 @@ use Rattle.scl_values.specs.Each.{Each}
 use Rattle.scl_files.specs.ResponseFiles.{arguments, named}
 use Rattle.scl_files.specs.Views.{Viewed, empty_view, bytes_at, exists, is_directory}
 use Rattle.scl_files.specs.declared.expand.ExpansionKind.{ExpansionKind}
+use Rattle.scl_files.specs.declared.expand.Limits.{Limits}
 use Rattle.scl_text.specs.Commands.{pairs_of}
 use Rattle.scl_reader.specs.Compilers.{expansion_of}
 use Rattle.scl_reader.specs.Questions.{Questions, Extends, HasNoneOf, questions_of}
@@ -67,16 +68,16 @@ HasNoneAsked q disk = HasNoneOf disk q
 abbrev pub asked_on : DiskLine → Viewed → Request
 asked_on line view = asked line.compiler (words_of line.words.now) line.directory.now (pairs_of line.environment.now) view
 
--- what is loaded: the request for a view; whether several architectures are allowed; the limit on words and on openings of
--- files; and the limit on rounds
+-- what is loaded: the request for a view; whether several architectures are allowed; the limits of an
+-- expansion; and the limit on rounds
 pub record Load : Type 0 where
   pub asks : Viewed → Request
   pub is_multiarch : Bool
-  pub most_words : ℕ
+  pub most : Limits
   pub most_rounds : ℕ
 
-abbrev pub load_of : DiskLine → ℕ → ℕ → Load
-load_of line most rounds = record { asks = asked_on line; is_multiarch = line.multiarch; most_words = most; most_rounds = rounds }
+abbrev pub load_of : DiskLine → Limits → ℕ → Load
+load_of line most rounds = record { asks = asked_on line; is_multiarch = line.multiarch; most = most; most_rounds = rounds }
 
 abbrev pub first_view : Bool → Viewed
 first_view multiarch = record empty_view { is_multiarch = multiarch }
@@ -102,7 +103,7 @@ pub data AreLooks (disk : Viewed) (load : Load) : ℕ → Viewed → Type 0 wher
   none : AreLooks disk load 0 (first_view load.is_multiarch)
   file : (n : ℕ) (before after : Viewed) (path : List ℕ) (found : Bool) → AreLooks disk load n before → IsGiven load path ⊎ ((from : List ℕ) × IsInside load before from path)
       → IsLook (IsAbsent kinds.File path) (IsSame kinds.File path) disk before after found → AreLooks disk load n after
-  asked_all : (n : ℕ) (before after : Viewed) → AreLooks disk load n before → has_at_most load.most_words (load.asks before) ≡ true
+  asked_all : (n : ℕ) (before after : Viewed) → AreLooks disk load n before → has_at_most load.most (load.asks before) ≡ true
       → IsLook (HasNoneAsked (questions_of (load.asks before))) (AreAllSame (questions_of (load.asks before))) disk before after true
       → AreLooks disk load (n + 1) after
 
@@ -123,14 +124,14 @@ pub record IsMade (disk : Viewed) (load : Load) (view : Viewed) : Type 0 where
 pub record IsLoaded (disk : Viewed) (load : Load) (view : Viewed) : Type 0 where
   pub is_made : IsMade disk load view
   pub extends : Extends disk view
-  pub is_within : has_at_most load.most_words (load.asks view) ≡ true
+  pub is_within : has_at_most load.most (load.asks view) ≡ true
   pub has_none : HasNoneOf disk (questions_of (load.asks view))
 
 -- with what was loaded, a command line is too long
 pub record IsTooLong (disk : Viewed) (load : Load) : Type 0 where
   pub view : Viewed
   pub is_made : IsMade disk load view
-  pub is_longer : has_at_most load.most_words (load.asks view) ≡ false
+  pub is_longer : has_at_most load.most (load.asks view) ≡ false
 
 -- a file of the disk is the last of a chain with as many files as the limit on rounds
 pub record IsDeep (disk : Viewed) (load : Load) : Type 0 where

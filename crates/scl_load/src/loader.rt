@@ -14,7 +14,7 @@ ghost use Rattle.scl_load.specs.LoadsGiven.{view_of};
 use crate::disk::Disk;
 use crate::leads::Leads;
 use crate::look::look_for_all;
-use scl_reader::{CommandLine, Compiler, Mem, Questions, Reading, TooManyWords, View};
+use scl_reader::{CommandLine, Compiler, Limits, Mem, Questions, Reading, TooManyWords, View};
 use std::alloc::Global;
 
 /// Why a load gives no view.
@@ -72,7 +72,7 @@ fn read_in(
     alloc: Global,
     line: &DiskLine<'_>,
     view: &View,
-    most: usize,
+    most: Limits,
 ) -> Mem<Result<(Reading, Questions), TooManyWords>>
     ensures { IfOk result (λ said. let request = asked_on line.now view.now in
         MatchResult said (λ both. (has_at_most most request ≡ true) × (both.0 ≡ read_of request) × (given both.1 ≡ questions_of request)) (λ _. has_at_most most request ≡ false)) }
@@ -98,7 +98,7 @@ fn read_once<D: Disk>(
     line: &DiskLine<'_>,
     view: &mut View,
     leads: &mut Leads,
-    most: usize,
+    most: Limits,
     depth: u32,
 ) -> Mem<Result<Option<Reading>, LoadError<D::Error>>>
     ensures { IfOk result (IsReadOnce (D.holds disk.now) (D.fails disk.now) line.now most depth leads.old leads.new view.old view.new) }
@@ -132,13 +132,13 @@ fn read_once<D: Disk>(
 ///
 /// - `TooManyRounds`: a chain of response files, each naming the next, has `rounds` files; or `rounds` readings each found
 ///   something.
-/// - `TooManyWords`: a command line has more than `most` words or openings of files (`Compiler::answer_within`).
+/// - `TooManyWords`: the words or the openings of files exceed the limits (`Compiler::answer_within`).
 /// - `Disk`: a read of the disk failed. It ends the load.
 pub fn load<D: Disk>(
     alloc: Global,
     disk: &D,
     line: &DiskLine<'_>,
-    most: usize,
+    most: Limits,
     rounds: u32,
 ) -> Mem<Result<Loaded, LoadError<D::Error>>>
     ensures answer { IfOk result (λ said. IfOk said (λ loaded. (held : Viewed) → D.holds disk.now held → held.is_multiarch ≡ line.now.multiarch
@@ -154,7 +154,14 @@ pub fn load<D: Disk>(
     view.set_multiarch(line.multiarch);
     let mut leads = Leads::given(alloc, line)?;
     for round in 0..rounds {
-        if let Err(error) = leads.follow(alloc, disk, &mut view, line.directory, most, rounds)? {
+        if let Err(error) = leads.follow(
+            alloc,
+            disk,
+            &mut view,
+            line.directory,
+            most.words,
+            rounds,
+        )? {
             return Ok(Err(error));
         }
         match read_once(alloc, disk, line, &mut view, &mut leads, most, round + 1)? {

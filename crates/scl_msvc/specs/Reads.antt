@@ -5,6 +5,7 @@ use Rattle.scl_files.specs.Openings.{is_expanded_within}
 use Rattle.scl_files.specs.Sources.{indices}
 use Rattle.scl_files.specs.Views.{Viewed}
 use Rattle.scl_files.specs.declared.expand.ExpansionKind.TheVariants as expansions
+use Rattle.scl_files.specs.declared.expand.Limits.{Limits}
 use Rattle.scl_text.specs.Records.{Verdict}
 use Rattle.scl_msvc_reading.specs.Reads.{MsvcRead, are_inner_within, read_by, refused_by}
 use Rattle.scl_msvc.specs.Environment.{surroundings}
@@ -23,8 +24,8 @@ expanded_between directory view words both = expanded_by expansions.Msvc directo
 abbrev pub read_between : Bool → List ℕ → Viewed → List (List ℕ) → (List (List ℕ) × List (List ℕ)) → MsvcRead
 read_between is_clang directory view words both = read_by is_clang directory view (both.0 ++ both.1) (expanded_between directory view words both)
 
--- whether it and each inner line has at most `most` words and openings of files
-abbrev pub is_read_within : ℕ → Bool → List ℕ → Viewed → List (List ℕ) → (List (List ℕ) × List (List ℕ)) → Bool
+-- whether the words and openings of it and of each inner line are within the limits
+abbrev pub is_read_within : Limits → Bool → List ℕ → Viewed → List (List ℕ) → (List (List ℕ) × List (List ℕ)) → Bool
 is_read_within most is_clang directory view words both =
     is_expanded_within most expansions.Msvc directory view.files (words_between words both) && are_inner_within most is_clang directory view (expanded_between directory view words both)
 
@@ -36,9 +37,9 @@ read_by_both is_clang directory view words (Err broken) = refused_by is_clang (E
 abbrev pub surrounded_read : Bool → List ℕ → List (List ℕ × List ℕ) → Viewed → List (List ℕ) → MsvcRead
 surrounded_read is_clang directory pairs view words = read_by_both is_clang directory view words (surroundings pairs)
 
-abbrev pub is_within_both : ℕ → Bool → List ℕ → Viewed → List (List ℕ) → Result (List (List ℕ) × List (List ℕ)) Verdict → Bool
+abbrev pub is_within_both : Limits → Bool → List ℕ → Viewed → List (List ℕ) → Result (List (List ℕ) × List (List ℕ)) Verdict → Bool
 is_within_both most is_clang directory view words (Ok both) = is_read_within most is_clang directory view words both
 is_within_both most is_clang directory view words (Err broken) = true
 
-abbrev pub is_surrounded_within : ℕ → Bool → List ℕ → List (List ℕ × List ℕ) → Viewed → List (List ℕ) → Bool
+abbrev pub is_surrounded_within : Limits → Bool → List ℕ → List (List ℕ × List ℕ) → Viewed → List (List ℕ) → Bool
 is_surrounded_within most is_clang directory pairs view words = is_within_both most is_clang directory view words (surroundings pairs)

@@ -7,6 +7,7 @@ use Rattle.scl_files.specs.Expanded.{ExpandedWords, expanded_by}
 use Rattle.scl_files.specs.Sources.{ats_expanded}
 use Rattle.scl_files.specs.Views.{Viewed}
 use Rattle.scl_files.specs.declared.expand.ExpansionKind.TheVariants as expansions
+use Rattle.scl_files.specs.declared.expand.Limits.{Limits}
 use Rattle.scl_gnu_reading.specs.ClangRows.{clang_tables}
 use Rattle.scl_gnu_reading.specs.Reads.{inner_read}
 use Rattle.scl_gnu_reading.specs.declared.gcc.data.Kind as gnu
@@ -72,7 +73,7 @@ pub all_true : (a b c : Bool) → a ≡ true → b ≡ true → c ≡ true → (
 all_true a b c ea eb ec = rw (ea, eb, ec) refl
 
 -- the same if each inner line is within the limit, and if one is not
-module _ (most : ℕ) (is_clang : Bool) (directory : List ℕ) (view : Viewed) (e : ExpandedWords) (outer : LineRead Kind) (is_outer : outer ≡ outer_read is_clang e) (l : JudgedLine Kind) (is_line : l ≡ outer.line) where
+module _ (most : Limits) (is_clang : Bool) (directory : List ℕ) (view : Viewed) (e : ExpandedWords) (outer : LineRead Kind) (is_outer : outer ≡ outer_read is_clang e) (l : JudgedLine Kind) (is_line : l ≡ outer.line) where
   pub within_is : (within : Bool) → are_behind_within most directory view l ≡ within → are_inner_within most is_clang directory view e ≡ within
   within_is within h =
       let given : are_behind_within most directory view outer.line ≡ within = subst (λ (o : JudgedLine Kind). are_behind_within most directory view o ≡ within) is_line h in

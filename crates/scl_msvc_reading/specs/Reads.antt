@@ -5,6 +5,7 @@ use Rattle.scl_files.specs.Expanded.{ExpandedWords, expanded_by}
 use Rattle.scl_files.specs.Openings.{is_expanded_within}
 use Rattle.scl_files.specs.Views.{Viewed}
 use Rattle.scl_files.specs.declared.expand.ExpansionKind.TheVariants as expansions
+use Rattle.scl_files.specs.declared.expand.Limits.{Limits}
 use Rattle.scl_gnu_reading.specs.Reads.{inner_read}
 use Rattle.scl_gnu_reading.specs.declared.gcc.data.Kind as gnu
 use Rattle.scl_msvc_reading.specs.Inners.{inner_verdict}
@@ -55,7 +56,7 @@ handed_ats kinds outer = ats_passing (of kinds) outer.options outer.ats
 abbrev pub line_behind : List Kind → List ℕ → Viewed → JudgedLine Kind → LineRead gnu.Kind
 line_behind kinds directory view outer = inner_read inner_verdict directory view (handed_words kinds outer) (handed_ats kinds outer)
 
-abbrev pub is_behind_within : ℕ → List Kind → List ℕ → Viewed → JudgedLine Kind → Bool
+abbrev pub is_behind_within : Limits → List Kind → List ℕ → Viewed → JudgedLine Kind → Bool
 is_behind_within most kinds directory view outer = is_expanded_within most expansions.Gnu directory view.files (handed_words kinds outer)
 
 -- the outcome of the lines: the first refusal, else the record of what the tests find
@@ -83,13 +84,13 @@ read_by is_clang directory view environment e =
       outcome = outcome_by is_clang directory view outer.line xclang.line clang.line;
     }
 
--- whether each inner line of a line has at most `most` words and at most `most` openings
-abbrev pub are_behind_within : ℕ → List ℕ → Viewed → JudgedLine Kind → Bool
+-- whether the words and openings of each inner line of a line are within the limits
+abbrev pub are_behind_within : Limits → List ℕ → Viewed → JudgedLine Kind → Bool
 are_behind_within most directory view outer =
     is_behind_within most only_xclang directory view outer && (is_behind_within most only_clang directory view outer && is_behind_within most either directory view outer)
 
 -- the same for the line of expanded words
-abbrev pub are_inner_within : ℕ → Bool → List ℕ → Viewed → ExpandedWords → Bool
+abbrev pub are_inner_within : Limits → Bool → List ℕ → Viewed → ExpandedWords → Bool
 are_inner_within most is_clang directory view e = are_behind_within most directory view (outer_read is_clang e).line
 
 -- a reading of a command line that is refused before it is read

@@ -12,7 +12,7 @@ use Rattle.scl_args.specs.Options.{first_verdict, texts}
 use Rattle.scl_args.proofs.EmptyLaws.{judged-else}
 use Rattle.scl_args.proofs.OutcomeLaws.{judged-ok, unless-none}
 use Rattle.scl_files.specs.Expand.{expand}
-use Rattle.scl_files.specs.Within.{is_within}
+use Rattle.std.specs.Prelude.{nat_le}
 use Rattle.scl_files.specs.declared.expand.ExpansionKind.TheVariants as expansions
 use Rattle.scl_text.specs.Reasons.{argument_parse, empty_value}
 use Rattle.scl_gnu_reading.specs.ClangRows.{clang_tables}
@@ -73,7 +73,7 @@ texts-few own dashes p words =
 
 -- ---- the inner command line
 
-within-fewer : (most : ℕ) (words others : List (List ℕ)) → length others ≤ length words → is_within most words ≡ true → is_within most others ≡ true
+within-fewer : (most : ℕ) (words others : List (List ℕ)) → length others ≤ length words → nat_le (length words) most ≡ true → nat_le (length others) most ≡ true
 within-fewer most words others few within =
     let here : length words ≤ most = leb-true (length words) most within in
     le-leb (length others) most (omega arith)
@@ -85,7 +85,7 @@ module _ (most : ℕ) (request : Request) where
   abbrev options : List (Seen Kind)
   options = map shown (cut (owner_in clang_tables) true words).options
 
-  judged-within : is_within most words ≡ true → (xs : List (Seen Kind)) → clang_options request ≡ Ok xs → is_within most (handed_on request xs) ≡ true
+  judged-within : nat_le (length words) most ≡ true → (xs : List (Seen Kind)) → clang_options request ≡ Ok xs → nat_le (length (handed_on request xs)) most ≡ true
   judged-within within xs e =
       let says = verdict request.view.is_multiarch in
       let dangles = is_dangling (cut (owner_in clang_tables) true words).end in
@@ -96,8 +96,8 @@ module _ (most : ℕ) (request : Request) where
       let none = handed-none clang_tables true clang-apart words named in
       let stands : handed_on request options ≡ handed = stand request.directory request.view.files handed none in
       let few : length handed ≤ length words = texts-few (owner_in clang_tables) true (of (kind.XClang ∷ [])) words in
-      subst (λ os. is_within most (handed_on request os) ≡ true) is
-      (subst (λ ws. is_within most ws ≡ true) (sym stands) (within-fewer most words handed few within))
+      subst (λ os. nat_le (length (handed_on request os)) most ≡ true) is
+      (subst (λ ws. nat_le (length ws) most ≡ true) (sym stands) (within-fewer most words handed few within))
 
 pub clang-inner-within : ClangInnerIsWithin
 clang-inner-within most request options driver within e = judged-within most request within options e

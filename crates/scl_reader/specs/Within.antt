@@ -1,8 +1,9 @@
--- Which command lines have at most n words, response files put in place, and open files at most n times.
-use Rattle.std.specs.Prelude.{◌≡◌, ℕ, ◌&&◌, Bool, true, false, List, [], ◌∷◌, Result, Ok}
+-- Which command lines are within limits, response files put in place.
+use Rattle.std.specs.Prelude.{◌≡◌, ℕ, ◌&&◌, ◌/◌, min, nat_le, Bool, true, false, List, [], ◌∷◌, length, Result, Ok}
 use Rattle.scl_args.specs.Options.{texts}
 use Rattle.scl_files.specs.declared.expand.ExpansionKind.{ExpansionKind}
 use Rattle.scl_files.specs.declared.expand.ExpansionKind.TheVariants as expansions
+use Rattle.scl_files.specs.declared.expand.Limits.{Limits}
 use Rattle.scl_files.specs.Expand.{expand}
 use Rattle.scl_files.specs.Openings.{is_expanded_within}
 use Rattle.scl_files.specs.Within.{is_within}
@@ -25,20 +26,16 @@ use Rattle.scl_reader.specs.Reads.{expanded}
 use Rattle.scl_reader.specs.declared.compiler.Compiler.{Compiler}
 use Rattle.scl_reader.specs.declared.compiler.Compiler.TheVariants as compilers
 
--- the limit where nothing else is said
-abbrev pub default_most : ℕ
-default_most = 1000000
-
--- whether the words of a line are within the limit, with response files of the kind put in place
-abbrev pub is_line_within : ℕ → ExpansionKind → Given → Bool
+-- whether the words of a line are within the limits, with response files of the kind put in place
+abbrev pub is_line_within : Limits → ExpansionKind → Given → Bool
 is_line_within most kind g = is_expanded_within most kind g.directory g.view.files g.words
 
 -- whether those of a line to Gcc or Clang are, and those of its inner line
-abbrev pub is_gnu_within : ℕ → CCompilerKind → List (List (Row Kind)) → Given → Bool
+abbrev pub is_gnu_within : Limits → CCompilerKind → List (List (Row Kind)) → Given → Bool
 is_gnu_within most kind tables g = is_line_within most expansions.Gnu g && is_inner_within most kind tables g.directory g.view (expanded expansions.Gnu g)
 
--- whether each line of a command line, given and inner, is within the limit
-abbrev pub has_at_most_by : ℕ → Compiler → Given → Bool
+-- whether each line of a command line, given and inner, is within the limits
+abbrev pub has_at_most_by : Limits → Compiler → Given → Bool
 has_at_most_by most compilers.Gcc g = is_gnu_within most kinds.Gcc (gcc_rows ∷ []) g
 has_at_most_by most compilers.Gxx g = is_gnu_within most kinds.Gcc (gcc_rows ∷ []) g
 has_at_most_by most compilers.Clang g = is_gnu_within most kinds.Clang clang_tables g
@@ -48,8 +45,14 @@ has_at_most_by most compilers.ClangCl g = is_surrounded_within most true g.direc
 has_at_most_by most compilers.Diab g = is_line_within most expansions.Diab g
 has_at_most_by most compilers.Tasking g = is_within most g.words
 
-abbrev pub has_at_most : ℕ → Request → Bool
-has_at_most most request = has_at_most_by most request.compiler (given_in request)
+-- the limits in a directory: each word may be a path that is written behind it, and all of these are within the bytes
+abbrev pub in_directory : Limits → List ℕ → Limits
+in_directory most [] = most
+in_directory most (byte ∷ directory) = record { words = min most.words (most.bytes / length (byte ∷ directory)); bytes = most.bytes }
+
+-- whether a request is within the limits in its directory
+abbrev pub has_at_most : Limits → Request → Bool
+has_at_most most request = has_at_most_by (in_directory most request.directory) request.compiler (given_in request)
 
 -- ---- a law
 
@@ -75,5 +78,5 @@ handed_on request options = expand expansions.Gnu request.directory request.view
 -- where the given line of a request to Clang has at most n words, so has the inner one, if no option is refused
 abbrev pub ClangInnerIsWithin : Type 0
 ClangInnerIsWithin = (most : ℕ) (request : Request) (options : List (Seen Kind)) → is_clang_driver request.compiler ≡ true
-    → is_within most (expand expansions.Gnu request.directory request.view.files request.words) ≡ true
-    → clang_options request ≡ Ok options → is_within most (handed_on request options) ≡ true
+    → nat_le (length (expand expansions.Gnu request.directory request.view.files request.words)) most ≡ true
+    → clang_options request ≡ Ok options → nat_le (length (handed_on request options)) most ≡ true

@@ -21,7 +21,6 @@ pub use command_line::CommandLine;
 pub use compiler::Compiler;
 pub use kept::{BuiltCommand, Compilation, Kept};
 pub use questions::Questions;
-pub use read::MOST;
 pub use reading::{LackedFile, Reading};
 pub use scl_text::records::{CompilerArguments, ParsedArguments};
-pub use scl_text::{Mem, TooManyWords, View};
+pub use scl_text::{Limits, Mem, TooManyWords, View};

@@ -17,7 +17,7 @@ use crate::reading::{LackedFile, Reading};
 use scl_text::outputs::output_path;
 use scl_text::path::join;
 use scl_text::records::{CompilerArguments, ParsedArguments};
-use scl_text::{Mem, TooManyWords, View};
+use scl_text::{Limits, Mem, TooManyWords, View};
 use std::alloc::Global;
 
 /// The questions of the answer to a command line: paths that its view does not have (docs/RULES.md, Questions). A path may
@@ -153,7 +153,7 @@ impl Compiler {
         cwd: &[u8],
         env_vars: &[(Vec<u8>, Vec<u8>)],
         view: &View,
-        most: usize,
+        most: Limits,
     ) -> Mem<Result<Questions, TooManyWords>>
         ensures { IfOk result (λ said. let request = asked self (words_of words.now) cwd.now (pairs_of env_vars.now) view.now in
             MatchResult said (λ questions. (has_at_most most request ≡ true) × (given questions ≡ questions_of request)) (λ _. has_at_most most request ≡ false)) }

@@ -12,7 +12,7 @@ ghost use Rattle.scl_values.specs.Tables.{tables_hold_values};
 ghost use Rattle.scl_values.specs.Words.{words_of};
 ghost use Rattle.scl_reader.specs.CommandLines.{asked_for, given_by};
 ghost use Rattle.scl_reader.specs.Reads.{read_of, gnu_read, diab_read, tasking_read};
-ghost use Rattle.scl_reader.specs.Within.{has_at_most, is_gnu_within};
+ghost use Rattle.scl_reader.specs.Within.{has_at_most, in_directory, is_gnu_within};
 
 use crate::command_line::CommandLine;
 use crate::compiler::Compiler;
@@ -24,11 +24,23 @@ use scl_msvc::msvc;
 use scl_small::{SmallReading, diab, tasking_vx};
 use scl_text::command::copy_words;
 use scl_text::records::CCompilerKind;
-use scl_text::{Expanded, ExpansionKind, Mem, Sourced, TooManyWords, expand_line, standing_line};
+use scl_text::{
+    Expanded, ExpansionKind, Limits, Mem, Sourced, TooManyWords, expand_line, standing_line,
+};
 use std::alloc::Global;
 
-/// How many words a command line may have, and how often it may open files, where nothing else is said.
-pub const MOST: usize = 1_000_000;
+/// The limits in a directory: each word may be a path that is written behind it, and all of these are within the bytes.
+fn in_directory(most: Limits, directory: &[u8]) -> Limits
+    ensures { result ≡ in_directory most directory.now }
+{
+    if directory.is_empty() {
+        return most;
+    }
+    Limits {
+        words: most.words.min(most.bytes / directory.len()),
+        bytes: most.bytes,
+    }
+}
 
 /// The words of a line, copied, with their indices.
 fn given(alloc: Global, line: &CommandLine<'_>) -> Mem<Sourced>
@@ -43,7 +55,7 @@ fn expanded(
     alloc: Global,
     kind: ExpansionKind,
     line: &CommandLine<'_>,
-    most: usize,
+    most: Limits,
 ) -> Mem<Result<Expanded, TooManyWords>>
     ensures { IfOk result (λ said. let words = words_of line.now.words.now in IsExpanded most kind line.now.directory.now line.now.view.now.files words (indices (length words)) said) }
 {
@@ -58,7 +70,7 @@ fn read_gnu<S: SearchableArgInfo<gcc::ArgData>>(
     arg_info: &S,
     plusplus: bool,
     kind: CCompilerKind,
-    most: usize,
+    most: Limits,
 ) -> Mem<Result<Reading, TooManyWords>>
     requires { IsTrue (tables_hold_values holds_value (S.tables arg_info.now)) }
     ensures { IfOk result (λ said. let within = is_gnu_within most kind (S.tables arg_info.now) (given_by line.now) in
@@ -82,7 +94,7 @@ fn read_gcc(
     alloc: Global,
     line: &CommandLine<'_>,
     plusplus: bool,
-    most: usize,
+    most: Limits,
 ) -> Mem<Result<Reading, TooManyWords>>
     ensures { IfOk result (λ said. let within = is_gnu_within most CCompilerKind.Gcc (gcc_rows ∷ []) (given_by line.now) in
         MatchResult said (λ reading. (within ≡ true) × (reading ≡ Reading.Gnu (gnu_read CCompilerKind.Gcc plusplus (gcc_rows ∷ []) (given_by line.now)))) (λ _. within ≡ false)) }
@@ -96,7 +108,7 @@ fn read_clang(
     alloc: Global,
     line: &CommandLine<'_>,
     plusplus: bool,
-    most: usize,
+    most: Limits,
 ) -> Mem<Result<Reading, TooManyWords>>
     ensures { IfOk result (λ said. let within = is_gnu_within most CCompilerKind.Clang clang_tables (given_by line.now) in
         MatchResult said (λ reading. (within ≡ true) × (reading ≡ Reading.Gnu (gnu_read CCompilerKind.Clang plusplus clang_tables (given_by line.now)))) (λ _. within ≡ false)) }
@@ -110,7 +122,7 @@ fn read_msvc(
     alloc: Global,
     line: &CommandLine<'_>,
     is_clang: bool,
-    most: usize,
+    most: Limits,
 ) -> Mem<Result<Reading, TooManyWords>>
     ensures { IfOk result (λ said. let g = given_by line.now in let within = is_surrounded_within most is_clang g.directory g.environment g.view g.words in
         MatchResult said (λ reading. (within ≡ true) × (reading ≡ Reading.Msvc (surrounded_read is_clang g.directory g.environment g.view g.words))) (λ _. within ≡ false)) }
@@ -127,7 +139,7 @@ fn read_msvc(
 fn read_diab(
     alloc: Global,
     line: &CommandLine<'_>,
-    most: usize,
+    most: Limits,
 ) -> Mem<Result<Reading, TooManyWords>>
     ensures { IfOk result (λ said. let within = is_expanded_within most ExpansionKind.Diab line.now.directory.now line.now.view.now.files (words_of line.now.words.now) in
         MatchResult said (λ reading. (within ≡ true) × (reading ≡ Reading.Diab (diab_read (given_by line.now)))) (λ _. within ≡ false)) }
@@ -144,7 +156,7 @@ fn read_diab(
 fn read_tasking(
     alloc: Global,
     line: &CommandLine<'_>,
-    most: usize,
+    most: Limits,
 ) -> Mem<Result<Reading, TooManyWords>>
     ensures { IfOk result (λ said. let within = is_within most (words_of line.now.words.now) in
         MatchResult said (λ reading. (within ≡ true) × (reading ≡ Reading.Tasking (tasking_read (given_by line.now)))) (λ _. within ≡ false)) }
@@ -158,18 +170,19 @@ fn read_tasking(
 }
 
 impl Compiler {
-    /// The command line, read once, where each of its lines, given and inner, has at most `most` words and openings of files;
-    /// else `TooManyWords`, before any is refused (docs/RULES.md, Expansion). No work is done, and no memory taken, beyond what
-    /// the line, its files and that limit allow. The outer error is the refusal of memory.
+    /// The command line, read once, where each of its lines, given and inner, is within the limits; else `TooManyWords`, before
+    /// any is refused (docs/RULES.md, Expansion). No work is done, and no memory taken, beyond what the line, its files and the
+    /// limits allow. The outer error is the refusal of memory.
     pub fn read(
         self,
         alloc: Global,
         line: &CommandLine<'_>,
-        most: usize,
+        most: Limits,
     ) -> Mem<Result<Reading, TooManyWords>>
         ensures { IfOk result (λ said. let request = asked_for self (given_by line.now) in
             MatchResult said (λ reading. (has_at_most most request ≡ true) × (reading ≡ read_of request)) (λ _. has_at_most most request ≡ false)) }
     {
+        let most = in_directory(most, line.directory);
         match self {
             Compiler::Gcc => read_gcc(alloc, line, false, most),
             Compiler::Gxx => read_gcc(alloc, line, true, most),

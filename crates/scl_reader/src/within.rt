@@ -1,4 +1,4 @@
-//! Answers to command lines within a limit.
+//! Answers to command lines within limits.
 ghost use Rattle.std.specs.Prelude.{◌≡◌, true, false, IfOk, MatchResult};
 ghost use Rattle.scl_values.specs.Words.{words_of};
 ghost use Rattle.scl_text.specs.Commands.{pairs_of};
@@ -11,12 +11,12 @@ use crate::command_line::CommandLine;
 use crate::compiler::Compiler;
 use crate::kept::Compilation;
 use scl_text::records::CompilerArguments;
-use scl_text::{Mem, TooManyWords, View};
+use scl_text::{Limits, Mem, TooManyWords, View};
 use std::alloc::Global;
 
 impl Compiler {
-    /// Whether each command line that is read of the words, the given one and the inner ones, has at most `most` words and
-    /// openings of files (docs/RULES.md, Expansion).
+    /// Whether each command line that is read of the words, the given one and the inner ones, is within the limits
+    /// (docs/RULES.md, Expansion).
     pub fn has_at_most(
         self,
         alloc: Global,
@@ -24,7 +24,7 @@ impl Compiler {
         cwd: &[u8],
         env_vars: &[(Vec<u8>, Vec<u8>)],
         view: &View,
-        most: usize,
+        most: Limits,
     ) -> Mem<bool>
         ensures { IfOk result (λ within. within ≡ has_at_most most (asked self (words_of words.now) cwd.now (pairs_of env_vars.now) view.now)) }
     {
@@ -43,8 +43,8 @@ impl Compiler {
         }
     }
 
-    /// What `answer` answers, where each command line that is read of the words has at most `most` words and openings of
-    /// files; else `TooManyWords`, before any of them is refused (docs/RULES.md, Expansion).
+    /// What `answer` answers, where each command line that is read of the words is within the limits; else `TooManyWords`,
+    /// before any of them is refused (docs/RULES.md, Expansion).
     #[tactic(auto, using(crate::proofs::ReadLaws::answer_read))]
     pub fn answer_within(
         self,
@@ -54,7 +54,7 @@ impl Compiler {
         cwd: &[u8],
         env_vars: &[(Vec<u8>, Vec<u8>)],
         view: &View,
-        most: usize,
+        most: Limits,
     ) -> Mem<Result<CompilerArguments<Compilation>, TooManyWords>>
         ensures within { IfOk result (λ answered. let request = asked self (words_of words.now) cwd.now (pairs_of env_vars.now) view.now in
             MatchResult answered (λ answer. (has_at_most most request ≡ true) × (answer_of answer ≡ answer_to request)) (λ _. has_at_most most request ≡ false)) }

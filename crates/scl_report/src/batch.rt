@@ -34,7 +34,7 @@ pub struct Batch<'a> {
     /// Whether the runs of the preprocessor are for a distant compiler.
     pub may_dist: bool,
     /// The most words that an entry may have.
-    pub bound: usize,
+    pub limits: Limits,
     /// The base directories by which keys are told.
     pub base_dirs: Vec<Vec<u8>>,
     /// Whether macros of the command stay where they are in keys.
@@ -63,7 +63,7 @@ fn slashed_case(alloc: Global, case: &Case) -> Mem<Case> {
         cwd: Vec::from_slice(alloc, &case.cwd)?,
         env_vars: copy_pairs(alloc, &case.env_vars)?,
         may_dist: case.may_dist,
-        bound: case.bound,
+        limits: case.limits,
         base_dirs: copy_words(alloc, &case.base_dirs)?,
         keeps_shown: case.keeps_shown,
     })
@@ -228,7 +228,7 @@ impl<'a> Batch<'a> {
         )? {
             Ok(mut case) => {
                 case.may_dist = self.may_dist;
-                case.bound = self.bound;
+                case.limits = self.limits;
                 case.base_dirs = copy_words(alloc, &self.base_dirs)?;
                 case.keeps_shown = self.keeps_shown;
                 Ok(Ok(case))

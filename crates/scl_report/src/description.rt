@@ -54,8 +54,10 @@ fn push_settings(alloc: Global, text: &mut Vec<u8>, about: &About<'_>, case: &Ca
     if case.keeps_shown {
         push_word(text, "setting", b"keep-shown")?;
     }
-    let bound = format!(in alloc; "{}", case.bound)?;
-    push_row(text, "setting", &[b"bound", bound.as_bytes()])
+    let words = format!(in alloc; "{}", case.limits.words)?;
+    push_row(text, "setting", &[b"bound", words.as_bytes()])?;
+    let bytes = format!(in alloc; "{}", case.limits.bytes)?;
+    push_row(text, "setting", &[b"bytes", bytes.as_bytes()])
 }
 
 fn request_text(

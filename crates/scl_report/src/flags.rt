@@ -3,7 +3,7 @@ use crate::options::fate;
 use crate::table::Table;
 use scl_cl::args::{ArgDisposition, ArgRow};
 use scl_cl::{
-    CommandLine, Compiler, MOST, Mem, TooManyWords, View, clang, diab, gcc, msvc, tasking_vx,
+    CommandLine, Compiler, Limits, Mem, TooManyWords, View, clang, diab, gcc, msvc, tasking_vx,
 };
 use scl_describe::{Destination, Row, rows_of};
 use scl_rows::NamedKind;
@@ -144,7 +144,7 @@ fn rows_read(alloc: Global, compiler: Compiler, words: &[Vec<u8>]) -> Mem<Vec<Ro
         environment: &[],
         view: &view,
     };
-    match compiler.read(alloc, &line, MOST)? {
+    match compiler.read(alloc, &line, Limits::standard())? {
         Ok(reading) => rows_of(alloc, &reading),
         Err(TooManyWords) => Ok(Vec::new(alloc)),
     }

@@ -13,7 +13,8 @@ use Rattle.scl_msvc.specs.declared.msvc.depfile.DepfileError.TheVariants as erro
 use Rattle.scl_msvc.specs.declared.msvc.depfile.DepfileText.{DepfileText}
 use Rattle.scl_reader.specs.CommandLines.{Given, Request, asked_for, given_in}
 use Rattle.scl_reader.specs.Reads.{outcome_in, read_of}
-use Rattle.scl_reader.specs.Within.{default_most, has_at_most}
+use Rattle.scl_files.specs.Within.{standard}
+use Rattle.scl_reader.specs.Within.{has_at_most}
 use Rattle.scl_reader.specs.declared.compiler.Compiler.{Compiler}
 use Rattle.scl_reader.specs.declared.reading.Reading.{Reading}
 use Rattle.scl_text.specs.Records.{Parsed, Verdict}
@@ -76,22 +77,22 @@ module _ (request : Request) (line : Given) (shown : Shown) where
   abbrev there : Given → Request
   there = asked_for request.compiler
 
-  of_reading : (is_its : line ≡ given_in request) (reading : Reading) (text : List ℕ) → has_at_most default_most (there line) ≡ true → reading ≡ read_of (there line)
+  of_reading : (is_its : line ≡ given_in request) (reading : Reading) (text : List ℕ) → has_at_most standard (there line) ≡ true → reading ≡ read_of (there line)
       → IsReadingSaid request.compiler (outcome_in reading) shown text → IsRequestSaid request shown text
   of_reading is_its reading text within reads h =
-      let On : Given → Type 0 = λ g. (has_at_most default_most (there g) ≡ true) × IsReadingSaid request.compiler (outcome_in (read_of (there g))) shown text in
+      let On : Given → Type 0 = λ g. (has_at_most standard (there g) ≡ true) × IsReadingSaid request.compiler (outcome_in (read_of (there g))) shown text in
       let here : On (given_in request) = subst On is_its (within, subst (λ r. IsReadingSaid request.compiler (outcome_in r) shown text) reads h) in
       subst (λ b. IsSaidWithin b request shown text) (sym here.0) here.1
 
-  of_too_many : (is_its : line ≡ given_in request) (text : List ℕ) → has_at_most default_most (there line) ≡ false → text ≡ entries_text too_many_entries → IsRequestSaid request shown text
-  of_too_many is_its text within h = subst (λ b. IsSaidWithin b request shown text) (sym (subst (λ g. has_at_most default_most (there g) ≡ false) is_its within)) h
+  of_too_many : (is_its : line ≡ given_in request) (text : List ℕ) → has_at_most standard (there line) ≡ false → text ≡ entries_text too_many_entries → IsRequestSaid request shown text
+  of_too_many is_its text within h = subst (λ b. IsSaidWithin b request shown text) (sym (subst (λ g. has_at_most standard (there g) ≡ false) is_its within)) h
 
-  pub by_reading : (reading : Reading) (said : Result (Vec ℕ Global) AllocError) → line ≡ given_in request → (has_at_most default_most (there line) ≡ true) × (reading ≡ read_of (there line))
+  pub by_reading : (reading : Reading) (said : Result (Vec ℕ Global) AllocError) → line ≡ given_in request → (has_at_most standard (there line) ≡ true) × (reading ≡ read_of (there line))
       → IfOk said (λ text. IsReadingSaid request.compiler (outcome_in reading) shown text.items) → IfOk said (λ text. IsRequestSaid request shown text.items)
   by_reading reading (Ok text) is_its read h = of_reading is_its reading text.items read.0 read.1 h
   by_reading reading (Err e) is_its read h = tt
 
-  pub by_too_many : (said : Result (Vec ℕ Global) AllocError) → line ≡ given_in request → has_at_most default_most (there line) ≡ false
+  pub by_too_many : (said : Result (Vec ℕ Global) AllocError) → line ≡ given_in request → has_at_most standard (there line) ≡ false
       → IfOk said (λ text. text.items ≡ entries_text too_many_entries) → IfOk said (λ text. IsRequestSaid request shown text.items)
   by_too_many (Ok text) is_its within h = of_too_many is_its text.items within h
   by_too_many (Err e) is_its within h = tt

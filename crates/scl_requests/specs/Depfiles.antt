@@ -14,7 +14,8 @@ use Rattle.scl_msvc.specs.declared.msvc.depfile.DepfileError.TheVariants as erro
 use Rattle.scl_msvc.specs.declared.msvc.depfile.DepfileText.{DepfileText}
 use Rattle.scl_reader.specs.CommandLines.{Request}
 use Rattle.scl_reader.specs.Reads.{outcome_in, read_of}
-use Rattle.scl_reader.specs.Within.{default_most, has_at_most}
+use Rattle.scl_files.specs.Within.{standard}
+use Rattle.scl_reader.specs.Within.{has_at_most}
 use Rattle.scl_reader.specs.declared.compiler.Compiler.{Compiler}
 use Rattle.scl_reader.specs.declared.compiler.Compiler.TheVariants as compilers
 use Rattle.scl_text.specs.Records.{Parsed, Verdict}
@@ -92,7 +93,7 @@ IsSaidWithin false request shown text = text ≡ entries_text too_many_entries
 
 -- to a request whose words are as many as a description takes where no line says otherwise
 abbrev pub IsRequestSaid : Request → Shown → List ℕ → Type 0
-IsRequestSaid request shown text = IsSaidWithin (has_at_most default_most request) request shown text
+IsRequestSaid request shown text = IsSaidWithin (has_at_most standard request) request shown text
 
 abbrev pub IsSaidBy : Option Shown → Result Request ℕ → Result (List ℕ) ℕ → Type 0
 IsSaidBy None request said = Err 2 ≡ said

@@ -14,7 +14,7 @@ ghost use Rattle.scl_requests.specs.Depfiles.{IsDepfileSaid, IsReadingSaid, IsRe
 use scl_cl::{Compiler, Mem, Request, read_request};
 use scl_description::{cut_at, next_line, push_word, push_yes, read_field};
 use scl_msvc::msvc::{DepfileError, DepfileText, depfile_text};
-use scl_reader::{MOST, ParsedArguments, Reading};
+use scl_reader::{Limits, ParsedArguments, Reading};
 use scl_text::{TooManyWords, from_local_codepage};
 use std::alloc::{AllocError, Global};
 
@@ -153,7 +153,10 @@ fn reading_said(alloc: Global, compiler: Compiler, reading: &Reading, shown: &Sh
 fn request_said(alloc: Global, request: &Request, shown: &Shown) -> Mem<Vec<u8>>
     ensures { IfOk result (λ text. IsRequestSaid (asked_by request.now) (shown_by shown.now) text.items) }
 {
-    match request.compiler.read(alloc, &request.line(), MOST)? {
+    match request
+        .compiler
+        .read(alloc, &request.line(), Limits::standard())?
+    {
         Ok(reading) => reading_said(alloc, request.compiler, &reading, shown),
         Err(TooManyWords) => too_many_words(alloc),
     }

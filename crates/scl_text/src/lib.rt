@@ -25,7 +25,7 @@ pub use line::{Dangling, Line, word_count};
 pub use read_line::ReadLine;
 pub use records::{CommandError, CompilerArguments, ParsedArguments};
 pub use scl_files::{
-    ExpandAtArgs, Expanded, ExpansionKind, GnuExpand, Mem, MsvcExpand, Sourced,
+    ExpandAtArgs, Expanded, ExpansionKind, GnuExpand, Limits, Mem, MsvcExpand, Sourced,
     SplitMsvcResponseFileArgs, TooManyWords, View, expand, expand_all, expand_line, expand_words,
     from_local_codepage, msvc_words, path, read_text, split_diab, split_gnu_response_file_args,
     standing_line, view,

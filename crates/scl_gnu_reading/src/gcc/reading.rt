@@ -18,7 +18,7 @@ use scl_text::command::copy_words;
 use scl_text::records::{CCompilerKind, CompilerArguments, ParsedArguments};
 use scl_text::stop::into_answer;
 use scl_text::view::View;
-use scl_text::{Expanded, Line, ReadLine, Stop, TooManyWords};
+use scl_text::{Expanded, Limits, Line, ReadLine, Stop, TooManyWords};
 use std::alloc::Global;
 use std::marker::Model;
 
@@ -97,8 +97,8 @@ fn outcome(
 }
 
 impl GnuReading {
-    /// The reading of expanded words by these tables, if the inner line has at most `most` words and at most `most` openings
-    /// of files; else `TooManyWords`.
+    /// The reading of expanded words by these tables, if the words and openings of files of the inner line are within the
+    /// limits; else `TooManyWords`.
     pub fn read<S: SearchableArgInfo<ArgData>>(
         alloc: Global,
         expanded: Expanded,
@@ -107,7 +107,7 @@ impl GnuReading {
         plusplus: bool,
         kind: CCompilerKind,
         view: &View,
-        most: usize,
+        most: Limits,
     ) -> Mem<Result<GnuReading, TooManyWords>>
         requires { IsTrue (tables_hold_values holds_value (S.tables arg_info.now)) }
         ensures { IfOk result (λ said. let within = is_inner_within most kind (S.tables arg_info.now) cwd.now view.now (expanded_of expanded) in

@@ -10,7 +10,7 @@ use scl_args::Mem;
 use scl_msvc_reading::msvc::MsvcReading;
 use scl_text::command::{append_words, copy_words, push_words};
 use scl_text::view::View;
-use scl_text::{ExpansionKind, Sourced, Stop, TooManyWords, expand_line};
+use scl_text::{ExpansionKind, Limits, Sourced, Stop, TooManyWords, expand_line};
 use std::alloc::{AllocError, Global};
 
 /// The indices of words between others: those of the given words, and none for the others.
@@ -56,7 +56,7 @@ fn read_between(
     cwd: &[u8],
     is_clang: bool,
     view: &View,
-    most: usize,
+    most: Limits,
 ) -> Mem<Result<MsvcReading, TooManyWords>>
     ensures { IfOk result (λ said. let both : List (List ℕ) × List (List ℕ) = (words_of front.items, words_of back.items) in let within = is_read_within most is_clang cwd.now view.now (words_of words.now) both in
         MatchResult said (λ reading. (within ≡ true) × (reading ≡ read_between is_clang cwd.now view.now (words_of words.now) both)) (λ _. within ≡ false)) }
@@ -72,8 +72,8 @@ fn read_between(
     }
 }
 
-/// The reading of a command line between the words that its environment adds, if it and each of its inner lines have at most
-/// `most` words and openings of files; else `TooManyWords`. If the value of a variable is not a text, it is refused before it
+/// The reading of a command line between the words that its environment adds, if the words and openings of files of it and
+/// of each of its inner lines are within the limits; else `TooManyWords`. If the value of a variable is not a text, it is refused before it
 /// is read (docs/RULES.md, Msvc).
 pub fn read_surrounded(
     alloc: Global,
@@ -82,7 +82,7 @@ pub fn read_surrounded(
     env_vars: &[(Vec<u8>, Vec<u8>)],
     is_clang: bool,
     view: &View,
-    most: usize,
+    most: Limits,
 ) -> Mem<Result<MsvcReading, TooManyWords>>
     ensures { IfOk result (λ said. let within = is_surrounded_within most is_clang cwd.now (pairs_of env_vars.now) view.now (words_of words.now) in
         MatchResult said (λ reading. (within ≡ true) × (reading ≡ surrounded_read is_clang cwd.now (pairs_of env_vars.now) view.now (words_of words.now))) (λ _. within ≡ false)) }

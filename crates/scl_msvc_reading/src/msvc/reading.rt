@@ -18,7 +18,7 @@ use scl_gnu_reading::gcc;
 use scl_text::records::{CompilerArguments, ParsedArguments};
 use scl_text::stop::into_answer;
 use scl_text::view::View;
-use scl_text::{Expanded, Line, ReadLine, Stop, TooManyWords};
+use scl_text::{Expanded, Limits, Line, ReadLine, Stop, TooManyWords};
 use std::alloc::Global;
 use std::marker::Model;
 
@@ -63,14 +63,14 @@ fn outer_line(alloc: Global, is_clang: bool, expanded: Expanded) -> Mem<ReadLine
     ReadLine::read(alloc, &trees, is_clang, &ByVerdict { is_clang }, expanded)
 }
 
-/// The line of the words in the options of these kinds, if it has at most `most` words and openings of files.
+/// The line of the words in the options of these kinds, if its words and openings of files are within the limits.
 fn line_behind(
     alloc: Global,
     outer: &Line<ArgData>,
     kinds: &[Kind],
     cwd: &[u8],
     view: &View,
-    most: usize,
+    most: Limits,
 ) -> Mem<Result<ReadLine<gcc::ArgData>, TooManyWords>>
     ensures { IfOk result (λ said. let within = is_behind_within most kinds.now cwd.now view.now outer.now in
         MatchResult said (λ line. (within ≡ true) × (line ≡ line_behind kinds.now cwd.now view.now outer.now)) (λ _. within ≡ false)) }
@@ -88,13 +88,13 @@ struct InnerLines {
     either: ReadLine<gcc::ArgData>,
 }
 
-/// The inner lines, if each has at most `most` words and openings of files.
+/// The inner lines, if the words and openings of files of each are within the limits.
 fn inner_lines(
     alloc: Global,
     outer: &Line<ArgData>,
     cwd: &[u8],
     view: &View,
-    most: usize,
+    most: Limits,
 ) -> Mem<Result<InnerLines, TooManyWords>>
     ensures { IfOk result (λ said. let within = are_behind_within most cwd.now view.now outer.now in
         MatchResult said (λ lines. (within ≡ true) × AreInnerLines cwd.now view.now outer.now lines) (λ _. within ≡ false)) }
@@ -162,8 +162,8 @@ fn outcome(
 }
 
 impl MsvcReading {
-    /// The reading of expanded words, some of which the environment gave, if each inner line has at most `most` words and
-    /// openings of files; else `TooManyWords`.
+    /// The reading of expanded words, some of which the environment gave, if the words and openings of files of
+    /// each inner line are within the limits; else `TooManyWords`.
     pub fn read(
         alloc: Global,
         environment: Vec<Vec<u8>>,
@@ -171,7 +171,7 @@ impl MsvcReading {
         cwd: &[u8],
         is_clang: bool,
         view: &View,
-        most: usize,
+        most: Limits,
     ) -> Mem<Result<MsvcReading, TooManyWords>>
         ensures { IfOk result (λ said. let within = are_inner_within most is_clang cwd.now view.now (expanded_of expanded) in
             MatchResult said (λ r. (within ≡ true) × (r ≡ read_by is_clang cwd.now view.now (words_of environment.items) (expanded_of expanded))) (λ _. within ≡ false)) }

@@ -11,7 +11,7 @@ use Rattle.scl_describe.proofs.descriptions.request_description.Goals as goal
 pub returns-in_ok-text-in-Ok : goal.returns-in_ok-text-in-Ok
 returns-in_ok-text-in-Ok c =
     let line : Given = given_by c.line-line.result in
-    let read : (has_at_most c.args.settings.now.bound (asked_for c.args.request.now.compiler line) ≡ true) × (c.in-Ok.reading ≡ read_of (asked_for c.args.request.now.compiler line)) =
+    let read : (has_at_most c.args.settings.now.limits (asked_for c.args.request.now.compiler line) ≡ true) × (c.in-Ok.reading ≡ read_of (asked_for c.args.request.now.compiler line)) =
     rw c.in-Ok.is at c.in_ok-reading.ensures in
     is_described (tables_of c.args.tables.now) (settings_by c.args.settings.now) (asked_by c.args.request.now) line c.line-line.ensures c.in-Ok.reading c.in_ok-text-in-Ok.text.items read
     (rw (c.known_of-known.ensures, c.as_deref.ensures.value) at c.in_ok-text-in-Ok.ensures)

@@ -42,7 +42,7 @@ returns-in-Err c =
     let within = subst (λ ws. i < length ws) c.deref-word-items.ensures.value c.loop-word-test.true in
     let is = subst (λ ws. word ≡ get_or ws i word) c.deref-word-items.ensures.value c.word-item.is in
     let walking = subst (λ ls. IsWalking kind directory files most (words_of given.words.items) ls given.ats.items c.loop-word.left.now c.args.all.now all) (word_at given.words.items i word within is) c.loop-word.invariant in
-    let many = subst (λ w. AreTooMany most (words_of all.words.items ++ expand kind directory files (w ∷ [])) (words_of all.openings.items ++ openings kind directory files (w ∷ []))) c.deref.ensures.value
+    let many = subst (λ w. AreTooMany most files (words_of all.words.items ++ expand kind directory files (w ∷ [])) (words_of all.openings.items ++ openings kind directory files (w ∷ []))) c.deref.ensures.value
     (rw c.in-Err.is at c.in_ok-walk_given.ensures) in
     walk_stops kind directory files most (words_of given.words.items) word.items _ given.ats.items c.loop-word.left.now c.loop-word.left.now c.args.all.now all walking many
 

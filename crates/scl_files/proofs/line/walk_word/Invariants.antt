@@ -11,7 +11,7 @@ invariant-loop-expansion l = record {
   words : words_of l.all.words.items ++ left_of l.expansion ≡ words_of l.fn.all.words.items ++ expand l.fn.kind l.fn.cwd l.fn.view.files (l.fn.word ∷ []);
   openings : words_of l.all.openings.items ++ openings_of l.expansion ≡ words_of l.fn.all.openings.items ++ openings l.fn.kind l.fn.cwd l.fn.view.files (l.fn.word ∷ []);
   ats : l.all.ats.items ≡ l.fn.all.ats.items;
-  within : IsWithin l.fn.most l.all;
+  within : IsWithin l.fn.most l.fn.view.files l.all;
 }
 
 abbrev pub decreases-loop-expansion : goal.decreases-loop-expansion

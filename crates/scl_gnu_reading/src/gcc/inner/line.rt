@@ -11,7 +11,9 @@ use crate::clang;
 use crate::gcc::data::ArgData;
 use scl_args::Mem;
 use scl_text::view::View;
-use scl_text::{Expanded, ExpansionKind, Judge, ReadLine, Sourced, TooManyWords, expand_line};
+use scl_text::{
+    Expanded, ExpansionKind, Judge, Limits, ReadLine, Sourced, TooManyWords, expand_line,
+};
 use std::alloc::Global;
 
 /// The line of expanded words.
@@ -27,7 +29,7 @@ fn cut_inner<J: Judge<ArgData>>(
 }
 
 /// The inner command line of these words, with response files expanded, cut by Clang's tables and judged; `--` does not end
-/// options (docs/RULES.md, Inner command lines). If it has more than `most` words or openings of files, the result is
+/// options (docs/RULES.md, Inner command lines). If its words or openings of files exceed the limits, the result is
 /// `TooManyWords`.
 pub fn read_inner_line<J: Judge<ArgData>>(
     alloc: Global,
@@ -35,7 +37,7 @@ pub fn read_inner_line<J: Judge<ArgData>>(
     handed: Sourced,
     cwd: &[u8],
     view: &View,
-    most: usize,
+    most: Limits,
 ) -> Mem<Result<ReadLine<ArgData>, TooManyWords>>
     ensures { IfOk result (λ said. IsInnerRead (J.verdict judge.now) most cwd.now view.now (words_of handed.words.items) handed.ats.items said) }
 {
