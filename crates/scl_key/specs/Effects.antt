@@ -1,5 +1,5 @@
 -- What words of a command line do beside compiling, as far as a key has to answer for it: tables, a word a line.
-use Rattle.std.specs.Prelude.{ℕ, Bool, true, false, nat_eq, List, [], ◌∷◌, ◌++◌, Option, codes, find, map, unwrap_or, if◌then◌else◌}
+use Rattle.std.specs.Prelude.{ℕ, Bool, true, false, nat_eq, ◌-◌, List, [], ◌∷◌, ◌++◌, Option, codes, find, map, unwrap_or, if◌then◌else◌}
 use Rattle.std.specs.Borrow.{Bor}
 use Rattle.std.specs.List.{flat_map, starts_with}
 use Rattle.std.specs.Option.{option_map, option_or}
@@ -203,9 +203,20 @@ abbrev pub suffixes : ℕ → List ℕ → List (List ℕ)
 suffixes mark [] = []
 suffixes mark (byte ∷ bytes) = if nat_eq byte mark then bytes ∷ suffixes mark bytes else suffixes mark bytes
 
--- the words that a word passes to the assembler, each with those after it
+-- what stands before the first such byte of a text
+abbrev pub until : ℕ → List ℕ → List ℕ
+until mark [] = []
+until mark (byte ∷ bytes) = if nat_eq byte mark then [] else byte ∷ until mark bytes
+
+-- what stands after each such byte of a text: all after the first ones, as many as `whole`, and after the others what stands before the next
+abbrev pub pieces : (mark whole : ℕ) → List ℕ → List (List ℕ)
+pieces mark whole [] = []
+pieces mark whole (byte ∷ bytes) =
+    if nat_eq byte mark then (if nat_eq whole 0 then until mark bytes else bytes) ∷ pieces mark (whole - 1) bytes else pieces mark whole bytes
+
+-- the words that a word passes to the assembler
 abbrev pub handed_words : List ℕ → List (List ℕ)
-handed_words word = if starts_with nat_eq word (codes "-Wa,") then suffixes 44 word else []
+handed_words word = if starts_with nat_eq word (codes "-Wa,") then pieces 44 0 word else []
 
 -- the words after each word that is this flag
 abbrev pub behind : (flag : List ℕ) → (is_behind : Bool) → List (List ℕ) → List (List ℕ)

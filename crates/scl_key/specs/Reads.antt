@@ -8,24 +8,19 @@ use Rattle.scl_text.specs.Records.{Parsed}
 use Rattle.scl_reader.specs.declared.compiler.Compiler.{Compiler}
 use Rattle.scl_key.specs.declared.effect.Effect.{Effect}
 use Rattle.scl_key.specs.declared.effect.Effect.TheVariants as effects
-use Rattle.scl_key.specs.Effects.{Judged, is_comma, is_plain, judged_in, suffixes}
+use Rattle.scl_key.specs.Effects.{Judged, is_comma, is_plain, judged_in, pieces, until}
 use Rattle.scl_key.specs.Families.{is_clang}
 use Rattle.scl_key.specs.Given.{headers, macro_files}
 
--- a text, and what stands after each of its `=`
+-- a text, and what stands after each of its `=`: to its end after the first four, and up to the next after the others
 abbrev pub with_values : List ℕ → List (List ℕ)
-with_values text = text ∷ suffixes 61 text
-
--- what stands before the first comma
-abbrev pub until_comma : List ℕ → List ℕ
-until_comma [] = []
-until_comma (byte ∷ bytes) = if is_comma byte then [] else byte ∷ until_comma bytes
+with_values text = text ∷ pieces 61 4 text
 
 -- the parts between commas, if there are any
 abbrev pub comma_parts : List ℕ → List (List ℕ)
-comma_parts text = if list_any is_comma text then map until_comma (text ∷ suffixes 44 text) else []
+comma_parts text = if list_any is_comma text then until 44 text ∷ pieces 44 0 text else []
 
--- what a word may hold that names a file: itself and each part between commas, and what stands after each `=` of those
+-- what a word may hold that names a file: itself and each part between commas, and what stands after the `=` of those
 abbrev pub values : List ℕ → List (List ℕ)
 values word = with_values word ++ flat_map with_values (comma_parts word)
 

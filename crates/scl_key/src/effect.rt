@@ -2,7 +2,7 @@
 ghost use Rattle.std.specs.Prelude.{◌≡◌, ◌++◌, map, IfOk, OnOk, false};
 ghost use Rattle.std.specs.List.{flat_map, list_any};
 ghost use Rattle.scl_values.specs.Words.{words_of};
-ghost use Rattle.scl_key.specs.Effects.{assembler_effect, assembler_words, behind, effect_of, front_effect, fronts, handed_words, is_comma, is_plain, judged_in, keeps_macros, known_effect, rows_of, suffixes, whole_effect, whole_words, writes_unnamed};
+ghost use Rattle.scl_key.specs.Effects.{assembler_effect, assembler_words, behind, effect_of, front_effect, fronts, handed_words, is_comma, is_plain, judged_in, keeps_macros, known_effect, pieces, rows_of, until, whole_effect, whole_words, writes_unnamed};
 ghost use Rattle.scl_key.specs.JudgedViews.{all_judged};
 
 use scl_text::Mem;
@@ -265,24 +265,49 @@ impl Effect {
     }
 }
 
-/// Appends what stands after each such byte of a text.
-pub(crate) fn push_suffixes<'a>(found: &mut Vec<&'a [u8]>, mark: u8, text: &'a [u8]) -> Mem<()>
-    ensures { OnOk result (map (λ word. word.now) found.new.items ≡ map (λ word. word.now) found.old.items ++ suffixes mark text.now) }
+/// What stands before the first such byte of a text.
+pub(crate) fn until(mark: u8, text: &[u8]) -> &[u8]
+    ensures { result.now ≡ until mark text.now }
 {
     for (at, byte) in text.iter().enumerate() {
         if *byte == mark {
-            found.push(&text[at + 1..])?;
+            return &text[..at];
+        }
+    }
+    text
+}
+
+/// Appends what stands after each such byte of a text: all after the first ones, as many as `whole`, and after the others what
+/// stands before the next.
+pub(crate) fn push_pieces<'a>(
+    found: &mut Vec<&'a [u8]>,
+    mark: u8,
+    whole: usize,
+    text: &'a [u8],
+) -> Mem<()>
+    ensures { OnOk result (map (λ word. word.now) found.new.items ≡ map (λ word. word.now) found.old.items ++ pieces mark whole text.now) }
+{
+    let mut left = whole;
+    for (at, byte) in text.iter().enumerate() {
+        if *byte == mark {
+            let behind = &text[at + 1..];
+            found.push(if left == 0 {
+                until(mark, behind)
+            } else {
+                behind
+            })?;
+            left = left.saturating_sub(1);
         }
     }
     Ok(())
 }
 
-/// Appends the words that a word passes to the assembler, each with those after it.
+/// Appends the words that a word passes to the assembler.
 fn push_handed<'a>(found: &mut Vec<&'a [u8]>, word: &'a [u8]) -> Mem<()>
     ensures { OnOk result (map (λ word. word.now) found.new.items ≡ map (λ word. word.now) found.old.items ++ handed_words word.now) }
 {
     if word.starts_with(b"-Wa,") {
-        push_suffixes(found, b',', word)
+        push_pieces(found, b',', 0, word)
     } else {
         Ok(())
     }

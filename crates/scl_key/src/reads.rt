@@ -10,10 +10,10 @@ ghost use Rattle.scl_key.specs.Families.{is_clang};
 ghost use Rattle.scl_key.specs.Given.{given_in, values_among};
 ghost use Rattle.scl_key.specs.GivenViews.{all_given};
 ghost use Rattle.scl_key.specs.JudgedViews.{all_judged};
-ghost use Rattle.scl_key.specs.Reads.{comma_parts, files_perhaps, is_path, paths_by, precompiled, profile_by, until_comma, values, with_values, without_at};
+ghost use Rattle.scl_key.specs.Reads.{comma_parts, files_perhaps, is_path, paths_by, precompiled, profile_by, values, with_values, without_at};
 ghost use Rattle.scl_key.specs.declared.given.Brings.TheVariants as Brings;
 
-use crate::effect::{Effect, Judged, has_comma, judged_words, push_suffixes};
+use crate::effect::{Effect, Judged, has_comma, judged_words, push_pieces, until};
 use crate::family::is_clang;
 use crate::given::{Brings, Given, Known, values_among};
 use scl_files::path::with_extension;
@@ -24,34 +24,16 @@ use scl_text::outputs::output_path;
 use scl_text::records::ParsedArguments;
 use std::alloc::Global;
 
+/// How many values of a text have the text to its end; further ones end at the next `=`, so that all together are no longer than
+/// a few such texts.
+const WHOLE_VALUES: usize = 4;
+
 /// Appends a text, and what stands after each of its `=`.
 fn push_with_values<'a>(values: &mut Vec<&'a [u8]>, text: &'a [u8]) -> Mem<()>
     ensures { OnOk result (map (λ value. value.now) values.new.items ≡ map (λ value. value.now) values.old.items ++ with_values text.now) }
 {
     values.push(text)?;
-    push_suffixes(values, b'=', text)
-}
-
-/// What stands before the first comma.
-fn until_comma(text: &[u8]) -> &[u8]
-    ensures { result.now ≡ until_comma text.now }
-{
-    for (at, byte) in text.iter().enumerate() {
-        if *byte == b',' {
-            return &text[..at];
-        }
-    }
-    text
-}
-
-/// Appends what stands before the first comma of each of these.
-fn push_until_comma<'a>(parts: &mut Vec<&'a [u8]>, texts: &[&'a [u8]]) -> Mem<()>
-    ensures { OnOk result (map (λ part. part.now) parts.new.items ≡ map (λ part. part.now) parts.old.items ++ map until_comma (map (λ text. text.now) texts.now)) }
-{
-    for text in texts {
-        parts.push(until_comma(text))?;
-    }
-    Ok(())
+    push_pieces(values, b'=', WHOLE_VALUES, text)
 }
 
 /// The parts between commas, if there are any.
@@ -60,10 +42,8 @@ fn comma_parts<'a>(alloc: Global, text: &'a [u8]) -> Mem<Vec<&'a [u8]>>
 {
     let mut parts = Vec::new(alloc);
     if has_comma(text) {
-        let mut texts = Vec::new(alloc);
-        texts.push(text)?;
-        push_suffixes(&mut texts, b',', text)?;
-        push_until_comma(&mut parts, &texts)?;
+        parts.push(until(b',', text))?;
+        push_pieces(&mut parts, b',', 0, text)?;
     }
     Ok(parts)
 }
