@@ -3,7 +3,7 @@ use Rattle.std.specs.Prelude.{ℕ, Bool, false, nat_eq, ◌&&◌, ◌||◌, not,
 use Rattle.std.specs.List.{flat_map, list_all, list_any, starts_with}
 use Rattle.std.specs.Option.{option_to_list}
 use Rattle.std.specs.Str.{bytes_eq}
-use Rattle.scl_files.specs.Paths.{same_path}
+use Rattle.scl_files.specs.Views.{is_among}
 use Rattle.scl_text.specs.Records.{Parsed}
 use Rattle.scl_description.specs.Rows.{Entry, row_entry}
 use Rattle.scl_reader.specs.declared.compiler.Compiler.{Compiler}
@@ -166,7 +166,7 @@ made_paths p = map (λ output. output.path) (made p)
 -- the paths that are named again
 abbrev pub repeated : List (List ℕ) → List (List ℕ)
 repeated [] = []
-repeated (path ∷ paths) = if list_any (same_path path) paths then path ∷ repeated paths else repeated paths
+repeated (path ∷ paths) = if is_among path paths then path ∷ repeated paths else repeated paths
 
 abbrev pub hazards : RunWords → List NoKey
 hazards built = []

@@ -1,5 +1,5 @@
 //! Why there is no key.
-ghost use Rattle.std.specs.Prelude.{◌≡◌, ◌++◌, ◌∷◌, [], map, filter, drop, codes, false, IfOk, OnOk};
+ghost use Rattle.std.specs.Prelude.{◌≡◌, ◌++◌, ◌∷◌, [], map, filter, drop, reverse, codes, false, IfOk, OnOk};
 ghost use Rattle.std.specs.List.{flat_map, list_any};
 ghost use Rattle.scl_values.specs.Words.{words_of};
 ghost use Rattle.scl_text.specs.Records.{parsed_of};
@@ -19,6 +19,7 @@ use crate::part::Output;
 use crate::reads::push_values;
 use crate::told::RunWords;
 use scl_description::push_row;
+use scl_files::View;
 use scl_files::path::same_path;
 use scl_reader::Compiler;
 use scl_text::Mem;
@@ -309,18 +310,45 @@ pub(crate) fn has_path(path: &[u8], outputs: &[Output]) -> bool
     false
 }
 
+/// The paths that are named again, the last first.
+fn repeated_from_the_end<'a>(alloc: Global, outputs: &'a [Output]) -> Mem<Vec<&'a [u8]>>
+    ensures { IfOk result (λ paths. reverse (map (λ path. path.now) paths.items) ≡ repeated (paths_of outputs.now)) }
+{
+    let mut later = View::new(alloc);
+    let mut found = Vec::new(alloc);
+    let mut left = outputs;
+    while let Some((output, before)) = left.split_last() {
+        if later.exists(&output.path) {
+            found.push(output.path.as_slice())?;
+        }
+        later.add_existing(Vec::from_slice(alloc, &output.path)?)?;
+        left = before;
+    }
+    Ok(found)
+}
+
+/// Appends a reason with each path, the last first.
+fn push_from_the_end(
+    alloc: Global,
+    why: &mut Vec<NoKey>,
+    reason: Reason,
+    paths: Vec<&[u8]>,
+) -> Mem<()>
+    ensures { OnOk result (no_keys_of why.new.items ≡ no_keys_of why.old.items ++ map (no_key reason) (reverse (map (λ path. path.now) paths.items))) }
+{
+    let mut left = paths;
+    while let Some(path) = left.pop() {
+        push_no(alloc, why, reason, path)?;
+    }
+    Ok(())
+}
+
 /// Appends the paths that are named again.
 fn push_repeated(alloc: Global, why: &mut Vec<NoKey>, outputs: &[Output]) -> Mem<()>
     ensures { OnOk result (no_keys_of why.new.items ≡ no_keys_of why.old.items ++ map (no_key Reason.OnePathTwice) (repeated (paths_of outputs.now))) }
 {
-    let mut rest = outputs;
-    while let [output, others @ ..] = rest {
-        if has_path(&output.path, others) {
-            push_no(alloc, why, Reason::OnePathTwice, &output.path)?;
-        }
-        rest = others;
-    }
-    Ok(())
+    let paths = repeated_from_the_end(alloc, outputs)?;
+    push_from_the_end(alloc, why, Reason::OnePathTwice, paths)
 }
 
 /// Appends the hazard for which no words can be run.
