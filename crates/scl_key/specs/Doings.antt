@@ -1,15 +1,15 @@
 -- What a key has of what the compiler does besides compiling, as a catalogue states it.
 use Rattle.std.specs.Prelude.{ℕ, Bool, true, not, ◌&&◌, ◌||◌, ◌==◌, List, [], ◌∷◌, ◌++◌, length, map, filter, codes, if◌then◌else◌}
-use Rattle.std.specs.List.{flat_map, list_any}
+use Rattle.std.specs.List.{flat_map}
 use Rattle.std.specs.Str.{bytes_eq}
 use Rattle.scl_catalogue.specs.declared.entry.Verb.{Verb}
 use Rattle.scl_catalogue.specs.declared.entry.Verb.TheVariants as verb
 use Rattle.scl_effects.specs.Effects.{Effect}
-use Rattle.scl_files.specs.Paths.{same_path}
+use Rattle.scl_files.specs.Views.{Viewed, exists}
 use Rattle.scl_text.specs.Records.{Parsed, artifact}
 use Rattle.scl_key.specs.declared.no_key.Reason.TheVariants as reasons
 use Rattle.scl_key.specs.declared.part.Ask.TheVariants as asks
-use Rattle.scl_key.specs.Keys.{Keeping, under, not_kept, NoKey, is_no_file, keeping_by, made_paths, no_key}
+use Rattle.scl_key.specs.Keys.{Keeping, under, not_kept, NoKey, is_no_file, keeping_by, made_paths, no_key, view_of}
 use Rattle.scl_key.specs.Parts.{Part, asked, output}
 
 -- what the parts of each key answer: the name of the directory, and the processor, which a plan spells out
@@ -35,18 +35,18 @@ abbrev pub bars : Effect → Bool
 bars e = bars_by e.verb e.is_like e.name
 
 -- a file that comes out, unless the command makes it anyway
-abbrev pub output_by : List (List ℕ) → (path : List ℕ) → List Part
-output_by paths path = if list_any (same_path path) paths then [] else output (artifact (codes "effect") path true) ∷ []
+abbrev pub output_by : Viewed → (path : List ℕ) → List Part
+output_by outputs path = if exists path outputs then [] else output (artifact (codes "effect") path true) ∷ []
 
-abbrev pub parts_by : List (List ℕ) → Verb → (name : List ℕ) → List Part
-parts_by paths verb.Reads name = asked asks.Maybe name ∷ []
-parts_by paths verb.Writes name = output_by paths name
-parts_by paths verb.Asks name = []
-parts_by paths verb.Loads name = []
+abbrev pub parts_by : Viewed → Verb → (name : List ℕ) → List Part
+parts_by outputs verb.Reads name = asked asks.Maybe name ∷ []
+parts_by outputs verb.Writes name = output_by outputs name
+parts_by outputs verb.Asks name = []
+parts_by outputs verb.Loads name = []
 
--- what each effect adds to a key, of a command that makes files of these paths
-abbrev pub parts_told : List (List ℕ) → List Effect → List Part
-parts_told paths effects = flat_map (λ e. parts_by paths e.verb e.name) effects
+-- what each effect adds to a key, of a command whose outputs exist in this view
+abbrev pub parts_told : Viewed → List Effect → List Part
+parts_told outputs effects = flat_map (λ e. parts_by outputs e.verb e.name) effects
 
 -- the effects that bar a key
 abbrev pub barred : List Effect → List NoKey
@@ -54,5 +54,5 @@ barred effects = map (λ e. no_key reasons.Effect e.name) (filter bars effects)
 
 -- what is said of a command line whose compiler has these effects
 abbrev pub with_effects : Parsed → List Effect → Keeping → Keeping
-with_effects p effects (under key direct) = keeping_by (barred effects) (key ++ parts_told (made_paths p) effects) direct
+with_effects p effects (under key direct) = keeping_by (barred effects) (key ++ parts_told (view_of (made_paths p)) effects) direct
 with_effects p effects (not_kept why) = not_kept why

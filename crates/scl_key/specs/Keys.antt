@@ -3,7 +3,7 @@ use Rattle.std.specs.Prelude.{ℕ, Bool, false, nat_eq, ◌&&◌, ◌||◌, not,
 use Rattle.std.specs.List.{flat_map, list_all, list_any, starts_with}
 use Rattle.std.specs.Option.{option_to_list}
 use Rattle.std.specs.Str.{bytes_eq}
-use Rattle.scl_files.specs.Views.{is_among}
+use Rattle.scl_files.specs.Views.{Viewed, empty_view, is_among}
 use Rattle.scl_text.specs.Records.{Parsed}
 use Rattle.scl_description.specs.Rows.{Entry, row_entry}
 use Rattle.scl_reader.specs.declared.compiler.Compiler.{Compiler}
@@ -162,6 +162,10 @@ is_no_file path = bytes_eq path (codes "-") || (starts_with nat_eq path (codes "
 
 abbrev pub made_paths : Parsed → List (List ℕ)
 made_paths p = map (λ output. output.path) (made p)
+
+-- what a view has in which these paths exist
+abbrev pub view_of : List (List ℕ) → Viewed
+view_of paths = record empty_view { existing = paths }
 
 -- the paths that are named again
 abbrev pub repeated : List (List ℕ) → List (List ℕ)

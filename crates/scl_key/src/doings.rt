@@ -3,16 +3,17 @@ ghost use Rattle.std.specs.Prelude.{◌≡◌, ◌++◌, ◌∷◌, [], map, fil
 ghost use Rattle.std.specs.List.{flat_map};
 ghost use Rattle.scl_text.specs.Records.{parsed_of};
 ghost use Rattle.scl_key.specs.Doings.{barred, bars, is_answered, is_fleeting, is_lost, output_by, parts_by, parts_told, with_effects};
-ghost use Rattle.scl_key.specs.Keys.{keeping_by, made_paths, no_key};
-ghost use Rattle.scl_key.specs.Views.{directs_of, keeping_of as keeping_told, no_keys_of, outputs_of, parts_of, paths_of};
+ghost use Rattle.scl_key.specs.Keys.{keeping_by, made_paths, no_key, view_of};
+ghost use Rattle.scl_key.specs.Views.{directs_of, keeping_of as keeping_told, no_keys_of, parts_of};
 
 use crate::direct::Direct;
 use crate::key::Keeping;
 use crate::made::made;
-use crate::no_key::{NoKey, Reason, has_path, is_no_file};
+use crate::no_key::{NoKey, Reason, is_no_file, view_of};
 use crate::part::{Ask, Output, Part};
 use scl_catalogue::Verb;
 use scl_effects::Effect;
+use scl_files::View;
 use scl_text::Mem;
 use scl_text::records::ParsedArguments;
 use std::alloc::Global;
@@ -75,10 +76,10 @@ fn barred(alloc: Global, effects: &[Effect]) -> Mem<Vec<NoKey>>
 }
 
 /// Appends a file that comes out, unless it is among the others.
-fn push_output(alloc: Global, parts: &mut Vec<Part>, outputs: &[Output], path: &[u8]) -> Mem<()>
-    ensures { OnOk result (parts_of parts.new.items ≡ parts_of parts.old.items ++ output_by (paths_of outputs.now) path.now) }
+fn push_output(alloc: Global, parts: &mut Vec<Part>, outputs: &View, path: &[u8]) -> Mem<()>
+    ensures { OnOk result (parts_of parts.new.items ≡ parts_of parts.old.items ++ output_by outputs.now path.now) }
 {
-    if !has_path(path, outputs) {
+    if !outputs.exists(path) {
         parts.push(Part::Output(Output {
             name: Vec::from_slice(alloc, b"effect")?,
             path: Vec::from_slice(alloc, path)?,
@@ -89,8 +90,8 @@ fn push_output(alloc: Global, parts: &mut Vec<Part>, outputs: &[Output], path: &
 }
 
 /// Appends what an effect adds to a key.
-fn push_parts(alloc: Global, parts: &mut Vec<Part>, outputs: &[Output], effect: &Effect) -> Mem<()>
-    ensures { OnOk result (parts_of parts.new.items ≡ parts_of parts.old.items ++ parts_by (paths_of outputs.now) effect.now.verb effect.now.name) }
+fn push_parts(alloc: Global, parts: &mut Vec<Part>, outputs: &View, effect: &Effect) -> Mem<()>
+    ensures { OnOk result (parts_of parts.new.items ≡ parts_of parts.old.items ++ parts_by outputs.now effect.now.verb effect.now.name) }
 {
     match effect.verb() {
         Verb::Reads => {
@@ -107,10 +108,10 @@ fn push_parts(alloc: Global, parts: &mut Vec<Part>, outputs: &[Output], effect: 
 fn push_all_parts(
     alloc: Global,
     parts: &mut Vec<Part>,
-    outputs: &[Output],
+    outputs: &View,
     effects: &[Effect],
 ) -> Mem<()>
-    ensures { OnOk result (parts_of parts.new.items ≡ parts_of parts.old.items ++ parts_told (paths_of outputs.now) effects.now) }
+    ensures { OnOk result (parts_of parts.new.items ≡ parts_of parts.old.items ++ parts_told outputs.now effects.now) }
 {
     for effect in effects {
         push_parts(alloc, parts, outputs, effect)?;
@@ -125,10 +126,11 @@ fn key_with(
     effects: &[Effect],
     key: Vec<Part>,
 ) -> Mem<Vec<Part>>
-    ensures { IfOk result (λ parts. parts_of parts.items ≡ parts_of key.items ++ parts_told (made_paths (parsed_of parsed.now)) effects.now) }
+    ensures { IfOk result (λ parts. parts_of parts.items ≡ parts_of key.items ++ parts_told (view_of (made_paths (parsed_of parsed.now))) effects.now) }
 {
     let mut key = key;
-    let outputs = made(alloc, parsed)?;
+    let files = made(alloc, parsed)?;
+    let outputs = view_of(alloc, &files)?;
     push_all_parts(alloc, &mut key, &outputs, effects)?;
     Ok(key)
 }
@@ -141,7 +143,7 @@ fn under_effects(
     key: Vec<Part>,
     direct: Vec<Direct>,
 ) -> Mem<Keeping>
-    ensures { IfOk result (λ kept. keeping_told kept ≡ keeping_by (barred effects.now) (parts_of key.items ++ parts_told (made_paths (parsed_of parsed.now)) effects.now) (directs_of direct.items)) }
+    ensures { IfOk result (λ kept. keeping_told kept ≡ keeping_by (barred effects.now) (parts_of key.items ++ parts_told (view_of (made_paths (parsed_of parsed.now))) effects.now) (directs_of direct.items)) }
 {
     let why = barred(alloc, effects)?;
     if !why.is_empty() {

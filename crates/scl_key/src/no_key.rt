@@ -4,10 +4,9 @@ ghost use Rattle.std.specs.List.{flat_map, list_any};
 ghost use Rattle.scl_values.specs.Words.{words_of};
 ghost use Rattle.scl_text.specs.Records.{parsed_of};
 ghost use Rattle.scl_description.specs.Rows.{entries_text, entry_text, row_entry};
-ghost use Rattle.scl_files.specs.Paths.{same_path};
 ghost use Rattle.scl_key.specs.Effects.{assembler_effect, assembler_words, behind, judged, judged_in, suffixes, writes_unnamed};
 ghost use Rattle.scl_key.specs.JudgedViews.{all_judged};
-ghost use Rattle.scl_key.specs.Keys.{asks_for_rules, hazards, hides_file, is_no_file, lost_files, no_key, no_key_by, no_key_entry, no_keys, no_keys_by_words, reason_name, reason_of, repeated, unnamed, unnamed_by};
+ghost use Rattle.scl_key.specs.Keys.{asks_for_rules, hazards, hides_file, is_no_file, lost_files, no_key, no_key_by, no_key_entry, no_keys, no_keys_by_words, reason_name, reason_of, repeated, unnamed, unnamed_by, view_of};
 ghost use Rattle.scl_key.specs.Made.{dependency_files, made};
 ghost use Rattle.scl_key.specs.Views.{no_key_of, no_keys_of, outputs_of, paths_of, run_words_of};
 ghost use Rattle.scl_key.specs.declared.no_key.Reason.TheVariants as Reason;
@@ -20,7 +19,6 @@ use crate::reads::push_values;
 use crate::told::RunWords;
 use scl_description::push_row;
 use scl_files::View;
-use scl_files::path::same_path;
 use scl_reader::Compiler;
 use scl_text::Mem;
 use scl_text::command::{push_word, push_words};
@@ -299,15 +297,17 @@ fn push_no_files(alloc: Global, why: &mut Vec<NoKey>, outputs: &[Output]) -> Mem
     Ok(())
 }
 
-pub(crate) fn has_path(path: &[u8], outputs: &[Output]) -> bool
-    ensures { result ≡ list_any (same_path path.now) (paths_of outputs.now) }
+/// A view in which the paths of outputs exist.
+pub(crate) fn view_of(alloc: Global, outputs: &[Output]) -> Mem<View>
+    ensures { IfOk result (λ view. view ≡ view_of (paths_of outputs.now)) }
 {
-    for output in outputs {
-        if same_path(path, &output.path) {
-            return true;
-        }
+    let mut view = View::new(alloc);
+    let mut left = outputs;
+    while let Some((output, before)) = left.split_last() {
+        view.add_existing(Vec::from_slice(alloc, &output.path)?)?;
+        left = before;
     }
-    false
+    Ok(view)
 }
 
 /// The paths that are named again, the last first.
@@ -334,7 +334,7 @@ fn push_from_the_end(
     reason: Reason,
     paths: Vec<&[u8]>,
 ) -> Mem<()>
-    ensures { OnOk result (no_keys_of why.new.items ≡ no_keys_of why.old.items ++ map (no_key reason) (reverse (map (λ path. path.now) paths.items))) }
+    ensures { OnOk result (no_keys_of why.new.items ≡ no_keys_of why.old.items ++ map (no_key reason) (reverse (map (λ path. path.now) paths.entry.items))) }
 {
     let mut left = paths;
     while let Some(path) = left.pop() {
