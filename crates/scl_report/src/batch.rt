@@ -5,8 +5,8 @@ use crate::foreign::{ForeignDisk, all_with_slashes, is_windows, same_answer};
 use crate::json::{self, push_refused_line};
 use crate::keep::verdicts;
 use crate::tally::Tally;
-use crate::why::{is_meant, why_text};
-use scl_cl::{Compiler, Mem, path};
+use crate::why::why_text;
+use scl_cl::{Compiler, Mem};
 use scl_describe::About;
 use scl_explain::{Answered, Case, Counts, Ending, EntryKind, answer_case, load_error_text};
 use scl_load::Disk;
@@ -261,19 +261,6 @@ impl<'a> Batch<'a> {
                 tally.counts.count_broken(named.entry, why)
             }
         }
-    }
-
-    /// Whether an entry's source is the one that a person names: by its path, or by the last parts of it.
-    pub fn is_meant(&self, alloc: Global, value: &Value, name: &str) -> Mem<bool> {
-        let directory = match value.get("directory").and_then(Value::as_str) {
-            Some(directory) => directory,
-            None => "",
-        };
-        let file = file_of(value);
-        let base = path::join(alloc, &self.base, directory.as_bytes())?;
-        let whole = path::join(alloc, &base, file.as_bytes())?;
-        let here = path::join(alloc, &self.base, name.as_bytes())?;
-        Ok(!file.is_empty() && (is_meant(&whole, name.as_bytes()) || whole == here))
     }
 
     fn answered_why<D: Disk>(

@@ -1,4 +1,5 @@
 //! What two command lines differ in, for a person.
+use crate::alone::{AT, Known, is_named};
 use crate::description::description;
 use crate::digest::outcome_text;
 use crate::foreign::{ForeignDisk, is_windows};
@@ -19,41 +20,14 @@ pub struct Compared {
     rows: Vec<Vec<Vec<u8>>>,
 }
 
-/// Where the field of an option's row stands that says which word it came from.
-const AT: usize = 3;
-
 /// Where the field of an option's row stands that says how many words were given.
 const COUNT: usize = 7;
-
-fn is_named(row: &[Vec<u8>], name: &str) -> bool {
-    match row.first() {
-        Some(first) => first.as_slice() == name.as_bytes(),
-        None => false,
-    }
-}
 
 fn field(row: &[Vec<u8>], at: usize) -> &[u8] {
     match row.get(at) {
         Some(field) => field,
         None => b"",
     }
-}
-
-/// Whether rows are the same, except for the field at this place.
-fn are_same(row: &[Vec<u8>], other: &[Vec<u8>], but: usize) -> bool {
-    if row.len() != other.len() {
-        return false;
-    }
-    for at in 0..row.len() {
-        if at != but && field(row, at) != field(other, at) {
-            return false;
-        }
-    }
-    true
-}
-
-fn is_in(rows: &[Vec<Vec<u8>>], row: &[Vec<u8>], but: usize) -> bool {
-    rows.iter().any(|other| are_same(other, row, but))
 }
 
 /// The number that digits write; 0 of any other text.
@@ -103,11 +77,11 @@ fn push_options(
     text: &mut String,
     title: &str,
     rows: &[Vec<Vec<u8>>],
-    others: &[Vec<Vec<u8>>],
+    others: &Known,
 ) -> Mem<()> {
     let mut is_first = true;
     for row in rows {
-        if is_named(row, "option") && !is_in(others, row, AT) {
+        if is_named(row, "option") && !others.has(alloc, row)? {
             if is_first {
                 write!(text, "options of the {title} only:\n")?;
                 is_first = false;
@@ -124,12 +98,12 @@ fn push_rows(
     text: &mut String,
     title: &str,
     rows: &[Vec<Vec<u8>>],
-    others: &[Vec<Vec<u8>>],
+    others: &Known,
 ) -> Mem<()> {
     let mut is_first = true;
     for row in rows {
         let is_of_key = is_named(row, "key") || is_named(row, "keep");
-        if is_of_key && !is_in(others, row, usize::MAX) {
+        if is_of_key && !others.has(alloc, row)? {
             if is_first {
                 write!(text, "key of the {title} only:\n")?;
                 is_first = false;
@@ -192,13 +166,15 @@ impl Compared {
 
     /// What differs: options, and rows of keys.
     pub fn difference(&self, alloc: Global, other: &Compared) -> Mem<String> {
+        let first = Known::of_rows(alloc, &self.rows)?;
+        let second = Known::of_rows(alloc, &other.rows)?;
         let mut text = String::new(alloc);
         self.push_outcome(&mut text, "first")?;
         other.push_outcome(&mut text, "second")?;
-        push_options(alloc, &mut text, "first", &self.rows, &other.rows)?;
-        push_options(alloc, &mut text, "second", &other.rows, &self.rows)?;
-        push_rows(alloc, &mut text, "first", &self.rows, &other.rows)?;
-        push_rows(alloc, &mut text, "second", &other.rows, &self.rows)?;
+        push_options(alloc, &mut text, "first", &self.rows, &second)?;
+        push_options(alloc, &mut text, "second", &other.rows, &first)?;
+        push_rows(alloc, &mut text, "first", &self.rows, &second)?;
+        push_rows(alloc, &mut text, "second", &other.rows, &first)?;
         if self.has_key_of(alloc, other)? {
             text.push_str(
                 "the rows of the keys are equal; what they ask, such as the contents of files, is not compared\n",

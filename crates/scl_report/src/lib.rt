@@ -2,6 +2,7 @@
 #![tactic(auto)]
 
 mod absent;
+mod alone;
 mod batch;
 mod database;
 mod description;
@@ -19,7 +20,9 @@ mod options;
 mod page;
 mod pages;
 mod paint;
+mod partners;
 mod reasons;
+mod sources;
 mod table;
 mod tally;
 mod why;
@@ -33,6 +36,8 @@ pub use entry::{EntryError, case_of_entry};
 pub use flags::flags_text;
 pub use kept::check_kept;
 pub use pages::Pages;
+pub use partners::Partners;
 pub use reasons::reasons_text;
 pub use serde_json::Value as EntryValue;
+pub use sources::Sources;
 pub use tally::Tally;

@@ -8,15 +8,6 @@ use scl_reasons::sentence;
 use scl_shell::shown;
 use std::alloc::Global;
 
-/// Whether a person who names a file means the one at this path: by its path, or by the last parts of it.
-pub(crate) fn is_meant(path: &[u8], name: &[u8]) -> bool {
-    let name = name.strip_prefix(b"./").unwrap_or(name);
-    match path.strip_suffix(name) {
-        Some(before) => before.is_empty() || name.is_empty() || before.ends_with(b"/"),
-        None => false,
-    }
-}
-
 fn push_line(text: &mut String, title: &str, said: &str) -> Mem<()> {
     write!(text, "    {title}: {said}\n")
 }
