@@ -42,7 +42,7 @@ enum scl_status {
     SCL_SHORT = 1,          /* the memory passed in is too short; *wanted says how much is wanted */
     SCL_BAD = 2,            /* a line of the text is bad; scl_ask: no served compiler has the name */
     SCL_NO_MEMORY = 3,      /* out of memory */
-    SCL_TOO_MANY_WORDS = 4, /* scl_ask: a command line has more words, or opens files more often, than was allowed */
+    SCL_TOO_MANY_WORDS = 4, /* scl_ask: a command line has more words or bytes, or opens files more often, than was allowed */
     SCL_NEWER = 5,          /* a line `setting` is bad: it is not known here; scl_ask: or the answer is not known here */
     SCL_BAD_CATALOGUE = 6   /* a line of the catalogue is wrong */
 };
@@ -54,13 +54,13 @@ uint32_t scl_version(void);
 
 /* The request's text (docs/PROTOCOL.md, A request) is answered by the answer's text (An answer), as ccline does. *wanted is
  * the length of the text (SCL_OK, SCL_SHORT), or the number of the bad line (SCL_BAD), or 0. The text has no NUL after it;
- * the rest of the room, and all of it where the status is not SCL_OK, is as it was. There is no limit on words: where others write
- * the request, its files may name each other and give millions, so call scl_describe or scl_ask. */
+ * the rest of the room, and all of it where the status is not SCL_OK, is as it was. There is no limit on words and bytes: where others
+ * write the request, its files may name each other and give millions, so call scl_describe or scl_ask. */
 int32_t scl_run(const uint8_t *request, size_t request_len, uint8_t *room, size_t room_len, size_t *wanted);
 
 /* The same with a description of the answer (docs/PROTOCOL.md, A description), as describe writes it; the request may have
- * lines `setting`. Without `setting bound` it may have 1,000,000 words, and open files as often. SCL_NEWER: the bad line is one
- * of a setting, and *wanted its number. */
+ * lines `setting`, among them those of its limits, which docs/PROTOCOL.md says. SCL_NEWER: the bad line is one of a setting, and
+ * *wanted its number. */
 int32_t scl_describe(const uint8_t *request, size_t request_len, uint8_t *room, size_t room_len, size_t *wanted);
 
 /* The same with the hazards of a catalogue whose text is passed in (catalogue/README.md). SCL_BAD_CATALOGUE: *wanted is the
@@ -101,6 +101,7 @@ typedef struct scl_request {
     scl_words existing;         /* paths at which there is something */
     size_t most_words;          /* that a command line may have, response files put in place, and how often it may open files: */
                                 /*   0 is 1,000,000, SIZE_MAX is no limit */
+    size_t most_bytes;          /* that a command line may have (docs/RULES.md, Expansion): 0 is 67,108,864, SIZE_MAX is no limit */
     bool is_multiarch;          /* several architectures are allowed */
     bool wants_runs;            /* the answer has the runs of the preprocessor (what is not wanted is not computed): */
     bool may_dist;              /*   for a distant compiler */
@@ -315,7 +316,7 @@ extern "C" {
 
 /* ---- what a client calls */
 
-/* A request of a compiler and words, with no directory, environment and files, the limit of 1,000,000, and no wishes. */
+/* A request of a compiler and words, with no directory, environment and files, the default limits, and no wishes. */
 static inline scl_request scl_request_of(const char *compiler, const scl_bytes *words, size_t len) {
     scl_request it;
     memset(&it, 0, sizeof it);

@@ -43,7 +43,7 @@ WISHES = [*SETTINGS, "wants_runs", "wants_questions", "wants_hazards", "wants_op
 
 
 class TooManyWords(Exception):
-    """A command line has more words, or opens files more often, than was allowed."""
+    """A command line has more words or bytes, or opens files more often, than was allowed."""
 
 
 class UnknownCompiler(Exception):
@@ -267,13 +267,14 @@ def _unescaped(field: bytes) -> bytes:
 
 def request(compiler: bytes, words: Iterable[bytes], directory: bytes = b"", environment: _Pairs = (), files: _Pairs = (), directories: Iterable[bytes] = (),
             existing: Iterable[bytes] = (), most_words: int = 0, version: bytes = b"", settings: Iterable[bytes] = (), bases: Iterable[bytes] = (),
-            **wishes: bool) -> bytes:
+            most_bytes: int = 0, **wishes: bool) -> bytes:
     """The text of a request."""
     lines = [b"compiler " + field(compiler), b"cwd " + field(directory)]
     lines += [b"%s %s" % (name, field(it)) for name, them in ((b"word", words), (b"dir", directories), (b"exists", existing)) for it in them]
     lines += [b"%s %s\t%s" % (name, field(key), field(value)) for name, them in ((b"env", environment), (b"file", files)) for key, value in them]
     lines += [line for name, line in SETTINGS.items() if wishes.get(name)]
-    lines += [b"setting bound %d" % most_words] * bool(most_words) + [b"setting version " + field(version)] * bool(version)
+    lines += [b"setting %s %d" % (name, most) for name, most in ((b"bound", most_words), (b"bytes", most_bytes)) if most]
+    lines += [b"setting version " + field(version)] * bool(version)
     lines += [b"setting base " + field(it) for it in bases] + [b"setting " + field(it, b" \\") for it in settings]
     return b"\n".join(lines) + b"\n"
 
@@ -327,9 +328,10 @@ def _answer(outcome: int, of: _Rows, wishes: dict[str, Any]) -> Answer:
 
 def ask(compiler: bytes, words: Iterable[bytes], *given: Any, catalogue: bytes | None = None, **named: Any) -> Answer:
     """The answer to the words after a program; request says what else may be given. Words, paths and names are bytes, environment
-    and files pairs of bytes, and most_words limits words, and how often files are opened: 0 is 1,000,000. Wishes are those of
-    scl_request: is_multiarch, wants_runs, may_dist, rewrite_includes_only, cache_mode, wants_questions, wants_hazards,
-    wants_options, wants_key and keep_shown. A catalogue is the text of one in the place of the built-in one."""
+    and files pairs of bytes, and most_words limits words, and how often files are opened: 0 is 1,000,000. most_bytes limits
+    bytes (docs/RULES.md, Expansion): 0 is 67,108,864. Wishes are those of scl_request: is_multiarch, wants_runs, may_dist,
+    rewrite_includes_only, cache_mode, wants_questions, wants_hazards, wants_options, wants_key and keep_shown. A catalogue is the
+    text of one in the place of the built-in one."""
     try:
         text = describe(request(compiler, words, *given, **named), catalogue)
     except BadCatalogue:

@@ -96,8 +96,9 @@ static inline void scl_put_number(scl_writer *to, size_t number) {
     scl_put(to, digits + at);
 }
 
-static inline void scl_put_bound(scl_writer *to, size_t number) {
-    scl_put(to, "setting bound ");
+static inline void scl_put_limit(scl_writer *to, const char *setting, size_t number) {
+    if (!number) return;
+    scl_put(to, setting);
     scl_put_number(to, number);
     scl_put(to, "\n");
 }
@@ -118,7 +119,8 @@ static inline void scl_put_settings(scl_writer *to, const scl_request *request) 
     if (request->may_dist) scl_put(to, "setting may-dist\n");
     if (request->rewrite_includes_only) scl_put(to, "setting rewrite-includes-only\n");
     if (request->cache_mode) scl_put(to, "setting cache-mode\n");
-    if (request->most_words) scl_put_bound(to, request->most_words);
+    scl_put_limit(to, "setting bound ", request->most_words);
+    scl_put_limit(to, "setting bytes ", request->most_bytes);
     if (request->version.len) scl_put_line(to, "setting version ", request->version);
     scl_put_words(to, "setting base ", request->bases);
     if (request->keep_shown) scl_put(to, "setting keep-shown\n");

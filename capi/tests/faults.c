@@ -227,7 +227,23 @@ static int maps(void) {
     return 0;
 }
 
-/* A request that memset made is answered, and has the bound of a million words. */
+/* Where most_bytes is 0 each of 8,192 words may be a path behind a directory of 8,192 bytes. */
+static int behind_a_directory(scl_request request, const scl_bytes *words) {
+    enum { LONG = 8192 };
+    static uint8_t path[LONG];
+    memset(path, 'd', LONG);
+    request.directory = scl_bytes_of(path, LONG);
+    for (size_t more = 0; more < 2; more++) {
+        scl_given given;
+        request.words = scl_words_of(words, LONG + more);
+        int32_t status = scl_ask_new(&request, &given), wanted = more ? SCL_TOO_MANY_WORDS : SCL_OK;
+        if (status == SCL_OK) scl_free(&given);
+        if (status != wanted) FAIL("status %d for %zu words where most_bytes is 0", (int)status, request.words.len);
+    }
+    return 0;
+}
+
+/* A request that memset made is answered, and has the default limits. */
 static int zeros(void) {
     enum { MOST = 1000000 };
     static scl_bytes words[MOST + 1];
@@ -238,6 +254,7 @@ static int zeros(void) {
     request.compiler = scl_text("gcc");
     if (scl_ask_new(&request, &given) != SCL_OK || given.answer.outcome != SCL_NOT_COMPILATION) FAIL("a request of zeros is not answered");
     scl_free(&given);
+    if (behind_a_directory(request, words)) return 1;
     request.words.at = words;
     for (int more = 0; more < 2; more++) {
         request.words.len = MOST + (size_t)more;

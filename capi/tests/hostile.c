@@ -116,6 +116,7 @@ int main(int argc, char **argv) {
         request.files = scl_pairs_of(files, below(4));
         request.environment = scl_pairs_of(variables, below(3));
         request.most_words = below(50) ? 10000 : below(6);
+        request.most_bytes = below(50) ? 0 : below(200);
         request.is_multiarch = below(2);
         request.wants_runs = below(2);
         request.rewrite_includes_only = below(2);

@@ -31,6 +31,7 @@ def request_of(chance):
     named = {"environment": chance.sample(VARIABLES, chance.randrange(3)), "files": chance.sample(FILES, chance.randrange(4)),
              "existing": [b"/w/z.pdb"] * (chance.random() < 0.5), "directories": [b"/w/p"] * (chance.random() < 0.5),
              "version": chance.choice(VERSIONS) if chance.random() < 0.5 else b"", "most_words": chance.choice([0, 0, 0, 1000, 4]),
+             "most_bytes": chance.choice([0, 0, 0, 1000, 40]),
              "bases": chance.choices(BASES, k=chance.choice([0, 0, 1, 2])),
              "settings": [b"wants " + it for it in chance.sample(WANTED, chance.choice([0, 0, 1, 2]))]}
     return name, words, {**named, **{it: chance.random() < 0.3 for it in scl.SETTINGS}}
@@ -144,11 +145,13 @@ def errors():
     """What is no answer: each is reported as itself. And a description is taken apart."""
     raises(scl.UnknownCompiler, scl.ask, b"rustc", [b"-c", b"a.c"])
     raises(scl.TooManyWords, scl.ask, b"gcc", [b"-c", b"@f"], files=[(b"f", b"a b c")], most_words=3)
-    # (the bound where none is given: a million words, and as many openings)
+    raises(scl.TooManyWords, scl.ask, b"gcc", [b"-c", b"@f"], files=[(b"f", b"a" + b" " * 9)], most_bytes=9)
+    # (the limits where none is given: a million words, as many openings, and 64 MiB)
     nothing = [(b"%d" % at, b"@%d @%d" % (at + 1, at + 1)) for at in range(19)]
     scl.ask(b"gcc", [b"-c", b"@f"], files=[(b"f", b"a " * 999_999)])
     raises(scl.TooManyWords, scl.ask, b"gcc", [b"-c", b"@f"], files=[(b"f", b"a " * 1_000_000)])
     raises(scl.TooManyWords, scl.ask, b"gcc", [b"-c", b"a.c", b"@0"], files=[*nothing, (b"19", b"")])
+    raises(scl.TooManyWords, scl.ask, b"gcc", [b"-c", b"a.c"] + [b"@f"] * 1025, files=[(b"f", b" " * 65536)])
     raises(scl.BadLine, scl.run, b"compiler gcc\nword \xff\n")
     raises(scl.BadLine, scl.run, b"word -c\n")
     raises(scl.Newer, scl.ask, b"gcc", [b"-c", b"a.c"], settings=[b"what-none-knows"])
@@ -164,7 +167,7 @@ def errors():
     words = [b"-c", b"x.c", b"-depsx.d"]
     if scl.depfile(b"N: ", b"N: a\nb\n", words) != (b"x.obj: x.c a \nx.c:\na:\n", b"b\n") or scl.depfile(b"N: ", b"\xff", words[:2]) is not None:
         sys.exit("random_requests: a dependency file has another text")
-    if scl.depfile(b"N: ", b"b\n", words, most_words=1) != (b"x.obj: x.c \nx.c:\n", b"b\n"):
+    if scl.depfile(b"N: ", b"b\n", words, most_words=1, most_bytes=1) != (b"x.obj: x.c \nx.c:\n", b"b\n"):
         sys.exit("random_requests: a dependency file has a setting")
     raises(ValueError, scl.depfile, b"N: ", b"\xff", words)
     raises(ValueError, scl.depfile, b"\xff", b"", words)

@@ -349,6 +349,7 @@ static const scl_request *random_request(void) {
     if (below(2)) r->directories.at = directories, r->directories.len = below(MOST + 1);
     if (below(2)) r->existing.at = words, r->existing.len = below(MOST + 1);
     r->most_words = below(3) ? 0 : (size_t)next();
+    r->most_bytes = below(3) ? 0 : (size_t)next();
     r->is_multiarch = below(2), r->wants_runs = below(2), r->may_dist = below(2), r->rewrite_includes_only = below(2), r->cache_mode = below(2);
     r->wants_questions = below(2), r->wants_hazards = below(4), r->wants_options = below(2), r->wants_key = below(2);
     if (below(2)) r->version = random_bytes();
@@ -382,6 +383,7 @@ static void check_request(const scl_request *r) {
     if (r->rewrite_includes_only) add(&want, "setting rewrite-includes-only\n");
     if (r->cache_mode) add(&want, "setting cache-mode\n");
     if (r->most_words) sprintf(digits, "setting bound %zu\n", r->most_words), add(&want, digits);
+    if (r->most_bytes) sprintf(digits, "setting bytes %zu\n", r->most_bytes), add(&want, digits);
     if (r->version.len) add(&want, "setting version "), add_field(&want, r->version), add(&want, "\n");
     for (size_t i = 0; i < r->bases.len; i++) add(&want, "setting base "), add_field(&want, r->bases.at[i]), add(&want, "\n");
     if (r->keep_shown) add(&want, "setting keep-shown\n");
@@ -521,7 +523,7 @@ static void check_depfile(const char *answer, int32_t status, size_t line, int32
     scl_request request = scl_request_of("clang-cl", words, 1);
     scl_texts made;
     bool is_made = !is_wanted;
-    request.most_words = 7, request.may_dist = true, request.version = scl_text("v"); /* (settings are not asked) */
+    request.most_words = 7, request.most_bytes = 7, request.may_dist = true, request.version = scl_text("v"); /* (settings are not asked) */
     say(answer, status, line);
     if (scl_depfile(&request, scl_text("N: "), scl_text("N: a\n"), &is_made, &made) != told) FAIL("a dependency file: another status");
     said_status = 0;

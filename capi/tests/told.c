@@ -42,8 +42,9 @@ static void take_setting(scl_request *r, scl_bytes text) {
     else if (scl_is(text, "keep-shown")) r->keep_shown = true;
     else if (begins(text, "base ")) bases[r->bases.len++] = kept(behind(text, 5));
     else if (begins(text, "version ")) r->version = kept(behind(text, 8));
-    else if (begins(text, "bound ") && begins(text, "bound 0")) settings[r->settings.len++] = text;
+    else if (begins(text, "bound 0") || begins(text, "bytes 0")) settings[r->settings.len++] = text;
     else if (begins(text, "bound ")) r->most_words = strtoull((const char *)text.at + 6, NULL, 10);
+    else if (begins(text, "bytes ")) r->most_bytes = strtoull((const char *)text.at + 6, NULL, 10);
     else settings[r->settings.len++] = text;
 }
 

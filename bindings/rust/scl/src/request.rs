@@ -7,7 +7,7 @@ use std::fmt;
 pub enum Error {
     /// No served compiler has the name.
     UnknownCompiler,
-    /// The command line has more words, or opens files more often, than was allowed.
+    /// The command line has more words or bytes, or opens files more often, than was allowed.
     TooManyWords,
     /// The library does not know a setting, or this crate the answer.
     Newer,
