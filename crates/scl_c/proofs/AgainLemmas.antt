@@ -27,6 +27,7 @@ asked kinds.Name tables bytes text h = tt
 asked kinds.Join tables bytes text h = tt
 asked kinds.Map tables bytes text h = tt
 asked kinds.Depfile tables bytes text h = tt
+asked kinds.MadeBy tables bytes text h = tt
 asked kinds.Description tables bytes text h = described tables bytes text h.described h.describes h.said_is
 
 pub asks_again : (tables : Tables) (bytes old new : List ℕ) (wanted : ℕ) (status : ℤ) → IsDescribed (AnswersBytes tables bytes) bytes old new wanted status → status ≡ pos 0 → AsksReadAgain bytes

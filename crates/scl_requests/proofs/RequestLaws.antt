@@ -7,6 +7,7 @@ use Rattle.scl_describe.specs.Descriptions.{DescribesBytes}
 use Rattle.scl_hazards.specs.Hazards.{Tables}
 use Rattle.scl_requests.specs.Depfiles.{IsSaid}
 use Rattle.scl_requests.specs.Joining.{joined}
+use Rattle.scl_requests.specs.Making.{made_by}
 use Rattle.scl_requests.specs.Mapping.{mapped}
 use Rattle.scl_requests.specs.Naming.{named}
 use Rattle.scl_requests.specs.Requests.{AnswersBy, AnswersBytes, kind_of, shared_by, told_by}
@@ -42,6 +43,12 @@ pub join_said : (tables : Tables) (bytes : List ℕ) (lines : List (List ℕ)) (
     → MatchResult said (λ text. AnswersBytes tables bytes (Ok text.items)) (λ number. AnswersBytes tables bytes (Err number))
 join_said tables bytes lines (Ok text) is are h = by_kind kinds.Join tables bytes (Ok text.items) is (subst (λ ls. joined ls ≡ Ok text.items) are h)
 join_said tables bytes lines (Err number) is are h = by_kind kinds.Join tables bytes (Err number) is (subst (λ ls. joined ls ≡ Err number) are h)
+
+pub made_by_said : (tables : Tables) (bytes : List ℕ) (lines : List (List ℕ)) (said : Result (Vec ℕ Global) ℕ) → kind_of (lines_of bytes) ≡ kinds.MadeBy → lines ≡ drop 1 (lines_of bytes)
+    → MatchResult said (λ text. made_by lines ≡ Ok text.items) (λ number. made_by lines ≡ Err number)
+    → MatchResult said (λ text. AnswersBytes tables bytes (Ok text.items)) (λ number. AnswersBytes tables bytes (Err number))
+made_by_said tables bytes lines (Ok text) is are h = by_kind kinds.MadeBy tables bytes (Ok text.items) is (subst (λ ls. made_by ls ≡ Ok text.items) are h)
+made_by_said tables bytes lines (Err number) is are h = by_kind kinds.MadeBy tables bytes (Err number) is (subst (λ ls. made_by ls ≡ Err number) are h)
 
 pub map_said : (tables : Tables) (bytes : List ℕ) (lines : List (List ℕ)) (said : Result (Vec ℕ Global) ℕ) → kind_of (lines_of bytes) ≡ kinds.Map → lines ≡ drop 1 (lines_of bytes)
     → MatchResult said (λ text. mapped lines ≡ Ok text.items) (λ number. mapped lines ≡ Err number)

@@ -1,5 +1,6 @@
 pub mod Naming
 pub mod Joining
+pub mod Making
 pub mod Mapping
 pub mod MappingRead
 pub mod Depfiles

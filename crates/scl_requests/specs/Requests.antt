@@ -7,6 +7,7 @@ use Rattle.scl_describe.specs.Descriptions.{DescribesBytes}
 use Rattle.scl_hazards.specs.Hazards.{Tables}
 use Rattle.scl_requests.specs.Depfiles.{IsSaid}
 use Rattle.scl_requests.specs.Joining.{joined}
+use Rattle.scl_requests.specs.Making.{made_by}
 use Rattle.scl_requests.specs.Mapping.{mapped}
 use Rattle.scl_requests.specs.Naming.{named}
 use Rattle.scl_requests.specs.declared.requests.Kind.{Kind}
@@ -21,6 +22,7 @@ is_described kinds.Name = false
 is_described kinds.Join = false
 is_described kinds.Map = false
 is_described kinds.Depfile = false
+is_described kinds.MadeBy = false
 is_described kinds.Description = true
 
 -- what is asked by a first line
@@ -29,7 +31,8 @@ kind_in line =
     if bytes_eq line (codes "name") then kinds.Name
     else (if bytes_eq line (codes "join") then kinds.Join
     else (if bytes_eq line (codes "map") then kinds.Map
-    else (if bytes_eq line (codes "depfile") then kinds.Depfile else kinds.Description)))
+    else (if bytes_eq line (codes "depfile") then kinds.Depfile
+    else (if bytes_eq line (codes "made-by") then kinds.MadeBy else kinds.Description))))
 
 abbrev pub kind_of : List (List ℕ) → Kind
 kind_of [] = kinds.Description
@@ -54,8 +57,10 @@ AnswersBy kinds.Name tables bytes said = named (lines_of bytes) ≡ said
 AnswersBy kinds.Join tables bytes said = joined (drop 1 (lines_of bytes)) ≡ said
 AnswersBy kinds.Map tables bytes said = mapped (drop 1 (lines_of bytes)) ≡ said
 AnswersBy kinds.Depfile tables bytes said = IsSaid (drop 1 (lines_of bytes)) said
+AnswersBy kinds.MadeBy tables bytes said = made_by (drop 1 (lines_of bytes)) ≡ said
 AnswersBy kinds.Description tables bytes said = IsShared tables bytes said
 
--- what a program's name means, the text of joined runs, a mapped text, a dependency file, or a description
+-- what a program's name means, the text of joined runs, a mapped text, a dependency file, which release answers, or a
+-- description
 abbrev pub AnswersBytes : Tables → List ℕ → Result (List ℕ) ℕ → Type 0
 AnswersBytes tables bytes said = AnswersBy (kind_of (lines_of bytes)) tables bytes said

@@ -4,6 +4,7 @@
 mod depfile;
 mod joining;
 pub mod laws;
+mod making;
 mod mapping;
 mod naming;
 mod requests;

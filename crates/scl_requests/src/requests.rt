@@ -5,6 +5,7 @@ ghost use Rattle.scl_requests.specs.Requests.{kind_in, kind_of};
 
 use crate::depfile::depfile_said;
 use crate::joining::joined;
+use crate::making::made_by;
 use crate::mapping::mapped;
 use crate::naming::named;
 use scl_cl::{Mem, Service};
@@ -24,6 +25,8 @@ pub enum Kind {
     Map,
     /// A dependency file.
     Depfile,
+    /// Which release answers.
+    MadeBy,
     /// A description.
     Description,
 }
@@ -40,6 +43,8 @@ fn kind_in(line: &[u8]) -> Kind
         Kind::Map
     } else if line == b"depfile".as_slice() {
         Kind::Depfile
+    } else if line == b"made-by".as_slice() {
+        Kind::MadeBy
     } else {
         Kind::Description
     }
@@ -66,8 +71,8 @@ fn after_first(bytes: &[u8]) -> &[u8]
 }
 
 /// Answers a request by what its first line asks: what the name of a program means (`name`), the text of several runs of the
-/// preprocessor (`join`), a preprocessed text told by base directories (`map`), a dependency file (`depfile`), and else a
-/// description, with what tables know of compilers, whose key is told by the base directories of lines `setting base`, and has its
+/// preprocessor (`join`), a preprocessed text told by base directories (`map`), a dependency file (`depfile`), which
+/// release answers (`made-by`), and else a description, with what tables know of compilers, whose key is told by the base directories of lines `setting base`, and has its
 /// macros at its end unless `setting keep-shown` says otherwise (docs/PROTOCOL.md, A request).
 #[derive(Debug, Clone, Copy)]
 pub struct Requests<'a> {
@@ -81,13 +86,14 @@ impl<'a> Service for Requests<'a> {
 
     ghost answers = { λ service bytes said. AnswersBytes (tables_of service.tables) bytes said };
 
-    #[tactic(auto, using(crate::proofs::RequestLaws::name_said, crate::proofs::RequestLaws::join_said, crate::proofs::RequestLaws::map_said, crate::proofs::RequestLaws::depfile_said, crate::proofs::RequestLaws::text_said, crate::proofs::RequestLaws::number_said))]
+    #[tactic(auto, using(crate::proofs::RequestLaws::name_said, crate::proofs::RequestLaws::join_said, crate::proofs::RequestLaws::map_said, crate::proofs::RequestLaws::depfile_said, crate::proofs::RequestLaws::made_by_said, crate::proofs::RequestLaws::text_said, crate::proofs::RequestLaws::number_said))]
     fn answer(&self, alloc: Global, bytes: Vec<u8>) -> Mem<Result<Vec<u8>, u64>> {
         match kind_of(&bytes) {
             Kind::Name => Ok(named(alloc, &bytes)?),
             Kind::Join => Ok(joined(alloc, after_first(&bytes))?),
             Kind::Map => Ok(mapped(alloc, after_first(&bytes))?),
             Kind::Depfile => Ok(depfile_said(alloc, after_first(&bytes))?),
+            Kind::MadeBy => Ok(made_by(alloc, after_first(&bytes))?),
             Kind::Description => {
                 let bases = bases_in(alloc, &bytes)?;
                 let keep = keeps_shown(&bytes);
