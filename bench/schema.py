@@ -4,6 +4,7 @@ import re
 
 TABLE = "crates/scl_json/src/members.rt"
 NAMES = "crates/scl_hazards/src/names.rt"
+ANSWERS = "crates/scl_report/src/json.rt"
 LINE = re.compile(r'^    "([^"]+)" "([^"]+)" (\w+) \[([^\]]*)\],$', re.M)
 TEXT = {"$ref": "#/$defs/text"}
 TEXTS = {"type": "array", "items": TEXT}
@@ -16,6 +17,30 @@ FORMS = {
     "Each": TEXTS,
     "Rows": ROWS,
 }
+NUMBER = {"type": "integer"}
+YES = {"type": "boolean"}
+ASKED = ["compiler", "program", "directory"]
+# Which rows each answer has: those of a list of ANSWERS, others, and the names of its outcome.
+OUTCOMES = (
+    ("COMMAND", ASKED, ["ok"]),
+    ("REFUSAL", ASKED, ["cannot-cache"]),
+    ("NOTHING", ASKED, ["not-compilation"]),
+    ("", ["version"], ["too-many-words"]),
+    ("ERROR", [], []),
+)
+SIDE = {"$ref": "#/$defs/side"}
+PAIR = {"equal": YES, "first": SIDE, "second": SIDE}
+# The documents of a whole call: the subcommand, and its members beside the version.
+DOCUMENTS = (
+    ("scl why", {"entries": {"type": "array", "items": {"$ref": "#/$defs/answer"}}}),
+    ("scl diff of two lines or entries", PAIR),
+    ("scl diff of two databases", {
+        "equal": YES, "pairs": NUMBER, "equal_pairs": NUMBER, "first_only": NUMBER, "second_only": NUMBER,
+        "unequal": {"type": "array", "items": {"$ref": "#/$defs/pair"}},
+    }),
+    ("scl flags", {"flags": ROWS, "words": ROWS}),
+    ("scl reasons", {"reasons": ROWS, "keep": ROWS, "hazards": {"$ref": "#/$defs/hazards"}}),
+)
 KINDS = {"object": dict, "array": list, "string": str, "integer": int, "boolean": bool, "null": type(None)}
 
 
@@ -40,26 +65,56 @@ def form_of(form, fields, rows):
     return FORMS[form]
 
 
+def firsts(name):
+    """The names of rows in a list of ANSWERS; none of no list."""
+    with open(ANSWERS, encoding="utf-8") as it:
+        found = re.search(rf"^static {name}: [^=]*= \[(.*?)\];", it.read(), re.M | re.S)
+    return re.findall(r'"([^"]+)"', found[1]) if found else []
+
+
+def outcome_of(name, rows, outcomes, table):
+    """What an answer with one of these outcomes has to have."""
+    named = {row: member for row, member, _, _ in table}
+    needed = list(dict.fromkeys(named[row] for row in [*firsts(name), *rows, *outcomes]))
+    return {"properties": {"outcome": {"enum": outcomes}}, "required": needed} if outcomes else {"required": needed}
+
+
+def answer_of(table):
+    """The schema of an answer to one line."""
+    properties = {name: form_of(form, fields, [row for row, other, _, _ in table if other == name]) for _, name, form, fields in table}
+    known = [outcome_of(*it, table) for it in OUTCOMES]
+    return {"type": "object", "properties": properties, "anyOf": known, "additionalProperties": ROWS}
+
+
+def side_of(answer):
+    """The schema of what one of two lines has and the other has not."""
+    lists = ("options", "key", "keep")
+    return {"type": "object", "properties": {it: answer["properties"][it] for it in ("file", "outcome", *lists)}, "required": list(lists)}
+
+
+def document_of(title, members):
+    """The schema of a document."""
+    return {"title": title, "type": "object", "properties": {"version": NUMBER, **members}, "required": ["version", *members]}
+
+
 def schema_of(text):
     """The schema of the table's text."""
-    table = members(text)
-    properties = {}
-    for _, name, form, fields in table:
-        properties[name] = form_of(form, fields, [row for row, other, _, _ in table if other == name])
+    answer = answer_of(members(text))
     return {
         "$schema": "https://json-schema.org/draft/2020-12/schema",
         "title": "A line of scl --json",
-        "type": "object",
-        "properties": properties,
-        "required": ["version"],
-        "additionalProperties": ROWS,
+        "anyOf": [{"$ref": "#/$defs/answer"}, *[document_of(*it) for it in DOCUMENTS]],
         "$defs": {
+            "answer": answer,
+            "side": side_of(answer),
+            "pair": {"type": "object", "properties": PAIR, "required": list(PAIR)},
+            "hazards": answer["properties"]["hazards"],
             "text": {
                 "anyOf": [
                     {"type": "string"},
                     {"type": "object", "properties": {"hex": {"type": "string", "pattern": "^([0-9a-f]{2})*$"}}, "required": ["hex"], "additionalProperties": False},
                 ]
-            }
+            },
         },
     }
 
@@ -78,8 +133,9 @@ def breaches(value, schema, whole, where="the object"):
     """What of a value is not as the schema says, in words: of the words of JSON Schema those that this schema has."""
     if "$ref" in schema:
         yield from breaches(value, whole["$defs"][schema["$ref"].rpartition("/")[2]], whole, where)
-    if "anyOf" in schema and all(any(True for _ in breaches(value, it, whole, where)) for it in schema["anyOf"]):
-        yield f"{where} is of none of the forms that it may have"
+    tried = [list(breaches(value, it, whole, where)) for it in schema.get("anyOf", [])]
+    if tried and all(tried):
+        yield f"{where} is of none of the forms that it may have; of the nearest: {'; '.join(min(tried, key=len))}"
     if "enum" in schema and value not in schema["enum"]:
         yield f"{where} is none of {', '.join(schema['enum'])}"
     kinds = schema.get("type", [])
