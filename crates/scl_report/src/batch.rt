@@ -2,15 +2,13 @@
 use crate::digest::{entry_line, summary};
 use crate::entry::{EntryError, case_of_entry};
 use crate::foreign::{ForeignDisk, all_with_slashes, is_windows, same_answer};
-use crate::json::{self, push_refused_line};
+use crate::json::{push_entry_object, push_refused_object};
 use crate::keep::verdicts;
 use crate::tally::Tally;
-use crate::why::why_text;
-use scl_cl::{Compiler, Mem};
+use scl_cl::{Compiler, Limits, Mem};
 use scl_describe::About;
 use scl_explain::{Answered, Case, Counts, Ending, EntryKind, answer_case, load_error_text};
 use scl_load::Disk;
-use scl_shell::shown_briefly;
 use scl_text::command::{copy_pairs, copy_words};
 use serde_json::Value;
 use std::alloc::Global;
@@ -49,9 +47,9 @@ pub struct Batch<'a> {
 
 /// An entry's number, and the source that it names.
 #[derive(Clone, Copy)]
-struct Named<'n> {
-    entry: u64,
-    file: &'n str,
+pub(crate) struct Named<'n> {
+    pub(crate) entry: u64,
+    pub(crate) file: &'n str,
 }
 
 /// A command line with `/` for each backslash of its words.
@@ -96,7 +94,9 @@ impl<'a> Batch<'a> {
     ) -> Mem<()> {
         let Named { entry, file } = named;
         if self.json {
-            return json::push_entry_line(alloc, output, &self.about, entry, file, case, answered);
+            push_entry_object(alloc, output, &self.about, entry, file, case, answered)?;
+            output.push(b'\n')?;
+            return Ok(());
         }
         let line = entry_line(alloc, entry, file, case, answered)?;
         output.extend_from_slice(line.as_bytes())
@@ -111,10 +111,10 @@ impl<'a> Batch<'a> {
         why: &str,
     ) -> Mem<()> {
         if self.json && self.only.is_none() {
-            push_refused_line(alloc, output, named.entry, named.file, why)
-        } else {
-            Ok(())
+            push_refused_object(alloc, output, named.entry, named.file, why)?;
+            output.push(b'\n')?;
         }
+        Ok(())
     }
 
     /// What the entry of a command line is answered on a disk, or why it is not.
@@ -260,35 +260,6 @@ impl<'a> Batch<'a> {
                 self.push_refused(alloc, output, named, why.as_str())?;
                 tally.counts.count_broken(named.entry, why)
             }
-        }
-    }
-
-    fn answered_why<D: Disk>(
-        &self,
-        alloc: Global,
-        disk: &D,
-        entry: u64,
-        file: &str,
-        case: &Case,
-    ) -> Mem<String>
-    where
-        D::Error: Display,
-    {
-        match self.answer(alloc, disk, case)? {
-            Ok(answered) => why_text(alloc, &self.about, entry, file, case, &answered),
-            Err(why) => format!(in alloc; "entry {entry}, {file}: {why}\n"),
-        }
-    }
-
-    /// An entry and its outcome, and why it can or can't be cached.
-    pub fn why<D: Disk>(&self, alloc: Global, disk: &D, entry: u64, value: &Value) -> Mem<String>
-    where
-        D::Error: Display,
-    {
-        let file = shown_briefly(alloc, file_of(value).as_bytes())?;
-        match self.case_of(alloc, value)? {
-            Ok(case) => self.answered_why(alloc, disk, entry, file_of(value), &case),
-            Err(error) => format!(in alloc; "entry {entry}, {file}: {error}\n"),
         }
     }
 

@@ -17,7 +17,7 @@ use std::str;
 #[derive(Drop)]
 pub struct Compared {
     outcome: String,
-    rows: Vec<Vec<Vec<u8>>>,
+    pub(crate) rows: Vec<Vec<Vec<u8>>>,
 }
 
 /// Where the field of an option's row stands that says how many words were given.

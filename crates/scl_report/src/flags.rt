@@ -1,4 +1,5 @@
-//! The flags of the compilers' tables, for a person.
+//! The flags of the compilers' tables, as a page for people and as JSON.
+use crate::document::{Rows, document_of, push_field, row_named, versioned};
 use crate::options::fate;
 use crate::table::Table;
 use scl_cl::args::{ArgDisposition, ArgRow};
@@ -189,45 +190,41 @@ fn cells(alloc: Global, compiler: Compiler, flag: &Flag) -> Mem<Vec<String>> {
     Ok(cells)
 }
 
-/// Appends the flags of a compiler's table that have at least this number of bytes.
-fn push_table(
-    alloc: Global,
-    text: &mut String,
-    compiler: Compiler,
-    flags: &[Flag],
-    least: usize,
-) -> Mem<()> {
+/// Appends flags of a compiler.
+fn push_table(alloc: Global, text: &mut String, compiler: Compiler, flags: &[Flag]) -> Mem<()> {
     let mut table = Table::new(alloc);
     table.push(titles(alloc)?)?;
     for flag in flags {
-        if flag.name.len() >= least {
-            table.push(cells(alloc, compiler, flag)?)?;
-        }
+        table.push(cells(alloc, compiler, flag)?)?;
     }
     let title = title(compiler);
     write!(text, "{title}:\n")?;
     table.write(text)
 }
 
-/// Appends where a word goes that no flag of the compiler fits.
-fn push_unknown(alloc: Global, text: &mut String, compiler: Compiler, word: &[u8]) -> Mem<()> {
+/// Where a word goes that no flag fits.
+fn word_place(alloc: Global, compiler: Compiler, word: &[u8]) -> Mem<Destination> {
     let mut words = Vec::new(alloc);
     words.push(Vec::from_slice(alloc, word)?)?;
-    let place = destination(alloc, compiler, &words)?;
+    destination(alloc, compiler, &words)
+}
+
+/// Appends what becomes of a word that no flag of the compiler fits.
+fn push_unlisted(alloc: Global, text: &mut String, compiler: Compiler, word: &[u8]) -> Mem<()> {
+    let place = word_place(alloc, compiler, word)?;
+    let becomes = if place.is_list() {
+        "is passed on as it stands"
+    } else {
+        "is no flag"
+    };
     let (word, name, fate) = (shown(alloc, word)?, compiler.name(), fate(place));
-    write!(text, "{name} has no flag {word}: it goes to: {fate}\n")
+    write!(
+        text,
+        "{word} {becomes}: {name}'s tables have only flags that matter. It goes to: {fate}\n"
+    )
 }
 
-/// The flags by which a word of the compiler is cut: those of its own table, and for clang those of gcc's.
-fn fitting(alloc: Global, compiler: Compiler, word: &[u8]) -> Mem<Vec<Flag>> {
-    let mut flags = flags_of(alloc, compiler, Some(word))?;
-    if compiler == Compiler::Clang {
-        push_rows(alloc, &mut flags, gcc::ARGS, Some(word))?;
-    }
-    Ok(flags)
-}
-
-/// How long the longest of them is: the one by which a word is cut that all of them fit.
+/// How long the longest name of flags is.
 fn longest(flags: &[Flag]) -> usize {
     let mut most = 0usize;
     for flag in flags {
@@ -236,41 +233,132 @@ fn longest(flags: &[Flag]) -> usize {
     most
 }
 
-/// Appends the flag of which a word of the compiler is, or where it goes if it is of none.
+/// Those whose names are so long.
+fn with_length(alloc: Global, flags: Vec<Flag>, length: usize) -> Mem<Vec<Flag>> {
+    let mut kept = Vec::new(alloc);
+    for flag in flags {
+        if flag.name.len() == length {
+            kept.push(flag)?;
+        }
+    }
+    Ok(kept)
+}
+
+/// The flags by which a word of the compiler is cut: of those that fit it in its own table, and for clang in that of gcc, the
+/// longest.
+fn fitting(alloc: Global, compiler: Compiler, word: &[u8]) -> Mem<Vec<Flag>> {
+    let mut flags = flags_of(alloc, compiler, Some(word))?;
+    if compiler == Compiler::Clang {
+        push_rows(alloc, &mut flags, gcc::ARGS, Some(word))?;
+    }
+    let length = longest(&flags);
+    with_length(alloc, flags, length)
+}
+
+/// Appends the flag of which a word of the compiler is, or what becomes of it if it is of none.
 fn push_word(alloc: Global, text: &mut String, compiler: Compiler, word: &[u8]) -> Mem<()> {
     let flags = fitting(alloc, compiler, word)?;
     if flags.is_empty() {
-        return push_unknown(alloc, text, compiler, word);
+        push_unlisted(alloc, text, compiler, word)
+    } else {
+        push_table(alloc, text, compiler, &flags)
     }
-    push_table(alloc, text, compiler, &flags, longest(&flags))
 }
 
 fn push_compiler(
     alloc: Global,
     text: &mut String,
     compiler: Compiler,
-    word: Option<&[u8]>,
+    words: &[Vec<u8>],
 ) -> Mem<()> {
-    match word {
-        Some(word) => push_word(alloc, text, compiler, word),
-        None => {
-            let flags = flags_of(alloc, compiler, None)?;
-            push_table(alloc, text, compiler, &flags, 0)
-        }
+    if words.is_empty() {
+        let flags = flags_of(alloc, compiler, None)?;
+        return push_table(alloc, text, compiler, &flags);
     }
+    for word in words {
+        push_word(alloc, text, compiler, word)?;
+    }
+    Ok(())
 }
 
-/// The flags of the tables, of one compiler or of all: each with how its value stands, its kind, and where it goes; only those
-/// that fit a word, if there is one.
-pub fn flags_text(alloc: Global, compiler: Option<Compiler>, word: Option<&[u8]>) -> Mem<String> {
-    let mut text = String::new(alloc);
-    match compiler {
-        Some(compiler) => push_compiler(alloc, &mut text, told_as(compiler), word)?,
-        None => {
-            for compiler in COMPILERS {
-                push_compiler(alloc, &mut text, compiler, word)?;
-            }
+/// The compilers whose tables are meant: those of one, or all.
+fn compilers_of(alloc: Global, compiler: Option<Compiler>) -> Mem<Vec<Compiler>> {
+    let mut compilers = Vec::new(alloc);
+    for one in COMPILERS {
+        if compiler.is_none_or(|compiler| told_as(compiler) == one) {
+            compilers.push(one)?;
         }
     }
+    Ok(compilers)
+}
+
+/// The flags of the tables, of one compiler or of all: each with how its value stands, its kind, and where it goes. Where there are
+/// words, only the flag of which each is; of a word that is of none, where it goes.
+pub fn flags_text(alloc: Global, compiler: Option<Compiler>, words: &[Vec<u8>]) -> Mem<String> {
+    let mut text = String::new(alloc);
+    for compiler in &compilers_of(alloc, compiler)? {
+        push_compiler(alloc, &mut text, *compiler, words)?;
+    }
     Ok(text)
+}
+
+/// Appends the row of a flag: the compiler, the flag, how its value stands, its kind, and where it goes.
+fn push_flag_row(alloc: Global, rows: &mut Rows, compiler: Compiler, flag: &Flag) -> Mem<()> {
+    let mut row = row_named(alloc, "flags")?;
+    push_field(alloc, &mut row, compiler.name().as_bytes())?;
+    push_field(alloc, &mut row, flag.name.as_bytes())?;
+    push_field(alloc, &mut row, value_text(alloc, flag.value)?.as_bytes())?;
+    push_field(alloc, &mut row, flag.kind.as_bytes())?;
+    let place = place(alloc, compiler, flag)?;
+    push_field(alloc, &mut row, place.name().as_bytes())?;
+    rows.push(row)?;
+    Ok(())
+}
+
+fn push_flag_rows(alloc: Global, rows: &mut Rows, compiler: Compiler, flags: &[Flag]) -> Mem<()> {
+    for flag in flags {
+        push_flag_row(alloc, rows, compiler, flag)?;
+    }
+    Ok(())
+}
+
+/// Appends the row of a word: the compiler, the word, the flag of which it is, if there is one, and where it goes.
+fn push_word_row(alloc: Global, rows: &mut Rows, compiler: Compiler, word: &[u8]) -> Mem<()> {
+    let flags = fitting(alloc, compiler, word)?;
+    let (name, place) = match flags.first() {
+        Some(flag) => (flag.name, place(alloc, compiler, flag)?),
+        None => ("", word_place(alloc, compiler, word)?),
+    };
+    let mut row = row_named(alloc, "words")?;
+    push_field(alloc, &mut row, compiler.name().as_bytes())?;
+    push_field(alloc, &mut row, word)?;
+    push_field(alloc, &mut row, name.as_bytes())?;
+    push_field(alloc, &mut row, place.name().as_bytes())?;
+    rows.push(row)?;
+    push_flag_rows(alloc, rows, compiler, &flags)
+}
+
+fn push_compiler_rows(
+    alloc: Global,
+    rows: &mut Rows,
+    compiler: Compiler,
+    words: &[Vec<u8>],
+) -> Mem<()> {
+    if words.is_empty() {
+        let flags = flags_of(alloc, compiler, None)?;
+        return push_flag_rows(alloc, rows, compiler, &flags);
+    }
+    for word in words {
+        push_word_row(alloc, rows, compiler, word)?;
+    }
+    Ok(())
+}
+
+/// The same as a document: the rows `flags` and `words` (docs/PROTOCOL.md, JSON).
+pub fn flags_json(alloc: Global, compiler: Option<Compiler>, words: &[Vec<u8>]) -> Mem<Vec<u8>> {
+    let mut rows = versioned(alloc)?;
+    for compiler in &compilers_of(alloc, compiler)? {
+        push_compiler_rows(alloc, &mut rows, *compiler, words)?;
+    }
+    document_of(alloc, &["version", "flags", "words"], &rows)
 }

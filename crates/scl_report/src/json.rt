@@ -80,12 +80,10 @@ fn firsts_of(answered: &Answered<'_>) -> &'static [&'static str] {
     }
 }
 
-/// Appends the line of JSON of these rows.
-fn push_line(alloc: Global, output: &mut Vec<u8>, firsts: &[&str], text: &[u8]) -> Mem<()> {
+/// Appends the object of these rows.
+fn push_object(alloc: Global, output: &mut Vec<u8>, firsts: &[&str], text: &[u8]) -> Mem<()> {
     let rows = read_rows(alloc, text)?;
-    push_json(alloc, output, firsts, &rows)?;
-    output.push(b'\n')?;
-    Ok(())
+    push_json(alloc, output, firsts, &rows)
 }
 
 /// Appends the row of a hazard: its name, its danger, and what happens.
@@ -149,7 +147,8 @@ pub(crate) fn answer_line(
     let mut text = description(alloc, about, case, answered)?;
     push_own_rows(alloc, &mut text, case, answered)?;
     let mut line = Vec::new(alloc);
-    push_line(alloc, &mut line, firsts_of(answered), &text)?;
+    push_object(alloc, &mut line, firsts_of(answered), &text)?;
+    line.push(b'\n')?;
     String::from_utf8_lossy(alloc, &line)
 }
 
@@ -165,7 +164,7 @@ fn push_entry(alloc: Global, text: &mut Vec<u8>, entry: u64, file: &str) -> Mem<
 }
 
 /// Appends the answer to an entry of a database.
-pub(crate) fn push_entry_line(
+pub(crate) fn push_entry_object(
     alloc: Global,
     output: &mut Vec<u8>,
     about: &About<'_>,
@@ -177,11 +176,11 @@ pub(crate) fn push_entry_line(
     let mut text = description(alloc, about, case, answered)?;
     push_entry(alloc, &mut text, entry, file)?;
     push_own_rows(alloc, &mut text, case, answered)?;
-    push_line(alloc, output, firsts_of(answered), &text)
+    push_object(alloc, output, firsts_of(answered), &text)
 }
 
 /// Appends why an entry of a database has no answer.
-pub(crate) fn push_refused_line(
+pub(crate) fn push_refused_object(
     alloc: Global,
     output: &mut Vec<u8>,
     entry: u64,
@@ -192,5 +191,5 @@ pub(crate) fn push_refused_line(
     push_word(&mut text, "version", b"1")?;
     push_entry(alloc, &mut text, entry, file)?;
     push_word(&mut text, "error", why.as_bytes())?;
-    push_line(alloc, output, &ERROR, &text)
+    push_object(alloc, output, &ERROR, &text)
 }

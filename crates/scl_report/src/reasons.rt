@@ -1,4 +1,5 @@
-//! All reasons and hazards, for a person.
+//! All reasons and hazards, as a page for people and as JSON.
+use crate::document::{Rows, document_of, push_field, row_named, versioned};
 use crate::keep::SENTENCES;
 use scl_cl::Mem;
 use scl_hazards::{
@@ -89,4 +90,79 @@ pub fn reasons_text(alloc: Global, catalogue: &Catalogue<'_>) -> Mem<String> {
     text.push_str("\nHazards of built commands, with what differs:\n")?;
     push_hazards(alloc, &mut text, catalogue)?;
     Ok(text)
+}
+
+/// Appends the row of a reason: the reason, and its sentence.
+fn push_reason_row(
+    alloc: Global,
+    rows: &mut Rows,
+    name: &str,
+    reason: &str,
+    sentence: &str,
+) -> Mem<()> {
+    let mut row = row_named(alloc, name)?;
+    push_field(alloc, &mut row, reason.as_bytes())?;
+    push_field(alloc, &mut row, sentence.as_bytes())?;
+    rows.push(row)?;
+    Ok(())
+}
+
+fn push_explanation_rows(alloc: Global, rows: &mut Rows, explanation: &Explanation) -> Mem<()> {
+    for reason in explanation.reasons {
+        push_reason_row(alloc, rows, "reasons", reason, explanation.text)?;
+    }
+    Ok(())
+}
+
+/// Appends the fields of the compilers of which the entry speaks.
+fn push_compiler_fields(alloc: Global, row: &mut Vec<Vec<u8>>, entry: &Entry<'_>) -> Mem<()> {
+    for compiler in COMPILERS {
+        if is_of(entry, compiler) {
+            push_field(alloc, row, compiler_name(compiler).as_bytes())?;
+        }
+    }
+    Ok(())
+}
+
+/// Appends the row of a hazard: its name, its danger, what happens, and the compilers.
+fn push_hazard_row(
+    alloc: Global,
+    rows: &mut Rows,
+    entry: &Entry<'_>,
+    hazard: &Hazard<'_>,
+) -> Mem<()> {
+    let mut row = row_named(alloc, "danger")?;
+    push_field(alloc, &mut row, hazard.name())?;
+    push_field(alloc, &mut row, danger_name(hazard.danger()).as_bytes())?;
+    push_field(alloc, &mut row, hazard.consequence())?;
+    push_compiler_fields(alloc, &mut row, entry)?;
+    rows.push(row)?;
+    Ok(())
+}
+
+fn push_hazard_rows(alloc: Global, rows: &mut Rows, catalogue: &Catalogue<'_>) -> Mem<()> {
+    for entry in catalogue.entries {
+        if let Some(hazard) = hazard_of(entry) {
+            push_hazard_row(alloc, rows, entry, &hazard)?;
+        }
+    }
+    Ok(())
+}
+
+fn push_verdict_rows(alloc: Global, rows: &mut Rows) -> Mem<()> {
+    for (reason, sentence) in SENTENCES {
+        push_reason_row(alloc, rows, "keep", reason, sentence)?;
+    }
+    Ok(())
+}
+
+/// The same as a document: the rows `reasons` and `keep`, and the hazards (docs/PROTOCOL.md, JSON).
+pub fn reasons_json(alloc: Global, catalogue: &Catalogue<'_>) -> Mem<Vec<u8>> {
+    let mut rows = versioned(alloc)?;
+    for explanation in explanations() {
+        push_explanation_rows(alloc, &mut rows, explanation)?;
+    }
+    push_verdict_rows(alloc, &mut rows)?;
+    push_hazard_rows(alloc, &mut rows, catalogue)?;
+    document_of(alloc, &["version", "reasons", "keep", "danger"], &rows)
 }

@@ -1,0 +1,174 @@
+//! What pairs of command lines differ in, as JSON, and what is counted over the pairs of two databases.
+use crate::difference::Compared;
+use crate::document::{Rows, push_field, row_named};
+use scl_cl::Mem;
+use scl_description::push_field as push_escaped;
+use scl_json::push_json;
+use std::alloc::Global;
+use std::collections::BTreeSet;
+
+/// Where the field of an option's row stands that says which word it came from.
+const AT: usize = 3;
+
+/// The rows that each side of a pair has.
+static SIDE: [&str; 12] = [
+    "ok",
+    "cannot-cache",
+    "not-compilation",
+    "cacheable",
+    "reason",
+    "because",
+    "sentence",
+    "error",
+    "unrunnable",
+    "option",
+    "key",
+    "keep",
+];
+
+/// The lists that each side of a pair has, with those rows that the other has not.
+static LISTS: [&str; 3] = ["option", "key", "keep"];
+
+fn is_among(names: &[&str], row: &[Vec<u8>]) -> bool {
+    match row.first() {
+        Some(first) => names.iter().any(|name| first.as_slice() == name.as_bytes()),
+        None => false,
+    }
+}
+
+/// What is compared of a row: its fields, of an option without the place of its word.
+fn compared_text(alloc: Global, row: &[Vec<u8>]) -> Mem<Vec<u8>> {
+    let is_option = is_among(&["option"], row);
+    let mut text = Vec::new(alloc);
+    for (at, field) in row.iter().enumerate() {
+        if !(is_option && at == AT) {
+            push_escaped(&mut text, field)?;
+        }
+        text.push(b' ')?;
+    }
+    Ok(text)
+}
+
+fn compared_texts(alloc: Global, rows: &[Vec<Vec<u8>>]) -> Mem<BTreeSet<Vec<u8>>> {
+    let mut texts = BTreeSet::new(alloc);
+    for row in rows {
+        texts.insert(compared_text(alloc, row)?)?;
+    }
+    Ok(texts)
+}
+
+/// The same fields.
+fn copied(alloc: Global, row: &[Vec<u8>]) -> Mem<Vec<Vec<u8>>> {
+    let mut copy = Vec::new(alloc);
+    for field in row {
+        push_field(alloc, &mut copy, field)?;
+    }
+    Ok(copy)
+}
+
+/// The rows of a side: how it is answered, and of its lists those rows that the other side has not.
+fn rows_of_side(alloc: Global, rows: &[Vec<Vec<u8>>], others: &[Vec<Vec<u8>>]) -> Mem<Rows> {
+    let known = compared_texts(alloc, others)?;
+    let mut side = Vec::new(alloc);
+    for row in rows {
+        let is_alone = !is_among(&LISTS, row) || !known.contains(&compared_text(alloc, row)?);
+        if is_among(&SIDE, row) && is_alone {
+            side.push(copied(alloc, row)?)?;
+        }
+    }
+    Ok(side)
+}
+
+/// Appends the object of a side, of the source `file`, if there is one to name.
+fn push_side(
+    alloc: Global,
+    json: &mut Vec<u8>,
+    rows: &[Vec<Vec<u8>>],
+    others: &[Vec<Vec<u8>>],
+    file: &str,
+) -> Mem<()> {
+    let mut side = rows_of_side(alloc, rows, others)?;
+    if !file.is_empty() {
+        let mut row = row_named(alloc, "file")?;
+        push_field(alloc, &mut row, file.as_bytes())?;
+        side.push(row)?;
+    }
+    push_json(alloc, json, &LISTS, &side)
+}
+
+fn push_truth(json: &mut Vec<u8>, holds: bool) -> Mem<()> {
+    let text = if holds { "true" } else { "false" };
+    json.extend_from_slice(text.as_bytes())
+}
+
+impl Compared {
+    /// What differs, as an object: whether both have an equal key, and of each side how it is answered and which of its options and
+    /// rows of keys the other has not. `file` is the source of both, if there is one to name.
+    pub fn json(&self, alloc: Global, other: &Compared, file: &str) -> Mem<Vec<u8>> {
+        let mut json = Vec::from_slice(alloc, b"{\"equal\":")?;
+        push_truth(&mut json, self.has_key_of(alloc, other)?)?;
+        json.extend_from_slice(b",\"first\":")?;
+        push_side(alloc, &mut json, &self.rows, &other.rows, file)?;
+        json.extend_from_slice(b",\"second\":")?;
+        push_side(alloc, &mut json, &other.rows, &self.rows, file)?;
+        json.push(b'}')?;
+        Ok(json)
+    }
+}
+
+/// The document of what two command lines differ in, of the object of this pair.
+pub fn lines_json(alloc: Global, pair: &[u8]) -> Mem<Vec<u8>> {
+    let mut document = Vec::from_slice(alloc, b"{\"version\":1,")?;
+    document.extend_from_slice(pair.get(1..).unwrap_or(&[]))?;
+    document.push(b'\n')?;
+    Ok(document)
+}
+
+/// What was counted over the entries of two databases.
+#[derive(Clone, Copy)]
+pub struct Pairs {
+    /// The entries that both have.
+    pub pairs: u64,
+    /// Those of them that have an equal key.
+    pub equal: u64,
+    /// The entries of the first only.
+    pub first_only: u64,
+    /// The entries of the second only.
+    pub second_only: u64,
+}
+
+impl Pairs {
+    /// Whether each entry of both has an equal key in the other.
+    pub fn are_equal(&self) -> bool {
+        self.pairs == self.equal && self.first_only == 0 && self.second_only == 0
+    }
+
+    /// What was counted, in a line.
+    pub fn line(&self, alloc: Global) -> Mem<String> {
+        let (pairs, equal) = (self.pairs, self.equal);
+        let (first_only, second_only) = (self.first_only, self.second_only);
+        format!(in alloc;
+            "entries in both: {pairs}; with equal rows of keys: {equal}; only in the first: {first_only}; only in the second: {second_only}\n"
+        )
+    }
+
+    /// The document of what was counted, with the objects of the pairs that have no equal key.
+    pub fn json(&self, alloc: Global, unequal: &[Vec<u8>]) -> Mem<Vec<u8>> {
+        let (pairs, equal) = (self.pairs, self.equal);
+        let (first_only, second_only) = (self.first_only, self.second_only);
+        let mut document = Vec::from_slice(alloc, b"{\"version\":1,\"equal\":")?;
+        push_truth(&mut document, self.are_equal())?;
+        let counts = format!(in alloc;
+            ",\"pairs\":{pairs},\"equal_pairs\":{equal},\"first_only\":{first_only},\"second_only\":{second_only},\"unequal\":["
+        )?;
+        document.extend_from_slice(counts.as_bytes())?;
+        for (at, pair) in unequal.iter().enumerate() {
+            if at > 0 {
+                document.push(b',')?;
+            }
+            document.extend_from_slice(pair)?;
+        }
+        document.extend_from_slice(b"]}\n")?;
+        Ok(document)
+    }
+}
