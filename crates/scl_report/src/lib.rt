@@ -4,6 +4,7 @@
 mod absent;
 mod alone;
 mod batch;
+mod color;
 mod database;
 mod description;
 mod difference;
@@ -32,6 +33,7 @@ mod whys;
 
 pub use absent::absent_text;
 pub use batch::{Batch, ending_of_counts, file_of};
+pub use color::color_word;
 pub use database::{Database, DatabaseError};
 pub use difference::Compared;
 pub use entries::EntryReader;
