@@ -5,7 +5,7 @@ import re
 
 import schema
 
-HELP, DESCRIBE, HEADER = "crates/scl/src/texts.rt", "crates/describe/src/main.rt", "capi/scl.h"
+HELP, DESCRIBE, HEADER = "crates/scl_help/src/parts.rt", "crates/describe/src/main.rt", "capi/scl.h"
 MEMBERS = "crates/scl_json/src/members.rt"
 CASES, COMMANDS, FIRST = "trials/campaign.txt", "tests/rows/pages.txt", "bindings/expected/first.txt"
 REQUESTS = "tests/rows/requests.txt"

@@ -1,48 +1,38 @@
 //! The answers to one command line.
 use crate::arguments::{variables, working_directory};
-use crate::asked::{FlagArguments, LineArguments, Settings};
+use crate::asked::Asked;
 use crate::disk::SystemDisk;
 use crate::fault::{Fault, warn};
-use scl_cl::text::command::copy_pairs;
-use scl_cl::{MOST, path};
-use scl_describe::{About, Catalogue};
+use scl_cl::text::command::copy_words;
+use scl_cl::{ColorMode, path};
+use scl_describe::About;
 use scl_explain::{
     Case, CaseError, CommandForm, Ending, Form, Paint, Reply, WordForm, check as check_reply,
     command as command_reply, explain as explain_reply,
 };
-use scl_report::{Pages, absent_text, check_kept, flags_text, reasons_text};
-use std::alloc::Global;
+use scl_report::{Pages, absent_text, check_kept, color_word};
 use std::env::{Env, FillError};
 use std::io::{IsTerminal, Write};
 
 /// The directory that a command line is run in.
-fn directory_of(rt: &HostRuntime, asked: &LineArguments) -> Result<Vec<u8>, Fault> {
+fn directory_of(rt: &HostRuntime, asked: &Asked<'_, '_>) -> Result<Vec<u8>, Fault> {
     let alloc = rt.alloc();
-    match &asked.directory {
-        Some(directory) if directory.first() == Some(&b'/') => {
-            Ok(Vec::from_slice(alloc, directory)?)
+    match asked.value("--cwd") {
+        Some(directory) if directory.starts_with('/') => {
+            Ok(Vec::from_slice(alloc, directory.as_bytes())?)
         }
-        Some(directory) => Ok(path::join(alloc, &working_directory(rt)?, directory)?),
+        Some(directory) => Ok(path::join(alloc, &working_directory(rt)?, directory.as_bytes())?),
         None => working_directory(rt),
     }
-}
-
-/// The same texts.
-pub fn copied(alloc: Global, words: &[Vec<u8>]) -> Result<Vec<Vec<u8>>, Fault> {
-    let mut copies = Vec::new(alloc);
-    for word in words {
-        copies.push(Vec::from_slice(alloc, word)?)?;
-    }
-    Ok(copies)
 }
 
 /// The variables that count: those that are given, and then those of this program's environment.
 pub fn variables_of(
     rt: &HostRuntime,
-    settings: &Settings,
+    asked: &Asked<'_, '_>,
 ) -> Result<Vec<(Vec<u8>, Vec<u8>)>, Fault> {
-    let mut pairs = copy_pairs(rt.alloc(), &settings.env_vars)?;
-    if !settings.has_no_own {
+    let mut pairs = asked.variables(rt.alloc())?;
+    if !asked.has("--clear-env") {
         for pair in variables(rt)? {
             pairs.push(pair)?;
         }
@@ -53,25 +43,26 @@ pub fn variables_of(
 /// The command line of these words; none where they are no command line, which is reported.
 pub fn case_of_words(
     rt: &HostRuntime,
-    settings: &Settings,
+    asked: &Asked<'_, '_>,
     words: &[Vec<u8>],
     directory: Vec<u8>,
 ) -> Result<Option<Case>, Fault> {
     let alloc = rt.alloc();
-    let env_vars = variables_of(rt, settings)?;
+    let env_vars = variables_of(rt, asked)?;
+    let launchers = asked.values(alloc, "--launcher")?;
     match Case::of_words(
         alloc,
-        copied(alloc, words)?,
-        &settings.launchers,
-        settings.compiler,
+        copy_words(alloc, words)?,
+        &launchers,
+        asked.compiler(),
         directory,
         env_vars,
     )? {
         Ok(mut case) => {
-            case.may_dist = settings.may_dist;
-            case.bound = settings.bound.unwrap_or(MOST);
-            case.base_dirs = copied(alloc, &settings.base_dirs)?;
-            case.keeps_shown = settings.keeps_shown;
+            case.may_dist = asked.has("--may-dist");
+            case.limits = asked.limits();
+            case.base_dirs = asked.values(alloc, "--base")?;
+            case.keeps_shown = asked.has("--keep-shown");
             Ok(Some(case))
         }
         Err(error) => {
@@ -102,9 +93,9 @@ fn no_case(rt: &HostRuntime, error: &CaseError, words: &[Vec<u8>]) -> Result<(),
 }
 
 /// The command line of the request; none where its words are no command line, which is reported.
-fn case_of(rt: &HostRuntime, asked: &LineArguments) -> Result<Option<Case>, Fault> {
+fn case_of(rt: &HostRuntime, asked: &Asked<'_, '_>) -> Result<Option<Case>, Fault> {
     let directory = directory_of(rt, asked)?;
-    case_of_words(rt, &asked.settings, &asked.words, directory)
+    case_of_words(rt, asked, asked.words, directory)
 }
 
 /// Reports to a person at a terminal what a command line names that is not there.
@@ -150,8 +141,8 @@ fn takes_colours(rt: &HostRuntime) -> bool {
     !forbids && !is_dumb
 }
 
-fn form_of(rt: &HostRuntime, asked: &LineArguments) -> Form {
-    if asked.json {
+fn form_of(rt: &HostRuntime, asked: &Asked<'_, '_>) -> Form {
+    if asked.has("--json") {
         Form::Json
     } else if rt.stdout().is_terminal() && takes_colours(rt) {
         Form::Text(Paint::Colours)
@@ -164,12 +155,12 @@ fn form_of(rt: &HostRuntime, asked: &LineArguments) -> Form {
 pub fn explain(
     rt: &HostRuntime,
     about: &About<'_>,
-    asked: &LineArguments,
+    asked: &Asked<'_, '_>,
 ) -> Result<Ending, Fault> {
     let Some(case) = case_of(rt, asked)? else {
         return Ok(Ending::Usage);
     };
-    tell_absent(rt, about, &case, asked.settings.multiarch)?;
+    tell_absent(rt, about, &case, asked.has("--multiarch"))?;
     let disk = SystemDisk { rt };
     let form = form_of(rt, asked);
     let reply = explain_reply(
@@ -177,7 +168,7 @@ pub fn explain(
         &disk,
         about,
         &case,
-        asked.settings.multiarch,
+        asked.has("--multiarch"),
         form,
         &Pages { about: *about },
     )?;
@@ -185,8 +176,8 @@ pub fn explain(
 }
 
 /// How the words of a command are written.
-fn word_form(rt: &HostRuntime, asked: &LineArguments) -> WordForm {
-    if asked.has_nuls {
+fn word_form(rt: &HostRuntime, asked: &Asked<'_, '_>) -> WordForm {
+    if asked.has("-0") {
         WordForm::EndedByNul
     } else if rt.stdout().is_terminal() {
         WordForm::Shown
@@ -195,27 +186,45 @@ fn word_form(rt: &HostRuntime, asked: &LineArguments) -> WordForm {
     }
 }
 
+/// When messages of the compiler have colours.
+fn color_mode(asked: &Asked<'_, '_>) -> ColorMode {
+    match asked.value("--color") {
+        Some("never") => ColorMode::Off,
+        Some("auto") => ColorMode::Auto,
+        Some(_) | None => ColorMode::On,
+    }
+}
+
+/// Puts the word before those of a command line by which its command has colours as requested, if there is one.
+fn put_color(rt: &HostRuntime, asked: &Asked<'_, '_>, case: &mut Case) -> Result<(), Fault> {
+    if let Some(word) = color_word(case.compiler, color_mode(asked)) {
+        case.words.insert(0, Vec::from_slice(rt.alloc(), word)?)?;
+    }
+    Ok(())
+}
+
 /// Writes the command to run in the place of a command line.
 pub fn command(
     rt: &HostRuntime,
     about: &About<'_>,
-    asked: &LineArguments,
+    asked: &Asked<'_, '_>,
 ) -> Result<Ending, Fault> {
-    let Some(case) = case_of(rt, asked)? else {
+    let Some(mut case) = case_of(rt, asked)? else {
         return Ok(Ending::Usage);
     };
-    tell_absent(rt, about, &case, asked.settings.multiarch)?;
+    put_color(rt, asked, &mut case)?;
+    tell_absent(rt, about, &case, asked.has("--multiarch"))?;
     let disk = SystemDisk { rt };
     let form = CommandForm {
         words: word_form(rt, asked),
-        is_strict: asked.is_strict,
+        is_strict: asked.has("--strict"),
     };
     let reply = command_reply(
         rt.alloc(),
         &disk,
         about,
         &case,
-        asked.settings.multiarch,
+        asked.has("--multiarch"),
         form,
         &Pages { about: *about },
     )?;
@@ -226,12 +235,12 @@ pub fn command(
 fn checked(
     rt: &HostRuntime,
     about: &About<'_>,
-    asked: &LineArguments,
+    asked: &Asked<'_, '_>,
     case: &Case,
 ) -> Result<Reply, Fault> {
     let (alloc, disk, form) = (rt.alloc(), SystemDisk { rt }, form_of(rt, asked));
-    let multiarch = asked.settings.multiarch;
-    if asked.asks_kept {
+    let multiarch = asked.has("--multiarch");
+    if asked.has("--keep") {
         return Ok(check_kept(alloc, &disk, about, case, multiarch, form)?);
     }
     let pages = Pages { about: *about };
@@ -239,41 +248,11 @@ fn checked(
 }
 
 /// Says which hazards a command line has, or whether its outcome may be kept.
-pub fn check(rt: &HostRuntime, about: &About<'_>, asked: &LineArguments) -> Result<Ending, Fault> {
+pub fn check(rt: &HostRuntime, about: &About<'_>, asked: &Asked<'_, '_>) -> Result<Ending, Fault> {
     let Some(case) = case_of(rt, asked)? else {
         return Ok(Ending::Usage);
     };
-    tell_absent(rt, about, &case, asked.settings.multiarch)?;
+    tell_absent(rt, about, &case, asked.has("--multiarch"))?;
     let reply = checked(rt, about, asked, &case)?;
     say(rt, &reply)
-}
-
-/// Writes each reason and hazard.
-pub fn reasons(rt: &HostRuntime, catalogue: &Catalogue<'_>) -> Result<Ending, Fault> {
-    let text = reasons_text(rt.alloc(), catalogue)?;
-    rt.stdout()
-        .write_all(text.as_bytes())
-        .map_err(Fault::of_output)?;
-    Ok(Ending::Answered)
-}
-
-/// Writes the flags of the compilers' tables.
-pub fn flags(rt: &HostRuntime, asked: &FlagArguments) -> Result<Ending, Fault> {
-    let text = flags_text(
-        rt.alloc(),
-        asked.compiler,
-        asked.word.as_deref().map(str::as_bytes),
-    )?;
-    rt.stdout()
-        .write_all(text.as_bytes())
-        .map_err(Fault::of_output)?;
-    Ok(Ending::Answered)
-}
-
-/// Writes a page.
-pub fn page(rt: &HostRuntime, text: &str) -> Result<Ending, Fault> {
-    rt.stdout()
-        .write_all(text.as_bytes())
-        .map_err(Fault::of_output)?;
-    Ok(Ending::Answered)
 }

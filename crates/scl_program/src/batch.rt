@@ -1,14 +1,13 @@
 //! The answers to the entries of a compile database.
 use crate::arguments::working_directory;
-use crate::asked::{DatabaseArguments, Settings};
+use crate::asked::Asked;
 use crate::disk::SystemDisk;
 use crate::fault::{Fault, warn};
 use crate::file::{name_of, read_file};
-use crate::one::{copied, variables_of};
+use crate::one::variables_of;
 use crate::progress::Progress;
-use scl_cl::MOST;
 use scl_describe::About;
-use scl_explain::{Ending, EntryKind};
+use scl_explain::Ending;
 use scl_report::{
     Batch, Database, DatabaseError, EntryReader, EntryValue, Tally, ending_of_counts,
 };
@@ -148,7 +147,9 @@ fn answer_database<R: Read>(
     answers.progress.end();
     match wrong {
         Some(error) => {
-            answers.writer.flush().map_err(Fault::of_output)?;
+            if answers.tally.counts.entries > 0 {
+                answers.close(rt, batch)?;
+            }
             wrong_database(rt, path, &error)
         }
         None => answers.close(rt, batch),
@@ -171,24 +172,23 @@ pub fn database_at(rt: &HostRuntime, path: &str) -> Result<Option<Database>, Fau
 pub fn batch_of<'a>(
     rt: &HostRuntime,
     about: About<'a>,
-    settings: &Settings,
-    json: bool,
-    only: Option<EntryKind>,
+    asked: &Asked<'_, '_>,
 ) -> Result<Batch<'a>, Fault> {
+    let alloc = rt.alloc();
     Ok(Batch {
         about,
-        launchers: copied(rt.alloc(), &settings.launchers)?,
-        named: settings.compiler,
+        launchers: asked.values(alloc, "--launcher")?,
+        named: asked.compiler(),
         base: working_directory(rt)?,
-        env_vars: variables_of(rt, settings)?,
-        multiarch: settings.multiarch,
-        may_dist: settings.may_dist,
-        bound: settings.bound.unwrap_or(MOST),
-        base_dirs: copied(rt.alloc(), &settings.base_dirs)?,
-        keeps_shown: settings.keeps_shown,
-        json,
-        keep: false,
-        only,
+        env_vars: variables_of(rt, asked)?,
+        multiarch: asked.has("--multiarch"),
+        may_dist: asked.has("--may-dist"),
+        limits: asked.limits(),
+        base_dirs: asked.values(alloc, "--base")?,
+        keeps_shown: asked.has("--keep-shown"),
+        json: asked.has("--json"),
+        keep: asked.has("--keep"),
+        only: asked.only(),
     })
 }
 
@@ -196,11 +196,10 @@ pub fn batch_of<'a>(
 pub fn database<'a>(
     rt: &HostRuntime,
     about: About<'a>,
-    asked: &DatabaseArguments,
+    asked: &Asked<'_, '_>,
 ) -> Result<Ending, Fault> {
-    let path = asked.path.as_str();
-    let mut batch = batch_of(rt, about, &asked.settings, asked.json, asked.only)?;
-    batch.keep = asked.asks_kept;
+    let path = asked.value("path").unwrap_or("-");
+    let batch = batch_of(rt, about, asked)?;
     if path == "-" {
         return answer_database(rt, &batch, path, &mut rt.stdin());
     }

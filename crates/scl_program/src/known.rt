@@ -1,30 +1,27 @@
 //! What is known of compilers: the built-in catalogue, or one that is passed, and the version that is given.
-use crate::asked::{KnownArguments, Wanted};
+use crate::asked::Asked;
 use crate::fault::{Fault, warn};
 use crate::file::{name_of, read_regular_file};
-use crate::{batch, diff, one, why};
+use crate::{BuiltIn, batch, diff, one, tables, why};
 use bumpalo::Bump;
-use scl_catalogue_default::built_in_entries;
 use scl_catalogue_text::{BadLine, ReadError, read};
-use scl_describe::{About, Catalogue, Entry};
-use scl_effects_default::plain_names;
+use scl_describe::{About, Catalogue};
 use scl_explain::Ending;
 use scl_reader::is_apple;
 use scl_shell::shown_briefly;
 
 /// Answers a request, by what is known.
-fn answer(rt: &HostRuntime, about: About<'_>, wanted: &Wanted) -> Result<Ending, Fault> {
-    match wanted {
-        Wanted::Done(ending) => Ok(*ending),
-        Wanted::Explain(asked) => one::explain(rt, &about, asked),
-        Wanted::Command(asked) => one::command(rt, &about, asked),
-        Wanted::Check(asked) => one::check(rt, &about, asked),
-        Wanted::Database(asked) => batch::database(rt, about, asked),
-        Wanted::Why(asked) => why::why(rt, about, asked),
-        Wanted::Diff(asked) => diff::diff(rt, about, asked),
-        Wanted::Reasons => one::reasons(rt, &about.catalogue),
-        Wanted::Flags(asked) => one::flags(rt, asked),
-        Wanted::Page(text) => one::page(rt, text.as_str()),
+fn answer(rt: &HostRuntime, about: About<'_>, asked: &Asked<'_, '_>) -> Result<Ending, Fault> {
+    match asked.name {
+        "explain" => one::explain(rt, &about, asked),
+        "command" => one::command(rt, &about, asked),
+        "check" => one::check(rt, &about, asked),
+        "database" => batch::database(rt, about, asked),
+        "why" => why::why(rt, about, asked),
+        "diff" => diff::diff(rt, about, asked),
+        "reasons" => tables::reasons(rt, &about.catalogue, asked),
+        "flags" => tables::flags(rt, asked),
+        _ => tables::page(rt, asked),
     }
 }
 
@@ -33,14 +30,14 @@ fn answer_with<'a>(
     rt: &HostRuntime,
     catalogue: &Catalogue<'a>,
     version: Option<&'a str>,
-    wanted: &Wanted,
+    asked: &Asked<'_, '_>,
 ) -> Result<Ending, Fault> {
     let about = About {
         catalogue: *catalogue,
-        plain: plain_names(),
+        plain: asked.built_in.plain,
         version,
     };
-    answer(rt, about, wanted)
+    answer(rt, about, asked)
 }
 
 /// Reports the first wrong line of a catalogue, with the word that is wrong.
@@ -64,10 +61,10 @@ fn answer_by_text<'a>(
     arena: &'a Bump,
     text: &'a [u8],
     version: Option<&'a str>,
-    wanted: &Wanted,
+    asked: &Asked<'_, '_>,
 ) -> Result<Ending, Fault> {
     match read(rt.alloc(), arena, text) {
-        Ok(catalogue) => answer_with(rt, &catalogue, version, wanted),
+        Ok(catalogue) => answer_with(rt, &catalogue, version, asked),
         Err(ReadError::BadLine(bad)) => wrong_line(rt, path, text, bad),
         Err(ReadError::Memory) => Err(Fault::Memory),
     }
@@ -78,33 +75,23 @@ fn answer_by_file(
     rt: &HostRuntime,
     path: &str,
     version: Option<&str>,
-    wanted: &Wanted,
+    asked: &Asked<'_, '_>,
 ) -> Result<Ending, Fault> {
     let text = read_regular_file(rt, path)?;
     let arena = Bump::new(rt.alloc());
-    answer_by_text(rt, path, &arena, &text, version, wanted)
+    answer_by_text(rt, path, &arena, &text, version, asked)
 }
 
-/// What is known of a compiler of this version by entries that are built in, which name no group.
-fn about<'a>(entries: &'a [Entry<'static>], version: Option<&'a str>) -> About<'a> {
+/// What is known of a compiler of this version by what is built in.
+fn about<'a>(built_in: BuiltIn<'a>, version: Option<&'a str>) -> About<'a> {
     About {
         catalogue: Catalogue {
             groups: &[],
-            entries,
+            entries: built_in.entries,
         },
-        plain: plain_names(),
+        plain: built_in.plain,
         version,
     }
-}
-
-/// Answers a request, by the built-in catalogue.
-fn answer_by_built_in(
-    rt: &HostRuntime,
-    version: Option<&str>,
-    wanted: &Wanted,
-) -> Result<Ending, Fault> {
-    let entries = built_in_entries(rt.alloc())?;
-    answer(rt, about(&entries, version), wanted)
 }
 
 /// Whether a text is numbers with dots between them.
@@ -126,12 +113,8 @@ fn tells_version(text: &str) -> bool {
 }
 
 /// Answers a request about a compiler of this version, where one is given, by the catalogue that is named.
-pub fn answer_by(
-    rt: &HostRuntime,
-    known: &KnownArguments,
-    wanted: &Wanted,
-) -> Result<Ending, Fault> {
-    let told = known.version.as_deref();
+pub fn answer_by(rt: &HostRuntime, asked: &Asked<'_, '_>) -> Result<Ending, Fault> {
+    let told = asked.value("--compiler-version");
     if told.is_some_and(|text| !tells_version(text)) {
         warn(
             rt,
@@ -139,8 +122,8 @@ pub fn answer_by(
         );
         return Ok(Ending::Usage);
     }
-    match &known.catalogue {
-        Some(path) => answer_by_file(rt, path.as_str(), told, wanted),
-        None => answer_by_built_in(rt, told, wanted),
+    match asked.value("--catalogue") {
+        Some(path) => answer_by_file(rt, path, told, asked),
+        None => answer(rt, about(asked.built_in, told), asked),
     }
 }

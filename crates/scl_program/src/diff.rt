@@ -1,21 +1,17 @@
 //! What two command lines differ in.
 use crate::arguments::working_directory;
-use crate::asked::{Compare, DiffArguments, Settings};
+use crate::asked::{Asked, Compare};
 use crate::batch::{batch_of, database_at};
 use crate::disk::SystemDisk;
 use crate::fault::{Fault, warn};
 use crate::file::name_of;
 use crate::one::case_of_words;
+use crate::tables::write;
 use scl_describe::About;
 use scl_explain::{Case, Ending};
-use scl_report::{Batch, Compared, Database, EntryValue, file_of};
-use std::io::Write;
-
-fn write(rt: &HostRuntime, text: &str) -> Result<(), Fault> {
-    rt.stdout()
-        .write_all(text.as_bytes())
-        .map_err(Fault::of_output)
-}
+use scl_report::{
+    Batch, Compared, Database, EntryValue, Pairs, Partners, Sources, file_of, lines_json,
+};
 
 fn ending_of(are_equal: bool) -> Ending {
     if are_equal {
@@ -40,45 +36,40 @@ fn compared(
 }
 
 /// Writes what two differ in.
-fn tell(rt: &HostRuntime, first: &Compared, second: &Compared) -> Result<Ending, Fault> {
+fn tell(
+    rt: &HostRuntime,
+    first: &Compared,
+    second: &Compared,
+    json: bool,
+) -> Result<Ending, Fault> {
     let alloc = rt.alloc();
-    write(rt, first.difference(alloc, second)?.as_str())?;
+    if json {
+        let pair = first.json(alloc, second, "")?;
+        write(rt, &lines_json(alloc, &pair)?)?;
+    } else {
+        write(rt, first.difference(alloc, second)?.as_bytes())?;
+    }
     Ok(ending_of(first.has_key_of(alloc, second)?))
 }
 
 fn lines(
     rt: &HostRuntime,
     about: &About<'_>,
-    settings: &Settings,
+    asked: &Asked<'_, '_>,
     first: &[Vec<u8>],
     second: &[Vec<u8>],
 ) -> Result<Ending, Fault> {
     let here = working_directory(rt)?;
-    let Some(first) = case_of_words(rt, settings, first, here)? else {
+    let Some(first) = case_of_words(rt, asked, first, here)? else {
         return Ok(Ending::Usage);
     };
     let here = working_directory(rt)?;
-    let Some(second) = case_of_words(rt, settings, second, here)? else {
+    let Some(second) = case_of_words(rt, asked, second, here)? else {
         return Ok(Ending::Usage);
     };
-    let first = compared(rt, about, &first, settings.multiarch)?;
-    let second = compared(rt, about, &second, settings.multiarch)?;
-    tell(rt, &first, &second)
-}
-
-/// The first entry of a source.
-fn entry_of<'d>(
-    rt: &HostRuntime,
-    batch: &Batch<'_>,
-    database: &'d Database,
-    file: &str,
-) -> Result<Option<&'d EntryValue>, Fault> {
-    for value in database.entries() {
-        if batch.is_meant(rt.alloc(), value, file)? {
-            return Ok(Some(value));
-        }
-    }
-    Ok(None)
+    let first = compared(rt, about, &first, asked.has("--multiarch"))?;
+    let second = compared(rt, about, &second, asked.has("--multiarch"))?;
+    tell(rt, &first, &second, asked.has("--json"))
 }
 
 /// What is compared of an entry; none where it is no command line, which is reported.
@@ -100,11 +91,12 @@ fn compared_entry(
 fn compared_source(
     rt: &HostRuntime,
     batch: &Batch<'_>,
-    database: &Database,
+    sources: &Sources<'_>,
     file: &str,
 ) -> Result<Option<Compared>, Fault> {
-    match entry_of(rt, batch, database, file)? {
-        Some(value) => compared_entry(rt, batch, value),
+    let meant = sources.meant(rt.alloc(), file)?;
+    match meant.first() {
+        Some((_, value)) => compared_entry(rt, batch, value),
         None => {
             let file = name_of(rt, file)?;
             let line = format!(in rt.alloc(); "the database has no entry of {file}")?;
@@ -125,21 +117,24 @@ fn entries(
     let Some(database) = database_at(rt, path)? else {
         return Ok(Ending::BadDatabase);
     };
-    let Some(first) = compared_source(rt, batch, &database, first)? else {
+    let sources = Sources::of_entries(rt.alloc(), &batch.base, database.entries())?;
+    let Some(first) = compared_source(rt, batch, &sources, first)? else {
         return Ok(Ending::Usage);
     };
-    let Some(second) = compared_source(rt, batch, &database, second)? else {
+    let Some(second) = compared_source(rt, batch, &sources, second)? else {
         return Ok(Ending::Usage);
     };
-    tell(rt, &first, &second)
+    tell(rt, &first, &second, batch.json)
 }
 
-/// Writes what two entries differ in, if the rows of their keys are not equal; whether they are.
+/// Takes up what two entries differ in, if the rows of their keys are not equal: it is written, or for machines kept in `unequal`.
+/// Whether they are equal.
 fn pair(
     rt: &HostRuntime,
     batch: &Batch<'_>,
     first: &EntryValue,
     second: &EntryValue,
+    unequal: &mut Vec<Vec<u8>>,
 ) -> Result<bool, Fault> {
     let alloc = rt.alloc();
     let Some(one) = compared_entry(rt, batch, first)? else {
@@ -151,27 +146,29 @@ fn pair(
     if one.has_key_of(alloc, &other)? {
         return Ok(true);
     }
+    if batch.json {
+        unequal.push(one.json(alloc, &other, file_of(first))?)?;
+        return Ok(false);
+    }
     let file = name_of(rt, file_of(first))?;
     let text = one.difference(alloc, &other)?;
-    write(rt, format!(in alloc; "{file}:\n{text}\n")?.as_str())?;
+    write(rt, format!(in alloc; "{file}:\n{text}\n")?.as_bytes())?;
     Ok(false)
 }
 
-/// Takes the first entry that has this source and is not taken.
-fn take_partner<'d>(
-    database: &'d Database,
-    taken: &mut [bool],
-    file: &str,
-) -> Option<&'d EntryValue> {
-    for (at, value) in database.entries().iter().enumerate() {
-        if file_of(value) == file && taken.get(at) == Some(&false) {
-            if let Some(is_taken) = taken.get_mut(at) {
-                *is_taken = true;
-            }
-            return Some(value);
-        }
+/// Writes what was counted of two databases, and for machines the pairs that are not equal.
+fn close(
+    rt: &HostRuntime,
+    batch: &Batch<'_>,
+    pairs: Pairs,
+    unequal: &[Vec<u8>],
+) -> Result<Ending, Fault> {
+    if batch.json {
+        write(rt, &pairs.json(rt.alloc(), unequal)?)?;
+    } else {
+        write(rt, pairs.line(rt.alloc())?.as_bytes())?;
     }
-    None
+    Ok(ending_of(pairs.are_equal()))
 }
 
 /// Compares the entries of two databases that have the same source, in order.
@@ -181,25 +178,27 @@ fn compare_all(
     first: &Database,
     second: &Database,
 ) -> Result<Ending, Fault> {
-    let mut taken = vec![in rt.alloc(); false; second.entries().len()]?;
-    let (mut pairs, mut equal, mut alone) = (0u64, 0u64, 0u64);
+    let mut partners = Partners::of_entries(rt.alloc(), second.entries())?;
+    let (mut pairs, mut equal, mut first_only) = (0u64, 0u64, 0u64);
+    let mut unequal = Vec::new(rt.alloc());
     for value in first.entries() {
-        match take_partner(second, &mut taken, file_of(value)) {
+        match partners.take(file_of(value)) {
             Some(other) => {
                 pairs = pairs.saturating_add(1);
-                if pair(rt, batch, value, other)? {
+                if pair(rt, batch, value, other, &mut unequal)? {
                     equal = equal.saturating_add(1);
                 }
             }
-            None => alone = alone.saturating_add(1),
+            None => first_only = first_only.saturating_add(1),
         }
     }
-    let others = taken.iter().filter(|is| !**is).count();
-    let line = format!(in rt.alloc();
-        "entries in both: {pairs}; with equal rows of keys: {equal}; only in the first: {alone}; only in the second: {others}\n"
-    )?;
-    write(rt, line.as_str())?;
-    Ok(ending_of(pairs == equal && alone == 0 && others == 0))
+    let pairs = Pairs {
+        pairs,
+        equal,
+        first_only,
+        second_only: partners.left(),
+    };
+    close(rt, batch, pairs, &unequal)
 }
 
 /// Says what the entries of two databases differ in.
@@ -222,18 +221,18 @@ fn databases(
 pub fn diff<'a>(
     rt: &HostRuntime,
     about: About<'a>,
-    asked: &DiffArguments,
+    asked: &Asked<'_, '_>,
 ) -> Result<Ending, Fault> {
-    let settings = &asked.settings;
-    match &asked.compare {
-        Compare::Lines(first, second) => lines(rt, &about, settings, first, second),
-        Compare::Entries(path, first, second) => {
-            let batch = batch_of(rt, about, settings, false, None)?;
+    match asked.compare(rt.alloc())? {
+        Some(Compare::Lines(first, second)) => lines(rt, &about, asked, &first, &second),
+        Some(Compare::Entries(path, first, second)) => {
+            let batch = batch_of(rt, about, asked)?;
             entries(rt, &batch, path.as_str(), first.as_str(), second.as_str())
         }
-        Compare::Databases(first, second) => {
-            let batch = batch_of(rt, about, settings, false, None)?;
+        Some(Compare::Databases(first, second)) => {
+            let batch = batch_of(rt, about, asked)?;
             databases(rt, &batch, first.as_str(), second.as_str())
         }
+        None => Ok(Ending::Usage),
     }
 }
