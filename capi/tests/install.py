@@ -8,6 +8,7 @@ The two flags are those of capi/release. It tries that
   - both releases are the same bytes
   - the package has no error of lintian, and its programs and library run where it puts them; the wheel's tag is true, also by
     auditwheel if that is there; the manual's pages are clean; the completions can be read, and bash completes
+  - no link of its pages is broken; and those that only who changes scl makes use of are not there
   - the commands of docs/INSTALL.md (lines of a block that begin with `$ `) write what stands after them, with nothing but the
     archive: no clone, no toolchain of Rattle
   - in each language each of the five examples writes what bindings/expected says
@@ -147,6 +148,19 @@ def check_texts(tree):
     return lacking
 
 
+def check_links(tree):
+    """Each link of a page to a file has its file."""
+    pages = glob.glob(f"{tree}/share/doc/scl/**/*.md", recursive=True)
+    links = [(page, link) for page in pages for link in re.findall(r"\[[^]\[]*\]\(([^)#\s:]+)(?:#[^)]*)?\)", text_of(page))]
+    broken = [f"{os.path.relpath(page, tree)}: {link}" for page, link in links if not os.path.exists(os.path.join(os.path.dirname(page), link))]
+    if broken or not links:
+        fail(f"broken links: {'; '.join(broken) or 'there are none at all'}")
+    useless = [it for it in ("CLAUSES.txt", "DECISIONS.md", "DESIGN.md", "GATE.md") if os.path.exists(f"{tree}/share/doc/scl/docs/{it}")]
+    if useless:
+        fail(f"the release has {', '.join(useless)}")
+    return []
+
+
 # ---- the page
 
 
@@ -263,7 +277,7 @@ def main():
         tried, lacking = check_page(folder, room)
         tree = glob.glob(f"{room}/empty/scl-*-linux")[0]
         run([sys.executable, f"{os.path.dirname(os.path.realpath(__file__))}/launcher.py", f"{tree}/bin/scl"])
-        lacking += check_texts(tree) + check_wheel(folder, room) + check_package(folder, room)
+        lacking += check_texts(tree) + check_links(tree) + check_wheel(folder, room) + check_package(folder, room)
     also = f"; not there, so not tried: {', '.join(lacking)}" if lacking else ""
     print(f"a release, made twice, is the same bytes, and runs by docs/INSTALL.md in an empty folder: {', '.join(tried)}{also}")
 
