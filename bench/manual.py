@@ -35,7 +35,8 @@ ROW = re.compile(rf"^    \((\w+|&\[[^]]*\]), {TEXT}, {TEXT}, Takes::(\w+)(?:\((\
 NAMES = re.compile(r"^const (\w+): &\[&str\] = &\[(.*?)\];", re.M | re.S)
 PART = re.compile(rf"    Part \{{\s*name: {TEXT},\s*about: {TEXT},\s*example: {TEXT},\s*\}},", re.S)
 CONST = re.compile(rf"pub const (\w+): &str =\s*{TEXT};", re.S)
-ASKED = re.compile(rf"\.(?:has|value|values|get_flag|get_str|get_strs)\(\s*(?:\w+,\s*)?{TEXT}")
+# (a text that is an option's name, and any that is asked for)
+ASKED = re.compile(rf'(?<!b)"(--?[a-z0-9][a-z0-9-]*)"|\.(?:has|value|values|get_flag|get_str|get_strs)\(\s*(?:\w+,\s*)?{TEXT}')
 WHAT = {"BASH": "The completions for bash.", "ZSH": "The completions for zsh.", "FISH": "The completions for fish.", "MANUAL": "The manual's page."}
 
 
@@ -135,7 +136,7 @@ def unknown_names():
     """The options that the program asks for by a name that no row has."""
     known = {name for _, name, _ in rows()}
     for file in sorted(os.listdir(PROGRAM)):
-        for name in ASKED.findall(text_of(f"{PROGRAM}/{file}")):
+        for name in dict.fromkeys(first or second for first, second in ASKED.findall(text_of(f"{PROGRAM}/{file}"))):
             if name not in known:
                 yield f"{PROGRAM}/{file} asks for {name}, and {ROWS} has no such row"
 

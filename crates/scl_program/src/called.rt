@@ -1,26 +1,13 @@
-//! The subcommand that is called.
+//! The command that is called.
+use scl_help::PARTS;
 
-/// The subcommands.
-static SUBCOMMANDS: [&str; 10] = [
-    "explain",
-    "command",
-    "check",
-    "database",
-    "why",
-    "diff",
-    "reasons",
-    "flags",
-    "completions",
-    "man",
-];
-
-/// The subcommand that is called, and a blank; nothing where none is.
+/// The command that is called, and a blank; nothing where none is.
 pub fn called(arguments: &[Vec<u8>]) -> (&'static str, &'static str) {
-    for name in &SUBCOMMANDS {
+    for part in PARTS {
         if let Some(first) = arguments.first()
-            && first.as_slice() == name.as_bytes()
+            && first.as_slice() == part.name.as_bytes()
         {
-            return (*name, " ");
+            return (part.name, " ");
         }
     }
     ("", "")

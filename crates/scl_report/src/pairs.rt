@@ -1,14 +1,10 @@
 //! What pairs of command lines differ in, as JSON, and what is counted over the pairs of two databases.
+use crate::alone::Known;
 use crate::difference::Compared;
 use crate::document::{Rows, push_field, row_named};
 use scl_cl::Mem;
-use scl_description::push_field as push_escaped;
 use scl_json::push_json;
 use std::alloc::Global;
-use std::collections::BTreeSet;
-
-/// Where the field of an option's row stands that says which word it came from.
-const AT: usize = 3;
 
 /// The rows that each side of a pair has.
 static SIDE: [&str; 12] = [
@@ -36,27 +32,6 @@ fn is_among(names: &[&str], row: &[Vec<u8>]) -> bool {
     }
 }
 
-/// What is compared of a row: its fields, of an option without the place of its word.
-fn compared_text(alloc: Global, row: &[Vec<u8>]) -> Mem<Vec<u8>> {
-    let is_option = is_among(&["option"], row);
-    let mut text = Vec::new(alloc);
-    for (at, field) in row.iter().enumerate() {
-        if !(is_option && at == AT) {
-            push_escaped(&mut text, field)?;
-        }
-        text.push(b' ')?;
-    }
-    Ok(text)
-}
-
-fn compared_texts(alloc: Global, rows: &[Vec<Vec<u8>>]) -> Mem<BTreeSet<Vec<u8>>> {
-    let mut texts = BTreeSet::new(alloc);
-    for row in rows {
-        texts.insert(compared_text(alloc, row)?)?;
-    }
-    Ok(texts)
-}
-
 /// The same fields.
 fn copied(alloc: Global, row: &[Vec<u8>]) -> Mem<Vec<Vec<u8>>> {
     let mut copy = Vec::new(alloc);
@@ -68,10 +43,10 @@ fn copied(alloc: Global, row: &[Vec<u8>]) -> Mem<Vec<Vec<u8>>> {
 
 /// The rows of a side: how it is answered, and of its lists those rows that the other side has not.
 fn rows_of_side(alloc: Global, rows: &[Vec<Vec<u8>>], others: &[Vec<Vec<u8>>]) -> Mem<Rows> {
-    let known = compared_texts(alloc, others)?;
+    let known = Known::of_rows(alloc, others)?;
     let mut side = Vec::new(alloc);
     for row in rows {
-        let is_alone = !is_among(&LISTS, row) || !known.contains(&compared_text(alloc, row)?);
+        let is_alone = !is_among(&LISTS, row) || !known.has(alloc, row)?;
         if is_among(&SIDE, row) && is_alone {
             side.push(copied(alloc, row)?)?;
         }
