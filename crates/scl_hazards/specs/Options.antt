@@ -1,7 +1,12 @@
 -- Options of a command line that was read, as a catalogue's conditions see them.
-use Rattle.std.specs.Prelude.{ℕ, nat_eq, ◌==◌, Bool, true, false, ◌&&◌, List, [], ◌∷◌, length, drop, map, Option, None, Some, is_none}
+use Rattle.std.specs.Prelude.{◌≡◌, ℕ, nat_eq, ◌==◌, Bool, true, false, ◌&&◌, List, [], ◌∷◌, length, drop, map, Option, None, Some, is_none}
+use Rattle.std.specs.Borrow.{Bor}
+use Rattle.std.specs.BTreeSet.{BTreeSet, contains}
+use Rattle.std.specs.Cmp.Lexicographic.{slice_cmp}
 use Rattle.std.specs.List.{list_any, starts_with}
+use Rattle.std.specs.Ordering.{nat_cmp, ordering_then}
 use Rattle.std.specs.Str.{bytes_eq}
+use Rattle.std.specs.declared.cmp.Ordering.{Ordering}
 use Rattle.scl_catalogue.specs.Found.{OptionSeen}
 use Rattle.scl_catalogue.specs.declared.seen.Marks.{Marks}
 use Rattle.scl_catalogue.specs.declared.seen.Standing.{Standing}
@@ -61,6 +66,14 @@ delimiter_of how.Separated = None
 delimiter_of (how.CanBeConcatenated d) = d
 delimiter_of (how.CanBeSeparated d) = d
 delimiter_of (how.Concatenated d) = d
+
+-- the order of words' ends: by the last byte, then by the bytes before it
+abbrev pub end_cmp : ℕ × Bor (List ℕ) → ℕ × Bor (List ℕ) → Ordering
+end_cmp a b = ordering_then (nat_cmp a.0 b.0) (slice_cmp nat_cmp a.1.now b.1.now)
+
+-- the set has the last byte of each word, with the bytes before it
+abbrev pub HasEnds : BTreeSet (ℕ × Bor (List ℕ)) → List (List ℕ) → Type 0
+HasEnds ends words = (end : ℕ × Bor (List ℕ)) → contains end_cmp ends end ≡ list_any (is_delimited end.1.now end.0) words
 
 -- the value is empty, and one of the words has the delimiter
 abbrev pub lacks_delimiter : List (List ℕ) → List ℕ → List ℕ → Option ArgDisposition → Bool

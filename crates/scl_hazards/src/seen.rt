@@ -5,7 +5,7 @@ ghost use Rattle.scl_values.specs.Seen.{seen};
 ghost use Rattle.scl_values.specs.Words.{words_of};
 ghost use Rattle.scl_hazards.specs.Options.{bare, could_be_joined, could_stand_apart, in_one_word, is_hidden, marks_of, option_seen, options_seen};
 
-use crate::delimiter::lacks_delimiter;
+use crate::delimiter::{Words, lacks_delimiter};
 use scl_args::{ArgDisposition, Argument, Mem, ReadArg};
 use scl_catalogue::{Marks, Seen, Standing};
 use scl_text::path::{extension, file_name};
@@ -83,14 +83,14 @@ fn bare<'a>(standing: Standing, word: &'a [u8], stays: bool) -> Seen<'a>
 
 /// What is known of an option with a row, whose words are among these.
 #[tactic(auto, unfolding(crate::specs::Options::marks_of))]
-fn marks(
-    words: &[Vec<u8>],
-    flag: &[u8],
+fn marks<'a>(
+    words: &Words<'a>,
+    flag: &'a [u8],
     value: &[u8],
     how: Option<ArgDisposition>,
     is_common: bool,
 ) -> Marks
-    ensures { result ≡ marks_of (words_of words.now) flag.now value.now how is_common }
+    ensures { result ≡ marks_of (words_of words.now.words.now) flag.now value.now how is_common }
 {
     Marks {
         stays: in_one_word(how) && is_common,
@@ -102,8 +102,8 @@ fn marks(
 }
 
 /// An option as conditions see it, whose words are among these.
-fn option_seen<'a, T: Kinded>(words: &[Vec<u8>], option: &'a Argument<T>) -> Seen<'a>
-    ensures { seen_of result ≡ option_seen T.kind_text T.is_common (words_of words.now) (seen T.kind_of T.word_of option.now) }
+fn option_seen<'a, T: Kinded>(words: &Words<'a>, option: &'a Argument<T>) -> Seen<'a>
+    ensures { seen_of result ≡ option_seen T.kind_text T.is_common (words_of words.now.words.now) (seen T.kind_of T.word_of option.now) }
 {
     let is_common = T::is_common(option);
     let (flag, value, how) = match option {
@@ -129,17 +129,31 @@ pub(crate) struct BothSeen<'a> {
     pub(crate) inner: Vec<Seen<'a>>,
 }
 
+/// How many options with an empty value look through all words, one by one.
+const FEW: usize = 8;
+
+fn has_empty_value<T: Kinded>(option: &Argument<T>) -> bool {
+    matches!(option, Argument::WithValue(_, value, _) if value.word().is_empty())
+}
+
+/// Whether so many options have an empty value that words are better put in order.
+fn are_often_sought<T: Kinded>(options: &[Argument<T>]) -> bool {
+    let mut empty = options.iter().filter(|option| has_empty_value(option));
+    empty.nth(FEW).is_some()
+}
+
 /// Options as conditions see them, whose words are these.
 pub(crate) fn options_seen<'a, T: Kinded>(
     alloc: Global,
-    words: &[Vec<u8>],
+    words: &'a [Vec<u8>],
     options: &'a [Argument<T>],
 ) -> Mem<Vec<Seen<'a>>>
     ensures { IfOk result (λ all. map seen_of all.items ≡ options_seen T.kind_text T.is_common (words_of words.now) (map (seen T.kind_of T.word_of) options.now)) }
 {
+    let sought = Words::new(alloc, words, are_often_sought(options))?;
     let mut all = Vec::with_capacity(alloc, options.len())?;
     for option in options {
-        all.push(option_seen(words, option))?;
+        all.push(option_seen(&sought, option))?;
     }
     Ok(all)
 }
