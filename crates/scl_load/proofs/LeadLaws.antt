@@ -8,7 +8,7 @@ use Rattle.scl_files.specs.declared.expand.ExpansionKind.{ExpansionKind}
 use Rattle.scl_files.specs.declared.expand.ExpansionKind.TheVariants as expansions
 use Rattle.scl_reader.specs.Questions.{Extends}
 use Rattle.scl_values.specs.Each.{Each}
-use Rattle.scl_load.specs.Leads.{AreFollowed, AsksIn, GoesOn, IsFound, IsLead, IsLed, Lead, lead_from, lead_of, leads_from, leads_in, leads_inside, leads_named, leads_of}
+use Rattle.scl_load.specs.Leads.{AreFollowed, AsksIn, GoesOn, IsFound, IsLead, IsLed, Lead, lead_from, lead_of, leads_from, leads_in, leads_inside, leads_of}
 use Rattle.scl_load.specs.Loads.{IsAbsent, IsChain, IsDeep, IsGiven, IsInside, IsLookedFor, IsSame, Load, file, inside, is_there, paths_named}
 use Rattle.scl_load.specs.declared.leads.Lead as code
 use Rattle.scl_load.specs.declared.leads.Leads as all
@@ -56,12 +56,6 @@ each-named P name kind depth (word ∷ words) f =
       | None ↦ λ g. each-named P name kind depth words g
       | Some path ↦ λ g. (g path (head-in path (filter_map name words)), each-named P name kind depth words (λ other has. g other (tail-in path other (filter_map name words) has)))
     ] f
-
--- given words name them
-pub each-given : (disk : Viewed) (load : Load) (view : Viewed) (kind : ExpansionKind) (directory : List ℕ) (words : List (List ℕ))
-    → ((path : List ℕ) → Contains (paths_named kind directory words) path → IsLead disk load view (record { kind = kind; path = path; depth = 0 }))
-    → Each (IsLead disk load view) (leads_named kind directory words 0)
-each-given disk load view kind directory words f = each-named (IsLead disk load view) (named kind directory) kind 0 words f
 
 module _ (disk : Viewed) (load : Load) (view : Viewed) (directory : List ℕ) (asks : AsksIn directory load) (extends : Extends disk view) where
   inside-of : (on : Viewed) (kind : ExpansionKind) (bytes : List ℕ) (words : List (List ℕ)) (from path : List ℕ) → bytes_at from on.files ≡ Some bytes → arguments kind bytes ≡ Some words

@@ -1,13 +1,10 @@
 -- A load goes on, and how it ends.
-use Rattle.std.proofs.Common.{◌≡◌, ◌+◌, ◌<◌, ◌++◌, ℕ, true, false, List, Option, None, Some, Ok, Err, inl, Contains, map, refl, sym, ap, subst, ◌∙◌}
+use Rattle.std.proofs.Common.{◌≡◌, ◌+◌, ◌<◌, ◌++◌, ℕ, true, false, List, [], None, Ok, Err, inl, Contains, map, refl, sym, ap, subst, ◌∙◌}
 use Rattle.scl_files.specs.Views.{Viewed}
-use Rattle.scl_files.specs.declared.expand.ExpansionKind.{ExpansionKind}
 use Rattle.scl_files.specs.declared.expand.Limits.{Limits}
 use Rattle.scl_values.specs.Each.{Each}
-use Rattle.scl_values.specs.Words.{words_of}
 use Rattle.scl_reader.specs.Answers.{answer_to, reading_by}
 use Rattle.scl_reader.specs.CommandLines.{Given, Request, asked_for}
-use Rattle.scl_reader.specs.Compilers.{expansion_of}
 use Rattle.scl_reader.specs.Questions.{Questions, Extends, HasNoneOf, questions_in, questions_of}
 use Rattle.scl_reader.specs.Reads.{files_lacked, outcome_in, read_of}
 use Rattle.scl_reader.specs.Within.{has_at_most}
@@ -15,14 +12,14 @@ use Rattle.scl_reader.specs.declared.compiler.Compiler.{Compiler}
 use Rattle.scl_reader.specs.declared.reading.Reading.{Reading}
 use Rattle.scl_reader.proofs.QuestionLaws.{are-decided, readings-decided}
 use Rattle.scl_reader.proofs.ReadLaws.{readings-say}
-use Rattle.scl_load.specs.Leads.{AreFollowed, IsLead, IsLed, IsReadOnce, Lead, file_leads, first_leads, leads_found, leads_given, leads_of}
-use Rattle.scl_load.specs.Loads.{AreAllSame, AreLooks, HasNoneAsked, IsDiskError, IsEnd, IsGiven, IsLoaded, IsLookedFor, IsTooLong, IsUnended, Load, asked_all, asked_file, asked_on, first_view, given, load_of, none}
+use Rattle.scl_load.specs.Leads.{AreFollowed, IsLead, IsLed, IsReadOnce, Lead, file_leads, leads_found, leads_of}
+use Rattle.scl_load.specs.Loads.{AreAllSame, AreLooks, HasNoneAsked, IsDiskError, IsEnd, IsLoaded, IsLookedFor, IsTooLong, IsUnended, Load, asked_all, asked_file, asked_on, first_view, load_of, none}
 use Rattle.scl_load.specs.declared.leads.Leads as all
 use Rattle.scl_load.specs.declared.loader.DiskLine.{DiskLine}
 use Rattle.scl_load.specs.declared.loader.LoadError.{LoadError}
 use Rattle.scl_load.specs.declared.loader.LoadError.TheVariants as errors
 use Rattle.scl_load.proofs.ExtendLaws.{extends-empty}
-use Rattle.scl_load.proofs.LeadLaws.{each-both, each-flat, each-given, each-in, each-inside, each-mapped, each-so, leads-kept}
+use Rattle.scl_load.proofs.LeadLaws.{each-both, each-flat, each-in, each-inside, each-mapped, each-so, leads-kept}
 
 module _ (holds : Viewed → Type 0) (load : Load) where
   -- on each disk of which this holds: n readings found something, the view was made, and these are left to look for
@@ -84,17 +81,11 @@ module _ (disk : Viewed) (line : DiskLine) (most : Limits) (most_rounds : ℕ) w
   abbrev load : Load
   load = load_of line most most_rounds
 
-  given-leads : (o : Option ExpansionKind) → expansion_of line.compiler ≡ o
-      → Each (IsLead disk load (first_view line.multiarch)) (leads_given o line.directory.now (words_of line.words.now))
-  given-leads None e = tt
-  given-leads (Some kind) e = each-given disk load (first_view line.multiarch) kind line.directory.now (words_of line.words.now) (λ path has.
-      let is : IsGiven load path = (kind, e, has) in record { is_chain = given path is; is_named = inl is })
-
-  pub led-first : disk.is_multiarch ≡ line.multiarch → IsLed disk load 0 (first_view line.multiarch) (first_leads line)
+  pub led-first : disk.is_multiarch ≡ line.multiarch → IsLed disk load 0 (first_view line.multiarch) []
   led-first m = record {
     are_looks = none;
     extends = extends-empty disk line.multiarch m;
-    are_leads = given-leads (expansion_of line.compiler) refl;
+    are_leads = tt;
   }
 
   -- what is named by the files that a reading lacked and that were found

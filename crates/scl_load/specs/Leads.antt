@@ -6,13 +6,11 @@ use Rattle.scl_files.specs.Views.{Viewed, bytes_at}
 use Rattle.scl_files.specs.declared.expand.ExpansionKind.{ExpansionKind}
 use Rattle.scl_files.specs.declared.expand.ExpansionKind.TheVariants as expansions
 use Rattle.scl_files.specs.declared.expand.Limits.{Limits}
-use Rattle.scl_reader.specs.Compilers.{expansion_of}
 use Rattle.scl_reader.specs.Questions.{Extends, questions_of}
 use Rattle.scl_reader.specs.Reads.{Lacked, files_lacked, read_of}
 use Rattle.scl_reader.specs.Within.{has_at_most}
 use Rattle.scl_reader.specs.declared.reading.Reading.{Reading}
 use Rattle.scl_values.specs.Each.{Each}
-use Rattle.scl_values.specs.Words.{words_of}
 use Rattle.scl_load.specs.Loads.{AreAllSame, AreLooks, HasNoneAsked, IsChain, IsDeep, IsGiven, IsInside, IsLookedFor, Load, asked_on, is_there}
 use Rattle.scl_load.specs.declared.leads.Lead as code
 use Rattle.scl_load.specs.declared.leads.Leads as all
@@ -45,14 +43,6 @@ lead_at kind directory depth word = lead_from kind depth (named kind directory w
 -- those that words name
 abbrev pub leads_named : ExpansionKind → List ℕ → List (List ℕ) → ℕ → List Lead
 leads_named kind directory words depth = flat_map (lead_at kind directory depth) words
-
-abbrev pub leads_given : Option ExpansionKind → List ℕ → List (List ℕ) → List Lead
-leads_given None directory words = []
-leads_given (Some kind) directory words = leads_named kind directory words 0
-
--- those that the given words of a command line name
-abbrev pub first_leads : DiskLine → List Lead
-first_leads line = leads_given (expansion_of line.compiler) line.directory.now (words_of line.words.now)
 
 abbrev pub leads_in : ExpansionKind → List ℕ → Option (List (List ℕ)) → ℕ → List Lead
 leads_in kind directory None depth = []

@@ -1,14 +1,14 @@
 //! Response files that words name, followed from file to file on a disk.
-ghost use Rattle.std.specs.Prelude.{◌≡◌, ◌++◌, ◌+◌, ◌≤◌, IfOk, MatchOption, OnOk};
+ghost use Rattle.std.specs.Prelude.{◌≡◌, [], ◌++◌, ◌+◌, ◌≤◌, IfOk, MatchOption, OnOk};
 ghost use Rattle.std.specs.List.{flat_map};
 ghost use Rattle.scl_files.specs.ResponseFiles.{arguments};
 ghost use Rattle.scl_files.specs.Views.{bytes_at};
 ghost use Rattle.scl_reader.specs.Reads.{lacked_of};
 ghost use Rattle.scl_values.specs.Words.{words_of};
-ghost use Rattle.scl_load.specs.Leads.{AreFollowed, IsFoundNext, file_leads, first_leads, lead_at, leads_named, leads_in, leads_inside, leads_from, leads_found, leads_of};
+ghost use Rattle.scl_load.specs.Leads.{AreFollowed, IsFoundNext, file_leads, lead_at, leads_named, leads_in, leads_inside, leads_from, leads_found, leads_of};
 
 use crate::disk::Disk;
-use crate::loader::{DiskLine, LoadError};
+use crate::loader::LoadError;
 use crate::look::look_for_file;
 use scl_files::expand::ExpansionKind;
 use scl_files::response_file::{arguments, named};
@@ -42,19 +42,12 @@ fn next_depth(depth: u32, rounds: u32) -> Option<u32>
 }
 
 impl Leads {
-    /// Those that the given words of a command line name.
-    pub(crate) fn given(alloc: Global, line: &DiskLine<'_>) -> Mem<Leads>
-        ensures { IfOk result (λ leads. leads_of leads ≡ first_leads line.now) }
+    /// None yet.
+    pub(crate) fn new(alloc: Global) -> Leads
+        ensures { leads_of result ≡ [] }
     {
-        let mut leads = Leads {
+        Leads {
             ahead: VecDeque::new(alloc),
-        };
-        match line.compiler.expansion() {
-            Some(kind) => {
-                leads.push_named(alloc, kind, line.directory, line.words, 0)?;
-                Ok(leads)
-            }
-            None => Ok(leads),
         }
     }
 

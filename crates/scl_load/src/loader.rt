@@ -127,8 +127,8 @@ fn read_once<D: Disk>(
 }
 
 /// The view that the answer to a command line needs of the disk, and the reading of the command line in it (docs/RULES.md,
-/// Loading). First it looks for the response files that words name, and for those that their words name, each once. Then it
-/// reads the line and looks for the reading's questions, until nothing more is found. The errors:
+/// Loading). It reads the line and looks for the reading's questions, and for the response files that the words of found ones
+/// name, until nothing more is found: so no file is read that no reading asks for. The errors:
 ///
 /// - `TooManyRounds`: a chain of response files, each naming the next, has `rounds` files; or `rounds` readings each found
 ///   something.
@@ -152,7 +152,7 @@ pub fn load<D: Disk>(
 {
     let mut view = View::new(alloc);
     view.set_multiarch(line.multiarch);
-    let mut leads = Leads::given(alloc, line)?;
+    let mut leads = Leads::new(alloc);
     for round in 0..rounds {
         if let Err(error) = leads.follow(
             alloc,

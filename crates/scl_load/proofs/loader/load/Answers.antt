@@ -7,7 +7,7 @@ use Rattle.scl_load.proofs.LoadLaws.{IsUnderWay, followed, followed-fails, last-
 use Rattle.scl_load.proofs.loader.load.Goals as goal
 
 pub loop-round-init : goal.loop-round-init
-loop-round-init g c = rw (c.set_multiarch.ensures, c.new-view.ensures, c.in_ok-leads.ensures) (λ held h m. led-first held c.args.line.now c.args.most c.args.rounds m)
+loop-round-init g c = rw (c.set_multiarch.ensures, c.new-view.ensures, c.new-leads.ensures) (λ held h m. led-first held c.args.line.now c.args.most c.args.rounds m)
 
 pub loop-round-preserved : goal.loop-round-preserved
 loop-round-preserved g c =
