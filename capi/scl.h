@@ -510,6 +510,30 @@ static inline int32_t scl_name(const scl_bytes *words, size_t len, size_t *progr
     return SCL_OK;
 }
 
+/* Which release of the library answers, as `1.0.0`, by the rules of which sccache, as `0.19.0`, and the protocol of its answers. */
+typedef struct scl_maker {
+    scl_bytes release, rules;
+    uint32_t protocol;
+    char *block;
+} scl_maker;
+
+/* What made the answers of this library (docs/PROTOCOL.md, A request). Only where the answer is SCL_OK is there anything to free, the
+ * block. SCL_NEWER: the library does not answer such requests, or this header does not know the answer. */
+static inline int32_t scl_made_by(scl_maker *made) {
+    static const char request[] = "made-by\n";
+    scl_bytes protocol;
+    size_t number, size = 0;
+    int32_t told = scl_text_new(scl_describe, request, sizeof request - 1, &made->block, &size);
+    if (told != SCL_OK) return told == SCL_BAD ? SCL_NEWER : told;
+    number = scl_field_of(scl_bytes_of(made->block, size), "version", &protocol) ? scl_number_of(protocol) : SIZE_MAX;
+    if (number > INT32_MAX || !scl_two_texts(made->block, size, "made-by", &made->release, "rules", &made->rules)) {
+        free(made->block);
+        return SCL_NEWER;
+    }
+    made->protocol = SCL_TO(uint32_t, number);
+    return SCL_OK;
+}
+
 /* What a run of the preprocessor for one architecture ended with, which is 0 or more, what it wrote, and its error output. */
 typedef struct scl_ran {
     scl_bytes arch;

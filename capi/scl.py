@@ -191,6 +191,15 @@ def name(words: Iterable[bytes]) -> tuple[int | None, bytes | None]:
     return int(of[b"program"]) if b"program" in of else None, of.get(b"compiler")
 
 
+def made_by() -> tuple[bytes, bytes, int]:
+    """Which release of the library answers, as b"1.0.0", by the rules of which sccache, as b"0.19.0", and the protocol of its answers."""
+    try:
+        of = {name: fields for name, *fields in rows(describe(b"made-by\n"))}
+    except BadLine:
+        raise Newer("line 1") from None
+    return of[b"made-by"][0], of[b"rules"][0], int(of[b"version"][0])
+
+
 def join(runs: Iterable[tuple[bytes, int, bytes, bytes]]) -> tuple[int, bytes, bytes]:
     """Of the preprocessor's runs for several architectures, each with its architecture, its status, its text and its messages: the status,
     the joined text and the messages of all. Each status is from 0 to 2^31 - 1."""

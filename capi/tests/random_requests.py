@@ -161,6 +161,9 @@ def errors():
     for words, named in (([b"ccache", b"gcc-12", b"-c"], (1, b"gcc")), ([b"rustc"], (0, None)), ([b"env", b"A=b"], (None, None))):
         if scl.name(words) != named:
             sys.exit(f"random_requests: {words} are named {scl.name(words)}")
+    release, rules, protocol = scl.made_by()
+    if scl.describe(b"made-by\n") != b"made-by %s\nrules %s\nversion %d\n" % (release, rules, protocol) or protocol != scl.PROTOCOL:
+        sys.exit(f"random_requests: the library is made by {release}, {rules}, {protocol}")
     if scl.join([(b"a", 0, b"x", b"m"), (b"b", 0, b"", b"n")]) != (0, b"#pragma sccache arch a 1\nx\n#pragma sccache arch b 1\n\n", b"mn"):
         sys.exit("random_requests: joined runs have another text")
     raises(ValueError, scl.join, [(b"a", -1, b"", b"")])

@@ -486,6 +486,32 @@ static void say(const char *answer, int32_t status, size_t line) {
 
 static bool is_text(scl_bytes it, const char *wanted) { return it.len == strlen(wanted) && !memcmp(it.at, wanted, it.len); }
 
+/* What scl_made_by reads of an answer, and what it asked. */
+static void check_made_by(const char *answer, int32_t status, int32_t told) {
+    scl_maker made;
+    say(answer, status, 1);
+    if (scl_made_by(&made) != told) FAIL("a maker: another status");
+    said_status = 0;
+    if (!is_text(scl_bytes_of(asked.at, asked.len), "made-by\n")) FAIL("a maker: another request, of %zu bytes", asked.len);
+    if (told != SCL_OK) return;
+    if (!is_text(made.release, "2.0 b") || !is_text(made.rules, "0.19.0") || made.protocol != 1) FAIL("a maker: another one");
+    free(made.block);
+}
+
+static void check_makers(void) {
+    check_made_by("made-by 2.0\\x20b\nrules 0.19.0\nversion 1\n", SCL_OK, SCL_OK);
+    check_made_by("version 1\nunknown row\nrules 0.19.0\nmade-by 2.0\\x20b more\n", SCL_OK, SCL_OK);
+    check_made_by("made-by 2.0\nrules 0.19.0\n", SCL_OK, SCL_NEWER);
+    check_made_by("made-by 2.0\nrules 0.19.0\nversion one\n", SCL_OK, SCL_NEWER);
+    check_made_by("made-by 2.0\nrules 0.19.0\nversion 2147483648\n", SCL_OK, SCL_NEWER);
+    check_made_by("made-by 2.0\nversion 1\n", SCL_OK, SCL_NEWER);
+    check_made_by("rules 0.19.0\nversion 1\n", SCL_OK, SCL_NEWER);
+    check_made_by("made-by \\x2\nrules 0.19.0\nversion 1\n", SCL_OK, SCL_NEWER);
+    check_made_by("made-by\nrules 0.19.0\nversion 1\n", SCL_OK, SCL_NEWER);
+    check_made_by("", SCL_BAD, SCL_NEWER);
+    check_made_by("", SCL_NO_MEMORY, SCL_NO_MEMORY);
+}
+
 /* What scl_join reads of an answer, and what it asked. */
 #define JOINED "join\nran a\t0\tx\\x0a\t\nran b\\x20c\t2147483647\t\tm\n"
 static void check_join(const char *answer, int32_t status, int32_t told, int32_t wanted_status) {
@@ -570,6 +596,7 @@ int main(int argc, char **argv) {
     unsigned long count = argc > 1 ? strtoul(argv[1], 0, 10) : 20000, counts[8] = {0};
     state = (argc > 2 ? strtoull(argv[2], 0, 10) : 1) * 0x9E3779B97F4A7C15u + 1;
     check_names();
+    check_makers();
     check_others();
     for (number = 0; number < count; number++) {
         used = 0;
