@@ -97,7 +97,29 @@ func Name(words []string) (program int, compiler string, err error) {
 	for _, word := range words {
 		fmt.Fprintf(&request, "word %s\n", field(word))
 	}
-	text, err := respond("", request.String())
+	said, err := otherAnswer(request.String())
+	if program, isNumber := strconv.Atoi(said.Word("program")); err == nil && isNumber == nil {
+		return program, said.Word("compiler"), nil
+	}
+	return -1, "", err
+}
+
+// Maker is which release of the library answers, as 1.0.0, by the rules of which sccache, as 0.19.0, and the protocol of its answers.
+type Maker struct{ Release, Rules, Protocol string }
+
+// MadeBy says what made the answers of this library: what a cache has to tell apart.
+func MadeBy() (Maker, error) {
+	said, err := otherAnswer("made-by\n")
+	made := Maker{said.Word("made-by"), said.Word("rules"), said.Word("version")}
+	if err == nil && (made.Release == "" || made.Rules == "") {
+		err = ErrNewer
+	}
+	return made, err
+}
+
+// otherAnswer gives the rows that are answered to a request of another kind than of a command line.
+func otherAnswer(request string) (Answer, error) {
+	text, err := respond("", request)
 	if errors.Is(err, ErrUnknownCompiler) {
 		err = ErrNewer
 	}
@@ -106,10 +128,7 @@ func Name(words []string) (program int, compiler string, err error) {
 	if err == nil && (!isWhole || said.Word("version") != protocol) {
 		err = ErrNewer
 	}
-	if program, isNumber := strconv.Atoi(said.Word("program")); err == nil && isNumber == nil {
-		return program, said.Word("compiler"), nil
-	}
-	return -1, "", err
+	return said, err
 }
 
 // bytesOf gives bytes with a first one to point at, and their number.

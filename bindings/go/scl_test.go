@@ -85,6 +85,14 @@ func TestTheProgramIsNamed(t *testing.T) {
 	}
 }
 
+func TestTheMakerIsNamed(t *testing.T) {
+	made, err := MadeBy()
+	text, _ := respond("", "made-by\n")
+	if err != nil || text != fmt.Sprintf("made-by %s\nrules %s\nversion %s\n", made.Release, made.Rules, made.Protocol) {
+		t.Errorf("%q %q %v", made, text, err)
+	}
+}
+
 func TestALongAnswerHasRoom(t *testing.T) {
 	request := Request{Compiler: "gcc", Words: []string{"-c", "a.c"}}
 	for at := 0; at < 5000; at++ {

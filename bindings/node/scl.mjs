@@ -71,6 +71,18 @@ export class Answer {
   }
 }
 
+function answerOf(lines) {
+  const bad = /^bad-line (\d+)$/.exec(lines[0]);
+  if (bad) throw new Error(bad[1] === "1" ? "no such compiler" : "not known to this library");
+  return new Answer(lines.join("\n"));
+}
+
+function makerOf(lines) {
+  const {"made-by": release, rules, version} = Object.fromEntries(lines.map((line) => line.split(" ")));
+  if (!release || !rules || version !== PROTOCOL) throw new Error("not known to this library");
+  return {release: String(bytes(release)), rules: String(bytes(rules)), protocol: version};
+}
+
 // What a status of the program means (docs/PROTOCOL.md, Statuses).
 const STATUSES = {3: "out of memory", 65: "a bad catalogue"};
 
@@ -90,9 +102,9 @@ class Running {
       .on("close", (status) => this.#end(new Error(STATUSES[status] ?? `${program} ended, status ${status}`)));
   }
 
-  ask(text) {
+  ask(text, read) {
     return new Promise((resolve, reject) => {
-      this.#waiting.push({resolve, reject});
+      this.#waiting.push({read, resolve, reject});
       this.#process.stdin.write(text + "end\n");
     });
   }
@@ -121,11 +133,9 @@ class Running {
     else this.#lines.push(line);
   }
 
-  #settle(lines, {resolve, reject}) {
-    const bad = /^bad-line (\d+)$/.exec(lines[0]);
+  #settle(lines, {read, resolve, reject}) {
     try {
-      if (bad) throw new Error(bad[1] === "1" ? "no such compiler" : "not known to this library");
-      resolve(new Answer(lines.join("\n")));
+      resolve(read(lines));
     } catch (error) {
       reject(error);
     }
@@ -146,10 +156,18 @@ export class Scl {
 
   /** The answer to a request. It throws where a line of the request is bad, the answer is not known here, or the program ends. */
   async ask(given) {
-    const text = request(given);
+    return this.#respond(request(given), answerOf);
+  }
+
+  /** Which release answers, as `1.0.0`, by the rules of which sccache, as `0.19.0`, and the protocol: what a cache has to tell apart. */
+  async madeBy() {
+    return this.#respond("made-by\n", makerOf);
+  }
+
+  #respond(text, read) {
     if (this.#isClosed) throw new Error("closed");
     if (!this.#running || this.#running.isOver) this.#running = new Running(this.#program, this.#words);
-    return this.#running.ask(text);
+    return this.#running.ask(text, read);
   }
 
   close() {

@@ -46,6 +46,19 @@ test("an answer's last field may be empty", () => {
   assert.deepEqual(new Answer("ok\nversion 1\nenvironment K \n").fields("environment").map((it) => it.map(String)), [["K", ""]]);
 });
 
+test("what made the answers is told", async () => {
+  const scl = new Scl(DESCRIBE);
+  const {release, rules, protocol} = await scl.madeBy();
+  assert.match(release, /^\d+\.\d+\.\d+$/);
+  assert.match(rules, /^\d+\.\d+\.\d+$/);
+  assert.equal(protocol, "1");
+  scl.close();
+});
+
+for (const said of ["bad-line 1", "rules 1\\nversion 1", "made-by 1\\nversion 1", "made-by 1\\nrules 1\\nversion 2"])
+  test(`no maker is told by ${said}`, () =>
+    asking(`read line; read line; printf '${said}\\nend\\n'`, (scl) => assert.rejects(scl.madeBy(), /not known to this library/)));
+
 test("when the program ends, what waits is rejected, and the next request starts it anew", () =>
   asking(`if test -e $0; then exec ${DESCRIBE} --batch; fi; : > $0; read line; exit 3`, async (scl, mark) => {
     await Promise.all([scl.ask(plain), scl.ask(plain)].map((it) => assert.rejects(it, /out of memory/)));

@@ -142,6 +142,12 @@ pub(crate) fn rows_in(text: &[u8]) -> impl Iterator<Item = Row<'_>> {
         .map(|line| Row { line })
 }
 
+/// The first field of the first row of this name, if it is UTF-8.
+pub(crate) fn field_of(text: &[u8], name: &[u8]) -> Option<String> {
+    let row = rows_in(text).find(|row| row.name() == name)?;
+    String::from_utf8(row.fields().next()?.into_owned()).ok()
+}
+
 /// The bytes that a field stands for; they are borrowed where it has no escape.
 fn read_field(field: &[u8]) -> Cow<'_, [u8]> {
     if !field.contains(&b'\\') {

@@ -13,9 +13,11 @@
 //! (docs/PROTOCOL.md).
 
 mod answer;
+mod maker;
 mod name;
 mod request;
 
 pub use answer::{Answer, KeyRow, Outcome, Output, Row};
+pub use maker::{made_by, Maker};
 pub use name::{name, Name};
 pub use request::{Error, Request};

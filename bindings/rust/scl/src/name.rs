@@ -1,5 +1,5 @@
 //! Which compiler a program is, by its name.
-use crate::answer::rows_in;
+use crate::answer::field_of;
 use crate::{Error, Request};
 
 /// What a whole command line starts.
@@ -15,17 +15,12 @@ pub struct Name {
 /// not answer such requests.
 pub fn name<Word: AsRef<[u8]>>(words: impl IntoIterator<Item = Word>) -> Result<Name, Error> {
     let text = Request::new("").words(words).naming()?;
-    let field_of = |name: &[u8]| {
-        let mut named = rows_in(&text).filter(move |row| row.name() == name);
-        let field = named.next()?.fields().next()?.into_owned();
-        String::from_utf8(field).ok()
-    };
-    if field_of(b"version").as_deref() != Some("1") {
+    if field_of(&text, b"version").as_deref() != Some("1") {
         return Err(Error::Newer);
     }
     Ok(Name {
-        program: field_of(b"program").and_then(|it| it.parse().ok()),
-        compiler: field_of(b"compiler"),
+        program: field_of(&text, b"program").and_then(|it| it.parse().ok()),
+        compiler: field_of(&text, b"compiler"),
     })
 }
 

@@ -132,10 +132,7 @@ impl Request {
 
     /// The text that the library answers to a request of a name, with the words of this one.
     pub(crate) fn naming(&self) -> Result<Vec<u8>, Error> {
-        respond(None, &[b"name\n", &self.lines[..]].concat()).map_err(|error| match error {
-            Error::UnknownCompiler => Error::Newer,
-            other => other,
-        })
+        respond_to_other(&[b"name\n", &self.lines[..]].concat())
     }
 
     fn line(&mut self, keyword: &str, field: &[u8], value: Option<&[u8]>) -> &mut Request {
@@ -163,6 +160,14 @@ fn put_byte(to: &mut Vec<u8>, byte: u8, is_plain: bool) {
     } else {
         to.extend(format!("\\x{byte:02x}").bytes());
     }
+}
+
+/// The text that is answered to a request of another kind than of a command line.
+pub(crate) fn respond_to_other(request: &[u8]) -> Result<Vec<u8>, Error> {
+    respond(None, request).map_err(|error| match error {
+        Error::UnknownCompiler => Error::Newer,
+        other => other,
+    })
 }
 
 /// The text of the description of the answer to a request's text.
