@@ -141,16 +141,6 @@ def unknown_names():
                 yield f"{PROGRAM}/{file} asks for {name}, and {ROWS} has no such row"
 
 
-def wrong_versions():
-    """The numbers that `scl --version` says and that are others elsewhere."""
-    said = of_scl()[2].split("\n")
-    release = re.search(r"^## (\d[\d.]*)$", text_of("CHANGELOG.md"), re.M)
-    protocol = re.search(r"^#define SCL_PROTOCOL (\d+)$", text_of("capi/scl.h"), re.M)
-    for number, found, file in ((said[0], release, "CHANGELOG.md"), (said[-1], protocol, "capi/scl.h")):
-        if not found or number.removeprefix("protocol ") != found[1]:
-            yield f"{PARTS} has the version {number}, and {file} another"
-
-
 # ---- pages
 
 
