@@ -51,7 +51,7 @@ impl<'p, W: Write + Drop> Answers<'p, W> {
         batch: &Batch<'_>,
         value: &EntryValue,
     ) -> Result<(), Fault> {
-        let disk = SystemDisk { rt };
+        let disk = SystemDisk::new(rt);
         self.line.clear();
         batch.push_entry(rt.alloc(), &disk, &mut self.tally, value, &mut self.line)?;
         self.writer.write_all(&self.line).map_err(Fault::of_output)?;

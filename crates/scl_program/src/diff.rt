@@ -28,7 +28,7 @@ fn compared(
     case: &Case,
     multiarch: bool,
 ) -> Result<Compared, Fault> {
-    let disk = SystemDisk { rt };
+    let disk = SystemDisk::new(rt);
     match Compared::of_case(rt.alloc(), &disk, about, case, multiarch)? {
         Ok(compared) => Ok(compared),
         Err(why) => Err(Fault::Input(why)),

@@ -3,6 +3,7 @@ use scl_cl::Mem;
 use scl_load::Disk;
 use scl_shell::shown_briefly;
 use std::alloc::{AllocError, Global};
+use std::cell::Cell;
 use std::fs::{File, Metadata};
 use std::io::{self, ErrorKind, Read};
 use std::os::unix::fs::MetadataExt;
@@ -10,11 +11,11 @@ use std::rt::Files;
 use std::str;
 use thiserror::Error;
 
-/// The system's files.
-#[derive(Clone, Copy)]
+/// The system's files, as one command line reads them.
+#[derive(Drop)]
 pub struct SystemDisk<'a> {
-    /// The system.
-    pub rt: &'a HostRuntime,
+    rt: &'a HostRuntime,
+    left: Cell<u64>,
 }
 
 /// That a file can't be read.
@@ -60,7 +61,7 @@ enum Standing {
     Other,
 }
 
-/// The most bytes of a response file that is read.
+/// The most bytes of the response files that a command line reads, all together.
 const MOST_BYTES: u64 = 1 << 26;
 
 /// What a regular file of this kind is. No file of no size is opened, since reads of those of `/proc` may wait for ever.
@@ -106,6 +107,25 @@ fn text_of<'a>(alloc: Global, path: &'a [u8]) -> Mem<Result<&'a str, Unreadable>
 }
 
 impl<'a> SystemDisk<'a> {
+    /// The files of the system, of which nothing is read.
+    pub fn new(rt: &'a HostRuntime) -> SystemDisk<'a> {
+        SystemDisk {
+            rt,
+            left: Cell::new(MOST_BYTES),
+        }
+    }
+
+    /// Counts bytes that were read; whether so many may be.
+    fn count(&self, bytes: &[u8]) -> bool {
+        match self.left.get().checked_sub(bytes.len() as u64) {
+            Some(left) => {
+                self.left.set(left);
+                true
+            }
+            None => false,
+        }
+    }
+
     fn standing(&self, alloc: Global, path: &[u8]) -> Mem<Result<Standing, Unreadable>> {
         let text = match text_of(alloc, path)? {
             Ok(text) => text,
@@ -123,8 +143,10 @@ impl<'a> SystemDisk<'a> {
             Err(error) => return Ok(Err(error)),
         };
         match read_bytes(self.rt, text) {
-            Ok(bytes) if bytes.len() as u64 > MOST_BYTES => {
-                let reason = format!(in alloc; "it has more than {MOST_BYTES} bytes")?;
+            Ok(bytes) if !self.count(&bytes) => {
+                let reason = format!(in alloc;
+                    "with the response files before it, it has more than {MOST_BYTES} bytes"
+                )?;
                 Ok(Err(not_read(alloc, path, reason)?))
             }
             Ok(bytes) => Ok(Ok(bytes)),

@@ -38,7 +38,7 @@ pub fn read_regular_file(rt: &HostRuntime, path: &str) -> Result<Vec<u8>, Fault>
     if path == "-" {
         return read_file(rt, path);
     }
-    let disk = SystemDisk { rt };
+    let disk = SystemDisk::new(rt);
     match disk.file(rt.alloc(), path.as_bytes())? {
         Ok(Some(bytes)) => Ok(bytes),
         Ok(None) => read_file(rt, path),

@@ -106,7 +106,7 @@ fn tell_absent(
     multiarch: bool,
 ) -> Result<(), Fault> {
     if rt.stderr().is_terminal() {
-        let disk = SystemDisk { rt };
+        let disk = SystemDisk::new(rt);
         let text = absent_text(rt.alloc(), &disk, about, case, multiarch)?;
         for line in text.lines() {
             warn(rt, &line);
@@ -161,7 +161,7 @@ pub fn explain(
         return Ok(Ending::Usage);
     };
     tell_absent(rt, about, &case, asked.has("--multiarch"))?;
-    let disk = SystemDisk { rt };
+    let disk = SystemDisk::new(rt);
     let form = form_of(rt, asked);
     let reply = explain_reply(
         rt.alloc(),
@@ -214,7 +214,7 @@ pub fn command(
     };
     put_color(rt, asked, &mut case)?;
     tell_absent(rt, about, &case, asked.has("--multiarch"))?;
-    let disk = SystemDisk { rt };
+    let disk = SystemDisk::new(rt);
     let form = CommandForm {
         words: word_form(rt, asked),
         is_strict: asked.has("--strict"),
@@ -238,7 +238,7 @@ fn checked(
     asked: &Asked<'_, '_>,
     case: &Case,
 ) -> Result<Reply, Fault> {
-    let (alloc, disk, form) = (rt.alloc(), SystemDisk { rt }, form_of(rt, asked));
+    let (alloc, disk, form) = (rt.alloc(), SystemDisk::new(rt), form_of(rt, asked));
     let multiarch = asked.has("--multiarch");
     if asked.has("--keep") {
         return Ok(check_kept(alloc, &disk, about, case, multiarch, form)?);

@@ -16,8 +16,8 @@ fn push_entries(
     whys: &mut Whys,
     meant: &[(u64, &EntryValue)],
 ) -> Result<(), Fault> {
-    let disk = SystemDisk { rt };
     for (entry, value) in meant {
+        let disk = SystemDisk::new(rt);
         whys.push(rt.alloc(), batch, &disk, *entry, value)?;
     }
     Ok(())
