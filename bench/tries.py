@@ -2,9 +2,13 @@
 
 A *round* is one check of a crate with one edit in each of many functions. In it an edit counts as refused only by a goal of a
 function that it changes, which the checker leaves open; `read_round` has the lines that say so. What a round does not refuse
-goes on to a later round, or is tried by itself: no round makes an edit count as one that is not refused."""
+goes on to a later round, or is tried by itself: no round makes an edit count as one that is not refused.
+
+Where `rt ci` kept the libraries below a crate, as it proved them of these same files, a check is of the edited functions alone, and
+the crate is not first proved as it stands: `rt ci` proved it too, or else these functions of it are proved first."""
 import concurrent.futures
 import contextlib
+import functools
 import os
 import queue
 import re
@@ -20,6 +24,11 @@ from calling import installed_rt
 from outline import Source
 
 NOT_PROVED = "logic=not-proved"
+# how a check of some functions ends that does not prove all of them
+SOME_NOT_PROVED = re.compile(r"^only=(\d+) proved=(?!\1\b)\d+.*$\s*\Z", re.M)
+# rattle knows no function by a name that it was given
+CALLED_WRONGLY = 2
+FLAGS = ["--jobs", "1"]
 # what is said of a function: `fn NAME: proved`, `not proved`, `no proof`, with more after `:` or `;`; or `could not tell`
 FUNCTION = re.compile(r"^fn (\S+): (.*)$")
 # a goal that is left open, at a line of the source; and, of these, what a callee asks of its caller
@@ -36,13 +45,31 @@ UNPROVED = re.compile(r"^fn \S+: (?:not proved|no proof|could not tell)|: error|
 REFUSED, SINGLY, LATER = "refused", "singly", "later"
 
 
+@functools.cache
+def rt():
+    """The toolchain's command `rt`, for which a check of some functions ends as one of a whole crate."""
+    made = installed_rt()
+    made.checked = ending_as_whole(made.checked)
+    return made
+
+
+def ending_as_whole(checked):
+    def call(*given):
+        done = checked(*given)
+        done.stdout = SOME_NOT_PROVED.sub(NOT_PROVED, done.stdout)
+        return done
+
+    return call
+
+
 class Place:
-    """A function whose body an edit changes: its file, its lines and the names that the checker may call it by."""
+    """A function whose body an edit changes: its file, its module, its lines and the names that the checker may call it by."""
 
     def __init__(self, crate, path, function):
         inside = path.removeprefix("src/").removesuffix(".rt").removesuffix("/mod").split("/")
         self.path, self.first, self.last = path, function.first, function.last
         module = [it for it in inside if it not in ("lib", "main")]
+        self.module = "::".join(module)
         self.names = {"::".join([crate.name, *module, *([owner] if owner else []), function.name]) for owner in function.owners}
 
     def has(self, path, line):
@@ -127,33 +154,56 @@ def read_round(chosen, output):
 
 
 class Room:
-    """A copy of the crates in which edits are tried: nothing outside is changed."""
+    """Two copies of the crates in which edits of these are tried: nothing outside is changed. In one all is proved anew; the other has what `rt ci` kept."""
+
+    def __init__(self, crates):
+        self.needed = {it.name for crate in crates for it in (crate, *crate.below)}
 
     def __enter__(self):
         self.top = tempfile.mkdtemp(prefix="edits-")
-        shutil.copytree("crates", f"{self.top}/crates", ignore=shutil.ignore_patterns("out", "must-fail", "wrong"))
-        for file in ("crates.txt", "HANDLES"):
-            if os.path.isfile(file):
-                shutil.copy(file, self.top)
+        self.anew, self.kept = self.copy("anew"), self.copy("kept")
+        self.proved = take_kept(self.kept, self.needed)
         return self
 
     def __exit__(self, *_):
         shutil.rmtree(self.top, ignore_errors=True)
 
+    def copy(self, name):
+        to = f"{self.top}/{name}"
+        shutil.copytree("crates", f"{to}/crates", ignore=shutil.ignore_patterns("out", "must-fail", "wrong"))
+        for file in ("crates.txt", "HANDLES"):
+            if os.path.isfile(file):
+                shutil.copy(file, to)
+        return to
+
+    def has_libraries_of(self, crate):
+        return all(it.name in self.proved for it in crate.below)
+
+
+def take_kept(top, needed):
+    """Gives these crates what `rt ci` kept on this machine of the same files over the same libraries, and returns the names of those that it proved."""
+    rt().Crate.allowed = rt().handles_of(top)
+    crates, proved = [it for it in rt().rtlib.crates_below(top) if it.name in needed], set()
+    kept = rt().Kept(crates)
+    for crate in crates:
+        if all(it.name in proved for it in crate.below()) and kept.give(crate, False, kept.key(crate)):
+            kept.is_built(crate)
+            proved.add(crate.name)
+    return proved
+
 
 class Trial:
-    """The tries of a crate's edits in a room."""
+    """The tries of a crate's edits in a room, where the crate and those below it are first proved."""
 
-    def __init__(self, room, crate):
-        self.room, self.crate, self.folder = room, crate, f"{room.top}/{crate.folder}"
-        self.known = next(it for it in installed_rt().rtlib.crates_below(room.top) if it.name == crate.name)
+    def __init__(self, room, crate, top):
+        self.room, self.crate, self.folder = room, crate, f"{top}/{crate.folder}"
+        self.known = next(it for it in rt().rtlib.crates_below(top) if it.name == crate.name)
         self.kept, self.rounds = f"{self.folder}/out/incremental", 0
 
-    def why_unproved(self):
+    def why_unproved(self, _):
         """Proves the crate as it stands, with which each try begins; why not, where that fails. A crate that is not proved refuses every edit."""
         printed, status = self.call("check")
-        lines = [it for it in printed.split("\n") if UNPROVED.search(it)] or printed.strip().split("\n")
-        return (lines[-1] or "it printed nothing")[:200] if status else ""
+        return why_failed(printed) if status else ""
 
     def build(self):
         """Builds the library for those above it. Where that fails, their own checks say so."""
@@ -173,7 +223,11 @@ class Trial:
                 yield edit, True, f"refused in a round: {why[:160]}"
             else:
                 others.append(edit)
-        yield from self.each_singly(others)
+        for edit in others:
+            begin = time.monotonic()
+            verdict = self.singly(edit)
+            sys.stderr.write(f"bench/edits: {self.crate.name}: one by itself, {time.monotonic() - begin:.0f} seconds\n")
+            yield edit, is_refusal(verdict), verdict
 
     def in_rounds(self, edits):
         """What rounds say of these edits: which are refused, and which are to be tried by themselves."""
@@ -196,9 +250,10 @@ class Trial:
 
     def a_round(self, chosen):
         """One round; where the checker does not take the text, or comes to no verdict, rounds of fewer edits."""
-        output, status, seconds = self.check(texts_of([it for it, _ in chosen]))
+        begin = time.monotonic()
+        output, status = self.check(chosen)
         self.rounds += 1
-        sys.stderr.write(f"bench/edits: {self.crate.name}: a round of {len(chosen)} edits, {seconds:.0f} seconds\n")
+        sys.stderr.write(f"bench/edits: {self.crate.name}: a round of {len(chosen)} edits, {time.monotonic() - begin:.0f} seconds\n")
         if status == 1 and output.rstrip().split("\n")[-1].startswith(NOT_PROVED):
             yield from read_round(chosen, output)
             return
@@ -213,32 +268,100 @@ class Trial:
         for half in filter(None, halves):
             yield from self.a_round(half)
 
-    def check(self, texts):
-        """Checks the crate with these texts: what that printed, its status, and the seconds."""
+    def check(self, chosen):
+        """Checks the crate with these edits: what that printed, and its status."""
         with self.over_kept() as kept:
-            begin = time.monotonic()
-            done = installed_rt().checked(self.known, texts, ["--jobs", "1"], kept)
-            return done.stdout, done.returncode, time.monotonic() - begin
+            done = rt().checked(self.known, texts_of([it for it, _ in chosen]), FLAGS, kept)
+            return done.stdout, done.returncode
 
     @contextlib.contextmanager
     def over_kept(self):
         """A copy of what the check of the crate as it stands proved."""
         with tempfile.TemporaryDirectory(prefix="kept-", dir=self.room.top) as at:
-            installed_rt().linked(self.kept, f"{at}/kept")
+            rt().linked(self.kept, f"{at}/kept")
             yield f"{at}/kept"
 
-    def each_singly(self, edits):
-        """What `rt must-fail` says of each of these edits; from nothing, where it knows nothing over what was proved."""
-        rt, flags, begin = installed_rt(), ["--jobs", "1"], time.monotonic()
-        for edit in edits:
-            with self.over_kept() as kept:
-                kind, verdict = rt.must_fail(self.known, edit.path, flags, kept)
-            if kind not in rt.SETTLED:
-                kind, verdict = rt.must_fail(self.known, edit.path, flags)
-            verdict = verdict.partition(".edit: ")[2].replace("\n", "; ")[:400]
-            sys.stderr.write(f"bench/edits: {self.crate.name}: one by itself, {time.monotonic() - begin:.0f} seconds\n")
-            begin = time.monotonic()
-            yield edit, is_refusal(verdict), verdict
+    def singly(self, edit):
+        """What `rt must-fail` says of an edit; from nothing, where it knows nothing over what was proved."""
+        with self.over_kept() as kept:
+            kind, verdict = self.must_fail(edit, [], kept)
+        return verdict if kind in rt().SETTLED else self.must_fail(edit, [], None)[1]
+
+    def must_fail(self, edit, asked, kept):
+        kind, verdict = rt().must_fail(self.known, edit.path, [*FLAGS, *asked], kept)
+        return kind, verdict.partition(".edit: ")[2].replace("\n", "; ")[:400]
+
+
+class KeptTrial(Trial):
+    """The tries of a crate's edits over the libraries that `rt ci` kept: each check is of the edited functions alone."""
+
+    def __init__(self, room, crate, top):
+        super().__init__(room, crate, top)
+        self.is_proved = crate.name in room.proved
+        os.makedirs(self.kept)
+
+    def why_unproved(self, edits):
+        """Where `rt ci` did not prove the crate, proves the functions that are edited, as they stand; why not, if that fails."""
+        sys.stderr.write(f"bench/edits: {self.crate.name}: over what `rt ci` proved of {'it and of ' * self.is_proved}the libraries below it\n")
+        return self.why_unproved_of(named_by([place for it in edits for place in places_of(it)]))
+
+    def why_unproved_of(self, ways):
+        if self.is_proved or not ways:
+            return ""
+        done = self.check_of({}, ways)
+        return why_failed(done.stdout) if done.returncode else ""
+
+    def build(self):
+        """Nothing: those above it take what `rt ci` kept."""
+
+    def check(self, chosen):
+        done = self.check_of(texts_of([it for it, _ in chosen]), named_by([place for _, places in chosen for place in places]))
+        return done.stdout, done.returncode
+
+    def check_of(self, texts, ways):
+        """A check of the functions named in the first of these ways that rattle knows them by."""
+        for names in ways:
+            done = rt().checked(self.known, texts, [*FLAGS, *only(names)], self.kept)
+            if done.returncode != CALLED_WRONGLY:
+                break
+        return done
+
+    def singly(self, edit):
+        """What `rt must-fail` says of the functions of an edit. An edit of a body that is still proved changes no other function; what
+        else is not refused so may be refused by others of the crate, if that was proved."""
+        places = places_of(edit)
+        ways = named_by(places) if places else own_of(edit)
+        verdict = "is not tried: its own function is of another crate, and `rt ci` did not prove this one"
+        why = "" if places else self.why_unproved_of(ways)
+        if why:
+            return f"is not tried: its function is not proved as it stands: {why}"
+        for names in ways:
+            kind, verdict = self.must_fail(edit, only(names), self.kept)
+            if is_refusal(verdict) or places and kind in (*rt().SETTLED, rt().MISSED):
+                return verdict.replace("the crate is still proved", "its function is still proved")
+        return self.must_fail(edit, [], self.kept)[1] if self.is_proved else verdict
+
+
+def only(names):
+    return [word for it in sorted(names) for word in ("--only", it)]
+
+
+def named_by(places):
+    """The ways to name these functions to rattle: each by its path; or, as the path of one that a macro made may be another, all of their modules."""
+    modules = {it.module for it in places}
+    functions = {name.partition("::")[2] for it in places for name in it.names}
+    return [it for it in (functions, modules) if it and "" not in it]
+
+
+def own_of(edit):
+    """The ways to name the function whose promise an edit breaks, if it is one of the crate."""
+    own = {it for it in edit.said["of"] if edit.crate.has(it)}
+    return [own] if own else []
+
+
+def why_failed(printed):
+    lines = [it for it in printed.split("\n") if UNPROVED.search(it)] or printed.strip().split("\n")
+    return lines[-1][:200] or "it printed nothing"
 
 
 def is_refusal(verdict):
@@ -246,23 +369,30 @@ def is_refusal(verdict):
     return verdict.startswith("refused, as it must be") and not verdict.startswith("refused, as it must be (only ")
 
 
+def begun(crate, room, made, is_whole):
+    """The trial of a crate's edits in a room: over what `rt ci` kept there, if that is all that it needs."""
+    if room.has_libraries_of(crate) and not is_whole:
+        return KeptTrial(room, crate, room.kept)
+    # what is proved in one room is taken by the others, so no library is proved in two
+    for it in crate.below:
+        if it in made:
+            made[it].wait()
+    return Trial(room, crate, room.anew)
+
+
 def try_crates(chosen, given, report, is_done):
     """Tries the edits that are chosen of each crate, lowest first, in as many rooms side by side as there are jobs. report gets each
     edit with its verdict as soon as it is known, is_done each crate with its trial."""
     resource.setrlimit(resource.RLIMIT_AS, (given["memory"] * 2**30,) * 2)
     # what it starts has to be there before any thread
-    installed_rt().rtlib.guarded()
+    rt().rtlib.guarded()
     made, rooms = {it: threading.Event() for it in chosen}, queue.SimpleQueue()
 
     def work(crate):
-        # what is proved in one room is taken by the others, so no library is proved in two
-        for it in crate.below:
-            if it in made:
-                made[it].wait()
         room = rooms.get()
         try:
-            trial = Trial(room, crate)
-            why = trial.why_unproved()
+            trial = begun(crate, room, made, given["singly"])
+            why = trial.why_unproved(chosen[crate])
             if not why and any(crate in it.below for it in chosen):
                 trial.build()
             made[crate].set()
@@ -279,6 +409,6 @@ def try_crates(chosen, given, report, is_done):
 
     with contextlib.ExitStack() as held, concurrent.futures.ThreadPoolExecutor(given["jobs"]) as pool:
         for _ in range(given["jobs"]):
-            rooms.put(held.enter_context(Room()))
+            rooms.put(held.enter_context(Room(chosen)))
         # of two crates the lower one has fewer below it
         list(pool.map(work, sorted(chosen, key=lambda it: len(it.below))))
