@@ -16,7 +16,7 @@ use Rattle.scl_description.specs.Records.{record_entries, record_in}
 use Rattle.scl_description.proofs.RecordLaws.{description-back-among}
 use Rattle.scl_hazards.specs.Hazards.{Tables}
 use Rattle.scl_hazards.specs.Told.{Told, given as given_told}
-use Rattle.scl_rows.specs.Rows.{refused_at, told}
+use Rattle.scl_rows.specs.Rows.{Told as RowTold, refused_at, told}
 use Rattle.scl_rows.specs.declared.row.Row.{Row}
 use Rattle.scl_describe.specs.declared.described.Findings.{Findings}
 use Rattle.scl_reader.specs.declared.kept.Compilation.{Compilation}
@@ -27,52 +27,65 @@ use Rattle.scl_cl.specs.AnswerTexts.{arg_line, text_of}
 use Rattle.scl_reader.specs.Answers.{compiled, answer_to, reading_by, environment_by}
 use Rattle.scl_reader.specs.AnswersGiven.{answer_of, HasParts}
 use Rattle.scl_reader.specs.Questions.{Questions}
-use Rattle.scl_describe.specs.Settings.{Settings, wanted}
+use Rattle.scl_describe.specs.Settings.{Settings}
 use Rattle.scl_reader.specs.Within.{has_at_most}
-use Rattle.scl_key.specs.Told.{RunWords}
-use Rattle.scl_describe.specs.Keepings.{kept_entries, run_words_by}
-use Rattle.scl_describe.proofs.KeepingLaws.{each-both, effects-beside, if-beside, kept-beside}
-use Rattle.scl_describe.specs.Descriptions.{version_entry, runs_entry, pair_fields, environment_entry, told_entries, compiled_entries, kept_for, questions_for, rows_for, runs_for, told_for, outcome_entries, question_entries, answer_entries, description, too_many_entries, command_entries, DescriptionsReadBack}
-use Rattle.scl_describe.specs.DescriptionsGiven.{AreOf, entries_given, outcome_given}
+use Rattle.scl_describe.specs.Keepings.{Kept, kept_entries, kept_for, last_entries, run_words_by}
+use Rattle.scl_describe.proofs.KeepingLaws.{each-both, effects-beside, kept-beside, last-beside}
+use Rattle.scl_describe.specs.Descriptions.{version_entry, runs_entry, pair_fields, environment_entry, told_entries, compiled_entries, kept_with, questions_for, rows_for, runs_for, told_for, outcome_entries, question_entries, answer_entries, description, too_many_entries, command_entries, DescriptionsReadBack}
+use Rattle.scl_describe.specs.DescriptionsGiven.{AreOf, entries_given, kept_given, outcome_given, runs_given}
 
 pub behind_text : (start whole all rows : List ℕ) → whole ≡ start ++ rows → start ≡ all → whole ≡ all ++ rows
 behind_text start whole all rows h k = h ∙ ap (λ t. t ++ rows) k
 
 -- ---- what the code gives
 
-outcome-is : (s : Settings) (r : Request) (telling : Told) (executable cwd : List ℕ) (answer : CompilerArguments Compilation) → answer_of answer ≡ answer_to r
+outcome-is : (s : Settings) (r : Request) (kept : Kept) (executable cwd : List ℕ) (answer : CompilerArguments Compilation) → answer_of answer ≡ answer_to r
     → HasParts (reading_by r.compiler r) executable (environment_by r.compiler r.environment) cwd answer
-    → outcome_given s r.compiler (run_words_by r.words telling.hazards) telling (refused_at (rows_for s r)) answer ≡ outcome_entries s r telling (answer_to r) (reading_by r.compiler r)
-outcome-is s r telling executable cwd (outcomes.Ok compilation) e parts =
+    → outcome_given (runs_given s r.compiler answer) kept (refused_at (rows_for s r)) answer ≡ outcome_entries s r kept (answer_to r) (reading_by r.compiler r)
+outcome-is s r kept executable cwd (outcomes.Ok compilation) e parts =
     let p : Parsed = parsed_of compilation.parsed in
-    ap (λ env. compiled_entries (runs_for s r.compiler p) env (kept_for s compilation.cacheable r.compiler (run_words_by r.words telling.hazards) telling env p) p) parts.1.env_vars_are
-    ∙ ap (λ said. outcome_entries s r telling (answer_of (outcomes.Ok compilation)) said) (sym parts.0)
-    ∙ ap (λ a. outcome_entries s r telling a (reading_by r.compiler r)) e
-outcome-is s r telling executable cwd (outcomes.CannotCache reason text) e parts = ap (λ a. outcome_entries s r telling a (reading_by r.compiler r)) e
-outcome-is s r telling executable cwd outcomes.NotCompilation e parts = ap (λ a. outcome_entries s r telling a (reading_by r.compiler r)) e
+    ap (λ env. compiled_entries (runs_for s r.compiler p) env (kept_entries kept) p) parts.1.env_vars_are
+    ∙ ap (λ said. outcome_entries s r kept (answer_of (outcomes.Ok compilation)) said) (sym parts.0)
+    ∙ ap (λ a. outcome_entries s r kept a (reading_by r.compiler r)) e
+outcome-is s r kept executable cwd (outcomes.CannotCache reason text) e parts = ap (λ a. outcome_entries s r kept a (reading_by r.compiler r)) e
+outcome-is s r kept executable cwd outcomes.NotCompilation e parts = ap (λ a. outcome_entries s r kept a (reading_by r.compiler r)) e
+
+kept-is : (s : Settings) (r : Request) (telling : Told) (executable cwd : List ℕ) (answer : CompilerArguments Compilation) → answer_of answer ≡ answer_to r
+    → HasParts (reading_by r.compiler r) executable (environment_by r.compiler r.environment) cwd answer
+    → kept_given s r.compiler (run_words_by r.words telling.hazards) telling answer ≡ kept_with s r telling (answer_to r) (reading_by r.compiler r)
+kept-is s r telling executable cwd (outcomes.Ok compilation) e parts =
+    ap (λ env. kept_for s compilation.cacheable r.compiler (run_words_by r.words telling.hazards) telling env (parsed_of compilation.parsed)) parts.1.env_vars_are
+    ∙ ap (λ said. kept_with s r telling (answer_of (outcomes.Ok compilation)) said) (sym parts.0)
+    ∙ ap (λ a. kept_with s r telling a (reading_by r.compiler r)) e
+kept-is s r telling executable cwd (outcomes.CannotCache reason text) e parts = ap (λ a. kept_with s r telling a (reading_by r.compiler r)) e
+kept-is s r telling executable cwd outcomes.NotCompilation e parts = ap (λ a. kept_with s r telling a (reading_by r.compiler r)) e
 
 options-are : (rows : List Row) → map fields_given rows ≡ map option_fields (map told rows)
 options-are [] = refl
 options-are (row ∷ rows) = ap (λ rests. option_fields (told row) ∷ rests) (options-are rows)
 
-abbrev all_entries : List Entry → Entry → Told → Questions → List Entry
-all_entries outcome options telling asks = version_entry ∷ [] ++ outcome ++ (options ∷ told_entries telling ++ question_entries asks)
+abbrev all_entries : List Entry → Entry → Told → Questions → Kept → List Entry
+all_entries outcome options telling asks kept = version_entry ∷ [] ++ outcome ++ (options ∷ told_entries telling ++ (question_entries asks ++ last_entries kept))
 
 entries-are : (tables : Tables) (s : Settings) (r : Request) (found : Findings) → AreOf tables s r found
     → entries_given s r.compiler (run_words_by r.words found.told.hazards.items) found ≡ answer_entries tables s r
 entries-are tables s r found are =
-    let there : Told → List Entry = λ telling. outcome_entries s r telling (answer_to r) (reading_by r.compiler r) in
+    let by : Told → Kept = λ telling. kept_with s r telling (answer_to r) (reading_by r.compiler r) in
+    let there : Kept → List Entry = λ kept. outcome_entries s r kept (answer_to r) (reading_by r.compiler r) in
+    let given_rows : Kept → List RowTold → List Entry = λ kept rows. outcome_given (runs_given s r.compiler found.answer) kept (refused_at rows) found.answer in
     let telling : Told = given_told found.told in
-    let words : RunWords = run_words_by r.words found.told.hazards.items in
-    let outcome : outcome_given s r.compiler words telling (refused_at (map told found.rows.items)) found.answer ≡ there telling =
-    ap (λ rows. outcome_given s r.compiler words telling (refused_at rows) found.answer) are.rows ∙ outcome-is s r telling [] r.directory found.answer are.answer are.parts in
+    let kept : kept_given s r.compiler (run_words_by r.words found.told.hazards.items) telling found.answer ≡ by telling =
+    kept-is s r telling [] r.directory found.answer are.answer are.parts in
+    let outcome : given_rows (by telling) (map told found.rows.items) ≡ there (by telling) =
+    ap (given_rows (by telling)) are.rows ∙ outcome-is s r (by telling) [] r.directory found.answer are.answer are.parts in
     let options : options_given found.rows.items ≡ options_entry (rows_for s r) =
     ap (entry (codes "option")) (options-are found.rows.items) ∙ ap options_entry are.rows in
     let options_is : Entry = options_entry (rows_for s r) in
-    ap (λ es. all_entries es (options_given found.rows.items) telling (given found.questions)) outcome
-    ∙ ap (λ e. all_entries (there telling) e telling (given found.questions)) options
-    ∙ ap (λ is. all_entries (there is) options_is is (given found.questions)) are.told
-    ∙ ap (all_entries (there (told_for tables s r)) options_is (told_for tables s r)) are.questions
+    ap (λ k. all_entries (given_rows k (map told found.rows.items)) (options_given found.rows.items) telling (given found.questions) k) kept
+    ∙ ap (λ es. all_entries es (options_given found.rows.items) telling (given found.questions) (by telling)) outcome
+    ∙ ap (λ e. all_entries (there (by telling)) e telling (given found.questions) (by telling)) options
+    ∙ ap (λ is. all_entries (there (by is)) options_is is (given found.questions) (by is)) are.told
+    ∙ ap (λ asks. all_entries (there (by (told_for tables s r))) options_is (told_for tables s r) asks (by (told_for tables s r))) are.questions
 
 -- the text of an answer and the rows after it are a description
 pub is-description : (tables : Tables) (s : Settings) (r : Request) (text : List ℕ) (found : Findings) → has_at_most s.limits r ≡ true → AreOf tables s r found
@@ -115,14 +128,15 @@ pub descriptions-back : DescriptionsReadBack
 descriptions-back tables s r words kept p within compiles reads are =
     let environment : List (List ℕ × List ℕ) = environment_by r.compiler r.environment in
     let telling : Told = told_for tables s r in
-    let keeping : List Entry = kept_for s kept r.compiler (run_words_by r.words telling.hazards) telling environment p in
-    let after : List Entry = runs_entry (runs_for s r.compiler p) ∷ environment_entry environment ∷ keeping in
-    let asks : List Entry = options_entry (rows_for s r) ∷ told_entries telling ++ question_entries (questions_for s r) in
+    let keeping : Kept = kept_with s r telling (answer_to r) (reading_by r.compiler r) in
+    let after : List Entry = runs_entry (runs_for s r.compiler p) ∷ environment_entry environment ∷ kept_entries keeping in
+    let last : List Entry = question_entries (questions_for s r) ++ last_entries keeping in
+    let asks : List Entry = options_entry (rows_for s r) ∷ told_entries telling ++ last in
     let before : List Entry = command_entries words kept ++ version_entry ∷ [] in
-    let outcome : outcome_entries s r telling (answer_to r) (reading_by r.compiler r) ≡ record_entries p ++ after =
-    ap (λ a. outcome_entries s r telling a (reading_by r.compiler r)) compiles ∙ ap (outcome_entries s r telling (compiled words kept)) reads in
+    let outcome : outcome_entries s r keeping (answer_to r) (reading_by r.compiler r) ≡ record_entries p ++ after =
+    ap (λ a. outcome_entries s r keeping a (reading_by r.compiler r)) compiles ∙ ap (outcome_entries s r keeping (compiled words kept)) reads in
     let beside : Each IsBeside (after ++ asks) =
-    each-both IsBeside after asks (refl, (refl, if-beside (wanted s).key (kept_entries kept r.compiler (run_words_by r.words telling.hazards) telling environment p) (kept-beside kept r.compiler (run_words_by r.words telling.hazards) telling environment p))) (refl, each-both IsBeside (told_entries telling) (question_entries (questions_for s r)) (refl, effects-beside telling.effects) (refl, (refl, (refl, tt)))) in
+    each-both IsBeside after asks (refl, (refl, kept-beside keeping)) (refl, each-both IsBeside (told_entries telling) last (refl, effects-beside telling.effects) (refl, (refl, (refl, last-beside keeping)))) in
     let entries : command_entries words kept ++ answer_entries tables s r ≡ in_order before (after ++ asks) p =
     ap (λ es. command_entries words kept ++ (version_entry ∷ [] ++ es ++ asks)) outcome
     ∙ ap (λ es. command_entries words kept ++ (version_entry ∷ es)) (append_assoc (record_entries p) after asks)

@@ -5,7 +5,7 @@ use Rattle.std.specs.List.{flat_map, filter_map, cons_option, onto_first}
 use Rattle.scl_values.specs.Each.{Each}
 use Rattle.scl_description.specs.Lines.{cut_at, with_first, line, lines_of}
 use Rattle.scl_description.proofs.WrittenFieldLaws.{lines-line}
-use Rattle.scl_describe.specs.Settings.{Settings, Setting, with_setting, with_line, number_from, setting_of, settings_from, settings_in, blanked, request_lines}
+use Rattle.scl_describe.specs.Settings.{Settings, Setting, with_setting, with_line, no_settings, number_from, setting_of, settings_from, blanked, request_lines}
 
 -- after what is no digit no number comes
 pub none_stays : (digits : List ℕ) → number_from None digits ≡ None
@@ -43,7 +43,7 @@ lines-back (l ∷ ls) are = lines-line l (flat_map line ls) are.0 ∙ ap (λ res
 
 -- Of all bytes these are left after lines that made these settings and this request.
 pub record Set (all left : List ℕ) (settings : Settings) (request : List ℕ) : Type 0 where
-  pub settings_are : settings_from settings (lines_of left) ≡ settings_in (lines_of all)
+  pub settings_are : settings_from settings (lines_of left) ≡ settings_from no_settings (lines_of all)
   pub request_is : request ++ flat_map line (request_lines (lines_of left)) ≡ flat_map line (request_lines (lines_of all))
 
 fold-cons : (s : Settings) (o : Option Setting) (others : List Setting) → fold with_setting s (cons_option o others) ≡ fold with_setting (fold with_setting s (option_to_list o)) others

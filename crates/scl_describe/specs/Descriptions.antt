@@ -21,9 +21,8 @@ use Rattle.scl_describe.specs.EffectRows.{effect_entries}
 use Rattle.scl_describe.specs.OptionLines.{index_entry, options_entry}
 use Rattle.scl_describe.specs.OptionRows.{rows_by}
 use Rattle.scl_describe.specs.Hazards.{known_by, told_by}
-use Rattle.scl_describe.specs.Keepings.{kept_entries, run_words_by}
+use Rattle.scl_describe.specs.Keepings.{Kept, nothing, kept_entries, kept_for, last_entries, run_words_by}
 use Rattle.scl_reader.specs.Questions.{Questions, questions_of}
-use Rattle.scl_key.specs.Told.{RunWords}
 use Rattle.scl_describe.specs.Settings.{Settings, settings_in, request_lines, wanted}
 use Rattle.scl_describe.specs.Wants.{if_wanted, questions_if, told_if}
 use Rattle.scl_reader.specs.Within.{has_at_most}
@@ -95,31 +94,37 @@ questions_for s request = questions_if (wanted s) (questions_of request)
 abbrev pub runs_for : Settings → Compiler → Parsed → List (List (List ℕ))
 runs_for s compiler p = if_wanted (wanted s).runs (runs_with s.version compiler s.may_dist s.rewrite_includes_only s.cache_mode p)
 
-abbrev pub kept_for : Settings → Cacheable → Compiler → RunWords → Told → (environment : List (List ℕ × List ℕ)) → Parsed → List Entry
-kept_for s cacheable compiler words told environment p = if_wanted (wanted s).key (kept_entries cacheable compiler words told environment p)
+-- what is said of keeping the outcome of a command
+abbrev pub kept_with : Settings → Request → Told → Answer → Result Parsed Verdict → Kept
+kept_with s request told (compiled words may_be_kept) (Ok p) =
+    kept_for s may_be_kept request.compiler (run_words_by request.words told.hazards) told (environment_by request.compiler request.environment) p
+kept_with s request told (compiled words may_be_kept) (Err v) = nothing
+kept_with s request told (cannot_cache reason beside) r = nothing
+kept_with s request told not_compilation r = nothing
 
--- the rows of a record that a request's line is read as, whose outcome may be kept or not, if this is given
-abbrev pub record_rows : Settings → Request → Told → Cacheable → Parsed → List Entry
-record_rows s request told kept p =
-    let environment : List (List ℕ × List ℕ) = environment_by request.compiler request.environment in
-    compiled_entries (runs_for s request.compiler p) environment (kept_for s kept request.compiler (run_words_by request.words told.hazards) told environment p) p
+-- the rows of a record that a request's line is read as, if this is said of keeping its outcome
+abbrev pub record_rows : Settings → Request → Kept → Parsed → List Entry
+record_rows s request kept p = compiled_entries (runs_for s request.compiler p) (environment_by request.compiler request.environment) (kept_entries kept) p
 
-abbrev pub outcome_entries : Settings → Request → Told → Answer → Result Parsed Verdict → List Entry
-outcome_entries s request told (compiled words kept) (Ok p) = record_rows s request told kept p
-outcome_entries s request told (compiled words kept) (Err v) = []
-outcome_entries s request told (cannot_cache reason beside) r = refused_entries reason beside (refused_at (rows_for s request))
-outcome_entries s request told not_compilation r = undone_entries (refused_at (rows_for s request))
+abbrev pub outcome_entries : Settings → Request → Kept → Answer → Result Parsed Verdict → List Entry
+outcome_entries s request kept (compiled words may_be_kept) (Ok p) = record_rows s request kept p
+outcome_entries s request kept (compiled words may_be_kept) (Err v) = []
+outcome_entries s request kept (cannot_cache reason beside) r = refused_entries reason beside (refused_at (rows_for s request))
+outcome_entries s request kept not_compilation r = undone_entries (refused_at (rows_for s request))
 
 -- the rows of what is reported: of hazards, and of what is read, written, asked and loaded
 abbrev pub told_entries : Told → List Entry
 told_entries told = hazards_entry told.hazards ∷ effect_entries told.effects
 
--- the rows after the answer's lines, with what is reported
-abbrev pub entries_with : Settings → Request → Told → List Entry
-entries_with s request told =
+-- the rows after the answer's lines, with what is reported, if this is said of keeping
+abbrev pub entries_kept : Settings → Request → Told → Kept → List Entry
+entries_kept s request told kept =
     version_entry ∷ []
-    ++ outcome_entries s request told (answer_to request) (reading_by request.compiler request)
-    ++ (options_entry (rows_for s request) ∷ told_entries told ++ question_entries (questions_for s request))
+    ++ outcome_entries s request kept (answer_to request) (reading_by request.compiler request)
+    ++ (options_entry (rows_for s request) ∷ told_entries told ++ (question_entries (questions_for s request) ++ last_entries kept))
+
+abbrev pub entries_with : Settings → Request → Told → List Entry
+entries_with s request told = entries_kept s request told (kept_with s request told (answer_to request) (reading_by request.compiler request))
 
 abbrev pub answer_entries : Tables → Settings → Request → List Entry
 answer_entries tables s request = entries_with s request (told_for tables s request)

@@ -1,8 +1,9 @@
 -- The settings of a description beside its request, and the lines that say it.
-use Rattle.std.specs.Prelude.{ℕ, ◌+◌, ◌-◌, ◌*◌, ◌^◌, ◌&&◌, ◌||◌, ◌==◌, not, Bool, true, false, List, [], ◌∷◌, map, fold, codes, Option, Some, None, nat_eq, nat_le, nat_lt, is_some, unwrap_or, if◌then◌else◌, option_and_then}
+use Rattle.std.specs.Prelude.{ℕ, ◌++◌, ◌+◌, ◌-◌, ◌*◌, ◌^◌, ◌&&◌, ◌||◌, ◌==◌, not, Bool, true, false, List, [], ◌∷◌, map, fold, codes, Option, Some, None, nat_eq, nat_le, nat_lt, is_some, unwrap_or, if◌then◌else◌, option_and_then}
 use Rattle.std.specs.List.{filter_map, list_any, starts_with}
 use Rattle.std.specs.Option.{option_map, option_to_list}
 use Rattle.std.specs.Str.{bytes_eq}
+use Rattle.scl_base_dirs.specs.Bases.{trimmed}
 use Rattle.scl_files.specs.Characters.{backslash, slash, space}
 use Rattle.scl_files.specs.Decoding.{utf8_text}
 use Rattle.scl_description.specs.Fields.{field_of}
@@ -13,7 +14,7 @@ use Rattle.scl_describe.specs.declared.wants.Part.{Part}
 use Rattle.scl_describe.specs.declared.wants.Wants.{Wants}
 use Rattle.scl_describe.specs.Wants.{everything, nothing_more, part_of, with_part}
 
--- whether the runs of the preprocessor are for a distant compiler, leave macros in place, and are kept in a cache; the text of Clang's version, if it is known; how much a command line may have, once its response files are put in place; and which parts are wanted, if a line says so
+-- whether the runs of the preprocessor are for a distant compiler, leave macros in place, and are kept in a cache; the text of Clang's version, if it is known; how much a command line may have, once its response files are put in place; which parts are wanted, if a line says so; the base directories by which keys are told; and whether macros that the runs show stay where they are in the key
 pub record Settings : Type 0 where
   pub may_dist : Bool
   pub rewrite_includes_only : Bool
@@ -21,10 +22,12 @@ pub record Settings : Type 0 where
   pub version : Option (List ℕ)
   pub limits : Limits
   pub wants : Option Wants
+  pub bases : List (List ℕ)
+  pub keeps_shown : Bool
 
 -- where no line sets them
 abbrev pub no_settings : Settings
-no_settings = record { may_dist = false; rewrite_includes_only = false; cache_mode = false; version = None; limits = standard; wants = None }
+no_settings = record { may_dist = false; rewrite_includes_only = false; cache_mode = false; version = None; limits = standard; wants = None; bases = []; keeps_shown = false }
 
 -- the parts that are wanted: all, where no line names one
 abbrev pub wanted : Settings → Wants
@@ -38,7 +41,6 @@ pub data Setting : Type 0 where
   Words : (words : ℕ) → Setting
   Bytes : (bytes : ℕ) → Setting
   Wanted : (part : Part) → Setting
-  -- how a key is told: a description says nothing of it
   Base : (dir : List ℕ) → Setting
   KeepShown : Setting
 
@@ -49,8 +51,8 @@ with_setting s CacheMode = record s { cache_mode = true }
 with_setting s (Version text) = record s { version = Some text }
 with_setting s (Words words) = record s { limits = record { words = words; bytes = s.limits.bytes } }
 with_setting s (Bytes bytes) = record s { limits = record { words = s.limits.words; bytes = bytes } }
-with_setting s (Base dir) = s
-with_setting s KeepShown = s
+with_setting s (Base dir) = record s { bases = s.bases ++ dir ∷ [] }
+with_setting s KeepShown = record s { keeps_shown = true }
 with_setting s (Wanted part) = record s { wants = Some (with_part (unwrap_or s.wants nothing_more) part) }
 
 -- ---- lines
@@ -120,9 +122,13 @@ settings_from s lines = fold with_setting s (filter_map setting_of lines)
 abbrev pub with_line : Settings → List ℕ → Settings
 with_line s line = fold with_setting s (option_to_list (setting_of line))
 
--- the settings of lines; of several of one name the last counts
+-- with base directories that have no separator at their ends
+abbrev pub with_trimmed_bases : Settings → Settings
+with_trimmed_bases s = record s { bases = map trimmed s.bases }
+
+-- the settings of lines: all the parts and base directories that they name, and of several others of one name the last
 abbrev pub settings_in : List (List ℕ) → Settings
-settings_in lines = settings_from no_settings lines
+settings_in lines = with_trimmed_bases (settings_from no_settings lines)
 
 -- a line that says a setting is blank to the request
 abbrev pub blanked : List ℕ → List ℕ

@@ -1,6 +1,7 @@
 -- What of settings the code keeps.
 use Rattle.std.specs.Prelude.{string_bytes}
 use Rattle.std.specs.Option.{option_map}
+use Rattle.scl_values.specs.Words.{words_of}
 use Rattle.scl_describe.specs.Settings.{Settings, Setting}
 use Rattle.scl_describe.specs.Settings as settings
 use Rattle.scl_describe.specs.declared.settings.Settings as code
@@ -8,7 +9,7 @@ use Rattle.scl_describe.specs.declared.settings.Setting as line
 use Rattle.scl_describe.specs.declared.settings.Setting.TheVariants as lines
 
 abbrev pub settings_by : code.Settings → Settings
-settings_by s = record { may_dist = s.may_dist; rewrite_includes_only = s.rewrite_includes_only; cache_mode = s.cache_mode; version = option_map string_bytes s.version; limits = s.limits; wants = s.wants }
+settings_by s = record { may_dist = s.may_dist; rewrite_includes_only = s.rewrite_includes_only; cache_mode = s.cache_mode; version = option_map string_bytes s.version; limits = s.limits; wants = s.wants; bases = words_of s.bases.items; keeps_shown = s.keeps_shown }
 
 abbrev pub set_by : line.Setting → Setting
 set_by lines.MayDist = settings.MayDist

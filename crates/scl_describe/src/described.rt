@@ -11,20 +11,18 @@ ghost use Rattle.scl_cl.specs.AnswerTexts.{text_of};
 ghost use Rattle.scl_reader.specs.AnswersGiven.{answer_of};
 ghost use Rattle.scl_reader.specs.QuestionsGiven.{given};
 ghost use Rattle.scl_describe.specs.SettingsRead.{settings_by};
-ghost use Rattle.scl_describe.specs.Descriptions.{runs_entry, pair_fields, environment_entry, hazards_entry, kept_for, told_entries, wants_entry, question_entries, refused_entries, runs_for, too_many_entries, undone_entries, version_entry};
+ghost use Rattle.scl_describe.specs.Descriptions.{runs_entry, pair_fields, environment_entry, hazards_entry, told_entries, wants_entry, question_entries, refused_entries, runs_for, too_many_entries, undone_entries, version_entry};
 ghost use Rattle.scl_hazards.specs.Told.{given as given_told};
-ghost use Rattle.scl_key.specs.Views.{run_words_of};
 ghost use Rattle.scl_describe.specs.EffectRows.{effect_entries, effect_entry, row_name};
 ghost use Rattle.scl_describe.specs.Keepings.{run_words_by};
-ghost use Rattle.scl_describe.specs.DescriptionsGiven.{compilation_entries, entries_given, outcome_given};
+ghost use Rattle.scl_describe.specs.DescriptionsGiven.{compilation_entries, entries_given, kept_told, outcome_given, runs_given};
 
-use crate::keeping::{push_kept, run_words_by};
+use crate::keeping::{Kept, kept_in, push_kept, push_last};
 use crate::option_lines::{push_index, push_options};
 use crate::settings::Settings;
 use scl_cl::answer_text;
 use scl_description::{push_maybe, push_record, push_row, push_row_of, push_word, push_yes};
 use scl_hazards::{Effect, Hazard, Told, Verb};
-use scl_key::RunWords;
 use scl_reader::{Compilation, Compiler, Questions};
 use scl_reasons::sentence;
 use scl_rows::{Row, refused_at};
@@ -115,42 +113,38 @@ fn settings_runs(
     )
 }
 
-/// Appends the rows of a key, or of why there is none, if they are wanted.
-fn push_keeping(
+/// The words of the runs of the preprocessor of an answer; there are none if it has no command.
+fn runs_in(
     alloc: Global,
-    text: &mut Vec<u8>,
     compiler: Compiler,
     settings: &Settings,
-    words: RunWords<'_>,
-    told: &Told<'_>,
-    compilation: &Compilation,
-) -> Mem<()>
-    ensures { OnOk result (text.new.items ≡ text.old.items ++ entries_text (kept_for (settings_by settings.now) compilation.now.cacheable compiler (run_words_of words.entry) (given_told told.now) (pairs_of compilation.now.command.env_vars.items) (parsed_of compilation.now.parsed))) }
+    answer: &CompilerArguments<Compilation>,
+) -> Mem<Vec<Vec<Vec<u8>>>>
+    ensures { IfOk result (λ runs. runs_of runs.items ≡ runs_given (settings_by settings.now) compiler answer.now) }
 {
-    if settings.wanted().key {
-        push_kept(alloc, text, compiler, words, told, compilation)
-    } else {
-        Ok(())
+    match answer {
+        CompilerArguments::Ok(compilation) => {
+            settings_runs(alloc, compiler, settings, &compilation.parsed)
+        }
+        CompilerArguments::CannotCache(_, _) | CompilerArguments::NotCompilation => {
+            Ok(Vec::new(alloc))
+        }
     }
 }
 
 /// Appends the rows of a command line that has a command.
 fn push_compilation(
-    alloc: Global,
     text: &mut Vec<u8>,
-    compiler: Compiler,
-    settings: &Settings,
-    words: RunWords<'_>,
-    told: &Told<'_>,
+    runs: &[Vec<Vec<u8>>],
+    kept: &Kept,
     compilation: &Compilation,
 ) -> Mem<()>
-    ensures { OnOk result (text.new.items ≡ text.old.items ++ entries_text (compilation_entries (settings_by settings.now) compiler (run_words_of words.entry) (given_told told.now) compilation.now)) }
+    ensures { OnOk result (text.new.items ≡ text.old.items ++ entries_text (compilation_entries (runs_of runs.now) (kept_told kept.now) compilation.now)) }
 {
     push_record(text, &compilation.parsed)?;
-    let runs = settings_runs(alloc, compiler, settings, &compilation.parsed)?;
-    push_runs(text, &runs)?;
+    push_runs(text, runs)?;
     push_environment(text, &compilation.command.env_vars)?;
-    push_keeping(alloc, text, compiler, settings, words, told, compilation)?;
+    push_kept(text, kept)?;
     Ok(())
 }
 
@@ -182,19 +176,15 @@ fn push_refusal(
 fn push_outcome(
     alloc: Global,
     text: &mut Vec<u8>,
-    compiler: Compiler,
-    settings: &Settings,
-    words: RunWords<'_>,
+    runs: &[Vec<Vec<u8>>],
+    kept: &Kept,
     findings: &Findings<'_>,
 ) -> Mem<()>
-    ensures { OnOk result (text.new.items ≡ text.old.items ++ entries_text (outcome_given (settings_by settings.now) compiler (run_words_of words.entry) (given_told findings.now.told) (refused_at (map told findings.now.rows.items)) findings.now.answer)) }
+    ensures { OnOk result (text.new.items ≡ text.old.items ++ entries_text (outcome_given (runs_of runs.now) (kept_told kept.now) (refused_at (map told findings.now.rows.items)) findings.now.answer)) }
 {
     let at = refused_at(&findings.rows);
     match &findings.answer {
-        CompilerArguments::Ok(compilation) => {
-            let told = &findings.told;
-            push_compilation(alloc, text, compiler, settings, words, told, compilation)
-        }
+        CompilerArguments::Ok(compilation) => push_compilation(text, runs, kept, compilation),
         CompilerArguments::CannotCache(reason, because) => {
             push_refusal(alloc, text, reason, because.as_deref(), at)
         }
@@ -274,13 +264,15 @@ pub(crate) fn description_text(
 ) -> Mem<Vec<u8>>
     ensures { IfOk result (λ text. text.items ≡ text_of (answer_of findings.now.answer) ++ entries_text (entries_given (settings_by settings.now) compiler (run_words_by (words_of words.now) findings.now.told.hazards.items) findings.now)) }
 {
-    let words = run_words_by(words, &findings.told.hazards);
+    let runs = runs_in(alloc, compiler, settings, &findings.answer)?;
+    let kept = kept_in(alloc, compiler, settings, words, findings)?;
     let mut text = answer_text(alloc, &findings.answer)?;
     push_version(&mut text)?;
-    push_outcome(alloc, &mut text, compiler, settings, words, findings)?;
+    push_outcome(alloc, &mut text, &runs, &kept, findings)?;
     push_options(alloc, &mut text, &findings.rows)?;
     push_told(&mut text, &findings.told)?;
     push_questions(&mut text, &findings.questions)?;
+    push_last(&mut text, &kept)?;
     Ok(text)
 }
 

@@ -1,5 +1,5 @@
 //! What is said of keeping what a command line makes.
-ghost use Rattle.std.specs.Prelude.{◌≡◌, ◌++◌, ◌∷◌, [], codes, OnOk};
+ghost use Rattle.std.specs.Prelude.{◌≡◌, ◌++◌, ◌∷◌, [], codes, IfOk, OnOk};
 ghost use Rattle.std.specs.List.{list_any};
 ghost use Rattle.std.specs.Option.{option_copied, option_map};
 ghost use Rattle.scl_values.specs.Words.{words_of};
@@ -7,16 +7,37 @@ ghost use Rattle.scl_text.specs.Commands.{pairs_of};
 ghost use Rattle.scl_text.specs.Records.{parsed_of};
 ghost use Rattle.scl_description.specs.Rows.{entries_text, entry_text, row_entry};
 ghost use Rattle.scl_hazards.specs.Told.{given};
-ghost use Rattle.scl_key.specs.Views.{keeping_of as keeping_told, run_words_of};
-ghost use Rattle.scl_describe.specs.Keepings.{barring, concerns_files, judged_entries, kept_entries, names_response_file, run_words_by, words_despite};
+ghost use Rattle.scl_key.specs.Doings.{with_effects};
+ghost use Rattle.scl_key.specs.Keys.{keeping_of};
+ghost use Rattle.scl_key.specs.Views.{key_of as key_told, keeping_of as keeping_told, run_words_of};
+ghost use Rattle.scl_delivered.specs.Views.{delivered_of};
+ghost use Rattle.scl_describe.specs.DescriptionsGiven.{kept_given, kept_told};
+ghost use Rattle.scl_describe.specs.Keepings.{barring, concerns_files, delivered_by, is_told, kept_entries, last_entries, names_response_file, run_words_by, under_entries, words_despite};
+ghost use Rattle.scl_describe.specs.SettingsRead.{settings_by};
 
+use crate::described::Findings;
+use crate::settings::Settings;
+use scl_delivered::{Delivered, Delivery, deliver};
 use scl_description::{push_row, push_word};
-use scl_hazards::{Danger, Hazard, Told};
-use scl_key::{Keeping, RunWords, key_of, push_keeping, with_effects};
+use scl_hazards::{Danger, Effect, Hazard};
+use scl_key::{Keeping, Key, NoKey, RunWords, key_of, push_no_rows, with_effects};
 use scl_reader::{Compilation, Compiler};
 use scl_text::Mem;
-use scl_text::records::Cacheable;
+use scl_text::records::{Cacheable, CompilerArguments, ParsedArguments};
 use std::alloc::Global;
+
+/// What is said of keeping what a command line makes (docs/RULES.md, Keys).
+#[derive(Debug, Drop)]
+pub enum Kept {
+    /// Nothing: it may not be kept, or the key is not wanted.
+    Nothing,
+    /// It may be kept, under this key.
+    Under(Delivered),
+    /// Nothing is known of this option, so no key can answer.
+    Unknown(Vec<u8>),
+    /// No key can be right, for these reasons.
+    Not(Vec<NoKey>),
+}
 
 /// Whether the files that are made differ, and not only what is said.
 pub fn concerns_files(danger: Danger) -> bool
@@ -66,13 +87,95 @@ fn words_despite<'a>(words: &'a [Vec<u8>], hazards: &'a [Hazard<'_>]) -> RunWord
 }
 
 /// The words that a cache runs at a miss of a command line of these words, with these hazards.
-pub(crate) fn run_words_by<'a>(words: &'a [Vec<u8>], hazards: &'a [Hazard<'_>]) -> RunWords<'a>
+fn run_words_by<'a>(words: &'a [Vec<u8>], hazards: &'a [Hazard<'_>]) -> RunWords<'a>
     ensures { run_words_of result ≡ run_words_by (words_of words.now) hazards.now }
 {
     match barring(hazards) {
         Some(hazard) => RunWords::Hazardous(hazard),
         None => words_despite(words, hazards),
     }
+}
+
+/// Whether it is said what a command line may be kept under: it may be kept, and the key is wanted.
+fn is_told(settings: &Settings, cacheable: Cacheable) -> bool
+    ensures { result ≡ is_told (settings_by settings.now) cacheable }
+{
+    match cacheable {
+        Cacheable::Yes => settings.wanted().key,
+        Cacheable::No => false,
+    }
+}
+
+/// What is said of the key of a compilation, of which these words run at a miss, by these effects of its compiler.
+fn keeping_by(
+    alloc: Global,
+    compiler: Compiler,
+    words: RunWords<'_>,
+    effects: &[Effect],
+    compilation: &Compilation,
+) -> Mem<Keeping>
+    ensures { IfOk result (λ keeping. keeping_told keeping ≡ with_effects (parsed_of compilation.now.parsed) effects.now (keeping_of compiler (pairs_of compilation.now.command.env_vars.items) (run_words_of words.entry) (parsed_of compilation.now.parsed))) }
+{
+    let environment = &compilation.command.env_vars;
+    let keeping = key_of(alloc, compiler, environment, words, &compilation.parsed)?;
+    with_effects(alloc, &compilation.parsed, effects, keeping)
+}
+
+/// A key of a record as settings request it.
+fn delivered_by(
+    alloc: Global,
+    compiler: Compiler,
+    settings: &Settings,
+    parsed: &ParsedArguments,
+    key: Key,
+) -> Mem<Delivered>
+    ensures { IfOk result (λ made. delivered_of made ≡ delivered_by (settings_by settings.now) compiler (parsed_of parsed.now) (key_told key)) }
+{
+    let by = Delivery {
+        dirs: &settings.bases,
+        keeps_macros: settings.keeps_shown,
+    };
+    deliver(alloc, compiler, parsed, &by, key)
+}
+
+/// What is said of keeping what a command line of these words makes, as settings request it.
+pub(crate) fn kept_in(
+    alloc: Global,
+    compiler: Compiler,
+    settings: &Settings,
+    words: &[Vec<u8>],
+    findings: &Findings<'_>,
+) -> Mem<Kept>
+    ensures { IfOk result (λ kept. kept_told kept ≡ kept_given (settings_by settings.now) compiler (run_words_by (words_of words.now) findings.now.told.hazards.items) (given findings.now.told) findings.now.answer) }
+{
+    let compilation = match &findings.answer {
+        CompilerArguments::Ok(compilation) => compilation,
+        CompilerArguments::CannotCache(_, _) | CompilerArguments::NotCompilation => {
+            return Ok(Kept::Nothing);
+        }
+    };
+    if !is_told(settings, compilation.cacheable) {
+        return Ok(Kept::Nothing);
+    }
+    let told = &findings.told;
+    let words = run_words_by(words, &told.hazards);
+    let keeping = keeping_by(alloc, compiler, words, &told.effects, compilation)?;
+    match (keeping, told.unknown.as_deref()) {
+        (Keeping::Under(_), Some(word)) => Ok(Kept::Unknown(Vec::from_slice(alloc, word)?)),
+        (Keeping::Under(key), None) => {
+            let key = delivered_by(alloc, compiler, settings, &compilation.parsed, key)?;
+            Ok(Kept::Under(key))
+        }
+        (Keeping::Not(why), _) => Ok(Kept::Not(why)),
+    }
+}
+
+/// Appends the rows of a key that stand before those of options, and that this is all.
+fn push_under(text: &mut Vec<u8>, key: &Delivered) -> Mem<()>
+    ensures { OnOk result (text.new.items ≡ text.old.items ++ entries_text (under_entries (delivered_of key.now))) }
+{
+    key.push_rows(text)?;
+    push_word(text, "keep", b"yes")
 }
 
 /// Appends the row of the option of which nothing is known.
@@ -82,38 +185,24 @@ fn push_unknown(text: &mut Vec<u8>, word: &[u8]) -> Mem<()>
     push_row(text, "keep", &[b"unknown".as_slice(), word])
 }
 
-/// Appends the rows of what is said, as the option of which nothing is known allows.
-fn push_judged(text: &mut Vec<u8>, unknown: Option<&[u8]>, keeping: &Keeping) -> Mem<()>
-    ensures { OnOk result (text.new.items ≡ text.old.items ++ entries_text (judged_entries (option_copied unknown.entry) (keeping_told keeping.now))) }
+/// Appends the rows of what is said that stand before those of options.
+pub(crate) fn push_kept(text: &mut Vec<u8>, kept: &Kept) -> Mem<()>
+    ensures { OnOk result (text.new.items ≡ text.old.items ++ entries_text (kept_entries (kept_told kept.now))) }
 {
-    match (keeping, unknown) {
-        (Keeping::Under(_, _), Some(word)) => push_unknown(text, word),
-        (Keeping::Under(_, _), None) => {
-            push_keeping(text, keeping)?;
-            push_word(text, "keep", b"yes")
-        }
-        (Keeping::Not(_), _) => push_keeping(text, keeping),
+    match kept {
+        Kept::Nothing => Ok(()),
+        Kept::Under(key) => push_under(text, key),
+        Kept::Unknown(word) => push_unknown(text, word),
+        Kept::Not(why) => push_no_rows(text, why),
     }
 }
 
-/// Appends the rows of a key, by what is reported of the compiler, or of why there is none; none if the outcome may not be kept.
-pub(crate) fn push_kept(
-    alloc: Global,
-    text: &mut Vec<u8>,
-    compiler: Compiler,
-    words: RunWords<'_>,
-    told: &Told<'_>,
-    compilation: &Compilation,
-) -> Mem<()>
-    ensures { OnOk result (text.new.items ≡ text.old.items ++ entries_text (kept_entries compilation.now.cacheable compiler (run_words_of words.entry) (given told.now) (pairs_of compilation.now.command.env_vars.items) (parsed_of compilation.now.parsed))) }
+/// Appends the rows of what is said that stand at the end.
+pub(crate) fn push_last(text: &mut Vec<u8>, kept: &Kept) -> Mem<()>
+    ensures { OnOk result (text.new.items ≡ text.old.items ++ entries_text (last_entries (kept_told kept.now))) }
 {
-    match compilation.cacheable {
-        Cacheable::Yes => {
-            let environment = &compilation.command.env_vars;
-            let keeping = key_of(alloc, compiler, environment, words, &compilation.parsed)?;
-            let keeping = with_effects(alloc, &compilation.parsed, &told.effects, keeping)?;
-            push_judged(text, told.unknown.as_deref(), &keeping)
-        }
-        Cacheable::No => Ok(()),
+    match kept {
+        Kept::Under(key) => key.push_last_rows(text),
+        Kept::Nothing | Kept::Unknown(_) | Kept::Not(_) => Ok(()),
     }
 }

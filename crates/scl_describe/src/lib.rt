@@ -14,7 +14,7 @@ mod wants;
 pub use about::About;
 pub use descriptions::{Descriptions, describe};
 pub use found::{hazards_of, rows_of, told_of};
-pub use keeping::concerns_files;
+pub use keeping::{Kept, concerns_files};
 pub use scl_hazards::{
     Catalogue, Danger, Effect, Entry, Hazard, Known, PlainNames, Tables, Told, Verb, Version,
     danger_name,

@@ -6,6 +6,7 @@ ghost use Rattle.scl_describe.specs.Settings.{no_settings, with_setting, with_li
 ghost use Rattle.scl_describe.specs.SettingsRead.{settings_by, set_by};
 
 use crate::wants::{Part, Wants, part_of};
+use scl_base_dirs::base_dirs;
 use scl_description::{cut_at, next_line, read_field};
 use scl_reader::Limits;
 use scl_text::{Mem, from_local_codepage};
@@ -20,6 +21,10 @@ pub(crate) struct Settings {
     pub version: Option<String>,
     pub limits: Limits,
     pub wants: Option<Wants>,
+    /// The base directories by which keys are told, without the separators at their ends.
+    pub bases: Vec<Vec<u8>>,
+    /// Whether macros that the runs show stay where they are in the key.
+    pub keeps_shown: bool,
 }
 
 /// What a line `setting` says.
@@ -32,15 +37,13 @@ enum Setting {
     Words(usize),
     Bytes(usize),
     Wanted(Part),
-    /// A base directory. What tells keys reads this line itself, and the next one.
     Base(Vec<u8>),
-    /// Macros of the command stay where they are in the key.
     KeepShown,
 }
 
 impl Settings {
     /// The settings where no line sets them.
-    fn new() -> Settings
+    fn new(alloc: Global) -> Settings
         ensures { settings_by result ≡ no_settings }
     {
         Settings {
@@ -50,6 +53,8 @@ impl Settings {
             version: None,
             limits: Limits::standard(),
             wants: None,
+            bases: Vec::new(alloc),
+            keeps_shown: false,
         }
     }
 
@@ -61,8 +66,8 @@ impl Settings {
     }
 
     /// Takes what a line says.
-    fn take(&mut self, setting: Setting)
-        ensures { settings_by self.new ≡ with_setting (settings_by self.old) (set_by setting) }
+    fn take(&mut self, setting: Setting) -> Mem<()>
+        ensures { OnOk result (settings_by self.new ≡ with_setting (settings_by self.old) (set_by setting)) }
     {
         match setting {
             Setting::MayDist => self.may_dist = true,
@@ -71,11 +76,13 @@ impl Settings {
             Setting::Version(text) => self.version = Some(text),
             Setting::Words(words) => self.limits.words = words,
             Setting::Bytes(bytes) => self.limits.bytes = bytes,
-            Setting::Base(_) | Setting::KeepShown => {}
+            Setting::Base(dir) => self.bases.push(dir)?,
+            Setting::KeepShown => self.keeps_shown = true,
             Setting::Wanted(part) => {
                 self.wants = Some(self.wants.unwrap_or(Wants::nothing_more()).with(part));
             }
         }
+        Ok(())
     }
 }
 
@@ -200,7 +207,7 @@ fn take_line(alloc: Global, settings: &mut Settings, request: &mut Vec<u8>, text
     ensures request { OnOk result (request.new.items ≡ request.old.items ++ line (blanked text.now)) }
 {
     match setting_of(alloc, text)? {
-        Some(setting) => settings.take(setting),
+        Some(setting) => settings.take(setting)?,
         None => request.extend_from_slice(text)?,
     }
     request.push(b'\n')?;
@@ -212,12 +219,13 @@ pub(crate) fn read_settings(alloc: Global, bytes: &[u8]) -> Mem<(Settings, Vec<u
     ensures settings { IfOk result (λ read. settings_by read.0 ≡ settings_in (lines_of bytes.now)) }
     ensures request { IfOk result (λ read. lines_of read.1.items ≡ request_lines (lines_of bytes.now)) }
 {
-    let mut settings = Settings::new();
+    let mut settings = Settings::new(alloc);
     let mut request = Vec::with_capacity(alloc, bytes.len())?;
     let mut left = bytes;
     while let Some((line, rest)) = next_line(left) {
         take_line(alloc, &mut settings, &mut request, line)?;
         left = rest;
     }
+    settings.bases = base_dirs(alloc, &settings.bases)?;
     Ok((settings, request))
 }

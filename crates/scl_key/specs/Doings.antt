@@ -9,7 +9,7 @@ use Rattle.scl_files.specs.Views.{Viewed, exists}
 use Rattle.scl_text.specs.Records.{Parsed, artifact}
 use Rattle.scl_key.specs.declared.no_key.Reason.TheVariants as reasons
 use Rattle.scl_key.specs.declared.part.Ask.TheVariants as asks
-use Rattle.scl_key.specs.Keys.{Keeping, under, not_kept, NoKey, is_no_file, keeping_by, made_paths, no_key, view_of}
+use Rattle.scl_key.specs.Keys.{Key, Keeping, under, not_kept, NoKey, is_no_file, keeping_by, made_paths, no_key, view_of}
 use Rattle.scl_key.specs.Parts.{Part, asked, output}
 
 -- what the parts of each key answer: the name of the directory, and the processor, which a plan spells out
@@ -52,7 +52,11 @@ parts_told outputs effects = flat_map (λ e. parts_by outputs e.verb e.name) eff
 abbrev pub barred : List Effect → List NoKey
 barred effects = map (λ e. no_key reasons.Effect e.name) (filter bars effects)
 
+-- a key, and what effects add to it
+abbrev pub key_with : Parsed → List Effect → Key → Key
+key_with p effects key = record key { parts = key.parts ++ parts_told (view_of (made_paths p)) effects }
+
 -- what is said of a command line whose compiler has these effects
 abbrev pub with_effects : Parsed → List Effect → Keeping → Keeping
-with_effects p effects (under key direct) = keeping_by (barred effects) (key ++ parts_told (view_of (made_paths p)) effects) direct
+with_effects p effects (under key) = keeping_by (barred effects) (key_with p effects key)
 with_effects p effects (not_kept why) = not_kept why

@@ -13,12 +13,12 @@ use Rattle.scl_key.specs.declared.no_key.Reason.{Reason}
 use Rattle.scl_key.specs.declared.no_key.Reason.TheVariants.{WritesUnnamed, TextHides, OutputIsNoFile, OnePathTwice, Hazard, Effect as EffectBars}
 use Rattle.scl_key.specs.declared.part.Ask.{Ask}
 use Rattle.scl_key.specs.declared.part.Ask.TheVariants as asks
-use Rattle.scl_key.specs.Directs.{Direct, directs, direct_entries}
+use Rattle.scl_key.specs.Directs.{Direct, directs}
 use Rattle.scl_key.specs.Effects.{Judged, assembler_effect, assembler_words, behind, is_plain, judged_in, suffixes, writes_unnamed}
 use Rattle.scl_key.specs.Families.{folder_variables, is_clang, is_gcc, notes_by_runs, unset_variables, variables}
 use Rattle.scl_key.specs.Given.{folders, headers, shows}
 use Rattle.scl_key.specs.Made.{dependency_files, handed_file, made}
-use Rattle.scl_key.specs.Parts.{Part, asked, directory, compiler, output, pch, sources, times, key_entries}
+use Rattle.scl_key.specs.Parts.{Part, asked, directory, compiler, output, pch, sources, times}
 use Rattle.scl_key.specs.Reads.{files_perhaps}
 use Rattle.scl_key.specs.Runs.{is_assembler, is_header, plans, run_parts}
 use Rattle.scl_key.specs.Told.{RunWords, given, built, hazardous, told}
@@ -195,24 +195,29 @@ no_keys c words p =
 
 -- ---- what is said of a command line
 
+-- a key, with what direct mode needs, if it may be used
+pub record Key : Type 0 where
+  -- each run shows all that the words of the preprocessor bring in
+  pub is_shown : Bool
+  pub parts : List Part
+  pub direct : List Direct
+
+abbrev pub whole_key : Compiler → (environment : List (List ℕ × List ℕ)) → RunWords → Parsed → Key
+whole_key c environment words p = record { is_shown = shows c p; parts = key_of c environment words p; direct = directs c p }
+
 pub data Keeping : Type 0 where
-  -- under this key; with what direct mode needs, if it may be used
-  under : (key : List Part) (direct : List Direct) → Keeping
+  under : (key : Key) → Keeping
   not_kept : (why : List NoKey) → Keeping
 
-abbrev pub keeping_by : List NoKey → List Part → List Direct → Keeping
-keeping_by [] key direct = under key direct
-keeping_by (why ∷ others) key direct = not_kept (why ∷ others)
+abbrev pub keeping_by : List NoKey → Key → Keeping
+keeping_by [] key = under key
+keeping_by (why ∷ others) key = not_kept (why ∷ others)
 
 -- its key, or why there is none
 abbrev pub keeping_of : Compiler → (environment : List (List ℕ × List ℕ)) → RunWords → Parsed → Keeping
-keeping_of c environment words p = keeping_by (no_keys c words p) (key_of c environment words p) (directs c p)
+keeping_of c environment words p = keeping_by (no_keys c words p) (whole_key c environment words p)
 
 -- ---- rows
 
 abbrev pub no_key_entry : NoKey → Entry
 no_key_entry n = row_entry (codes "keep") (codes "no" ∷ reason_name n.reason ∷ n.word ∷ [])
-
-abbrev pub keeping_entries : Keeping → List Entry
-keeping_entries (under key direct) = key_entries key ++ direct_entries direct
-keeping_entries (not_kept why) = map no_key_entry why

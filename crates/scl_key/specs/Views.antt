@@ -4,6 +4,7 @@ use Rattle.scl_text.specs.Records.{Artifact, artifact}
 use Rattle.scl_values.specs.Words.{words_of}
 use Rattle.scl_key.specs.declared.direct.Direct as declared_direct
 use Rattle.scl_key.specs.declared.direct.Direct.TheVariants as directs
+use Rattle.scl_key.specs.declared.key.Key as declared_key
 use Rattle.scl_key.specs.declared.key.Keeping as declared_keeping
 use Rattle.scl_key.specs.declared.key.Keeping.TheVariants as keepings
 use Rattle.scl_key.specs.declared.no_key.NoKey as declared_no_key
@@ -13,7 +14,7 @@ use Rattle.scl_key.specs.declared.part.Part.TheVariants as parts
 use Rattle.scl_key.specs.declared.told.RunWords as declared_words
 use Rattle.scl_key.specs.declared.told.RunWords.TheVariants as run_words
 use Rattle.scl_key.specs.Directs.{Direct, env, search, first, named, refuse_if_read}
-use Rattle.scl_key.specs.Keys.{Keeping, under, not_kept, NoKey, no_key}
+use Rattle.scl_key.specs.Keys.{Key, Keeping, under, not_kept, NoKey, no_key}
 use Rattle.scl_key.specs.Parts.{Part, is, output, directory, compiler, plan, asked, run, run_else, pch, sources, times}
 use Rattle.scl_key.specs.Told.{RunWords, built, given, hazardous}
 
@@ -63,6 +64,9 @@ no_key_of n = no_key n.reason n.word.items
 abbrev pub no_keys_of : List declared_no_key.NoKey → List NoKey
 no_keys_of why = map no_key_of why
 
+abbrev pub key_of : declared_key.Key → Key
+key_of k = record { is_shown = k.is_shown; parts = parts_of k.parts.items; direct = directs_of k.direct.items }
+
 abbrev pub keeping_of : declared_keeping.Keeping → Keeping
-keeping_of (keepings.Under key direct) = under (parts_of key.items) (directs_of direct.items)
+keeping_of (keepings.Under key) = under (key_of key)
 keeping_of (keepings.Not why) = not_kept (no_keys_of why.items)

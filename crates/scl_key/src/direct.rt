@@ -390,7 +390,7 @@ fn push_one(text: &mut Vec<u8>, direct: &Direct) -> Mem<()>
 }
 
 /// Appends rows `direct`.
-pub(crate) fn push_directs(text: &mut Vec<u8>, rows: &[Direct]) -> Mem<()>
+pub fn push_directs(text: &mut Vec<u8>, rows: &[Direct]) -> Mem<()>
     ensures { OnOk result (text.new.items ≡ text.old.items ++ entries_text (direct_entries (directs_of rows.now))) }
 {
     for row in rows {

@@ -2,12 +2,11 @@
 ghost use Rattle.std.specs.Prelude.{◌≡◌, ◌++◌, ◌∷◌, [], map, filter, IfOk, OnOk};
 ghost use Rattle.std.specs.List.{flat_map};
 ghost use Rattle.scl_text.specs.Records.{parsed_of};
-ghost use Rattle.scl_key.specs.Doings.{barred, bars, is_answered, is_fleeting, is_lost, output_by, parts_by, parts_told, with_effects};
+ghost use Rattle.scl_key.specs.Doings.{barred, bars, is_answered, is_fleeting, is_lost, key_with, output_by, parts_by, parts_told, with_effects};
 ghost use Rattle.scl_key.specs.Keys.{keeping_by, made_paths, no_key, view_of};
-ghost use Rattle.scl_key.specs.Views.{directs_of, keeping_of as keeping_told, no_keys_of, parts_of};
+ghost use Rattle.scl_key.specs.Views.{key_of as key_told, keeping_of as keeping_told, no_keys_of, parts_of};
 
-use crate::direct::Direct;
-use crate::key::Keeping;
+use crate::key::{Keeping, Key};
 use crate::made::made;
 use crate::no_key::{NoKey, Reason, is_no_file, view_of};
 use crate::part::{Ask, Output, Part};
@@ -119,20 +118,32 @@ fn push_all_parts(
     Ok(())
 }
 
-/// A key, and what effects add to it.
-fn key_with(
+/// The parts of a key, and what effects add to them.
+fn parts_with(
     alloc: Global,
     parsed: &ParsedArguments,
     effects: &[Effect],
-    key: Vec<Part>,
+    parts: Vec<Part>,
 ) -> Mem<Vec<Part>>
-    ensures { IfOk result (λ parts. parts_of parts.items ≡ parts_of key.items ++ parts_told (view_of (made_paths (parsed_of parsed.now))) effects.now) }
+    ensures { IfOk result (λ all. parts_of all.items ≡ parts_of parts.items ++ parts_told (view_of (made_paths (parsed_of parsed.now))) effects.now) }
 {
-    let mut key = key;
+    let mut parts = parts;
     let files = made(alloc, parsed)?;
     let outputs = view_of(alloc, &files)?;
-    push_all_parts(alloc, &mut key, &outputs, effects)?;
-    Ok(key)
+    push_all_parts(alloc, &mut parts, &outputs, effects)?;
+    Ok(parts)
+}
+
+/// A key, and what effects add to it.
+fn key_with(alloc: Global, parsed: &ParsedArguments, effects: &[Effect], key: Key) -> Mem<Key>
+    ensures { IfOk result (λ with. key_told with ≡ key_with (parsed_of parsed.now) effects.now (key_told key)) }
+{
+    let parts = parts_with(alloc, parsed, effects, key.parts)?;
+    Ok(Key {
+        is_shown: key.is_shown,
+        parts,
+        direct: key.direct,
+    })
 }
 
 /// What is said of a command line with this key, whose compiler has these effects.
@@ -140,17 +151,16 @@ fn under_effects(
     alloc: Global,
     parsed: &ParsedArguments,
     effects: &[Effect],
-    key: Vec<Part>,
-    direct: Vec<Direct>,
+    key: Key,
 ) -> Mem<Keeping>
-    ensures { IfOk result (λ kept. keeping_told kept ≡ keeping_by (barred effects.now) (parts_of key.items ++ parts_told (view_of (made_paths (parsed_of parsed.now))) effects.now) (directs_of direct.items)) }
+    ensures { IfOk result (λ kept. keeping_told kept ≡ keeping_by (barred effects.now) (key_with (parsed_of parsed.now) effects.now (key_told key))) }
 {
     let why = barred(alloc, effects)?;
     if !why.is_empty() {
         return Ok(Keeping::Not(why));
     }
     let key = key_with(alloc, parsed, effects, key)?;
-    Ok(Keeping::Under(key, direct))
+    Ok(Keeping::Under(key))
 }
 
 /// What is said of a command line with this record whose compiler has these effects: its key has the files that are read and
@@ -164,7 +174,7 @@ pub fn with_effects(
     ensures { IfOk result (λ kept. keeping_told kept ≡ with_effects (parsed_of parsed.now) effects.now (keeping_told keeping)) }
 {
     match keeping {
-        Keeping::Under(key, direct) => under_effects(alloc, parsed, effects, key, direct),
+        Keeping::Under(key) => under_effects(alloc, parsed, effects, key),
         Keeping::Not(why) => Ok(Keeping::Not(why)),
     }
 }

@@ -67,7 +67,8 @@ pub(crate) fn is_gnu(compiler: Compiler) -> bool
     is_gcc(compiler) || is_clang(compiler)
 }
 
-pub(crate) fn is_gcc(compiler: Compiler) -> bool
+/// Whether it is a driver of Gcc.
+pub fn is_gcc(compiler: Compiler) -> bool
     ensures { result ≡ is_gcc compiler }
 {
     match compiler {
@@ -81,7 +82,8 @@ pub(crate) fn is_gcc(compiler: Compiler) -> bool
     }
 }
 
-pub(crate) fn is_clang(compiler: Compiler) -> bool
+/// Whether it is a driver of Clang.
+pub fn is_clang(compiler: Compiler) -> bool
     ensures { result ≡ is_clang compiler }
 {
     match compiler {

@@ -4,27 +4,25 @@ ghost use Rattle.std.specs.List.{list_all};
 ghost use Rattle.scl_values.specs.Words.{words_of};
 ghost use Rattle.scl_text.specs.Commands.{pairs_of};
 ghost use Rattle.scl_text.specs.Records.{parsed_of};
-ghost use Rattle.scl_description.specs.Rows.{entries_text};
-ghost use Rattle.scl_key.specs.Directs.{direct_entries, directs};
 ghost use Rattle.scl_key.specs.Effects.{is_plain, judged_in};
 ghost use Rattle.scl_key.specs.Given.{given_in, has_macros, headers, shows};
 ghost use Rattle.scl_key.specs.GivenViews.{all_given};
 ghost use Rattle.scl_key.specs.JudgedViews.{all_judged};
-ghost use Rattle.scl_key.specs.Keys.{asked_each, asked_parts, assembler_reading, file_parts, keeping_entries, key_of, keeping_of, named_each, precompiled_parts, reading, refusals, response_files, searched, stamps_times, telling_of, text_parts, under};
+ghost use Rattle.scl_key.specs.Keys.{asked_each, asked_parts, assembler_reading, file_parts, key_of, keeping_of, named_each, precompiled_parts, reading, refusals, response_files, searched, stamps_times, telling_of, text_parts, under, whole_key};
 ghost use Rattle.scl_key.specs.Made.{made};
-ghost use Rattle.scl_key.specs.Parts.{asked, key_entries, output, sources, times};
+ghost use Rattle.scl_key.specs.Parts.{asked, output, sources, times};
 ghost use Rattle.scl_key.specs.Runs.{is_assembler};
-ghost use Rattle.scl_key.specs.Views.{directs_of, outputs_of, parts_of, run_words_of};
+ghost use Rattle.scl_key.specs.Views.{outputs_of, parts_of, run_words_of};
 ghost use Rattle.scl_key.specs.Views.{keeping_of as keeping_told};
 ghost use Rattle.scl_key.specs.declared.part.Ask.TheVariants as Ask;
 
-use crate::direct::{Direct, directs, push_directs};
+use crate::direct::{Direct, directs};
 use crate::effect::Judged;
 use crate::family::{folder_variables, is_clang, is_gcc, unset_variables, variables};
 use crate::given::{Brings, Given, Known, known_of, values_among};
 use crate::made::made;
-use crate::no_key::{NoKey, no_keys, push_no_rows};
-use crate::part::{Ask, Output, Part, push_key};
+use crate::no_key::{NoKey, no_keys};
+use crate::part::{Ask, Output, Part};
 use crate::reads::files_perhaps;
 use crate::runs::{is_among, is_assembler, is_header, push_plans, push_runs};
 use crate::told::{RunWords, push_told};
@@ -35,11 +33,22 @@ use scl_text::language::Language;
 use scl_text::records::ParsedArguments;
 use std::alloc::Global;
 
+/// A key, with what direct mode needs, if it may be used.
+#[derive(Debug, PartialEq, Eq, Drop)]
+pub struct Key {
+    /// Whether each run shows all that the words of the preprocessor bring in.
+    pub is_shown: bool,
+    /// What is hashed, and what is asked and hashed.
+    pub parts: Vec<Part>,
+    /// What direct mode needs; nothing if it may not be used.
+    pub direct: Vec<Direct>,
+}
+
 /// What is said of keeping what a command line makes (docs/RULES.md, Keys).
 #[derive(Debug, PartialEq, Eq, Drop)]
 pub enum Keeping {
-    /// It may be kept, under this key; with what direct mode needs, if it may be used.
-    Under(Vec<Part>, Vec<Direct>),
+    /// It may be kept, under this key.
+    Under(Key),
     /// No key can be right, for these reasons.
     Not(Vec<NoKey>),
 }
@@ -392,11 +401,15 @@ fn kept(
     requires macros { known.now.has_macros ≡ has_macros (parsed_of parsed.now) }
     requires shown { known.now.is_shown ≡ shows compiler (parsed_of parsed.now) }
     requires outputs { outputs_of outputs.now ≡ made (parsed_of parsed.now) }
-    ensures { IfOk result (λ keeping. keeping_told keeping ≡ under (key_of compiler (pairs_of environment.now) (run_words_of words.entry) (parsed_of parsed.now)) (directs compiler (parsed_of parsed.now))) }
+    ensures { IfOk result (λ keeping. keeping_told keeping ≡ under (whole_key compiler (pairs_of environment.now) (run_words_of words.entry) (parsed_of parsed.now))) }
 {
-    let key = key_with(alloc, compiler, environment, words, known, parsed, outputs)?;
+    let parts = key_with(alloc, compiler, environment, words, known, parsed, outputs)?;
     let direct = directs(alloc, compiler, known, parsed)?;
-    Ok(Keeping::Under(key, direct))
+    Ok(Keeping::Under(Key {
+        is_shown: known.is_shown,
+        parts,
+        direct,
+    }))
 }
 
 /// The key of a record, with these outputs, or why there is none.
@@ -447,22 +460,4 @@ pub fn key_of(
         &outputs,
     )?;
     Ok(keeping)
-}
-
-/// Appends the rows of a key, and those of direct mode.
-fn push_under(text: &mut Vec<u8>, key: &[Part], direct: &[Direct]) -> Mem<()>
-    ensures { OnOk result (text.new.items ≡ text.old.items ++ entries_text (key_entries (parts_of key.now) ++ direct_entries (directs_of direct.now))) }
-{
-    push_key(text, key)?;
-    push_directs(text, direct)
-}
-
-/// Appends the rows of a key, `key ..` and `direct ..`, or of why there is none, `keep no REASON W`.
-pub fn push_keeping(text: &mut Vec<u8>, keeping: &Keeping) -> Mem<()>
-    ensures { OnOk result (text.new.items ≡ text.old.items ++ entries_text (keeping_entries (keeping_told keeping.now))) }
-{
-    match keeping {
-        Keeping::Under(key, direct) => push_under(text, key, direct),
-        Keeping::Not(why) => push_no_rows(text, why),
-    }
 }

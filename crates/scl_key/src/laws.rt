@@ -1,5 +1,13 @@
 //! Laws of the definitions of keys, each a clause of a function that does nothing.
+ghost use Rattle.std.specs.Prelude.{◌≡◌, true};
 ghost use Rattle.scl_key.specs.Laws.{DirectHitsAreRight, HitsAreRight, KeysDecideCommands, KeysReadBack};
+ghost use Rattle.scl_key.specs.contracts.given.BringsPartialEq.TheImpl as brought;
+ghost use Rattle.scl_key.specs.declared.given.Brings.{Brings};
+
+/// The law of `==`: what words bring in is one where it is equal.
+pub fn of_equality()
+    ensures brought_are_told_apart { (a b : Brings) → brought.ghosts.eq a b ≡ true → a ≡ b }
+{}
 
 /// Laws of keys (docs/RULES.md, Keys):
 ///

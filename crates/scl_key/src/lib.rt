@@ -15,11 +15,12 @@ mod reads;
 mod runs;
 mod told;
 
-pub use direct::Direct;
+pub use direct::{Direct, push_directs};
 pub use doings::with_effects;
 pub use effect::Effect;
+pub use family::{is_clang, is_gcc};
 pub use given::Brings;
-pub use key::{Keeping, key_of, push_keeping};
-pub use no_key::{NoKey, Reason};
+pub use key::{Keeping, Key, key_of};
+pub use no_key::{NoKey, Reason, push_no_rows};
 pub use part::{Ask, Output, Part, push_key};
 pub use told::RunWords;

@@ -415,7 +415,7 @@ fn push_no_row(text: &mut Vec<u8>, why: &NoKey) -> Mem<()>
 }
 
 /// Appends a row `keep no REASON W` for each reason.
-pub(crate) fn push_no_rows(text: &mut Vec<u8>, why: &[NoKey]) -> Mem<()>
+pub fn push_no_rows(text: &mut Vec<u8>, why: &[NoKey]) -> Mem<()>
     ensures { OnOk result (text.new.items ≡ text.old.items ++ entries_text (map no_key_entry (no_keys_of why.now))) }
 {
     for one in why {

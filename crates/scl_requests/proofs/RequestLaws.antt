@@ -1,6 +1,5 @@
 -- What is answered by the kind that the first line says.
-use Rattle.std.proofs.Common.{◌≡◌, ℕ, List, Result, Ok, Err, Vec, MatchResult, drop, subst, sym, ap, refl}
-use Rattle.std.specs.List.{list_any}
+use Rattle.std.proofs.Common.{◌≡◌, ℕ, List, Result, Ok, Err, Vec, MatchResult, drop, subst, sym}
 use Rattle.std.specs.declared.alloc.Global.{Global}
 use Rattle.scl_description.specs.Lines.{lines_of}
 use Rattle.scl_describe.specs.Descriptions.{DescribesBytes}
@@ -10,17 +9,12 @@ use Rattle.scl_requests.specs.Joining.{joined}
 use Rattle.scl_requests.specs.Making.{made_by}
 use Rattle.scl_requests.specs.Mapping.{mapped}
 use Rattle.scl_requests.specs.Naming.{named}
-use Rattle.scl_requests.specs.Requests.{AnswersBy, AnswersBytes, kind_of, shared_by, told_by}
+use Rattle.scl_requests.specs.Requests.{AnswersBy, AnswersBytes, kind_of}
 use Rattle.scl_requests.specs.declared.requests.Kind.{Kind}
 use Rattle.scl_requests.specs.declared.requests.Kind.TheVariants as kinds
-use Rattle.scl_shared_text.specs.BaseLines.{bases_in, is_keep_shown}
 
 by_kind : (kind : Kind) (tables : Tables) (bytes : List ℕ) (said : Result (List ℕ) ℕ) → kind_of (lines_of bytes) ≡ kind → AnswersBy kind tables bytes said → AnswersBytes tables bytes said
 by_kind kind tables bytes said is h = subst (λ k. AnswersBy k tables bytes said) (sym is) h
-
-shared : (tables : Tables) (bytes : List ℕ) (said described : Result (List ℕ) ℕ) → kind_of (lines_of bytes) ≡ kinds.Description → DescribesBytes tables bytes described
-    → said ≡ shared_by (bases_in (lines_of bytes)) (list_any is_keep_shown (lines_of bytes)) described → AnswersBytes tables bytes said
-shared tables bytes said described is h e = by_kind kinds.Description tables bytes said is (record { described = described; describes = h; said_is = e })
 
 -- ---- what the code answers
 
@@ -30,13 +24,11 @@ pub name_said : (tables : Tables) (bytes : List ℕ) (said : Result (Vec ℕ Glo
 name_said tables bytes (Ok text) is h = by_kind kinds.Name tables bytes (Ok text.items) is h
 name_said tables bytes (Err number) is h = by_kind kinds.Name tables bytes (Err number) is h
 
-pub text_said : (tables : Tables) (bytes text told : List ℕ) → kind_of (lines_of bytes) ≡ kinds.Description → DescribesBytes tables bytes (Ok text)
-    → told ≡ told_by (bases_in (lines_of bytes)) (list_any is_keep_shown (lines_of bytes)) text → AnswersBytes tables bytes (Ok told)
-text_said tables bytes text told is h e = shared tables bytes (Ok told) (Ok text) is h (ap Ok e)
-
-pub number_said : (tables : Tables) (bytes : List ℕ) (number : ℕ) → kind_of (lines_of bytes) ≡ kinds.Description → DescribesBytes tables bytes (Err number)
-    → AnswersBytes tables bytes (Err number)
-number_said tables bytes number is h = shared tables bytes (Err number) (Err number) is h refl
+pub description_said : (tables : Tables) (bytes : List ℕ) (said : Result (Vec ℕ Global) ℕ) → kind_of (lines_of bytes) ≡ kinds.Description
+    → MatchResult said (λ text. DescribesBytes tables bytes (Ok text.items)) (λ number. DescribesBytes tables bytes (Err number))
+    → MatchResult said (λ text. AnswersBytes tables bytes (Ok text.items)) (λ number. AnswersBytes tables bytes (Err number))
+description_said tables bytes (Ok text) is h = by_kind kinds.Description tables bytes (Ok text.items) is h
+description_said tables bytes (Err number) is h = by_kind kinds.Description tables bytes (Err number) is h
 
 pub join_said : (tables : Tables) (bytes : List ℕ) (lines : List (List ℕ)) (said : Result (Vec ℕ Global) ℕ) → kind_of (lines_of bytes) ≡ kinds.Join → lines ≡ drop 1 (lines_of bytes)
     → MatchResult said (λ text. joined lines ≡ Ok text.items) (λ number. joined lines ≡ Err number)

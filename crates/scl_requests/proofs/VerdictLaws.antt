@@ -1,5 +1,5 @@
 -- What makes the verdicts of two checkouts equal.
-use Rattle.std.proofs.Common.{◌≡◌, ◌≢◌, ℕ, nat_eq, ◌==◌, ◌&&◌, ◌||◌, not, Bool, true, false, cond, List, [], ◌∷◌, ◌++◌, codes, filter, find, length, map, Option, Some, None, refl, sym, ap, subst, ◌∙◌, arith, ◌⊎◌, inl, inr}
+use Rattle.std.proofs.Common.{◌≡◌, ◌≢◌, ℕ, nat_eq, ◌==◌, ◌&&◌, ◌||◌, not, Bool, true, false, cond, List, [], ◌∷◌, ◌++◌, find, length, map, Option, Some, None, refl, sym, ap, subst, ◌∙◌, arith, ◌⊎◌, inl, inr}
 use Rattle.std.proofs.lemmas.Bool.{and_parts, and_right, cases_Bool, false≢true, ne_eqb, not-true}
 use Rattle.std.proofs.lemmas.Bool.Decides.{Decides-eqb}
 use Rattle.std.proofs.lemmas.List.{drop_at}
@@ -12,16 +12,15 @@ use Rattle.scl_base_dirs.specs.Bases.{placed, base_of, ends_component, fits}
 use Rattle.scl_base_dirs.specs.Cuts.{has_none}
 use Rattle.scl_shared_key.specs.declared.naming.Naming.{Naming}
 use Rattle.scl_shared_key.specs.declared.naming.Naming.TheVariants.{Anything}
-use Rattle.scl_shared_key.specs.declared.verdict.InObject.{InObject}
-use Rattle.scl_shared_key.specs.declared.verdict.InObject.TheVariants.{No, Yes}
+use Rattle.scl_shared_key.specs.declared.said.InObject.{InObject}
+use Rattle.scl_shared_key.specs.declared.said.InObject.TheVariants.{No, Yes, Mapped}
 use Rattle.scl_shared_key.specs.Fields.{flags, value_at}
 use Rattle.scl_shared_key.specs.Maps.{debug_info_is_free, macros_are_free, maps_among}
 use Rattle.scl_shared_key.specs.Namings.{Row, fronts, whole_words, whole_naming, front_naming, naming_of, is_anything, is_debug_info}
-use Rattle.scl_shared_key.specs.Rows.{row_naming, words_told, may_name_anything, has_debug_info, says, is_said, is_by_gcc, maps_reach, compiles_shown_text}
-use Rattle.scl_shared_key.specs.Shareds.{names_shown}
+use Rattle.scl_shared_key.specs.Objects.{Object, has_debug_info, maps_reach, may_name_anything}
 use Rattle.scl_shared_key.specs.Usuals.{are_usual}
-use Rattle.scl_shared_key.specs.Verdicts.{verdict, verdict_of_debug_info}
-use Rattle.scl_requests.specs.SharedLaws.{Path, below, beside, path_at, place_at, IsPathOf, OneBaseSuffices, FrontsTell, is_heard, is_heard_row, AreHeardAlike, RowsHeardAlikeSayTheSame}
+use Rattle.scl_shared_key.specs.Verdicts.{Verdict, named_in, names_planned, names_shown}
+use Rattle.scl_requests.specs.SharedLaws.{Path, below, beside, path_at, place_at, IsPathOf, OneBaseSuffices, FrontsTell, AreMadeAlike, ObjectsMadeAlikeSayTheSame}
 
 -- ---- one base
 
@@ -117,35 +116,14 @@ naming_alike front one other =
 pub fronts_tell : FrontsTell
 fronts_tell = λ front one other. (value_alike front one other, naming_alike front one other)
 
--- ---- what is heard
+-- ---- objects
 
-heard_name : (name wanted : List ℕ) → is_heard wanted ≡ true → bytes_eq name wanted ≡ true → is_heard name ≡ true
-heard_name name wanted h e = ap is_heard ((bytes_eq-Decides name wanted).0 e) ∙ h
+any_naming : (test : Naming → Bool) (words : List (List ℕ)) → list_any (λ word. test (naming_of word)) words ≡ list_any test (map naming_of words)
+any_naming test [] = refl
+any_naming test (word ∷ words) = ap (λ (b : Bool). test (naming_of word) || b) (any_naming test words)
 
-unheard_parts : (is heard named valued : Bool) → (is && heard) ≡ false → (named ≡ true → heard ≡ true) → (is && (named && valued)) ≡ false
-unheard_parts false heard named valued h k = refl
-unheard_parts true heard false valued h k = refl
-unheard_parts true heard true valued h k = absurd (false≢true (sym h ∙ k refl))
-
-unheard_says : (name value : List ℕ) (row : List (List ℕ)) → is_heard name ≡ true → is_heard_row row ≡ false → says name value row ≡ false
-unheard_says name value [] h unheard = refl
-unheard_says name value (kind ∷ []) h unheard = refl
-unheard_says name value (kind ∷ fact ∷ []) h unheard = refl
-unheard_says name value (kind ∷ fact ∷ said ∷ rest) h unheard = unheard_parts (bytes_eq kind (codes "is")) (is_heard fact) (bytes_eq fact name) (bytes_eq said value) unheard (heard_name fact name h)
-
-said_by : (name value : List ℕ) (row : List (List ℕ)) (rows : List (List (List ℕ))) → is_heard name ≡ true → (is_heard_row row ≡ true) ⊎ (is_heard_row row ≡ false)
-    → is_said name value rows ≡ is_said name value (filter is_heard_row rows) → is_said name value (row ∷ rows) ≡ is_said name value (filter is_heard_row (row ∷ rows))
-said_by name value row rows h (inl passes) e = ap (λ (b : Bool). says name value row || b) e ∙ ap (λ (b : Bool). is_said name value (cond b (row ∷ filter is_heard_row rows) (filter is_heard_row rows))) (sym passes)
-said_by name value row rows h (inr fails) e =
-    ap (λ (b : Bool). b || is_said name value rows) (unheard_says name value row h fails) ∙ e
-    ∙ ap (λ (b : Bool). is_said name value (cond b (row ∷ filter is_heard_row rows) (filter is_heard_row rows))) (sym fails)
-
-said_heard : (name value : List ℕ) (rows : List (List (List ℕ))) → is_heard name ≡ true → is_said name value rows ≡ is_said name value (filter is_heard_row rows)
-said_heard name value [] h = refl
-said_heard name value (row ∷ rows) h = said_by name value row rows h (cases_Bool (is_heard_row row)) (said_heard name value rows h)
-
-said_alike : (name value : List ℕ) (rows rows' : List (List (List ℕ))) → is_heard name ≡ true → filter is_heard_row rows ≡ filter is_heard_row rows' → is_said name value rows ≡ is_said name value rows'
-said_alike name value rows rows' h e = said_heard name value rows h ∙ ap (is_said name value) e ∙ sym (said_heard name value rows' h)
+any_alike : (test : Naming → Bool) (words words' : List (List ℕ)) → map naming_of words ≡ map naming_of words' → list_any (λ word. test (naming_of word)) words ≡ list_any (λ word. test (naming_of word)) words'
+any_alike test words words' e = any_naming test words ∙ ap (list_any test) e ∙ sym (any_naming test words')
 
 either_alike : (a b c d : Bool) → a ≡ c → b ≡ d → (a || b) ≡ (c || d)
 either_alike a b c d h k = ap (λ (x : Bool). x || b) h ∙ ap (λ (x : Bool). c || x) k
@@ -153,47 +131,31 @@ either_alike a b c d h k = ap (λ (x : Bool). x || b) h ∙ ap (λ (x : Bool). c
 both_alike : (a b c d : Bool) → a ≡ c → b ≡ d → (a && b) ≡ (c && d)
 both_alike a b c d h k = ap (λ (x : Bool). x && b) h ∙ ap (λ (x : Bool). c && x) k
 
-gcc_alike : (rows rows' : List (List (List ℕ))) → filter is_heard_row rows ≡ filter is_heard_row rows' → is_by_gcc rows ≡ is_by_gcc rows'
-gcc_alike rows rows' e = either_alike _ _ _ _ (said_alike (codes "compiler") (codes "gcc") rows rows' refl e) (said_alike (codes "compiler") (codes "g++") rows rows' refl e)
+-- what is named by what is looked at
+abbrev named_from : (known debug free : Bool) → InObject
+named_from known debug free = cond known (cond debug (cond free Mapped Yes) No) Yes
 
-reach_alike : (rows rows' : List (List (List ℕ))) → filter is_heard_row rows ≡ filter is_heard_row rows' → maps_reach rows ≡ maps_reach rows'
-reach_alike rows rows' e = either_alike _ _ _ _ (gcc_alike rows rows' e) (said_alike (codes "language") (codes "C") rows rows' refl e)
+abbrev said_from : InObject → (gcc free : Bool) → Verdict
+said_from named gcc free = record { in_object = named; shown = names_shown gcc free; planned = names_planned named }
 
-shown_alike : (rows rows' : List (List (List ℕ))) → filter is_heard_row rows ≡ filter is_heard_row rows' → compiles_shown_text rows ≡ compiles_shown_text rows'
-shown_alike rows rows' e =
-    both_alike _ _ _ _ (said_alike (codes "shown") (codes "yes") rows rows' refl e)
-    (both_alike _ _ _ _ (said_alike (codes "compilation-flag") (codes "-c") rows rows' refl e)
-    (either_alike _ _ _ _ (said_alike (codes "language") (codes "C") rows rows' refl e) (said_alike (codes "language") (codes "Cxx") rows rows' refl e)))
+named_alike : (dirs others : List (List ℕ)) (o o' : Object) → AreMadeAlike dirs others o o' → named_in dirs o ≡ named_in others o'
+named_alike dirs others o o' h =
+    let anything = either_alike (not o.is_alone) _ (not o'.is_alone) _ (ap not h.alone) (any_alike is_anything o.words o'.words h.namings) in
+    let known = both_alike (are_usual dirs) _ (are_usual others) _ h.usual (both_alike o.is_of_shown_text _ o'.is_of_shown_text _ h.of_shown_text (ap not anything)) in
+    let known' = are_usual others && (o'.is_of_shown_text && not (may_name_anything o')) in
+    let free = both_alike (maps_reach o) _ (maps_reach o') _ (either_alike o.is_by_gcc _ o'.is_by_gcc _ h.by_gcc h.of_c) h.debug_info in
+    let left = maps_reach o && debug_info_is_free dirs (maps_among o.words) in
+    ap (λ (b : Bool). named_from b (has_debug_info o) left) known
+    ∙ ap (λ (b : Bool). named_from known' b left) (any_alike is_debug_info o.words o'.words h.namings)
+    ∙ ap (named_from known' (has_debug_info o')) free
 
-any_naming : (test : Naming → Bool) (rows : List (List (List ℕ))) → list_any (λ row. test (row_naming row)) rows ≡ list_any test (map row_naming rows)
-any_naming test [] = refl
-any_naming test (row ∷ rows) = ap (λ (b : Bool). test (row_naming row) || b) (any_naming test rows)
-
-any_alike : (test : Naming → Bool) (rows rows' : List (List (List ℕ))) → map row_naming rows ≡ map row_naming rows'
-    → list_any (λ row. test (row_naming row)) rows ≡ list_any (λ row. test (row_naming row)) rows'
-any_alike test rows rows' e = any_naming test rows ∙ ap (list_any test) e ∙ sym (any_naming test rows')
-
--- the verdict by what it looks at
-abbrev verdict_from : (may debug reach free : Bool) → InObject
-verdict_from may debug reach free = cond may (cond debug (verdict_of_debug_info (reach && free)) No) Yes
-
-pub verdicts_alike : (dirs others : List (List ℕ)) (rows rows' : List (List (List ℕ))) → AreHeardAlike dirs others rows rows' → verdict dirs rows ≡ verdict others rows'
-verdicts_alike dirs others rows rows' h =
-    let named = any_alike is_anything rows rows' h.namings in
-    let debug = any_alike is_debug_info rows rows' h.namings in
-    let free = debug_info_is_free dirs (maps_among (words_told rows)) in
-    let may = both_alike (are_usual dirs) _ (are_usual others) _ h.usual (both_alike (compiles_shown_text rows) _ (compiles_shown_text rows') _ (shown_alike rows rows' h.facts) (ap not named)) in
-    let may' = are_usual others && (compiles_shown_text rows' && not (may_name_anything rows')) in
-    ap (λ (b : Bool). verdict_from b (has_debug_info rows) (maps_reach rows) free) may
-    ∙ ap (λ (b : Bool). verdict_from may' b (maps_reach rows) free) debug
-    ∙ ap (λ (b : Bool). verdict_from may' (has_debug_info rows') b free) (reach_alike rows rows' h.facts)
-    ∙ ap (λ (b : Bool). verdict_from may' (has_debug_info rows') (maps_reach rows') b) h.debug_info
-
-pub rows_heard_alike_say_the_same : RowsHeardAlikeSayTheSame
-rows_heard_alike_say_the_same = λ dirs others rows rows' h named. record {
-  verdicts = verdicts_alike dirs others rows rows' h;
-  names_none = named;
-  shown = ap (λ (gcc : Bool). names_shown gcc (macros_are_free dirs (maps_among (words_told rows)))) (gcc_alike rows rows' h.facts) ∙ ap (names_shown (is_by_gcc rows')) h.macros;
+pub objects_made_alike_say_the_same : ObjectsMadeAlikeSayTheSame
+objects_made_alike_say_the_same = λ dirs others o o' h none. record {
+  verdicts =
+      ap (λ (named : InObject). said_from named o.is_by_gcc (macros_are_free dirs (maps_among o.words))) (named_alike dirs others o o' h)
+      ∙ ap (λ (gcc : Bool). said_from (named_in others o') gcc (macros_are_free dirs (maps_among o.words))) h.by_gcc
+      ∙ ap (said_from (named_in others o') o'.is_by_gcc) h.macros;
+  name_none = none;
 }
 
-pub ruleset verdict_laws = (one_base_suffices, fronts_tell, rows_heard_alike_say_the_same)
+pub ruleset verdict_laws = (one_base_suffices, fronts_tell, objects_made_alike_say_the_same)

@@ -1,6 +1,5 @@
 -- What may be answered to the bytes of a request, whose first line says its kind.
-use Rattle.std.specs.Prelude.{◌≡◌, ℕ, Bool, true, false, List, [], ◌∷◌, codes, drop, Result, Ok, Err, if◌then◌else◌}
-use Rattle.std.specs.List.{list_any}
+use Rattle.std.specs.Prelude.{◌≡◌, ℕ, Bool, true, false, List, [], ◌∷◌, codes, drop, Result, if◌then◌else◌}
 use Rattle.std.specs.Str.{bytes_eq}
 use Rattle.scl_description.specs.Lines.{lines_of}
 use Rattle.scl_describe.specs.Descriptions.{DescribesBytes}
@@ -12,9 +11,6 @@ use Rattle.scl_requests.specs.Mapping.{mapped}
 use Rattle.scl_requests.specs.Naming.{named}
 use Rattle.scl_requests.specs.declared.requests.Kind.{Kind}
 use Rattle.scl_requests.specs.declared.requests.Kind.TheVariants as kinds
-use Rattle.scl_shared_text.specs.BaseLines.{bases_in, is_keep_shown}
-use Rattle.scl_shared_text.specs.SharedTexts.{shared_text}
-use Rattle.scl_shared_text.specs.ShownTexts.{shown_text}
 
 -- whether a description is asked
 abbrev pub is_described : Kind → Bool
@@ -38,27 +34,13 @@ abbrev pub kind_of : List (List ℕ) → Kind
 kind_of [] = kinds.Description
 kind_of (line ∷ lines) = kind_in line
 
--- a description whose key is told by base directories, with the macros of the command at its end or where they are
-abbrev pub told_by : List (List ℕ) → (keep : Bool) → List ℕ → List ℕ
-told_by dirs keep text = shown_text keep (shared_text dirs text)
-
-abbrev pub shared_by : List (List ℕ) → (keep : Bool) → Result (List ℕ) ℕ → Result (List ℕ) ℕ
-shared_by dirs keep (Ok text) = Ok (told_by dirs keep text)
-shared_by dirs keep (Err number) = Err number
-
--- What is said is a description whose key is told as the lines say.
-pub record IsShared (tables : Tables) (bytes : List ℕ) (said : Result (List ℕ) ℕ) : Type 0 where
-  pub described : Result (List ℕ) ℕ
-  pub describes : DescribesBytes tables bytes described
-  pub said_is : said ≡ shared_by (bases_in (lines_of bytes)) (list_any is_keep_shown (lines_of bytes)) described
-
 abbrev pub AnswersBy : Kind → Tables → List ℕ → Result (List ℕ) ℕ → Type 0
 AnswersBy kinds.Name tables bytes said = named (lines_of bytes) ≡ said
 AnswersBy kinds.Join tables bytes said = joined (drop 1 (lines_of bytes)) ≡ said
 AnswersBy kinds.Map tables bytes said = mapped (drop 1 (lines_of bytes)) ≡ said
 AnswersBy kinds.Depfile tables bytes said = IsSaid (drop 1 (lines_of bytes)) said
 AnswersBy kinds.MadeBy tables bytes said = made_by (drop 1 (lines_of bytes)) ≡ said
-AnswersBy kinds.Description tables bytes said = IsShared tables bytes said
+AnswersBy kinds.Description tables bytes said = DescribesBytes tables bytes said
 
 -- what a program's name means, the text of joined runs, a mapped text, a dependency file, which release answers, or a
 -- description

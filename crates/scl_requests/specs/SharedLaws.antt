@@ -1,19 +1,18 @@
 -- Keys of two checkouts that differ in their base directories alone.
-use Rattle.std.specs.Prelude.{◌≡◌, ◌≢◌, ℕ, Bool, true, false, ◌&&◌, ◌||◌, List, [], ◌∷◌, ◌++◌, codes, filter, length, map, Option, None, Some, slice_index_or}
+use Rattle.std.specs.Prelude.{◌≡◌, ◌≢◌, ℕ, true, false, List, [], ◌∷◌, ◌++◌, length, map, Option, None, Some, slice_index_or}
 use Rattle.std.specs.List.{join_with_byte}
-use Rattle.std.specs.Str.{bytes_eq}
 use Rattle.scl_values.specs.Each.{Each}
 use Rattle.scl_base_dirs.specs.declared.spelling.Spelling.TheVariants as spelled
 use Rattle.scl_base_dirs.specs.Bases.{Place, base_of, ends_component, fits, placed}
 use Rattle.scl_base_dirs.specs.Cuts.{has_none}
-use Rattle.scl_shared_key.specs.declared.verdict.InObject.TheVariants.{Yes}
+use Rattle.scl_key.specs.Parts.{fields}
 use Rattle.scl_shared_key.specs.Fields.{told_rows, value_at}
 use Rattle.scl_shared_key.specs.Maps.{debug_info_is_free, macros_are_free, maps_among}
 use Rattle.scl_shared_key.specs.Namings.{naming_of}
-use Rattle.scl_shared_key.specs.Rows.{row_naming, words_told}
-use Rattle.scl_shared_key.specs.Shareds.{shared_rows, shown_by}
+use Rattle.scl_shared_key.specs.Objects.{Object}
 use Rattle.scl_shared_key.specs.Usuals.{are_usual}
 use Rattle.scl_shared_key.specs.Verdicts.{verdict}
+use Rattle.scl_delivered.specs.Delivered.{Delivered, names_none, told_by}
 
 -- a path of any checkout: what follows the base with a number, or a path that is below no base
 pub data Path : Type 0 where
@@ -67,20 +66,28 @@ abbrev pub RowsAreToldAlike : Type 0
 RowsAreToldAlike =
     (dirs others : List (List ℕ)) (rows : List (List Field)) → AreRowsAt dirs rows → AreRowsAt others rows → told_rows dirs (rows_at dirs rows) ≡ told_rows others (rows_at others rows)
 
--- Rows of two checkouts say the same of the object: whether it names a directory, which it does not, and what in a text names a source.
-pub record SayTheSame (dirs others : List (List ℕ)) (rows rows' : List (List (List ℕ))) : Type 0 where
-  pub verdicts : verdict dirs rows ≡ verdict others rows'
-  pub names_none : verdict dirs rows ≢ Yes
-  pub shown : shown_by dirs rows ≡ shown_by others rows'
+-- ---- keys
 
--- keys that differ in the bases alone are one key
+-- What is said of the objects of two checkouts is the same, and they name no directory.
+pub record SayTheSame (dirs others : List (List ℕ)) (o o' : Object) : Type 0 where
+  pub verdicts : verdict dirs o ≡ verdict others o'
+  pub name_none : names_none (verdict dirs o).in_object ≡ true
+
+-- In this checkout the rows of a key are these, and the macros at its end are.
+pub record HasRowsAt (dirs : List (List ℕ)) (rows : List (List Field)) (macros : List Field) (d : Delivered) : Type 0 where
+  pub parts : map fields d.parts ≡ rows_at dirs rows
+  pub shown : d.shown ≡ map (field_at dirs) macros
+  pub are_rows : AreRowsAt dirs rows
+  pub are_macros : Each (IsFieldAt dirs) macros
+
+-- keys that differ in the bases alone are told as one key
 abbrev pub OnlyTheBasesDiffer : Type 0
 OnlyTheBasesDiffer =
-    (dirs others : List (List ℕ)) (rows : List (List Field))
-    → AreRowsAt dirs rows → AreRowsAt others rows → SayTheSame dirs others (rows_at dirs rows) (rows_at others rows)
-    → shared_rows dirs (rows_at dirs rows) ≡ shared_rows others (rows_at others rows)
+    (dirs others : List (List ℕ)) (rows : List (List Field)) (macros : List Field) (o o' : Object) (d d' : Delivered)
+    → HasRowsAt dirs rows macros d → HasRowsAt others rows macros d' → SayTheSame dirs others o o'
+    → told_by dirs (verdict dirs o) d ≡ told_by others (verdict others o') d'
 
--- ---- when a path is one of a checkout, and when rows say the same
+-- ---- when a path is one of a checkout, and when objects say the same
 
 -- with one base: behind it a component ends, and a path that is below none does not fit it
 abbrev pub IsPathOf : List ℕ → Path → Type 0
@@ -98,24 +105,17 @@ FrontsTell =
     (front one other : List ℕ)
     → (value_at (front ++ 0x2f ∷ one) ≡ value_at (front ++ 0x2f ∷ other)) × (naming_of (front ++ 0x2f ∷ one) ≡ naming_of (front ++ 0x2f ∷ other))
 
--- a fact with this name says what is compiled, and by what
-abbrev pub is_heard : List ℕ → Bool
-is_heard name = bytes_eq name (codes "compiler") || (bytes_eq name (codes "language") || (bytes_eq name (codes "shown") || bytes_eq name (codes "compilation-flag")))
-
-abbrev pub is_heard_row : List (List ℕ) → Bool
-is_heard_row [] = false
-is_heard_row (kind ∷ []) = false
-is_heard_row (kind ∷ name ∷ []) = false
-is_heard_row (kind ∷ name ∷ value ∷ rest) = bytes_eq kind (codes "is") && is_heard name
-
--- what makes verdicts equal: what is compiled, what each row makes the object name, and what the prefix maps leave
-pub record AreHeardAlike (dirs others : List (List ℕ)) (rows rows' : List (List (List ℕ))) : Type 0 where
+-- what makes verdicts equal: how an object is made, what each word makes it name, and what the prefix maps leave
+pub record AreMadeAlike (dirs others : List (List ℕ)) (o o' : Object) : Type 0 where
   pub usual : are_usual dirs ≡ are_usual others
-  pub facts : filter is_heard_row rows ≡ filter is_heard_row rows'
-  pub namings : map row_naming rows ≡ map row_naming rows'
-  pub debug_info : debug_info_is_free dirs (maps_among (words_told rows)) ≡ debug_info_is_free others (maps_among (words_told rows'))
-  pub macros : macros_are_free dirs (maps_among (words_told rows)) ≡ macros_are_free others (maps_among (words_told rows'))
+  pub by_gcc : o.is_by_gcc ≡ o'.is_by_gcc
+  pub of_c : o.is_of_c ≡ o'.is_of_c
+  pub of_shown_text : o.is_of_shown_text ≡ o'.is_of_shown_text
+  pub alone : o.is_alone ≡ o'.is_alone
+  pub namings : map naming_of o.words ≡ map naming_of o'.words
+  pub debug_info : debug_info_is_free dirs (maps_among o.words) ≡ debug_info_is_free others (maps_among o'.words)
+  pub macros : macros_are_free dirs (maps_among o.words) ≡ macros_are_free others (maps_among o'.words)
 
-abbrev pub RowsHeardAlikeSayTheSame : Type 0
-RowsHeardAlikeSayTheSame =
-    (dirs others : List (List ℕ)) (rows rows' : List (List (List ℕ))) → AreHeardAlike dirs others rows rows' → verdict dirs rows ≢ Yes → SayTheSame dirs others rows rows'
+abbrev pub ObjectsMadeAlikeSayTheSame : Type 0
+ObjectsMadeAlikeSayTheSame =
+    (dirs others : List (List ℕ)) (o o' : Object) → AreMadeAlike dirs others o o' → names_none (verdict dirs o).in_object ≡ true → SayTheSame dirs others o o'

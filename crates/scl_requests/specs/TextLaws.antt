@@ -1,18 +1,22 @@
 -- Descriptions of two checkouts whose keys differ in their base directories alone.
-use Rattle.std.specs.Prelude.{◌≡◌, ℕ, List, ◌++◌}
-use Rattle.scl_shared_text.specs.SharedTexts.{key_in, others, shared_text}
-use Rattle.scl_requests.specs.SharedLaws.{Field, AreRowsAt, SayTheSame, rows_at}
+use Rattle.std.specs.Prelude.{◌≡◌, ℕ, Bool, List, []}
+use Rattle.scl_text.specs.Records.{Parsed}
+use Rattle.scl_reader.specs.declared.compiler.Compiler.{Compiler}
+use Rattle.scl_key.specs.Keys.{Key}
+use Rattle.scl_delivered.specs.Delivered.{Delivered, delivered, object_by}
+use Rattle.scl_delivered.specs.Rows.{last_rows_of, rows_of}
+use Rattle.scl_requests.specs.SharedLaws.{Field, HasRowsAt, SayTheSame}
 
--- two descriptions end alike: behind the lines that are no rows of a key there is the same
-pub record EndAlike (dirs dirs' : List (List ℕ)) (text text' : List ℕ) : Type 0 where
-  pub end : List ℕ
-  pub first : shared_text dirs text ≡ others text ++ end
-  pub second : shared_text dirs' text' ≡ others text' ++ end
+-- Two descriptions end alike: of their keys all rows stand at the end, and are the same there.
+pub record EndAlike (d d' : Delivered) : Type 0 where
+  pub first : rows_of d ≡ []
+  pub second : rows_of d' ≡ []
+  pub ends : last_rows_of d ≡ last_rows_of d'
 
--- the texts of descriptions whose keys differ in the bases alone end with one key
+-- descriptions whose keys, as they are without bases, differ in these alone end with one key
 abbrev pub TextsEndAlike : Type 0
 TextsEndAlike =
-    (dirs dirs' : List (List ℕ)) (rows : List (List Field)) (text text' : List ℕ)
-    → key_in text ≡ rows_at dirs rows → key_in text' ≡ rows_at dirs' rows
-    → AreRowsAt dirs rows → AreRowsAt dirs' rows → SayTheSame dirs dirs' (rows_at dirs rows) (rows_at dirs' rows)
-    → EndAlike dirs dirs' text text'
+    (dirs dirs' : List (List ℕ)) (rows : List (List Field)) (macros : List Field) (c c' : Compiler) (p p' : Parsed) (keeps keeps' : Bool) (key key' : Key)
+    → HasRowsAt dirs rows macros (delivered c p [] keeps key) → HasRowsAt dirs' rows macros (delivered c' p' [] keeps' key')
+    → SayTheSame dirs dirs' (object_by c p key) (object_by c' p' key')
+    → EndAlike (delivered c p dirs keeps key) (delivered c' p' dirs' keeps' key')

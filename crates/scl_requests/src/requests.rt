@@ -11,7 +11,6 @@ use crate::naming::named;
 use scl_cl::{Mem, Service};
 use scl_describe::{Descriptions, Tables};
 use scl_description::next_line;
-use scl_shared_text::{bases_in, keeps_shown, shared_text, shown_text};
 use std::alloc::Global;
 
 /// What a request asks.
@@ -72,8 +71,7 @@ fn after_first(bytes: &[u8]) -> &[u8]
 
 /// Answers a request by what its first line asks: what the name of a program means (`name`), the text of several runs of the
 /// preprocessor (`join`), a preprocessed text told by base directories (`map`), a dependency file (`depfile`), which
-/// release answers (`made-by`), and else a description, with what tables know of compilers, whose key is told by the base directories of lines `setting base`, and has its
-/// macros at its end unless `setting keep-shown` says otherwise (docs/PROTOCOL.md, A request).
+/// release answers (`made-by`), and else a description, with what tables know of compilers (docs/PROTOCOL.md, A request).
 #[derive(Debug, Clone, Copy)]
 pub struct Requests<'a> {
     /// What is known of compilers.
@@ -86,7 +84,7 @@ impl<'a> Service for Requests<'a> {
 
     ghost answers = { λ service bytes said. AnswersBytes (tables_of service.tables) bytes said };
 
-    #[tactic(auto, using(crate::proofs::RequestLaws::name_said, crate::proofs::RequestLaws::join_said, crate::proofs::RequestLaws::map_said, crate::proofs::RequestLaws::depfile_said, crate::proofs::RequestLaws::made_by_said, crate::proofs::RequestLaws::text_said, crate::proofs::RequestLaws::number_said))]
+    #[tactic(auto, using(crate::proofs::RequestLaws::name_said, crate::proofs::RequestLaws::join_said, crate::proofs::RequestLaws::map_said, crate::proofs::RequestLaws::depfile_said, crate::proofs::RequestLaws::made_by_said, crate::proofs::RequestLaws::description_said))]
     fn answer(&self, alloc: Global, bytes: Vec<u8>) -> Mem<Result<Vec<u8>, u64>> {
         match kind_of(&bytes) {
             Kind::Name => Ok(named(alloc, &bytes)?),
@@ -95,18 +93,10 @@ impl<'a> Service for Requests<'a> {
             Kind::Depfile => Ok(depfile_said(alloc, after_first(&bytes))?),
             Kind::MadeBy => Ok(made_by(alloc, after_first(&bytes))?),
             Kind::Description => {
-                let bases = bases_in(alloc, &bytes)?;
-                let keep = keeps_shown(&bytes);
                 let descriptions = Descriptions {
                     tables: self.tables,
                 };
-                match descriptions.answer(alloc, bytes)? {
-                    Ok(text) => {
-                        let shared = shared_text(alloc, &bases, text)?;
-                        Ok(Ok(shown_text(alloc, keep, shared)?))
-                    }
-                    Err(number) => Ok(Err(number)),
-                }
+                descriptions.answer(alloc, bytes)
             }
         }
     }

@@ -7,10 +7,8 @@ use Rattle.scl_base_dirs.specs.Unmapped.{unmapped}
 use Rattle.scl_base_dirs.proofs.BackLaws.{words_are_read_back}
 use Rattle.scl_base_dirs.proofs.BaseLaws.{only_the_base_differs, paths_without_base_stand}
 use Rattle.scl_base_dirs.proofs.ToldLemmas.{told_list-one}
-use Rattle.scl_shared_key.specs.declared.verdict.InObject.{InObject}
 use Rattle.scl_shared_key.specs.Fields.{told_field, told_row, told_rows, value_at}
-use Rattle.scl_shared_key.specs.Laws.{IsPath, RowsAreReadBack, PathsWithoutBaseStand, OnlyTheBaseDiffers, NamedKeysStand, unmapped_rows}
-use Rattle.scl_shared_key.specs.Shareds.{rows_by, shown_by}
+use Rattle.scl_shared_key.specs.Laws.{IsPath, RowsAreReadBack, PathsWithoutBaseStand, OnlyTheBaseDiffers, unmapped_rows}
 
 equals_sign : MaySeparate (Some 61)
 equals_sign = λ e. omega arith
@@ -44,7 +42,4 @@ pub only_bases_differ : OnlyTheBaseDiffers
 only_bases_differ = λ dirs others number dir other rest first second e f.
     path_is dirs (dir ++ rest) first ∙ only_the_base_differs spelled.Word dirs others number dir other rest e f ∙ sym (path_is others (other ++ rest) second)
 
-pub named_keys_stand : NamedKeysStand
-named_keys_stand = λ dirs rows yes. ap (λ (named : InObject). rows_by named (shown_by dirs rows) dirs rows) yes
-
-pub ruleset shared_laws = (rows_are_read_back, others_stand, only_bases_differ, named_keys_stand)
+pub ruleset shared_laws = (rows_are_read_back, others_stand, only_bases_differ)

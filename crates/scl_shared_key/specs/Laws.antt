@@ -4,10 +4,7 @@ use Rattle.scl_base_dirs.specs.declared.spelling.Spelling.TheVariants as spelled
 use Rattle.scl_base_dirs.specs.Bases.{base_of, placed}
 use Rattle.scl_base_dirs.specs.Cuts.{has_none}
 use Rattle.scl_base_dirs.specs.Unmapped.{unmapped}
-use Rattle.scl_shared_key.specs.declared.verdict.InObject.TheVariants.{Yes}
 use Rattle.scl_shared_key.specs.Fields.{told_field, told_rows, value_at}
-use Rattle.scl_shared_key.specs.Shareds.{shared_rows}
-use Rattle.scl_shared_key.specs.Verdicts.{verdict}
 
 -- rows with the directories put back
 abbrev pub unmapped_rows : List (List ℕ) → List (List (List ℕ)) → List (List (List ℕ))
@@ -25,10 +22,6 @@ pub record IsPath (field : List ℕ) : Type 0 where
 -- a path without a base stands
 abbrev pub PathsWithoutBaseStand : Type 0
 PathsWithoutBaseStand = (dirs : List (List ℕ)) (field : List ℕ) → IsPath field → base_of spelled.Word dirs field ≡ None → has_none 0 field ≡ true → told_field dirs field ≡ field
-
--- a key whose object may name a directory is as it is without bases
-abbrev pub NamedKeysStand : Type 0
-NamedKeysStand = (dirs : List (List ℕ)) (rows : List (List (List ℕ))) → verdict dirs rows ≡ Yes → shared_rows dirs rows ≡ rows
 
 -- two paths with the same rest, each below the base with one number of its checkout, are told alike
 abbrev pub OnlyTheBaseDiffers : Type 0

@@ -3,7 +3,7 @@ pub mod Laws
 pub mod MapViews
 pub mod Maps
 pub mod Namings
-pub mod Rows
-pub mod Shareds
+pub mod Objects
 pub mod Usuals
 pub mod Verdicts
+pub mod Views

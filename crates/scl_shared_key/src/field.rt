@@ -52,7 +52,7 @@ fn value_at(word: &[u8]) -> usize
 }
 
 /// A field of a row, told: the paths behind its flag, if it begins with one, and behind each `=`.
-pub(crate) fn told_field(alloc: Global, dirs: &[Vec<u8>], field: &[u8]) -> Mem<Vec<u8>>
+pub fn told_field(alloc: Global, dirs: &[Vec<u8>], field: &[u8]) -> Mem<Vec<u8>>
     ensures { IfOk result (λ told. told.items ≡ told_field (words_of dirs.now) field.now) }
 {
     map_word(alloc, dirs, value_at(field), Some(b'='), field)

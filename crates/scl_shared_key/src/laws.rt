@@ -1,16 +1,14 @@
 //! What follows from the definitions. Each law is a clause of a function with an empty body.
-ghost use Rattle.scl_shared_key.specs.Laws.{NamedKeysStand, OnlyTheBaseDiffers, PathsWithoutBaseStand, RowsAreReadBack};
+ghost use Rattle.scl_shared_key.specs.Laws.{OnlyTheBaseDiffers, PathsWithoutBaseStand, RowsAreReadBack};
 
-/// Laws of keys with base directories:
+/// Laws of rows that are told by base directories:
 ///
 /// - `rows_are_read_back`: `unmapped` gives back each field of the rows that are told; so no two keys are told alike;
 /// - `others_stand`: a path without a base and without a NUL stands as it is;
-/// - `only_the_base_differs`: paths that differ in the base alone are told alike;
-/// - `named_keys_stand`: where the object may name a directory, the rows stand as they are.
+/// - `only_the_base_differs`: paths that differ in the base alone are told alike.
 #[tactic(auto, using(crate::proofs::SharedLaws::shared_laws))]
 pub fn of_shared_keys()
     ensures rows_are_read_back { RowsAreReadBack }
     ensures others_stand { PathsWithoutBaseStand }
     ensures only_the_base_differs { OnlyTheBaseDiffers }
-    ensures named_keys_stand { NamedKeysStand }
 {}

@@ -1,16 +1,17 @@
-//! Keys that are one in every checkout: what an object names of the place where it is made, and rows told by base directories.
+//! Keys that are one in every checkout: what an object names of the place where it is made, and fields told by base directories.
 #![tactic(auto)]
 
 mod field;
+mod judge;
 pub mod laws;
 mod maps;
 mod naming;
-mod row;
-mod shared;
+mod object;
+mod said;
 mod usual;
-mod verdict;
 
+pub use field::told_field;
+pub use judge::verdict;
 pub use naming::Naming;
-pub use row::{is_macro, texts_show_macros};
-pub use shared::{Shared, share};
-pub use verdict::InObject;
+pub use object::{Object, is_macro};
+pub use said::{InObject, Verdict};

@@ -1,5 +1,5 @@
 //! Prefix maps: words by which the compiler writes another name in the place of a directory.
-ghost use Rattle.std.specs.Prelude.{◌≡◌, ◌++◌, ◌∷◌, [], drop, map, IfOk, OnOk};
+ghost use Rattle.std.specs.Prelude.{◌≡◌, ◌++◌, ◌∷◌, [], drop, OnOk};
 ghost use Rattle.std.specs.List.{list_all, list_any};
 ghost use Rattle.std.specs.Option.{option_map};
 ghost use Rattle.scl_values.specs.Words.{words_of};
@@ -9,7 +9,6 @@ ghost use Rattle.scl_shared_key.specs.Maps.{all_free, are_apart, begin_alike, be
 use crate::naming::{Naming, naming_of};
 use crate::usual::has_usual_bytes;
 use scl_values::Mem;
-use std::alloc::Global;
 
 /// A map.
 #[derive(Debug, Clone, Copy)]
@@ -63,15 +62,14 @@ fn push_map<'a>(maps: &mut Vec<PrefixMap<'a>>, word: &'a [u8]) -> Mem<()>
     Ok(())
 }
 
-/// The maps among words.
-pub(crate) fn maps_among<'a>(alloc: Global, words: &[&'a [u8]]) -> Mem<Vec<PrefixMap<'a>>>
-    ensures { IfOk result (λ maps. maps_of maps.items ≡ maps_among (map (λ word. word.now) words.now)) }
+/// Appends the maps among words.
+pub(crate) fn push_maps<'a>(maps: &mut Vec<PrefixMap<'a>>, words: &'a [Vec<u8>]) -> Mem<()>
+    ensures { OnOk result (maps_of maps.new.items ≡ maps_of maps.old.items ++ maps_among (words_of words.now)) }
 {
-    let mut maps = Vec::new(alloc);
     for word in words {
-        push_map(&mut maps, word)?;
+        push_map(maps, word)?;
     }
-    Ok(maps)
+    Ok(())
 }
 
 /// Whether one of two texts begins with the other.

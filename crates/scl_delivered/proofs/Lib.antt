@@ -1,0 +1,2 @@
+mod ToldLaws
+mod DeliveredLaws

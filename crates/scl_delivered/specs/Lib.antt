@@ -1,0 +1,5 @@
+pub mod Macros
+pub mod Delivered
+pub mod Rows
+pub mod Views
+pub mod Laws

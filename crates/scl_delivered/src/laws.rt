@@ -1,0 +1,24 @@
+//! What follows from the definitions. Each law is a clause of a function with an empty body.
+ghost use Rattle.scl_delivered.specs.Laws.{DeliveredKeysDecide, KeptMacrosStand, MacrosStandInRuns, NamedKeysStand, PartsAreToldAsRows, ToldPartsAreReadBack};
+
+/// Laws of parts that are told by base directories:
+///
+/// - `as_rows`: the row of a part that is told has the fields of its row, told;
+/// - `are_read_back`: parts are read back from those that are told; so no two are told alike.
+pub fn of_told_parts()
+    ensures as_rows { PartsAreToldAsRows }
+    ensures are_read_back { ToldPartsAreReadBack }
+{}
+
+/// Laws of keys as they are delivered:
+///
+/// - `named_keys_stand`: where the object may name a directory, a key is as it is without directories;
+/// - `kept_macros_stand`: macros that are kept stand where they are;
+/// - `macros_stand_in_runs`: each run has the macros that stand at the end, all of them and no other;
+/// - `delivered_keys_decide`: keys that are delivered alike differ at most in where their macros stand.
+pub fn of_delivered_keys()
+    ensures named_keys_stand { NamedKeysStand }
+    ensures kept_macros_stand { KeptMacrosStand }
+    ensures macros_stand_in_runs { MacrosStandInRuns }
+    ensures delivered_keys_decide { DeliveredKeysDecide }
+{}

@@ -1,4 +1,0 @@
-pub mod BaseLines
-pub mod SharedTexts
-pub mod ShownTexts
-pub mod Laws
