@@ -88,8 +88,9 @@ def answer_of(table):
 
 def side_of(answer):
     """The schema of what one of two lines has and the other has not."""
-    lists = ("options", "key", "keep")
-    return {"type": "object", "properties": {it: answer["properties"][it] for it in ("file", "outcome", *lists)}, "required": list(lists)}
+    lists = ("options", "key", "asked", "keep")
+    known = {**answer["properties"], "asked": ROWS}
+    return {"type": "object", "properties": {it: known[it] for it in ("file", "outcome", *lists)}, "required": list(lists)}
 
 
 def document_of(title, members):

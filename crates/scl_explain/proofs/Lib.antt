@@ -1,5 +1,6 @@
 pub mod CaseLemmas
 pub mod DiskLineLaws
+pub mod HashedLaws
 pub mod NulLaws
 pub mod ReadCaseLaws
 pub mod SameKeyLaws

@@ -30,6 +30,6 @@ pub use nuls::unrunnable_text;
 pub use refusal::{cached_text, refusal_text};
 pub use reply::{Form, Paint, Reply, explain, load_error_text};
 pub use report::Report;
-pub use same_key::{has_key, has_key_of};
+pub use same_key::{has_key, has_key_of, hashed, is_shown};
 pub use status::Ending;
 pub use words::{WordForm, command_text};

@@ -1,10 +1,10 @@
-//! Whether two descriptions have the same key.
+//! Whether two descriptions have the same key, except for what its rows ask.
 ghost use Rattle.std.specs.Prelude.{◌≡◌, IfOk};
 ghost use Rattle.std.specs.List.{list_any};
 ghost use Rattle.scl_values.specs.Words.{words_of};
 ghost use Rattle.scl_text.specs.Runs.{runs_of};
 ghost use Rattle.scl_explain.specs.Borrowed.{borrowed};
-ghost use Rattle.scl_explain.specs.SameKeys.{are_same, forbids, has_key, has_key_of, is_of_key, key_in};
+ghost use Rattle.scl_explain.specs.SameKeys.{are_same, forbids, has_key, has_key_of, hashed, hashed_in, hides_words, is_of_key, is_shown};
 
 use scl_reader::Mem;
 use std::alloc::Global;
@@ -61,14 +61,46 @@ pub fn has_key(rows: &[Vec<Vec<u8>>]) -> bool
     some_are_of_key(rows) && !some_forbid(rows)
 }
 
-/// The rows of the key, in order.
-fn key_in(alloc: Global, rows: &[Vec<Vec<u8>>]) -> Mem<Vec<&[Vec<u8>]>>
-    ensures { IfOk result (λ key. borrowed key.items ≡ key_in (runs_of rows.now)) }
+/// Whether the words of this part of a key only say what to run or where to look.
+fn hides_words(part: &[u8]) -> bool
+    ensures { result ≡ hides_words part.now }
+{
+    part == b"plan".as_slice()
+        || part == b"run".as_slice()
+        || part == b"run-else".as_slice()
+        || part == b"pch".as_slice()
+}
+
+/// What a cache hashes of a row of the key (docs/PROTOCOL.md, A key).
+pub fn hashed(row: &[Vec<u8>]) -> &[Vec<u8>]
+    ensures { words_of result.now ≡ hashed (words_of row.now) }
+{
+    match row {
+        [] => row,
+        [_] => row,
+        [_, part, ..] => { if hides_words(part) { &row[..2] } else { row } }
+    }
+}
+
+/// Whether a row of the key is one of a macro, which a cache hashes only if the macro counts.
+pub fn is_shown(row: &[Vec<u8>]) -> bool
+    ensures { result ≡ is_shown (words_of row.now) }
+{
+    match row {
+        [] => false,
+        [_] => false,
+        [_, part, ..] => part.as_slice() == b"shown".as_slice(),
+    }
+}
+
+/// What is hashed of the rows of the key, in order, if no macro counts.
+fn hashed_in(alloc: Global, rows: &[Vec<Vec<u8>>]) -> Mem<Vec<&[Vec<u8>]>>
+    ensures { IfOk result (λ key. borrowed key.items ≡ hashed_in (runs_of rows.now)) }
 {
     let mut key = Vec::new(alloc);
     for row in rows {
-        if is_of_key(row) {
-            key.push(row.as_slice())?;
+        if is_of_key(row) && !is_shown(row) {
+            key.push(hashed(row))?;
         }
     }
     Ok(key)
@@ -80,13 +112,14 @@ fn are_same(key: &[&[Vec<u8>]], others: &[&[Vec<u8>]]) -> bool
     key == others
 }
 
-/// Whether the rows of two descriptions have a key, and it is the same: rows `key` with the same fields, in the same order.
+/// Whether the rows of two descriptions have a key, and what is hashed of its rows is the same, in the same order. So the keys are one
+/// if the answers to their rows are, and no source can name a macro of a row `key shown`.
 pub fn has_key_of(alloc: Global, rows: &[Vec<Vec<u8>>], others: &[Vec<Vec<u8>>]) -> Mem<bool>
     ensures { IfOk result (λ it_has. it_has ≡ has_key_of (runs_of rows.now) (runs_of others.now)) }
 {
     if !has_key(rows) || !has_key(others) {
         return Ok(false);
     }
-    let (key, other) = (key_in(alloc, rows)?, key_in(alloc, others)?);
+    let (key, other) = (hashed_in(alloc, rows)?, hashed_in(alloc, others)?);
     Ok(are_same(&key, &other))
 }

@@ -629,7 +629,7 @@ Take what is known of compilers, their hazards and the effects of their options,
 .B \\-h, \\-\\-help
 Print help
 .PP
-Writes the options and the rows of the key that only one of the two has. What the rows ask, such as the contents of files, is not compared. Ends with status 0 where both have a key and the rows are equal, and 1 where not.
+Writes the options and the rows of the key that only one of the two has. What the rows ask, such as the contents of files, is not compared: rows that leave the keys equal if the answers are stand apart. Ends with status 0 where the keys can be equal, and 1 where not.
 .PP
 .nf
     scl diff \\-p build src/a.c src/b.c
@@ -692,7 +692,7 @@ Print version
     scl explain gcc \\-c src/foo.c \\-O2 \\-Iinclude \\-MMD \\-o foo.o
 .fi
 .SH EXIT STATUS
-0 answered; 1 the rows of the keys are not equal (diff), or there is no key (check \\-\\-keep); 2 wrong words, or a line of the catalogue is wrong; 3 out of memory; 4 a file cannot be read or the answer not be written; 5 the database is broken, or an entry is not valid (all others are answered); 10 cannot be cached; 11 compiles nothing; 12 a hazard; 13 a word holds a NUL, so no process can be given the command; 14 there is a command, and its result may not be kept in the cache.
+0 answered; 1 the keys cannot be equal (diff), or there is no key (check \\-\\-keep); 2 wrong words, or a line of the catalogue is wrong; 3 out of memory; 4 a file cannot be read or the answer not be written; 5 the database is broken, or an entry is not valid (all others are answered); 10 cannot be cached; 11 compiles nothing; 12 a hazard; 13 a word holds a NUL, so no process can be given the command; 14 there is a command, and its result may not be kept in the cache.
 .SH SEE ALSO
 ccline(1), describe(1), scl\\-explain(1), scl\\-command(1), scl\\-check(1), scl\\-database(1), scl\\-flags(1), scl\\-why(1), scl\\-diff(1), scl\\-reasons(1), scl\\-completions(1), scl\\-man(1)
 ";

@@ -19,7 +19,7 @@ pub const ABOUT: &str =
 
 /// How the program ends, and which compiler a command line is of.
 pub const STATUSES: &str =
-    "Statuses: 0 answered; 1 the rows of the keys are not equal (diff), or there is no key (check --keep); 2 wrong words, or a line of the catalogue is wrong; 3 out of memory; 4 a file cannot be read or the answer not be written; 5 the database is broken, or an entry is not valid (all others are answered); 10 cannot be cached; 11 compiles nothing; 12 a hazard; 13 a word holds a NUL, so no process can be given the command; 14 there is a command, and its result may not be kept in the cache.
+    "Statuses: 0 answered; 1 the keys cannot be equal (diff), or there is no key (check --keep); 2 wrong words, or a line of the catalogue is wrong; 3 out of memory; 4 a file cannot be read or the answer not be written; 5 the database is broken, or an entry is not valid (all others are answered); 10 cannot be cached; 11 compiles nothing; 12 a hazard; 13 a word holds a NUL, so no process can be given the command; 14 there is a command, and its result may not be kept in the cache.
 
 Which compiler: by the file name of the first word that is neither a launcher (ccache, sccache, distcc, icecc, recc, buildcache, env, nice, time, or one that --launcher names), nor an option of env (-u), nice (-n) or time before the compiler, nor an assignment (NAME=.., NAME of letters, digits and _); without .exe and a version it ends in clang-cl, clang++, clang, g++, gcc, c++ or cc (the whole name, or what follows a -), or is cl, dcc or cctc. cc and c++ are gcc and g++ unless --compiler says otherwise.
 
@@ -99,7 +99,7 @@ Example:
     Part {
         name: "diff",
         about: "Says what two command lines differ in: options, and rows of their keys",
-        example: "Writes the options and the rows of the key that only one of the two has. What the rows ask, such as the contents of files, is not compared. Ends with status 0 where both have a key and the rows are equal, and 1 where not.
+        example: "Writes the options and the rows of the key that only one of the two has. What the rows ask, such as the contents of files, is not compared: rows that leave the keys equal if the answers are stand apart. Ends with status 0 where the keys can be equal, and 1 where not.
 
 Example:
     scl diff -p build src/a.c src/b.c

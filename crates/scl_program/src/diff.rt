@@ -127,7 +127,7 @@ fn entries(
     tell(rt, &first, &second, batch.json)
 }
 
-/// Takes up what two entries differ in, if the rows of their keys are not equal: it is written, or for machines kept in `unequal`.
+/// Takes up what two entries differ in, if the keys cannot be equal: it is written, or for machines kept in `unequal`.
 /// Whether they are equal.
 fn pair(
     rt: &HostRuntime,

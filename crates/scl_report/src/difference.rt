@@ -1,5 +1,5 @@
 //! What two command lines differ in, for a person.
-use crate::alone::{AT, Known, is_named};
+use crate::alone::{AT, Alone};
 use crate::description::description;
 use crate::digest::outcome_text;
 use crate::foreign::{ForeignDisk, is_windows};
@@ -71,45 +71,24 @@ fn push_fields(alloc: Global, text: &mut String, row: &[Vec<u8>]) -> Mem<()> {
     write!(text, "    {fields}\n")
 }
 
-/// Appends the options of some rows that others have not.
-fn push_options(
-    alloc: Global,
-    text: &mut String,
-    title: &str,
-    rows: &[Vec<Vec<u8>>],
-    others: &Known,
-) -> Mem<()> {
-    let mut is_first = true;
-    for row in rows {
-        if is_named(row, "option") && !others.has(alloc, row)? {
-            if is_first {
-                write!(text, "options of the {title} only:\n")?;
-                is_first = false;
-            }
-            push_option(alloc, text, row)?;
-        }
+/// Appends options that only one has.
+fn push_options(alloc: Global, text: &mut String, title: &str, options: &[&[Vec<u8>]]) -> Mem<()> {
+    if !options.is_empty() {
+        write!(text, "options of the {title} only:\n")?;
+    }
+    for option in options {
+        push_option(alloc, text, option)?;
     }
     Ok(())
 }
 
-/// Appends the rows of this name that others have not.
-fn push_rows(
-    alloc: Global,
-    text: &mut String,
-    title: &str,
-    rows: &[Vec<Vec<u8>>],
-    others: &Known,
-) -> Mem<()> {
-    let mut is_first = true;
+/// Appends rows that only one has, if there are any, below what they are.
+fn push_rows(alloc: Global, text: &mut String, heading: &str, rows: &[&[Vec<u8>]]) -> Mem<()> {
+    if !rows.is_empty() {
+        write!(text, "{heading} only:\n")?;
+    }
     for row in rows {
-        let is_of_key = is_named(row, "key") || is_named(row, "keep");
-        if is_of_key && !others.has(alloc, row)? {
-            if is_first {
-                write!(text, "key of the {title} only:\n")?;
-                is_first = false;
-            }
-            push_fields(alloc, text, row)?;
-        }
+        push_fields(alloc, text, row)?;
     }
     Ok(())
 }
@@ -154,7 +133,7 @@ impl Compared {
         }
     }
 
-    /// Whether both have a key, and its rows are the same. What the rows ask is not compared.
+    /// Whether both have a key, and what is hashed of its rows is the same. What the rows ask is not compared.
     pub fn has_key_of(&self, alloc: Global, other: &Compared) -> Mem<bool> {
         has_key_of(alloc, &self.rows, &other.rows)
     }
@@ -164,26 +143,34 @@ impl Compared {
         write!(text, "the {title}: {outcome}\n")
     }
 
-    /// What differs: options, and rows of keys.
+    /// What is said of the two keys at the end.
+    fn verdict(&self, alloc: Global, other: &Compared, asks_the_same: bool) -> Mem<&'static str> {
+        Ok(if !has_key(&self.rows) || !has_key(&other.rows) {
+            "there are no two keys\n"
+        } else if !self.has_key_of(alloc, other)? {
+            "the rows of the keys differ\n"
+        } else if asks_the_same {
+            "the rows of the keys are equal; what they ask, such as the contents of files, is not compared\n"
+        } else {
+            "the keys are equal if the answers to their rows are, and no source can name a macro of a row shown\n"
+        })
+    }
+
+    /// What differs: options, rows of keys, and what these ask.
     pub fn difference(&self, alloc: Global, other: &Compared) -> Mem<String> {
-        let first = Known::of_rows(alloc, &self.rows)?;
-        let second = Known::of_rows(alloc, &other.rows)?;
+        let first = Alone::of_rows(alloc, &self.rows, &other.rows)?;
+        let second = Alone::of_rows(alloc, &other.rows, &self.rows)?;
         let mut text = String::new(alloc);
         self.push_outcome(&mut text, "first")?;
         other.push_outcome(&mut text, "second")?;
-        push_options(alloc, &mut text, "first", &self.rows, &second)?;
-        push_options(alloc, &mut text, "second", &other.rows, &first)?;
-        push_rows(alloc, &mut text, "first", &self.rows, &second)?;
-        push_rows(alloc, &mut text, "second", &other.rows, &first)?;
-        if self.has_key_of(alloc, other)? {
-            text.push_str(
-                "the rows of the keys are equal; what they ask, such as the contents of files, is not compared\n",
-            )?;
-        } else if has_key(&self.rows) && has_key(&other.rows) {
-            text.push_str("the rows of the keys differ\n")?;
-        } else {
-            text.push_str("there are no two keys\n")?;
-        }
+        push_options(alloc, &mut text, "first", &first.options)?;
+        push_options(alloc, &mut text, "second", &second.options)?;
+        push_rows(alloc, &mut text, "key of the first", &first.key)?;
+        push_rows(alloc, &mut text, "key of the second", &second.key)?;
+        push_rows(alloc, &mut text, "asked by the first", &first.asked)?;
+        push_rows(alloc, &mut text, "asked by the second", &second.asked)?;
+        let asks_the_same = first.asked.is_empty() && second.asked.is_empty();
+        text.push_str(self.verdict(alloc, other, asks_the_same)?)?;
         Ok(text)
     }
 }

@@ -1,13 +1,13 @@
 //! What pairs of command lines differ in, as JSON, and what is counted over the pairs of two databases.
-use crate::alone::Known;
+use crate::alone::Alone;
 use crate::difference::Compared;
 use crate::document::{Rows, push_field, row_named};
 use scl_cl::Mem;
 use scl_json::push_json;
 use std::alloc::Global;
 
-/// The rows that each side of a pair has.
-static SIDE: [&str; 12] = [
+/// The rows that say how a side of a pair is answered.
+static OUTCOME: [&str; 9] = [
     "ok",
     "cannot-cache",
     "not-compilation",
@@ -17,13 +17,13 @@ static SIDE: [&str; 12] = [
     "sentence",
     "error",
     "unrunnable",
-    "option",
-    "key",
-    "keep",
 ];
 
-/// The lists that each side of a pair has, with those rows that the other has not.
-static LISTS: [&str; 3] = ["option", "key", "keep"];
+/// Its lists, of those rows that the other has not.
+static LISTS: [&str; 4] = ["option", "key", ASKED, "keep"];
+
+/// The list of its rows of the key that only ask something else.
+const ASKED: &str = "asked";
 
 fn is_among(names: &[&str], row: &[Vec<u8>]) -> bool {
     match row.first() {
@@ -41,16 +41,47 @@ fn copied(alloc: Global, row: &[Vec<u8>]) -> Mem<Vec<Vec<u8>>> {
     Ok(copy)
 }
 
-/// The rows of a side: how it is answered, and of its lists those rows that the other side has not.
-fn rows_of_side(alloc: Global, rows: &[Vec<Vec<u8>>], others: &[Vec<Vec<u8>>]) -> Mem<Rows> {
-    let known = Known::of_rows(alloc, others)?;
+fn push_copies(alloc: Global, side: &mut Rows, rows: &[&[Vec<u8>]]) -> Mem<()> {
+    for row in rows {
+        side.push(copied(alloc, row)?)?;
+    }
+    Ok(())
+}
+
+/// A row of the key as a row of the list `ASKED`.
+fn asked_row(alloc: Global, row: &[Vec<u8>]) -> Mem<Vec<Vec<u8>>> {
+    let mut asked = row_named(alloc, ASKED)?;
+    for field in row.iter().skip(1) {
+        push_field(alloc, &mut asked, field)?;
+    }
+    Ok(asked)
+}
+
+fn push_asked(alloc: Global, side: &mut Rows, rows: &[&[Vec<u8>]]) -> Mem<()> {
+    for row in rows {
+        side.push(asked_row(alloc, row)?)?;
+    }
+    Ok(())
+}
+
+/// The rows that say how a side is answered.
+fn outcome_rows(alloc: Global, rows: &[Vec<Vec<u8>>]) -> Mem<Rows> {
     let mut side = Vec::new(alloc);
     for row in rows {
-        let is_alone = !is_among(&LISTS, row) || !known.has(alloc, row)?;
-        if is_among(&SIDE, row) && is_alone {
+        if is_among(&OUTCOME, row) {
             side.push(copied(alloc, row)?)?;
         }
     }
+    Ok(side)
+}
+
+/// The rows of a side: how it is answered, and those of its lists.
+fn rows_of_side(alloc: Global, rows: &[Vec<Vec<u8>>], others: &[Vec<Vec<u8>>]) -> Mem<Rows> {
+    let alone = Alone::of_rows(alloc, rows, others)?;
+    let mut side = outcome_rows(alloc, rows)?;
+    push_copies(alloc, &mut side, &alone.options)?;
+    push_copies(alloc, &mut side, &alone.key)?;
+    push_asked(alloc, &mut side, &alone.asked)?;
     Ok(side)
 }
 
@@ -77,8 +108,8 @@ fn push_truth(json: &mut Vec<u8>, holds: bool) -> Mem<()> {
 }
 
 impl Compared {
-    /// What differs, as an object: whether both have an equal key, and of each side how it is answered and which of its options and
-    /// rows of keys the other has not. `file` is the source of both, if there is one to name.
+    /// What differs, as an object: whether the keys can be equal, and of each side how it is answered and which of its options and rows
+    /// of keys the other has not. `file` is the source of both, if there is one to name.
     pub fn json(&self, alloc: Global, other: &Compared, file: &str) -> Mem<Vec<u8>> {
         let mut json = Vec::from_slice(alloc, b"{\"equal\":")?;
         push_truth(&mut json, self.has_key_of(alloc, other)?)?;
@@ -104,7 +135,7 @@ pub fn lines_json(alloc: Global, pair: &[u8]) -> Mem<Vec<u8>> {
 pub struct Pairs {
     /// The entries that both have.
     pub pairs: u64,
-    /// Those of them that have an equal key.
+    /// Those of them whose keys can be equal.
     pub equal: u64,
     /// The entries of the first only.
     pub first_only: u64,
@@ -113,7 +144,7 @@ pub struct Pairs {
 }
 
 impl Pairs {
-    /// Whether each entry of both has an equal key in the other.
+    /// Whether each entry of both has such a partner in the other.
     pub fn are_equal(&self) -> bool {
         self.pairs == self.equal && self.first_only == 0 && self.second_only == 0
     }
@@ -123,11 +154,11 @@ impl Pairs {
         let (pairs, equal) = (self.pairs, self.equal);
         let (first_only, second_only) = (self.first_only, self.second_only);
         format!(in alloc;
-            "entries in both: {pairs}; with equal rows of keys: {equal}; only in the first: {first_only}; only in the second: {second_only}\n"
+            "entries in both: {pairs}; with keys that can be equal: {equal}; only in the first: {first_only}; only in the second: {second_only}\n"
         )
     }
 
-    /// The document of what was counted, with the objects of the pairs that have no equal key.
+    /// The document of what was counted, with the objects of the other pairs.
     pub fn json(&self, alloc: Global, unequal: &[Vec<u8>]) -> Mem<Vec<u8>> {
         let (pairs, equal) = (self.pairs, self.equal);
         let (first_only, second_only) = (self.first_only, self.second_only);

@@ -1,8 +1,0 @@
-use Rattle.std.proofs.Common.{◌≡◌, take}
-use Rattle.scl_text.specs.Runs.{runs_of}
-use Rattle.scl_explain.specs.Borrowed.{borrowed}
-use Rattle.scl_explain.specs.SameKeys.{key_in}
-use Rattle.scl_explain.proofs.same_key.key_in.Given as goal
-
-abbrev pub invariant-loop-row : goal.invariant-loop-row
-invariant-loop-row l = borrowed l.key.items ≡ key_in (runs_of (take l.row-index l.rows))
