@@ -86,7 +86,7 @@ pub static ROWS: &[Row] = rows![
     (LINE, "--cwd", "DIR", Takes::One, "The directory that the command is run in, if not this one"),
     (ALL, "--may-dist", "", Takes::Nothing, "The runs of the preprocessor are for a distant compiler"),
     (ALL, "--bound", "N", Takes::One, "Refuse a command line of more than N words, or one that opens files more than N times, in place of 1000000"),
-    (ALL, "--bytes", "N", Takes::One, "Refuse a command line of more than N bytes of words, in place of 67108864"),
+    (ALL, "--bytes", "N", Takes::One, "Refuse a command line of more than N bytes, those of its response files among them, in place of 67108864"),
     (ALL, "--base", "DIR", Takes::Several, "Write keys by this base directory, an absolute path, as in every other checkout (--json); it may be given again"),
     (ALL, "--keep-shown", "", Takes::Nothing, "Keep macros of the command as facts of its key, also those that no source may name (--json)"),
     (ALL, "--env", "NAME=VALUE", Takes::Several, "A variable of the compiler's environment; it may be given again"),
