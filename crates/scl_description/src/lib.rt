@@ -7,8 +7,10 @@ mod field;
 pub mod laws;
 mod record;
 mod row;
+mod taker;
 
 pub use cut::{cut_at, next_line};
 pub use field::{push_field, read_field, read_two_fields};
-pub use record::push_record;
+pub use record::{push_record, tell_record};
 pub use row::{push_maybe, push_row, push_row_of, push_word, push_words, push_yes};
+pub use taker::TakesRows;

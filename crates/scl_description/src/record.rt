@@ -1,10 +1,11 @@
 //! The record of a command line, as rows.
 ghost use Rattle.std.specs.Prelude.{◌≡◌, ◌++◌, codes, OnOk};
 ghost use Rattle.scl_text.specs.Records.{artifact, artifacts, parsed_of};
-ghost use Rattle.scl_description.specs.Rows.{entry_text, entries_text, row_entry};
-ghost use Rattle.scl_description.specs.Records.{language_text, color_text, output_rest, outputs_entry, source_entries, output_entries, list_entries, file_entries, switch_entries, description_of};
+ghost use Rattle.scl_description.specs.Rows.{entry_rows, lone, row_entry, rows_of};
+ghost use Rattle.scl_description.specs.Records.{language_text, color_text, output_rest, outputs_entry, source_entries, output_entries, list_entries, file_entries, switch_entries, record_entries, description_of};
+ghost use Rattle.scl_description.specs.Takers.{Adds};
 
-use crate::row::{push_maybe, push_row, push_word, push_words, push_yes};
+use crate::taker::{TakesRows, tell_maybe, tell_word, tell_words, tell_yes};
 use scl_text::Mem;
 use scl_text::language::Language;
 use scl_text::records::{ArtifactDescriptor, ColorMode, ParsedArguments};
@@ -44,98 +45,114 @@ fn color_name(mode: ColorMode) -> &'static str
     }
 }
 
-/// Appends the row of an output.
-fn push_output(text: &mut Vec<u8>, name: &str, output: &ArtifactDescriptor) -> Mem<()>
-    ensures { OnOk result (text.new.items ≡ text.old.items ++ entry_text (row_entry (codes "output") (output_rest (artifact name.now output.now.path.items output.now.optional)))) }
+/// Tells the row of an output.
+fn tell_output<R: TakesRows>(rows: &mut R, name: &str, output: &ArtifactDescriptor) -> Mem<()>
+    ensures { OnOk result (Adds R.has rows.old rows.new (entry_rows (row_entry (codes "output") (output_rest (artifact name.now output.now.path.items output.now.optional))))) }
 {
     let path = output.path.as_slice();
     if output.optional {
-        push_row(text, "output", &[name.as_bytes(), path, b"optional"])
+        rows.take("output", &[name.as_bytes(), path, b"optional"], &[])
     } else {
-        push_row(text, "output", &[name.as_bytes(), path])
+        rows.take("output", &[name.as_bytes(), path], &[])
     }
 }
 
-/// Appends a row for each output.
-#[tactic(auto, unfolding(crate::specs::Rows::entry_text))]
-fn push_outputs(text: &mut Vec<u8>, outputs: &BTreeMap<String, ArtifactDescriptor>) -> Mem<()>
-    ensures { OnOk result (text.new.items ≡ text.old.items ++ entry_text (outputs_entry (artifacts outputs.now))) }
+/// Tells a row for each output.
+fn tell_outputs<R: TakesRows>(
+    rows: &mut R,
+    outputs: &BTreeMap<String, ArtifactDescriptor>,
+) -> Mem<()>
+    ensures { OnOk result (Adds R.has rows.old rows.new (entry_rows (outputs_entry (artifacts outputs.now)))) }
 {
     for (name, output) in outputs.iter() {
-        push_output(text, name.as_str(), output)?;
+        tell_output(rows, name.as_str(), output)?;
     }
     Ok(())
 }
 
-/// Appends the rows of what is compiled, and how.
-fn push_source(text: &mut Vec<u8>, parsed: &ParsedArguments) -> Mem<()>
-    ensures { OnOk result (text.new.items ≡ text.old.items ++ entries_text (source_entries (parsed_of parsed.now))) }
+/// Tells the row of a language.
+fn tell_language<R: TakesRows>(rows: &mut R, language: Language) -> Mem<()>
+    ensures { OnOk result (Adds R.has rows.old rows.new (entry_rows (row_entry (codes "language") (lone (language_text language))))) }
 {
-    push_word(text, "input", &parsed.input)?;
-    push_yes(text, "double-dash-input", parsed.double_dash_input)?;
-    push_word(text, "language", language_name(parsed.language).as_bytes())?;
-    push_word(text, "compilation-flag", &parsed.compilation_flag)?;
-    Ok(())
+    tell_word(rows, "language", language_name(language).as_bytes())
 }
 
-/// Appends the rows of the outputs and of the dependency file.
-fn push_made(text: &mut Vec<u8>, parsed: &ParsedArguments) -> Mem<()>
-    ensures { OnOk result (text.new.items ≡ text.old.items ++ entries_text (output_entries (parsed_of parsed.now))) }
+/// Tells the row of a colour mode.
+fn tell_color<R: TakesRows>(rows: &mut R, mode: ColorMode) -> Mem<()>
+    ensures { OnOk result (Adds R.has rows.old rows.new (entry_rows (row_entry (codes "color") (lone (color_text mode))))) }
 {
-    push_maybe(text, "depfile", parsed.depfile.as_deref())?;
-    push_outputs(text, &parsed.outputs)
+    tell_word(rows, "color", color_name(mode).as_bytes())
 }
 
-/// Appends the rows of the lists of words.
-fn push_lists(text: &mut Vec<u8>, parsed: &ParsedArguments) -> Mem<()>
-    ensures { OnOk result (text.new.items ≡ text.old.items ++ entries_text (list_entries (parsed_of parsed.now))) }
+/// Tells the rows of what is compiled, and how.
+fn tell_source<R: TakesRows>(rows: &mut R, parsed: &ParsedArguments) -> Mem<()>
+    ensures { OnOk result (Adds R.has rows.old rows.new (rows_of (source_entries (parsed_of parsed.now)))) }
 {
-    push_words(text, "dependency", &parsed.dependency_args)?;
-    push_words(text, "preprocessor", &parsed.preprocessor_args)?;
-    push_words(text, "common", &parsed.common_args)?;
-    push_words(text, "arch", &parsed.arch_args)?;
-    push_words(text, "unhashed", &parsed.unhashed_args)?;
-    Ok(())
+    tell_word(rows, "input", &parsed.input)?;
+    tell_yes(rows, "double-dash-input", parsed.double_dash_input)?;
+    tell_language(rows, parsed.language)?;
+    tell_word(rows, "compilation-flag", &parsed.compilation_flag)
 }
 
-/// Appends the rows of the files that are read besides the input.
-fn push_files(text: &mut Vec<u8>, parsed: &ParsedArguments) -> Mem<()>
-    ensures { OnOk result (text.new.items ≡ text.old.items ++ entries_text (file_entries (parsed_of parsed.now))) }
+/// Tells the rows of the outputs and of the dependency file.
+fn tell_made<R: TakesRows>(rows: &mut R, parsed: &ParsedArguments) -> Mem<()>
+    ensures { OnOk result (Adds R.has rows.old rows.new (rows_of (output_entries (parsed_of parsed.now)))) }
 {
-    push_words(text, "dist", &parsed.extra_dist_files)?;
-    push_words(text, "hash", &parsed.extra_hash_files)
+    tell_maybe(rows, "depfile", parsed.depfile.as_deref())?;
+    tell_outputs(rows, &parsed.outputs)
 }
 
-/// Appends the rows of the remaining fields.
-fn push_switches(text: &mut Vec<u8>, parsed: &ParsedArguments) -> Mem<()>
-    ensures { OnOk result (text.new.items ≡ text.old.items ++ entries_text (switch_entries (parsed_of parsed.now))) }
+/// Tells the rows of the lists of words.
+fn tell_lists<R: TakesRows>(rows: &mut R, parsed: &ParsedArguments) -> Mem<()>
+    ensures { OnOk result (Adds R.has rows.old rows.new (rows_of (list_entries (parsed_of parsed.now)))) }
 {
-    push_yes(text, "external-assembler", parsed.uses_external_assembler)?;
-    push_yes(text, "show-includes", parsed.msvc_show_includes)?;
-    push_yes(text, "explicit-language", parsed.msvc_explicit_language)?;
-    push_yes(text, "profile-generate", parsed.profile_generate)?;
-    push_word(text, "color", color_name(parsed.color_mode).as_bytes())?;
-    push_yes(
-        text,
+    tell_words(rows, "dependency", &parsed.dependency_args)?;
+    tell_words(rows, "preprocessor", &parsed.preprocessor_args)?;
+    tell_words(rows, "common", &parsed.common_args)?;
+    tell_words(rows, "arch", &parsed.arch_args)?;
+    tell_words(rows, "unhashed", &parsed.unhashed_args)
+}
+
+/// Tells the rows of the files that are read besides the input.
+fn tell_files<R: TakesRows>(rows: &mut R, parsed: &ParsedArguments) -> Mem<()>
+    ensures { OnOk result (Adds R.has rows.old rows.new (rows_of (file_entries (parsed_of parsed.now)))) }
+{
+    tell_words(rows, "dist", &parsed.extra_dist_files)?;
+    tell_words(rows, "hash", &parsed.extra_hash_files)
+}
+
+/// Tells the rows of the remaining fields.
+fn tell_switches<R: TakesRows>(rows: &mut R, parsed: &ParsedArguments) -> Mem<()>
+    ensures { OnOk result (Adds R.has rows.old rows.new (rows_of (switch_entries (parsed_of parsed.now)))) }
+{
+    tell_yes(rows, "external-assembler", parsed.uses_external_assembler)?;
+    tell_yes(rows, "show-includes", parsed.msvc_show_includes)?;
+    tell_yes(rows, "explicit-language", parsed.msvc_explicit_language)?;
+    tell_yes(rows, "profile-generate", parsed.profile_generate)?;
+    tell_color(rows, parsed.color_mode)?;
+    tell_yes(
+        rows,
         "no-rewrite-includes-only",
         parsed.suppress_rewrite_includes_only,
     )?;
-    push_maybe(
-        text,
-        "too-hard",
-        parsed.too_hard_for_preprocessor_cache_mode.as_deref(),
-    )?;
-    Ok(())
+    let why = parsed.too_hard_for_preprocessor_cache_mode.as_deref();
+    tell_maybe(rows, "too-hard", why)
+}
+
+/// Tells the rows of a record, whoever takes them: all of them, each once, in one order (docs/RULES.md, Descriptions).
+pub fn tell_record<R: TakesRows>(rows: &mut R, parsed: &ParsedArguments) -> Mem<()>
+    ensures { OnOk result (Adds R.has rows.old rows.new (rows_of (record_entries (parsed_of parsed.now)))) }
+{
+    tell_source(rows, parsed)?;
+    tell_made(rows, parsed)?;
+    tell_lists(rows, parsed)?;
+    tell_files(rows, parsed)?;
+    tell_switches(rows, parsed)
 }
 
 /// Appends the rows of a record; it is read back from them (`laws::of_descriptions`; docs/RULES.md, Descriptions).
 pub fn push_record(text: &mut Vec<u8>, parsed: &ParsedArguments) -> Mem<()>
     ensures { OnOk result (text.new.items ≡ text.old.items ++ description_of (parsed_of parsed.now)) }
 {
-    push_source(text, parsed)?;
-    push_made(text, parsed)?;
-    push_lists(text, parsed)?;
-    push_files(text, parsed)?;
-    push_switches(text, parsed)?;
-    Ok(())
+    tell_record(text, parsed)
 }

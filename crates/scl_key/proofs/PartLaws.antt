@@ -1,26 +1,78 @@
--- Parts to which others were added, one after the other.
-use Rattle.std.proofs.Common.{◌≡◌, List, [], ◌∷◌, ◌++◌, ap, sym, ◌∙◌, append-nil, append_assoc}
-use Rattle.std.proofs.lemmas.Grind.{flat_map-append}
-use Rattle.scl_description.specs.Rows.{Entry}
-use Rattle.scl_key.specs.Parts.{Part}
-use Rattle.scl_key.specs.Told.{told_entry, told_entries}
+-- Parts to which others were added, and the rows of a record that stay in a key.
+use Rattle.std.proofs.Common.{◌≡◌, ℕ, Bool, true, false, not, cond, List, [], ◌∷◌, ◌++◌, None, map, filter, refl, ap, sym, ◌∙◌, append_assoc, append-nil}
+use Rattle.std.proofs.lemmas.List.{map-append}
+use Rattle.std.proofs.lemmas.List.Elements.{filter-append}
+use Rattle.scl_text.specs.Records.{Parsed}
+use Rattle.scl_description.specs.Rows.{Entry, entry, entry_rows, rows_of}
+use Rattle.scl_description.specs.Records.{first_field, record_entries}
+use Rattle.scl_description.specs.Takers.{Adds}
+use Rattle.scl_reader.specs.declared.compiler.Compiler.{Compiler}
+use Rattle.scl_key.specs.declared.told.Facts.{Facts}
+use Rattle.scl_key.specs.Given.{shows}
+use Rattle.scl_key.specs.Parts.{Part, is}
+use Rattle.scl_key.specs.Told.{is_left_out, kept_rows, key_record, told_entry, told_entries}
+use Rattle.scl_key.specs.Views.{parts_of}
 
 -- parts came after others
 pub and_parts : (t0 t1 t2 xs ys : List Part) → t1 ≡ t0 ++ xs → t2 ≡ t1 ++ ys → t2 ≡ t0 ++ (xs ++ ys)
 and_parts t0 t1 t2 xs ys h k = k ∙ ap (λ t. t ++ ys) h ∙ append_assoc t0 xs ys
 
--- the parts of entries came after others
-pub and_entries : (t0 t1 t2 : List Part) (es fs : List Entry) → t1 ≡ t0 ++ told_entries es → t2 ≡ t1 ++ told_entries fs → t2 ≡ t0 ++ told_entries (es ++ fs)
-and_entries t0 t1 t2 es fs h k = and_parts t0 t1 t2 (told_entries es) (told_entries fs) h k ∙ ap (λ t. t0 ++ t) (sym (flat_map-append told_entry es fs))
+-- ---- the rows that stay
 
--- those of an entry came first
-pub one_entry : (t0 t1 : List Part) (e : Entry) → t1 ≡ t0 ++ told_entry e → t1 ≡ t0 ++ told_entries (e ∷ [])
-one_entry t0 t1 e h = h ∙ ap (λ t. t0 ++ t) (sym (append-nil (told_entry e)))
+-- a row after others stays, or does not
+pub row_in : (is_shown : Bool) (name : List ℕ) (rest : List (List ℕ)) (rows : List (List (List ℕ))) → is_left_out is_shown name ≡ false → kept_rows is_shown (rows ++ (name ∷ rest) ∷ []) ≡ kept_rows is_shown rows ++ (name ∷ rest) ∷ []
+row_in is_shown name rest rows h =
+    filter-append (λ row. not (is_left_out is_shown (first_field row))) rows ((name ∷ rest) ∷ [])
+    ∙ ap (λ out. kept_rows is_shown rows ++ cond (not out) ((name ∷ rest) ∷ []) []) h
 
--- those of an entry came after others
-pub and_entry : (t0 t1 t2 : List Part) (es : List Entry) (e : Entry) → t1 ≡ t0 ++ told_entries es → t2 ≡ t1 ++ told_entry e → t2 ≡ t0 ++ told_entries (es ++ e ∷ [])
-and_entry t0 t1 t2 es e h k = and_entries t0 t1 t2 es (e ∷ []) h (one_entry t1 t2 e k)
+pub row_out : (is_shown : Bool) (name : List ℕ) (rest : List (List ℕ)) (rows : List (List (List ℕ))) → is_left_out is_shown name ≡ true → kept_rows is_shown (rows ++ (name ∷ rest) ∷ []) ≡ kept_rows is_shown rows
+row_out is_shown name rest rows h =
+    filter-append (λ row. not (is_left_out is_shown (first_field row))) rows ((name ∷ rest) ∷ [])
+    ∙ ap (λ out. kept_rows is_shown rows ++ cond (not out) ((name ∷ rest) ∷ []) []) h ∙ append-nil (kept_rows is_shown rows)
 
--- an entry without parts came after others
-pub and_none : (t0 t1 : List Part) (es : List Entry) (e : Entry) → told_entry e ≡ [] → t1 ≡ t0 ++ told_entries es → t1 ≡ t0 ++ told_entries (es ++ e ∷ [])
-and_none t0 t1 es e none h = and_entry t0 t1 t1 es e h (sym (append-nil t1) ∙ ap (λ t. t1 ++ t) (sym none))
+-- the parts of what took rows
+pub facts_told : (old new : Facts) (rows : List (List (List ℕ)))
+    → Adds (λ (start facts : Facts) (taken : List (List (List ℕ))). (facts.is_shown ≡ start.is_shown) × (parts_of facts.parts.items ≡ parts_of start.parts.items ++ map is (kept_rows start.is_shown taken))) old new rows
+    → parts_of new.parts.items ≡ parts_of old.parts.items ++ map is (kept_rows old.is_shown rows)
+facts_told old new rows h = (h old [] (refl, sym (append-nil (parts_of old.parts.items)))).1
+
+-- an entry stays whole, or none of it
+entry_kept : (is_shown : Bool) (name : List ℕ) (rests : List (List (List ℕ))) → kept_rows is_shown (entry_rows (entry name rests)) ≡ cond (is_left_out is_shown name) [] (entry_rows (entry name rests))
+entry_kept is_shown name rests = either (is_left_out is_shown name) refl rests where
+  either : (out : Bool) → is_left_out is_shown name ≡ out → (rests : List (List (List ℕ))) → kept_rows is_shown (entry_rows (entry name rests)) ≡ cond out [] (entry_rows (entry name rests))
+  either true h [] = refl
+  either true h (rest ∷ rests) = rw h (either true h rests)
+  either false h [] = refl
+  either false h (rest ∷ rests) = rw h (ap (λ rows. (name ∷ rest) ∷ rows) (either false h rests))
+
+-- the entries that stay
+abbrev kept_entries : Bool → List Entry → List Entry
+kept_entries is_shown es = filter (λ e. not (is_left_out is_shown e.name)) es
+
+entries_kept : (is_shown : Bool) (es : List Entry) → kept_rows is_shown (rows_of es) ≡ rows_of (kept_entries is_shown es)
+entries_kept is_shown [] = refl
+entries_kept is_shown (e ∷ es) =
+    filter-append (λ row. not (is_left_out is_shown (first_field row))) (entry_rows e) (rows_of es)
+    ∙ ap (λ rows. rows ++ kept_rows is_shown (rows_of es)) (entry_kept is_shown e.name e.rests)
+    ∙ ap (λ rows. cond (is_left_out is_shown e.name) [] (entry_rows e) ++ rows) (entries_kept is_shown es)
+    ∙ either (is_left_out is_shown e.name) where
+      either : (out : Bool) → cond out [] (entry_rows e) ++ rows_of (kept_entries is_shown es) ≡ rows_of (cond (not out) (e ∷ kept_entries is_shown es) (kept_entries is_shown es))
+      either true = refl
+      either false = refl
+
+entries_told : (es : List Entry) → map is (rows_of es) ≡ told_entries es
+unfolding told_entry
+entries_told [] = refl
+entries_told (e ∷ es) = map-append is (entry_rows e) (rows_of es) ∙ ap (λ (parts : List Part). map is (entry_rows e) ++ parts) (entries_told es)
+
+-- those of a record are the rows of the record that a key states
+pub record_kept : (compiler : Compiler) (is_shown : Bool) (p : Parsed) → is_shown ≡ shows compiler p → map is (kept_rows is_shown (rows_of (record_entries p))) ≡ told_entries (record_entries (key_record compiler p))
+record_kept compiler is_shown p h =
+    ap (λ (rows : List (List (List ℕ))). map is rows) (entries_kept is_shown (record_entries p) ∙ by is_shown ∙ ap (λ (b : Bool). rows_of (stated b)) h)
+    ∙ entries_told (record_entries (key_record compiler p)) where
+      stated : Bool → List Entry
+      stated b = record_entries (record p { preprocessor_args = cond b [] p.preprocessor_args; extra_dist_files = []; too_hard_for_preprocessor_cache_mode = None })
+
+      by : (b : Bool) → rows_of (kept_entries b (record_entries p)) ≡ rows_of (stated b)
+      by true = refl
+      by false = refl

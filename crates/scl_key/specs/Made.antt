@@ -43,6 +43,10 @@ unless_had name paths p = if is_some (path_at p.outputs name) then [] else map (
 abbrev pub diagnostics_files : Parsed → List (List ℕ)
 diagnostics_files p = behind (codes "--serialize-diagnostics") false p.preprocessor_args ++ behind (codes "--serialize-diagnostics") false p.common_args
 
+-- the files that come out beside the outputs of the record
+abbrev pub made_beside : Parsed → List Artifact
+made_beside p = unless_had (codes "d") (take 1 (dependency_files p)) p ++ unless_had (codes "dia") (diagnostics_files p) p
+
 -- all files that come out
 abbrev pub made : Parsed → List Artifact
-made p = p.outputs ++ unless_had (codes "d") (take 1 (dependency_files p)) p ++ unless_had (codes "dia") (diagnostics_files p) p
+made p = p.outputs ++ made_beside p

@@ -1,9 +1,10 @@
 -- What of a command line is hashed as it stands: made from the whole record, less what runs show.
-use Rattle.std.specs.Prelude.{ℕ, Bool, true, false, List, [], ◌∷◌, ◌++◌, map, codes, None, if◌then◌else◌}
+use Rattle.std.specs.Prelude.{ℕ, Bool, true, false, not, ◌&&◌, ◌||◌, List, [], ◌∷◌, ◌++◌, map, filter, codes, None, if◌then◌else◌}
 use Rattle.std.specs.List.{flat_map}
+use Rattle.std.specs.Str.{bytes_eq}
 use Rattle.scl_text.specs.Records.{Parsed}
 use Rattle.scl_description.specs.Rows.{Entry, entry_rows}
-use Rattle.scl_description.specs.Records.{record_entries}
+use Rattle.scl_description.specs.Records.{first_field, record_entries}
 use Rattle.scl_reader.specs.declared.compiler.Compiler.{Compiler}
 use Rattle.scl_reader.specs.Compilers.{name_of}
 use Rattle.scl_key.specs.Given.{shows}
@@ -52,6 +53,14 @@ facts_shown compiler environment words is_shown =
 
 abbrev pub facts : Compiler → (environment : List (List ℕ × List ℕ)) → RunWords → Parsed → List Part
 facts compiler environment words p = facts_shown compiler environment words (shows compiler p)
+
+-- the names of rows that a key leaves out
+abbrev pub is_left_out : Bool → List ℕ → Bool
+is_left_out is_shown name = bytes_eq name (codes "dist") || (bytes_eq name (codes "too-hard") || (is_shown && bytes_eq name (codes "preprocessor")))
+
+-- the rows of a record that a key has
+abbrev pub kept_rows : Bool → List (List (List ℕ)) → List (List (List ℕ))
+kept_rows is_shown rows = filter (λ row. not (is_left_out is_shown (first_field row))) rows
 
 -- the rows of an entry of a record
 unfoldable pub told_entry : Entry → List Part

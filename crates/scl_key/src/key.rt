@@ -25,7 +25,7 @@ use crate::no_key::{NoKey, no_keys};
 use crate::part::{Ask, Output, Part};
 use crate::reads::files_perhaps;
 use crate::runs::{is_among, is_assembler, is_header, push_plans, push_runs};
-use crate::told::{RunWords, push_told};
+use crate::told::{Line, RunWords, told};
 use scl_reader::Compiler;
 use scl_text::Mem;
 use scl_text::command::push_word;
@@ -264,23 +264,16 @@ fn push_refusals(alloc: Global, parts: &mut Vec<Part>, parsed: &ParsedArguments)
 }
 
 /// Appends what is asked of variables and files.
-fn push_files(
-    alloc: Global,
-    parts: &mut Vec<Part>,
-    compiler: Compiler,
-    words: RunWords<'_>,
-    known: &Known<'_>,
-    parsed: &ParsedArguments,
-) -> Mem<()>
-    requires common { all_judged known.now.common.items ≡ judged_in (parsed_of parsed.now).common_args }
-    requires given { all_given known.now.given.items ≡ given_in (parsed_of parsed.now).preprocessor_args }
-    ensures { OnOk result (parts_of parts.new.items ≡ parts_of parts.old.items ++ file_parts compiler (run_words_of words.entry) (parsed_of parsed.now)) }
+fn push_files(alloc: Global, parts: &mut Vec<Part>, line: &Line<'_>, known: &Known<'_>) -> Mem<()>
+    requires common { all_judged known.now.common.items ≡ judged_in (parsed_of line.now.parsed.now).common_args }
+    requires given { all_given known.now.given.items ≡ given_in (parsed_of line.now.parsed.now).preprocessor_args }
+    ensures { OnOk result (parts_of parts.new.items ≡ parts_of parts.old.items ++ file_parts line.now.compiler (run_words_of line.now.words) (parsed_of line.now.parsed.now)) }
 {
-    push_asked_variables(alloc, parts, Ask::Env, variables(compiler))?;
-    push_asked_variables(alloc, parts, Ask::Unset, unset_variables(compiler))?;
-    push_asked_each(alloc, parts, Ask::File, &parsed.extra_hash_files)?;
-    push_asked_each(alloc, parts, Ask::File, response_files(words))?;
-    let paths = files_perhaps(alloc, compiler, known, parsed)?;
+    push_asked_variables(alloc, parts, Ask::Env, variables(line.compiler))?;
+    push_asked_variables(alloc, parts, Ask::Unset, unset_variables(line.compiler))?;
+    push_asked_each(alloc, parts, Ask::File, &line.parsed.extra_hash_files)?;
+    push_asked_each(alloc, parts, Ask::File, response_files(line.words))?;
+    let paths = files_perhaps(alloc, line.compiler, known, line.parsed)?;
     push_asked_each(alloc, parts, Ask::Maybe, &paths)
 }
 
@@ -322,26 +315,19 @@ fn push_texts(
 }
 
 /// Appends the parts that ask.
-fn push_asking(
-    alloc: Global,
-    parts: &mut Vec<Part>,
-    compiler: Compiler,
-    words: RunWords<'_>,
-    known: &Known<'_>,
-    parsed: &ParsedArguments,
-) -> Mem<()>
-    requires common { all_judged known.now.common.items ≡ judged_in (parsed_of parsed.now).common_args }
-    requires given { all_given known.now.given.items ≡ given_in (parsed_of parsed.now).preprocessor_args }
-    requires macros { known.now.has_macros ≡ has_macros (parsed_of parsed.now) }
-    requires shown { known.now.is_shown ≡ shows compiler (parsed_of parsed.now) }
-    ensures { OnOk result (parts_of parts.new.items ≡ parts_of parts.old.items ++ asked_parts compiler (run_words_of words.entry) (parsed_of parsed.now)) }
+fn push_asking(alloc: Global, parts: &mut Vec<Part>, line: &Line<'_>, known: &Known<'_>) -> Mem<()>
+    requires common { all_judged known.now.common.items ≡ judged_in (parsed_of line.now.parsed.now).common_args }
+    requires given { all_given known.now.given.items ≡ given_in (parsed_of line.now.parsed.now).preprocessor_args }
+    requires macros { known.now.has_macros ≡ has_macros (parsed_of line.now.parsed.now) }
+    requires shown { known.now.is_shown ≡ shows line.now.compiler (parsed_of line.now.parsed.now) }
+    ensures { OnOk result (parts_of parts.new.items ≡ parts_of parts.old.items ++ asked_parts line.now.compiler (run_words_of line.now.words) (parsed_of line.now.parsed.now)) }
 {
     parts.push(Part::Directory)?;
     parts.push(Part::Compiler)?;
-    push_plans(alloc, parts, compiler, parsed)?;
-    push_files(alloc, parts, compiler, words, known, parsed)?;
-    push_regular(alloc, parts, &known.given, parsed)?;
-    push_texts(alloc, parts, compiler, known, parsed)
+    push_plans(alloc, parts, line.compiler, line.parsed)?;
+    push_files(alloc, parts, line, known)?;
+    push_regular(alloc, parts, &known.given, line.parsed)?;
+    push_texts(alloc, parts, line.compiler, known, line.parsed)
 }
 
 /// Appends the files that come out.
@@ -354,57 +340,32 @@ fn push_outputs(alloc: Global, parts: &mut Vec<Part>, outputs: &[Output]) -> Mem
     Ok(())
 }
 
-/// The key of a record, with these outputs.
-fn key_with(
-    alloc: Global,
-    compiler: Compiler,
-    environment: &[(Vec<u8>, Vec<u8>)],
-    words: RunWords<'_>,
-    known: &Known<'_>,
-    parsed: &ParsedArguments,
-    outputs: &[Output],
-) -> Mem<Vec<Part>>
-    requires common { all_judged known.now.common.items ≡ judged_in (parsed_of parsed.now).common_args }
-    requires given { all_given known.now.given.items ≡ given_in (parsed_of parsed.now).preprocessor_args }
-    requires macros { known.now.has_macros ≡ has_macros (parsed_of parsed.now) }
-    requires shown { known.now.is_shown ≡ shows compiler (parsed_of parsed.now) }
-    requires outputs { outputs_of outputs.now ≡ made (parsed_of parsed.now) }
-    ensures { IfOk result (λ key. parts_of key.items ≡ key_of compiler (pairs_of environment.now) (run_words_of words.entry) (parsed_of parsed.now)) }
+/// The parts of a key, with these outputs.
+fn key_with(alloc: Global, line: &Line<'_>, known: &Known<'_>, outputs: &[Output]) -> Mem<Vec<Part>>
+    requires common { all_judged known.now.common.items ≡ judged_in (parsed_of line.now.parsed.now).common_args }
+    requires given { all_given known.now.given.items ≡ given_in (parsed_of line.now.parsed.now).preprocessor_args }
+    requires macros { known.now.has_macros ≡ has_macros (parsed_of line.now.parsed.now) }
+    requires shown { known.now.is_shown ≡ shows line.now.compiler (parsed_of line.now.parsed.now) }
+    requires outputs { outputs_of outputs.now ≡ made (parsed_of line.now.parsed.now) }
+    ensures { IfOk result (λ key. parts_of key.items ≡ key_of line.now.compiler (pairs_of line.now.environment.now) (run_words_of line.now.words) (parsed_of line.now.parsed.now)) }
 {
-    let mut parts = Vec::new(alloc);
-    push_told(
-        alloc,
-        &mut parts,
-        compiler,
-        environment,
-        words,
-        known.is_shown,
-        parsed,
-    )?;
+    let mut parts = told(alloc, line, known.is_shown)?;
     push_outputs(alloc, &mut parts, outputs)?;
-    push_asking(alloc, &mut parts, compiler, words, known, parsed)?;
+    push_asking(alloc, &mut parts, line, known)?;
     Ok(parts)
 }
 
-/// The key of a record, with these outputs, and what direct mode needs.
-fn kept(
-    alloc: Global,
-    compiler: Compiler,
-    environment: &[(Vec<u8>, Vec<u8>)],
-    words: RunWords<'_>,
-    known: &Known<'_>,
-    parsed: &ParsedArguments,
-    outputs: &[Output],
-) -> Mem<Keeping>
-    requires common { all_judged known.now.common.items ≡ judged_in (parsed_of parsed.now).common_args }
-    requires given { all_given known.now.given.items ≡ given_in (parsed_of parsed.now).preprocessor_args }
-    requires macros { known.now.has_macros ≡ has_macros (parsed_of parsed.now) }
-    requires shown { known.now.is_shown ≡ shows compiler (parsed_of parsed.now) }
-    requires outputs { outputs_of outputs.now ≡ made (parsed_of parsed.now) }
-    ensures { IfOk result (λ keeping. keeping_told keeping ≡ under (whole_key compiler (pairs_of environment.now) (run_words_of words.entry) (parsed_of parsed.now))) }
+/// The key, with these outputs, and what direct mode needs.
+fn kept(alloc: Global, line: &Line<'_>, known: &Known<'_>, outputs: &[Output]) -> Mem<Keeping>
+    requires common { all_judged known.now.common.items ≡ judged_in (parsed_of line.now.parsed.now).common_args }
+    requires given { all_given known.now.given.items ≡ given_in (parsed_of line.now.parsed.now).preprocessor_args }
+    requires macros { known.now.has_macros ≡ has_macros (parsed_of line.now.parsed.now) }
+    requires shown { known.now.is_shown ≡ shows line.now.compiler (parsed_of line.now.parsed.now) }
+    requires outputs { outputs_of outputs.now ≡ made (parsed_of line.now.parsed.now) }
+    ensures { IfOk result (λ keeping. keeping_told keeping ≡ under (whole_key line.now.compiler (pairs_of line.now.environment.now) (run_words_of line.now.words) (parsed_of line.now.parsed.now))) }
 {
-    let parts = key_with(alloc, compiler, environment, words, known, parsed, outputs)?;
-    let direct = directs(alloc, compiler, known, parsed)?;
+    let parts = key_with(alloc, line, known, outputs)?;
+    let direct = directs(alloc, line.compiler, known, line.parsed)?;
     Ok(Keeping::Under(Key {
         is_shown: known.is_shown,
         parts,
@@ -412,28 +373,25 @@ fn kept(
     }))
 }
 
-/// The key of a record, with these outputs, or why there is none.
+/// The key, with these outputs, or why there is none.
 fn kept_unless(
     alloc: Global,
-    compiler: Compiler,
-    environment: &[(Vec<u8>, Vec<u8>)],
-    words: RunWords<'_>,
+    line: &Line<'_>,
     known: &Known<'_>,
-    parsed: &ParsedArguments,
     outputs: &[Output],
 ) -> Mem<Keeping>
-    requires common { all_judged known.now.common.items ≡ judged_in (parsed_of parsed.now).common_args }
-    requires given { all_given known.now.given.items ≡ given_in (parsed_of parsed.now).preprocessor_args }
-    requires macros { known.now.has_macros ≡ has_macros (parsed_of parsed.now) }
-    requires shown { known.now.is_shown ≡ shows compiler (parsed_of parsed.now) }
-    requires outputs { outputs_of outputs.now ≡ made (parsed_of parsed.now) }
-    ensures { IfOk result (λ keeping. keeping_told keeping ≡ keeping_of compiler (pairs_of environment.now) (run_words_of words.entry) (parsed_of parsed.now)) }
+    requires common { all_judged known.now.common.items ≡ judged_in (parsed_of line.now.parsed.now).common_args }
+    requires given { all_given known.now.given.items ≡ given_in (parsed_of line.now.parsed.now).preprocessor_args }
+    requires macros { known.now.has_macros ≡ has_macros (parsed_of line.now.parsed.now) }
+    requires shown { known.now.is_shown ≡ shows line.now.compiler (parsed_of line.now.parsed.now) }
+    requires outputs { outputs_of outputs.now ≡ made (parsed_of line.now.parsed.now) }
+    ensures { IfOk result (λ keeping. keeping_told keeping ≡ keeping_of line.now.compiler (pairs_of line.now.environment.now) (run_words_of line.now.words) (parsed_of line.now.parsed.now)) }
 {
-    let why = no_keys(alloc, compiler, words, &known.common, parsed, outputs)?;
+    let why = no_keys(alloc, line, &known.common, outputs)?;
     if !why.is_empty() {
         return Ok(Keeping::Not(why));
     }
-    let keeping = kept(alloc, compiler, environment, words, known, parsed, outputs)?;
+    let keeping = kept(alloc, line, known, outputs)?;
     Ok(keeping)
 }
 
@@ -450,14 +408,12 @@ pub fn key_of(
 {
     let known = known_of(alloc, compiler, parsed)?;
     let outputs = made(alloc, parsed)?;
-    let keeping = kept_unless(
-        alloc,
+    let line = Line {
         compiler,
         environment,
         words,
-        &known,
         parsed,
-        &outputs,
-    )?;
+    };
+    let keeping = kept_unless(alloc, &line, &known, &outputs)?;
     Ok(keeping)
 }

@@ -21,6 +21,7 @@ pub use effect::Effect;
 pub use family::{is_clang, is_gcc};
 pub use given::Brings;
 pub use key::{Keeping, Key, key_of};
+pub use made::made_beside;
 pub use no_key::{NoKey, Reason, push_no_rows};
 pub use part::{Ask, Output, Part, push_key};
 pub use told::RunWords;

@@ -4,7 +4,7 @@ ghost use Rattle.std.specs.List.{filter_map, last_or};
 ghost use Rattle.std.specs.Option.{option_copied, option_to_list};
 ghost use Rattle.scl_values.specs.Words.{words_of};
 ghost use Rattle.scl_text.specs.Records.{artifact, artifacts, parsed_of};
-ghost use Rattle.scl_key.specs.Made.{dependency_files, diagnostics_files, handed_file, joined_file, made, named_file, unless_comma, unless_had, written_file};
+ghost use Rattle.scl_key.specs.Made.{dependency_files, diagnostics_files, handed_file, joined_file, made, made_beside, named_file, unless_comma, unless_had, written_file};
 ghost use Rattle.scl_key.specs.Views.{outputs_of};
 
 use crate::effect::{has_comma, push_behind};
@@ -187,16 +187,33 @@ fn push_lacking(
     Ok(())
 }
 
+/// Appends the files that come out beside the outputs of a record.
+fn push_beside(alloc: Global, outputs: &mut Vec<Output>, parsed: &ParsedArguments) -> Mem<()>
+    ensures { OnOk result (outputs_of outputs.new.items ≡ outputs_of outputs.old.items ++ made_beside (parsed_of parsed.now)) }
+{
+    let mut files = dependency_files(alloc, parsed)?;
+    files.truncate(1);
+    push_lacking(alloc, outputs, "d", &files, parsed)?;
+    let files = diagnostics_files(alloc, parsed)?;
+    push_lacking(alloc, outputs, "dia", &files, parsed)
+}
+
+/// The files that come out beside the outputs of a record: the first dependency file and the files of diagnostics that words name,
+/// unless the record has an output of that name.
+pub fn made_beside(alloc: Global, parsed: &ParsedArguments) -> Mem<Vec<Output>>
+    ensures { IfOk result (λ outputs. outputs_of outputs.items ≡ made_beside (parsed_of parsed.now)) }
+{
+    let mut outputs = Vec::new(alloc);
+    push_beside(alloc, &mut outputs, parsed)?;
+    Ok(outputs)
+}
+
 /// All files that come out.
 pub(crate) fn made(alloc: Global, parsed: &ParsedArguments) -> Mem<Vec<Output>>
     ensures { IfOk result (λ outputs. outputs_of outputs.items ≡ made (parsed_of parsed.now)) }
 {
     let mut outputs = Vec::new(alloc);
     push_had(alloc, &mut outputs, &parsed.outputs)?;
-    let mut files = dependency_files(alloc, parsed)?;
-    files.truncate(1);
-    push_lacking(alloc, &mut outputs, "d", &files, parsed)?;
-    let files = diagnostics_files(alloc, parsed)?;
-    push_lacking(alloc, &mut outputs, "dia", &files, parsed)?;
+    push_beside(alloc, &mut outputs, parsed)?;
     Ok(outputs)
 }

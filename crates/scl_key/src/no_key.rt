@@ -16,7 +16,7 @@ use crate::family::notes_by_runs;
 use crate::made::{dependency_files, handed_file};
 use crate::part::Output;
 use crate::reads::push_values;
-use crate::told::RunWords;
+use crate::told::{Line, RunWords};
 use scl_description::push_row;
 use scl_files::View;
 use scl_reader::Compiler;
@@ -380,20 +380,18 @@ fn push_by_record(
 /// Why there is no key, with these outputs.
 pub(crate) fn no_keys(
     alloc: Global,
-    compiler: Compiler,
-    words: RunWords<'_>,
+    line: &Line<'_>,
     common: &[Judged<'_>],
-    parsed: &ParsedArguments,
     outputs: &[Output],
 ) -> Mem<Vec<NoKey>>
-    requires common { all_judged common.now ≡ judged_in (parsed_of parsed.now).common_args }
-    requires outputs { outputs_of outputs.now ≡ made (parsed_of parsed.now) }
-    ensures { IfOk result (λ why. no_keys_of why.items ≡ no_keys compiler (run_words_of words.entry) (parsed_of parsed.now)) }
+    requires common { all_judged common.now ≡ judged_in (parsed_of line.now.parsed.now).common_args }
+    requires outputs { outputs_of outputs.now ≡ made (parsed_of line.now.parsed.now) }
+    ensures { IfOk result (λ why. no_keys_of why.items ≡ no_keys line.now.compiler (run_words_of line.now.words) (parsed_of line.now.parsed.now)) }
 {
     let mut why = Vec::new(alloc);
-    push_hazard(alloc, &mut why, words)?;
-    push_by_record(alloc, &mut why, common, parsed)?;
-    let unnamed = unnamed(alloc, compiler, parsed)?;
+    push_hazard(alloc, &mut why, line.words)?;
+    push_by_record(alloc, &mut why, common, line.parsed)?;
+    let unnamed = unnamed(alloc, line.compiler, line.parsed)?;
     push_each(alloc, &mut why, Reason::WritesUnnamed, &unnamed)?;
     push_no_files(alloc, &mut why, outputs)?;
     push_repeated(alloc, &mut why, outputs)?;

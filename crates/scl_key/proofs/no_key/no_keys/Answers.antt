@@ -9,14 +9,14 @@ use Rattle.scl_key.proofs.no_key.no_keys.Goals as goal
 
 pub returns : goal.returns
 returns c =
-    let p : Parsed = parsed_of c.args.parsed.now in
+    let p : Parsed = parsed_of c.args.line.now.parsed.now in
     let paths : paths_of c.args.outputs.now ≡ made_paths p = paths-of c.args.outputs.now ∙ ap (λ outputs. map (λ (output : Artifact). output.path) outputs) c.requires.outputs in
-    let words : words_of c.deref.result.now ≡ unnamed c.args.compiler p = search (rules, c.deref.ensures.value, c.in_ok-unnamed.ensures) in
-    let x1 : List NoKey = hazards (run_words_of c.args.words) in
+    let words : words_of c.deref.result.now ≡ unnamed c.args.line.now.compiler p = search (rules, c.deref.ensures.value, c.in_ok-unnamed.ensures) in
+    let x1 : List NoKey = hazards (run_words_of c.args.line.now.words) in
     let e1 : no_keys_of c.push_hazard.new.why.items ≡ x1 = search (rules, c.in_ok-push_hazard.ensures, c.new-why.ensures.items) in
     let x2 : List NoKey = no_keys_by_words p in
     let e2 : no_keys_of c.push_by_record.new.why.items ≡ x1 ++ x2 = c.in_ok-push_by_record.ensures ∙ ap (λ t. t ++ x2) e1 in
-    let x3 : List NoKey = map (no_key Reason.WritesUnnamed) (unnamed c.args.compiler p) in
+    let x3 : List NoKey = map (no_key Reason.WritesUnnamed) (unnamed c.args.line.now.compiler p) in
     let e3 : no_keys_of c.push_each.new.why.items ≡ x1 ++ x2 ++ x3 =
     c.in_ok-push_each.ensures ∙ ap (λ ws. no_keys_of c.push_by_record.new.why.items ++ map (no_key Reason.WritesUnnamed) ws) words ∙ ap (λ t. t ++ x3) e2 in
     let x4 : List NoKey = map (no_key Reason.OutputIsNoFile) (filter is_no_file (made_paths p)) in

@@ -1,9 +1,0 @@
-use Rattle.std.proofs.Common.{◌≡◌, ◌++◌, map}
-use Rattle.std.specs.Map.Iter.{deref_pair}
-use Rattle.scl_text.specs.Records.{artifact_of}
-use Rattle.scl_description.specs.Rows.{entry_text}
-use Rattle.scl_description.specs.Records.{outputs_entry}
-use Rattle.scl_description.proofs.record.push_outputs.Given as goal
-
-abbrev pub invariant-loop-name : goal.invariant-loop-name
-invariant-loop-name l = l.text.items ≡ l.initial.text.items ++ entry_text (outputs_entry (map artifact_of (map deref_pair l.yielded)))
