@@ -8,7 +8,7 @@ use Rattle.scl_reader.specs.PrecompiledHeaders.{has_precompiled_header}
 use Rattle.scl_reader.specs.Questions.{Extends, HasNoneOf, on_disk, questions_of}
 use Rattle.scl_reader.specs.Reads.{read_of}
 use Rattle.scl_describe.specs.Decided.{TellingIsDecided, RowsAreDecided}
-use Rattle.scl_describe.specs.Hazards.{hazards_by, told_with}
+use Rattle.scl_describe.specs.Hazards.{told_with}
 use Rattle.scl_describe.specs.OptionRows.{rows_in}
 
 pub rows-decided : RowsAreDecided
@@ -18,6 +18,3 @@ pub telling-decided : TellingIsDecided
 telling-decided known r disk extends none =
     ap (λ reading. told_with known r.environment (has_precompiled_header (given_in (on_disk r disk)) (read_of (on_disk r disk))) reading) (wholes-decided r disk extends none)
     ∙ ap (λ has. told_with known r.environment has (read_of r)) (headers-decided r disk extends none)
-
-pub hazards-decided : (known : Known) (r : Request) (disk : Viewed) → Extends disk r.view → HasNoneOf disk (questions_of r) → hazards_by known (on_disk r disk) ≡ hazards_by known r
-hazards-decided known r disk extends none = ap (λ told. told.hazards) (telling-decided known r disk extends none)

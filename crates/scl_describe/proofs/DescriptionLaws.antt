@@ -4,7 +4,9 @@ use Rattle.std.specs.List.{flat_map}
 use Rattle.std.proofs.lemmas.Grind.{flat_map-append}
 use Rattle.scl_values.specs.Each.{Each}
 use Rattle.scl_values.specs.Escaped.{escaped}
+use Rattle.scl_text.specs.Commands.{pairs_of}
 use Rattle.scl_text.specs.Records.{Parsed, parsed_of}
+use Rattle.scl_text.specs.Runs.{runs_of}
 use Rattle.scl_text.specs.declared.records.Cacheable.{Cacheable}
 use Rattle.scl_text.specs.declared.records.Cacheable.TheVariants as cacheable
 use Rattle.scl_text.specs.declared.records.CompilerArguments.{CompilerArguments}
@@ -16,9 +18,9 @@ use Rattle.scl_description.specs.Records.{record_entries, record_in}
 use Rattle.scl_description.proofs.RecordLaws.{description-back-among}
 use Rattle.scl_hazards.specs.Hazards.{Tables}
 use Rattle.scl_hazards.specs.Told.{Told, given as given_told}
-use Rattle.scl_rows.specs.Rows.{Told as RowTold, refused_at, told}
+use Rattle.scl_rows.specs.Rows.{refused_at, told}
 use Rattle.scl_rows.specs.declared.row.Row.{Row}
-use Rattle.scl_describe.specs.declared.described.Findings.{Findings}
+use Rattle.scl_describe.specs.declared.described.Description.{Description}
 use Rattle.scl_reader.specs.declared.kept.Compilation.{Compilation}
 use Rattle.scl_describe.specs.OptionLines.{fields_given, option_fields, options_entry, options_given}
 use Rattle.scl_reader.specs.QuestionsGiven.{given}
@@ -32,33 +34,31 @@ use Rattle.scl_reader.specs.Within.{has_at_most}
 use Rattle.scl_describe.specs.Keepings.{Kept, kept_entries, kept_for, last_entries, run_words_by}
 use Rattle.scl_describe.proofs.KeepingLaws.{each-both, effects-beside, kept-beside, last-beside}
 use Rattle.scl_describe.specs.Descriptions.{version_entry, runs_entry, pair_fields, environment_entry, told_entries, compiled_entries, kept_with, questions_for, rows_for, runs_for, told_for, outcome_entries, question_entries, answer_entries, description, too_many_entries, command_entries, DescriptionsReadBack}
-use Rattle.scl_describe.specs.DescriptionsGiven.{AreOf, entries_given, kept_given, outcome_given, runs_given}
-
-pub behind_text : (start whole all rows : List ℕ) → whole ≡ start ++ rows → start ≡ all → whole ≡ all ++ rows
-behind_text start whole all rows h k = h ∙ ap (λ t. t ++ rows) k
+use Rattle.scl_describe.specs.DescriptionsGiven.{AreOf, entries_given, kept_given, kept_told, outcome_given, outcome_rows, runs_given, text_given}
 
 -- ---- what the code gives
 
-outcome-is : (s : Settings) (r : Request) (kept : Kept) (executable cwd : List ℕ) (answer : CompilerArguments Compilation) → answer_of answer ≡ answer_to r
-    → HasParts (reading_by r.compiler r) executable (environment_by r.compiler r.environment) cwd answer
-    → outcome_given (runs_given s r.compiler answer) kept (refused_at (rows_for s r)) answer ≡ outcome_entries s r kept (answer_to r) (reading_by r.compiler r)
-outcome-is s r kept executable cwd (outcomes.Ok compilation) e parts =
+outcome-is : (s : Settings) (r : Request) (runs : List (List (List ℕ))) (kept : Kept) (answer : CompilerArguments Compilation) → answer_of answer ≡ answer_to r
+    → HasParts (reading_by r.compiler r) [] (environment_by r.compiler r.environment) r.directory answer → runs ≡ runs_given s r.compiler (reading_by r.compiler r)
+    → outcome_rows runs kept (refused_at (rows_for s r)) answer ≡ outcome_entries s r kept (answer_to r) (reading_by r.compiler r)
+outcome-is s r runs kept (outcomes.Ok compilation) e parts are =
     let p : Parsed = parsed_of compilation.parsed in
-    ap (λ env. compiled_entries (runs_for s r.compiler p) env (kept_entries kept) p) parts.1.env_vars_are
+    ap (λ them. compiled_entries them (pairs_of compilation.command.env_vars.items) (kept_entries kept) p) (are ∙ ap (runs_given s r.compiler) parts.0)
+    ∙ ap (λ env. compiled_entries (runs_for s r.compiler p) env (kept_entries kept) p) parts.1.env_vars_are
     ∙ ap (λ said. outcome_entries s r kept (answer_of (outcomes.Ok compilation)) said) (sym parts.0)
     ∙ ap (λ a. outcome_entries s r kept a (reading_by r.compiler r)) e
-outcome-is s r kept executable cwd (outcomes.CannotCache reason text) e parts = ap (λ a. outcome_entries s r kept a (reading_by r.compiler r)) e
-outcome-is s r kept executable cwd outcomes.NotCompilation e parts = ap (λ a. outcome_entries s r kept a (reading_by r.compiler r)) e
+outcome-is s r runs kept (outcomes.CannotCache reason text) e parts are = ap (λ a. outcome_entries s r kept a (reading_by r.compiler r)) e
+outcome-is s r runs kept outcomes.NotCompilation e parts are = ap (λ a. outcome_entries s r kept a (reading_by r.compiler r)) e
 
-kept-is : (s : Settings) (r : Request) (telling : Told) (executable cwd : List ℕ) (answer : CompilerArguments Compilation) → answer_of answer ≡ answer_to r
-    → HasParts (reading_by r.compiler r) executable (environment_by r.compiler r.environment) cwd answer
-    → kept_given s r.compiler (run_words_by r.words telling.hazards) telling answer ≡ kept_with s r telling (answer_to r) (reading_by r.compiler r)
-kept-is s r telling executable cwd (outcomes.Ok compilation) e parts =
+pub kept-is : (s : Settings) (r : Request) (telling : Told) (answer : CompilerArguments Compilation) → answer_of answer ≡ answer_to r
+    → HasParts (reading_by r.compiler r) [] (environment_by r.compiler r.environment) r.directory answer
+    → kept_given s r.compiler r.words telling answer ≡ kept_with s r telling (answer_to r) (reading_by r.compiler r)
+kept-is s r telling (outcomes.Ok compilation) e parts =
     ap (λ env. kept_for s compilation.cacheable r.compiler (run_words_by r.words telling.hazards) telling env (parsed_of compilation.parsed)) parts.1.env_vars_are
     ∙ ap (λ said. kept_with s r telling (answer_of (outcomes.Ok compilation)) said) (sym parts.0)
     ∙ ap (λ a. kept_with s r telling a (reading_by r.compiler r)) e
-kept-is s r telling executable cwd (outcomes.CannotCache reason text) e parts = ap (λ a. kept_with s r telling a (reading_by r.compiler r)) e
-kept-is s r telling executable cwd outcomes.NotCompilation e parts = ap (λ a. kept_with s r telling a (reading_by r.compiler r)) e
+kept-is s r telling (outcomes.CannotCache reason text) e parts = ap (λ a. kept_with s r telling a (reading_by r.compiler r)) e
+kept-is s r telling outcomes.NotCompilation e parts = ap (λ a. kept_with s r telling a (reading_by r.compiler r)) e
 
 options-are : (rows : List Row) → map fields_given rows ≡ map option_fields (map told rows)
 options-are [] = refl
@@ -67,33 +67,29 @@ options-are (row ∷ rows) = ap (λ rests. option_fields (told row) ∷ rests) (
 abbrev all_entries : List Entry → Entry → Told → Questions → Kept → List Entry
 all_entries outcome options telling asks kept = version_entry ∷ [] ++ outcome ++ (options ∷ told_entries telling ++ (question_entries asks ++ last_entries kept))
 
-entries-are : (tables : Tables) (s : Settings) (r : Request) (found : Findings) → AreOf tables s r found
-    → entries_given s r.compiler (run_words_by r.words found.told.hazards.items) found ≡ answer_entries tables s r
-entries-are tables s r found are =
-    let by : Told → Kept = λ telling. kept_with s r telling (answer_to r) (reading_by r.compiler r) in
-    let there : Kept → List Entry = λ kept. outcome_entries s r kept (answer_to r) (reading_by r.compiler r) in
-    let given_rows : Kept → List RowTold → List Entry = λ kept rows. outcome_given (runs_given s r.compiler found.answer) kept (refused_at rows) found.answer in
-    let telling : Told = given_told found.told in
-    let kept : kept_given s r.compiler (run_words_by r.words found.told.hazards.items) telling found.answer ≡ by telling =
-    kept-is s r telling [] r.directory found.answer are.answer are.parts in
-    let outcome : given_rows (by telling) (map told found.rows.items) ≡ there (by telling) =
-    ap (given_rows (by telling)) are.rows ∙ outcome-is s r (by telling) [] r.directory found.answer are.answer are.parts in
-    let options : options_given found.rows.items ≡ options_entry (rows_for s r) =
-    ap (entry (codes "option")) (options-are found.rows.items) ∙ ap options_entry are.rows in
-    let options_is : Entry = options_entry (rows_for s r) in
-    ap (λ k. all_entries (given_rows k (map told found.rows.items)) (options_given found.rows.items) telling (given found.questions) k) kept
-    ∙ ap (λ es. all_entries es (options_given found.rows.items) telling (given found.questions) (by telling)) outcome
-    ∙ ap (λ e. all_entries (there (by telling)) e telling (given found.questions) (by telling)) options
-    ∙ ap (λ is. all_entries (there (by is)) options_is is (given found.questions) (by is)) are.told
-    ∙ ap (λ asks. all_entries (there (by (told_for tables s r))) options_is (told_for tables s r) asks (by (told_for tables s r))) are.questions
+entries-are : (tables : Tables) (s : Settings) (r : Request) (made : Description) → AreOf tables s r made → entries_given made ≡ answer_entries tables s r
+entries-are tables s r made are =
+    let runs : List (List (List ℕ)) = runs_of made.runs.items in
+    let kept : Kept = kept_with s r (told_for tables s r) (answer_to r) (reading_by r.compiler r) in
+    let outcome : outcome_given made ≡ outcome_entries s r kept (answer_to r) (reading_by r.compiler r) =
+    ap (λ k. outcome_rows runs k (refused_at (map told made.options.items)) made.answer) are.kept
+    ∙ ap (λ rows. outcome_rows runs kept (refused_at rows) made.answer) are.options
+    ∙ outcome-is s r runs kept made.answer are.answer are.parts are.runs in
+    let options : options_given made.options.items ≡ options_entry (rows_for s r) = ap (entry (codes "option")) (options-are made.options.items) ∙ ap options_entry are.options in
+    let there : List Entry = outcome_entries s r kept (answer_to r) (reading_by r.compiler r) in
+    ap (λ es. all_entries es (options_given made.options.items) (given_told made.told) (given made.questions) (kept_told made.kept)) outcome
+    ∙ ap (λ e. all_entries there e (given_told made.told) (given made.questions) (kept_told made.kept)) options
+    ∙ ap (λ is. all_entries there (options_entry (rows_for s r)) is (given made.questions) (kept_told made.kept)) are.told
+    ∙ ap (λ asks. all_entries there (options_entry (rows_for s r)) (told_for tables s r) asks (kept_told made.kept)) are.questions
+    ∙ ap (λ k. all_entries there (options_entry (rows_for s r)) (told_for tables s r) (questions_for s r) k) are.kept
 
--- the text of an answer and the rows after it are a description
-pub is-description : (tables : Tables) (s : Settings) (r : Request) (text : List ℕ) (found : Findings) → has_at_most s.limits r ≡ true → AreOf tables s r found
-    → text ≡ text_of (answer_of found.answer) ++ entries_text (entries_given s r.compiler (run_words_by r.words found.told.hazards.items) found) → text ≡ description tables s r
-is-description tables s r text found within are is =
+-- the text of what is described of a request is its description
+pub is-description : (tables : Tables) (s : Settings) (r : Request) (text : List ℕ) (made : Description) → has_at_most s.limits r ≡ true → AreOf tables s r made
+    → text ≡ text_given made → text ≡ description tables s r
+is-description tables s r text made within are is =
     is
-    ∙ ap (λ a. text_of a ++ entries_text (entries_given s r.compiler (run_words_by r.words found.told.hazards.items) found)) are.answer
-    ∙ ap (λ es. text_of (answer_to r) ++ entries_text es) (entries-are tables s r found are)
+    ∙ ap (λ a. text_of a ++ entries_text (entries_given made)) are.answer
+    ∙ ap (λ es. text_of (answer_to r) ++ entries_text es) (entries-are tables s r made are)
     ∙ ap (λ b. cond b (text_of (answer_to r) ++ entries_text (answer_entries tables s r)) (entries_text too_many_entries)) (sym within)
 
 pub too-long : (tables : Tables) (s : Settings) (r : Request) (text : List ℕ) → has_at_most s.limits r ≡ false → text ≡ entries_text too_many_entries → text ≡ description tables s r

@@ -1,41 +1,55 @@
--- What is found of the reading of a request's line is what is described of the request.
-use Rattle.std.proofs.Common.{◌≡◌, ◌++◌, ℕ, true, false, List, [], Result, Ok, subst, sym, refl}
+-- What is described of the reading of a request's line is described of the request.
+use Rattle.std.proofs.Common.{◌≡◌, ℕ, true, false, List, [], Result, Ok, ap, subst, sym, refl, ◌∙◌}
 use Rattle.scl_description.specs.Lines.{lines_of}
 use Rattle.scl_description.specs.Rows.{entries_text}
 use Rattle.scl_hazards.specs.Hazards.{Tables}
-use Rattle.scl_reader.proofs.ReadLaws.{IsOf, answer_of_read}
+use Rattle.scl_hazards.specs.Told.{given as given_told}
+use Rattle.scl_reader.proofs.ReadLaws.{IsOf, answer_of_read, readings-say}
+use Rattle.scl_reader.specs.Answers.{answer_to, reading_by}
 use Rattle.scl_reader.specs.CommandLines.{Given, Request, asked_for, given_in}
-use Rattle.scl_reader.specs.Reads.{read_of}
+use Rattle.scl_reader.specs.Reads.{IsReadBy, outcome_in, read_of}
 use Rattle.scl_reader.specs.Within.{has_at_most}
 use Rattle.scl_reader.specs.declared.reading.Reading.{Reading}
 use Rattle.scl_cl.specs.Requests.{request_in}
-use Rattle.scl_describe.specs.Descriptions.{DescribesBytes, IsDescriptionOf, description, too_many_entries}
-use Rattle.scl_cl.specs.AnswerTexts.{text_of}
-use Rattle.scl_reader.specs.AnswersGiven.{answer_of}
-use Rattle.scl_describe.specs.Keepings.{run_words_by}
-use Rattle.scl_describe.specs.DescriptionsGiven.{AreFound, AreOf, IsTextOf, entries_given}
-use Rattle.scl_describe.specs.Hazards.{known_by}
-use Rattle.scl_describe.specs.Settings.{Settings, settings_in, request_lines, wanted}
-use Rattle.scl_describe.specs.declared.described.Findings.{Findings}
-use Rattle.scl_describe.proofs.DescriptionLaws.{is-description, too-long}
+use Rattle.scl_describe.specs.Descriptions.{DescribesBytes, IsDescriptionOf, description, kept_with, too_many_entries}
+use Rattle.scl_describe.specs.DescriptionsGiven.{AreOf, IsDescribed, kept_given, runs_given, text_given}
+use Rattle.scl_describe.specs.Settings.{Settings, settings_in, request_lines}
+use Rattle.scl_describe.specs.declared.described.Description.{Description}
+use Rattle.scl_describe.proofs.DescriptionLaws.{is-description, kept-is, too-long}
 
-found-of : (tables : Tables) (s : Settings) (request : Request) (found : Findings) → AreFound (known_by tables s.version) (wanted s) (read_of request) (given_in request) found → AreOf tables s request found
-found-of tables s request found h =
-    let is : IsOf request [] found.answer = answer_of_read request [] found.answer (read_of request) refl h.answer in
-    record { answer = is.is; parts = is.parts; rows = h.rows; told = h.told; questions = h.questions }
+-- what is described of the reading of a request's line is of the request
+pub described-of : (tables : Tables) (s : Settings) (request : Request) (made : Description) → IsDescribed tables s (read_of request) (given_in request) made → AreOf tables s request made
+described-of tables s request made h =
+    let said : IsReadBy request = readings-say request in
+    let is : IsOf request [] made.answer = answer_of_read request [] made.answer (read_of request) refl h.answer in
+    record {
+      answer = is.is;
+      parts = is.parts;
+      runs = h.runs ∙ ap (λ c. runs_given s c (outcome_in (read_of request))) said.compiler ∙ ap (runs_given s request.compiler) said.outcome;
+      kept =
+          h.kept ∙ ap (λ c. kept_given s c request.words (given_told made.told) made.answer) said.compiler
+          ∙ kept-is s request (given_told made.told) made.answer is.is is.parts
+          ∙ ap (λ telling. kept_with s request telling (answer_to request) (reading_by request.compiler request)) h.told;
+      options = h.options;
+      told = h.told;
+      questions = h.questions;
+    }
+
+pub is_of : (tables : Tables) (s : Settings) (request : Request) (reading : Reading) (line : Given) (made : Description) → reading ≡ read_of request → line ≡ given_in request
+    → IsDescribed tables s reading line made → AreOf tables s request made
+is_of tables s request reading line made read its h =
+    described-of tables s request made (subst (λ g. IsDescribed tables s (read_of request) g made) its (subst (λ r. IsDescribed tables s r line made) read h))
 
 module _ (tables : Tables) (s : Settings) (request : Request) (line : Given) (is_its : line ≡ given_in request) where
   abbrev there : Given → Request
   there = asked_for request.compiler
 
-  pub is_described : (reading : Reading) (text : List ℕ) → (has_at_most s.limits (there line) ≡ true) × (reading ≡ read_of (there line))
-      → IsTextOf (known_by tables s.version) s request.compiler reading line text → text ≡ description tables s request
-  is_described reading text read its =
-      let found : Findings = its.found in
-      let IsIn : Given → Type 0 = λ g. text ≡ text_of (answer_of found.answer) ++ entries_text (entries_given s request.compiler (run_words_by g.words found.told.hazards.items) found) in
-      let On : Given → Type 0 = λ g. (has_at_most s.limits (there g) ≡ true) × (AreFound (known_by tables s.version) (wanted s) (read_of (there g)) g found × IsIn g) in
-      let here : On (given_in request) = subst On is_its (read.0, (subst (λ r. AreFound (known_by tables s.version) (wanted s) r line found) read.1 its.are_found, its.is)) in
-      is-description tables s request text found here.0 (found-of tables s request found here.1.0) here.1.1
+  pub is_described : (reading : Reading) (made : Description) (text : List ℕ) → (has_at_most s.limits (there line) ≡ true) × (reading ≡ read_of (there line))
+      → IsDescribed tables s reading line made → text ≡ text_given made → text ≡ description tables s request
+  is_described reading made text read its is =
+      let On : Given → Type 0 = λ g. (has_at_most s.limits (there g) ≡ true) × (reading ≡ read_of (there g)) in
+      let here : On (given_in request) = subst On is_its read in
+      is-description tables s request text made here.0 (is_of tables s request reading line made here.1 is_its its) is
 
   pub is_too_long : (text : List ℕ) → has_at_most s.limits (there line) ≡ false → text ≡ entries_text too_many_entries → text ≡ description tables s request
   is_too_long text within is = too-long tables s request text (subst (λ g. has_at_most s.limits (there g) ≡ false) is_its within) is

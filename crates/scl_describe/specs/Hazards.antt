@@ -5,7 +5,7 @@ use Rattle.scl_catalogue_text.specs.Reading.{version_read}
 use Rattle.scl_description.specs.Lines.{cut_at}
 use Rattle.scl_hazards.specs.ClangClHazards.{msvc_told}
 use Rattle.scl_hazards.specs.GnuHazards.{gnu_told}
-use Rattle.scl_hazards.specs.Hazards.{Hazard, Known, Tables}
+use Rattle.scl_hazards.specs.Hazards.{Known, Tables}
 use Rattle.scl_hazards.specs.SmallHazards.{diab_told, tasking_told}
 use Rattle.scl_hazards.specs.Told.{Told}
 use Rattle.scl_reader.specs.Apple.{is_apple}
@@ -49,10 +49,3 @@ told_in known line reading = told_with known line.environment (has_precompiled_h
 
 abbrev pub told_by : Known → Request → Told
 told_by known request = told_in known (given_in request) (read_of request)
-
--- the hazards among that
-abbrev pub hazards_in : Known → Given → Reading → List Hazard
-hazards_in known line reading = (told_in known line reading).hazards
-
-abbrev pub hazards_by : Known → Request → List Hazard
-hazards_by known request = (told_by known request).hazards

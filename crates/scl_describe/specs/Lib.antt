@@ -9,5 +9,4 @@ pub mod SettingsRead
 pub mod OptionLines
 pub mod Descriptions
 pub mod DescriptionsGiven
-pub mod Abouts
 pub mod Keepings

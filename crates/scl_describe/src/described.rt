@@ -1,43 +1,48 @@
-//! The text of a description: the answer's lines, and after them rows of what was read.
-ghost use Rattle.std.specs.Prelude.{◌≡◌, ◌++◌, codes, map, IfOk, OnOk};
+//! What is described of a command line that was read, and its text: the answer's lines, and after them rows.
+ghost use Rattle.std.specs.Prelude.{◌≡◌, ◌++◌, codes, IfOk, OnOk};
 ghost use Rattle.std.specs.Option.{option_copied};
 ghost use Rattle.scl_values.specs.Words.{words_of};
 ghost use Rattle.scl_text.specs.Commands.{pairs_of};
-ghost use Rattle.scl_rows.specs.Rows.{refused_at, told};
-ghost use Rattle.scl_text.specs.Records.{parsed_of};
 ghost use Rattle.scl_text.specs.Runs.{runs_of};
 ghost use Rattle.scl_description.specs.Rows.{entry_text, entries_text, row_entry};
-ghost use Rattle.scl_cl.specs.AnswerTexts.{text_of};
-ghost use Rattle.scl_reader.specs.AnswersGiven.{answer_of};
+ghost use Rattle.scl_reader.specs.CommandLines.{given_by};
 ghost use Rattle.scl_reader.specs.QuestionsGiven.{given};
-ghost use Rattle.scl_describe.specs.SettingsRead.{settings_by};
-ghost use Rattle.scl_describe.specs.Descriptions.{runs_entry, pair_fields, environment_entry, hazards_entry, told_entries, wants_entry, question_entries, refused_entries, runs_for, too_many_entries, undone_entries, version_entry};
+ghost use Rattle.scl_hazards.specs.Hazards.{tables_of};
 ghost use Rattle.scl_hazards.specs.Told.{given as given_told};
+ghost use Rattle.scl_describe.specs.SettingsRead.{settings_by};
+ghost use Rattle.scl_describe.specs.Descriptions.{runs_entry, pair_fields, environment_entry, hazards_entry, told_entries, wants_entry, question_entries, refused_entries, too_many_entries, undone_entries, version_entry};
 ghost use Rattle.scl_describe.specs.EffectRows.{effect_entries, effect_entry, row_name};
-ghost use Rattle.scl_describe.specs.Keepings.{run_words_by};
-ghost use Rattle.scl_describe.specs.DescriptionsGiven.{compilation_entries, entries_given, kept_told, outcome_given, runs_given};
+ghost use Rattle.scl_describe.specs.DescriptionsGiven.{IsDescribed, compilation_entries, kept_told, outcome_given, text_given};
 
+use crate::found::{options_wanted, questions_wanted, runs_wanted, told_wanted};
 use crate::keeping::{Kept, kept_in, push_kept, push_last};
 use crate::option_lines::{push_index, push_options};
 use crate::settings::Settings;
 use scl_cl::answer_text;
 use scl_description::{push_maybe, push_record, push_row, push_row_of, push_word, push_yes};
-use scl_hazards::{Effect, Hazard, Told, Verb};
-use scl_reader::{Compilation, Compiler, Questions};
+use scl_hazards::{Effect, Hazard, Tables, Told, Verb};
+use scl_reader::{CommandLine, Compilation, Questions, Reading};
 use scl_reasons::sentence;
 use scl_rows::{Row, refused_at};
 use scl_text::Mem;
-use scl_text::command::copy_text;
-use scl_text::records::{CompilerArguments, ParsedArguments};
+use scl_text::records::CompilerArguments;
 use std::alloc::Global;
 
-/// What is described of a request.
+/// What is described of a command line that was read, as far as settings want it (docs/RULES.md, Descriptions).
 #[derive(Drop)]
-pub(crate) struct Findings<'a> {
-    pub(crate) answer: CompilerArguments<Compilation>,
-    pub(crate) rows: Vec<Row>,
-    pub(crate) told: Told<'a>,
-    pub(crate) questions: Questions,
+pub struct Description<'a> {
+    /// The answer; its command names no program.
+    pub answer: CompilerArguments<Compilation>,
+    /// The words of each run of the preprocessor; none where there is no command.
+    pub runs: Vec<Vec<Vec<u8>>>,
+    /// What is said of keeping what the command line makes.
+    pub kept: Kept,
+    /// What became of each option.
+    pub options: Vec<Row>,
+    /// What tables report of the compiler; the key is judged by it, so it is here where that is wanted too.
+    pub told: Told<'a>,
+    /// The questions of the answer.
+    pub questions: Questions,
 }
 
 /// Appends a row for each run of the preprocessor.
@@ -91,60 +96,18 @@ fn push_questions(text: &mut Vec<u8>, questions: &Questions) -> Mem<()>
     Ok(())
 }
 
-/// The words of the runs of the preprocessor that settings request, if they are wanted.
-fn settings_runs(
-    alloc: Global,
-    compiler: Compiler,
-    settings: &Settings,
-    parsed: &ParsedArguments,
-) -> Mem<Vec<Vec<Vec<u8>>>>
-    ensures { IfOk result (λ runs. runs_of runs.items ≡ runs_for (settings_by settings.now) compiler (parsed_of parsed.now)) }
-{
-    if !settings.wanted().runs {
-        return Ok(Vec::new(alloc));
-    }
-    compiler.preprocess_runs_with(
-        alloc,
-        copy_text(alloc, &settings.version)?,
-        parsed,
-        settings.may_dist,
-        settings.rewrite_includes_only,
-        settings.cache_mode,
-    )
-}
-
-/// The words of the runs of the preprocessor of an answer; there are none if it has no command.
-fn runs_in(
-    alloc: Global,
-    compiler: Compiler,
-    settings: &Settings,
-    answer: &CompilerArguments<Compilation>,
-) -> Mem<Vec<Vec<Vec<u8>>>>
-    ensures { IfOk result (λ runs. runs_of runs.items ≡ runs_given (settings_by settings.now) compiler answer.now) }
-{
-    match answer {
-        CompilerArguments::Ok(compilation) => {
-            settings_runs(alloc, compiler, settings, &compilation.parsed)
-        }
-        CompilerArguments::CannotCache(_, _) | CompilerArguments::NotCompilation => {
-            Ok(Vec::new(alloc))
-        }
-    }
-}
-
-/// Appends the rows of a command line that has a command.
+/// Appends the rows of a command line that has this command.
 fn push_compilation(
     text: &mut Vec<u8>,
-    runs: &[Vec<Vec<u8>>],
-    kept: &Kept,
+    described: &Description<'_>,
     compilation: &Compilation,
 ) -> Mem<()>
-    ensures { OnOk result (text.new.items ≡ text.old.items ++ entries_text (compilation_entries (runs_of runs.now) (kept_told kept.now) compilation.now)) }
+    ensures { OnOk result (text.new.items ≡ text.old.items ++ entries_text (compilation_entries (runs_of described.now.runs.items) (kept_told described.now.kept) compilation.now)) }
 {
     push_record(text, &compilation.parsed)?;
-    push_runs(text, runs)?;
+    push_runs(text, &described.runs)?;
     push_environment(text, &compilation.command.env_vars)?;
-    push_kept(text, kept)?;
+    push_kept(text, &described.kept)?;
     Ok(())
 }
 
@@ -173,18 +136,12 @@ fn push_refusal(
 }
 
 /// Appends the rows of what was read, or of why nothing was.
-fn push_outcome(
-    alloc: Global,
-    text: &mut Vec<u8>,
-    runs: &[Vec<Vec<u8>>],
-    kept: &Kept,
-    findings: &Findings<'_>,
-) -> Mem<()>
-    ensures { OnOk result (text.new.items ≡ text.old.items ++ entries_text (outcome_given (runs_of runs.now) (kept_told kept.now) (refused_at (map told findings.now.rows.items)) findings.now.answer)) }
+fn push_outcome(alloc: Global, text: &mut Vec<u8>, described: &Description<'_>) -> Mem<()>
+    ensures { OnOk result (text.new.items ≡ text.old.items ++ entries_text (outcome_given described.now)) }
 {
-    let at = refused_at(&findings.rows);
-    match &findings.answer {
-        CompilerArguments::Ok(compilation) => push_compilation(text, runs, kept, compilation),
+    let at = refused_at(&described.options);
+    match &described.answer {
+        CompilerArguments::Ok(compilation) => push_compilation(text, described, compilation),
         CompilerArguments::CannotCache(reason, because) => {
             push_refusal(alloc, text, reason, because.as_deref(), at)
         }
@@ -254,29 +211,52 @@ fn push_version(text: &mut Vec<u8>) -> Mem<()>
     push_word(text, "version", b"1")
 }
 
-/// The text of the answer to a line of these words, and the rows after it.
-pub(crate) fn description_text(
-    alloc: Global,
-    compiler: Compiler,
-    settings: &Settings,
-    words: &[Vec<u8>],
-    findings: &Findings<'_>,
-) -> Mem<Vec<u8>>
-    ensures { IfOk result (λ text. text.items ≡ text_of (answer_of findings.now.answer) ++ entries_text (entries_given (settings_by settings.now) compiler (run_words_by (words_of words.now) findings.now.told.hazards.items) findings.now)) }
-{
-    let runs = runs_in(alloc, compiler, settings, &findings.answer)?;
-    let kept = kept_in(alloc, compiler, settings, words, findings)?;
-    let mut text = answer_text(alloc, &findings.answer)?;
-    push_version(&mut text)?;
-    push_outcome(alloc, &mut text, &runs, &kept, findings)?;
-    push_options(alloc, &mut text, &findings.rows)?;
-    push_told(&mut text, &findings.told)?;
-    push_questions(&mut text, &findings.questions)?;
-    push_last(&mut text, &kept)?;
-    Ok(text)
+impl<'a> Description<'a> {
+    /// What is described of a command line that was read, by tables and as settings request it.
+    pub fn of_reading(
+        alloc: Global,
+        tables: &Tables<'a>,
+        settings: &Settings,
+        reading: Reading,
+        line: &CommandLine<'_>,
+    ) -> Mem<Description<'a>>
+        ensures { IfOk result (IsDescribed (tables_of tables.now) (settings_by settings.now) reading (given_by line.now)) }
+    {
+        let compiler = reading.compiler();
+        let runs = runs_wanted(alloc, settings, &reading)?;
+        let options = options_wanted(alloc, settings, &reading)?;
+        let told = told_wanted(alloc, tables, settings, &reading, line)?;
+        let questions = questions_wanted(alloc, settings, &reading, line)?;
+        let answer = reading.into_answer(alloc, b"", line)?;
+        let mut described = Description {
+            answer,
+            runs,
+            kept: Kept::Nothing,
+            options,
+            told,
+            questions,
+        };
+        described.kept = kept_in(alloc, compiler, settings, line.words, &described)?;
+        Ok(described)
+    }
+
+    /// Its text: the answer's lines, and after them the rows.
+    pub fn text(&self, alloc: Global) -> Mem<Vec<u8>>
+        ensures { IfOk result (λ text. text.items ≡ text_given self.now) }
+    {
+        let mut text = answer_text(alloc, &self.answer)?;
+        push_version(&mut text)?;
+        push_outcome(alloc, &mut text, self)?;
+        push_options(alloc, &mut text, &self.options)?;
+        push_told(&mut text, &self.told)?;
+        push_questions(&mut text, &self.questions)?;
+        push_last(&mut text, &self.kept)?;
+        Ok(text)
+    }
 }
 
 /// The text if a command line has too many words.
+#[tactic(auto, unfolding(scl_description::specs::Rows::entry_text))]
 pub(crate) fn too_many_words(alloc: Global) -> Mem<Vec<u8>>
     ensures { IfOk result (λ text. text.items ≡ entries_text too_many_entries) }
 {

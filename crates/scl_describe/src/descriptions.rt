@@ -1,95 +1,21 @@
 //! Descriptions: the answer's lines, and after them rows of what was read.
-ghost use Rattle.std.specs.Prelude.{◌≡◌, ◌≢◌, ◌^◌, ◌+◌, ◌<◌, ◌≤◌, ◌⊎◌, ℕ, List, length, map, take, IfOk, IfSome, Ok, Err};
+ghost use Rattle.std.specs.Prelude.{◌≡◌, ◌≢◌, ◌^◌, ◌+◌, ◌<◌, ◌≤◌, ◌⊎◌, ℕ, List, length, take, IfOk, IfSome, Ok, Err};
 ghost use Rattle.std.specs.Io.KnownBytes.{Appends, IsAtEnd};
 ghost use Rattle.scl_devices.specs.Counts.{one_more, many_more};
-ghost use Rattle.scl_rows.specs.Rows.{told};
-ghost use Rattle.scl_reader.specs.CommandLines.{given_by};
-ghost use Rattle.scl_reader.specs.Questions.{questions_in};
-ghost use Rattle.scl_reader.specs.QuestionsGiven.{given};
 ghost use Rattle.scl_cl.specs.Drafts.{asked_by};
 ghost use Rattle.scl_cl.specs.Outcomes.{IsJudged, IsSilent};
 ghost use Rattle.scl_cl.specs.Transfers.{Gave};
 ghost use Rattle.scl_describe.specs.SettingsRead.{settings_by};
 ghost use Rattle.scl_hazards.specs.Hazards.{tables_of};
-ghost use Rattle.scl_hazards.specs.Told.{given as given_told};
 ghost use Rattle.scl_describe.specs.Descriptions.{DescribesBytes, description};
-ghost use Rattle.scl_describe.specs.DescriptionsGiven.{AreFound, IsTextOf};
-ghost use Rattle.scl_describe.specs.Hazards.{told_in};
-ghost use Rattle.scl_describe.specs.OptionRows.{rows_in};
-ghost use Rattle.scl_describe.specs.Wants.{if_wanted, questions_if, told_if};
 
-use crate::about::known_of;
-use crate::described::{Findings, description_text, too_many_words};
-use crate::found::{questions_wanted, rows_wanted, told_wanted};
+use crate::described::{Description, too_many_words};
 use crate::settings::{Settings, read_settings};
-use crate::wants::Wants;
 use scl_cl::{Counted, Outcome, Request, Service, read_request, serve};
-use scl_hazards::{Known, Tables, Told};
-use scl_reader::{CommandLine, Compiler, Questions, Reading};
-use scl_rows::Row;
+use scl_hazards::Tables;
 use scl_text::{Mem, TooManyWords};
 use std::alloc::Global;
 use std::io::{Read, Write};
-
-/// What is described of a reading beside its answer, as far as it is wanted: its rows, what is reported of it and its questions.
-fn beside<'a>(
-    alloc: Global,
-    known: &Known<'a>,
-    wants: Wants,
-    reading: &Reading,
-    line: &CommandLine<'_>,
-) -> Mem<(Vec<Row>, Told<'a>, Questions)>
-    ensures rows { IfOk result (λ found. map told found.0.items ≡ if_wanted wants.options (rows_in reading.now)) }
-    ensures told { IfOk result (λ found. given_told found.1 ≡ told_if wants (told_in known.now (given_by line.now) reading.now)) }
-    ensures questions { IfOk result (λ found. given found.2 ≡ questions_if wants (questions_in (given_by line.now) reading.now)) }
-{
-    let rows = rows_wanted(alloc, wants, reading)?;
-    let told = told_wanted(alloc, wants, known, reading, line)?;
-    let questions = questions_wanted(alloc, wants, reading, line)?;
-    Ok((rows, told, questions))
-}
-
-/// What is described of a reading.
-fn findings_of<'a>(
-    alloc: Global,
-    known: &Known<'a>,
-    wants: Wants,
-    reading: Reading,
-    line: &CommandLine<'_>,
-) -> Mem<Findings<'a>>
-    ensures { IfOk result (AreFound known.now wants reading (given_by line.now)) }
-{
-    let (rows, told, questions) = match beside(alloc, known, wants, &reading, line) {
-        Ok(found) => found,
-        Err(refused) => {
-            drop(reading);
-            return Err(refused);
-        }
-    };
-    let answer = reading.into_answer(alloc, b"", line)?;
-    Ok(Findings {
-        answer,
-        rows,
-        told,
-        questions,
-    })
-}
-
-/// The text of what is described of a reading.
-fn reading_text(
-    alloc: Global,
-    known: &Known<'_>,
-    compiler: Compiler,
-    settings: &Settings,
-    reading: Reading,
-    line: &CommandLine<'_>,
-) -> Mem<Vec<u8>>
-    ensures { IfOk result (λ text. IsTextOf known.now (settings_by settings.now) compiler reading (given_by line.now) text.items) }
-{
-    let findings = findings_of(alloc, known, settings.wanted(), reading, line)?;
-    let text = description_text(alloc, compiler, settings, line.words, &findings)?;
-    Ok(text)
-}
 
 /// The description of the answer to a request.
 #[tactic(auto, using(crate::proofs::FindingLaws::is_too_long))]
@@ -104,8 +30,8 @@ fn request_description(
     let (compiler, line) = (request.compiler, request.line());
     match compiler.read(alloc, &line, settings.limits)? {
         Ok(reading) => {
-            let known = known_of(tables, settings.version.as_deref());
-            let text = reading_text(alloc, &known, compiler, settings, reading, &line)?;
+            let described = Description::of_reading(alloc, tables, settings, reading, &line)?;
+            let text = described.text(alloc)?;
             Ok(text)
         }
         Err(TooManyWords) => too_many_words(alloc),

@@ -1,19 +1,27 @@
-//! What is described of a command line that was read: what became of its options, and its hazards.
+//! What is described of a command line that was read beside its answer, as far as settings want it.
 ghost use Rattle.std.specs.Prelude.{◌≡◌, IfOk, map};
 ghost use Rattle.scl_rows.specs.Rows.{told};
+ghost use Rattle.scl_text.specs.Runs.{runs_of};
 ghost use Rattle.scl_reader.specs.CommandLines.{given_by};
-ghost use Rattle.scl_hazards.specs.Told.{given};
-ghost use Rattle.scl_describe.specs.Hazards.{hazards_in, told_in};
-ghost use Rattle.scl_describe.specs.OptionRows.{rows_in};
-ghost use Rattle.scl_describe.specs.Wants.{if_wanted, questions_if, told_if};
 ghost use Rattle.scl_reader.specs.Questions.{questions_in};
 ghost use Rattle.scl_reader.specs.QuestionsGiven.{given as given_questions};
+ghost use Rattle.scl_reader.specs.Reads.{compiler_of, outcome_in};
+ghost use Rattle.scl_hazards.specs.Hazards.{tables_of};
+ghost use Rattle.scl_hazards.specs.Told.{given};
+ghost use Rattle.scl_describe.specs.DescriptionsGiven.{runs_given};
+ghost use Rattle.scl_describe.specs.Hazards.{known_by, told_in};
+ghost use Rattle.scl_describe.specs.OptionRows.{rows_in};
+ghost use Rattle.scl_describe.specs.Settings.{wanted};
+ghost use Rattle.scl_describe.specs.SettingsRead.{settings_by};
+ghost use Rattle.scl_describe.specs.Wants.{if_wanted, questions_if, told_if};
 
-use crate::wants::Wants;
-use scl_hazards::{Hazard, Known, Told, diab_told, gnu_told, msvc_told, tasking_told};
+use crate::known::known_of;
+use crate::settings::Settings;
+use scl_hazards::{Known, Tables, Told, diab_told, gnu_told, msvc_told, tasking_told};
 use scl_reader::{CommandLine, Questions, Reading};
 use scl_rows::{Row, gnu_rows, msvc_rows, small_rows};
 use scl_text::Mem;
+use scl_text::command::copy_text;
 use std::alloc::Global;
 
 /// What became of each option of a command line that was read, whether that is refused or not, a row each: those of its words
@@ -34,7 +42,7 @@ pub fn rows_of(alloc: Global, reading: &Reading) -> Mem<Vec<Row>>
 /// What is reported of a command line that was read: what its compiler is known to do differently with the built command than
 /// with the given one, what it reads, writes, asks and loads, and the first option of which nothing is known; nothing where
 /// there is no command (docs/RULES.md, Hazards).
-pub fn told_of<'a>(
+fn told_of<'a>(
     alloc: Global,
     known: &Known<'a>,
     reading: &Reading,
@@ -53,11 +61,31 @@ pub fn told_of<'a>(
     }
 }
 
-/// The rows of options, if they are wanted.
-pub(crate) fn rows_wanted(alloc: Global, wants: Wants, reading: &Reading) -> Mem<Vec<Row>>
-    ensures { IfOk result (λ rows. map told rows.items ≡ if_wanted wants.options (rows_in reading.now)) }
+/// The runs of the preprocessor, if they are wanted.
+pub(crate) fn runs_wanted(
+    alloc: Global,
+    settings: &Settings,
+    reading: &Reading,
+) -> Mem<Vec<Vec<Vec<u8>>>>
+    ensures { IfOk result (λ runs. runs_of runs.items ≡ runs_given (settings_by settings.now) (compiler_of reading.now) (outcome_in reading.now)) }
 {
-    if wants.options {
+    if !settings.wanted().runs {
+        return Ok(Vec::new(alloc));
+    }
+    reading.runs(
+        alloc,
+        copy_text(alloc, &settings.version)?,
+        settings.may_dist,
+        settings.rewrite_includes_only,
+        settings.cache_mode,
+    )
+}
+
+/// The rows of options, if they are wanted.
+pub(crate) fn options_wanted(alloc: Global, settings: &Settings, reading: &Reading) -> Mem<Vec<Row>>
+    ensures { IfOk result (λ rows. map told rows.items ≡ if_wanted (wanted (settings_by settings.now)).options (rows_in reading.now)) }
+{
+    if settings.wanted().options {
         rows_of(alloc, reading)
     } else {
         Ok(Vec::new(alloc))
@@ -67,15 +95,17 @@ pub(crate) fn rows_wanted(alloc: Global, wants: Wants, reading: &Reading) -> Mem
 /// What is reported, if it is wanted, or the key, which is judged by it.
 pub(crate) fn told_wanted<'a>(
     alloc: Global,
-    wants: Wants,
-    known: &Known<'a>,
+    tables: &Tables<'a>,
+    settings: &Settings,
     reading: &Reading,
     line: &CommandLine<'_>,
 ) -> Mem<Told<'a>>
-    ensures { IfOk result (λ told. given told ≡ told_if wants (told_in known.now (given_by line.now) reading.now)) }
+    ensures { IfOk result (λ told. let s = settings_by settings.now in
+        given told ≡ told_if (wanted s) (told_in (known_by (tables_of tables.now) s.version) (given_by line.now) reading.now)) }
 {
+    let wants = settings.wanted();
     if wants.tables || wants.key {
-        told_of(alloc, known, reading, line)
+        told_of(alloc, &known_of(tables, settings), reading, line)
     } else {
         Ok(Told {
             hazards: Vec::new(alloc),
@@ -88,13 +118,13 @@ pub(crate) fn told_wanted<'a>(
 /// The questions, if they are wanted.
 pub(crate) fn questions_wanted(
     alloc: Global,
-    wants: Wants,
+    settings: &Settings,
     reading: &Reading,
     line: &CommandLine<'_>,
 ) -> Mem<Questions>
-    ensures { IfOk result (λ asked. given_questions asked ≡ questions_if wants (questions_in (given_by line.now) reading.now)) }
+    ensures { IfOk result (λ asked. given_questions asked ≡ questions_if (wanted (settings_by settings.now)) (questions_in (given_by line.now) reading.now)) }
 {
-    if wants.questions {
+    if settings.wanted().questions {
         reading.questions(alloc, line)
     } else {
         Ok(Questions {
@@ -103,17 +133,4 @@ pub(crate) fn questions_wanted(
             existing: Vec::new(alloc),
         })
     }
-}
-
-/// The hazards of a command line that was read.
-pub fn hazards_of<'a>(
-    alloc: Global,
-    known: &Known<'a>,
-    reading: &Reading,
-    line: &CommandLine<'_>,
-) -> Mem<Vec<Hazard<'a>>>
-    ensures { IfOk result (λ found. found.items ≡ hazards_in known.now (given_by line.now) reading.now) }
-{
-    let told = told_of(alloc, known, reading, line)?;
-    Ok(told.hazards)
 }

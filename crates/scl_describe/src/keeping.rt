@@ -15,7 +15,7 @@ ghost use Rattle.scl_describe.specs.DescriptionsGiven.{kept_given, kept_told};
 ghost use Rattle.scl_describe.specs.Keepings.{barring, concerns_files, delivered_by, is_told, kept_entries, last_entries, names_response_file, run_words_by, under_entries, words_despite};
 ghost use Rattle.scl_describe.specs.SettingsRead.{settings_by};
 
-use crate::described::Findings;
+use crate::described::Description;
 use crate::settings::Settings;
 use scl_delivered::{Delivered, Delivery, deliver};
 use scl_description::{push_row, push_word};
@@ -138,17 +138,17 @@ fn delivered_by(
     deliver(alloc, compiler, parsed, &by, key)
 }
 
-/// What is said of keeping what a command line of these words makes, as settings request it.
+/// What is said of keeping what a command line of these words makes, which this is described of, as settings request it.
 pub(crate) fn kept_in(
     alloc: Global,
     compiler: Compiler,
     settings: &Settings,
     words: &[Vec<u8>],
-    findings: &Findings<'_>,
+    described: &Description<'_>,
 ) -> Mem<Kept>
-    ensures { IfOk result (λ kept. kept_told kept ≡ kept_given (settings_by settings.now) compiler (run_words_by (words_of words.now) findings.now.told.hazards.items) (given findings.now.told) findings.now.answer) }
+    ensures { IfOk result (λ kept. kept_told kept ≡ kept_given (settings_by settings.now) compiler (words_of words.now) (given described.now.told) described.now.answer) }
 {
-    let compilation = match &findings.answer {
+    let compilation = match &described.answer {
         CompilerArguments::Ok(compilation) => compilation,
         CompilerArguments::CannotCache(_, _) | CompilerArguments::NotCompilation => {
             return Ok(Kept::Nothing);
@@ -157,7 +157,7 @@ pub(crate) fn kept_in(
     if !is_told(settings, compilation.cacheable) {
         return Ok(Kept::Nothing);
     }
-    let told = &findings.told;
+    let told = &described.told;
     let words = run_words_by(words, &told.hazards);
     let keeping = keeping_by(alloc, compiler, words, &told.effects, compilation)?;
     match (keeping, told.unknown.as_deref()) {

@@ -1,23 +1,23 @@
 //! Descriptions: an answer's lines, and after them rows of what was read.
 #![tactic(auto)]
 
-mod about;
 mod described;
 mod descriptions;
 mod found;
 mod keeping;
+mod known;
 pub mod laws;
 mod option_lines;
 mod settings;
 mod wants;
 
-pub use about::About;
+pub use described::Description;
 pub use descriptions::{Descriptions, describe};
-pub use found::{hazards_of, rows_of, told_of};
+pub use found::rows_of;
 pub use keeping::{Kept, concerns_files};
 pub use scl_hazards::{
-    Catalogue, Danger, Effect, Entry, Hazard, Known, PlainNames, Tables, Told, Verb, Version,
-    danger_name,
+    Catalogue, Danger, Effect, Entry, Hazard, PlainNames, Tables, Told, Verb, danger_name,
 };
 pub use scl_rows::{Destination, Origin, Row};
-pub use settings::{base_in, number_of};
+pub use settings::{Settings, base_in, number_of};
+pub use wants::Wants;

@@ -14,12 +14,19 @@ use std::alloc::Global;
 
 /// The settings of a description beside its request (docs/RULES.md, Descriptions).
 #[derive(Debug, Drop)]
-pub(crate) struct Settings {
+pub struct Settings {
+    /// Whether the runs of the preprocessor are for a distant compiler.
     pub may_dist: bool,
+    /// Whether the runs leave macros in place.
     pub rewrite_includes_only: bool,
+    /// Whether the runs are kept in a cache.
     pub cache_mode: bool,
+    /// The text of the compiler's version, if it is known: numbers such as `14` or `14.0.6`, of which the first two count for
+    /// hazards, or a text in which Apple's clang names itself.
     pub version: Option<String>,
+    /// How much a command line may have, once its response files are put in place.
     pub limits: Limits,
+    /// The parts that are wanted, or all.
     pub wants: Option<Wants>,
     /// The base directories by which keys are told, without the separators at their ends.
     pub bases: Vec<Vec<u8>>,
@@ -42,8 +49,8 @@ enum Setting {
 }
 
 impl Settings {
-    /// The settings where no line sets them.
-    fn new(alloc: Global) -> Settings
+    /// The settings where nothing sets them.
+    pub fn new(alloc: Global) -> Settings
         ensures { settings_by result ≡ no_settings }
     {
         Settings {

@@ -21,12 +21,17 @@ pub(crate) enum Part {
 
 /// Which parts of a description are wanted, besides what is always reported.
 #[derive(Debug, Clone, Copy, PartialEq, Eq)]
-pub(crate) struct Wants {
-    pub(crate) runs: bool,
-    pub(crate) key: bool,
-    pub(crate) tables: bool,
-    pub(crate) options: bool,
-    pub(crate) questions: bool,
+pub struct Wants {
+    /// The runs of the preprocessor.
+    pub runs: bool,
+    /// The key, and whether there is one.
+    pub key: bool,
+    /// What tables report of the compiler: hazards and effects.
+    pub tables: bool,
+    /// What became of the options.
+    pub options: bool,
+    /// The questions of the answer.
+    pub questions: bool,
 }
 
 /// The names of rows, each with its part.

@@ -1,8 +1,7 @@
 pub mod CaseLemmas
-pub mod DiskLineLaws
+mod DiskLineLaws
 pub mod HashedLaws
+pub mod LoadedLaws
 pub mod NulLaws
-pub mod ReadCaseLaws
+pub mod ReplyLaws
 pub mod SameKeyLaws
-pub mod SeenLaws
-pub mod UnreadLaws

@@ -4,7 +4,8 @@ use Rattle.scl_values.specs.Words.{words_of}
 use Rattle.scl_text.specs.Commands.{pairs_of}
 use Rattle.scl_names.specs.Launchers.{assignment_at, program_behind}
 use Rattle.scl_names.specs.Names.{compiler_of}
-use Rattle.scl_files.specs.Within.{standard}
+use Rattle.scl_describe.specs.Settings.{no_settings}
+use Rattle.scl_describe.specs.SettingsRead.{settings_by}
 use Rattle.scl_reader.specs.declared.compiler.Compiler.{Compiler}
 use Rattle.scl_explain.specs.declared.case.Case.{Case}
 use Rattle.scl_explain.specs.declared.case.CaseError.{CaseError}
@@ -37,8 +38,8 @@ pub record IsDivided (all : List (List ℕ)) (at : ℕ) (divided : Divided) : Ty
   pub words : words_of divided.words.items ≡ drop (at + 1) all
 
 -- the program is the first word that may be one, the words are those after it, and the variables those that words before it
--- assign, the last first, and then those that are given: of several values of a variable the first counts. The runs are for this
--- machine, and there is no base directory
+-- assign, the last first, and then those that are given: of several values of a variable the first counts. One architecture is
+-- allowed, and nothing is set
 pub record IsCase (launchers all : List (List ℕ)) (named : Option Compiler) (cwd : List ℕ) (env_vars : List (List ℕ × List ℕ)) (case : Case) : Type 0 where
   pub at : ℕ
   pub program_at : program_behind launchers all ≡ Some at
@@ -47,10 +48,8 @@ pub record IsCase (launchers all : List (List ℕ)) (named : Option Compiler) (c
   pub compiler : compiler_for named case.program.items ≡ Some case.compiler
   pub directory : case.cwd.items ≡ cwd
   pub variables : pairs_of case.env_vars.items ≡ assigned (take at all) ++ env_vars
-  pub may_dist : case.may_dist ≡ false
-  pub limits : case.limits ≡ standard
-  pub base_dirs : case.base_dirs.items ≡ []
-  pub keeps_shown : case.keeps_shown ≡ false
+  pub multiarch : case.multiarch ≡ false
+  pub settings : settings_by case.settings ≡ no_settings
 
 -- no word may be a program, or no compiler is named and the program's name names none
 abbrev pub IsNoCase : (launchers all : List (List ℕ)) → Option Compiler → CaseError → Type 0

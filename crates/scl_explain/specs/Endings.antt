@@ -1,5 +1,6 @@
 -- The statuses that the program ends with.
 use Rattle.std.specs.Prelude.{ℕ, Bool, true, false, List, [], ◌∷◌}
+use Rattle.scl_describe.specs.Keepings.{Kept, nothing, under_key, unknown, under_none}
 use Rattle.scl_hazards.specs.Hazards.{Hazard}
 use Rattle.scl_reader.specs.Answers.{Answer, compiled, cannot_cache, not_compilation}
 use Rattle.scl_text.specs.declared.records.Cacheable.{Cacheable}
@@ -26,11 +27,13 @@ ending_of program (compiled words kept) has_hazard = ending_of_command (some_hol
 ending_of program (cannot_cache reason beside) has_hazard = ending.CannotCache
 ending_of program not_compilation has_hazard = ending.CompilesNothing
 
--- how it ends where the request is whether the outcome may be kept, by whether there is a key
-abbrev pub ending_of_keeping : Cacheable → (there_is_a_key : Bool) → Ending
-ending_of_keeping cacheable.No there_is_a_key = ending.NotKept
-ending_of_keeping cacheable.Yes true = ending.Answered
-ending_of_keeping cacheable.Yes false = ending.Different
+-- how it ends where the request is whether the outcome may be kept, by what is said of keeping it: as answered only under a key
+abbrev pub ending_of_keeping : Cacheable → Kept → Ending
+ending_of_keeping cacheable.No kept = ending.NotKept
+ending_of_keeping cacheable.Yes (under_key key) = ending.Answered
+ending_of_keeping cacheable.Yes nothing = ending.Different
+ending_of_keeping cacheable.Yes (unknown word) = ending.Different
+ending_of_keeping cacheable.Yes (under_none why) = ending.Different
 
 abbrev pub status_of : Ending → ℕ
 status_of ending.Answered = 0

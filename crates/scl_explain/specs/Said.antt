@@ -1,15 +1,15 @@
 -- What is said of a command line on a disk.
-use Rattle.std.specs.Prelude.{◌≡◌, ◌||◌, ℕ, Bool, true, false, List, [], Result, Err, if◌then◌else◌}
+use Rattle.std.specs.Prelude.{◌≡◌, List, [], Err}
 use Rattle.scl_values.specs.Words.{words_of}
 use Rattle.scl_files.specs.Views.{Viewed}
-use Rattle.scl_rows.specs.Rows.{Told}
 use Rattle.scl_text.specs.Commands.{pairs_of}
-use Rattle.scl_text.specs.Records.{Parsed, Verdict, NotCompilation}
-use Rattle.scl_hazards.specs.Hazards.{Hazard, Known}
+use Rattle.scl_hazards.specs.Hazards.{Hazard, Tables}
 use Rattle.scl_reader.specs.CommandLines.{Request, asked}
 use Rattle.scl_reader.specs.Answers.{Answer, answer_to, reading_by}
-use Rattle.scl_describe.specs.Hazards.{hazards_by}
+use Rattle.scl_describe.specs.Descriptions.{told_for}
+use Rattle.scl_describe.specs.Hazards.{known_by, told_by}
 use Rattle.scl_describe.specs.OptionRows.{rows_by}
+use Rattle.scl_describe.specs.SettingsRead.{settings_by}
 use Rattle.scl_load.specs.Loads.{Load, IsDiskError, IsEnd}
 use Rattle.scl_load.specs.declared.loader.LoadError.{LoadError}
 use Rattle.scl_explain.specs.Endings.{are_named, ending_of}
@@ -24,38 +24,33 @@ use Rattle.scl_explain.specs.declared.status.Ending.TheVariants as ending
 abbrev pub request_of : Case → Viewed → Request
 request_of case view = asked case.compiler (words_of case.words.items) case.cwd.items (pairs_of case.env_vars.items) view
 
--- whether nothing is compiled, as a command line says
-abbrev pub compiles_nothing : Result Parsed Verdict → Bool
-compiles_nothing (Err NotCompilation) = true
-compiles_nothing _ = false
-
--- rows of options are given where they are wanted, or nothing is compiled
-abbrev pub rows_given : Bool → Result Parsed Verdict → List Told → List Told
-rows_given wanted said rows = if wanted || compiles_nothing said then rows else []
+-- so it is in each view of which this holds, and in which several architectures are allowed as for the case
+abbrev pub InEach : (Viewed → Type 0) → Case → (Viewed → Type 0) → Type 0
+InEach holds case is = (held : Viewed) → holds held → held.is_multiarch ≡ case.multiarch → is held
 
 -- what is reported of a case on each disk of which this holds is what is reported of it in the view: the answer, the record or
--- why there is none, the rows, and the hazards that are known
-pub record IsDecided (known : Known) (holds : Viewed → Type 0) (multiarch : Bool) (case : Case) (view : Viewed) : Type 0 where
-  pub answer : (held : Viewed) → holds held → held.is_multiarch ≡ multiarch → answer_to (request_of case held) ≡ answer_to (request_of case view)
-  pub outcome : (held : Viewed) → holds held → held.is_multiarch ≡ multiarch
-      → reading_by case.compiler (request_of case held) ≡ reading_by case.compiler (request_of case view)
-  pub rows : (held : Viewed) → holds held → held.is_multiarch ≡ multiarch → rows_by (request_of case held) ≡ rows_by (request_of case view)
-  pub hazards : (held : Viewed) → holds held → held.is_multiarch ≡ multiarch → hazards_by known (request_of case held) ≡ hazards_by known (request_of case view)
+-- why there is none, the rows, and what the tables report
+pub record IsDecided (tables : Tables) (holds : Viewed → Type 0) (case : Case) (view : Viewed) : Type 0 where
+  pub answer : InEach holds case (λ held. answer_to (request_of case held) ≡ answer_to (request_of case view))
+  pub outcome : InEach holds case (λ held. reading_by case.compiler (request_of case held) ≡ reading_by case.compiler (request_of case view))
+  pub rows : InEach holds case (λ held. rows_by (request_of case held) ≡ rows_by (request_of case view))
+  pub told : let known = known_by tables (settings_by case.settings).version in
+      InEach holds case (λ held. told_by known (request_of case held) ≡ told_by known (request_of case view))
 
--- of a view that decides what is reported on such disks, this is said of the answer and of the hazards that are known
-pub record IsSaid (known : Known) (holds : Viewed → Type 0) (multiarch : Bool) (case : Case) (says : Answer → List Hazard → Type 0) : Type 0 where
+-- of a view that decides what is reported on such disks, this is said of the answer and of the hazards, as they are wanted
+pub record IsSaid (tables : Tables) (holds : Viewed → Type 0) (case : Case) (says : Answer → List Hazard → Type 0) : Type 0 where
   pub loaded : Viewed
-  pub decided : IsDecided known holds multiarch case loaded
-  pub said : says (answer_to (request_of case loaded)) (hazards_by known (request_of case loaded))
+  pub decided : IsDecided tables holds case loaded
+  pub said : let request = request_of case loaded in says (answer_to request) (told_for tables (settings_by case.settings) request).hazards
 
 -- what is loaded for a command line: it may have as many words, with its response files in place, and open files as often as its
 -- limit says, and fewer than 2^12 files may name each the next
-abbrev pub load_for : Case → Bool → Load
-load_for case multiarch = record { asks = request_of case; is_multiarch = multiarch; most = case.limits; most_rounds = 4096 }
+abbrev pub load_for : Case → Load
+load_for case = record { asks = request_of case; is_multiarch = case.multiarch; most = case.settings.limits; most_rounds = 4096 }
 
 -- a load for a command line ends by this error, on each disk of which this holds
-abbrev pub IsNotLoaded : {E : Type 0} → (Viewed → Type 0) → Bool → Case → LoadError E → Type 0
-IsNotLoaded holds multiarch case error = (held : Viewed) → holds held → held.is_multiarch ≡ multiarch → IsEnd held (load_for case multiarch) (Err error)
+abbrev pub IsNotLoaded : {E : Type 0} → (Viewed → Type 0) → Case → LoadError E → Type 0
+IsNotLoaded holds case error = InEach holds case (λ held. IsEnd held (load_for case) (Err error))
 
 -- a reply that is nothing but that a file can't be read
 pub record IsFailure (reply : Reply) : Type 0 where
@@ -63,9 +58,9 @@ pub record IsFailure (reply : Reply) : Type 0 where
   pub output : reply.output.items ≡ []
 
 -- the reply to a load that ends by an error, which is one of the disk's where it is of the disk
-pub record IsUnread {E : Type 0} (holds : Viewed → Type 0) (fails : E → Type 0) (multiarch : Bool) (case : Case) (reply : Reply) : Type 0 where
+pub record IsUnread {E : Type 0} (holds : Viewed → Type 0) (fails : E → Type 0) (case : Case) (reply : Reply) : Type 0 where
   pub error : LoadError E
-  pub is_not_loaded : IsNotLoaded holds multiarch case error
+  pub is_not_loaded : IsNotLoaded holds case error
   pub is_disk_error : IsDiskError fails error
   pub is_failure : IsFailure reply
 

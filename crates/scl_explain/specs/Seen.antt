@@ -1,25 +1,13 @@
--- What was looked for on a disk, as a view has it.
+-- Which response files a view has.
 use Rattle.std.specs.Prelude.{◌≡◌, ℕ, Bool, true, not, List}
 use Rattle.std.specs.List.{list_all}
 use Rattle.std.specs.Option.{is_some}
-use Rattle.scl_files.specs.Views.{Viewed, bytes_at, exists, is_directory}
-use Rattle.scl_explain.specs.declared.seen.Seen.{Seen}
-use Rattle.scl_explain.specs.declared.seen.Seen.TheVariants as seen
+use Rattle.scl_files.specs.Views.{Viewed, bytes_at}
 
--- whether a view has this at the path
-abbrev pub is_seen : Seen → Viewed → List ℕ → Bool
-is_seen seen.File view path = is_some (bytes_at path view.files)
-is_seen seen.NoFile view path = not (is_some (bytes_at path view.files))
-is_seen seen.Directory view path = is_directory path view
-is_seen seen.Existing view path = exists path view
+abbrev pub has_file : Viewed → List ℕ → Bool
+has_file view path = is_some (bytes_at path view.files)
 
--- it has this at each of the paths
-abbrev pub are_seen : Seen → Viewed → List (List ℕ) → Bool
-are_seen seen view paths = list_all (is_seen seen view) paths
-
--- what was found and what was missing, as the view has it
-pub record IsSeen (view : Viewed) (found missing folders others : List (List ℕ)) : Type 0 where
-  pub response_files : are_seen seen.File view found ≡ true
-  pub missing_files : are_seen seen.NoFile view missing ≡ true
-  pub directories : are_seen seen.Directory view folders ≡ true
-  pub existing : are_seen seen.Existing view others ≡ true
+-- the view has a file at each path where one was found, and none where one is missing
+pub record IsSeen (view : Viewed) (found missing : List (List ℕ)) : Type 0 where
+  pub response_files : list_all (has_file view) found ≡ true
+  pub missing_files : list_all (λ path. not (has_file view path)) missing ≡ true

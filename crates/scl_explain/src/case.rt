@@ -4,8 +4,9 @@ ghost use Rattle.scl_values.specs.Words.{words_of};
 ghost use Rattle.scl_text.specs.Commands.{pairs_of};
 ghost use Rattle.scl_explain.specs.Cases.{IsCase, IsDivided, IsNoCase, assigned, assigned_by, compiler_for};
 
+use scl_describe::Settings;
 use scl_names::{assignment_at, compiler_of, program_behind};
-use scl_reader::{Compiler, Limits, Mem};
+use scl_reader::{Compiler, Mem};
 use scl_shell::{beginning, shown_command};
 use std::alloc::Global;
 use thiserror::Error;
@@ -23,14 +24,10 @@ pub struct Case {
     pub cwd: Vec<u8>,
     /// The variables of its environment that are known.
     pub env_vars: Vec<(Vec<u8>, Vec<u8>)>,
-    /// Whether the runs of the preprocessor are for a distant compiler.
-    pub may_dist: bool,
-    /// How much it may have, once its response files are put in place.
-    pub limits: Limits,
-    /// The base directories by which its key is told.
-    pub base_dirs: Vec<Vec<u8>>,
-    /// Whether macros of the command stay where they are in its key.
-    pub keeps_shown: bool,
+    /// Whether several architectures are allowed.
+    pub multiarch: bool,
+    /// How it is described.
+    pub settings: Settings,
 }
 
 /// Why words are no command line of a compiler that is served.
@@ -121,8 +118,8 @@ impl Case {
     /// The command line that these words are, the program's included: launchers, also of these further names, and assignments
     /// before it are left out, and the variables that are assigned come before `env_vars`, the last first, since of several
     /// values the first counts. It is `named`'s, where a compiler is named, and else that of the compiler that the program's name
-    /// names; `UnknownCompiler` where it names none, `NoProgram` where no word may be a program. Its runs are for this machine,
-    /// its limit is 1,000,000, and it has no base directory.
+    /// names; `UnknownCompiler` where it names none, `NoProgram` where no word may be a program. One architecture is allowed, and
+    /// the settings are new.
     #[tactic(auto, using(crate::proofs::CaseLemmas::program_inside))]
     pub fn of_words(
         alloc: Global,
@@ -153,10 +150,8 @@ impl Case {
             words,
             cwd,
             env_vars,
-            may_dist: false,
-            limits: Limits::standard(),
-            base_dirs: Vec::new(alloc),
-            keeps_shown: false,
+            multiarch: false,
+            settings: Settings::new(alloc),
         }))
     }
 }

@@ -1,7 +1,7 @@
 //! Only the hazards of a command line.
 ghost use Rattle.std.specs.Prelude.{◌⊎◌, IfOk};
 ghost use Rattle.scl_reader.specs.AnswersGiven.{answer_of};
-ghost use Rattle.scl_describe.specs.Abouts.{known_for};
+ghost use Rattle.scl_hazards.specs.Hazards.{tables_of};
 ghost use Rattle.scl_explain.specs.Replies.{IsChecked};
 ghost use Rattle.scl_explain.specs.Said.{IsCheckedReply, IsSaid, IsUnread};
 
@@ -12,7 +12,7 @@ use crate::refusal::ending_line;
 use crate::reply::{Form, Reply, unread};
 use crate::report::Report;
 use crate::status::{Ending, are_named};
-use scl_describe::About;
+use scl_describe::Tables;
 use scl_load::Disk;
 use scl_reader::Mem;
 use std::alloc::Global;
@@ -26,10 +26,10 @@ fn check_bytes<R: Report>(
     form: Form,
     report: &R,
 ) -> Mem<Vec<u8>>
-    ensures { IfOk result (λ text. IsChecked form answered.now.hazards.items text.items) }
+    ensures { IfOk result (λ text. IsChecked form answered.now.description.told.hazards.items text.items) }
 {
     match form {
-        Form::Text(_) => hazards_text(alloc, &answered.hazards),
+        Form::Text(_) => hazards_text(alloc, &answered.description.told.hazards),
         Form::Json => Ok(report.hazards(alloc, case, answered)?.into_bytes()),
     }
 }
@@ -55,15 +55,16 @@ fn check_reply<R: Report>(
     form: Form,
     report: &R,
 ) -> Mem<Reply>
-    ensures { IfOk result (λ reply. IsCheckedReply form case.now reply (answer_of answered.now.answer) answered.now.hazards.items) }
+    ensures { IfOk result (λ reply. IsCheckedReply form case.now reply (answer_of answered.now.description.answer) answered.now.description.told.hazards.items) }
 {
+    let described = &answered.description;
     Ok(Reply {
         output: check_bytes(alloc, case, answered, form, report)?,
         error: error_line(alloc, case, answered, form, report)?,
         ending: Ending::of_answer(
             &case.program,
-            &answered.answer,
-            are_named(&answered.hazards),
+            &described.answer,
+            are_named(&described.told.hazards),
         ),
     })
 }
@@ -71,21 +72,20 @@ fn check_reply<R: Report>(
 /// The hazards of a command line, a line each, or for machines as `report` writes them. It ends as the answer does where there
 /// is no command, by a word that holds a NUL where the command has one, as a hazard where there is one, by an outcome that may not
 /// be kept where that is so, and as a failed file where one can't be read.
-#[tactic(auto, using(crate::proofs::UnreadLaws::is_unread))]
+#[tactic(auto, using(crate::proofs::ReplyLaws::is_unread))]
 pub fn check<D: Disk, R: Report>(
     alloc: Global,
     disk: &D,
-    about: &About<'_>,
+    tables: &Tables<'_>,
     case: &Case,
-    multiarch: bool,
     form: Form,
     report: &R,
 ) -> Mem<Reply>
 where
     D::Error: Display,
-    ensures { IfOk result (λ reply. IsUnread (D.holds disk.now) (D.fails disk.now) multiarch case.now reply ⊎ IsSaid (known_for about.now) (D.holds disk.now) multiarch case.now (IsCheckedReply form case.now reply)) }
+    ensures { IfOk result (λ reply. IsUnread (D.holds disk.now) (D.fails disk.now) case.now reply ⊎ IsSaid (tables_of tables.now) (D.holds disk.now) case.now (IsCheckedReply form case.now reply)) }
 {
-    match answer_case(alloc, disk, about, case, multiarch, false)? {
+    match answer_case(alloc, disk, tables, case)? {
         Ok(answered) => check_reply(alloc, case, &answered, form, report),
         Err(error) => unread(alloc, &error),
     }

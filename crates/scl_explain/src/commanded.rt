@@ -1,7 +1,7 @@
 //! The command to run in the place of a command line.
 ghost use Rattle.std.specs.Prelude.{◌≡◌, ◌⊎◌, IfOk};
 ghost use Rattle.scl_reader.specs.AnswersGiven.{answer_of};
-ghost use Rattle.scl_describe.specs.Abouts.{known_for};
+ghost use Rattle.scl_hazards.specs.Hazards.{tables_of};
 ghost use Rattle.scl_explain.specs.Replies.{command_written, is_barred, some_concern_files};
 ghost use Rattle.scl_explain.specs.Said.{IsCommanded, IsSaid, IsUnread};
 
@@ -14,7 +14,7 @@ use crate::reply::{Reply, unread};
 use crate::report::Report;
 use crate::status::Ending;
 use crate::words::{WordForm, command_text};
-use scl_describe::{About, concerns_files};
+use scl_describe::{Tables, concerns_files};
 use scl_hazards::Hazard;
 use scl_load::Disk;
 use scl_reader::{Compilation, CompilerArguments, Mem};
@@ -83,10 +83,10 @@ fn error_line<R: Report>(
     report: &R,
 ) -> Mem<Option<String>> {
     if matches!(
-        Ending::of_answer(&case.program, &answered.answer, is_barred),
+        Ending::of_answer(&case.program, &answered.description.answer, is_barred),
         Ending::Hazard
     ) {
-        hazards_line(alloc, &answered.hazards)
+        hazards_line(alloc, &answered.description.told.hazards)
     } else {
         ending_line(alloc, case, answered, report)
     }
@@ -99,10 +99,10 @@ fn command_reply<R: Report>(
     form: CommandForm,
     report: &R,
 ) -> Mem<Reply>
-    ensures { IfOk result (λ reply. IsCommanded form case.now reply (answer_of answered.now.answer) answered.now.hazards.items) }
+    ensures { IfOk result (λ reply. IsCommanded form case.now reply (answer_of answered.now.description.answer) answered.now.description.told.hazards.items) }
 {
-    let answer = &answered.answer;
-    let bars = is_barred(form.is_strict, &answered.hazards);
+    let answer = &answered.description.answer;
+    let bars = is_barred(form.is_strict, &answered.description.told.hazards);
     Ok(Reply {
         output: command_bytes(alloc, &case.program, answer, bars, form.words)?,
         error: error_line(alloc, case, answered, bars, report)?,
@@ -114,21 +114,20 @@ fn command_reply<R: Report>(
 /// where there is none, where a word of it holds a NUL, and of a strict form where a hazard concerns files; then it ends as such, and
 /// so says the line of standard error, with why `report` says that nothing is compiled. That its result may not be kept is said
 /// there too.
-#[tactic(auto, using(crate::proofs::UnreadLaws::is_unread))]
+#[tactic(auto, using(crate::proofs::ReplyLaws::is_unread))]
 pub fn command<D: Disk, R: Report>(
     alloc: Global,
     disk: &D,
-    about: &About<'_>,
+    tables: &Tables<'_>,
     case: &Case,
-    multiarch: bool,
     form: CommandForm,
     report: &R,
 ) -> Mem<Reply>
 where
     D::Error: Display,
-    ensures { IfOk result (λ reply. IsUnread (D.holds disk.now) (D.fails disk.now) multiarch case.now reply ⊎ IsSaid (known_for about.now) (D.holds disk.now) multiarch case.now (IsCommanded form case.now reply)) }
+    ensures { IfOk result (λ reply. IsUnread (D.holds disk.now) (D.fails disk.now) case.now reply ⊎ IsSaid (tables_of tables.now) (D.holds disk.now) case.now (IsCommanded form case.now reply)) }
 {
-    match answer_case(alloc, disk, about, case, multiarch, false)? {
+    match answer_case(alloc, disk, tables, case)? {
         Ok(answered) => command_reply(alloc, case, &answered, form, report),
         Err(error) => unread(alloc, &error),
     }

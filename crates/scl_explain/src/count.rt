@@ -148,14 +148,14 @@ impl Counts {
         file: &str,
         answered: &Answered<'_>,
     ) -> Mem<()> {
-        match &answered.answer {
+        match &answered.description.answer {
             CompilerArguments::Ok(compilation) => {
                 match compilation.cacheable {
                     Cacheable::Yes => self.ok = self.ok.saturating_add(1),
                     Cacheable::No => self.unkept = self.unkept.saturating_add(1),
                 }
                 self.count_output(alloc, entry, compilation)?;
-                self.count_hazards(alloc, entry, file, &answered.hazards)
+                self.count_hazards(alloc, entry, file, &answered.description.told.hazards)
             }
             CompilerArguments::CannotCache(reason, _) => {
                 self.count_refused(alloc, entry, file, reason)
@@ -175,11 +175,12 @@ impl Counts {
         file: &str,
         answered: &Answered<'_>,
     ) -> Mem<EntryKind>
-        ensures { IfOk result (λ kind. kind ≡ kind_of (answer_of answered.now.answer) answered.now.hazards.items) }
+        ensures { IfOk result (λ kind. kind ≡ kind_of (answer_of answered.now.description.answer) answered.now.description.told.hazards.items) }
     {
         self.count_missing(alloc, entry, file, &answered.missing_files)?;
         self.count_answer(alloc, entry, file, answered)?;
-        Ok(EntryKind::of_answer(&answered.answer, &answered.hazards))
+        let described = &answered.description;
+        Ok(EntryKind::of_answer(&described.answer, &described.told.hazards))
     }
 
     /// Counts an entry that is none.

@@ -1,4 +1,4 @@
-//! A disk that notes what was looked for.
+//! A disk that notes which files were looked for.
 ghost use Rattle.std.specs.Prelude.{◌≡◌};
 
 use scl_load::Disk;
@@ -31,43 +31,15 @@ impl Noted {
     }
 }
 
-/// A disk that notes what was looked for.
+/// A disk that notes which files were looked for.
 pub(crate) struct Logged<'a, D> {
     disk: &'a D,
-    found: Cell<Noted>,
-    missing: Cell<Noted>,
-    directories: Cell<Noted>,
-    existing: Cell<Noted>,
-}
-
-/// What was looked for, each path once.
-#[derive(Drop)]
-pub(crate) struct Log {
-    /// The files that were found.
-    pub(crate) found: Vec<Vec<u8>>,
-    /// The paths at which there is no file.
-    pub(crate) missing: Vec<Vec<u8>>,
-    /// The directories that were found.
-    pub(crate) directories: Vec<Vec<u8>>,
-    /// The other paths at which something was found.
-    pub(crate) existing: Vec<Vec<u8>>,
-}
-
-fn note(alloc: Global, list: &Cell<Noted>, path: &[u8]) -> Mem<()> {
-    let noted = list.replace(Noted::new(alloc));
-    list.set(noted.with(alloc, path)?);
-    Ok(())
+    files: Cell<Noted>,
 }
 
 impl<'a, D> Drop for Logged<'a, D> {
     fn drop(self) {
-        let Logged {
-            disk: _,
-            found: _,
-            missing: _,
-            directories: _,
-            existing: _,
-        } = self;
+        let Logged { disk: _, files: _ } = self;
     }
 }
 
@@ -77,27 +49,14 @@ impl<'a, D> Logged<'a, D> {
     {
         Logged {
             disk,
-            found: Cell::new(Noted::new(alloc)),
-            missing: Cell::new(Noted::new(alloc)),
-            directories: Cell::new(Noted::new(alloc)),
-            existing: Cell::new(Noted::new(alloc)),
+            files: Cell::new(Noted::new(alloc)),
         }
     }
 
-    pub(crate) fn into_log(self) -> Log {
-        let Logged {
-            disk: _,
-            found,
-            missing,
-            directories,
-            existing,
-        } = self;
-        Log {
-            found: found.into_inner().paths,
-            missing: missing.into_inner().paths,
-            directories: directories.into_inner().paths,
-            existing: existing.into_inner().paths,
-        }
+    /// The paths of the files that were looked for, each once.
+    pub(crate) fn into_paths(self) -> Vec<Vec<u8>> {
+        let Logged { disk: _, files } = self;
+        files.into_inner().paths
     }
 }
 
@@ -109,36 +68,16 @@ impl<'a, D: Disk> Disk for Logged<'a, D> {
     ghost fails = { λ logged error. D.fails logged.disk.now error };
 
     fn file(&self, alloc: Global, path: &[u8]) -> Mem<Result<Option<Vec<u8>>, D::Error>> {
-        match self.disk.file(alloc, path)? {
-            Ok(Some(bytes)) => {
-                note(alloc, &self.found, path)?;
-                Ok(Ok(Some(bytes)))
-            }
-            Ok(None) => {
-                note(alloc, &self.missing, path)?;
-                Ok(Ok(None))
-            }
-            Err(error) => Ok(Err(error)),
-        }
+        let noted = self.files.replace(Noted::new(alloc));
+        self.files.set(noted.with(alloc, path)?);
+        self.disk.file(alloc, path)
     }
 
     fn is_dir(&self, alloc: Global, path: &[u8]) -> Mem<Result<bool, D::Error>> {
-        match self.disk.is_dir(alloc, path)? {
-            Ok(true) => {
-                note(alloc, &self.directories, path)?;
-                Ok(Ok(true))
-            }
-            said => Ok(said),
-        }
+        self.disk.is_dir(alloc, path)
     }
 
     fn exists(&self, alloc: Global, path: &[u8]) -> Mem<Result<bool, D::Error>> {
-        match self.disk.exists(alloc, path)? {
-            Ok(true) => {
-                note(alloc, &self.existing, path)?;
-                Ok(Ok(true))
-            }
-            said => Ok(said),
-        }
+        self.disk.exists(alloc, path)
     }
 }

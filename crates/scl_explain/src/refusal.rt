@@ -69,7 +69,7 @@ pub(crate) fn ending_line<R: Report>(
     answered: &Answered<'_>,
     report: &R,
 ) -> Mem<Option<String>> {
-    match &answered.answer {
+    match &answered.description.answer {
         CompilerArguments::Ok(compilation) => command_line(alloc, &case.program, compilation),
         CompilerArguments::CannotCache(reason, more) => {
             let missing = &answered.missing_files;

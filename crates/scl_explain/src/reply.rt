@@ -7,7 +7,7 @@ use crate::answered::{Answered, answer_case};
 use crate::case::Case;
 use crate::report::Report;
 use crate::status::Ending;
-use scl_describe::About;
+use scl_describe::Tables;
 use scl_load::{Disk, LoadError};
 use scl_reader::Mem;
 use std::alloc::Global;
@@ -69,21 +69,20 @@ pub(crate) fn unread<E: Display>(alloc: Global, error: &LoadError<E>) -> Mem<Rep
 
 /// What a command line is, as `report` writes it. It ends as answered whatever the answer is, and as a failed file where one
 /// can't be read.
-#[tactic(auto, using(crate::proofs::UnreadLaws::is_unread))]
+#[tactic(auto, using(crate::proofs::ReplyLaws::is_unread))]
 pub fn explain<D: Disk, R: Report>(
     alloc: Global,
     disk: &D,
-    about: &About<'_>,
+    tables: &Tables<'_>,
     case: &Case,
-    multiarch: bool,
     form: Form,
     report: &R,
 ) -> Mem<Reply>
 where
     D::Error: Display,
-    ensures { IfOk result (λ reply. IsUnread (D.holds disk.now) (D.fails disk.now) multiarch case.now reply ⊎ (reply.ending ≡ ending.Answered)) }
+    ensures { IfOk result (λ reply. IsUnread (D.holds disk.now) (D.fails disk.now) case.now reply ⊎ (reply.ending ≡ ending.Answered)) }
 {
-    match answer_case(alloc, disk, about, case, multiarch, true)? {
+    match answer_case(alloc, disk, tables, case)? {
         Ok(answered) => Ok(Reply {
             output: report
                 .explanation(alloc, case, &answered, form)?

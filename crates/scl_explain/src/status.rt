@@ -1,12 +1,11 @@
 //! How the program ends.
 ghost use Rattle.std.specs.Prelude.{◌≡◌, false};
 ghost use Rattle.scl_reader.specs.AnswersGiven.{answer_of};
-ghost use Rattle.scl_text.specs.Runs.{runs_of};
+ghost use Rattle.scl_describe.specs.DescriptionsGiven.{kept_told};
 ghost use Rattle.scl_explain.specs.Endings.{are_named, ending_of, ending_of_command, ending_of_keeping, status_of};
-ghost use Rattle.scl_explain.specs.SameKeys.{has_key};
 
 use crate::nuls::some_hold_nul;
-use crate::same_key::has_key;
+use scl_describe::Kept;
 use scl_hazards::Hazard;
 use scl_reader::{Compilation, CompilerArguments};
 use scl_text::records::Cacheable;
@@ -85,15 +84,15 @@ impl Ending {
         }
     }
 
-    /// How it ends where the request is whether the result may be kept under a key, by the rows of its description: as command
+    /// How it ends where the request is whether the result may be kept under a key, by what is said of keeping it: as command
     /// lines without equal keys do where it may not.
-    pub fn of_keeping(cacheable: Cacheable, rows: &[Vec<Vec<u8>>]) -> Ending
-        ensures { result ≡ ending_of_keeping cacheable (has_key (runs_of rows.now)) }
+    pub fn of_keeping(cacheable: Cacheable, kept: &Kept) -> Ending
+        ensures { result ≡ ending_of_keeping cacheable (kept_told kept.now) }
     {
-        match (cacheable, has_key(rows)) {
+        match (cacheable, kept) {
             (Cacheable::No, _) => Ending::NotKept,
-            (Cacheable::Yes, true) => Ending::Answered,
-            (Cacheable::Yes, false) => Ending::Different,
+            (Cacheable::Yes, Kept::Under(_)) => Ending::Answered,
+            (Cacheable::Yes, Kept::Nothing | Kept::Unknown(_) | Kept::Not(_)) => Ending::Different,
         }
     }
 

@@ -1,8 +1,10 @@
 //! What the program is to do, as its words say it.
 use crate::BuiltIn;
 use clap::ArgMatches;
+use scl_base_dirs::base_dirs;
 use scl_cl::text::command::copy_words;
 use scl_cl::{Compiler, Limits, Mem};
+use scl_describe::Settings;
 use scl_explain::EntryKind;
 use std::alloc::Global;
 
@@ -104,7 +106,7 @@ impl<'m, 'a> Asked<'m, 'a> {
     }
 
     /// The limits of a command line: those that are given, else the standard ones.
-    pub fn limits(&self) -> Limits {
+    fn limits(&self) -> Limits {
         let standard = Limits::standard();
         let words = self.value("--bound").and_then(number_of);
         let bytes = self.value("--bytes").and_then(number_of);
@@ -112,6 +114,25 @@ impl<'m, 'a> Asked<'m, 'a> {
             words: words.unwrap_or(standard.words),
             bytes: bytes.unwrap_or(standard.bytes),
         }
+    }
+
+    /// The text of the compiler's version, if it is given.
+    fn version(&self, alloc: Global) -> Mem<Option<String>> {
+        match self.value("--compiler-version") {
+            Some(text) => Ok(Some(String::from_str(alloc, text)?)),
+            None => Ok(None),
+        }
+    }
+
+    /// How command lines are described.
+    pub fn settings(&self, alloc: Global) -> Mem<Settings> {
+        let mut settings = Settings::new(alloc);
+        settings.may_dist = self.has("--may-dist");
+        settings.version = self.version(alloc)?;
+        settings.limits = self.limits();
+        settings.bases = base_dirs(alloc, &self.values(alloc, "--base")?)?;
+        settings.keeps_shown = self.has("--keep-shown");
+        Ok(settings)
     }
 
     /// The variables that are given, the last first, since of several values of a variable the first counts.

@@ -6,7 +6,7 @@ use crate::fault::{Fault, warn};
 use crate::file::{name_of, read_file};
 use crate::one::variables_of;
 use crate::progress::Progress;
-use scl_describe::About;
+use scl_describe::Tables;
 use scl_explain::Ending;
 use scl_report::{
     Batch, Database, DatabaseError, EntryReader, EntryValue, Tally, ending_of_counts,
@@ -38,7 +38,6 @@ fn read_some<R: Read>(
 #[derive(Drop)]
 struct Answers<'p, W: Write + Drop> {
     tally: Tally,
-    line: Vec<u8>,
     writer: W,
     progress: Progress<'p>,
 }
@@ -52,9 +51,8 @@ impl<'p, W: Write + Drop> Answers<'p, W> {
         value: &EntryValue,
     ) -> Result<(), Fault> {
         let disk = SystemDisk::new(rt);
-        self.line.clear();
-        batch.push_entry(rt.alloc(), &disk, &mut self.tally, value, &mut self.line)?;
-        self.writer.write_all(&self.line).map_err(Fault::of_output)?;
+        let line = batch.answer_entry(rt.alloc(), &disk, &mut self.tally, value)?;
+        self.writer.write_all(&line).map_err(Fault::of_output)?;
         self.progress.step(self.tally.counts.entries);
         Ok(())
     }
@@ -139,7 +137,6 @@ fn answer_database<R: Read>(
     let alloc = rt.alloc();
     let mut answers = Answers {
         tally: Tally::new(alloc),
-        line: Vec::new(alloc),
         writer: BufWriter::new(alloc, io::writer(rt)).map_err(Fault::of_output)?,
         progress: Progress::new(rt),
     };
@@ -171,21 +168,18 @@ pub fn database_at(rt: &HostRuntime, path: &str) -> Result<Option<Database>, Fau
 /// How entries are answered of which this is requested.
 pub fn batch_of<'a>(
     rt: &HostRuntime,
-    about: About<'a>,
+    tables: &Tables<'a>,
     asked: &Asked<'_, '_>,
 ) -> Result<Batch<'a>, Fault> {
     let alloc = rt.alloc();
     Ok(Batch {
-        about,
+        tables: *tables,
         launchers: asked.values(alloc, "--launcher")?,
         named: asked.compiler(),
         base: working_directory(rt)?,
         env_vars: variables_of(rt, asked)?,
         multiarch: asked.has("--multiarch"),
-        may_dist: asked.has("--may-dist"),
-        limits: asked.limits(),
-        base_dirs: asked.values(alloc, "--base")?,
-        keeps_shown: asked.has("--keep-shown"),
+        settings: asked.settings(alloc)?,
         json: asked.has("--json"),
         keep: asked.has("--keep"),
         only: asked.only(),
@@ -193,13 +187,13 @@ pub fn batch_of<'a>(
 }
 
 /// Answers each entry of a database.
-pub fn database<'a>(
+pub fn database(
     rt: &HostRuntime,
-    about: About<'a>,
+    tables: &Tables<'_>,
     asked: &Asked<'_, '_>,
 ) -> Result<Ending, Fault> {
     let path = asked.value("path").unwrap_or("-");
-    let batch = batch_of(rt, about, asked)?;
+    let batch = batch_of(rt, tables, asked)?;
     if path == "-" {
         return answer_database(rt, &batch, path, &mut rt.stdin());
     }

@@ -1,43 +1,38 @@
-//! What is known of compilers: the built-in catalogue, or one that is passed, and the version that is given.
+//! What is known of compilers: the built-in catalogue, or one that is passed.
 use crate::asked::Asked;
 use crate::fault::{Fault, warn};
 use crate::file::{name_of, read_regular_file};
 use crate::{BuiltIn, batch, diff, one, tables, why};
 use bumpalo::Bump;
 use scl_catalogue_text::{BadLine, ReadError, read};
-use scl_describe::{About, Catalogue};
+use scl_describe::{Catalogue, Tables};
 use scl_explain::Ending;
 use scl_reader::is_apple;
 use scl_shell::shown_briefly;
 
 /// Answers a request, by what is known.
-fn answer(rt: &HostRuntime, about: About<'_>, asked: &Asked<'_, '_>) -> Result<Ending, Fault> {
+fn answer(rt: &HostRuntime, known: &Tables<'_>, asked: &Asked<'_, '_>) -> Result<Ending, Fault> {
     match asked.name {
-        "explain" => one::explain(rt, &about, asked),
-        "command" => one::command(rt, &about, asked),
-        "check" => one::check(rt, &about, asked),
-        "database" => batch::database(rt, about, asked),
-        "why" => why::why(rt, about, asked),
-        "diff" => diff::diff(rt, about, asked),
-        "reasons" => tables::reasons(rt, &about.catalogue, asked),
+        "explain" => one::explain(rt, known, asked),
+        "command" => one::command(rt, known, asked),
+        "check" => one::check(rt, known, asked),
+        "database" => batch::database(rt, known, asked),
+        "why" => why::why(rt, known, asked),
+        "diff" => diff::diff(rt, known, asked),
+        "reasons" => tables::reasons(rt, &known.catalogue, asked),
         "flags" => tables::flags(rt, asked),
         _ => tables::page(rt, asked),
     }
 }
 
-/// Answers a request about a compiler of this version, by a catalogue.
-fn answer_with<'a>(
+/// Answers a request, by a catalogue.
+fn answer_with(
     rt: &HostRuntime,
-    catalogue: &Catalogue<'a>,
-    version: Option<&'a str>,
+    catalogue: Catalogue<'_>,
     asked: &Asked<'_, '_>,
 ) -> Result<Ending, Fault> {
-    let about = About {
-        catalogue: *catalogue,
-        plain: asked.built_in.plain,
-        version,
-    };
-    answer(rt, about, asked)
+    let plain = asked.built_in.plain;
+    answer(rt, &Tables { catalogue, plain }, asked)
 }
 
 /// Reports the first wrong line of a catalogue, with the word that is wrong.
@@ -60,37 +55,27 @@ fn answer_by_text<'a>(
     path: &str,
     arena: &'a Bump,
     text: &'a [u8],
-    version: Option<&'a str>,
     asked: &Asked<'_, '_>,
 ) -> Result<Ending, Fault> {
     match read(rt.alloc(), arena, text) {
-        Ok(catalogue) => answer_with(rt, &catalogue, version, asked),
+        Ok(catalogue) => answer_with(rt, catalogue, asked),
         Err(ReadError::BadLine(bad)) => wrong_line(rt, path, text, bad),
         Err(ReadError::Memory) => Err(Fault::Memory),
     }
 }
 
 /// Answers a request, by the catalogue of a file.
-fn answer_by_file(
-    rt: &HostRuntime,
-    path: &str,
-    version: Option<&str>,
-    asked: &Asked<'_, '_>,
-) -> Result<Ending, Fault> {
+fn answer_by_file(rt: &HostRuntime, path: &str, asked: &Asked<'_, '_>) -> Result<Ending, Fault> {
     let text = read_regular_file(rt, path)?;
     let arena = Bump::new(rt.alloc());
-    answer_by_text(rt, path, &arena, &text, version, asked)
+    answer_by_text(rt, path, &arena, &text, asked)
 }
 
-/// What is known of a compiler of this version by what is built in.
-fn about<'a>(built_in: BuiltIn<'a>, version: Option<&'a str>) -> About<'a> {
-    About {
-        catalogue: Catalogue {
-            groups: &[],
-            entries: built_in.entries,
-        },
-        plain: built_in.plain,
-        version,
+/// The catalogue that is built in.
+fn built_in_catalogue<'a>(built_in: BuiltIn<'a>) -> Catalogue<'a> {
+    Catalogue {
+        groups: &[],
+        entries: built_in.entries,
     }
 }
 
@@ -112,7 +97,7 @@ fn tells_version(text: &str) -> bool {
     is_numbers(text) || is_apple(Some(text))
 }
 
-/// Answers a request about a compiler of this version, where one is given, by the catalogue that is named.
+/// Answers a request by the catalogue that is named, or by the one that is built in.
 pub fn answer_by(rt: &HostRuntime, asked: &Asked<'_, '_>) -> Result<Ending, Fault> {
     let told = asked.value("--compiler-version");
     if told.is_some_and(|text| !tells_version(text)) {
@@ -123,7 +108,7 @@ pub fn answer_by(rt: &HostRuntime, asked: &Asked<'_, '_>) -> Result<Ending, Faul
         return Ok(Ending::Usage);
     }
     match asked.value("--catalogue") {
-        Some(path) => answer_by_file(rt, path, told, asked),
-        None => answer(rt, about(asked.built_in, told), asked),
+        Some(path) => answer_by_file(rt, path, asked),
+        None => answer_with(rt, built_in_catalogue(asked.built_in), asked),
     }
 }

@@ -5,7 +5,7 @@ use crate::disk::SystemDisk;
 use crate::fault::{Fault, warn};
 use scl_cl::text::command::copy_words;
 use scl_cl::{ColorMode, path};
-use scl_describe::About;
+use scl_describe::Tables;
 use scl_explain::{
     Case, CaseError, CommandForm, Ending, Form, Paint, Reply, WordForm, check as check_reply,
     command as command_reply, explain as explain_reply,
@@ -59,10 +59,8 @@ pub fn case_of_words(
         env_vars,
     )? {
         Ok(mut case) => {
-            case.may_dist = asked.has("--may-dist");
-            case.limits = asked.limits();
-            case.base_dirs = asked.values(alloc, "--base")?;
-            case.keeps_shown = asked.has("--keep-shown");
+            case.multiarch = asked.has("--multiarch");
+            case.settings = asked.settings(alloc)?;
             Ok(Some(case))
         }
         Err(error) => {
@@ -99,15 +97,10 @@ fn case_of(rt: &HostRuntime, asked: &Asked<'_, '_>) -> Result<Option<Case>, Faul
 }
 
 /// Reports to a person at a terminal what a command line names that is not there.
-fn tell_absent(
-    rt: &HostRuntime,
-    about: &About<'_>,
-    case: &Case,
-    multiarch: bool,
-) -> Result<(), Fault> {
+fn tell_absent(rt: &HostRuntime, tables: &Tables<'_>, case: &Case) -> Result<(), Fault> {
     if rt.stderr().is_terminal() {
         let disk = SystemDisk::new(rt);
-        let text = absent_text(rt.alloc(), &disk, about, case, multiarch)?;
+        let text = absent_text(rt.alloc(), &disk, tables, case)?;
         for line in text.lines() {
             warn(rt, &line);
         }
@@ -154,24 +147,16 @@ fn form_of(rt: &HostRuntime, asked: &Asked<'_, '_>) -> Form {
 /// Says what a command line is.
 pub fn explain(
     rt: &HostRuntime,
-    about: &About<'_>,
+    tables: &Tables<'_>,
     asked: &Asked<'_, '_>,
 ) -> Result<Ending, Fault> {
     let Some(case) = case_of(rt, asked)? else {
         return Ok(Ending::Usage);
     };
-    tell_absent(rt, about, &case, asked.has("--multiarch"))?;
+    tell_absent(rt, tables, &case)?;
     let disk = SystemDisk::new(rt);
     let form = form_of(rt, asked);
-    let reply = explain_reply(
-        rt.alloc(),
-        &disk,
-        about,
-        &case,
-        asked.has("--multiarch"),
-        form,
-        &Pages { about: *about },
-    )?;
+    let reply = explain_reply(rt.alloc(), &disk, tables, &case, form, &Pages)?;
     say(rt, &reply)
 }
 
@@ -206,53 +191,47 @@ fn put_color(rt: &HostRuntime, asked: &Asked<'_, '_>, case: &mut Case) -> Result
 /// Writes the command to run in the place of a command line.
 pub fn command(
     rt: &HostRuntime,
-    about: &About<'_>,
+    tables: &Tables<'_>,
     asked: &Asked<'_, '_>,
 ) -> Result<Ending, Fault> {
     let Some(mut case) = case_of(rt, asked)? else {
         return Ok(Ending::Usage);
     };
     put_color(rt, asked, &mut case)?;
-    tell_absent(rt, about, &case, asked.has("--multiarch"))?;
+    tell_absent(rt, tables, &case)?;
     let disk = SystemDisk::new(rt);
     let form = CommandForm {
         words: word_form(rt, asked),
         is_strict: asked.has("--strict"),
     };
-    let reply = command_reply(
-        rt.alloc(),
-        &disk,
-        about,
-        &case,
-        asked.has("--multiarch"),
-        form,
-        &Pages { about: *about },
-    )?;
+    let reply = command_reply(rt.alloc(), &disk, tables, &case, form, &Pages)?;
     say(rt, &reply)
 }
 
 /// Which hazards a command line has, or whether its outcome may be kept.
 fn checked(
     rt: &HostRuntime,
-    about: &About<'_>,
+    tables: &Tables<'_>,
     asked: &Asked<'_, '_>,
     case: &Case,
 ) -> Result<Reply, Fault> {
     let (alloc, disk, form) = (rt.alloc(), SystemDisk::new(rt), form_of(rt, asked));
-    let multiarch = asked.has("--multiarch");
     if asked.has("--keep") {
-        return Ok(check_kept(alloc, &disk, about, case, multiarch, form)?);
+        return Ok(check_kept(alloc, &disk, tables, case, form)?);
     }
-    let pages = Pages { about: *about };
-    Ok(check_reply(alloc, &disk, about, case, multiarch, form, &pages)?)
+    Ok(check_reply(alloc, &disk, tables, case, form, &Pages)?)
 }
 
 /// Says which hazards a command line has, or whether its outcome may be kept.
-pub fn check(rt: &HostRuntime, about: &About<'_>, asked: &Asked<'_, '_>) -> Result<Ending, Fault> {
+pub fn check(
+    rt: &HostRuntime,
+    tables: &Tables<'_>,
+    asked: &Asked<'_, '_>,
+) -> Result<Ending, Fault> {
     let Some(case) = case_of(rt, asked)? else {
         return Ok(Ending::Usage);
     };
-    tell_absent(rt, about, &case, asked.has("--multiarch"))?;
-    let reply = checked(rt, about, asked, &case)?;
+    tell_absent(rt, tables, &case)?;
+    let reply = checked(rt, tables, asked, &case)?;
     say(rt, &reply)
 }

@@ -5,7 +5,7 @@ use crate::disk::SystemDisk;
 use crate::fault::{Fault, warn};
 use crate::file::name_of;
 use crate::tables::write;
-use scl_describe::About;
+use scl_describe::Tables;
 use scl_explain::Ending;
 use scl_report::{Batch, EntryValue, Sources, Whys};
 
@@ -16,9 +16,9 @@ fn push_entries(
     whys: &mut Whys,
     meant: &[(u64, &EntryValue)],
 ) -> Result<(), Fault> {
-    for (entry, value) in meant {
+    for entry in meant {
         let disk = SystemDisk::new(rt);
-        whys.push(rt.alloc(), batch, &disk, *entry, value)?;
+        whys.push(rt.alloc(), batch, &disk, *entry)?;
     }
     Ok(())
 }
@@ -32,13 +32,13 @@ fn no_entry(rt: &HostRuntime, path: &str, file: &str) -> Result<(), Fault> {
 }
 
 /// Says of each source why its entries can or can't be cached.
-pub fn why<'a>(rt: &HostRuntime, about: About<'a>, asked: &Asked<'_, '_>) -> Result<Ending, Fault> {
+pub fn why(rt: &HostRuntime, tables: &Tables<'_>, asked: &Asked<'_, '_>) -> Result<Ending, Fault> {
     let alloc = rt.alloc();
     let path = asked.database(alloc, 0)?;
     let Some(database) = database_at(rt, path.as_str())? else {
         return Ok(Ending::BadDatabase);
     };
-    let batch = batch_of(rt, about, asked)?;
+    let batch = batch_of(rt, tables, asked)?;
     let sources = Sources::of_entries(alloc, &batch.base, database.entries())?;
     let (mut whys, mut has_all) = (Whys::new(alloc), true);
     for file in asked.read.get_strs("files").unwrap_or(&[]) {

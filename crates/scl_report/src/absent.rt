@@ -1,6 +1,6 @@
 //! What a command line names that is not there.
 use scl_cl::{Compilation, CompilerArguments, Mem, path};
-use scl_describe::About;
+use scl_describe::Tables;
 use scl_explain::{Case, answer_case};
 use scl_load::Disk;
 use scl_shell::shown_briefly;
@@ -72,18 +72,17 @@ fn push_paths<D: Disk>(
 pub fn absent_text<D: Disk>(
     alloc: Global,
     disk: &D,
-    about: &About<'_>,
+    tables: &Tables<'_>,
     case: &Case,
-    multiarch: bool,
 ) -> Mem<String> {
     let mut text = String::new(alloc);
     if has_no_directory(alloc, disk, &case.cwd)? {
         push_absent(alloc, &mut text, "the directory", &case.cwd)?;
         return Ok(text);
     }
-    match answer_case(alloc, disk, about, case, multiarch, false)? {
+    match answer_case(alloc, disk, tables, case)? {
         Ok(answered) => {
-            if let CompilerArguments::Ok(compilation) = &answered.answer {
+            if let CompilerArguments::Ok(compilation) = &answered.description.answer {
                 push_paths(alloc, &mut text, disk, case, compilation)?;
             }
         }

@@ -1,15 +1,14 @@
 //! What the program says to the entries of a compile database.
 use crate::digest::{entry_line, summary};
-use crate::entry::{EntryError, case_of_entry};
 use crate::foreign::{ForeignDisk, all_with_slashes, is_windows, same_answer};
-use crate::json::{push_entry_object, push_refused_object};
-use crate::keep::verdicts;
+use crate::json::{entry_object, refused_object};
+use crate::settings::copied;
 use crate::tally::Tally;
-use scl_cl::{Compiler, Limits, Mem};
-use scl_describe::About;
+use scl_cl::{Compiler, Mem};
+use scl_describe::{Settings, Tables};
 use scl_explain::{Answered, Case, Counts, Ending, EntryKind, answer_case, load_error_text};
 use scl_load::Disk;
-use scl_text::command::{copy_pairs, copy_words};
+use scl_text::command::copy_pairs;
 use serde_json::Value;
 use std::alloc::Global;
 use std::fmt::Display;
@@ -18,7 +17,7 @@ use std::fmt::Display;
 #[derive(Drop)]
 pub struct Batch<'a> {
     /// What is known of the compilers.
-    pub about: About<'a>,
+    pub tables: Tables<'a>,
     /// Further names of launchers.
     pub launchers: Vec<Vec<u8>>,
     /// The compiler of each entry, where one was named.
@@ -29,14 +28,8 @@ pub struct Batch<'a> {
     pub env_vars: Vec<(Vec<u8>, Vec<u8>)>,
     /// Whether several architectures are allowed.
     pub multiarch: bool,
-    /// Whether the runs of the preprocessor are for a distant compiler.
-    pub may_dist: bool,
-    /// The most words that an entry may have.
-    pub limits: Limits,
-    /// The base directories by which keys are told.
-    pub base_dirs: Vec<Vec<u8>>,
-    /// Whether macros of the command stay where they are in keys.
-    pub keeps_shown: bool,
+    /// How each entry is described.
+    pub settings: Settings,
     /// Whether machines read the answers.
     pub json: bool,
     /// Whether it is counted what may be kept under a key.
@@ -52,6 +45,17 @@ pub(crate) struct Named<'n> {
     pub(crate) file: &'n str,
 }
 
+/// What an entry is found to be.
+#[derive(Drop)]
+pub(crate) enum Found<'a> {
+    /// A command line, with what it is answered.
+    Answered(Case, Answered<'a>),
+    /// A command line that has no answer: why.
+    Unread(String),
+    /// No command line: why.
+    Broken(String),
+}
+
 /// A command line with `/` for each backslash of its words.
 fn slashed_case(alloc: Global, case: &Case) -> Mem<Case> {
     Ok(Case {
@@ -60,10 +64,8 @@ fn slashed_case(alloc: Global, case: &Case) -> Mem<Case> {
         words: all_with_slashes(alloc, &case.words)?,
         cwd: Vec::from_slice(alloc, &case.cwd)?,
         env_vars: copy_pairs(alloc, &case.env_vars)?,
-        may_dist: case.may_dist,
-        limits: case.limits,
-        base_dirs: copy_words(alloc, &case.base_dirs)?,
-        keeps_shown: case.keeps_shown,
+        multiarch: case.multiarch,
+        settings: copied(alloc, &case.settings)?,
     })
 }
 
@@ -83,38 +85,30 @@ impl<'a> Batch<'a> {
         }
     }
 
-    /// Appends the line of an entry that is answered.
-    fn push_answered(
+    /// The line of an entry that is answered.
+    fn answered_line(
         &self,
         alloc: Global,
-        output: &mut Vec<u8>,
         named: Named<'_>,
         case: &Case,
         answered: &Answered<'_>,
-    ) -> Mem<()> {
-        let Named { entry, file } = named;
-        if self.json {
-            push_entry_object(alloc, output, &self.about, entry, file, case, answered)?;
-            output.push(b'\n')?;
-            return Ok(());
+    ) -> Mem<Vec<u8>> {
+        if !self.json {
+            return Ok(entry_line(alloc, named, case, answered)?.into_bytes());
         }
-        let line = entry_line(alloc, entry, file, case, answered)?;
-        output.extend_from_slice(line.as_bytes())
+        let mut line = entry_object(alloc, named, case, answered)?;
+        line.push(b'\n')?;
+        Ok(line)
     }
 
-    /// Appends the line of an entry that has no answer, if it has one.
-    fn push_refused(
-        &self,
-        alloc: Global,
-        output: &mut Vec<u8>,
-        named: Named<'_>,
-        why: &str,
-    ) -> Mem<()> {
-        if self.json && self.only.is_none() {
-            push_refused_object(alloc, output, named.entry, named.file, why)?;
-            output.push(b'\n')?;
+    /// The line of an entry that has no answer; empty where nothing is written of it.
+    fn refused_line(&self, alloc: Global, named: Named<'_>, why: &str) -> Mem<Vec<u8>> {
+        if !self.json || self.only.is_some() {
+            return Ok(Vec::new(alloc));
         }
-        Ok(())
+        let mut line = refused_object(alloc, named, why)?;
+        line.push(b'\n')?;
+        Ok(line)
     }
 
     /// What the entry of a command line is answered on a disk, or why it is not.
@@ -127,7 +121,7 @@ impl<'a> Batch<'a> {
     where
         D::Error: Display,
     {
-        match answer_case(alloc, disk, &self.about, case, self.multiarch, false)? {
+        match answer_case(alloc, disk, &self.tables, case)? {
             Ok(answered) => Ok(Ok(answered)),
             Err(error) => Ok(Err(load_error_text(alloc, &error)?)),
         }
@@ -141,7 +135,13 @@ impl<'a> Batch<'a> {
         };
         let slashed = slashed_case(alloc, case)?;
         let is_same = match self.answer_on(alloc, &ForeignDisk, &slashed)? {
-            Ok(other) => same_answer(alloc, &answered.answer, &other.answer)?,
+            Ok(other) => {
+                same_answer(
+                    alloc,
+                    &answered.description.answer,
+                    &other.description.answer,
+                )?
+            }
             Err(_) => false,
         };
         if is_same {
@@ -155,7 +155,7 @@ impl<'a> Batch<'a> {
     }
 
     /// What the entry of a command line is answered, or why it is not.
-    pub(crate) fn answer<D: Disk>(
+    fn answer<D: Disk>(
         &self,
         alloc: Global,
         disk: &D,
@@ -171,81 +171,46 @@ impl<'a> Batch<'a> {
         }
     }
 
+    /// What an entry is found to be, by the files of a disk.
+    pub(crate) fn found<D: Disk>(&self, alloc: Global, disk: &D, value: &Value) -> Mem<Found<'a>>
+    where
+        D::Error: Display,
+    {
+        let case = match self.case_of(alloc, value)? {
+            Ok(case) => case,
+            Err(error) => return Ok(Found::Broken(format!(in alloc; "{error}")?)),
+        };
+        match self.answer(alloc, disk, &case)? {
+            Ok(answered) => Ok(Found::Answered(case, answered)),
+            Err(why) => {
+                drop(case);
+                Ok(Found::Unread(why))
+            }
+        }
+    }
+
     /// Counts an entry that is answered. What it is.
     fn count(
         &self,
         alloc: Global,
         tally: &mut Tally,
         named: Named<'_>,
-        case: &Case,
         answered: &Answered<'_>,
     ) -> Mem<EntryKind> {
-        let Named { entry, file } = named;
         if self.keep {
-            let verdicts = verdicts(alloc, &self.about, case, answered)?;
-            tally.keeps.count(alloc, entry, file, &verdicts)?;
+            tally.keeps.count(alloc, named, &answered.description.kept)?;
         }
-        tally.counts.count(alloc, entry, file, answered)
+        tally.counts.count(alloc, named.entry, named.file, answered)
     }
 
-    fn push_case<D: Disk>(
-        &self,
-        alloc: Global,
-        disk: &D,
-        tally: &mut Tally,
-        output: &mut Vec<u8>,
-        named: Named<'_>,
-        case: &Case,
-    ) -> Mem<()>
-    where
-        D::Error: Display,
-    {
-        match self.answer(alloc, disk, case)? {
-            Ok(answered) => {
-                let kind = self.count(alloc, tally, named, case, &answered)?;
-                if self.is_written(kind) {
-                    self.push_answered(alloc, output, named, case, &answered)?;
-                }
-                Ok(())
-            }
-            Err(why) => {
-                self.push_refused(alloc, output, named, why.as_str())?;
-                tally.counts.count_unread(named.entry, why)
-            }
-        }
-    }
-
-    /// The command line of an entry. The outer error is the refusal of memory.
-    pub fn case_of(&self, alloc: Global, value: &Value) -> Mem<Result<Case, EntryError>> {
-        let env_vars = copy_pairs(alloc, &self.env_vars)?;
-        match case_of_entry(
-            alloc,
-            value,
-            &self.launchers,
-            self.named,
-            &self.base,
-            env_vars,
-        )? {
-            Ok(mut case) => {
-                case.may_dist = self.may_dist;
-                case.limits = self.limits;
-                case.base_dirs = copy_words(alloc, &self.base_dirs)?;
-                case.keeps_shown = self.keeps_shown;
-                Ok(Ok(case))
-            }
-            Err(error) => Ok(Err(error)),
-        }
-    }
-
-    /// Answers the next entry, and counts it; appends what is written of it.
-    pub fn push_entry<D: Disk>(
+    /// Answers the next entry, and counts it. What is written of it.
+    pub fn answer_entry<D: Disk>(
         &self,
         alloc: Global,
         disk: &D,
         tally: &mut Tally,
         value: &Value,
-        output: &mut Vec<u8>,
-    ) -> Mem<()>
+    ) -> Mem<Vec<u8>>
     where
         D::Error: Display,
     {
@@ -253,12 +218,24 @@ impl<'a> Batch<'a> {
             entry: tally.counts.next(),
             file: file_of(value),
         };
-        match self.case_of(alloc, value)? {
-            Ok(case) => self.push_case(alloc, disk, tally, output, named, &case),
-            Err(error) => {
-                let why = format!(in alloc; "{error}")?;
-                self.push_refused(alloc, output, named, why.as_str())?;
-                tally.counts.count_broken(named.entry, why)
+        match self.found(alloc, disk, value)? {
+            Found::Answered(case, answered) => {
+                let kind = self.count(alloc, tally, named, &answered)?;
+                if self.is_written(kind) {
+                    self.answered_line(alloc, named, &case, &answered)
+                } else {
+                    Ok(Vec::new(alloc))
+                }
+            }
+            Found::Unread(why) => {
+                let line = self.refused_line(alloc, named, why.as_str())?;
+                tally.counts.count_unread(named.entry, why)?;
+                Ok(line)
+            }
+            Found::Broken(why) => {
+                let line = self.refused_line(alloc, named, why.as_str())?;
+                tally.counts.count_broken(named.entry, why)?;
+                Ok(line)
             }
         }
     }
@@ -269,7 +246,7 @@ impl<'a> Batch<'a> {
             Ok(String::new(alloc))
         } else {
             let keeps = self.keep.then_some(&tally.keeps);
-            summary(alloc, &self.about.catalogue, &tally.counts, keeps)
+            summary(alloc, &self.tables.catalogue, &tally.counts, keeps)
         }
     }
 }

@@ -1,10 +1,9 @@
 //! What two command lines differ in, for a person.
 use crate::alone::{AT, Alone};
-use crate::description::description;
 use crate::digest::outcome_text;
 use crate::foreign::{ForeignDisk, is_windows};
 use scl_cl::Mem;
-use scl_describe::About;
+use scl_describe::Tables;
 use scl_explain::{Case, answer_case, has_key, has_key_of, load_error_text};
 use scl_json::read_rows;
 use scl_load::Disk;
@@ -98,32 +97,30 @@ impl Compared {
     pub fn of_case<D: Disk>(
         alloc: Global,
         disk: &D,
-        about: &About<'_>,
+        tables: &Tables<'_>,
         case: &Case,
-        multiarch: bool,
     ) -> Mem<Result<Compared, String>>
     where
         D::Error: Display,
     {
         if is_windows(&case.cwd) {
-            return Compared::on_disk(alloc, &ForeignDisk, about, case, multiarch);
+            return Compared::on_disk(alloc, &ForeignDisk, tables, case);
         }
-        Compared::on_disk(alloc, disk, about, case, multiarch)
+        Compared::on_disk(alloc, disk, tables, case)
     }
 
     fn on_disk<D: Disk>(
         alloc: Global,
         disk: &D,
-        about: &About<'_>,
+        tables: &Tables<'_>,
         case: &Case,
-        multiarch: bool,
     ) -> Mem<Result<Compared, String>>
     where
         D::Error: Display,
     {
-        match answer_case(alloc, disk, about, case, multiarch, true)? {
+        match answer_case(alloc, disk, tables, case)? {
             Ok(answered) => {
-                let text = description(alloc, about, case, &answered)?;
+                let text = answered.description.text(alloc)?;
                 Ok(Ok(Compared {
                     outcome: outcome_text(alloc, case, &answered)?,
                     rows: read_rows(alloc, &text)?,

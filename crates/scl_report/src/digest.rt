@@ -1,4 +1,5 @@
 //! What a database has, for a person.
+use crate::batch::Named;
 use crate::nothing::nothing_text;
 use crate::tally::Keeps;
 use scl_cl::{Compilation, CompilerArguments, Mem};
@@ -205,10 +206,11 @@ fn push_compiled(
 
 /// Appends what a command line is answered.
 fn push_outcome(alloc: Global, text: &mut String, case: &Case, answered: &Answered<'_>) -> Mem<()> {
-    match &answered.answer {
+    let described = &answered.description;
+    match &described.answer {
         CompilerArguments::Ok(compilation) => {
             push_compiled(alloc, text, &case.program, compilation)?;
-            push_named(alloc, text, &answered.hazards)
+            push_named(alloc, text, &described.told.hazards)
         }
         CompilerArguments::CannotCache(reason, more) => {
             let missing = &answered.missing_files;
@@ -216,7 +218,7 @@ fn push_outcome(alloc: Global, text: &mut String, case: &Case, answered: &Answer
             text.push_str(refusal.as_str())
         }
         CompilerArguments::NotCompilation => {
-            let nothing = nothing_text(alloc, &answered.rows)?;
+            let nothing = nothing_text(alloc, &described.options)?;
             text.push_str(nothing.as_str())
         }
     }
@@ -230,15 +232,14 @@ pub(crate) fn outcome_text(alloc: Global, case: &Case, answered: &Answered<'_>) 
 }
 
 /// An entry and its outcome, in one line.
-pub fn entry_line(
+pub(crate) fn entry_line(
     alloc: Global,
-    entry: u64,
-    file: &str,
+    named: Named<'_>,
     case: &Case,
     answered: &Answered<'_>,
 ) -> Mem<String> {
     let mut text = String::new(alloc);
-    push_place(alloc, &mut text, entry, file)?;
+    push_place(alloc, &mut text, named.entry, named.file)?;
     text.push_str(": ")?;
     push_outcome(alloc, &mut text, case, answered)?;
     text.push('\n')?;

@@ -1,8 +1,11 @@
 //! An entry of a compile database.
+use crate::batch::Batch;
 use crate::foreign::is_windows;
-use scl_cl::{Compiler, Mem, path};
+use crate::settings::copied;
+use scl_cl::{Mem, path};
 use scl_explain::{Case, CaseError};
 use scl_shell::{ShellError, WindowsError, operator_at, shell_words, windows_words};
+use scl_text::command::copy_pairs;
 use serde_json::{Map, Value};
 use std::alloc::Global;
 use thiserror::Error;
@@ -135,32 +138,31 @@ fn directory_in(alloc: Global, base: &[u8], directory: &[u8]) -> Mem<Vec<u8>> {
     }
 }
 
-/// The command line of an entry, whose directory stands in `base`, with the environment `env_vars`. It is `named`'s, where a
-/// compiler is named; programs of the names `launchers` start others.
-pub fn case_of_entry(
-    alloc: Global,
-    value: &Value,
-    launchers: &[Vec<u8>],
-    named: Option<Compiler>,
-    base: &[u8],
-    env_vars: Vec<(Vec<u8>, Vec<u8>)>,
-) -> Mem<Result<Case, EntryError>> {
-    let Some(entry) = value.as_object() else {
-        return Ok(Err(EntryError::NoObject));
-    };
-    let Some(directory) = entry.get("directory").and_then(Value::as_str) else {
-        return Ok(Err(EntryError::NoDirectory));
-    };
-    let words = match words_of(alloc, entry, directory.as_bytes())? {
-        Ok(words) => words,
-        Err(error) => return Ok(Err(error)),
-    };
-    if words.iter().any(|word| word.contains(&0)) {
-        return Ok(Err(EntryError::Nul));
-    }
-    let cwd = directory_in(alloc, base, directory.as_bytes())?;
-    match Case::of_words(alloc, words, launchers, named, cwd, env_vars)? {
-        Ok(case) => Ok(Ok(case)),
-        Err(error) => Ok(Err(EntryError::Case(error))),
+impl<'a> Batch<'a> {
+    /// The command line of an entry. The outer error is the refusal of memory.
+    pub fn case_of(&self, alloc: Global, value: &Value) -> Mem<Result<Case, EntryError>> {
+        let Some(entry) = value.as_object() else {
+            return Ok(Err(EntryError::NoObject));
+        };
+        let Some(directory) = entry.get("directory").and_then(Value::as_str) else {
+            return Ok(Err(EntryError::NoDirectory));
+        };
+        let words = match words_of(alloc, entry, directory.as_bytes())? {
+            Ok(words) => words,
+            Err(error) => return Ok(Err(error)),
+        };
+        if words.iter().any(|word| word.contains(&0)) {
+            return Ok(Err(EntryError::Nul));
+        }
+        let cwd = directory_in(alloc, &self.base, directory.as_bytes())?;
+        let env_vars = copy_pairs(alloc, &self.env_vars)?;
+        match Case::of_words(alloc, words, &self.launchers, self.named, cwd, env_vars)? {
+            Ok(mut case) => {
+                case.multiarch = self.multiarch;
+                case.settings = copied(alloc, &self.settings)?;
+                Ok(Ok(case))
+            }
+            Err(error) => Ok(Err(EntryError::Case(error))),
+        }
     }
 }

@@ -1,12 +1,11 @@
 //! Answers as JSON: an object in one line, made from the rows of the description and from those of the program (docs/PROTOCOL.md, JSON).
-use crate::description::description;
+use crate::batch::Named;
 use crate::nothing::why_nothing;
 use scl_cl::{CompilerArguments, Mem};
-use scl_describe::About;
 use scl_description::{push_maybe, push_row, push_word, push_words};
 use scl_explain::{Answered, Case, unrunnable_text};
 use scl_hazards::danger_name;
-use scl_json::{push_json, read_rows};
+use scl_json::{json_of, read_rows};
 use std::alloc::Global;
 
 /// The rows whose members each answer has that is a command.
@@ -73,17 +72,16 @@ static NOTHING: [&str; 7] = [
 static ERROR: [&str; 3] = ["version", "entry", "error"];
 
 fn firsts_of(answered: &Answered<'_>) -> &'static [&'static str] {
-    match answered.answer {
+    match answered.description.answer {
         CompilerArguments::Ok(_) => &COMMAND,
         CompilerArguments::CannotCache(_, _) => &REFUSAL,
         CompilerArguments::NotCompilation => &NOTHING,
     }
 }
 
-/// Appends the object of these rows.
-fn push_object(alloc: Global, output: &mut Vec<u8>, firsts: &[&str], text: &[u8]) -> Mem<()> {
-    let rows = read_rows(alloc, text)?;
-    push_json(alloc, output, firsts, &rows)
+/// The object of these rows.
+fn object_of(alloc: Global, firsts: &[&str], text: &[u8]) -> Mem<Vec<u8>> {
+    json_of(alloc, firsts, &read_rows(alloc, text)?)
 }
 
 /// Appends the row of a hazard: its name, its danger, and what happens.
@@ -98,7 +96,7 @@ fn push_danger<'t>(
 
 /// Appends a row for each hazard, with what happens.
 fn push_dangers(text: &mut Vec<u8>, answered: &Answered<'_>) -> Mem<()> {
-    for hazard in &answered.hazards {
+    for hazard in &answered.description.told.hazards {
         let danger = danger_name(hazard.danger()).as_bytes();
         push_danger(text, hazard.name(), danger, hazard.consequence())?;
     }
@@ -107,7 +105,7 @@ fn push_dangers(text: &mut Vec<u8>, answered: &Answered<'_>) -> Mem<()> {
 
 /// Appends what no description says of how the command line is answered.
 fn push_ending(alloc: Global, text: &mut Vec<u8>, case: &Case, answered: &Answered<'_>) -> Mem<()> {
-    match &answered.answer {
+    match &answered.description.answer {
         CompilerArguments::Ok(compilation) => {
             let words = &compilation.command.arguments;
             let why = unrunnable_text(alloc, &case.program, words)?;
@@ -116,7 +114,11 @@ fn push_ending(alloc: Global, text: &mut Vec<u8>, case: &Case, answered: &Answer
         }
         CompilerArguments::CannotCache(_, _) => Ok(()),
         CompilerArguments::NotCompilation => {
-            push_word(text, "nothing", why_nothing(&answered.rows).as_bytes())
+            push_word(
+                text,
+                "nothing",
+                why_nothing(&answered.description.options).as_bytes(),
+            )
         }
     }
 }
@@ -138,22 +140,17 @@ fn push_own_rows(
 }
 
 /// The answer to a command line.
-pub(crate) fn answer_line(
-    alloc: Global,
-    about: &About<'_>,
-    case: &Case,
-    answered: &Answered<'_>,
-) -> Mem<String> {
-    let mut text = description(alloc, about, case, answered)?;
+pub(crate) fn answer_line(alloc: Global, case: &Case, answered: &Answered<'_>) -> Mem<String> {
+    let mut text = answered.description.text(alloc)?;
     push_own_rows(alloc, &mut text, case, answered)?;
-    let mut line = Vec::new(alloc);
-    push_object(alloc, &mut line, firsts_of(answered), &text)?;
+    let mut line = object_of(alloc, firsts_of(answered), &text)?;
     line.push(b'\n')?;
     String::from_utf8_lossy(alloc, &line)
 }
 
 /// Appends the rows of an entry: its number, and the file that it names, if it names one.
-fn push_entry(alloc: Global, text: &mut Vec<u8>, entry: u64, file: &str) -> Mem<()> {
+fn push_entry(alloc: Global, text: &mut Vec<u8>, named: Named<'_>) -> Mem<()> {
+    let Named { entry, file } = named;
     let number = format!(in alloc; "{entry}")?;
     push_word(text, "entry", number.as_bytes())?;
     if file.is_empty() {
@@ -163,33 +160,24 @@ fn push_entry(alloc: Global, text: &mut Vec<u8>, entry: u64, file: &str) -> Mem<
     }
 }
 
-/// Appends the answer to an entry of a database.
-pub(crate) fn push_entry_object(
+/// The answer to an entry of a database.
+pub(crate) fn entry_object(
     alloc: Global,
-    output: &mut Vec<u8>,
-    about: &About<'_>,
-    entry: u64,
-    file: &str,
+    named: Named<'_>,
     case: &Case,
     answered: &Answered<'_>,
-) -> Mem<()> {
-    let mut text = description(alloc, about, case, answered)?;
-    push_entry(alloc, &mut text, entry, file)?;
+) -> Mem<Vec<u8>> {
+    let mut text = answered.description.text(alloc)?;
+    push_entry(alloc, &mut text, named)?;
     push_own_rows(alloc, &mut text, case, answered)?;
-    push_object(alloc, output, firsts_of(answered), &text)
+    object_of(alloc, firsts_of(answered), &text)
 }
 
-/// Appends why an entry of a database has no answer.
-pub(crate) fn push_refused_object(
-    alloc: Global,
-    output: &mut Vec<u8>,
-    entry: u64,
-    file: &str,
-    why: &str,
-) -> Mem<()> {
+/// Why an entry of a database has no answer.
+pub(crate) fn refused_object(alloc: Global, named: Named<'_>, why: &str) -> Mem<Vec<u8>> {
     let mut text = Vec::new(alloc);
     push_word(&mut text, "version", b"1")?;
-    push_entry(alloc, &mut text, entry, file)?;
+    push_entry(alloc, &mut text, named)?;
     push_word(&mut text, "error", why.as_bytes())?;
-    push_object(alloc, output, &ERROR, &text)
+    object_of(alloc, &ERROR, &text)
 }

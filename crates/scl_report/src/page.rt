@@ -1,12 +1,13 @@
 //! What a command line is, for a person.
-use crate::keep::{verdict_text, verdicts};
+use crate::keep::kept_texts;
 use crate::nothing::nothing_text;
 use crate::options::push_options;
 use crate::paint::{Codes, codes_of};
 use scl_cl::{Cacheable, Compilation, CompilerArguments, Mem};
-use scl_describe::About;
+use scl_describe::Kept;
 use scl_explain::{Answered, Case, Paint, cached_text, refusal_text, unrunnable_text};
 use scl_hazards::Hazard;
+use scl_key::made_beside;
 use scl_reasons::sentence;
 use scl_rows::Row;
 use scl_shell::{shown, shown_command};
@@ -77,9 +78,9 @@ fn push_compiled(page: &mut Page, program: &[u8], compilation: &Compilation) -> 
     page.outcome(colour, cached_text(compilation.cacheable))
 }
 
-fn push_outcome(page: &mut Page, case: &Case, answered: &Answered<'_>, rows: &[Row]) -> Mem<()> {
+fn push_outcome(page: &mut Page, case: &Case, answered: &Answered<'_>) -> Mem<()> {
     let bad = page.codes.bad;
-    match &answered.answer {
+    match &answered.description.answer {
         CompilerArguments::Ok(compilation) => push_compiled(page, &case.program, compilation),
         CompilerArguments::CannotCache(reason, more) => {
             let missing = &answered.missing_files;
@@ -88,21 +89,15 @@ fn push_outcome(page: &mut Page, case: &Case, answered: &Answered<'_>, rows: &[R
             page.line("because", sentence(reason))
         }
         CompilerArguments::NotCompilation => {
-            let text = nothing_text(page.alloc, rows)?;
+            let text = nothing_text(page.alloc, &answered.description.options)?;
             page.outcome(bad, text.as_str())
         }
     }
 }
 
 /// Whether the outcome may be kept under a key, or why not.
-fn push_verdicts(
-    page: &mut Page,
-    about: &About<'_>,
-    case: &Case,
-    answered: &Answered<'_>,
-) -> Mem<()> {
-    for verdict in &verdicts(page.alloc, about, case, answered)? {
-        let text = verdict_text(page.alloc, verdict)?;
+fn push_kept(page: &mut Page, kept: &Kept) -> Mem<()> {
+    for text in &kept_texts(page.alloc, kept)? {
         page.line("may be kept", text.as_str())?;
     }
     Ok(())
@@ -135,11 +130,22 @@ fn push_outputs(page: &mut Page, compilation: &Compilation) -> Mem<()> {
     Ok(())
 }
 
+/// The files that the command writes beside the outputs of its record.
+fn push_written(page: &mut Page, compilation: &Compilation) -> Mem<()> {
+    for output in &made_beside(page.alloc, &compilation.parsed)? {
+        let name = shown(page.alloc, &output.name)?;
+        let note = format!(in page.alloc; " ({name})")?;
+        page.path("output", &output.path, note.as_str())?;
+    }
+    Ok(())
+}
+
 fn push_record(page: &mut Page, compilation: &Compilation) -> Mem<()> {
     let parsed = &compilation.parsed;
     let note = format!(in page.alloc; " ({:?})", parsed.language)?;
     page.path("input", &parsed.input, note.as_str())?;
     push_outputs(page, compilation)?;
+    push_written(page, compilation)?;
     page.paths("hashed too", &parsed.extra_hash_files, "")?;
     if let Some(flag) = &parsed.too_hard_for_preprocessor_cache_mode {
         let flag = shown(page.alloc, flag)?;
@@ -164,11 +170,12 @@ fn push_hazards(page: &mut Page, hazards: &[Hazard<'_>]) -> Mem<()> {
 }
 
 fn push_commands(page: &mut Page, case: &Case, answered: &Answered<'_>) -> Mem<()> {
-    if let CompilerArguments::Ok(compilation) = &answered.answer {
+    let described = &answered.description;
+    if let CompilerArguments::Ok(compilation) = &described.answer {
         push_record(page, compilation)?;
-        push_hazards(page, &answered.hazards)?;
+        push_hazards(page, &described.told.hazards)?;
         page.command("command", &case.program, &compilation.command.arguments)?;
-        for run in &answered.runs {
+        for run in &described.runs {
             page.command("preprocessor", &case.program, run)?;
         }
     }
@@ -185,10 +192,8 @@ fn push_rows(page: &mut Page, rows: &[Row]) -> Mem<()> {
 /// What a command line is, for a person.
 pub fn explanation(
     alloc: Global,
-    about: &About<'_>,
     case: &Case,
     answered: &Answered<'_>,
-    rows: &[Row],
     paint: Paint,
 ) -> Mem<String> {
     let mut page = Page {
@@ -196,11 +201,11 @@ pub fn explanation(
         codes: codes_of(paint),
         text: String::new(alloc),
     };
-    push_outcome(&mut page, case, answered, rows)?;
-    push_verdicts(&mut page, about, case, answered)?;
+    push_outcome(&mut page, case, answered)?;
+    push_kept(&mut page, &answered.description.kept)?;
     push_case(&mut page, case)?;
     push_files(&mut page, answered)?;
-    push_rows(&mut page, rows)?;
+    push_rows(&mut page, &answered.description.options)?;
     push_commands(&mut page, case, answered)?;
     let Page { text, .. } = page;
     Ok(text)

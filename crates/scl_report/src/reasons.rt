@@ -1,6 +1,6 @@
 //! All reasons and hazards, as a page for people and as JSON.
 use crate::document::{Rows, document_of, push_field, row_named, versioned};
-use crate::keep::SENTENCES;
+use crate::keep::{REASONS, UNKNOWN, sentence_of};
 use scl_cl::Mem;
 use scl_hazards::{
     Catalogue, Compiler, Entry, Hazard, compiler_name, danger_name, hazard_of, is_of,
@@ -64,10 +64,11 @@ fn push_explanations(text: &mut String) -> Mem<()> {
 
 /// Appends the reasons why nothing may be kept under a key.
 fn push_verdicts(text: &mut String) -> Mem<()> {
-    for (reason, sentence) in SENTENCES {
-        write!(text, "{reason}\n    {sentence}\n")?;
+    for reason in REASONS {
+        let (name, sentence) = (reason.name(), sentence_of(reason));
+        write!(text, "{name}\n    {sentence}\n")?;
     }
-    Ok(())
+    write!(text, "unknown\n    {UNKNOWN}\n")
 }
 
 /// Appends the hazards of a catalogue.
@@ -150,10 +151,10 @@ fn push_hazard_rows(alloc: Global, rows: &mut Rows, catalogue: &Catalogue<'_>) -
 }
 
 fn push_verdict_rows(alloc: Global, rows: &mut Rows) -> Mem<()> {
-    for (reason, sentence) in SENTENCES {
-        push_reason_row(alloc, rows, "keep", reason, sentence)?;
+    for reason in REASONS {
+        push_reason_row(alloc, rows, "keep", reason.name(), sentence_of(reason))?;
     }
-    Ok(())
+    push_reason_row(alloc, rows, "keep", "unknown", UNKNOWN)
 }
 
 /// The same as a document: the rows `reasons` and `keep`, and the hazards (docs/PROTOCOL.md, JSON).

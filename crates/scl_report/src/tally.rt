@@ -1,8 +1,11 @@
 //! What is counted over the entries of a database.
+use crate::batch::Named;
 use crate::digest::{push_met, push_more};
-use crate::keep::{UNKNOWN, Verdict, sentence_of};
+use crate::keep::{REASONS, UNKNOWN, sentence_of};
 use scl_cl::Mem;
+use scl_describe::Kept;
 use scl_explain::{Counts, Met};
+use scl_key::{NoKey, Reason};
 use scl_shell::shown_briefly;
 use std::alloc::Global;
 use std::collections::BTreeMap;
@@ -30,17 +33,11 @@ pub struct Tally {
 }
 
 /// Counts a key once more.
-fn meet(
-    alloc: Global,
-    map: &mut BTreeMap<Vec<u8>, Met>,
-    key: &[u8],
-    entry: u64,
-    file: &str,
-) -> Mem<()> {
+fn meet(alloc: Global, map: &mut BTreeMap<Vec<u8>, Met>, key: &[u8], named: Named<'_>) -> Mem<()> {
     let first = Met {
         times: 0,
-        entry,
-        file: String::from_str(alloc, file)?,
+        entry: named.entry,
+        file: String::from_str(alloc, named.file)?,
     };
     let met = map.entry(Vec::from_slice(alloc, key)?)?.or_insert(first);
     met.times = met.times.saturating_add(1);
@@ -48,15 +45,8 @@ fn meet(
 }
 
 /// Whether one of these has this reason.
-fn has_reason(verdicts: &[Verdict], wanted: &[u8]) -> bool {
-    for verdict in verdicts {
-        if let Verdict::No(reason, _) = verdict {
-            if reason.as_slice() == wanted {
-                return true;
-            }
-        }
-    }
-    false
+fn has_reason(reasons: &[NoKey], wanted: Reason) -> bool {
+    reasons.iter().any(|why| why.reason == wanted)
 }
 
 impl Keeps {
@@ -71,53 +61,42 @@ impl Keeps {
     }
 
     /// Counts each reason of an entry once.
-    fn count_reasons(
-        &mut self,
-        alloc: Global,
-        entry: u64,
-        file: &str,
-        verdicts: &[Verdict],
-    ) -> Mem<()> {
-        for (at, verdict) in verdicts.iter().enumerate() {
-            if let Verdict::No(reason, _) = verdict {
-                if !has_reason(&verdicts[..at], reason) {
-                    meet(alloc, &mut self.reasons, reason, entry, file)?;
-                }
+    fn count_reasons(&mut self, alloc: Global, named: Named<'_>, reasons: &[NoKey]) -> Mem<()> {
+        for (at, why) in reasons.iter().enumerate() {
+            if !has_reason(&reasons[..at], why.reason) {
+                let name = why.reason.name();
+                meet(alloc, &mut self.reasons, name.as_bytes(), named)?;
             }
         }
         Ok(())
     }
 
-    /// Counts what is said of keeping the outcome of an entry, of a source `file`.
-    pub(crate) fn count(
-        &mut self,
-        alloc: Global,
-        entry: u64,
-        file: &str,
-        verdicts: &[Verdict],
-    ) -> Mem<()> {
-        match verdicts.first() {
-            Some(Verdict::Yes) => self.kept = self.kept.saturating_add(1),
-            Some(Verdict::No(_, _)) => {
-                self.barred = self.barred.saturating_add(1);
-                self.count_reasons(alloc, entry, file, verdicts)?;
-            }
-            Some(Verdict::Unknown(word)) => {
+    /// Counts what is said of keeping the outcome of an entry.
+    pub(crate) fn count(&mut self, alloc: Global, named: Named<'_>, kept: &Kept) -> Mem<()> {
+        match kept {
+            Kept::Nothing => {}
+            Kept::Under(_) => self.kept = self.kept.saturating_add(1),
+            Kept::Unknown(word) => {
                 self.unjudged = self.unjudged.saturating_add(1);
-                meet(alloc, &mut self.words, word, entry, file)?;
+                meet(alloc, &mut self.words, word, named)?;
             }
-            None => {}
+            Kept::Not(reasons) => {
+                self.barred = self.barred.saturating_add(1);
+                self.count_reasons(alloc, named, reasons)?;
+            }
         }
         Ok(())
     }
 
-    /// Appends the reasons for which there is no key, each with its sentence.
+    /// Appends the reasons for which there is no key, by their names, each with its sentence.
     fn push_reasons(&self, alloc: Global, text: &mut String) -> Mem<()> {
-        for (reason, met) in self.reasons.iter() {
-            let sentence = sentence_of(reason);
-            let reason = shown_briefly(alloc, reason)?;
-            push_met(alloc, text, reason.as_str(), met)?;
-            write!(text, "          {sentence}\n")?;
+        // (the list has its names backwards)
+        for reason in REASONS.iter().rev() {
+            if let Some(met) = self.reasons.get(reason.name().as_bytes()) {
+                push_met(alloc, text, reason.name(), met)?;
+                let sentence = sentence_of(*reason);
+                write!(text, "          {sentence}\n")?;
+            }
         }
         Ok(())
     }
@@ -140,13 +119,12 @@ impl Keeps {
             self.push_reasons(alloc, text)?;
         }
         if unjudged > 0 {
-            let sentence = sentence_of(UNKNOWN);
             write!(
                 text,
                 "have an option of which nothing is known: {unjudged}\n"
             )?;
             self.push_words(alloc, text)?;
-            write!(text, "          {sentence}\n")?;
+            write!(text, "          {UNKNOWN}\n")?;
         }
         Ok(())
     }

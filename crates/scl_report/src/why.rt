@@ -1,9 +1,11 @@
 //! Why an entry of a database can or can't be cached, for a person.
+use crate::batch::Named;
 use crate::digest::entry_line;
-use crate::keep::{verdict_text, verdicts};
+use crate::keep::kept_texts;
 use scl_cl::{Compilation, CompilerArguments, Mem};
-use scl_describe::About;
+use scl_describe::Kept;
 use scl_explain::{Answered, Case};
+use scl_hazards::Hazard;
 use scl_reasons::sentence;
 use scl_shell::shown;
 use std::alloc::Global;
@@ -13,22 +15,15 @@ fn push_line(text: &mut String, title: &str, said: &str) -> Mem<()> {
 }
 
 /// Appends whether the outcome may be kept under a key, or why not.
-fn push_keeps(
-    alloc: Global,
-    text: &mut String,
-    about: &About<'_>,
-    case: &Case,
-    answered: &Answered<'_>,
-) -> Mem<()> {
-    for verdict in &verdicts(alloc, about, case, answered)? {
-        let said = verdict_text(alloc, verdict)?;
+fn push_kept(alloc: Global, text: &mut String, kept: &Kept) -> Mem<()> {
+    for said in &kept_texts(alloc, kept)? {
         push_line(text, "may be kept", said.as_str())?;
     }
     Ok(())
 }
 
-fn push_hazards(alloc: Global, text: &mut String, answered: &Answered<'_>) -> Mem<()> {
-    for hazard in &answered.hazards {
+fn push_hazards(alloc: Global, text: &mut String, hazards: &[Hazard<'_>]) -> Mem<()> {
+    for hazard in hazards {
         let name = shown(alloc, hazard.name())?;
         let consequence = shown(alloc, hazard.consequence())?;
         push_line(text, name.as_str(), consequence.as_str())?;
@@ -48,17 +43,16 @@ fn push_files(alloc: Global, text: &mut String, compilation: &Compilation) -> Me
 /// An entry and its outcome in a line, and why it can or can't be cached.
 pub(crate) fn why_text(
     alloc: Global,
-    about: &About<'_>,
-    entry: u64,
-    file: &str,
+    named: Named<'_>,
     case: &Case,
     answered: &Answered<'_>,
 ) -> Mem<String> {
-    let mut text = entry_line(alloc, entry, file, case, answered)?;
-    match &answered.answer {
+    let mut text = entry_line(alloc, named, case, answered)?;
+    let described = &answered.description;
+    match &described.answer {
         CompilerArguments::Ok(compilation) => {
-            push_hazards(alloc, &mut text, answered)?;
-            push_keeps(alloc, &mut text, about, case, answered)?;
+            push_hazards(alloc, &mut text, &described.told.hazards)?;
+            push_kept(alloc, &mut text, &described.kept)?;
             push_files(alloc, &mut text, compilation)?;
         }
         CompilerArguments::CannotCache(reason, _) => {

@@ -1,6 +1,6 @@
 //! Why entries of a compile database can or can't be cached, told one after another.
-use crate::batch::{Batch, Named, ending_of_counts, file_of};
-use crate::json::{push_entry_object, push_refused_object};
+use crate::batch::{Batch, Found, Named, ending_of_counts, file_of};
+use crate::json::{entry_object, refused_object};
 use crate::why::why_text;
 use scl_cl::Mem;
 use scl_explain::{Answered, Case, Counts, Ending};
@@ -17,6 +17,31 @@ pub struct Whys {
     text: Vec<u8>,
 }
 
+/// What is told of an entry that is answered.
+fn answered_text(
+    alloc: Global,
+    json: bool,
+    named: Named<'_>,
+    case: &Case,
+    answered: &Answered<'_>,
+) -> Mem<Vec<u8>> {
+    if json {
+        entry_object(alloc, named, case, answered)
+    } else {
+        Ok(why_text(alloc, named, case, answered)?.into_bytes())
+    }
+}
+
+/// What is told of an entry that has no answer.
+fn refused_text(alloc: Global, json: bool, named: Named<'_>, why: &str) -> Mem<Vec<u8>> {
+    if json {
+        return refused_object(alloc, named, why);
+    }
+    let Named { entry, file } = named;
+    let file = shown_briefly(alloc, file.as_bytes())?;
+    Ok(format!(in alloc; "entry {entry}, {file}: {why}\n")?.into_bytes())
+}
+
 impl Whys {
     /// Of no entries.
     pub fn new(alloc: Global) -> Whys {
@@ -26,67 +51,13 @@ impl Whys {
         }
     }
 
-    fn push_answered(
-        &mut self,
-        alloc: Global,
-        batch: &Batch<'_>,
-        named: Named<'_>,
-        case: &Case,
-        answered: &Answered<'_>,
-    ) -> Mem<()> {
-        let Named { entry, file } = named;
-        if batch.json {
-            let text = &mut self.text;
-            return push_entry_object(alloc, text, &batch.about, entry, file, case, answered);
-        }
-        let text = why_text(alloc, &batch.about, entry, file, case, answered)?;
-        self.text.extend_from_slice(text.as_bytes())
-    }
-
-    fn push_refused(
-        &mut self,
-        alloc: Global,
-        batch: &Batch<'_>,
-        named: Named<'_>,
-        why: &str,
-    ) -> Mem<()> {
-        let Named { entry, file } = named;
-        if batch.json {
-            return push_refused_object(alloc, &mut self.text, entry, file, why);
-        }
-        let file = shown_briefly(alloc, file.as_bytes())?;
-        let line = format!(in alloc; "entry {entry}, {file}: {why}\n")?;
-        self.text.extend_from_slice(line.as_bytes())
-    }
-
-    fn push_case<D: Disk>(
-        &mut self,
-        alloc: Global,
-        batch: &Batch<'_>,
-        disk: &D,
-        named: Named<'_>,
-        case: &Case,
-    ) -> Mem<()>
-    where
-        D::Error: Display,
-    {
-        match batch.answer(alloc, disk, case)? {
-            Ok(answered) => self.push_answered(alloc, batch, named, case, &answered),
-            Err(why) => {
-                self.push_refused(alloc, batch, named, why.as_str())?;
-                self.counts.count_unread(named.entry, why)
-            }
-        }
-    }
-
-    /// Tells of an entry: what it is answered and why, or why it has no answer.
+    /// Tells of an entry, which comes after its number: what it is answered and why, or why it has no answer.
     pub fn push<D: Disk>(
         &mut self,
         alloc: Global,
         batch: &Batch<'_>,
         disk: &D,
-        entry: u64,
-        value: &Value,
+        meant: (u64, &Value),
     ) -> Mem<()>
     where
         D::Error: Display,
@@ -94,18 +65,25 @@ impl Whys {
         if batch.json && !self.text.is_empty() {
             self.text.push(b',')?;
         }
-        let named = Named {
-            entry,
-            file: file_of(value),
-        };
-        match batch.case_of(alloc, value)? {
-            Ok(case) => self.push_case(alloc, batch, disk, named, &case),
-            Err(error) => {
-                let why = format!(in alloc; "{error}")?;
-                self.push_refused(alloc, batch, named, why.as_str())?;
-                self.counts.count_broken(entry, why)
+        let (entry, value) = meant;
+        let file = file_of(value);
+        let named = Named { entry, file };
+        let text = match batch.found(alloc, disk, value)? {
+            Found::Answered(case, answered) => {
+                answered_text(alloc, batch.json, named, &case, &answered)?
             }
-        }
+            Found::Unread(why) => {
+                let text = refused_text(alloc, batch.json, named, why.as_str())?;
+                self.counts.count_unread(entry, why)?;
+                text
+            }
+            Found::Broken(why) => {
+                let text = refused_text(alloc, batch.json, named, why.as_str())?;
+                self.counts.count_broken(entry, why)?;
+                text
+            }
+        };
+        self.text.extend_from_slice(&text)
     }
 
     /// How it ends: as a database with these entries does.

@@ -13,5 +13,5 @@ returns-in_ok-text-in-Ok c =
     let line : Given = given_by c.line-line.result in
     let read : (has_at_most c.args.settings.now.limits (asked_for c.args.request.now.compiler line) ≡ true) × (c.in-Ok.reading ≡ read_of (asked_for c.args.request.now.compiler line)) =
     rw c.in-Ok.is at c.in_ok-reading.ensures in
-    is_described (tables_of c.args.tables.now) (settings_by c.args.settings.now) (asked_by c.args.request.now) line c.line-line.ensures c.in-Ok.reading c.in_ok-text-in-Ok.text.items read
-    (rw (c.known_of-known.ensures, c.as_deref.ensures.value) at c.in_ok-text-in-Ok.ensures)
+    is_described (tables_of c.args.tables.now) (settings_by c.args.settings.now) (asked_by c.args.request.now) line c.line-line.ensures c.in-Ok.reading c.in_ok-described-in-Ok.described
+    c.in_ok-text-in-Ok.text.items read c.in_ok-described-in-Ok.ensures c.in_ok-text-in-Ok.ensures

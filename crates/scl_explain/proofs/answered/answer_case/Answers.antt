@@ -1,11 +1,11 @@
-use Rattle.std.proofs.Common.{◌∙◌}
-use Rattle.scl_describe.specs.Abouts.{known_for}
-use Rattle.scl_explain.proofs.ReadCaseLaws.{is_decided}
+use Rattle.std.proofs.Common.{◌∙◌, sym}
+use Rattle.scl_hazards.specs.Hazards.{tables_of}
+use Rattle.scl_explain.proofs.LoadedLaws.{is_decided}
 use Rattle.scl_explain.proofs.answered.answer_case.Goals as goal
 
 pub returns-clause-decided : goal.returns-clause-decided
 returns-clause-decided g c =
-    rw c.in_ok-answered.ensures.view (is_decided (known_for c.args.about.now) (g.D.Disk.holds c.args.disk.now) c.args.multiarch c.args.case.now c.in-Ok.loaded.view (rw (c.in-Ok.is, c.new-logged.ensures) at c.in_ok-loaded.ensures.loaded))
+    rw c.in_ok-answered.ensures.view (is_decided (tables_of c.args.tables.now) (g.D.Disk.holds c.args.disk.now) c.args.case.now c.in-Ok.loaded.view (rw (c.in-Ok.is, c.new-logged.ensures) at c.in_ok-loaded.ensures.loaded))
 
 pub returns-clause-answer : goal.returns-clause-answer
-returns-clause-answer g c = λ held h m. (returns-clause-decided g c).answer held h m ∙ c.in_ok-answered.ensures.answer
+returns-clause-answer g c = λ held h m. (returns-clause-decided g c).answer held h m ∙ sym c.in_ok-answered.ensures.described.answer

@@ -1,0 +1,43 @@
+//! What is known of the compiler that is run.
+ghost use Rattle.std.specs.Prelude.{◌≡◌};
+ghost use Rattle.std.specs.Option.{option_copied};
+ghost use Rattle.scl_hazards.specs.Hazards.{tables_of};
+ghost use Rattle.scl_describe.specs.Hazards.{known_by, major_and_minor, version_told};
+ghost use Rattle.scl_describe.specs.SettingsRead.{settings_by};
+
+use crate::settings::Settings;
+use scl_catalogue_text::version;
+use scl_description::cut_at;
+use scl_hazards::{Known, Tables, Version};
+use scl_reader::is_apple;
+
+/// What of a version's text counts: what stands before its second dot.
+fn major_and_minor(text: &[u8]) -> &[u8]
+    ensures { result.now ≡ major_and_minor text.now }
+{
+    let Some((major, rest)) = cut_at(b'.', text) else {
+        return text;
+    };
+    let Some((minor, _)) = cut_at(b'.', rest) else {
+        return text;
+    };
+    &text[..major.len() + 1 + minor.len()]
+}
+
+/// The version that a text names; if it names none, every version is meant.
+fn version_told(text: Option<&str>) -> Option<Version>
+    ensures { result ≡ version_told (option_copied text.entry) }
+{
+    match text {
+        Some(text) => version(major_and_minor(text.as_bytes())),
+        None => None,
+    }
+}
+
+/// What tables know of the compiler whose version settings give, if they do.
+pub(crate) fn known_of<'a>(tables: &Tables<'a>, settings: &Settings) -> Known<'a>
+    ensures { result ≡ known_by (tables_of tables.now) (settings_by settings.now).version }
+{
+    let version = settings.version.as_deref();
+    Known::new(tables, version_told(version), is_apple(version))
+}

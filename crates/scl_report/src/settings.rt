@@ -1,0 +1,19 @@
+//! The settings of descriptions, for each command line of several.
+use scl_cl::Mem;
+use scl_describe::Settings;
+use scl_text::command::{copy_text, copy_words};
+use std::alloc::Global;
+
+/// The same settings.
+pub(crate) fn copied(alloc: Global, settings: &Settings) -> Mem<Settings> {
+    Ok(Settings {
+        may_dist: settings.may_dist,
+        rewrite_includes_only: settings.rewrite_includes_only,
+        cache_mode: settings.cache_mode,
+        version: copy_text(alloc, &settings.version)?,
+        limits: settings.limits,
+        wants: settings.wants,
+        bases: copy_words(alloc, &settings.bases)?,
+        keeps_shown: settings.keeps_shown,
+    })
+}
