@@ -111,7 +111,7 @@ defined_if true key h some =
     (each_defines macros runs (and_parts (not (length runs == 0)) (list_all (defines macros) runs) has.1).1)
 defined_if false key h some = absurd (some refl)
 
-leaving : (c : Compiler) (p : Parsed) (key : Key) (keeps : Bool) → (not keeps && leaves_macros_out c p key) ≡ true → are_defined (macros_in key.parts) (runs_in key.parts) ≡ true
+pub leaving : (c : Compiler) (p : Parsed) (key : Key) (keeps : Bool) → (not keeps && leaves_macros_out c p key) ≡ true → are_defined (macros_in key.parts) (runs_in key.parts) ≡ true
 leaving c p key keeps h =
     let defined = are_defined (macros_in key.parts) (runs_in key.parts) in
     let show = texts_show_macros c p key.parts (object_by c p key) in

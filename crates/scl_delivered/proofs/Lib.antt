@@ -1,2 +1,5 @@
-mod ToldLaws
+pub mod ToldLaws
 mod DeliveredLaws
+mod FactLaws
+mod HitLaws
+mod DirectLaws

@@ -3,3 +3,4 @@ pub mod Delivered
 pub mod Rows
 pub mod Views
 pub mod Laws
+pub mod Hits

@@ -1,4 +1,5 @@
 //! What follows from the definitions. Each law is a clause of a function with an empty body.
+ghost use Rattle.scl_delivered.specs.Hits.{DeliveredDirectHitsAreRight, DeliveredHitsAreRight};
 ghost use Rattle.scl_delivered.specs.Laws.{DeliveredKeysDecide, KeptMacrosStand, MacrosStandInRuns, NamedKeysStand, PartsAreToldAsRows, ToldPartsAreReadBack};
 
 /// Laws of parts that are told by base directories:
@@ -21,4 +22,15 @@ pub fn of_delivered_keys()
     ensures kept_macros_stand { KeptMacrosStand }
     ensures macros_stand_in_runs { MacrosStandInRuns }
     ensures delivered_keys_decide { DeliveredKeysDecide }
+{}
+
+/// Laws of hits under keys as they are delivered, without base directories:
+///
+/// - `hits_are_right`: suppose a compiler makes the same files whenever facts, answers and the macros that count are the same.
+///   Then a hit gives what a compilation would give, also if it was made with other macros that do not count;
+/// - `direct_hits_are_right`: suppose the first key of direct mode and a list decide what runs show, and which macros count. If
+///   both are as they were, the key is the one that runs would give.
+pub fn of_hits()
+    ensures hits_are_right { DeliveredHitsAreRight }
+    ensures direct_hits_are_right { DeliveredDirectHitsAreRight }
 {}

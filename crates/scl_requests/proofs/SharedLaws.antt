@@ -1,28 +1,23 @@
 -- The laws of keys of two checkouts.
-use Rattle.std.proofs.Common.{◌≡◌, ℕ, nat_eq, ◌==◌, ◌&&◌, not, Bool, true, false, cond, List, [], ◌∷◌, ◌++◌, ◌+◌, codes, filter, length, drop, map, Some, refl, sym, ap, subst, ◌∙◌}
-use Rattle.std.proofs.lemmas.Bool.{and_left, and_parts, and_right, eqb-true, false≢true, not-true}
+use Rattle.std.proofs.Common.{◌≡◌, ℕ, ◌==◌, ◌&&◌, not, Bool, true, false, cond, List, [], ◌∷◌, ◌++◌, length, drop, map, Some, refl, sym, ap, ◌∙◌}
+use Rattle.std.proofs.lemmas.Bool.{and_parts}
 use Rattle.std.proofs.lemmas.List.{drop_at, take_at}
-use Rattle.std.specs.List.{join_with_byte, list_all, starts_with}
+use Rattle.std.specs.List.{join_with_byte, list_all}
 use Rattle.scl_values.specs.Each.{Each}
 use Rattle.scl_base_dirs.specs.declared.spelling.Spelling.TheVariants as spelled
-use Rattle.scl_base_dirs.specs.Bases.{ends_component, fits, longest, numbered}
-use Rattle.scl_base_dirs.specs.Cuts.{has_none}
 use Rattle.scl_base_dirs.specs.Told.{told_base, told_below, told_list, told_path, told_text, told_word}
-use Rattle.scl_base_dirs.proofs.BaseLaws.{paths_without_base_stand}
 use Rattle.scl_base_dirs.proofs.ToldLemmas.{told_list-cut, told_list-one}
-use Rattle.scl_description.specs.Records.{output_rest}
-use Rattle.scl_key.specs.declared.part.Ask.{Ask}
-use Rattle.scl_key.specs.declared.part.Ask.TheVariants as asks
 use Rattle.scl_key.specs.Laws.{part_back}
-use Rattle.scl_key.specs.Parts.{Part, is, output, directory, compiler, plan, asked, run, run_else, pch, sources, times, ask_name, fields}
+use Rattle.scl_key.specs.Parts.{Part, fields}
 use Rattle.scl_key.proofs.KeyLaws.{part-back}
 use Rattle.scl_shared_key.specs.declared.said.InObject.{InObject}
 use Rattle.scl_shared_key.specs.declared.said.InObject.TheVariants.{Yes}
-use Rattle.scl_shared_key.specs.Fields.{flags, told_field, told_row, told_rows, value_at}
+use Rattle.scl_shared_key.specs.Fields.{told_field, told_row, told_rows}
 use Rattle.scl_shared_key.specs.Objects.{Object, may_name_anything}
-use Rattle.scl_shared_key.specs.Usuals.{are_usual, is_usual, is_usual_byte}
+use Rattle.scl_shared_key.specs.Usuals.{are_usual, is_usual}
 use Rattle.scl_shared_key.specs.Verdicts.{Verdict, named_if_known, verdict}
 use Rattle.scl_delivered.specs.Delivered.{Delivered, names_none, told_by, told_part}
+use Rattle.scl_delivered.proofs.ToldLaws.{parts_are_told_as_rows}
 use Rattle.scl_requests.specs.SharedLaws.{Path, Field, below, beside, paths_of, numbered_dir, path_at, field_at, rows_at, IsPathAt, IsFieldAt, AreRowsAt, HasRowsAt, SayTheSame, RowsAreToldAlike, OnlyTheBasesDiffer}
 
 -- ---- what is told of a path, a field and rows, whatever the checkout
@@ -76,87 +71,10 @@ rows_are_told_alike = λ dirs others rows h k. rows_are dirs rows h ∙ sym (row
 
 -- ---- parts
 
--- a name stands in rows as it is: no directory fits it, and it has no flag, no `=` and no NUL
-abbrev is_plain : List ℕ → Bool
-is_plain name = not (starts_with nat_eq name (codes "/")) && (value_at name == 0 && (has_none 61 name && has_none 0 name))
-
-and_true : (b : Bool) → (b && true) ≡ false → b ≡ false
-and_true true e = e
-and_true false e = refl
-
-slash_fits : (dir path : List ℕ) (x : ℕ) → nat_eq 0x2f x ≡ false → fits spelled.Word (0x2f ∷ dir) (x ∷ path) ≡ false
-slash_fits dir path x e =
-    and_left (not (length (0x2f ∷ dir) == 0) && starts_with nat_eq (x ∷ path) (0x2f ∷ dir)) (ends_component spelled.Word (drop (length (0x2f ∷ dir)) (x ∷ path)))
-    (and_right (not (length (0x2f ∷ dir) == 0)) (starts_with nat_eq (x ∷ path) (0x2f ∷ dir)) (and_left (nat_eq 0x2f x) (starts_with nat_eq path dir) e))
-
-fits_none : (dir path : List ℕ) → starts_with nat_eq path (codes "/") ≡ false → is_usual dir ≡ true → fits spelled.Word dir path ≡ false
-fits_none [] path other usual = absurd (false≢true usual)
-fits_none (d ∷ dir) [] other usual =
-    and_left (not (length (d ∷ dir) == 0) && starts_with nat_eq [] (d ∷ dir)) (ends_component spelled.Word (drop (length (d ∷ dir)) []))
-    (and_right (not (length (d ∷ dir) == 0)) (starts_with nat_eq [] (d ∷ dir)) refl)
-fits_none (d ∷ dir) (x ∷ path) other usual =
-    let begins = and_parts (starts_with nat_eq (d ∷ dir) (codes "/")) (list_all is_usual_byte (d ∷ dir)) usual in
-    let slash : 0x2f ≡ d = eqb-true 0x2f d (and_parts (nat_eq 0x2f d) true begins.0).0 in
-    subst (λ (e : ℕ). fits spelled.Word (e ∷ dir) (x ∷ path) ≡ false) slash (slash_fits dir path x (and_true (nat_eq 0x2f x) other))
-
-no_fits : (path : List ℕ) (number : ℕ) (dirs : List (List ℕ)) → starts_with nat_eq path (codes "/") ≡ false → list_all is_usual dirs ≡ true
-    → filter (λ place. fits spelled.Word place.dir path) (numbered number dirs) ≡ []
-no_fits path number [] other usual = refl
-no_fits path number (dir ∷ dirs) other usual =
-    let both = and_parts (is_usual dir) (list_all is_usual dirs) usual in
-    rw (fits_none dir path other both.0) (no_fits path (number + 1) dirs other both.1)
-
-stands : (dirs : List (List ℕ)) (name : List ℕ) → list_all is_usual dirs ≡ true → is_plain name ≡ true → told_field dirs name ≡ name
-stands dirs name usual plain =
-    let one = and_parts (not (starts_with nat_eq name (codes "/"))) (value_at name == 0 && (has_none 61 name && has_none 0 name)) plain in
-    let two = and_parts (value_at name == 0) (has_none 61 name && has_none 0 name) one.1 in
-    let three = and_parts (has_none 61 name) (has_none 0 name) two.1 in
-    ap (λ (at : ℕ). told_word dirs at (Some 61) name) (eqb-true (value_at name) 0 two.0)
-    ∙ told_list-one dirs 61 name three.0
-    ∙ paths_without_base_stand spelled.Word dirs name (ap longest (no_fits name 0 dirs (not-true (starts_with nat_eq name (codes "/")) one.0) usual)) three.1
-
-named : (dirs : List (List ℕ)) (name : List ℕ) (rest : List (List ℕ)) → list_all is_usual dirs ≡ true → is_plain name ≡ true → name ∷ rest ≡ told_field dirs name ∷ rest
-named dirs name rest usual plain = ap (λ (n : List ℕ). n ∷ rest) (sym (stands dirs name usual plain))
-
-asks_plain : (ask : Ask) → is_plain (ask_name ask) ≡ true
-unfolding flags
-asks_plain ask = elim ask as (λ a. is_plain (ask_name a) ≡ true) [
-  | asks.Env ↦ refl
-  | asks.Unset ↦ refl
-  | asks.File ↦ refl
-  | asks.Maybe ↦ refl
-  | asks.Regular ↦ refl
-  | asks.SourcesIfShown ↦ refl
-  | asks.RefuseIfShown ↦ refl
-]
-
-optional_told : (dirs : List (List ℕ)) (optional : Bool) → list_all is_usual dirs ≡ true
-    → cond optional (codes "optional" ∷ []) [] ≡ told_row dirs (cond optional (codes "optional" ∷ []) [])
-unfolding flags
-optional_told dirs true usual = named dirs (codes "optional") [] usual refl
-optional_told dirs false usual = refl
-
--- the row of a part that is told is its row, told
-part_row : (dirs : List (List ℕ)) (part : Part) → list_all is_usual dirs ≡ true → fields (told_part dirs part) ≡ told_row dirs (fields part)
-unfolding flags
-part_row dirs (is row) usual = named dirs (codes "is") (told_row dirs row) usual refl
-part_row dirs (output made) usual =
-    ap (λ (rest : List (List ℕ)). codes "output" ∷ told_field dirs made.name ∷ told_field dirs made.path ∷ rest) (optional_told dirs made.optional usual)
-    ∙ named dirs (codes "output") (told_row dirs (output_rest made)) usual refl
-part_row dirs directory usual = named dirs (codes "directory") [] usual refl
-part_row dirs compiler usual = named dirs (codes "compiler") [] usual refl
-part_row dirs (plan words) usual = named dirs (codes "plan") (told_row dirs words) usual refl
-part_row dirs (asked ask name) usual = named dirs (ask_name ask) (told_field dirs name ∷ []) usual (asks_plain ask)
-part_row dirs (run words) usual = named dirs (codes "run") (told_row dirs words) usual refl
-part_row dirs (run_else words) usual = named dirs (codes "run-else") (told_row dirs words) usual refl
-part_row dirs (pch searched) usual = named dirs (codes "pch") (told_row dirs searched) usual refl
-part_row dirs sources usual = named dirs (codes "sources") [] usual refl
-part_row dirs times usual = named dirs (codes "times") [] usual refl
-
 parts_told : (dirs : List (List ℕ)) (parts : List Part) → list_all is_usual dirs ≡ true → map (told_part dirs) parts ≡ map part_back (told_rows dirs (map fields parts))
 parts_told dirs [] usual = refl
 parts_told dirs (part ∷ parts) usual =
-    ap (λ (p : Part). p ∷ map (told_part dirs) parts) (sym (part-back (told_part dirs part)) ∙ ap part_back (part_row dirs part usual))
+    ap (λ (p : Part). p ∷ map (told_part dirs) parts) (sym (part-back (told_part dirs part)) ∙ ap part_back (parts_are_told_as_rows dirs part usual))
     ∙ ap (λ (ps : List Part). part_back (told_row dirs (fields part)) ∷ ps) (parts_told dirs parts usual)
 
 -- ---- keys

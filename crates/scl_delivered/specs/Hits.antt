@@ -1,0 +1,147 @@
+-- What a hit is worth under keys as they are delivered, without base directories.
+use Rattle.std.specs.Prelude.{◌≡◌, ℕ, Bool, true, false, ◌==◌, List, [], ◌∷◌, ◌++◌, filter, length, map, codes, if◌then◌else◌}
+use Rattle.std.specs.List.{list_any}
+use Rattle.scl_values.specs.Each.{Each}
+use Rattle.scl_text.specs.Records.{Parsed}
+use Rattle.scl_description.specs.Rows.{IsRow, row_text}
+use Rattle.scl_reader.specs.declared.compiler.Compiler.{Compiler}
+use Rattle.scl_key.specs.Directs.{may_direct}
+use Rattle.scl_key.specs.Given.{shows}
+use Rattle.scl_key.specs.Keys.{Key, whole_key}
+use Rattle.scl_key.specs.Parts.{Part, is, hashed}
+use Rattle.scl_key.specs.Told.{RunWords, flat_pairs, key_record, run_words_fields}
+use Rattle.scl_key.specs.Laws.{World, answers, material, early, valued_rows, ran, CanBeFirst, CanBeHashed}
+use Rattle.scl_delivered.specs.Delivered.{Delivered, delivered}
+use Rattle.scl_delivered.specs.Macros.{others}
+
+-- ---- command lines
+
+-- a command line, as far as it has a key
+pub record Line : Type 0 where
+  pub compiler : Compiler
+  pub environment : List (List ℕ × List ℕ)
+  pub run_words : RunWords
+  pub parsed : Parsed
+  -- what else its key has, as that of effects
+  pub added : List Part
+  -- its macros stay where they are
+  pub keeps_macros : Bool
+
+-- a key with more parts
+abbrev pub with_added : List Part → Key → Key
+with_added added key = record key { parts = key.parts ++ added }
+
+-- its key as it is delivered
+abbrev pub key_of_line : Line → Delivered
+key_of_line l = delivered l.compiler l.parsed [] l.keeps_macros (with_added l.added (whole_key l.compiler l.environment l.run_words l.parsed))
+
+-- a record without the macros that stand at the end of this key, if any do
+abbrev pub stated_by : Delivered → Parsed → Parsed
+stated_by d p = if length d.shown == 0 then p else record p { common_args = others p.common_args }
+
+-- the record that its key states
+abbrev pub stated : Line → Parsed
+stated l = stated_by (key_of_line l) (key_record l.compiler l.parsed)
+
+-- ---- what a cache hashes
+
+-- a world where it is known of each word at the end of a key whether its macro counts
+pub record ShownWorld : Type 0 where
+  pub world : World
+  pub counts : Compiler → Delivered → (word : List ℕ) → Bool
+
+-- the words at the end of a key whose macros count there
+abbrev pub counting : ShownWorld → Compiler → Delivered → List (List ℕ)
+counting v c d = filter (v.counts c d) d.shown
+
+-- the fields of such a word's row
+abbrev pub shown_fields : List ℕ → List (List ℕ)
+shown_fields word = codes "shown" ∷ word ∷ []
+
+abbrev pub shown_texts : List (List ℕ) → List (List ℕ)
+shown_texts words = map (λ word. row_text (shown_fields word)) words
+
+-- what a cache hashes there for a delivered key, in order: at the end the rows of macros that count
+abbrev pub delivered_material : ShownWorld → Compiler → Delivered → List (List ℕ)
+delivered_material v c d = material v.world c d.parts ++ shown_texts (counting v c d)
+
+abbrev pub line_material : ShownWorld → Line → List (List ℕ)
+line_material v l = delivered_material v l.compiler (key_of_line l)
+
+-- what the compiler makes there of the line
+abbrev pub outcome_of : ShownWorld → Line → List (List ℕ)
+outcome_of v l = v.world.outcome l.compiler (flat_pairs l.environment) (ran l.compiler l.run_words l.parsed)
+
+-- ---- hits
+
+-- two lines, each in its world, are alike as far as their delivered keys say
+pub record AreAlikeLines (v w : ShownWorld) (l m : Line) : Type 0 where
+  pub compiler_is : l.compiler ≡ m.compiler
+  pub environment_is : flat_pairs l.environment ≡ flat_pairs m.environment
+  pub run_words_are : run_words_fields l.run_words ≡ run_words_fields m.run_words
+  pub record_is : stated l ≡ stated m
+  pub words_are_unless_shown : shows l.compiler l.parsed ≡ false → l.parsed.preprocessor_args ≡ m.parsed.preprocessor_args
+  pub rows_are : map hashed (key_of_line l).parts ≡ map hashed (key_of_line m).parts
+  pub answers_are : answers v.world l.compiler (key_of_line l).parts ≡ answers w.world m.compiler (key_of_line m).parts
+  pub macros_are : counting v l.compiler (key_of_line l) ≡ counting w m.compiler (key_of_line m)
+
+-- Macros count as texts and sources show them: of lines that are alike, compilers make the same files, whatever the macros that do not
+-- count. This is assumed of compilers, for the lines that are meant: those to whose keys the right parts were added.
+abbrev pub MacrosCountAsShown : (is_meant : Line → Bool) → ShownWorld → ShownWorld → Type 0
+MacrosCountAsShown is_meant v w = (l m : Line) → is_meant l ≡ true → is_meant m ≡ true → AreAlikeLines v w l m → outcome_of v l ≡ outcome_of w m
+
+abbrev pub is_fact : Part → Bool
+is_fact (is row) = true
+is_fact _ = false
+
+-- a line that is meant, no fact was added to its key, and each row that is hashed there can be written
+pub record IsHashed (is_meant : Line → Bool) (v : ShownWorld) (l : Line) : Type 0 where
+  pub meant : is_meant l ≡ true
+  pub adds_no_fact : list_any is_fact l.added ≡ false
+  pub are_rows : CanBeHashed (key_of_line l).parts
+  pub are_shown_rows : Each (λ word. IsRow (shown_fields word)) (counting v l.compiler (key_of_line l))
+
+-- A hit gives what a compilation would give, also if it was made with other macros that do not count, or with none.
+abbrev pub DeliveredHitsAreRight : Type 0
+DeliveredHitsAreRight =
+    (v w : ShownWorld) (is_meant : Line → Bool) → MacrosCountAsShown is_meant v w
+    → (l m : Line) → IsHashed is_meant v l → IsHashed is_meant w m → line_material v l ≡ line_material w m → outcome_of v l ≡ outcome_of w m
+
+-- ---- direct mode
+
+-- what stands in a list for a delivered key: names of files, and how these are
+abbrev pub DeliveredListing : Type 0
+DeliveredListing = Compiler → Delivered → List (List ℕ)
+
+-- what is hashed of two keys before any run, in their worlds, is one, and so are the lists. All but the lists is the first key.
+pub record FirstKeysAreOne (v w : ShownWorld) (i j : DeliveredListing) (a b : Compiler) (d g : Delivered) : Type 0 where
+  pub early_are : early v.world a d.parts ≡ early w.world b g.parts
+  pub values_are : valued_rows v.world a d.direct ≡ valued_rows w.world b g.direct
+  pub shown_are : shown_texts d.shown ≡ shown_texts g.shown
+  pub list_is : i a d ≡ j b g
+
+-- the first key and the list decide all answers, and which macros count, where direct mode may be used: this is assumed too
+abbrev pub LinesAreDecided : (is_meant : Line → Bool) → ShownWorld → ShownWorld → DeliveredListing → DeliveredListing → Type 0
+LinesAreDecided is_meant v w i j =
+    (l : Line) → is_meant l ≡ true → may_direct l.compiler l.parsed ≡ true
+    → FirstKeysAreOne v w i j l.compiler l.compiler (key_of_line l) (key_of_line l)
+    → (answers v.world l.compiler (key_of_line l).parts ≡ answers w.world l.compiler (key_of_line l).parts)
+    × (counting v l.compiler (key_of_line l) ≡ counting w l.compiler (key_of_line l))
+
+-- each row of the first key can be written
+abbrev pub CanBeFirstDelivered : Delivered → Type 0
+CanBeFirstDelivered d = CanBeFirst d.parts d.direct × Each (λ word. IsRow (shown_fields word)) d.shown
+
+-- a key that was found by its first key and a list is that which runs would give, and what was kept under it is what would be made
+pub record IsRightLine (v w : ShownWorld) (l m : Line) : Type 0 where
+  pub key_is : line_material v l ≡ line_material w m
+  pub outcome_is : outcome_of v l ≡ outcome_of w m
+
+-- Direct hits are right: where the first key is one, and a list is as it was, the key is that which runs would give.
+abbrev pub DeliveredDirectHitsAreRight : Type 0
+DeliveredDirectHitsAreRight =
+    (v w : ShownWorld) (i j : DeliveredListing) (is_meant : Line → Bool) → MacrosCountAsShown is_meant v w → LinesAreDecided is_meant v w i j
+    → (l m : Line) → may_direct l.compiler l.parsed ≡ true → IsHashed is_meant v l → IsHashed is_meant w m
+    → CanBeFirstDelivered (key_of_line l) → CanBeFirstDelivered (key_of_line m)
+    → FirstKeysAreOne v w i j l.compiler m.compiler (key_of_line l) (key_of_line m)
+    → IsRightLine v w l m
