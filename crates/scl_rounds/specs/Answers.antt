@@ -1,0 +1,57 @@
+-- What the parts of a key say on a machine.
+use Rattle.std.specs.Prelude.{ℕ, ◌&&◌, cond, List, [], ◌∷◌, ◌++◌, map, filter, codes, Option, None, Some}
+use Rattle.std.specs.Option.{option_map}
+use Rattle.std.specs.Str.{bytes_eq}
+use Rattle.scl_files.specs.Paths.{begins_with_slash}
+use Rattle.scl_key.specs.declared.part.Ask.{Ask}
+use Rattle.scl_key.specs.declared.part.Ask.TheVariants as asks
+use Rattle.scl_key.specs.Parts.{Part, is, output, directory, compiler, asked, hashed}
+use Rattle.scl_lookup.specs.Keys.{Field, said, Row, all_there}
+use Rattle.scl_lookup.specs.Questions.{Question, env, program, file, real, Machine}
+use Rattle.scl_questions.specs.Told.{value_told, unset_told, file_told, maybe_told, regular_told, program_told}
+use Rattle.scl_rounds.specs.Keys.{Key, is_early, is_made}
+
+-- ---- the directory
+
+abbrev pub said_directory : Question
+said_directory = env (codes "PWD")
+
+-- the name that is said, if it is absolute and leads where the place does; else the place
+abbrev pub directory_by : (place : List ℕ) → Machine → Option (List ℕ) → List ℕ
+directory_by place m None = place
+directory_by place m (Some name) = cond (begins_with_slash name && bytes_eq (m (real name)) (m (real place))) name place
+
+abbrev pub directory_on : (place : List ℕ) → Machine → List ℕ
+directory_on place m = directory_by place m (m said_directory)
+
+-- ---- answers
+
+abbrev pub answer_asked : Key → Machine → Ask → List ℕ → Option (List Field)
+answer_asked key m asks.Env name = Some (value_told (m (env name)))
+answer_asked key m asks.Unset name = unset_told (m (env name))
+answer_asked key m asks.File path = file_told (m (file path))
+answer_asked key m asks.Maybe path = cond (is_made key path) (Some []) (maybe_told (m (file path)))
+answer_asked key m asks.Regular path = regular_told (m (file path))
+answer_asked key m other pattern = None
+
+-- what a machine answers to a part; none: nothing may be kept, or it takes a run
+abbrev pub answer_on : Key → Machine → Part → Option (List Field)
+answer_on key m (is row) = Some []
+answer_on key m (output made) = Some []
+answer_on key m directory = Some (said (directory_on key.place m) ∷ [])
+answer_on key m compiler = program_told (m (program []))
+answer_on key m (asked ask name) = answer_asked key m ask name
+answer_on key m other = None
+
+-- ---- rows
+
+-- what is hashed of the part itself, and then its answer
+abbrev pub row_by : Part → List Field → Row
+row_by part answer = map said (hashed part) ++ answer
+
+abbrev pub row_on : Key → Machine → Part → Option Row
+row_on key m part = option_map (row_by part) (answer_on key m part)
+
+-- the rows of the early parts, if each has one
+abbrev pub rows_on : Key → Machine → Option (List Row)
+rows_on key m = all_there (map (row_on key m) (filter is_early key.parts))

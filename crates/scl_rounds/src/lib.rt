@@ -1,0 +1,12 @@
+//! The rounds of a lookup: what a key asks of a machine before anything runs, and its rows by the answers.
+#![tactic(auto)]
+
+mod answer;
+mod key;
+pub mod laws;
+mod next;
+mod question;
+mod row;
+
+pub use key::Key;
+pub use next::{Next, look_up};
