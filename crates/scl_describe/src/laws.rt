@@ -1,8 +1,19 @@
 //! Laws of the definitions of descriptions, each a clause of a function that does nothing.
+ghost use Rattle.std.specs.Prelude.{◌≡◌, true};
 ghost use Rattle.scl_values.specs.Tables.{all_rows};
+ghost use Rattle.scl_catalogue.specs.contracts.case.CompilerPartialEq.TheImpl as compilers;
+ghost use Rattle.scl_catalogue.specs.declared.case.Compiler.{Compiler};
+ghost use Rattle.scl_catalogue_text.specs.contracts.mistake.MistakePartialEq.TheImpl as mistakes;
+ghost use Rattle.scl_catalogue_text.specs.declared.mistake.Mistake.{Mistake};
+ghost use Rattle.scl_rows.specs.contracts.destination.DestinationPartialEq.TheImpl as destinations;
+ghost use Rattle.scl_rows.specs.declared.destination.Destination.{Destination};
 ghost use Rattle.scl_gnu_reading.specs.ClangRows.{clang_tables};
 ghost use Rattle.scl_msvc_reading.specs.Places as msvc;
 ghost use Rattle.scl_msvc_reading.specs.Rows.{msvc_tables};
+ghost use Rattle.scl_small.specs.contracts.diab.data.KindPartialEq.TheImpl as diab_kinds;
+ghost use Rattle.scl_small.specs.contracts.tasking_vx.data.KindPartialEq.TheImpl as tasking_kinds;
+ghost use Rattle.scl_small.specs.declared.diab.data.Kind as diab_kind;
+ghost use Rattle.scl_small.specs.declared.tasking_vx.data.Kind as tasking_kind;
 ghost use Rattle.scl_small.specs.DiabReading as diab;
 ghost use Rattle.scl_small.specs.DiabTable as diab_table;
 ghost use Rattle.scl_small.specs.TaskingReading as tasking;
@@ -11,6 +22,15 @@ ghost use Rattle.scl_describe.specs.Decided.{TellingIsDecided, RowsAreDecided};
 ghost use Rattle.scl_describe.specs.Descriptions.{DescriptionsReadBack};
 ghost use Rattle.scl_describe.specs.OptionRows.{RowsShareWords, RowsTell};
 ghost use Rattle.scl_describe.specs.Explained.{AreExplained, is_refused_somewhere, is_refused_by_msvc, is_refused_by_small};
+
+/// Laws of `==` in crates below that state none themselves: what is equal is one.
+pub fn of_equality()
+    ensures compilers_are_told_apart { (a b : Compiler) → compilers.ghosts.eq a b ≡ true → a ≡ b }
+    ensures mistakes_are_told_apart { (a b : Mistake) → mistakes.ghosts.eq a b ≡ true → a ≡ b }
+    ensures destinations_are_told_apart { (a b : Destination) → destinations.ghosts.eq a b ≡ true → a ≡ b }
+    ensures diab_kinds_are_told_apart { (a b : diab_kind.Kind) → diab_kinds.ghosts.eq a b ≡ true → a ≡ b }
+    ensures tasking_kinds_are_told_apart { (a b : tasking_kind.Kind) → tasking_kinds.ghosts.eq a b ≡ true → a ≡ b }
+{}
 
 /// Laws of reasons (docs/RULES.md, Sentences): each flag of a kind that a compiler's table refuses, as the driver's option or
 /// passed on, has a sentence for people (`scl_reasons`).
