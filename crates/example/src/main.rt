@@ -3,7 +3,8 @@
 
 use bstr::ByteSlice;
 use scl_cl::{
-    Compilation, Compiler, CompilerArguments, Mem, ParsedArguments, SingleCompileCommand, View,
+    CommandLine, Compilation, Compiler, CompilerArguments, Mem, ParsedArguments,
+    SingleCompileCommand, View,
 };
 use std::alloc::Global;
 use std::io;
@@ -80,7 +81,13 @@ fn print_compilation(rt: &impl Print, compilation: &Compilation) -> io::Result<(
 fn main(rt: HostRuntime) -> io::Result<()> {
     let alloc = rt.alloc();
     let (words, view) = (words(alloc)?, view(alloc)?);
-    let answer = Compiler::Gcc.answer(alloc, b"/usr/bin/gcc", &words, b"/work", &[], &view)?;
+    let line = CommandLine {
+        words: &words,
+        directory: b"/work",
+        environment: &[],
+        view: &view,
+    };
+    let answer = Compiler::Gcc.answer(alloc, b"/usr/bin/gcc", &line)?;
     match &answer {
         CompilerArguments::Ok(compilation) => print_compilation(&rt, compilation),
         CompilerArguments::CannotCache(reason, Some(text)) => {

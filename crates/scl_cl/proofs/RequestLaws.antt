@@ -1,13 +1,13 @@
 -- A request read line by line.
-use Rattle.std.proofs.Common.{◌≡◌, ℕ, ◌+◌, ◌<◌, ◌≤◌, Bool, true, false, ◌||◌, cond, List, [], ◌∷◌, ◌++◌, reverse, length, Some, refl, ap, sym, ◌∙◌, arith, append-nil, append_assoc}
+use Rattle.std.proofs.Common.{◌≡◌, ℕ, ◌+◌, Bool, true, false, ◌||◌, cond, List, [], ◌∷◌, ◌++◌, reverse, length, Option, Some, None, Result, Err, refl, ap, sym, ◌∙◌, arith, append-nil, append_assoc}
 use Rattle.std.specs.List.{flat_map, filter_map, list_any, cons_option}
-use Rattle.std.specs.Option.{option_to_list}
+use Rattle.std.specs.Option.{ok_or, option_to_list}
 use Rattle.std.proofs.lemmas.Grind.{flat_map-append, fold-append}
 use Rattle.std.proofs.lemmas.List.{reverse-append}
-use Rattle.scl_description.specs.Lines.{lines_of}
+use Rattle.scl_reader.specs.CommandLines.{Request}
 use Rattle.scl_cl.specs.Sayings.{Saying, said}
 use Rattle.scl_cl.specs.Sayings as sayings
-use Rattle.scl_cl.specs.Requests.{Gathered, gathered, breaks, first_broken, viewed_directory_in, path_in}
+use Rattle.scl_cl.specs.Requests.{Gathered, gathered, breaks, first_broken, request_from, request_of, request_unless, viewed_directory_in, path_in}
 use Rattle.scl_cl.specs.Drafts.{with_line}
 
 or-comm : (a b : Bool) → a || b ≡ b || a
@@ -55,31 +55,48 @@ path_in-turned sayings.Multiarch = refl
 pub gathered-more : (before : List Saying) (line : Saying) → with_line (gathered before) line ≡ gathered (before ++ line ∷ [])
 gathered-more before line = simp (flat_more, reverse-append, fold-append, viewed_directory_in-turned, path_in-turned, any_more)
 
--- Of all bytes these are left, after lines that named this; the next line has this number.
-pub record Passed (all left : List ℕ) (number : ℕ) (kept : Gathered) : Type 0 where
+-- ---- lines read one by one
+
+-- Of all lines these are left, after lines that named this; the next one has this number.
+pub record Passed (first : ℕ) (earlier : List Saying) (all left : List (List ℕ)) (number : ℕ) (kept : Gathered) : Type 0 where
   pub before : List Saying
   pub kept_is : kept ≡ gathered before
-  pub told : first_broken number before (lines_of left) ≡ first_broken 1 [] (lines_of all)
-  pub whole : before ++ filter_map said (lines_of left) ≡ filter_map said (lines_of all)
-  pub numbered : number + length (lines_of left) ≡ length (lines_of all) + 1
-  pub counted : number + length left ≤ length all + 1
+  pub told : request_from number before left ≡ request_from first earlier all
 
--- a line was taken
-pub goes_on : (all left rest line : List ℕ) (number : ℕ) (kept kept' : Gathered) (s : Saying) → Passed all left number kept → lines_of left ≡ line ∷ lines_of rest → length rest < length left
-    → said line ≡ Some s → breaks kept (Some s) ≡ false → kept' ≡ with_line kept s → Passed all rest (number + 1) kept'
-goes_on all left rest line number kept kept' s p cut shorter says keeps takes =
-    let holds : breaks (gathered p.before) (said line) ≡ false = ap (λ g. breaks g (said line)) (sym p.kept_is) ∙ ap (breaks kept) says ∙ keeps in
-    record {
+module _ (n : ℕ) (before : List Saying) (line : List ℕ) (rest : List (List ℕ)) where
+  abbrev told_by : Option Saying → Bool → Result Request ℕ
+  told_by o broken = request_unless (cond broken (Some n) (first_broken (n + 1) (before ++ option_to_list o) rest)) (length (line ∷ rest) + n) (before ++ cons_option o (filter_map said rest))
+
+  one_more : (s : Saying) → said line ≡ Some s → breaks (gathered before) (Some s) ≡ false → request_from n before (line ∷ rest) ≡ request_from (n + 1) (before ++ s ∷ []) rest
+  one_more s says holds =
+      let unbroken : Option ℕ = first_broken (n + 1) (before ++ s ∷ []) rest in
+      ap (λ o. told_by o (breaks (gathered before) o)) says ∙ ap (told_by (Some s)) holds
+      ∙ ap (λ end. request_unless unbroken end (before ++ s ∷ filter_map said rest)) (omega arith)
+      ∙ ap (request_unless unbroken (length rest + (n + 1))) (sym (append_assoc before (s ∷ []) (filter_map said rest)))
+
+  broken_here : breaks (gathered before) (said line) ≡ true → request_from n before (line ∷ rest) ≡ Err n
+  broken_here broken = ap (told_by (said line)) broken
+
+module _ (first : ℕ) (earlier : List Saying) (all : List (List ℕ)) (number : ℕ) (kept : Gathered) where
+  pub starts : kept ≡ gathered earlier → number ≡ first → Passed first earlier all all number kept
+  starts is begins = record { before = earlier; kept_is = is; told = ap (λ n. request_from n earlier all) begins }
+
+  module _ (left : List (List ℕ)) (line : List ℕ) (rest : List (List ℕ)) (p : Passed first earlier all left number kept) (cut : left ≡ line ∷ rest) where
+    -- a line was taken
+    pub goes_on : (kept' : Gathered) (s : Saying) → said line ≡ Some s → breaks kept (Some s) ≡ false → kept' ≡ with_line kept s → Passed first earlier all rest (number + 1) kept'
+    goes_on kept' s says keeps takes = record {
       before = p.before ++ s ∷ [];
       kept_is = takes ∙ ap (λ g. with_line g s) p.kept_is ∙ gathered-more p.before s;
       told =
-          ap (λ o. first_broken (number + 1) (p.before ++ option_to_list o) (lines_of rest)) (sym says)
-          ∙ ap (λ b. cond b (Some number) (first_broken (number + 1) (p.before ++ option_to_list (said line)) (lines_of rest))) (sym holds)
-          ∙ ap (first_broken number p.before) (sym cut) ∙ p.told;
-      whole =
-          append_assoc p.before (s ∷ []) (filter_map said (lines_of rest))
-          ∙ ap (λ o. p.before ++ cons_option o (filter_map said (lines_of rest))) (sym says)
-          ∙ ap (λ ls. p.before ++ filter_map said ls) (sym cut) ∙ p.whole;
-      numbered = omega (arith, p.numbered, ap length cut);
-      counted = omega (arith, p.counted);
+          sym (one_more number p.before line rest s says (ap (λ g. breaks g (Some s)) (sym p.kept_is) ∙ keeps)) ∙ ap (request_from number p.before) (sym cut) ∙ p.told;
     }
+
+    -- a line breaks a rule
+    pub stops : breaks kept (said line) ≡ true → request_from first earlier all ≡ Err number
+    stops broken = sym p.told ∙ ap (request_from number p.before) cut ∙ broken_here number p.before line rest (ap (λ g. breaks g (said line)) (sym p.kept_is) ∙ broken)
+
+  -- all were taken
+  pub ends : (left : List (List ℕ)) → Passed first earlier all left number kept → left ≡ [] → request_from first earlier all ≡ ok_or (request_of kept) number
+  ends left p none =
+      sym p.told ∙ ap (request_from number p.before) none ∙ ap (λ end. request_unless None end (p.before ++ [])) (omega arith) ∙ ap (λ ss. ok_or (request_of (gathered ss)) number) (append-nil p.before)
+      ∙ ap (λ g. ok_or (request_of g) number) (sym p.kept_is)

@@ -1,7 +1,7 @@
 -- The request that lines make, or the number of the first line that breaks a rule.
 use Rattle.std.specs.Prelude.{ℕ, ◌+◌, Bool, true, false, List, [], ◌∷◌, ◌++◌, fold, reverse, length, Option, Some, None, Result, Err, if◌then◌else◌}
 use Rattle.std.specs.List.{flat_map, filter_map, list_any}
-use Rattle.std.specs.Option.{option_to_list, ok_or}
+use Rattle.std.specs.Option.{option_map, option_to_list, ok_or}
 use Rattle.scl_files.specs.Views.{Viewed, File, put_file}
 use Rattle.scl_reader.specs.CommandLines.{Request}
 use Rattle.scl_reader.specs.declared.compiler.Compiler.{Compiler}
@@ -101,16 +101,25 @@ breaks g (Some (sayings.Compiler _)) = is_given g.compilers
 breaks g (Some (sayings.Directory _)) = is_given g.directories
 breaks g (Some _) = false
 
+-- what a line says that names this compiler, if there is one
+abbrev pub naming : Option Compiler → List Saying
+naming compiler = option_to_list (option_map sayings.Compiler compiler)
+
 -- the number of the first line that breaks a rule; the first of these lines has number n and follows lines that say this
 abbrev pub first_broken : ℕ → List Saying → List (List ℕ) → Option ℕ
 first_broken n earlier [] = None
 first_broken n earlier (line ∷ lines) = if breaks (gathered earlier) (said line) then Some n else first_broken (n + 1) (earlier ++ option_to_list (said line)) lines
 
-abbrev pub request_unless : Option ℕ → List (List ℕ) → Result Request ℕ
-request_unless (Some n) lines = Err n
-request_unless None lines = ok_or (request_of (gathered (filter_map said lines))) (length lines + 1)
+-- the request of what lines say, if none of them breaks a rule and one names a compiler; a line after them would have number n
+abbrev pub request_unless : Option ℕ → ℕ → List Saying → Result Request ℕ
+request_unless (Some number) n all = Err number
+request_unless None n all = ok_or (request_of (gathered all)) n
 
--- the request of the lines, or the number of the bad line: the first that breaks a rule, or, if no line names a compiler, the
--- last line's number plus one
+-- The request of lines, of which the first has number n and follows lines that say this, or the number of the bad line. That is
+-- the first that breaks a rule, or, if no line names a compiler, the last line's number plus one.
+abbrev pub request_from : ℕ → List Saying → List (List ℕ) → Result Request ℕ
+request_from n earlier lines = request_unless (first_broken n earlier lines) (length lines + n) (earlier ++ filter_map said lines)
+
+-- the request of all lines
 abbrev pub request_in : List (List ℕ) → Result Request ℕ
-request_in lines = request_unless (first_broken 1 [] lines) lines
+request_in lines = request_from 1 [] lines

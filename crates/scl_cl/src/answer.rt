@@ -4,10 +4,10 @@ ghost use Rattle.std.specs.List.{flat_map};
 ghost use Rattle.scl_values.specs.Words.{words_of};
 ghost use Rattle.scl_cl.specs.AnswerTexts.{arg_line, text_of};
 ghost use Rattle.scl_reader.specs.Answers.{compiled, cannot_cache};
-ghost use Rattle.scl_reader.specs.AnswersGiven.{answer_by, answer_of, command_answer};
+ghost use Rattle.scl_reader.specs.AnswersGiven.{answer_of};
 
 use scl_description::push_field;
-use scl_reader::{BuiltCommand, Compilation, Kept};
+use scl_reader::Compilation;
 use scl_text::Mem;
 use scl_text::records::{Cacheable, CompilerArguments};
 use std::alloc::Global;
@@ -56,29 +56,15 @@ fn reason_text(alloc: Global, reason: &str) -> Mem<Vec<u8>>
     Ok(text)
 }
 
-/// The text of an answer of any type.
-fn text_of<K: Kept>(alloc: Global, answer: &CompilerArguments<K>) -> Mem<Vec<u8>>
-    ensures { IfOk result (λ text. text.items ≡ text_of (answer_by K.command K.cacheable answer.now)) }
-{
-    match answer {
-        CompilerArguments::Ok(kept) => {
-            compiled_text(alloc, &kept.command().arguments, kept.cacheable())
-        }
-        CompilerArguments::CannotCache(reason, _) => reason_text(alloc, reason),
-        CompilerArguments::NotCompilation => Vec::from_slice(alloc, b"not-compilation\n"),
-    }
-}
-
 /// The text of an answer: lines with LF. The text beside a reason is left out (docs/RULES.md, Answers).
 pub fn answer_text(alloc: Global, answer: &CompilerArguments<Compilation>) -> Mem<Vec<u8>>
     ensures { IfOk result (λ text. text.items ≡ text_of (answer_of answer.now)) }
 {
-    text_of(alloc, answer)
-}
-
-/// The text of an answer without a record, as `answer_text` gives it.
-pub fn command_text(alloc: Global, answer: &CompilerArguments<BuiltCommand>) -> Mem<Vec<u8>>
-    ensures { IfOk result (λ text. text.items ≡ text_of (command_answer answer.now)) }
-{
-    text_of(alloc, answer)
+    match answer {
+        CompilerArguments::Ok(compilation) => {
+            compiled_text(alloc, &compilation.command.arguments, compilation.cacheable)
+        }
+        CompilerArguments::CannotCache(reason, _) => reason_text(alloc, reason),
+        CompilerArguments::NotCompilation => Vec::from_slice(alloc, b"not-compilation\n"),
+    }
 }

@@ -1,7 +1,7 @@
 //! A request while its lines are read.
-ghost use Rattle.std.specs.Prelude.{◌≡◌, OnOk, false, Some, []};
+ghost use Rattle.std.specs.Prelude.{◌≡◌, OnOk, false, Some};
 ghost use Rattle.std.specs.Option.{option_map};
-ghost use Rattle.scl_cl.specs.Requests.{breaks, gathered, request_of};
+ghost use Rattle.scl_cl.specs.Requests.{breaks, gathered, naming, request_of};
 ghost use Rattle.scl_cl.specs.Drafts.{with_line, gathered_by, asked_by};
 ghost use Rattle.scl_cl.specs.LinesRead.{said_by};
 
@@ -22,12 +22,12 @@ pub(crate) struct Draft {
 }
 
 impl Draft {
-    /// A draft without lines.
-    pub(crate) fn new(alloc: Global) -> Draft
-        ensures { gathered_by result ≡ gathered [] }
+    /// The draft of no line, or of one that names this compiler.
+    pub(crate) fn new(alloc: Global, compiler: Option<Compiler>) -> Draft
+        ensures { gathered_by result ≡ gathered (naming compiler) }
     {
         Draft {
-            compiler: None,
+            compiler,
             directory: None,
             words: Vec::new(alloc),
             environment: Vec::new(alloc),

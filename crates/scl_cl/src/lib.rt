@@ -14,17 +14,17 @@ mod saying;
 mod service;
 mod transfer;
 
-pub use answer::{answer_text, command_text};
+pub use answer::answer_text;
 pub use batch::serve_each;
 pub use outcome::Outcome;
 pub use program::{Commands, run};
-pub use request::{Request, read_request};
+pub use request::{NoLines, Request, TakesLines, read_lines, read_request};
 pub use scl_args as args;
 pub use scl_args::Counted;
 pub use scl_gnu::{clang, gcc};
 pub use scl_msvc::msvc;
 pub use scl_reader::{
-    BuiltCommand, CommandLine, Compilation, Compiler, LackedFile, Limits, Questions, Reading,
+    CommandLine, Compilation, Compiler, LackedFile, Limits, Questions, Reading, RunOptions,
 };
 pub use scl_small::{diab, tasking_vx};
 pub use scl_text as text;

@@ -6,41 +6,34 @@ ghost use Rattle.scl_cl.specs.Transfers.{Gave};
 ghost use Rattle.scl_cl.specs.Drafts.{asked_by};
 ghost use Rattle.scl_cl.specs.AnswerTexts.{text_of};
 ghost use Rattle.scl_reader.specs.Answers.{answer_to};
-ghost use Rattle.scl_reader.specs.AnswersGiven.{command_answer};
+ghost use Rattle.scl_reader.specs.AnswersGiven.{answer_of};
 ghost use Rattle.scl_cl.specs.Outcomes.{IsJudged, IsSilent};
 ghost use Rattle.scl_cl.specs.Program.{program_answer, IsTextReadAgain};
 
-use crate::answer::command_text;
+use crate::answer::answer_text;
 use crate::outcome::Outcome;
 use crate::request::{Request, read_request};
 use crate::service::{Service, serve};
 use scl_args::Counted;
-use scl_reader::BuiltCommand;
+use scl_reader::Compilation;
 use scl_text::Mem;
 use scl_text::records::CompilerArguments;
 use std::alloc::Global;
 use std::io::{Read, Write};
 
-/// The answer to a request; the rest of the reading is dropped.
-fn answer_for(alloc: Global, request: Request) -> Mem<CompilerArguments<BuiltCommand>>
-    ensures { IfOk result (λ answer. command_answer answer ≡ answer_to (asked_by request)) }
+/// The answer to a request.
+fn answer_for(alloc: Global, request: &Request) -> Mem<CompilerArguments<Compilation>>
+    ensures { IfOk result (λ answer. answer_of answer ≡ answer_to (asked_by request.now)) }
 {
-    let Request {
-        compiler,
-        directory,
-        words,
-        environment,
-        view,
-    } = request;
-    compiler.command(alloc, b"", words, &directory, &environment, &view)
+    request.compiler.answer(alloc, b"", &request.line())
 }
 
 /// The text of the answer to a request.
-fn text_for(alloc: Global, request: Request) -> Mem<Vec<u8>>
-    ensures { IfOk result (λ text. text.items ≡ text_of (answer_to (asked_by request))) }
+fn text_for(alloc: Global, request: &Request) -> Mem<Vec<u8>>
+    ensures { IfOk result (λ text. text.items ≡ text_of (answer_to (asked_by request.now))) }
 {
     let answer = answer_for(alloc, request)?;
-    command_text(alloc, &answer)
+    answer_text(alloc, &answer)
 }
 
 /// The service that answers a request with the text of its answer (docs/RULES.md, Answers).
@@ -57,7 +50,7 @@ impl Service for Commands {
         let read = read_request(alloc, &bytes)?;
         drop(bytes);
         match read {
-            Ok(request) => Ok(Ok(text_for(alloc, request)?)),
+            Ok(request) => Ok(Ok(text_for(alloc, &request)?)),
             Err(number) => Ok(Err(number)),
         }
     }

@@ -28,7 +28,7 @@ told_if_named : (in_object : InObject) → in_object ≡ Yes → names_none in_o
 told_if_named in_object h = ap names_none h
 
 -- a delivered key, by whether it is told
-abbrev by : Bool → List (List ℕ) → Verdict → Delivered → Delivered
+abbrev pub by : Bool → List (List ℕ) → Verdict → Delivered → Delivered
 by told dirs said d =
     if told
     then record { verdict = Some said; parts = map (told_part dirs) d.parts; direct = []; shown = told_row dirs d.shown }

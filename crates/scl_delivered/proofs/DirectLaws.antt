@@ -103,7 +103,7 @@ nothing_said : (last : Bool) (key : Key) → (with_macros last key).verdict ≡ 
 nothing_said true key = refl
 nothing_said false key = refl
 
-without_verdict : (l : Line) → (key_of_line l).verdict ≡ None
+pub without_verdict : (l : Line) → (key_of_line l).verdict ≡ None
 without_verdict l =
     let key : Key = with_added l.added (whole_key l.compiler l.environment l.run_words l.parsed) in
     nothing_said (not l.keeps_macros && leaves_macros_out l.compiler l.parsed key) key

@@ -1,11 +1,11 @@
 -- A hit under a key as it is delivered is right: what is hashed decides the facts, the answers and the macros that count.
 use Rattle.std.proofs.Common.{◌≡◌, ℕ, ◌==◌, ◌&&◌, not, Bool, true, false, cond, List, [], ◌∷◌, ◌++◌, codes, length, map, Option, Some, None, refl, sym, ap, ◌∙◌, append_assoc}
 use Rattle.std.proofs.lemmas.Bool.{and_parts, not-true}
-use Rattle.std.specs.List.{list_all, list_any}
+use Rattle.std.specs.List.{flat_map, list_all, list_any}
 use Rattle.std.specs.Str.{bytes_eq}
 use Rattle.scl_values.specs.Each.{Each}
 use Rattle.scl_text.specs.Records.{Parsed}
-use Rattle.scl_description.specs.Rows.{IsRow}
+use Rattle.scl_description.specs.Rows.{IsRow, row_text}
 use Rattle.scl_description.specs.Records.{first_field}
 use Rattle.scl_reader.specs.declared.compiler.Compiler.{Compiler}
 use Rattle.scl_key.specs.declared.part.Ask.{Ask}
@@ -18,7 +18,7 @@ use Rattle.scl_key.specs.Laws.{World, answered, answers, material, CanBeHashed}
 use Rattle.scl_key.proofs.HitLaws.{answered_by, front, head_text, is_none, one-row, tail_texts}
 use Rattle.scl_key.proofs.KeyLaws.{fact_of, facts_in}
 use Rattle.scl_delivered.specs.Delivered.{Delivered, leaves_macros_out}
-use Rattle.scl_delivered.specs.Hits.{Line, with_added, key_of_line, stated, counting, shown_fields, shown_texts, is_fact, DeliveredHitsAreRight}
+use Rattle.scl_delivered.specs.Hits.{Line, ShownWorld, with_added, key_of_line, stated, counting, shown_fields, shown_texts, is_fact, AreAlikeLines, DeliveredHitsAreRight}
 use Rattle.scl_delivered.specs.Macros.{defines, macros_in, runs_in}
 use Rattle.scl_delivered.proofs.DeliveredLaws.{leaving}
 use Rattle.scl_delivered.proofs.FactLaws.{AreToldAlike, facts_delivered, rows_decide, rows_told, without}
@@ -72,8 +72,13 @@ is_said (Some said) = true
 one_asks : (x y : Part) → hashed x ≡ hashed y → is_asked x ≡ is_asked y
 one_asks x y h = ap asks_by (sym (part_said x) ∙ ap said_of h ∙ part_said y)
 
-one_fact : (x y : Part) → hashed x ≡ hashed y → fact_of x ≡ fact_of y
-one_fact x y h = ap fact_by (sym (part_said x) ∙ ap said_of h ∙ part_said y)
+facts_said : (parts : List Part) → facts_in parts ≡ flat_map (λ row. fact_by (said_of row)) (map hashed parts)
+facts_said [] = refl
+facts_said (part ∷ parts) =
+    ap (λ facts. facts ++ facts_in parts) (sym (ap fact_by (part_said part))) ∙ ap (λ facts. fact_by (said_of (hashed part)) ++ facts) (facts_said parts)
+
+one_facts : (xs ys : List Part) → map hashed xs ≡ map hashed ys → facts_in xs ≡ facts_in ys
+one_facts xs ys h = facts_said xs ∙ ap (flat_map (λ row. fact_by (said_of row))) h ∙ sym (facts_said ys)
 
 not_shown : (part : Part) (word : List ℕ) → hashed part ≡ shown_fields word → ⊥
 not_shown part word h = absurd (let no : true ≡ false = ap is_said (sym (part_said part) ∙ ap said_of h) in cc)
@@ -84,7 +89,7 @@ abbrev second_of : List (List ℕ) → List ℕ
 second_of [] = []
 second_of (field ∷ fields) = first_field fields
 
-abbrev CanBeShown : List (List ℕ) → Type 0
+abbrev pub CanBeShown : List (List ℕ) → Type 0
 CanBeShown words = Each (λ word. IsRow (shown_fields word)) words
 
 pub words_decide : (ms ns : List (List ℕ)) → CanBeShown ms → CanBeShown ns → shown_texts ms ≡ shown_texts ns → ms ≡ ns
@@ -95,36 +100,43 @@ words_decide (m ∷ ms) (n ∷ ns) i j h =
     ap (λ word. word ∷ ms) (ap second_of (one-row (shown_fields m) (shown_fields n) i.0 j.0 (ap head_text h)))
     ∙ ap (λ words. n ∷ words) (words_decide ms ns i.1 j.1 (ap tail_texts h))
 
--- what two texts that are hashed decide, if they are one
-record AreDecided (v w : World) (a b : Compiler) (xs ys : List Part) (ms ns : List (List ℕ)) : Type 0 where
+-- texts that do not begin with the row of a part
+abbrev pub IsRest : List (List ℕ) → Type 0
+IsRest [] = Unit {0}
+IsRest (text ∷ texts) = (part : Part) → IsRow (hashed part) → text ≡ row_text (hashed part) → ⊥
+
+pub shown_rest : (ms : List (List ℕ)) → CanBeShown ms → IsRest (shown_texts ms)
+shown_rest [] k = tt
+shown_rest (m ∷ ms) k = λ part is_row h. not_shown part m (sym (one-row (shown_fields m) (hashed part) k.0 is_row h))
+
+-- what two texts that are hashed of parts decide, and what follows them
+pub record AreDecided (v w : World) (a b : Compiler) (xs ys : List Part) (t u : List (List ℕ)) : Type 0 where
   pub rows_are : map hashed xs ≡ map hashed ys
-  pub facts_are : facts_in xs ≡ facts_in ys
   pub answers_are : answers v a xs ≡ answers w b ys
-  pub macros_are : ms ≡ ns
+  pub rest_is : t ≡ u
 
 -- what stands behind the row of the first part
-behind : (v : World) (c : Compiler) (x : Part) (xs : List Part) (ms : List (List ℕ))
-    → answered v c x ++ material v c xs ++ shown_texts ms ≡ answered_by (is_asked x) (v.answer c x) ++ (material v c xs ++ shown_texts ms)
-behind v c x xs ms = append_assoc (answered v c x) (material v c xs) (shown_texts ms)
+behind : (v : World) (c : Compiler) (x : Part) (xs : List Part) (t : List (List ℕ))
+    → answered v c x ++ material v c xs ++ t ≡ answered_by (is_asked x) (v.answer c x) ++ (material v c xs ++ t)
+behind v c x xs t = append_assoc (answered v c x) (material v c xs) t
 
-decides : (v w : World) (a b : Compiler) (xs ys : List Part) (ms ns : List (List ℕ)) → CanBeHashed xs → CanBeHashed ys → CanBeShown ms → CanBeShown ns
-    → material v a xs ++ shown_texts ms ≡ material w b ys ++ shown_texts ns → AreDecided v w a b xs ys ms ns
-decides v w a b [] [] ms ns i j k n h = record { rows_are = refl; facts_are = refl; answers_are = refl; macros_are = words_decide ms ns k n h }
-decides v w a b [] (y ∷ ys) [] ns i j k n h = absurd (let no : true ≡ false = ap is_none h in cc)
-decides v w a b [] (y ∷ ys) (m ∷ ms) ns i j k n h = absurd (not_shown y m (sym (one-row (shown_fields m) (hashed y) k.0 j.0 (ap head_text h))))
-decides v w a b (x ∷ xs) [] ms [] i j k n h = absurd (let no : false ≡ true = ap is_none h in cc)
-decides v w a b (x ∷ xs) [] ms (m ∷ ns) i j k n h = absurd (not_shown x m (one-row (hashed x) (shown_fields m) i.0 n.0 (ap head_text h)))
-decides v w a b (x ∷ xs) (y ∷ ys) ms ns i j k n h =
+pub decides : (v w : World) (a b : Compiler) (xs ys : List Part) (t u : List (List ℕ)) → CanBeHashed xs → CanBeHashed ys → IsRest t → IsRest u
+    → material v a xs ++ t ≡ material w b ys ++ u → AreDecided v w a b xs ys t u
+decides v w a b [] [] t u i j k n h = record { rows_are = refl; answers_are = refl; rest_is = h }
+decides v w a b [] (y ∷ ys) [] u i j k n h = absurd (let no : true ≡ false = ap is_none h in cc)
+decides v w a b [] (y ∷ ys) (text ∷ t) u i j k n h = absurd (k y j.0 (ap head_text h))
+decides v w a b (x ∷ xs) [] t [] i j k n h = absurd (let no : false ≡ true = ap is_none h in cc)
+decides v w a b (x ∷ xs) [] t (text ∷ u) i j k n h = absurd (n x i.0 (sym (ap head_text h)))
+decides v w a b (x ∷ xs) (y ∷ ys) t u i j k n h =
     let row : hashed x ≡ hashed y = one-row (hashed x) (hashed y) i.0 j.0 (ap head_text h) in
-    let both : (answered v a x ≡ answered w b y) × (material v a xs ++ shown_texts ms ≡ material w b ys ++ shown_texts ns) =
-    front (is_asked x) (is_asked y) (v.answer a x) (w.answer b y) (material v a xs ++ shown_texts ms) (material w b ys ++ shown_texts ns) (one_asks x y row)
-    (sym (behind v a x xs ms) ∙ ap tail_texts h ∙ behind w b y ys ns) in
-    let rest : AreDecided v w a b xs ys ms ns = decides v w a b xs ys ms ns i.1 j.1 k n both.1 in
+    let both : (answered v a x ≡ answered w b y) × (material v a xs ++ t ≡ material w b ys ++ u) =
+    front (is_asked x) (is_asked y) (v.answer a x) (w.answer b y) (material v a xs ++ t) (material w b ys ++ u) (one_asks x y row)
+    (sym (behind v a x xs t) ∙ ap tail_texts h ∙ behind w b y ys u) in
+    let rest : AreDecided v w a b xs ys t u = decides v w a b xs ys t u i.1 j.1 k n both.1 in
     record {
       rows_are = ap (λ r. r ∷ map hashed xs) row ∙ ap (λ rows. hashed y ∷ rows) rest.rows_are;
-      facts_are = ap (λ facts. facts ++ facts_in xs) (one_fact x y row) ∙ ap (λ facts. fact_of y ++ facts) rest.facts_are;
       answers_are = ap (λ texts. texts ++ answers v a xs) both.0 ∙ ap (λ texts. answered w b y ++ texts) rest.answers_are;
-      macros_are = rest.macros_are;
+      rest_is = rest.rest_is;
     }
 
 -- ---- the facts of a line
@@ -167,24 +179,37 @@ preprocessor_words l = words_by (length (key_of_line l).shown == 0) (key_record 
 
 -- ---- hits
 
+-- lines are alike, if the rows, the answers and the macros are
+pub alike : (v w : ShownWorld) (l m : Line) → list_any is_fact l.added ≡ false → list_any is_fact m.added ≡ false
+    → map hashed (key_of_line l).parts ≡ map hashed (key_of_line m).parts
+    → answers v.world l.compiler (key_of_line l).parts ≡ answers w.world m.compiler (key_of_line m).parts
+    → counting v l.compiler (key_of_line l) ≡ counting w m.compiler (key_of_line m)
+    → AreAlikeLines v w l m
+alike v w l m none neither rows all macros =
+    let one : AreOneLine l m = lines_decide l m none neither (one_facts (key_of_line l).parts (key_of_line m).parts rows) in
+    record {
+      compiler_is = one.compiler_is;
+      environment_is = one.environment_is;
+      run_words_are = one.run_words_are;
+      record_is = one.record_is;
+      words_are_unless_shown = λ off.
+          words_unless (shows l.compiler l.parsed) (shows m.compiler m.parsed) l.parsed.preprocessor_args m.parsed.preprocessor_args off one.shows_is
+          (sym (preprocessor_words l) ∙ ap (λ (p : Parsed). p.preprocessor_args) one.record_is ∙ preprocessor_words m);
+      rows_are = rows;
+      answers_are = all;
+      macros_are = macros;
+    }
+
 pub delivered_hits_are_right : DeliveredHitsAreRight
 delivered_hits_are_right = λ v w is_meant well l m i j h.
     let a : Compiler = l.compiler in
     let b : Compiler = m.compiler in
     let d : Delivered = key_of_line l in
     let g : Delivered = key_of_line m in
-    let all : AreDecided v.world w.world a b d.parts g.parts (counting v a d) (counting w b g) =
-    decides v.world w.world a b d.parts g.parts (counting v a d) (counting w b g) i.are_rows j.are_rows i.are_shown_rows j.are_shown_rows h in
-    let one : AreOneLine l m = lines_decide l m i.adds_no_fact j.adds_no_fact all.facts_are in
-    well l m i.meant j.meant (record {
-      compiler_is = one.compiler_is;
-      environment_is = one.environment_is;
-      run_words_are = one.run_words_are;
-      record_is = one.record_is;
-      words_are_unless_shown = λ off.
-          words_unless (shows a l.parsed) (shows b m.parsed) l.parsed.preprocessor_args m.parsed.preprocessor_args off one.shows_is
-          (sym (preprocessor_words l) ∙ ap (λ (p : Parsed). p.preprocessor_args) one.record_is ∙ preprocessor_words m);
-      rows_are = all.rows_are;
-      answers_are = all.answers_are;
-      macros_are = all.macros_are;
-    })
+    let ms : List (List ℕ) = counting v a d in
+    let ns : List (List ℕ) = counting w b g in
+    let all : AreDecided v.world w.world a b d.parts g.parts (shown_texts ms) (shown_texts ns) =
+    decides v.world w.world a b d.parts g.parts (shown_texts ms) (shown_texts ns) i.are_rows j.are_rows
+    (shown_rest ms i.are_shown_rows) (shown_rest ns j.are_shown_rows) h in
+    well l m i.meant j.meant
+    (alike v w l m i.adds_no_fact j.adds_no_fact all.rows_are all.answers_are (words_decide ms ns i.are_shown_rows j.are_shown_rows all.rest_is))

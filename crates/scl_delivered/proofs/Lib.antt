@@ -3,3 +3,4 @@ mod DeliveredLaws
 mod FactLaws
 mod HitLaws
 mod DirectLaws
+mod DirectoryLaws

@@ -112,7 +112,7 @@ parts_are_told_as_rows dirs times h = named dirs (codes "times") [] h refl
 equals_sign : MaySeparate (Some 61)
 equals_sign = λ e. omega arith
 
-field_back : (dirs : List (List ℕ)) (field : List ℕ) → length dirs < 2 ^ 64 → unmapped dirs (told_field dirs field) ≡ field
+pub field_back : (dirs : List (List ℕ)) (field : List ℕ) → length dirs < 2 ^ 64 → unmapped dirs (told_field dirs field) ≡ field
 field_back dirs field few = words_are_read_back dirs (value_at field) (Some 61) field few equals_sign
 
 pub row_back : (dirs row : List (List ℕ)) → length dirs < 2 ^ 64 → map (unmapped dirs) (told_row dirs row) ≡ row

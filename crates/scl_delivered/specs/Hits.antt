@@ -1,9 +1,10 @@
--- What a hit is worth under keys as they are delivered, without base directories.
-use Rattle.std.specs.Prelude.{◌≡◌, ℕ, Bool, true, false, ◌==◌, List, [], ◌∷◌, ◌++◌, filter, length, map, codes, if◌then◌else◌}
-use Rattle.std.specs.List.{list_any}
+-- What a hit is worth under keys as they are delivered.
+use Rattle.std.specs.Prelude.{◌≡◌, ℕ, ◌^◌, ◌<◌, Bool, true, false, ◌==◌, List, [], ◌∷◌, ◌++◌, filter, length, map, codes, Option, Some, None, if◌then◌else◌}
+use Rattle.std.specs.List.{flat_map, list_any}
 use Rattle.scl_values.specs.Each.{Each}
 use Rattle.scl_text.specs.Records.{Parsed}
-use Rattle.scl_description.specs.Rows.{IsRow, row_text}
+use Rattle.scl_base_dirs.specs.Unmapped.{unmapped}
+use Rattle.scl_description.specs.Rows.{IsRow, lone, row_text}
 use Rattle.scl_reader.specs.declared.compiler.Compiler.{Compiler}
 use Rattle.scl_key.specs.Directs.{may_direct}
 use Rattle.scl_key.specs.Given.{shows}
@@ -11,8 +12,11 @@ use Rattle.scl_key.specs.Keys.{Key, whole_key}
 use Rattle.scl_key.specs.Parts.{Part, is, hashed}
 use Rattle.scl_key.specs.Told.{RunWords, flat_pairs, key_record, run_words_fields}
 use Rattle.scl_key.specs.Laws.{World, answers, material, early, valued_rows, ran, CanBeFirst, CanBeHashed}
-use Rattle.scl_delivered.specs.Delivered.{Delivered, delivered}
+use Rattle.scl_shared_key.specs.Verdicts.{Verdict}
+use Rattle.scl_delivered.specs.Delivered.{Delivered, delivered, is_told_by_bases}
+use Rattle.scl_delivered.specs.Laws.{untold_part}
 use Rattle.scl_delivered.specs.Macros.{others}
+use Rattle.scl_delivered.specs.Rows.{nevertheless}
 
 -- ---- command lines
 
@@ -31,9 +35,13 @@ pub record Line : Type 0 where
 abbrev pub with_added : List Part → Key → Key
 with_added added key = record key { parts = key.parts ++ added }
 
--- its key as it is delivered
+-- its key as it is delivered with these base directories
+abbrev pub key_by : (dirs : List (List ℕ)) → Line → Delivered
+key_by dirs l = delivered l.compiler l.parsed dirs l.keeps_macros (with_added l.added (whole_key l.compiler l.environment l.run_words l.parsed))
+
+-- its key as it is delivered without any
 abbrev pub key_of_line : Line → Delivered
-key_of_line l = delivered l.compiler l.parsed [] l.keeps_macros (with_added l.added (whole_key l.compiler l.environment l.run_words l.parsed))
+key_of_line l = key_by [] l
 
 -- a record without the macros that stand at the end of this key, if any do
 abbrev pub stated_by : Delivered → Parsed → Parsed
@@ -94,14 +102,18 @@ abbrev pub is_fact : Part → Bool
 is_fact (is row) = true
 is_fact _ = false
 
--- a line that is meant, no fact was added to its key, and each row that is hashed there can be written
-pub record IsHashed (is_meant : Line → Bool) (v : ShownWorld) (l : Line) : Type 0 where
+-- a line that is meant, no fact was added to its key, and each row of these parts and macros can be written
+pub record AreHashed (is_meant : Line → Bool) (l : Line) (parts : List Part) (macros : List (List ℕ)) : Type 0 where
   pub meant : is_meant l ≡ true
   pub adds_no_fact : list_any is_fact l.added ≡ false
-  pub are_rows : CanBeHashed (key_of_line l).parts
-  pub are_shown_rows : Each (λ word. IsRow (shown_fields word)) (counting v l.compiler (key_of_line l))
+  pub are_rows : CanBeHashed parts
+  pub are_shown_rows : Each (λ word. IsRow (shown_fields word)) macros
 
--- A hit gives what a compilation would give, also if it was made with other macros that do not count, or with none.
+-- the same of each row that is hashed there
+abbrev pub IsHashed : (is_meant : Line → Bool) → ShownWorld → Line → Type 0
+IsHashed is_meant v l = AreHashed is_meant l (key_of_line l).parts (counting v l.compiler (key_of_line l))
+
+-- Without base directories a hit gives what a compilation would give, also if it was made with other macros that do not count, or with none.
 abbrev pub DeliveredHitsAreRight : Type 0
 DeliveredHitsAreRight =
     (v w : ShownWorld) (is_meant : Line → Bool) → MacrosCountAsShown is_meant v w
@@ -137,7 +149,7 @@ pub record IsRightLine (v w : ShownWorld) (l m : Line) : Type 0 where
   pub key_is : line_material v l ≡ line_material w m
   pub outcome_is : outcome_of v l ≡ outcome_of w m
 
--- Direct hits are right: where the first key is one, and a list is as it was, the key is that which runs would give.
+-- Without base directories direct hits are right: where the first key is one, and a list is as it was, the key is that which runs would give.
 abbrev pub DeliveredDirectHitsAreRight : Type 0
 DeliveredDirectHitsAreRight =
     (v w : ShownWorld) (i j : DeliveredListing) (is_meant : Line → Bool) → MacrosCountAsShown is_meant v w → LinesAreDecided is_meant v w i j
@@ -145,3 +157,85 @@ DeliveredDirectHitsAreRight =
     → CanBeFirstDelivered (key_of_line l) → CanBeFirstDelivered (key_of_line m)
     → FirstKeysAreOne v w i j l.compiler m.compiler (key_of_line l) (key_of_line m)
     → IsRightLine v w l m
+
+-- ---- base directories
+
+-- a world where it is also known what is hashed of a key that is told by the directories
+pub record ToldWorld : Type 0 where
+  pub shown : ShownWorld
+  -- what a part that asks is answered there, told by them
+  pub told : Compiler → Part → List ℕ
+  -- what is answered there to a row that says where the directories belong in the key nevertheless
+  pub nevertheless : Compiler → Delivered → (row : List (List ℕ)) → List ℕ
+
+-- the world as a told key asks it: before a part is used, the directories are put back
+abbrev pub told_there : (dirs : List (List ℕ)) → ToldWorld → World
+told_there dirs v = record { answer = λ c part. v.told c (untold_part dirs part); outcome = v.shown.world.outcome }
+
+-- the fields of these rows, at the end of a key
+abbrev pub nevertheless_rows : Option Verdict → List (List (List ℕ))
+nevertheless_rows None = []
+nevertheless_rows (Some said) = flat_map (λ e. e.rests) (nevertheless said)
+
+abbrev pub nevertheless_texts : ToldWorld → Compiler → Delivered → List (List ℕ)
+nevertheless_texts v c d = flat_map (λ row. row_text row ∷ v.nevertheless c d row ∷ []) (nevertheless_rows d.verdict)
+
+-- what a cache hashes there for a told key, in order, before the rows of macros: the first row says that it is told
+abbrev pub told_material : (dirs : List (List ℕ)) → ToldWorld → Compiler → Delivered → List (List ℕ)
+told_material dirs v c d = row_text (lone (codes "bases")) ∷ material (told_there dirs v) c d.parts ++ nevertheless_texts v c d
+
+abbrev pub is_told : (dirs : List (List ℕ)) → Line → Bool
+is_told dirs l = is_told_by_bases (key_by dirs l)
+
+-- of the words at the end of the key of a line those whose macros count there, with the directories put back
+abbrev pub counting_by : (dirs : List (List ℕ)) → ToldWorld → Line → List (List ℕ)
+counting_by dirs v l =
+    if is_told dirs l
+    then filter (λ word. v.shown.counts l.compiler (key_of_line l) (unmapped dirs word)) (key_by dirs l).shown
+    else counting v.shown l.compiler (key_of_line l)
+
+-- what a cache hashes there for a line that is read with these directories
+abbrev pub line_material_by : (dirs : List (List ℕ)) → ToldWorld → Line → List (List ℕ)
+line_material_by dirs v l =
+    (if is_told dirs l then told_material dirs v l.compiler (key_by dirs l) else material v.shown.world l.compiler (key_by dirs l).parts)
+    ++ shown_texts (counting_by dirs v l)
+
+abbrev pub IsHashedBy : (dirs : List (List ℕ)) (is_meant : Line → Bool) → ToldWorld → Line → Type 0
+IsHashedBy dirs is_meant v l = AreHashed is_meant l (key_by dirs l).parts (counting_by dirs v l)
+
+-- Of two told keys with the same rows, answers that are told alike are alike. This is assumed of how a cache tells answers, and of
+-- compilers where it joins lines: they break a line by the names in it.
+abbrev pub AnswersAreToldApart : (dirs : List (List ℕ)) (is_meant : Line → Bool) → ToldWorld → ToldWorld → Type 0
+AnswersAreToldApart dirs is_meant v w =
+    (l m : Line) → is_meant l ≡ true → is_meant m ≡ true → is_told dirs l ≡ true → is_told dirs m ≡ true
+    → map hashed (key_by dirs l).parts ≡ map hashed (key_by dirs m).parts
+    → answers (told_there dirs v) l.compiler (key_by dirs l).parts ≡ answers (told_there dirs w) m.compiler (key_by dirs m).parts
+    → answers v.shown.world l.compiler (key_of_line l).parts ≡ answers w.shown.world m.compiler (key_of_line m).parts
+
+-- Without directories there is nothing else to hash.
+abbrev pub NothingIsToldWithoutDirectories : Type 0
+NothingIsToldWithoutDirectories = (v : ToldWorld) (l : Line) → line_material_by [] v l ≡ line_material v.shown l
+
+-- No told key is hashed as one that is not told, whatever the directories are.
+abbrev pub ToldKeysStandApart : Type 0
+ToldKeysStandApart =
+    (dirs others : List (List ℕ)) (v w : ToldWorld) (l m : Line)
+    → is_told dirs l ≡ true → is_told others m ≡ false → line_material_by dirs v l ≡ line_material_by others w m → ⊥
+
+-- A hit gives what a compilation would give, for two lines that are read with the same directories.
+abbrev pub HitsWithDirectoriesAreRight : Type 0
+HitsWithDirectoriesAreRight =
+    (dirs : List (List ℕ)) (v w : ToldWorld) (is_meant : Line → Bool)
+    → length dirs < 2 ^ 64 → MacrosCountAsShown is_meant v.shown w.shown → AnswersAreToldApart dirs is_meant v w
+    → (l m : Line) → IsHashedBy dirs is_meant v l → IsHashedBy dirs is_meant w m
+    → line_material_by dirs v l ≡ line_material_by dirs w m → outcome_of v.shown l ≡ outcome_of w.shown m
+
+-- Direct hits are right, for two lines that are read with the same directories and have rows `direct`. Their keys are as they are without.
+abbrev pub DirectHitsWithDirectoriesAreRight : Type 0
+DirectHitsWithDirectoriesAreRight =
+    (dirs : List (List ℕ)) (v w : ToldWorld) (i j : DeliveredListing) (is_meant : Line → Bool)
+    → MacrosCountAsShown is_meant v.shown w.shown → LinesAreDecided is_meant v.shown w.shown i j
+    → (l m : Line) → may_direct l.compiler l.parsed ≡ true → ((key_by dirs l).direct ≡ [] → ⊥) → ((key_by dirs m).direct ≡ [] → ⊥)
+    → IsHashedBy dirs is_meant v l → IsHashedBy dirs is_meant w m → CanBeFirstDelivered (key_of_line l) → CanBeFirstDelivered (key_of_line m)
+    → FirstKeysAreOne v.shown w.shown i j l.compiler m.compiler (key_of_line l) (key_of_line m)
+    → (line_material_by dirs v l ≡ line_material_by dirs w m) × (outcome_of v.shown l ≡ outcome_of w.shown m)

@@ -1,5 +1,5 @@
 //! What follows from the definitions. Each law is a clause of a function with an empty body.
-ghost use Rattle.scl_delivered.specs.Hits.{DeliveredDirectHitsAreRight, DeliveredHitsAreRight};
+ghost use Rattle.scl_delivered.specs.Hits.{DeliveredDirectHitsAreRight, DeliveredHitsAreRight, DirectHitsWithDirectoriesAreRight, HitsWithDirectoriesAreRight, NothingIsToldWithoutDirectories, ToldKeysStandApart};
 ghost use Rattle.scl_delivered.specs.Laws.{DeliveredKeysDecide, KeptMacrosStand, MacrosStandInRuns, NamedKeysStand, PartsAreToldAsRows, ToldPartsAreReadBack};
 
 /// Laws of parts that are told by base directories:
@@ -33,4 +33,18 @@ pub fn of_delivered_keys()
 pub fn of_hits()
     ensures hits_are_right { DeliveredHitsAreRight }
     ensures direct_hits_are_right { DeliveredDirectHitsAreRight }
+{}
+
+/// Laws of hits for two lines that are read with the same base directories:
+///
+/// - `hits_are_right`: suppose also that no two answers are told alike. Then a hit gives what a compilation would give, whether
+///   keys are told by the directories or not;
+/// - `direct_hits_are_right`: direct hits are right too. A key that is told has no direct mode;
+/// - `told_keys_stand_apart`: no key that is told is hashed as one that is not;
+/// - `nothing_is_told_without_directories`: without directories the same is hashed as in `of_hits`.
+pub fn of_hits_with_directories()
+    ensures hits_are_right { HitsWithDirectoriesAreRight }
+    ensures direct_hits_are_right { DirectHitsWithDirectoriesAreRight }
+    ensures told_keys_stand_apart { ToldKeysStandApart }
+    ensures nothing_is_told_without_directories { NothingIsToldWithoutDirectories }
 {}

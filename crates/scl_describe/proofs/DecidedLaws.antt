@@ -1,11 +1,9 @@
 -- Of a request the same is reported on the disk as in a view with enough of it, and it has the same rows.
-use Rattle.std.proofs.Common.{◌≡◌, ap, ◌∙◌}
-use Rattle.scl_files.specs.Views.{Viewed}
-use Rattle.scl_hazards.specs.Hazards.{Known}
+use Rattle.std.proofs.Common.{ap, ◌∙◌}
 use Rattle.scl_reader.proofs.QuestionLaws.{headers-decided, wholes-decided}
-use Rattle.scl_reader.specs.CommandLines.{Request, given_in}
+use Rattle.scl_reader.specs.CommandLines.{given_in}
 use Rattle.scl_reader.specs.PrecompiledHeaders.{has_precompiled_header}
-use Rattle.scl_reader.specs.Questions.{Extends, HasNoneOf, on_disk, questions_of}
+use Rattle.scl_reader.specs.Questions.{on_disk}
 use Rattle.scl_reader.specs.Reads.{read_of}
 use Rattle.scl_describe.specs.Decided.{TellingIsDecided, RowsAreDecided}
 use Rattle.scl_describe.specs.Hazards.{told_with}

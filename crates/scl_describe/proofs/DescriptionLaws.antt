@@ -1,11 +1,11 @@
 -- Descriptions: what the code gives is what is defined, and a record is read back from its description.
-use Rattle.std.proofs.Common.{◌≡◌, ℕ, true, false, cond, List, [], ◌∷◌, ◌++◌, map, codes, refl, ap, sym, subst, ◌∙◌, append-nil, append_assoc}
+use Rattle.std.proofs.Common.{◌≡◌, ℕ, true, false, cond, List, [], ◌∷◌, ◌++◌, map, codes, Option, refl, ap, sym, subst, ◌∙◌, append-nil, append_assoc}
 use Rattle.std.specs.List.{flat_map}
 use Rattle.std.proofs.lemmas.Grind.{flat_map-append}
 use Rattle.scl_values.specs.Each.{Each}
 use Rattle.scl_values.specs.Escaped.{escaped}
 use Rattle.scl_text.specs.Commands.{pairs_of}
-use Rattle.scl_text.specs.Records.{Parsed, parsed_of}
+use Rattle.scl_text.specs.Records.{Parsed, parsed_of, path_of}
 use Rattle.scl_text.specs.Runs.{runs_of}
 use Rattle.scl_text.specs.declared.records.Cacheable.{Cacheable}
 use Rattle.scl_text.specs.declared.records.Cacheable.TheVariants as cacheable
@@ -13,7 +13,7 @@ use Rattle.scl_text.specs.declared.records.CompilerArguments.{CompilerArguments}
 use Rattle.scl_text.specs.declared.records.CompilerArguments.TheVariants as outcomes
 use Rattle.scl_description.specs.Laws.{IsBeside}
 use Rattle.scl_description.specs.Lines.{line}
-use Rattle.scl_description.specs.Rows.{Entry, IsRow, lone, row_text, rows_text, rows_of, row_entry, entry, entry_text, entries_text}
+use Rattle.scl_description.specs.Rows.{Entry, IsRow, lone, row_text, rows_text, rows_of, entry, entry_text, entries_text}
 use Rattle.scl_description.specs.Records.{record_entries, record_in}
 use Rattle.scl_description.proofs.RecordLaws.{description-back-among}
 use Rattle.scl_hazards.specs.Hazards.{Tables}
@@ -21,7 +21,7 @@ use Rattle.scl_hazards.specs.Told.{Told, given as given_told}
 use Rattle.scl_rows.specs.Rows.{refused_at, told}
 use Rattle.scl_rows.specs.declared.row.Row.{Row}
 use Rattle.scl_describe.specs.declared.described.Description.{Description}
-use Rattle.scl_reader.specs.declared.kept.Compilation.{Compilation}
+use Rattle.scl_reader.specs.declared.compilation.Compilation.{Compilation}
 use Rattle.scl_describe.specs.OptionLines.{fields_given, option_fields, options_entry, options_given}
 use Rattle.scl_reader.specs.QuestionsGiven.{given}
 use Rattle.scl_reader.specs.CommandLines.{Request}
@@ -33,7 +33,7 @@ use Rattle.scl_describe.specs.Settings.{Settings}
 use Rattle.scl_reader.specs.Within.{has_at_most}
 use Rattle.scl_describe.specs.Keepings.{Kept, kept_entries, kept_for, last_entries, run_words_by}
 use Rattle.scl_describe.proofs.KeepingLaws.{each-both, effects-beside, kept-beside, last-beside}
-use Rattle.scl_describe.specs.Descriptions.{version_entry, runs_entry, pair_fields, environment_entry, told_entries, compiled_entries, kept_with, questions_for, rows_for, runs_for, told_for, outcome_entries, question_entries, answer_entries, description, too_many_entries, command_entries, DescriptionsReadBack}
+use Rattle.scl_describe.specs.Descriptions.{version_entry, runs_entry, environment_entry, told_entries, compiled_entries, kept_with, questions_for, rows_for, runs_for, told_for, writes_entry, writes_for, outcome_entries, question_entries, entries_for, description, too_many_entries, command_entries, DescriptionsReadBack}
 use Rattle.scl_describe.specs.DescriptionsGiven.{AreOf, entries_given, kept_given, kept_told, outcome_given, outcome_rows, runs_given, text_given}
 
 -- ---- what the code gives
@@ -64,10 +64,11 @@ options-are : (rows : List Row) → map fields_given rows ≡ map option_fields 
 options-are [] = refl
 options-are (row ∷ rows) = ap (λ rests. option_fields (told row) ∷ rests) (options-are rows)
 
-abbrev all_entries : List Entry → Entry → Told → Questions → Kept → List Entry
-all_entries outcome options telling asks kept = version_entry ∷ [] ++ outcome ++ (options ∷ told_entries telling ++ (question_entries asks ++ last_entries kept))
+abbrev all_entries : List Entry → Entry → Told → Option (List ℕ) → Questions → Kept → List Entry
+all_entries outcome options telling writes asks kept =
+    version_entry ∷ [] ++ outcome ++ (options ∷ told_entries telling ++ (writes_entry writes ∷ question_entries asks ++ last_entries kept))
 
-entries-are : (tables : Tables) (s : Settings) (r : Request) (made : Description) → AreOf tables s r made → entries_given made ≡ answer_entries tables s r
+entries-are : (tables : Tables) (s : Settings) (r : Request) (made : Description) → AreOf tables s r made → entries_given made ≡ entries_for tables s r
 entries-are tables s r made are =
     let runs : List (List (List ℕ)) = runs_of made.runs.items in
     let kept : Kept = kept_with s r (told_for tables s r) (answer_to r) (reading_by r.compiler r) in
@@ -77,11 +78,12 @@ entries-are tables s r made are =
     ∙ outcome-is s r runs kept made.answer are.answer are.parts are.runs in
     let options : options_given made.options.items ≡ options_entry (rows_for s r) = ap (entry (codes "option")) (options-are made.options.items) ∙ ap options_entry are.options in
     let there : List Entry = outcome_entries s r kept (answer_to r) (reading_by r.compiler r) in
-    ap (λ es. all_entries es (options_given made.options.items) (given_told made.told) (given made.questions) (kept_told made.kept)) outcome
-    ∙ ap (λ e. all_entries there e (given_told made.told) (given made.questions) (kept_told made.kept)) options
-    ∙ ap (λ is. all_entries there (options_entry (rows_for s r)) is (given made.questions) (kept_told made.kept)) are.told
-    ∙ ap (λ asks. all_entries there (options_entry (rows_for s r)) (told_for tables s r) asks (kept_told made.kept)) are.questions
-    ∙ ap (λ k. all_entries there (options_entry (rows_for s r)) (told_for tables s r) (questions_for s r) k) are.kept
+    ap (λ es. all_entries es (options_given made.options.items) (given_told made.told) (path_of made.writes) (given made.questions) (kept_told made.kept)) outcome
+    ∙ ap (λ e. all_entries there e (given_told made.told) (path_of made.writes) (given made.questions) (kept_told made.kept)) options
+    ∙ ap (λ is. all_entries there (options_entry (rows_for s r)) is (path_of made.writes) (given made.questions) (kept_told made.kept)) are.told
+    ∙ ap (λ path. all_entries there (options_entry (rows_for s r)) (told_for tables s r) path (given made.questions) (kept_told made.kept)) are.writes
+    ∙ ap (λ asks. all_entries there (options_entry (rows_for s r)) (told_for tables s r) (writes_for s r) asks (kept_told made.kept)) are.questions
+    ∙ ap (λ k. all_entries there (options_entry (rows_for s r)) (told_for tables s r) (writes_for s r) (questions_for s r) k) are.kept
 
 -- the text of what is described of a request is its description
 pub is-description : (tables : Tables) (s : Settings) (r : Request) (text : List ℕ) (made : Description) → has_at_most s.limits r ≡ true → AreOf tables s r made
@@ -90,10 +92,10 @@ is-description tables s r text made within are is =
     is
     ∙ ap (λ a. text_of a ++ entries_text (entries_given made)) are.answer
     ∙ ap (λ es. text_of (answer_to r) ++ entries_text es) (entries-are tables s r made are)
-    ∙ ap (λ b. cond b (text_of (answer_to r) ++ entries_text (answer_entries tables s r)) (entries_text too_many_entries)) (sym within)
+    ∙ ap (λ b. cond b (text_of (answer_to r) ++ entries_text (entries_for tables s r)) (entries_text too_many_entries)) (sym within)
 
 pub too-long : (tables : Tables) (s : Settings) (r : Request) (text : List ℕ) → has_at_most s.limits r ≡ false → text ≡ entries_text too_many_entries → text ≡ description tables s r
-too-long tables s r text within is = is ∙ ap (λ b. cond b (text_of (answer_to r) ++ entries_text (answer_entries tables s r)) (entries_text too_many_entries)) (sym within)
+too-long tables s r text within is = is ∙ ap (λ b. cond b (text_of (answer_to r) ++ entries_text (entries_for tables s r)) (entries_text too_many_entries)) (sym within)
 
 -- ---- a record is read back
 
@@ -126,34 +128,23 @@ descriptions-back tables s r words kept p within compiles reads are =
     let telling : Told = told_for tables s r in
     let keeping : Kept = kept_with s r telling (answer_to r) (reading_by r.compiler r) in
     let after : List Entry = runs_entry (runs_for s r.compiler p) ∷ environment_entry environment ∷ kept_entries keeping in
-    let last : List Entry = question_entries (questions_for s r) ++ last_entries keeping in
+    let last : List Entry = writes_entry (writes_for s r) ∷ question_entries (questions_for s r) ++ last_entries keeping in
     let asks : List Entry = options_entry (rows_for s r) ∷ told_entries telling ++ last in
     let before : List Entry = command_entries words kept ++ version_entry ∷ [] in
     let outcome : outcome_entries s r keeping (answer_to r) (reading_by r.compiler r) ≡ record_entries p ++ after =
     ap (λ a. outcome_entries s r keeping a (reading_by r.compiler r)) compiles ∙ ap (outcome_entries s r keeping (compiled words kept)) reads in
     let beside : Each IsBeside (after ++ asks) =
-    each-both IsBeside after asks (refl, (refl, kept-beside keeping)) (refl, each-both IsBeside (told_entries telling) last (refl, effects-beside telling.effects) (refl, (refl, (refl, last-beside keeping)))) in
-    let entries : command_entries words kept ++ answer_entries tables s r ≡ in_order before (after ++ asks) p =
+    each-both IsBeside after asks (refl, (refl, kept-beside keeping)) (refl, each-both IsBeside (told_entries telling) last (refl, effects-beside telling.effects) (refl, (refl, (refl, (refl, last-beside keeping))))) in
+    let entries : command_entries words kept ++ entries_for tables s r ≡ in_order before (after ++ asks) p =
     ap (λ es. command_entries words kept ++ (version_entry ∷ [] ++ es ++ asks)) outcome
     ∙ ap (λ es. command_entries words kept ++ (version_entry ∷ es)) (append_assoc (record_entries p) after asks)
     ∙ sym (append_assoc (command_entries words kept) (version_entry ∷ []) (record_entries p ++ (after ++ asks)))
     ∙ sym (append_assoc before (record_entries p) (after ++ asks)) in
     let text : description tables s r ≡ entries_text (in_order before (after ++ asks) p) =
-    ap (λ b. cond b (text_of (answer_to r) ++ entries_text (answer_entries tables s r)) (entries_text too_many_entries)) within
-    ∙ ap (λ a. text_of a ++ entries_text (answer_entries tables s r)) compiles
-    ∙ ap (λ t. t ++ entries_text (answer_entries tables s r)) (command-rows words kept)
-    ∙ sym (flat_map-append entry_text (command_entries words kept) (answer_entries tables s r))
+    ap (λ b. cond b (text_of (answer_to r) ++ entries_text (entries_for tables s r)) (entries_text too_many_entries)) within
+    ∙ ap (λ a. text_of a ++ entries_text (entries_for tables s r)) compiles
+    ∙ ap (λ t. t ++ entries_text (entries_for tables s r)) (command-rows words kept)
+    ∙ sym (flat_map-append entry_text (command_entries words kept) (entries_for tables s r))
     ∙ ap entries_text entries in
     ap record_in text
     ∙ description-back-among before (after ++ asks) p (command-beside words kept) beside (subst (λ es. Each IsRow (rows_of es)) entries are)
-
--- ---- one more row
-
-pub environment-more : (pairs : List (List ℕ × List ℕ)) (pair : List ℕ × List ℕ)
-    → entry_text (environment_entry (pairs ++ pair ∷ [])) ≡ entry_text (environment_entry pairs) ++ entry_text (row_entry (codes "environment") (pair_fields pair))
-unfolding entry_text
-environment-more [] pair = refl
-environment-more (p ∷ pairs) pair =
-    let first : List ℕ = line (row_text (codes "environment" ∷ pair_fields p)) in
-    ap (λ t. first ++ t) (environment-more pairs pair)
-    ∙ sym (append_assoc first (rows_text (map (λ rest. codes "environment" ∷ rest) (map pair_fields pairs))) (rows_text ((codes "environment" ∷ pair_fields pair) ∷ [])))

@@ -11,6 +11,7 @@ use Rattle.scl_reader.specs.Reads.{IsReadBy, outcome_in, read_of}
 use Rattle.scl_reader.specs.Within.{has_at_most}
 use Rattle.scl_reader.specs.declared.reading.Reading.{Reading}
 use Rattle.scl_cl.specs.Requests.{request_in}
+use Rattle.scl_describe.specs.DependencyFiles.{writes_by}
 use Rattle.scl_describe.specs.Descriptions.{DescribesBytes, IsDescriptionOf, description, kept_with, too_many_entries}
 use Rattle.scl_describe.specs.DescriptionsGiven.{AreOf, IsDescribed, kept_given, runs_given, text_given}
 use Rattle.scl_describe.specs.Settings.{Settings, settings_in, request_lines}
@@ -32,6 +33,7 @@ described-of tables s request made h =
           ∙ ap (λ telling. kept_with s request telling (answer_to request) (reading_by request.compiler request)) h.told;
       options = h.options;
       told = h.told;
+      writes = h.writes ∙ ap (λ c. writes_by s c (outcome_in (read_of request))) said.compiler ∙ ap (writes_by s request.compiler) said.outcome;
       questions = h.questions;
     }
 
@@ -55,10 +57,9 @@ module _ (tables : Tables) (s : Settings) (request : Request) (line : Given) (is
   is_too_long text within is = too-long tables s request text (subst (λ g. has_at_most s.limits (there g) ≡ false) is_its within) is
 
 -- the description of a request that bytes make, by their settings, is a description of these bytes
-pub describes_bytes : (tables : Tables) (bytes lines text : List ℕ) (s : Settings) (request : Request) → s ≡ settings_in (lines_of bytes) → lines_of lines ≡ request_lines (lines_of bytes)
-    → request_in (lines_of lines) ≡ Ok request → text ≡ description tables s request → DescribesBytes tables bytes (Ok text)
-describes_bytes tables bytes lines text s request set rest made is =
-    let Of : List (List ℕ) → Type 0 = λ left. IsDescriptionOf tables (settings_in (lines_of bytes)) (request_in left) (Ok text) in
+pub describes_bytes : (tables : Tables) (bytes text : List ℕ) (s : Settings) (request : Request) → s ≡ settings_in (lines_of bytes) → request_in (request_lines (lines_of bytes)) ≡ Ok request
+    → text ≡ description tables s request → DescribesBytes tables bytes (Ok text)
+describes_bytes tables bytes text s request set made is =
     let Made : Result Request ℕ → Type 0 = λ r. IsDescriptionOf tables (settings_in (lines_of bytes)) r (Ok text) in
     let By : Settings → Type 0 = λ t. text ≡ description tables t request in
-    subst Of rest (subst Made (sym made) (subst By set is))
+    subst Made (sym made) (subst By set is)

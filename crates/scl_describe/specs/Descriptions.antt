@@ -17,6 +17,7 @@ use Rattle.scl_reader.specs.CommandLines.{Request}
 use Rattle.scl_cl.specs.Requests.{request_in}
 use Rattle.scl_cl.specs.AnswerTexts.{text_of}
 use Rattle.scl_reader.specs.Answers.{Answer, compiled, cannot_cache, not_compilation, answer_to, reading_by, runs_with, environment_by}
+use Rattle.scl_describe.specs.DependencyFiles.{writes_by}
 use Rattle.scl_describe.specs.EffectRows.{effect_entries}
 use Rattle.scl_describe.specs.OptionLines.{index_entry, options_entry}
 use Rattle.scl_describe.specs.OptionRows.{rows_by}
@@ -68,6 +69,10 @@ undone_entries at = index_entry (codes "at") at ∷ []
 abbrev pub hazards_entry : List Hazard → Entry
 hazards_entry found = words_entry (codes "hazard") (map (λ hazard. hazard.name) found)
 
+-- the dependency file that is written and the record does not name, if there is one
+abbrev pub writes_entry : Option (List ℕ) → Entry
+writes_entry path = maybe_entry (codes "writes") path
+
 -- ---- the questions of the answer
 
 abbrev pub kind_fields : List ℕ → List ℕ → List (List ℕ)
@@ -88,11 +93,14 @@ rows_for s request = if_wanted (wanted s).options (rows_by request)
 abbrev pub told_for : Tables → Settings → Request → Told
 told_for tables s request = told_if (wanted s) (told_by (known_by tables s.version) request)
 
+abbrev pub writes_for : Settings → Request → Option (List ℕ)
+writes_for s request = writes_by s request.compiler (reading_by request.compiler request)
+
 abbrev pub questions_for : Settings → Request → Questions
 questions_for s request = questions_if (wanted s) (questions_of request)
 
 abbrev pub runs_for : Settings → Compiler → Parsed → List (List (List ℕ))
-runs_for s compiler p = if_wanted (wanted s).runs (runs_with s.version compiler s.may_dist s.rewrite_includes_only s.cache_mode p)
+runs_for s compiler p = if_wanted (wanted s).runs (runs_with s.version compiler s.runs.may_dist s.runs.rewrite_includes_only s.runs.cache_mode p)
 
 -- what is said of keeping the outcome of a command
 abbrev pub kept_with : Settings → Request → Told → Answer → Result Parsed Verdict → Kept
@@ -121,13 +129,13 @@ abbrev pub entries_kept : Settings → Request → Told → Kept → List Entry
 entries_kept s request told kept =
     version_entry ∷ []
     ++ outcome_entries s request kept (answer_to request) (reading_by request.compiler request)
-    ++ (options_entry (rows_for s request) ∷ told_entries told ++ (question_entries (questions_for s request) ++ last_entries kept))
+    ++ (options_entry (rows_for s request) ∷ told_entries told ++ (writes_entry (writes_for s request) ∷ question_entries (questions_for s request) ++ last_entries kept))
 
 abbrev pub entries_with : Settings → Request → Told → List Entry
 entries_with s request told = entries_kept s request told (kept_with s request told (answer_to request) (reading_by request.compiler request))
 
-abbrev pub answer_entries : Tables → Settings → Request → List Entry
-answer_entries tables s request = entries_with s request (told_for tables s request)
+abbrev pub entries_for : Tables → Settings → Request → List Entry
+entries_for tables s request = entries_with s request (told_for tables s request)
 
 -- where a command line has more words than the limit
 abbrev pub too_many_entries : List Entry
@@ -135,7 +143,7 @@ too_many_entries = lone_entry (codes "too-many-words") ∷ version_entry ∷ []
 
 abbrev pub description : Tables → Settings → Request → List ℕ
 description tables s request =
-    if has_at_most s.limits request then text_of (answer_to request) ++ entries_text (answer_entries tables s request) else entries_text too_many_entries
+    if has_at_most s.limits request then text_of (answer_to request) ++ entries_text (entries_for tables s request) else entries_text too_many_entries
 
 -- what a description of the request may be, or the number of its bad line
 abbrev pub IsDescriptionOf : Tables → Settings → Result Request ℕ → Result (List ℕ) ℕ → Type 0
@@ -148,16 +156,27 @@ IsDescriptionOf tables s (Err n) (Ok text) = ⊥
 abbrev pub DescribesBytes : Tables → List ℕ → Result (List ℕ) ℕ → Type 0
 DescribesBytes tables bytes said = IsDescriptionOf tables (settings_in (lines_of bytes)) (request_in (request_lines (lines_of bytes))) said
 
--- ---- a law
+-- ---- the answer as rows
 
--- the lines of a command's answer, as rows
+abbrev pub cacheable_name : Cacheable → List ℕ
+cacheable_name cacheable.Yes = codes "yes"
+cacheable_name cacheable.No = codes "no"
+
+-- the lines of a command's answer
 abbrev pub command_entries : List (List ℕ) → Cacheable → List Entry
-command_entries words cacheable.Yes = lone_entry (codes "ok") ∷ words_entry (codes "arg") words ∷ row_entry (codes "cacheable") (lone (codes "yes")) ∷ []
-command_entries words cacheable.No = lone_entry (codes "ok") ∷ words_entry (codes "arg") words ∷ row_entry (codes "cacheable") (lone (codes "no")) ∷ []
+command_entries words kept = lone_entry (codes "ok") ∷ words_entry (codes "arg") words ∷ row_entry (codes "cacheable") (lone (cacheable_name kept)) ∷ []
+
+-- the lines of an answer; a reason is one field
+abbrev pub answer_entries : Answer → List Entry
+answer_entries (compiled words kept) = command_entries words kept
+answer_entries (cannot_cache reason beside) = row_entry (codes "cannot-cache") (lone reason) ∷ []
+answer_entries not_compilation = lone_entry (codes "not-compilation") ∷ []
+
+-- ---- a law
 
 -- A description of a command gives the record that was read.
 abbrev pub DescriptionsReadBack : Type 0
 DescriptionsReadBack = (tables : Tables) (s : Settings) (request : Request) (words : List (List ℕ)) (kept : Cacheable) (p : Parsed)
     → has_at_most s.limits request ≡ true → answer_to request ≡ compiled words kept → reading_by request.compiler request ≡ Ok p
-    → Each IsRow (rows_of (command_entries words kept ++ answer_entries tables s request))
+    → Each IsRow (rows_of (command_entries words kept ++ entries_for tables s request))
     → record_in (description tables s request) ≡ p

@@ -3,24 +3,25 @@ use Rattle.std.specs.Prelude.{◌≡◌, ℕ, List, [], ◌∷◌, ◌++◌, map
 use Rattle.std.specs.Option.{option_map}
 use Rattle.scl_rows.specs.Rows.{refused_at, told}
 use Rattle.scl_text.specs.Commands.{pairs_of}
-use Rattle.scl_text.specs.Records.{Parsed, Verdict, parsed_of}
+use Rattle.scl_text.specs.Records.{Parsed, Verdict, parsed_of, path_of}
 use Rattle.scl_text.specs.Runs.{runs_of}
 use Rattle.scl_text.specs.declared.records.CompilerArguments.{CompilerArguments}
 use Rattle.scl_text.specs.declared.records.CompilerArguments.TheVariants as outcomes
 use Rattle.scl_cl.specs.AnswerTexts.{text_of}
-use Rattle.scl_description.specs.Rows.{Entry, entries_text}
+use Rattle.scl_description.specs.Rows.{Entry, entries_text, rows_of}
 use Rattle.scl_hazards.specs.Hazards.{Tables}
 use Rattle.scl_hazards.specs.Told.{Told, given as given_told}
 use Rattle.scl_key.specs.Views.{no_keys_of}
 use Rattle.scl_delivered.specs.Views.{delivered_of}
 use Rattle.scl_reader.specs.declared.compiler.Compiler.{Compiler}
-use Rattle.scl_reader.specs.declared.kept.Compilation.{Compilation}
+use Rattle.scl_reader.specs.declared.compilation.Compilation.{Compilation}
 use Rattle.scl_describe.specs.declared.described.Description.{Description}
 use Rattle.scl_reader.specs.Answers.{answer_to, environment_by, reading_by}
 use Rattle.scl_reader.specs.AnswersGiven.{answer_of, AnswersReading, HasParts}
 use Rattle.scl_reader.specs.Definitions.{definitions_of}
 use Rattle.scl_reader.specs.Reads.{compiler_of, outcome_in, runs_for}
 use Rattle.scl_reader.specs.declared.reading.Reading.{Reading}
+use Rattle.scl_describe.specs.DependencyFiles.{writes_by}
 use Rattle.scl_describe.specs.Hazards.{known_by, told_in}
 use Rattle.scl_describe.specs.OptionLines.{options_given}
 use Rattle.scl_describe.specs.OptionRows.{rows_in}
@@ -32,7 +33,7 @@ use Rattle.scl_describe.specs.declared.keeping.Kept.TheVariants as kepts
 use Rattle.scl_describe.specs.Keepings.{Kept, nothing, under_key, unknown, under_none, kept_entries, kept_for, last_entries, run_words_by}
 use Rattle.scl_describe.specs.Settings.{Settings, wanted}
 use Rattle.scl_describe.specs.Wants.{if_wanted, questions_if, told_if}
-use Rattle.scl_describe.specs.Descriptions.{compiled_entries, kept_with, questions_for, rows_for, told_for, question_entries, refused_entries, told_entries, undone_entries, version_entry}
+use Rattle.scl_describe.specs.Descriptions.{answer_entries, compiled_entries, kept_with, questions_for, rows_for, told_for, question_entries, refused_entries, told_entries, undone_entries, version_entry, writes_entry, writes_for}
 
 abbrev pub kept_told : declared_keeping.Kept → Kept
 kept_told kepts.Nothing = nothing
@@ -42,7 +43,7 @@ kept_told (kepts.Not why) = under_none (no_keys_of why.items)
 
 -- the runs of the preprocessor for what was read, by a compiler, if they are wanted
 abbrev pub runs_given : Settings → Compiler → Result Parsed Verdict → List (List (List ℕ))
-runs_given s compiler outcome = if_wanted (wanted s).runs (runs_for s.version compiler s.may_dist s.rewrite_includes_only s.cache_mode outcome)
+runs_given s compiler outcome = if_wanted (wanted s).runs (runs_for s.version compiler s.runs.may_dist s.runs.rewrite_includes_only s.runs.cache_mode outcome)
 
 -- what is said of keeping the outcome of an answer to a line of these words
 abbrev pub kept_given : Settings → Compiler → (words : List (List ℕ)) → Told → CompilerArguments Compilation → Kept
@@ -51,7 +52,7 @@ kept_given s compiler words told (outcomes.Ok compilation) =
 kept_given s compiler words told (outcomes.CannotCache reason text) = nothing
 kept_given s compiler words told outcomes.NotCompilation = nothing
 
--- ---- its text
+-- ---- its rows, and its text
 
 abbrev pub compilation_entries : (runs : List (List (List ℕ))) → Kept → Compilation → List Entry
 compilation_entries runs kept compilation = compiled_entries runs (pairs_of compilation.command.env_vars.items) (kept_entries kept) (parsed_of compilation.parsed)
@@ -70,7 +71,11 @@ abbrev pub entries_given : Description → List Entry
 entries_given made =
     version_entry ∷ []
     ++ outcome_given made
-    ++ (options_given made.options.items ∷ told_entries (given_told made.told) ++ (question_entries (given made.questions) ++ last_entries (kept_told made.kept)))
+    ++ (options_given made.options.items ∷ told_entries (given_told made.told) ++ (writes_entry (path_of made.writes) ∷ question_entries (given made.questions) ++ last_entries (kept_told made.kept)))
+
+-- all of them, with those of the answer in front
+abbrev pub rows_given : Description → List (List (List ℕ))
+rows_given made = rows_of (answer_entries (answer_of made.answer) ++ entries_given made)
 
 abbrev pub text_given : Description → List ℕ
 text_given made = text_of (answer_of made.answer) ++ entries_text (entries_given made)
@@ -84,6 +89,7 @@ pub record IsDescribed (tables : Tables) (s : Settings) (reading : Reading) (lin
   pub kept : kept_told made.kept ≡ kept_given s (compiler_of reading) line.words (given_told made.told) made.answer
   pub options : map told made.options.items ≡ if_wanted (wanted s).options (rows_in reading)
   pub told : given_told made.told ≡ told_if (wanted s) (told_in (known_by tables s.version) line reading)
+  pub writes : path_of made.writes ≡ writes_by s (compiler_of reading) (outcome_in reading)
   pub questions : given made.questions ≡ questions_if (wanted s) (questions_in line reading)
 
 -- its parts are of a request whose program has the empty name, by tables and as settings request them
@@ -94,4 +100,5 @@ pub record AreOf (tables : Tables) (s : Settings) (request : Request) (made : De
   pub kept : kept_told made.kept ≡ kept_with s request (told_for tables s request) (answer_to request) (reading_by request.compiler request)
   pub options : map told made.options.items ≡ rows_for s request
   pub told : given_told made.told ≡ told_for tables s request
+  pub writes : path_of made.writes ≡ writes_for s request
   pub questions : given made.questions ≡ questions_for s request

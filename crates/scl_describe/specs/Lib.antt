@@ -6,6 +6,7 @@ pub mod Decided
 pub mod Settings
 pub mod Wants
 pub mod SettingsRead
+pub mod DependencyFiles
 pub mod OptionLines
 pub mod Descriptions
 pub mod DescriptionsGiven

@@ -1,24 +1,24 @@
 -- The settings of a description beside its request, and the lines that say it.
 use Rattle.std.specs.Prelude.{ℕ, ◌++◌, ◌+◌, ◌-◌, ◌*◌, ◌^◌, ◌&&◌, ◌||◌, ◌==◌, not, Bool, true, false, List, [], ◌∷◌, map, fold, codes, Option, Some, None, nat_eq, nat_le, nat_lt, is_some, unwrap_or, if◌then◌else◌, option_and_then}
 use Rattle.std.specs.List.{filter_map, list_any, starts_with}
-use Rattle.std.specs.Option.{option_map, option_to_list}
+use Rattle.std.specs.Option.{option_map}
 use Rattle.std.specs.Str.{bytes_eq}
 use Rattle.scl_base_dirs.specs.Bases.{trimmed}
 use Rattle.scl_files.specs.Characters.{backslash, slash, space}
 use Rattle.scl_files.specs.Decoding.{utf8_text}
 use Rattle.scl_description.specs.Fields.{field_of}
 use Rattle.scl_description.specs.Lines.{cut_at}
+use Rattle.scl_description.specs.Names.{part_of}
+use Rattle.scl_description.specs.declared.names.Part.{Part}
 use Rattle.scl_files.specs.Within.{standard}
 use Rattle.scl_files.specs.declared.expand.Limits.{Limits}
-use Rattle.scl_describe.specs.declared.wants.Part.{Part}
+use Rattle.scl_reader.specs.declared.runs.RunOptions.{RunOptions}
 use Rattle.scl_describe.specs.declared.wants.Wants.{Wants}
-use Rattle.scl_describe.specs.Wants.{everything, nothing_more, part_of, with_part}
+use Rattle.scl_describe.specs.Wants.{everything, nothing_more, with_part}
 
--- whether the runs of the preprocessor are for a distant compiler, leave macros in place, and are kept in a cache; the text of Clang's version, if it is known; how much a command line may have, once its response files are put in place; which parts are wanted, if a line says so; the base directories by which keys are told; and whether macros that the runs show stay where they are in the key
+-- what the runs of the preprocessor are for; the text of the compiler's version, if it is known; how much a command line may have, once its response files are put in place; which parts are wanted, if a line says so; the base directories by which keys are told; and whether macros that the runs show stay where they are in the key
 pub record Settings : Type 0 where
-  pub may_dist : Bool
-  pub rewrite_includes_only : Bool
-  pub cache_mode : Bool
+  pub runs : RunOptions
   pub version : Option (List ℕ)
   pub limits : Limits
   pub wants : Option Wants
@@ -27,7 +27,7 @@ pub record Settings : Type 0 where
 
 -- where no line sets them
 abbrev pub no_settings : Settings
-no_settings = record { may_dist = false; rewrite_includes_only = false; cache_mode = false; version = None; limits = standard; wants = None; bases = []; keeps_shown = false }
+no_settings = record { runs = record { may_dist = false; rewrite_includes_only = false; cache_mode = false }; version = None; limits = standard; wants = None; bases = []; keeps_shown = false }
 
 -- the parts that are wanted: all, where no line names one
 abbrev pub wanted : Settings → Wants
@@ -45,9 +45,9 @@ pub data Setting : Type 0 where
   KeepShown : Setting
 
 abbrev pub with_setting : Settings → Setting → Settings
-with_setting s MayDist = record s { may_dist = true }
-with_setting s RewriteIncludesOnly = record s { rewrite_includes_only = true }
-with_setting s CacheMode = record s { cache_mode = true }
+with_setting s MayDist = record s { runs = record s.runs { may_dist = true } }
+with_setting s RewriteIncludesOnly = record s { runs = record s.runs { rewrite_includes_only = true } }
+with_setting s CacheMode = record s { runs = record s.runs { cache_mode = true } }
 with_setting s (Version text) = record s { version = Some text }
 with_setting s (Words words) = record s { limits = record { words = words; bytes = s.limits.bytes } }
 with_setting s (Bytes bytes) = record s { limits = record { words = s.limits.words; bytes = bytes } }
@@ -117,10 +117,6 @@ setting_of line = setting_behind (cut_at space line)
 
 abbrev pub settings_from : Settings → List (List ℕ) → Settings
 settings_from s lines = fold with_setting s (filter_map setting_of lines)
-
--- with what a line says
-abbrev pub with_line : Settings → List ℕ → Settings
-with_line s line = fold with_setting s (option_to_list (setting_of line))
 
 -- with base directories that have no separator at their ends
 abbrev pub with_trimmed_bases : Settings → Settings

@@ -9,7 +9,7 @@ use Rattle.scl_describe.specs.declared.settings.Setting as line
 use Rattle.scl_describe.specs.declared.settings.Setting.TheVariants as lines
 
 abbrev pub settings_by : code.Settings → Settings
-settings_by s = record { may_dist = s.may_dist; rewrite_includes_only = s.rewrite_includes_only; cache_mode = s.cache_mode; version = option_map string_bytes s.version; limits = s.limits; wants = s.wants; bases = words_of s.bases.items; keeps_shown = s.keeps_shown }
+settings_by s = record { runs = s.runs; version = option_map string_bytes s.version; limits = s.limits; wants = s.wants; bases = words_of s.bases.items; keeps_shown = s.keeps_shown }
 
 abbrev pub set_by : line.Setting → Setting
 set_by lines.MayDist = settings.MayDist

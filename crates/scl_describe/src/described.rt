@@ -1,31 +1,38 @@
-//! What is described of a command line that was read, and its text: the answer's lines, and after them rows.
-ghost use Rattle.std.specs.Prelude.{◌≡◌, ◌++◌, codes, IfOk, OnOk};
+//! What is described of a command line that was read: the answer's lines, and after them rows, as a text or as values.
+ghost use Rattle.std.specs.Prelude.{◌≡◌, codes, IfOk, OnOk};
 ghost use Rattle.std.specs.Option.{option_copied};
 ghost use Rattle.scl_values.specs.Words.{words_of};
 ghost use Rattle.scl_text.specs.Commands.{pairs_of};
+ghost use Rattle.scl_text.specs.Records.{path_of};
 ghost use Rattle.scl_text.specs.Runs.{runs_of};
-ghost use Rattle.scl_description.specs.Rows.{entry_text, entries_text, row_entry};
+ghost use Rattle.scl_description.specs.Rows.{entries_text, entry_rows, lone, row_entry, rows_of};
+ghost use Rattle.scl_description.specs.Takers.{Adds};
+ghost use Rattle.scl_reader.specs.AnswersGiven.{answer_of};
 ghost use Rattle.scl_reader.specs.CommandLines.{given_by};
 ghost use Rattle.scl_reader.specs.QuestionsGiven.{given};
 ghost use Rattle.scl_hazards.specs.Hazards.{tables_of};
 ghost use Rattle.scl_hazards.specs.Told.{given as given_told};
 ghost use Rattle.scl_describe.specs.SettingsRead.{settings_by};
-ghost use Rattle.scl_describe.specs.Descriptions.{runs_entry, pair_fields, environment_entry, hazards_entry, told_entries, wants_entry, question_entries, refused_entries, too_many_entries, undone_entries, version_entry};
+ghost use Rattle.scl_describe.specs.Descriptions.{answer_entries, cacheable_name, command_entries, runs_entry, environment_entry, hazards_entry, told_entries, wants_entry, writes_entry, question_entries, refused_entries, too_many_entries, undone_entries, version_entry};
 ghost use Rattle.scl_describe.specs.EffectRows.{effect_entries, effect_entry, row_name};
-ghost use Rattle.scl_describe.specs.DescriptionsGiven.{IsDescribed, compilation_entries, kept_told, outcome_given, text_given};
+ghost use Rattle.scl_describe.specs.DescriptionsGiven.{IsDescribed, compilation_entries, entries_given, kept_told, outcome_given, rows_given, text_given};
 
+use crate::dependency_file::writes_wanted;
 use crate::found::{options_wanted, questions_wanted, runs_wanted, told_wanted};
-use crate::keeping::{Kept, kept_in, push_kept, push_last};
-use crate::option_lines::{push_index, push_options};
+use crate::keeping::{Kept, kept_in, tell_kept, tell_last};
+use crate::option_lines::{tell_index, tell_options};
 use crate::settings::Settings;
 use scl_cl::answer_text;
-use scl_description::{push_maybe, push_record, push_row, push_row_of, push_word, push_yes};
+use scl_description::{
+    RowList, TakesRows, tell_maybe, tell_record, tell_row, tell_row_of, tell_word, tell_words,
+    tell_yes,
+};
 use scl_hazards::{Effect, Hazard, Tables, Told, Verb};
 use scl_reader::{CommandLine, Compilation, Questions, Reading};
 use scl_reasons::sentence;
 use scl_rows::{Row, refused_at};
 use scl_text::Mem;
-use scl_text::records::CompilerArguments;
+use scl_text::records::{Cacheable, CompilerArguments};
 use std::alloc::Global;
 
 /// What is described of a command line that was read, as far as settings want it (docs/RULES.md, Descriptions).
@@ -41,121 +48,140 @@ pub struct Description<'a> {
     pub options: Vec<Row>,
     /// What tables report of the compiler; the key is judged by it, so it is here where that is wanted too.
     pub told: Told<'a>,
+    /// The dependency file that Gcc or Clang writes, if it is no output of the record; it comes with what tables report.
+    pub writes: Option<Vec<u8>>,
     /// The questions of the answer.
     pub questions: Questions,
 }
 
-/// Appends a row for each run of the preprocessor.
-#[tactic(auto, unfolding(scl_description::specs::Rows::entry_text))]
-fn push_runs(text: &mut Vec<u8>, runs: &[Vec<Vec<u8>>]) -> Mem<()>
-    ensures { OnOk result (text.new.items ≡ text.old.items ++ entry_text (runs_entry (runs_of runs.now))) }
+/// Tells the row that says whether the outcome of a command may be kept.
+fn tell_cacheable<R: TakesRows>(rows: &mut R, cacheable: Cacheable) -> Mem<()>
+    ensures { OnOk result (Adds R.has rows.old rows.new (entry_rows (row_entry (codes "cacheable") (lone (cacheable_name cacheable))))) }
+{
+    match cacheable {
+        Cacheable::Yes => tell_word(rows, "cacheable", b"yes"),
+        Cacheable::No => tell_word(rows, "cacheable", b"no"),
+    }
+}
+
+/// Tells the lines of the answer of a command as rows.
+fn tell_command<R: TakesRows>(rows: &mut R, compilation: &Compilation) -> Mem<()>
+    ensures { OnOk result (Adds R.has rows.old rows.new (rows_of (command_entries (words_of compilation.now.command.arguments.items) compilation.now.cacheable))) }
+{
+    tell_yes(rows, "ok", true)?;
+    tell_words(rows, "arg", &compilation.command.arguments)?;
+    tell_cacheable(rows, compilation.cacheable)
+}
+
+/// Tells the lines of an answer as rows; a reason is one field.
+fn tell_answer<R: TakesRows>(rows: &mut R, answer: &CompilerArguments<Compilation>) -> Mem<()>
+    ensures { OnOk result (Adds R.has rows.old rows.new (rows_of (answer_entries (answer_of answer.now)))) }
+{
+    match answer {
+        CompilerArguments::Ok(compilation) => tell_command(rows, compilation),
+        CompilerArguments::CannotCache(reason, _) => {
+            tell_word(rows, "cannot-cache", reason.as_bytes())
+        }
+        CompilerArguments::NotCompilation => tell_yes(rows, "not-compilation", true),
+    }
+}
+
+/// Tells a row for each run of the preprocessor.
+fn tell_runs<R: TakesRows>(rows: &mut R, runs: &[Vec<Vec<u8>>]) -> Mem<()>
+    ensures { OnOk result (Adds R.has rows.old rows.new (entry_rows (runs_entry (runs_of runs.now)))) }
 {
     for run in runs {
-        push_row_of(text, "run", run)?;
+        tell_row_of(rows, "run", run)?;
     }
     Ok(())
 }
 
-/// Appends the row of a key and its value.
-fn push_variable(text: &mut Vec<u8>, pair: &(Vec<u8>, Vec<u8>)) -> Mem<()>
-    ensures { OnOk result (text.new.items ≡ text.old.items ++ entry_text (row_entry (codes "environment") (pair_fields (pair.now.0.items, pair.now.1.items)))) }
+/// Tells a row for each key and value.
+fn tell_environment<R: TakesRows>(rows: &mut R, pairs: &[(Vec<u8>, Vec<u8>)]) -> Mem<()>
+    ensures { OnOk result (Adds R.has rows.old rows.new (entry_rows (environment_entry (pairs_of pairs.now)))) }
 {
-    let (key, value) = pair;
-    push_row(text, "environment", &[key.as_slice(), value.as_slice()])
-}
-
-/// Appends a row for each key and value.
-#[tactic(auto, unfolding(scl_description::specs::Rows::entry_text))]
-fn push_environment(text: &mut Vec<u8>, pairs: &[(Vec<u8>, Vec<u8>)]) -> Mem<()>
-    ensures { OnOk result (text.new.items ≡ text.old.items ++ entry_text (environment_entry (pairs_of pairs.now))) }
-{
-    for pair in pairs {
-        push_variable(text, pair)?;
+    for (key, value) in pairs {
+        tell_row(rows, "environment", &[key.as_slice(), value.as_slice()])?;
     }
     Ok(())
 }
 
-/// Appends a row for each path that is in question.
-#[tactic(auto, unfolding(scl_description::specs::Rows::entry_text))]
-fn push_wants(text: &mut Vec<u8>, kind: &str, paths: &[Vec<u8>]) -> Mem<()>
-    ensures { OnOk result (text.new.items ≡ text.old.items ++ entry_text (wants_entry kind.now (words_of paths.now))) }
+/// Tells a row for each path that is in question.
+fn tell_wants<R: TakesRows>(rows: &mut R, kind: &str, paths: &[Vec<u8>]) -> Mem<()>
+    ensures { OnOk result (Adds R.has rows.old rows.new (entry_rows (wants_entry kind.now (words_of paths.now)))) }
 {
     for path in paths {
-        push_row(text, "wants", &[kind.as_bytes(), path.as_slice()])?;
+        tell_row(rows, "wants", &[kind.as_bytes(), path.as_slice()])?;
     }
     Ok(())
 }
 
-/// Appends the rows of the answer's questions.
-fn push_questions(text: &mut Vec<u8>, questions: &Questions) -> Mem<()>
-    ensures { OnOk result (text.new.items ≡ text.old.items ++ entries_text (question_entries (given questions.now))) }
+/// Tells the rows of the answer's questions.
+fn tell_questions<R: TakesRows>(rows: &mut R, questions: &Questions) -> Mem<()>
+    ensures { OnOk result (Adds R.has rows.old rows.new (rows_of (question_entries (given questions.now)))) }
 {
-    push_wants(text, "file", &questions.files)?;
-    push_wants(text, "dir", &questions.directories)?;
-    push_wants(text, "exists", &questions.existing)?;
-    Ok(())
+    tell_wants(rows, "file", &questions.files)?;
+    tell_wants(rows, "dir", &questions.directories)?;
+    tell_wants(rows, "exists", &questions.existing)
 }
 
-/// Appends the rows of a command line that has this command.
-fn push_compilation(
-    text: &mut Vec<u8>,
+/// Tells the rows of a command line that has this command.
+fn tell_compilation<R: TakesRows>(
+    rows: &mut R,
     described: &Description<'_>,
     compilation: &Compilation,
 ) -> Mem<()>
-    ensures { OnOk result (text.new.items ≡ text.old.items ++ entries_text (compilation_entries (runs_of described.now.runs.items) (kept_told described.now.kept) compilation.now)) }
+    ensures { OnOk result (Adds R.has rows.old rows.new (rows_of (compilation_entries (runs_of described.now.runs.items) (kept_told described.now.kept) compilation.now))) }
 {
-    push_record(text, &compilation.parsed)?;
-    push_runs(text, &described.runs)?;
-    push_environment(text, &compilation.command.env_vars)?;
-    push_kept(text, &described.kept)?;
-    Ok(())
+    tell_record(rows, &compilation.parsed)?;
+    tell_runs(rows, &described.runs)?;
+    tell_environment(rows, &compilation.command.env_vars)?;
+    tell_kept(rows, &described.kept)
 }
 
-/// Appends the row of the given word by which a command line compiles nothing.
-fn push_undone(alloc: Global, text: &mut Vec<u8>, at: Option<usize>) -> Mem<()>
-    ensures { OnOk result (text.new.items ≡ text.old.items ++ entries_text (undone_entries at)) }
+/// Tells the row of the given word by which a command line compiles nothing.
+fn tell_undone<R: TakesRows>(alloc: Global, rows: &mut R, at: Option<usize>) -> Mem<()>
+    ensures { OnOk result (Adds R.has rows.old rows.new (rows_of (undone_entries at))) }
 {
-    push_index(alloc, text, "at", at)
+    tell_index(alloc, rows, "at", at)
 }
 
-/// Appends the rows of a reason, and of the given word that is refused.
-fn push_refusal(
+/// Tells the rows of a reason, and of the given word that is refused.
+fn tell_refusal<R: TakesRows>(
     alloc: Global,
-    text: &mut Vec<u8>,
+    rows: &mut R,
     reason: &str,
     because: Option<&str>,
     at: Option<usize>,
 ) -> Mem<()>
-    ensures { OnOk result (text.new.items ≡ text.old.items ++ entries_text (refused_entries reason.now (option_copied because.entry) at)) }
+    ensures { OnOk result (Adds R.has rows.old rows.new (rows_of (refused_entries reason.now (option_copied because.entry) at))) }
 {
-    push_word(text, "reason", reason.as_bytes())?;
-    push_maybe(text, "because", because.map(str::as_bytes))?;
-    push_index(alloc, text, "at", at)?;
-    push_word(text, "sentence", sentence(reason).as_bytes())?;
-    Ok(())
+    tell_word(rows, "reason", reason.as_bytes())?;
+    tell_maybe(rows, "because", because.map(str::as_bytes))?;
+    tell_index(alloc, rows, "at", at)?;
+    tell_word(rows, "sentence", sentence(reason).as_bytes())
 }
 
-/// Appends the rows of what was read, or of why nothing was.
-fn push_outcome(alloc: Global, text: &mut Vec<u8>, described: &Description<'_>) -> Mem<()>
-    ensures { OnOk result (text.new.items ≡ text.old.items ++ entries_text (outcome_given described.now)) }
+/// Tells the rows of what was read, or of why nothing was.
+fn tell_outcome<R: TakesRows>(alloc: Global, rows: &mut R, described: &Description<'_>) -> Mem<()>
+    ensures { OnOk result (Adds R.has rows.old rows.new (rows_of (outcome_given described.now))) }
 {
     let at = refused_at(&described.options);
     match &described.answer {
-        CompilerArguments::Ok(compilation) => push_compilation(text, described, compilation),
+        CompilerArguments::Ok(compilation) => tell_compilation(rows, described, compilation),
         CompilerArguments::CannotCache(reason, because) => {
-            push_refusal(alloc, text, reason, because.as_deref(), at)
+            tell_refusal(alloc, rows, reason, because.as_deref(), at)
         }
-        CompilerArguments::NotCompilation => push_undone(alloc, text, at),
+        CompilerArguments::NotCompilation => tell_undone(alloc, rows, at),
     }
 }
 
-/// Appends a row for each hazard.
-#[tactic(auto, unfolding(scl_description::specs::Rows::entry_text))]
-fn push_hazards(text: &mut Vec<u8>, hazards: &[Hazard<'_>]) -> Mem<()>
-    ensures { OnOk result (text.new.items ≡ text.old.items ++ entry_text (hazards_entry hazards.now)) }
+/// Tells a row for each hazard.
+fn tell_hazards<R: TakesRows>(rows: &mut R, hazards: &[Hazard<'_>]) -> Mem<()>
+    ensures { OnOk result (Adds R.has rows.old rows.new (entry_rows (hazards_entry hazards.now))) }
 {
     for hazard in hazards {
-        push_word(text, "hazard", hazard.name())?;
+        tell_word(rows, "hazard", hazard.name())?;
     }
     Ok(())
 }
@@ -175,40 +201,47 @@ fn row_name(verb: Verb, is_like: bool) -> &'static str
     }
 }
 
-/// Appends the row of an effect.
-fn push_effect(text: &mut Vec<u8>, effect: &Effect) -> Mem<()>
-    ensures { OnOk result (text.new.items ≡ text.old.items ++ entry_text (effect_entry effect.now)) }
+/// Tells the row of an effect.
+fn tell_effect<R: TakesRows>(rows: &mut R, effect: &Effect) -> Mem<()>
+    ensures { OnOk result (Adds R.has rows.old rows.new (entry_rows (effect_entry effect.now))) }
 {
-    push_word(
-        text,
+    tell_word(
+        rows,
         row_name(effect.verb(), effect.is_like()),
         effect.name(),
     )
 }
 
-/// Appends a row for each effect.
-fn push_effects(text: &mut Vec<u8>, effects: &[Effect]) -> Mem<()>
-    ensures { OnOk result (text.new.items ≡ text.old.items ++ entries_text (effect_entries effects.now)) }
+/// Tells a row for each effect.
+fn tell_effects<R: TakesRows>(rows: &mut R, effects: &[Effect]) -> Mem<()>
+    ensures { OnOk result (Adds R.has rows.old rows.new (rows_of (effect_entries effects.now))) }
 {
     for effect in effects {
-        push_effect(text, effect)?;
+        tell_effect(rows, effect)?;
     }
     Ok(())
 }
 
-/// Appends the rows of what is reported.
-fn push_told(text: &mut Vec<u8>, told: &Told<'_>) -> Mem<()>
-    ensures { OnOk result (text.new.items ≡ text.old.items ++ entries_text (told_entries (given_told told.now))) }
+/// Tells the rows of what is reported.
+fn tell_told<R: TakesRows>(rows: &mut R, told: &Told<'_>) -> Mem<()>
+    ensures { OnOk result (Adds R.has rows.old rows.new (rows_of (told_entries (given_told told.now)))) }
 {
-    push_hazards(text, &told.hazards)?;
-    push_effects(text, &told.effects)
+    tell_hazards(rows, &told.hazards)?;
+    tell_effects(rows, &told.effects)
 }
 
-/// Appends the row of the rows' version.
-fn push_version(text: &mut Vec<u8>) -> Mem<()>
-    ensures { OnOk result (text.new.items ≡ text.old.items ++ entry_text version_entry) }
+/// Tells the row of the dependency file, if there is one.
+fn tell_writes<R: TakesRows>(rows: &mut R, described: &Description<'_>) -> Mem<()>
+    ensures { OnOk result (Adds R.has rows.old rows.new (entry_rows (writes_entry (path_of described.now.writes)))) }
 {
-    push_word(text, "version", b"1")
+    tell_maybe(rows, "writes", described.writes.as_deref())
+}
+
+/// Tells the row of the rows' version.
+fn tell_version<R: TakesRows>(rows: &mut R) -> Mem<()>
+    ensures { OnOk result (Adds R.has rows.old rows.new (entry_rows version_entry)) }
+{
+    tell_word(rows, "version", b"1")
 }
 
 impl<'a> Description<'a> {
@@ -226,6 +259,7 @@ impl<'a> Description<'a> {
         let runs = runs_wanted(alloc, settings, &reading)?;
         let options = options_wanted(alloc, settings, &reading)?;
         let told = told_wanted(alloc, tables, settings, &reading, line)?;
+        let writes = writes_wanted(alloc, settings, &reading)?;
         let questions = questions_wanted(alloc, settings, &reading, line)?;
         let answer = reading.into_answer(alloc, b"", line)?;
         let mut described = Description {
@@ -234,10 +268,24 @@ impl<'a> Description<'a> {
             kept: Kept::Nothing,
             options,
             told,
+            writes,
             questions,
         };
         described.kept = kept_in(alloc, compiler, settings, line.words, &described)?;
         Ok(described)
+    }
+
+    /// Tells the rows after the answer's lines.
+    pub fn tell<R: TakesRows>(&self, alloc: Global, rows: &mut R) -> Mem<()>
+        ensures { OnOk result (Adds R.has rows.old rows.new (rows_of (entries_given self.now))) }
+    {
+        tell_version(rows)?;
+        tell_outcome(alloc, rows, self)?;
+        tell_options(alloc, rows, &self.options)?;
+        tell_told(rows, &self.told)?;
+        tell_writes(rows, self)?;
+        tell_questions(rows, &self.questions)?;
+        tell_last(rows, &self.kept)
     }
 
     /// Its text: the answer's lines, and after them the rows.
@@ -245,23 +293,34 @@ impl<'a> Description<'a> {
         ensures { IfOk result (λ text. text.items ≡ text_given self.now) }
     {
         let mut text = answer_text(alloc, &self.answer)?;
-        push_version(&mut text)?;
-        push_outcome(alloc, &mut text, self)?;
-        push_options(alloc, &mut text, &self.options)?;
-        push_told(&mut text, &self.told)?;
-        push_questions(&mut text, &self.questions)?;
-        push_last(&mut text, &self.kept)?;
+        self.tell(alloc, &mut text)?;
         Ok(text)
+    }
+
+    /// Its rows as values: the answer's lines, a reason as one field, and after them the rows.
+    pub fn rows(&self, alloc: Global) -> Mem<Vec<Vec<Vec<u8>>>>
+        ensures { IfOk result (λ rows. runs_of rows.items ≡ rows_given self.now) }
+    {
+        let mut list = RowList::new(alloc);
+        tell_answer(&mut list, &self.answer)?;
+        self.tell(alloc, &mut list)?;
+        Ok(list.into_rows())
     }
 }
 
+/// Tells the rows if a command line has too many words.
+fn tell_too_many<R: TakesRows>(rows: &mut R) -> Mem<()>
+    ensures { OnOk result (Adds R.has rows.old rows.new (rows_of too_many_entries)) }
+{
+    tell_yes(rows, "too-many-words", true)?;
+    tell_version(rows)
+}
+
 /// The text if a command line has too many words.
-#[tactic(auto, unfolding(scl_description::specs::Rows::entry_text))]
 pub(crate) fn too_many_words(alloc: Global) -> Mem<Vec<u8>>
     ensures { IfOk result (λ text. text.items ≡ entries_text too_many_entries) }
 {
     let mut text = Vec::new(alloc);
-    push_yes(&mut text, "too-many-words", true)?;
-    push_version(&mut text)?;
+    tell_too_many(&mut text)?;
     Ok(text)
 }

@@ -10,8 +10,8 @@ ghost use Rattle.scl_hazards.specs.Hazards.{tables_of};
 ghost use Rattle.scl_describe.specs.Descriptions.{DescribesBytes, description};
 
 use crate::described::{Description, too_many_words};
-use crate::settings::{Settings, read_settings};
-use scl_cl::{Counted, Outcome, Request, Service, read_request, serve};
+use crate::settings::Settings;
+use scl_cl::{Counted, Outcome, Request, Service, read_lines, serve};
 use scl_hazards::Tables;
 use scl_text::{Mem, TooManyWords};
 use std::alloc::Global;
@@ -51,11 +51,14 @@ impl<'a> Service for Descriptions<'a> {
 
     ghost answers = { λ service bytes said. DescribesBytes (tables_of service.tables) bytes said };
 
+    #[tactic(auto, using(crate::proofs::FindingLaws::describes_bytes))]
     fn answer(&self, alloc: Global, bytes: Vec<u8>) -> Mem<Result<Vec<u8>, u64>> {
-        let (settings, lines) = read_settings(alloc, &bytes)?;
+        let mut settings = Settings::new(alloc);
+        let read = read_lines(alloc, None, 1, &bytes, &mut settings)?;
         drop(bytes);
-        match read_request(alloc, &lines)? {
+        match read {
             Ok(request) => {
+                settings.trim_bases(alloc)?;
                 Ok(Ok(request_description(alloc, &self.tables, &settings, &request)?))
             }
             Err(number) => Ok(Err(number)),

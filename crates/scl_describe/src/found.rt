@@ -72,13 +72,8 @@ pub(crate) fn runs_wanted(
     if !settings.wanted().runs {
         return Ok(Vec::new(alloc));
     }
-    reading.runs(
-        alloc,
-        copy_text(alloc, &settings.version)?,
-        settings.may_dist,
-        settings.rewrite_includes_only,
-        settings.cache_mode,
-    )
+    let version = copy_text(alloc, &settings.version)?;
+    reading.runs(alloc, version, settings.runs)
 }
 
 /// The rows of options, if they are wanted.

@@ -1,11 +1,12 @@
 //! What is said of keeping what a command line makes.
-ghost use Rattle.std.specs.Prelude.{◌≡◌, ◌++◌, ◌∷◌, [], codes, IfOk, OnOk};
+ghost use Rattle.std.specs.Prelude.{◌≡◌, ◌∷◌, [], codes, IfOk, OnOk};
 ghost use Rattle.std.specs.List.{list_any};
 ghost use Rattle.std.specs.Option.{option_copied, option_map};
 ghost use Rattle.scl_values.specs.Words.{words_of};
 ghost use Rattle.scl_text.specs.Commands.{pairs_of};
 ghost use Rattle.scl_text.specs.Records.{parsed_of};
-ghost use Rattle.scl_description.specs.Rows.{entries_text, entry_text, row_entry};
+ghost use Rattle.scl_description.specs.Rows.{entry_rows, row_entry, rows_of};
+ghost use Rattle.scl_description.specs.Takers.{Adds};
 ghost use Rattle.scl_hazards.specs.Told.{given};
 ghost use Rattle.scl_key.specs.Doings.{with_effects};
 ghost use Rattle.scl_key.specs.Keys.{keeping_of};
@@ -18,9 +19,9 @@ ghost use Rattle.scl_describe.specs.SettingsRead.{settings_by};
 use crate::described::Description;
 use crate::settings::Settings;
 use scl_delivered::{Delivered, Delivery, deliver};
-use scl_description::{push_row, push_word};
+use scl_description::{TakesRows, tell_row, tell_word};
 use scl_hazards::{Danger, Effect, Hazard};
-use scl_key::{Keeping, Key, NoKey, RunWords, key_of, push_no_rows, with_effects};
+use scl_key::{Keeping, Key, NoKey, RunWords, key_of, tell_no_rows, with_effects};
 use scl_reader::{Compilation, Compiler};
 use scl_text::Mem;
 use scl_text::records::{Cacheable, CompilerArguments, ParsedArguments};
@@ -170,39 +171,39 @@ pub(crate) fn kept_in(
     }
 }
 
-/// Appends the rows of a key that stand before those of options, and that this is all.
-fn push_under(text: &mut Vec<u8>, key: &Delivered) -> Mem<()>
-    ensures { OnOk result (text.new.items ≡ text.old.items ++ entries_text (under_entries (delivered_of key.now))) }
+/// Tells the rows of a key that stand before those of options, and that this is all.
+fn tell_under<R: TakesRows>(rows: &mut R, key: &Delivered) -> Mem<()>
+    ensures { OnOk result (Adds R.has rows.old rows.new (rows_of (under_entries (delivered_of key.now)))) }
 {
-    key.push_rows(text)?;
-    push_word(text, "keep", b"yes")
+    key.tell_rows(rows)?;
+    tell_word(rows, "keep", b"yes")
 }
 
-/// Appends the row of the option of which nothing is known.
-fn push_unknown(text: &mut Vec<u8>, word: &[u8]) -> Mem<()>
-    ensures { OnOk result (text.new.items ≡ text.old.items ++ entry_text (row_entry (codes "keep") (codes "unknown" ∷ word.now ∷ []))) }
+/// Tells the row of the option of which nothing is known.
+fn tell_unknown<R: TakesRows>(rows: &mut R, word: &[u8]) -> Mem<()>
+    ensures { OnOk result (Adds R.has rows.old rows.new (entry_rows (row_entry (codes "keep") (codes "unknown" ∷ word.now ∷ [])))) }
 {
-    push_row(text, "keep", &[b"unknown".as_slice(), word])
+    tell_row(rows, "keep", &[b"unknown".as_slice(), word])
 }
 
-/// Appends the rows of what is said that stand before those of options.
-pub(crate) fn push_kept(text: &mut Vec<u8>, kept: &Kept) -> Mem<()>
-    ensures { OnOk result (text.new.items ≡ text.old.items ++ entries_text (kept_entries (kept_told kept.now))) }
+/// Tells the rows of what is said that stand before those of options.
+pub(crate) fn tell_kept<R: TakesRows>(rows: &mut R, kept: &Kept) -> Mem<()>
+    ensures { OnOk result (Adds R.has rows.old rows.new (rows_of (kept_entries (kept_told kept.now)))) }
 {
     match kept {
         Kept::Nothing => Ok(()),
-        Kept::Under(key) => push_under(text, key),
-        Kept::Unknown(word) => push_unknown(text, word),
-        Kept::Not(why) => push_no_rows(text, why),
+        Kept::Under(key) => tell_under(rows, key),
+        Kept::Unknown(word) => tell_unknown(rows, word),
+        Kept::Not(why) => tell_no_rows(rows, why),
     }
 }
 
-/// Appends the rows of what is said that stand at the end.
-pub(crate) fn push_last(text: &mut Vec<u8>, kept: &Kept) -> Mem<()>
-    ensures { OnOk result (text.new.items ≡ text.old.items ++ entries_text (last_entries (kept_told kept.now))) }
+/// Tells the rows of what is said that stand at the end.
+pub(crate) fn tell_last<R: TakesRows>(rows: &mut R, kept: &Kept) -> Mem<()>
+    ensures { OnOk result (Adds R.has rows.old rows.new (rows_of (last_entries (kept_told kept.now)))) }
 {
     match kept {
-        Kept::Under(key) => key.push_last_rows(text),
+        Kept::Under(key) => key.tell_last_rows(rows),
         Kept::Nothing | Kept::Unknown(_) | Kept::Not(_) => Ok(()),
     }
 }

@@ -1,6 +1,7 @@
 //! Descriptions: an answer's lines, and after them rows of what was read.
 #![tactic(auto)]
 
+mod dependency_file;
 mod described;
 mod descriptions;
 mod found;

@@ -1,12 +1,13 @@
 //! The rows of a description that say what became of each option of a command line.
-ghost use Rattle.std.specs.Prelude.{◌≡◌, ◌++◌, IfOk, OnOk};
+ghost use Rattle.std.specs.Prelude.{◌≡◌, IfOk, OnOk};
 ghost use Rattle.std.specs.Option.{option_copied};
-ghost use Rattle.scl_description.specs.Rows.{entry_text};
+ghost use Rattle.scl_description.specs.Rows.{entry_rows};
+ghost use Rattle.scl_description.specs.Takers.{Adds};
 ghost use Rattle.scl_rows.specs.Rows.{told};
 ghost use Rattle.scl_values.specs.Words.{words_of};
 ghost use Rattle.scl_describe.specs.OptionLines.{bytes_field, fields_given, flag_fields, index_entry, number_field, options_given, place_fields};
 
-use scl_description::{push_row_of, push_word};
+use scl_description::{TakesRows, tell_row_of, tell_word};
 use scl_rows::Row;
 use scl_text::Mem;
 use scl_text::command::{append_words, push_words};
@@ -68,29 +69,27 @@ fn option_fields(alloc: Global, row: &Row) -> Mem<Vec<Vec<u8>>>
     Ok(fields)
 }
 
-/// Appends a row for each option.
-#[tactic(auto, unfolding(scl_description::specs::Rows::entry_text))]
-pub(crate) fn push_options(alloc: Global, text: &mut Vec<u8>, rows: &[Row]) -> Mem<()>
-    ensures { OnOk result (text.new.items ≡ text.old.items ++ entry_text (options_given rows.now)) }
+/// Tells a row for each option.
+pub(crate) fn tell_options<R: TakesRows>(alloc: Global, rows: &mut R, options: &[Row]) -> Mem<()>
+    ensures { OnOk result (Adds R.has rows.old rows.new (entry_rows (options_given options.now))) }
 {
-    for row in rows {
-        push_row_of(text, "option", &option_fields(alloc, row)?)?;
+    for option in options {
+        tell_row_of(rows, "option", &option_fields(alloc, option)?)?;
     }
     Ok(())
 }
 
-/// Appends the row of an index, if there is one.
-#[tactic(auto, unfolding(scl_description::specs::Rows::entry_text))]
-pub(crate) fn push_index(
+/// Tells the row of an index, if there is one.
+pub(crate) fn tell_index<R: TakesRows>(
     alloc: Global,
-    text: &mut Vec<u8>,
+    rows: &mut R,
     name: &str,
     index: Option<usize>,
 ) -> Mem<()>
-    ensures { OnOk result (text.new.items ≡ text.old.items ++ entry_text (index_entry name.now index)) }
+    ensures { OnOk result (Adds R.has rows.old rows.new (entry_rows (index_entry name.now index))) }
 {
     match index {
-        Some(index) => push_word(text, name, index.to_string(alloc)?.as_bytes()),
+        Some(index) => tell_word(rows, name, index.to_string(alloc)?.as_bytes()),
         None => Ok(()),
     }
 }

@@ -1,26 +1,22 @@
 //! The settings of a description beside its request: lines `setting`.
-ghost use Rattle.std.specs.Prelude.{◌≡◌, ◌++◌, IfOk, OnOk, string_bytes};
+ghost use Rattle.std.specs.Prelude.{◌≡◌, IfOk, OnOk, string_bytes};
 ghost use Rattle.std.specs.Option.{option_map};
-ghost use Rattle.scl_description.specs.Lines.{line, lines_of};
-ghost use Rattle.scl_describe.specs.Settings.{no_settings, with_setting, with_line, blanked, with_digit, number_of, is_absolute, base_in, setting_alone, setting_with, setting_of, settings_in, field_text, request_lines, wanted};
+ghost use Rattle.scl_describe.specs.Settings.{no_settings, with_setting, with_digit, with_trimmed_bases, number_of, is_absolute, base_in, setting_alone, setting_with, setting_of, field_text, wanted};
 ghost use Rattle.scl_describe.specs.SettingsRead.{settings_by, set_by};
 
-use crate::wants::{Part, Wants, part_of};
+use crate::wants::Wants;
 use scl_base_dirs::base_dirs;
-use scl_description::{cut_at, next_line, read_field};
-use scl_reader::Limits;
+use scl_cl::TakesLines;
+use scl_description::{Part, cut_at, part_of, read_field};
+use scl_reader::{Limits, RunOptions};
 use scl_text::{Mem, from_local_codepage};
 use std::alloc::Global;
 
 /// The settings of a description beside its request (docs/RULES.md, Descriptions).
 #[derive(Debug, Drop)]
 pub struct Settings {
-    /// Whether the runs of the preprocessor are for a distant compiler.
-    pub may_dist: bool,
-    /// Whether the runs leave macros in place.
-    pub rewrite_includes_only: bool,
-    /// Whether the runs are kept in a cache.
-    pub cache_mode: bool,
+    /// What the runs of the preprocessor are for.
+    pub runs: RunOptions,
     /// The text of the compiler's version, if it is known: numbers such as `14` or `14.0.6`, of which the first two count for
     /// hazards, or a text in which Apple's clang names itself.
     pub version: Option<String>,
@@ -54,9 +50,11 @@ impl Settings {
         ensures { settings_by result ≡ no_settings }
     {
         Settings {
-            may_dist: false,
-            rewrite_includes_only: false,
-            cache_mode: false,
+            runs: RunOptions {
+                may_dist: false,
+                rewrite_includes_only: false,
+                cache_mode: false,
+            },
             version: None,
             limits: Limits::standard(),
             wants: None,
@@ -72,14 +70,22 @@ impl Settings {
         self.wants.unwrap_or(Wants::everything())
     }
 
+    /// Takes the separators from the ends of the base directories.
+    pub(crate) fn trim_bases(&mut self, alloc: Global) -> Mem<()>
+        ensures { OnOk result (settings_by self.new ≡ with_trimmed_bases (settings_by self.old)) }
+    {
+        self.bases = base_dirs(alloc, &self.bases)?;
+        Ok(())
+    }
+
     /// Takes what a line says.
     fn take(&mut self, setting: Setting) -> Mem<()>
         ensures { OnOk result (settings_by self.new ≡ with_setting (settings_by self.old) (set_by setting)) }
     {
         match setting {
-            Setting::MayDist => self.may_dist = true,
-            Setting::RewriteIncludesOnly => self.rewrite_includes_only = true,
-            Setting::CacheMode => self.cache_mode = true,
+            Setting::MayDist => self.runs.may_dist = true,
+            Setting::RewriteIncludesOnly => self.runs.rewrite_includes_only = true,
+            Setting::CacheMode => self.runs.cache_mode = true,
             Setting::Version(text) => self.version = Some(text),
             Setting::Words(words) => self.limits.words = words,
             Setting::Bytes(bytes) => self.limits.bytes = bytes,
@@ -208,31 +214,24 @@ fn setting_of(alloc: Global, line: &[u8]) -> Mem<Option<Setting>>
     }
 }
 
-/// Takes a line: a setting, which is blank to the request, or a line of the request.
-fn take_line(alloc: Global, settings: &mut Settings, request: &mut Vec<u8>, text: &[u8]) -> Mem<()>
-    ensures settings { OnOk result (settings_by settings.new ≡ with_line (settings_by settings.old) text.now) }
-    ensures request { OnOk result (request.new.items ≡ request.old.items ++ line (blanked text.now)) }
-{
-    match setting_of(alloc, text)? {
-        Some(setting) => settings.take(setting)?,
-        None => request.extend_from_slice(text)?,
-    }
-    request.push(b'\n')?;
-    Ok(())
-}
+impl TakesLines for Settings {
+    ghost use Rattle.scl_describe.specs.Settings as specified;
+    ghost use Rattle.scl_describe.specs.Settings.{blanked, settings_from};
+    ghost use Rattle.scl_describe.specs.SettingsRead.{settings_by};
 
-/// The settings of a description's lines, and the lines of its request: the same, but that those of settings are blank.
-pub(crate) fn read_settings(alloc: Global, bytes: &[u8]) -> Mem<(Settings, Vec<u8>)>
-    ensures settings { IfOk result (λ read. settings_by read.0 ≡ settings_in (lines_of bytes.now)) }
-    ensures request { IfOk result (λ read. lines_of read.1.items ≡ request_lines (lines_of bytes.now)) }
-{
-    let mut settings = Settings::new(alloc);
-    let mut request = Vec::with_capacity(alloc, bytes.len())?;
-    let mut left = bytes;
-    while let Some((line, rest)) = next_line(left) {
-        take_line(alloc, &mut settings, &mut request, line)?;
-        left = rest;
+    ghost left = { blanked };
+
+    ghost Made = { specified.Settings };
+
+    ghost made = { λ settings lines. settings_from (settings_by settings) lines };
+
+    fn take_line<'a>(&mut self, alloc: Global, line: &'a [u8]) -> Mem<&'a [u8]> {
+        match setting_of(alloc, line)? {
+            Some(setting) => {
+                self.take(setting)?;
+                Ok(&[])
+            }
+            None => Ok(line),
+        }
     }
-    settings.bases = base_dirs(alloc, &settings.bases)?;
-    Ok((settings, request))
 }

@@ -7,7 +7,9 @@ use Rattle.scl_files.specs.Characters.{space}
 use Rattle.scl_values.specs.Escaped.{escaped}
 use Rattle.scl_description.specs.Lines.{line}
 use Rattle.scl_description.specs.Rows.{Entry, entry_rows, fields_behind, row_text, rows_of, rows_text, entry_text, entries_text}
+use Rattle.scl_description.specs.RowLists.{held}
 use Rattle.scl_description.specs.Takers.{Adds}
+use Rattle.scl_description.specs.declared.list.RowList.{RowList}
 use Rattle.scl_description.proofs.RecordLaws.{entries-rows}
 
 -- the text of rows, after which a row was written
@@ -56,3 +58,12 @@ entry_added old new e h = h old [] (sym (append-nil old.items))
 
 pub entries_added : (old new : Vec ℕ Global) (es : List Entry) → Adds text_has old new (rows_of es) → new.items ≡ old.items ++ entries_text es
 entries_added old new es h = h old [] (sym (append-nil old.items)) ∙ ap (λ (t : List ℕ). old.items ++ t) (sym (entries-rows es))
+
+-- ---- at a list
+
+abbrev pub list_has : RowList → RowList → List (List (List ℕ)) → Type 0
+list_has start list rows = held list ≡ held start ++ rows
+
+-- a list that took rows
+pub list_added : (old new : RowList) (rows : List (List (List ℕ))) → Adds list_has old new rows → held new ≡ held old ++ rows
+list_added old new rows h = h old [] (sym (append-nil (held old)))

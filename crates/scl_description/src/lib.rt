@@ -5,12 +5,16 @@
 mod cut;
 mod field;
 pub mod laws;
+mod list;
+mod names;
 mod record;
 mod row;
 mod taker;
 
 pub use cut::{cut_at, next_line};
 pub use field::{push_field, read_field, read_two_fields};
-pub use record::{push_record, tell_record};
-pub use row::{push_maybe, push_row, push_row_of, push_word, push_words, push_yes};
-pub use taker::TakesRows;
+pub use list::RowList;
+pub use names::{Part, part_of};
+pub use record::tell_record;
+pub use row::{push_word, push_yes};
+pub use taker::{TakesRows, tell_maybe, tell_row, tell_row_of, tell_word, tell_words, tell_yes};

@@ -1,8 +1,8 @@
 //! The record of a command line, as rows.
-ghost use Rattle.std.specs.Prelude.{◌≡◌, ◌++◌, codes, OnOk};
+ghost use Rattle.std.specs.Prelude.{◌≡◌, codes, OnOk};
 ghost use Rattle.scl_text.specs.Records.{artifact, artifacts, parsed_of};
 ghost use Rattle.scl_description.specs.Rows.{entry_rows, lone, row_entry, rows_of};
-ghost use Rattle.scl_description.specs.Records.{language_text, color_text, output_rest, outputs_entry, source_entries, output_entries, list_entries, file_entries, switch_entries, record_entries, description_of};
+ghost use Rattle.scl_description.specs.Records.{language_text, color_text, output_rest, outputs_entry, source_entries, output_entries, list_entries, file_entries, switch_entries, record_entries};
 ghost use Rattle.scl_description.specs.Takers.{Adds};
 
 use crate::taker::{TakesRows, tell_maybe, tell_word, tell_words, tell_yes};
@@ -139,7 +139,8 @@ fn tell_switches<R: TakesRows>(rows: &mut R, parsed: &ParsedArguments) -> Mem<()
     tell_maybe(rows, "too-hard", why)
 }
 
-/// Tells the rows of a record, whoever takes them: all of them, each once, in one order (docs/RULES.md, Descriptions).
+/// Tells the rows of a record: all of them, each once, in one order. It is read back from them (`laws::of_descriptions`;
+/// docs/RULES.md, Descriptions).
 pub fn tell_record<R: TakesRows>(rows: &mut R, parsed: &ParsedArguments) -> Mem<()>
     ensures { OnOk result (Adds R.has rows.old rows.new (rows_of (record_entries (parsed_of parsed.now)))) }
 {
@@ -148,11 +149,4 @@ pub fn tell_record<R: TakesRows>(rows: &mut R, parsed: &ParsedArguments) -> Mem<
     tell_lists(rows, parsed)?;
     tell_files(rows, parsed)?;
     tell_switches(rows, parsed)
-}
-
-/// Appends the rows of a record; it is read back from them (`laws::of_descriptions`; docs/RULES.md, Descriptions).
-pub fn push_record(text: &mut Vec<u8>, parsed: &ParsedArguments) -> Mem<()>
-    ensures { OnOk result (text.new.items ≡ text.old.items ++ description_of (parsed_of parsed.now)) }
-{
-    tell_record(text, parsed)
 }

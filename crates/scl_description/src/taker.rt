@@ -68,15 +68,29 @@ impl TakesRows for Vec<u8> {
     }
 }
 
+/// Tells a row with this name and these fields (docs/RULES.md, Descriptions).
+pub fn tell_row<R: TakesRows>(rows: &mut R, name: &str, fields: &[&[u8]]) -> Mem<()>
+    ensures { OnOk result (Adds R.has rows.old rows.new (entry_rows (row_entry name.now (map (λ field. field.now) fields.now)))) }
+{
+    rows.take(name, fields, &[])
+}
+
+/// Tells a row with this name and these words.
+pub fn tell_row_of<R: TakesRows>(rows: &mut R, name: &str, words: &[Vec<u8>]) -> Mem<()>
+    ensures { OnOk result (Adds R.has rows.old rows.new (entry_rows (row_entry name.now (words_of words.now)))) }
+{
+    rows.take(name, &[], words)
+}
+
 /// Tells a row with this name and this word.
-pub(crate) fn tell_word<R: TakesRows>(rows: &mut R, name: &str, word: &[u8]) -> Mem<()>
+pub fn tell_word<R: TakesRows>(rows: &mut R, name: &str, word: &[u8]) -> Mem<()>
     ensures { OnOk result (Adds R.has rows.old rows.new (entry_rows (row_entry name.now (lone word.now)))) }
 {
     rows.take(name, &[word], &[])
 }
 
 /// Tells for each word a row with this name.
-pub(crate) fn tell_words<R: TakesRows>(rows: &mut R, name: &str, words: &[Vec<u8>]) -> Mem<()>
+pub fn tell_words<R: TakesRows>(rows: &mut R, name: &str, words: &[Vec<u8>]) -> Mem<()>
     ensures { OnOk result (Adds R.has rows.old rows.new (entry_rows (words_entry name.now (words_of words.now)))) }
 {
     for word in words {
@@ -86,7 +100,7 @@ pub(crate) fn tell_words<R: TakesRows>(rows: &mut R, name: &str, words: &[Vec<u8
 }
 
 /// Tells the row of a word, if there is one.
-pub(crate) fn tell_maybe<R: TakesRows>(rows: &mut R, name: &str, word: Option<&[u8]>) -> Mem<()>
+pub fn tell_maybe<R: TakesRows>(rows: &mut R, name: &str, word: Option<&[u8]>) -> Mem<()>
     ensures { OnOk result (Adds R.has rows.old rows.new (entry_rows (maybe_entry name.now (option_copied word.entry)))) }
 {
     match word {
@@ -96,7 +110,7 @@ pub(crate) fn tell_maybe<R: TakesRows>(rows: &mut R, name: &str, word: Option<&[
 }
 
 /// Tells a row with only the name, if it holds.
-pub(crate) fn tell_yes<R: TakesRows>(rows: &mut R, name: &str, holds: bool) -> Mem<()>
+pub fn tell_yes<R: TakesRows>(rows: &mut R, name: &str, holds: bool) -> Mem<()>
     ensures { OnOk result (Adds R.has rows.old rows.new (entry_rows (yes_entry name.now holds))) }
 {
     if holds {

@@ -44,13 +44,13 @@ values_spoken l e = flat_map (value_spoken l e level.Outer) l.options ++ flat_ma
 abbrev pub effect_of : LineSeen → Verb → (file value : List ℕ) → Effect
 effect_of l verb file value = record { verb = verb; is_like = is_like file; name = filled l value (without_star file) }
 
--- one for each value, if the pattern has values; else one
-abbrev pub effects_by : LineSeen → Entry → Verb → (file : List ℕ) → List Effect
-effects_by l e verb file = map (effect_of l verb file) (if has_value file then values_spoken l e else [] ∷ [])
+-- the values that an entry's pattern is filled with: if it has a value, those that the entry speaks of, else an empty one
+abbrev pub values_filled : LineSeen → Entry → (file : List ℕ) → List (List ℕ)
+values_filled l e file = if has_value file then values_spoken l e else [] ∷ []
 
 abbrev pub effects_told : LineSeen → Entry → Tells → List Effect
 effects_told l e (form.Hazard danger) = []
-effects_told l e (form.Effect verb file) = effects_by l e verb file
+effects_told l e (form.Effect verb file) = map (effect_of l verb file) (values_filled l e file)
 effects_told l e form.Reason = []
 effects_told l e form.Plain = []
 

@@ -1,5 +1,5 @@
 -- Patterns of the names that an effect states: a text in which names in braces stand for parts of a command line.
-use Rattle.std.specs.Prelude.{ℕ, nat_eq, ◌==◌, Bool, true, false, not, ◌||◌, List, [], ◌∷◌, ◌++◌, length, take, ◌+◌, ◌-◌, codes, Option, None, Some, unwrap_or, if◌then◌else◌}
+use Rattle.std.specs.Prelude.{ℕ, nat_eq, ◌==◌, Bool, true, false, ◌||◌, List, [], ◌∷◌, ◌++◌, length, take, ◌+◌, ◌-◌, codes, Option, None, Some, unwrap_or, if◌then◌else◌}
 use Rattle.std.specs.List.{ends_with, slice_split}
 use Rattle.std.specs.Str.{bytes_eq}
 use Rattle.scl_catalogue.specs.Found.{LineSeen, holds}

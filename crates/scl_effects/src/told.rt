@@ -2,11 +2,11 @@
 ghost use Rattle.std.specs.Prelude.{◌≡◌, ◌++◌, map, IfOk, OnOk};
 ghost use Rattle.std.specs.List.{flat_map};
 ghost use Rattle.scl_catalogue.specs.Views.{entry_of, line_of, seen_of, tells_of};
-ghost use Rattle.scl_effects.specs.Effects.{behind_equals, effect_of, effects_among, effects_by, effects_told, value_of, value_spoken, values_spoken};
+ghost use Rattle.scl_effects.specs.Effects.{behind_equals, effects_among, effects_told, value_of, value_spoken, values_filled};
 
 use crate::effect::{Effect, effect_of};
 use crate::file::has_value;
-use scl_catalogue::{Entry, Level, Line, Seen, Standing, Tells, Verb};
+use scl_catalogue::{Entry, Level, Line, Seen, Standing, Tells};
 use scl_values::Mem;
 use std::alloc::Global;
 
@@ -64,51 +64,23 @@ fn push_values<'a>(
     Ok(())
 }
 
-/// The values of the options that the entry speaks of.
-fn values_spoken<'a>(alloc: Global, line: &Line<'a>, entry: &Entry<'_>) -> Mem<Vec<&'a [u8]>>
-    ensures { IfOk result (λ values. map (λ value. value.now) values.items ≡ values_spoken (line_of line.now) (entry_of entry.now)) }
+/// The values that an entry's pattern is filled with: if it has a value, those that the entry speaks of, else an empty one.
+fn values_filled<'a>(
+    alloc: Global,
+    line: &Line<'a>,
+    entry: &Entry<'_>,
+    file: &[u8],
+) -> Mem<Vec<&'a [u8]>>
+    ensures { IfOk result (λ values. map (λ value. value.now) values.items ≡ values_filled (line_of line.now) (entry_of entry.now) file.now) }
 {
     let mut values = Vec::new(alloc);
-    push_values(&mut values, line, entry, Level::Outer, line.options)?;
-    push_values(&mut values, line, entry, Level::Inner, line.inner)?;
-    Ok(values)
-}
-
-/// Appends an effect for each value.
-fn push_each(
-    alloc: Global,
-    effects: &mut Vec<Effect>,
-    line: &Line<'_>,
-    verb: Verb,
-    file: &[u8],
-    values: &[&[u8]],
-) -> Mem<()>
-    ensures { OnOk result (effects.new.items ≡ effects.old.items ++ map (effect_of (line_of line.now) verb file.now) (map (λ value. value.now) values.now)) }
-{
-    for value in values {
-        let effect = effect_of(alloc, line, verb, file, value)?;
-        effects.push(effect)?;
-    }
-    Ok(())
-}
-
-/// Appends the effects of an entry that states this one.
-fn push_effects(
-    alloc: Global,
-    effects: &mut Vec<Effect>,
-    line: &Line<'_>,
-    entry: &Entry<'_>,
-    verb: Verb,
-    file: &[u8],
-) -> Mem<()>
-    ensures { OnOk result (effects.new.items ≡ effects.old.items ++ effects_by (line_of line.now) (entry_of entry.now) verb file.now) }
-{
     if has_value(file) {
-        let values = values_spoken(alloc, line, entry)?;
-        push_each(alloc, effects, line, verb, file, &values)
+        push_values(&mut values, line, entry, Level::Outer, line.options)?;
+        push_values(&mut values, line, entry, Level::Inner, line.inner)?;
     } else {
-        push_each(alloc, effects, line, verb, file, &[b"".as_slice()])
+        values.push(&[])?;
     }
+    Ok(values)
 }
 
 /// Appends the effects that an entry states.
@@ -120,10 +92,13 @@ fn push_told(
 ) -> Mem<()>
     ensures { OnOk result (effects.new.items ≡ effects.old.items ++ effects_told (line_of line.now) (entry_of entry.now) (tells_of entry.now.tells)) }
 {
-    match entry.tells {
-        Tells::Effect(verb, file) => push_effects(alloc, effects, line, entry, verb, file),
-        Tells::Hazard(_) | Tells::Reason | Tells::Plain => Ok(()),
+    let Tells::Effect(verb, file) = entry.tells else {
+        return Ok(());
+    };
+    for value in &values_filled(alloc, line, entry, file)? {
+        effects.push(effect_of(alloc, line, verb, file, value)?)?;
     }
+    Ok(())
 }
 
 /// The effects that entries state of a line, in their order.

@@ -1,15 +1,14 @@
 -- The request about a command line, from all of its words.
-use Rattle.std.specs.Prelude.{◌≡◌, ℕ, ◌+◌, false, List, [], ◌∷◌, ◌++◌, Option, None, Some, slice_index_or, take, drop}
+use Rattle.std.specs.Prelude.{◌≡◌, ℕ, ◌+◌, List, [], ◌∷◌, ◌++◌, Option, None, Some, slice_index_or, take, drop}
 use Rattle.scl_values.specs.Words.{words_of}
 use Rattle.scl_text.specs.Commands.{pairs_of}
 use Rattle.scl_names.specs.Launchers.{assignment_at, program_behind}
 use Rattle.scl_names.specs.Names.{compiler_of}
-use Rattle.scl_describe.specs.Settings.{no_settings}
-use Rattle.scl_describe.specs.SettingsRead.{settings_by}
 use Rattle.scl_reader.specs.declared.compiler.Compiler.{Compiler}
 use Rattle.scl_explain.specs.declared.case.Case.{Case}
 use Rattle.scl_explain.specs.declared.case.CaseError.{CaseError}
 use Rattle.scl_explain.specs.declared.case.CaseError.TheVariants as errors
+use Rattle.scl_explain.specs.declared.case.Conditions.{Conditions}
 use Rattle.scl_explain.specs.declared.case.Divided.{Divided}
 
 -- the compiler that was named, else the one that the program's name names
@@ -38,18 +37,17 @@ pub record IsDivided (all : List (List ℕ)) (at : ℕ) (divided : Divided) : Ty
   pub words : words_of divided.words.items ≡ drop (at + 1) all
 
 -- the program is the first word that may be one, the words are those after it, and the variables those that words before it
--- assign, the last first, and then those that are given: of several values of a variable the first counts. One architecture is
--- allowed, and nothing is set
-pub record IsCase (launchers all : List (List ℕ)) (named : Option Compiler) (cwd : List ℕ) (env_vars : List (List ℕ × List ℕ)) (case : Case) : Type 0 where
+-- assign, the last first, and then those of the conditions: of several values of a variable the first counts
+pub record IsCase (launchers all : List (List ℕ)) (named : Option Compiler) (conditions : Conditions) (case : Case) : Type 0 where
   pub at : ℕ
   pub program_at : program_behind launchers all ≡ Some at
   pub program : case.program.items ≡ slice_index_or all at []
   pub words : words_of case.words.items ≡ drop (at + 1) all
   pub compiler : compiler_for named case.program.items ≡ Some case.compiler
-  pub directory : case.cwd.items ≡ cwd
-  pub variables : pairs_of case.env_vars.items ≡ assigned (take at all) ++ env_vars
-  pub multiarch : case.multiarch ≡ false
-  pub settings : settings_by case.settings ≡ no_settings
+  pub directory : case.cwd ≡ conditions.cwd
+  pub variables : pairs_of case.env_vars.items ≡ assigned (take at all) ++ pairs_of conditions.env_vars.items
+  pub multiarch : case.multiarch ≡ conditions.multiarch
+  pub settings : case.settings ≡ conditions.settings
 
 -- no word may be a program, or no compiler is named and the program's name names none
 abbrev pub IsNoCase : (launchers all : List (List ℕ)) → Option Compiler → CaseError → Type 0

@@ -6,6 +6,7 @@ use Rattle.scl_text.specs.Commands.{pairs_of}
 use Rattle.scl_hazards.specs.Hazards.{Hazard, Tables}
 use Rattle.scl_reader.specs.CommandLines.{Request, asked}
 use Rattle.scl_reader.specs.Answers.{Answer, answer_to, reading_by}
+use Rattle.scl_reader.specs.Questions.{Extends, HasNoneOf, questions_of}
 use Rattle.scl_describe.specs.Descriptions.{told_for}
 use Rattle.scl_describe.specs.Hazards.{known_by, told_by}
 use Rattle.scl_describe.specs.OptionRows.{rows_by}
@@ -27,6 +28,10 @@ request_of case view = asked case.compiler (words_of case.words.items) case.cwd.
 -- so it is in each view of which this holds, and in which several architectures are allowed as for the case
 abbrev pub InEach : (Viewed → Type 0) → Case → (Viewed → Type 0) → Type 0
 InEach holds case is = (held : Viewed) → holds held → held.is_multiarch ≡ case.multiarch → is held
+
+-- the answer to a case is this on each disk that has what the view has, and none of the questions of its answer
+abbrev pub Decides : Viewed → Case → Answer → Type 0
+Decides view case answer = (disk : Viewed) → Extends disk view → HasNoneOf disk (questions_of (request_of case view)) → answer_to (request_of case disk) ≡ answer
 
 -- what is reported of a case on each disk of which this holds is what is reported of it in the view: the answer, the record or
 -- why there is none, the rows, and what the tables report

@@ -9,7 +9,7 @@ ghost use Rattle.scl_reader.specs.Reads.{read_of};
 ghost use Rattle.scl_describe.specs.DescriptionsGiven.{AreOf};
 ghost use Rattle.scl_describe.specs.SettingsRead.{settings_by};
 ghost use Rattle.scl_load.specs.Loads.{IsDiskError, IsLoaded};
-ghost use Rattle.scl_explain.specs.Said.{InEach, IsDecided, IsNotLoaded, load_for, request_of};
+ghost use Rattle.scl_explain.specs.Said.{Decides, InEach, IsDecided, IsNotLoaded, load_for, request_of};
 ghost use Rattle.scl_explain.specs.Seen.{IsSeen};
 
 use crate::case::Case;
@@ -97,10 +97,10 @@ fn answer_loaded<'a>(
     })
 }
 
-/// The answer to a command line on a disk, which is queried for response files, directories and other paths, and what is
-/// described beside it, by tables and as the settings of the case request it. A read that fails is `Disk` with its error;
-/// `TooManyWords` and `TooManyRounds` where response files give more words than the case's limit or are opened more often, or
-/// where 2^12 name each the next.
+/// The answer to a command line on a disk, and what is described beside it, by tables and as the settings of the case request
+/// it. The disk is queried for response files, directories and other paths. What the view has of them decides the answer, also
+/// on any other disk. A read that fails is `Disk` with its error. `TooManyWords` and `TooManyRounds`: response files give more
+/// words than the case's limit or are opened more often, or 2^12 name each the next.
 pub fn answer_case<'a, D: Disk>(
     alloc: Global,
     disk: &D,
@@ -110,6 +110,7 @@ pub fn answer_case<'a, D: Disk>(
     ensures answer { IfOk result (λ said. IfOk said (λ answered. InEach (D.holds disk.now) case.now (λ held. answer_to (request_of case.now held) ≡ answer_of answered.description.answer))) }
     ensures described { IfOk result (λ said. IfOk said (λ answered. AreOf (tables_of tables.now) (settings_by case.now.settings) (request_of case.now answered.view) answered.description)) }
     ensures decided { IfOk result (λ said. IfOk said (λ answered. IsDecided (tables_of tables.now) (D.holds disk.now) case.now answered.view)) }
+    ensures decides { IfOk result (λ said. IfOk said (λ answered. Decides answered.view case.now (answer_of answered.description.answer))) }
     ensures seen { IfOk result (λ said. IfOk said (λ answered. IsSeen answered.view (words_of answered.response_files.items) (words_of answered.missing_files.items))) }
     ensures end { IfOk result (λ said. IfErr said (IsNotLoaded (D.holds disk.now) case.now)) }
     ensures error { IfOk result (λ said. IfErr said (λ error. IsDiskError (D.fails disk.now) error)) }

@@ -30,6 +30,19 @@ pub struct Case {
     pub settings: Settings,
 }
 
+/// What a command line has besides its words.
+#[derive(Drop)]
+pub struct Conditions {
+    /// The directory that it is run in.
+    pub cwd: Vec<u8>,
+    /// The variables of its environment that are known.
+    pub env_vars: Vec<(Vec<u8>, Vec<u8>)>,
+    /// Whether several architectures are allowed.
+    pub multiarch: bool,
+    /// How it is described.
+    pub settings: Settings,
+}
+
 /// Why words are no command line of a compiler that is served.
 #[derive(Debug, Drop, Error)]
 pub enum CaseError {
@@ -116,20 +129,18 @@ fn quoted(alloc: Global, program: &[u8]) -> Mem<String> {
 
 impl Case {
     /// The command line that these words are, the program's included: launchers, also of these further names, and assignments
-    /// before it are left out, and the variables that are assigned come before `env_vars`, the last first, since of several
-    /// values the first counts. It is `named`'s, where a compiler is named, and else that of the compiler that the program's name
-    /// names; `UnknownCompiler` where it names none, `NoProgram` where no word may be a program. One architecture is allowed, and
-    /// the settings are new.
+    /// before it are left out. The variables that are assigned come before those of the conditions, the last first, since of
+    /// several values the first counts. It is `named`'s, where a compiler is named, and else that of the compiler that the
+    /// program's name names. `UnknownCompiler` where it names none, `NoProgram` where no word may be a program.
     #[tactic(auto, using(crate::proofs::CaseLemmas::program_inside))]
     pub fn of_words(
         alloc: Global,
         all: Vec<Vec<u8>>,
         launchers: &[Vec<u8>],
         named: Option<Compiler>,
-        cwd: Vec<u8>,
-        env_vars: Vec<(Vec<u8>, Vec<u8>)>,
+        conditions: Conditions,
     ) -> Mem<Result<Case, CaseError>>
-        ensures { IfOk result (λ said. MatchResult said (IsCase (words_of launchers.now) (words_of all.items) named cwd.items (pairs_of env_vars.items)) (IsNoCase (words_of launchers.now) (words_of all.items) named)) }
+        ensures { IfOk result (λ said. MatchResult said (IsCase (words_of launchers.now) (words_of all.items) named conditions) (IsNoCase (words_of launchers.now) (words_of all.items) named)) }
     {
         let Some(at) = program_behind(alloc, launchers, &all)? else {
             return Ok(Err(CaseError::NoProgram));
@@ -143,15 +154,15 @@ impl Case {
         let Some(compiler) = compiler_for(alloc, named, &program)? else {
             return Ok(Err(CaseError::UnknownCompiler(number, quoted(alloc, &program)?)));
         };
-        let env_vars = with_assigned(alloc, env_vars, &front)?;
+        let env_vars = with_assigned(alloc, conditions.env_vars, &front)?;
         Ok(Ok(Case {
             compiler,
             program,
             words,
-            cwd,
+            cwd: conditions.cwd,
             env_vars,
-            multiarch: false,
-            settings: Settings::new(alloc),
+            multiarch: conditions.multiarch,
+            settings: conditions.settings,
         }))
     }
 }

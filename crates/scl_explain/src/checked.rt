@@ -10,9 +10,8 @@ use crate::case::Case;
 use crate::hazards::hazards_text;
 use crate::refusal::ending_line;
 use crate::reply::{Form, Reply, unread};
-use crate::report::Report;
+use crate::report::{Means, Report};
 use crate::status::{Ending, are_named};
-use scl_describe::Tables;
 use scl_load::Disk;
 use scl_reader::Mem;
 use std::alloc::Global;
@@ -48,7 +47,8 @@ fn error_line<R: Report>(
     }
 }
 
-fn check_reply<R: Report>(
+/// The hazards of a command line that is answered, as `check` writes them.
+pub fn check_reply<R: Report>(
     alloc: Global,
     case: &Case,
     answered: &Answered<'_>,
@@ -69,24 +69,22 @@ fn check_reply<R: Report>(
     })
 }
 
-/// The hazards of a command line, a line each, or for machines as `report` writes them. It ends as the answer does where there
-/// is no command, by a word that holds a NUL where the command has one, as a hazard where there is one, by an outcome that may not
-/// be kept where that is so, and as a failed file where one can't be read.
+/// The hazards of a command line, a line each, or for machines as the report writes them. It ends as the answer does where there
+/// is no command, and by a word that holds a NUL where the command has one. A hazard, an outcome that may not be kept, and a file
+/// that can't be read are ends of their own.
 #[tactic(auto, using(crate::proofs::ReplyLaws::is_unread))]
 pub fn check<D: Disk, R: Report>(
     alloc: Global,
-    disk: &D,
-    tables: &Tables<'_>,
+    by: &Means<'_, D, R>,
     case: &Case,
     form: Form,
-    report: &R,
 ) -> Mem<Reply>
 where
     D::Error: Display,
-    ensures { IfOk result (λ reply. IsUnread (D.holds disk.now) (D.fails disk.now) case.now reply ⊎ IsSaid (tables_of tables.now) (D.holds disk.now) case.now (IsCheckedReply form case.now reply)) }
+    ensures { IfOk result (λ reply. IsUnread (D.holds by.now.disk) (D.fails by.now.disk) case.now reply ⊎ IsSaid (tables_of by.now.tables) (D.holds by.now.disk) case.now (IsCheckedReply form case.now reply)) }
 {
-    match answer_case(alloc, disk, tables, case)? {
-        Ok(answered) => check_reply(alloc, case, &answered, form, report),
+    match answer_case(alloc, &by.disk, &by.tables, case)? {
+        Ok(answered) => check_reply(alloc, case, &answered, form, &by.report),
         Err(error) => unread(alloc, &error),
     }
 }

@@ -11,10 +11,10 @@ use crate::hazards::hazards_line;
 use crate::nuls::some_hold_nul;
 use crate::refusal::ending_line;
 use crate::reply::{Reply, unread};
-use crate::report::Report;
+use crate::report::{Means, Report};
 use crate::status::Ending;
 use crate::words::{WordForm, command_text};
-use scl_describe::{Tables, concerns_files};
+use scl_describe::concerns_files;
 use scl_hazards::Hazard;
 use scl_load::Disk;
 use scl_reader::{Compilation, CompilerArguments, Mem};
@@ -111,24 +111,22 @@ fn command_reply<R: Report>(
 }
 
 /// The command to run in the place of a command line, quoted for a shell or each word with a NUL after it. Nothing is written
-/// where there is none, where a word of it holds a NUL, and of a strict form where a hazard concerns files; then it ends as such, and
-/// so says the line of standard error, with why `report` says that nothing is compiled. That its result may not be kept is said
-/// there too.
+/// where there is none, where a word of it holds a NUL, and of a strict form where a hazard concerns files. Then it ends as such, and
+/// so says the line of standard error, with why the report says that nothing is compiled. That its result may not be kept is
+/// said there too.
 #[tactic(auto, using(crate::proofs::ReplyLaws::is_unread))]
 pub fn command<D: Disk, R: Report>(
     alloc: Global,
-    disk: &D,
-    tables: &Tables<'_>,
+    by: &Means<'_, D, R>,
     case: &Case,
     form: CommandForm,
-    report: &R,
 ) -> Mem<Reply>
 where
     D::Error: Display,
-    ensures { IfOk result (λ reply. IsUnread (D.holds disk.now) (D.fails disk.now) case.now reply ⊎ IsSaid (tables_of tables.now) (D.holds disk.now) case.now (IsCommanded form case.now reply)) }
+    ensures { IfOk result (λ reply. IsUnread (D.holds by.now.disk) (D.fails by.now.disk) case.now reply ⊎ IsSaid (tables_of by.now.tables) (D.holds by.now.disk) case.now (IsCommanded form case.now reply)) }
 {
-    match answer_case(alloc, disk, tables, case)? {
-        Ok(answered) => command_reply(alloc, case, &answered, form, report),
+    match answer_case(alloc, &by.disk, &by.tables, case)? {
+        Ok(answered) => command_reply(alloc, case, &answered, form, &by.report),
         Err(error) => unread(alloc, &error),
     }
 }

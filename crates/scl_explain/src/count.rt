@@ -50,7 +50,8 @@ pub struct Counts {
     pub missing: BTreeMap<Vec<u8>, Met>,
 }
 
-fn meet<K: Ord + Drop>(
+/// Counts a key once more, which is met in this entry of the source `file`.
+pub fn meet<K: Ord + Drop>(
     alloc: Global,
     map: &mut BTreeMap<K, Met>,
     key: K,

@@ -3,11 +3,10 @@ ghost use Rattle.std.specs.Prelude.{◌≡◌, ◌⊎◌, IfOk};
 ghost use Rattle.scl_explain.specs.Said.{IsFailure, IsUnread};
 ghost use Rattle.scl_explain.specs.declared.status.Ending.TheVariants as ending;
 
-use crate::answered::{Answered, answer_case};
+use crate::answered::answer_case;
 use crate::case::Case;
-use crate::report::Report;
+use crate::report::{Means, Report};
 use crate::status::Ending;
-use scl_describe::Tables;
 use scl_load::{Disk, LoadError};
 use scl_reader::Mem;
 use std::alloc::Global;
@@ -57,7 +56,7 @@ pub fn load_error_text<E: Display>(alloc: Global, error: &LoadError<E>) -> Mem<S
 }
 
 /// What is said where a disk gives no answer.
-pub(crate) fn unread<E: Display>(alloc: Global, error: &LoadError<E>) -> Mem<Reply>
+pub fn unread<E: Display>(alloc: Global, error: &LoadError<E>) -> Mem<Reply>
     ensures { IfOk result IsFailure }
 {
     Ok(Reply {
@@ -67,24 +66,23 @@ pub(crate) fn unread<E: Display>(alloc: Global, error: &LoadError<E>) -> Mem<Rep
     })
 }
 
-/// What a command line is, as `report` writes it. It ends as answered whatever the answer is, and as a failed file where one
+/// What a command line is, as the report writes it. It ends as answered whatever the answer is, and as a failed file where one
 /// can't be read.
 #[tactic(auto, using(crate::proofs::ReplyLaws::is_unread))]
 pub fn explain<D: Disk, R: Report>(
     alloc: Global,
-    disk: &D,
-    tables: &Tables<'_>,
+    by: &Means<'_, D, R>,
     case: &Case,
     form: Form,
-    report: &R,
 ) -> Mem<Reply>
 where
     D::Error: Display,
-    ensures { IfOk result (λ reply. IsUnread (D.holds disk.now) (D.fails disk.now) case.now reply ⊎ (reply.ending ≡ ending.Answered)) }
+    ensures { IfOk result (λ reply. IsUnread (D.holds by.now.disk) (D.fails by.now.disk) case.now reply ⊎ (reply.ending ≡ ending.Answered)) }
 {
-    match answer_case(alloc, disk, tables, case)? {
+    match answer_case(alloc, &by.disk, &by.tables, case)? {
         Ok(answered) => Ok(Reply {
-            output: report
+            output: by
+                .report
                 .explanation(alloc, case, &answered, form)?
                 .into_bytes(),
             error: None,

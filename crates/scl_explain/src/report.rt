@@ -2,8 +2,20 @@
 use crate::answered::Answered;
 use crate::case::Case;
 use crate::reply::Form;
+use scl_describe::Tables;
 use scl_reader::Mem;
 use std::alloc::Global;
+
+/// What a command line is answered by, and what writes the answer.
+#[derive(Drop)]
+pub struct Means<'a, D, R> {
+    /// The files.
+    pub disk: D,
+    /// What is known of compilers.
+    pub tables: Tables<'a>,
+    /// What writes the answer.
+    pub report: R,
+}
 
 /// What writes answers.
 pub trait Report {

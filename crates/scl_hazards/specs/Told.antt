@@ -2,7 +2,6 @@
 -- each option.
 use Rattle.std.specs.Prelude.{ℕ, List, [], Option, None, Result, Ok, Err}
 use Rattle.std.specs.Option.{option_map}
-use Rattle.scl_catalogue.specs.Form.{Catalogue}
 use Rattle.scl_catalogue.specs.Found.{LineSeen}
 use Rattle.scl_effects.specs.Effects.{Effect, effects_found}
 use Rattle.scl_effects.specs.Known.{unknown_of}

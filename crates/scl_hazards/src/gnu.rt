@@ -85,86 +85,66 @@ fn both_seen(alloc: Global, reading: &GnuReading) -> Mem<BothSeen<'_>>
     Ok(BothSeen { outer, inner })
 }
 
-fn gnu_facts(
-    alloc: Global,
-    is_apple: bool,
-    has_precompiled_header: bool,
-    reading: &GnuReading,
-    parsed: &ParsedArguments,
-    options: &[Seen<'_>],
-) -> Mem<Facts>
-    ensures { IfOk result (λ facts. facts ≡ gnu_facts is_apple has_precompiled_header reading.now (parsed_of parsed.now) (map seen_of options.now)) }
-{
-    let splitter = splitter_of(reading.kind());
-    let (input, language, plusplus) = (&parsed.input, parsed.language, reading.plusplus());
-    Ok(Facts {
-        is_plusplus: plusplus,
-        is_apple,
-        is_preprocessed: language.needs_c_preprocessing(),
-        is_other_language: is_other_language(plusplus, input, language, options),
-        is_split_otherwise: splits_otherwise(
-            alloc,
-            splitter,
-            ExpansionKind::Gnu,
-            reading.outer().texts(),
-        )?,
-        is_environment_split_otherwise: false,
-        is_input_hidden: is_hidden(input),
-        is_object_hidden: is_hidden(object_of(parsed)),
-        has_other_target: has_other_target(options, object_of(parsed)),
-        is_object_renamed: is_renamed(alloc, input, object_of(parsed))?,
-        has_precompiled_header,
-    })
-}
-
-/// The command line with this record, these facts and these options.
-fn line_told<'a>(
-    known: &Known<'_>,
-    reading: &'a GnuReading,
-    parsed: &'a ParsedArguments,
-    facts: Facts,
-    options: &'a BothSeen<'a>,
-) -> Line<'a>
-    ensures { line_of result ≡ line_told known.now.version reading.now (parsed_of parsed.now) facts (map seen_of options.now.outer.items) (map seen_of options.now.inner.items) }
-{
-    let outer = reading.outer();
-    Line {
-        compiler: compiler_of(reading.kind()),
-        version: known.version(),
-        facts,
-        options: &options.outer,
-        inner: &options.inner,
-        words: outer.words(),
-        files: outer.texts(),
-        environment: &[],
-        language: language_name(parsed.language),
-        input: &parsed.input,
-        extension: extension(&parsed.input),
-        object: object_of(parsed),
-    }
-}
-
-/// What is reported of a command line that has this record.
-fn told_with<'r, 'a>(
-    alloc: Global,
-    known: &Known<'a>,
+/// A reading that has a record, and whether a precompiled header lies beside a file that its line includes.
+#[derive(Drop)]
+struct Recorded<'r> {
     reading: &'r GnuReading,
-    has_precompiled_header: bool,
     parsed: &'r ParsedArguments,
-) -> Mem<Told<'a>>
-    ensures { IfOk result (λ told. given told ≡ told_of known.now (gnu_line known.now has_precompiled_header reading.now (parsed_of parsed.now))) }
-{
-    let options = both_seen(alloc, reading)?;
-    let facts = gnu_facts(
-        alloc,
-        known.is_apple(),
-        has_precompiled_header,
-        reading,
-        parsed,
-        &options.outer,
-    )?;
-    let line = line_told(known, reading, parsed, facts, &options);
-    told_of(alloc, known, &line)
+    has_precompiled_header: bool,
+}
+
+impl<'r> Recorded<'r> {
+    fn facts(&self, alloc: Global, is_apple: bool, options: &[Seen<'_>]) -> Mem<Facts>
+        ensures { IfOk result (λ facts. facts ≡ gnu_facts is_apple self.now.has_precompiled_header self.now.reading.now (parsed_of self.now.parsed.now) (map seen_of options.now)) }
+    {
+        let (reading, object) = (self.reading, object_of(self.parsed));
+        let (input, language) = (&self.parsed.input, self.parsed.language);
+        let (splitter, texts) = (splitter_of(reading.kind()), reading.outer().texts());
+        Ok(Facts {
+            is_plusplus: reading.plusplus(),
+            is_apple,
+            is_preprocessed: language.needs_c_preprocessing(),
+            is_other_language: is_other_language(reading.plusplus(), input, language, options),
+            is_split_otherwise: splits_otherwise(alloc, splitter, ExpansionKind::Gnu, texts)?,
+            is_environment_split_otherwise: false,
+            is_input_hidden: is_hidden(input),
+            is_object_hidden: is_hidden(object),
+            has_other_target: has_other_target(options, object),
+            is_object_renamed: is_renamed(alloc, input, object)?,
+            has_precompiled_header: self.has_precompiled_header,
+        })
+    }
+
+    /// The command line with these facts and these options.
+    fn line(&'r self, known: &Known<'_>, facts: Facts, options: &'r BothSeen<'r>) -> Line<'r>
+        ensures { line_of result ≡ line_told known.now.version self.now.reading.now (parsed_of self.now.parsed.now) facts (map seen_of options.now.outer.items) (map seen_of options.now.inner.items) }
+    {
+        let outer = self.reading.outer();
+        Line {
+            compiler: compiler_of(self.reading.kind()),
+            version: known.version(),
+            facts,
+            options: &options.outer,
+            inner: &options.inner,
+            words: outer.words(),
+            files: outer.texts(),
+            environment: &[],
+            language: language_name(self.parsed.language),
+            input: &self.parsed.input,
+            extension: extension(&self.parsed.input),
+            object: object_of(self.parsed),
+        }
+    }
+
+    /// What is reported of the command line.
+    fn told<'a>(&self, alloc: Global, known: &Known<'a>) -> Mem<Told<'a>>
+        ensures { IfOk result (λ told. given told ≡ told_of known.now (gnu_line known.now self.now.has_precompiled_header self.now.reading.now (parsed_of self.now.parsed.now))) }
+    {
+        let options = both_seen(alloc, self.reading)?;
+        let facts = self.facts(alloc, known.is_apple(), &options.outer)?;
+        let line = self.line(known, facts, &options);
+        told_of(alloc, known, &line)
+    }
 }
 
 /// What is reported of a command line of gcc or clang: exactly the hazards and effects of which the catalogue has a case that is
@@ -182,7 +162,12 @@ pub fn gnu_told<'a>(
 {
     match reading.outcome() {
         CompilerArguments::Ok(parsed) => {
-            told_with(alloc, known, reading, has_precompiled_header, parsed)
+            let recorded = Recorded {
+                reading,
+                parsed,
+                has_precompiled_header,
+            };
+            recorded.told(alloc, known)
         }
         CompilerArguments::CannotCache(_, _) | CompilerArguments::NotCompilation => {
             Ok(nothing(alloc))

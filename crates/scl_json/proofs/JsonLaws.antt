@@ -1,5 +1,5 @@
 -- What is written of rows is JSON.
-use Rattle.std.proofs.Common.{◌≡◌, ◌≢◌, ◌<◌, ◌≤◌, ◌&&◌, ◌||◌, ◌+◌, ◌-◌, ◌/◌, ◌%◌, ℕ, zero, suc, Bool, true, false, cond, codes, List, [], ◌∷◌, ◌++◌, map, refl, sym, ap, subst, arith, append_assoc, append-nil}
+use Rattle.std.proofs.Common.{◌≡◌, ◌≢◌, ◌<◌, ◌≤◌, ◌&&◌, ◌||◌, ◌+◌, ◌-◌, ◌/◌, ◌%◌, ℕ, zero, suc, Bool, true, false, cond, codes, List, [], ◌∷◌, ◌++◌, map, refl, sym, subst, arith, append_assoc, append-nil}
 use Rattle.std.specs.Prelude.{nat_lt}
 use Rattle.std.proofs.lemmas.Str.{encode_ascii, scalars-chars, chars-IsAscii, IsUtf8-from_ascii, IsUtf8-from_is_utf8}
 use Rattle.std.specs.Char.{encode_utf8}
@@ -10,11 +10,11 @@ use Rattle.scl_shell.specs.Quoted.{between}
 use Rattle.scl_shell.specs.Shown.{is_hidden}
 use Rattle.scl_json.proofs.CharLaws.{plain-between, plain-mark, plain-number}
 use Rattle.scl_description.specs.Rows.{Entry}
-use Rattle.scl_json.specs.Json.{is_hex, IsInside, nothing, character, mark, unit, IsString, string, Kind, value, values, members, Are, null, yes, no, number, text as as_text, list, record_of, no_values, more_values, no_members, more_members, IsJson}
+use Rattle.scl_json.specs.Json.{is_hex, IsInside, nothing, character, mark, unit, IsString, string, values, members, Are, null, yes, no, number, text as as_text, list, record_of, no_values, more_values, no_members, more_members, IsJson}
 use Rattle.scl_json.specs.Laws.{WhatIsWrittenIsJson}
 use Rattle.scl_json.specs.Members.{Line, line_of}
-use Rattle.scl_json.specs.Objects.{value_of, is_number, number_of, truth, says_yes, are_rows, first_by, members_by, object_by, value_in, member_of, json_of}
-use Rattle.scl_json.specs.Texts.{unit_escape, surrogates, number_escape, is_mark, is_plain, char_text, quoted, digits_of, quoted_digits, raw, text, name_text, array, object, member, texts}
+use Rattle.scl_json.specs.Objects.{value_of, is_number, number_of, truth, says_yes, are_rows, first_by, members_by, object_by, value_in, member_of}
+use Rattle.scl_json.specs.Texts.{unit_escape, surrogates, number_escape, is_mark, is_plain, char_text, quoted, digits_of, quoted_digits, raw, text, name_text, texts}
 use Rattle.scl_json.specs.declared.members.Form.{Form}
 use Rattle.scl_json.specs.declared.members.Form.TheVariants.{Named, Number, Truth, Yes, One, Each, Rows, Objects}
 

@@ -1,6 +1,5 @@
 mod CharLaws
 mod EachLaws
 mod NameLaws
-mod RowLaws
 mod FieldLaws
 mod JsonLaws

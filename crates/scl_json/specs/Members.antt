@@ -60,6 +60,13 @@ table =
     ∷ alone (codes "direct") (codes "direct") Rows
     ∷ alone (codes "keep") (codes "keep") Rows
     ∷ alone (codes "directory-in-object") (codes "directory_in_object") One
+    ∷ alone (codes "reads") (codes "reads") Rows
+    ∷ alone (codes "reads-like") (codes "reads-like") Rows
+    ∷ alone (codes "writes") (codes "writes") Rows
+    ∷ alone (codes "writes-like") (codes "writes-like") Rows
+    ∷ alone (codes "loads") (codes "loads") Rows
+    ∷ alone (codes "loads-like") (codes "loads-like") Rows
+    ∷ alone (codes "asks") (codes "asks") Rows
     ∷ alone (codes "entry") (codes "entry") Number
     ∷ alone (codes "file") (codes "file") One
     ∷ alone (codes "error") (codes "error") One

@@ -4,9 +4,7 @@
 mod json;
 pub mod laws;
 mod members;
-mod rows;
 mod text;
 mod value;
 
 pub use json::{json_of, push_json};
-pub use rows::read_rows;

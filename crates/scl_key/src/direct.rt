@@ -1,10 +1,12 @@
 //! Direct mode: what a cache needs to find a key without a run of the compiler.
-ghost use Rattle.std.specs.Prelude.{◌≡◌, ◌++◌, ◌∷◌, [], map, codes, true, None, IfOk, OnOk};
+ghost use Rattle.std.specs.Prelude.{◌≡◌, ◌++◌, ◌∷◌, map, true, None, IfOk, OnOk};
 ghost use Rattle.std.specs.List.{list_all};
 ghost use Rattle.scl_values.specs.Words.{words_of};
 ghost use Rattle.scl_text.specs.Records.{parsed_of};
 ghost use Rattle.scl_text.specs.Runs.{runs_of};
-ghost use Rattle.scl_description.specs.Rows.{entries_text, entry_text, row_entry};
+ghost use Rattle.scl_description.specs.Rows.{entry_rows};
+ghost use Rattle.scl_description.specs.Rows.{rows_of as rows_told};
+ghost use Rattle.scl_description.specs.Takers.{Adds};
 ghost use Rattle.scl_key.specs.Directs.{brought, direct_entries, direct_entry, direct_variables, directs, directs_if, first, implied, is_quiet, is_searched, is_value, may_direct, named, names_sources, naming, refuse_if_read, run_fronts, search, search_record, search_words, unseen};
 ghost use Rattle.scl_key.specs.Directs.{env as env_asked};
 ghost use Rattle.scl_key.specs.Effects.{judged, judged_in, rows_of};
@@ -21,10 +23,9 @@ use crate::given::{
     Brings, Given, Known, all_flags, all_known, awaited_by, awaited_next, given_by, is_text,
     values_among,
 };
-use crate::part::push_named;
 use crate::reads::is_path;
 use crate::runs::{HIDES_HEADER, is_among, is_assembler, marked_runs};
-use scl_description::push_row;
+use scl_description::{TakesRows, tell_row};
 use scl_gnu::gcc::without_output_files;
 use scl_reader::Compiler;
 use scl_text::Mem;
@@ -369,32 +370,29 @@ pub(crate) fn directs(
 
 // ---- rows
 
-/// Appends the row `direct NAME TEXT`.
-fn push_text(text: &mut Vec<u8>, name: &str, value: &[u8]) -> Mem<()>
-    ensures { OnOk result (text.new.items ≡ text.old.items ++ entry_text (row_entry (codes "direct") (name.now ∷ value.now ∷ []))) }
-{
-    push_row(text, "direct", &[name.as_bytes(), value])
-}
-
-/// Appends a row `direct`.
-fn push_one(text: &mut Vec<u8>, direct: &Direct) -> Mem<()>
-    ensures { OnOk result (text.new.items ≡ text.old.items ++ entry_text (direct_entry (direct_of direct.now))) }
+/// Tells a row `direct`.
+fn tell_one<R: TakesRows>(rows: &mut R, direct: &Direct) -> Mem<()>
+    ensures { OnOk result (Adds R.has rows.old rows.new (entry_rows (direct_entry (direct_of direct.now)))) }
 {
     match direct {
-        Direct::Env(name) => push_text(text, "env", name.as_bytes()),
-        Direct::Search(words) => push_named(text, "direct", "search", words),
-        Direct::First(header) => push_text(text, "first", header),
-        Direct::Named(pattern) => push_text(text, "named", pattern.as_bytes()),
-        Direct::RefuseIfRead(pattern) => push_text(text, "refuse-if-read", pattern.as_bytes()),
+        Direct::Env(name) => tell_row(rows, "direct", &[b"env", name.as_bytes()]),
+        Direct::Search(words) => rows.take("direct", &[b"search"], words),
+        Direct::First(header) => tell_row(rows, "direct", &[b"first", header]),
+        Direct::Named(pattern) => tell_row(rows, "direct", &[b"named", pattern.as_bytes()]),
+        Direct::RefuseIfRead(pattern) => tell_row(
+            rows,
+            "direct",
+            &[b"refuse-if-read", pattern.as_bytes()],
+        ),
     }
 }
 
-/// Appends rows `direct`.
-pub fn push_directs(text: &mut Vec<u8>, rows: &[Direct]) -> Mem<()>
-    ensures { OnOk result (text.new.items ≡ text.old.items ++ entries_text (direct_entries (directs_of rows.now))) }
+/// Tells the rows `direct` of a key.
+pub fn tell_directs<R: TakesRows>(rows: &mut R, direct: &[Direct]) -> Mem<()>
+    ensures { OnOk result (Adds R.has rows.old rows.new (rows_told (direct_entries (directs_of direct.now)))) }
 {
-    for row in rows {
-        push_one(text, row)?;
+    for one in direct {
+        tell_one(rows, one)?;
     }
     Ok(())
 }

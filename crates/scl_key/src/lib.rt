@@ -15,13 +15,13 @@ mod reads;
 mod runs;
 mod told;
 
-pub use direct::{Direct, push_directs};
+pub use direct::{Direct, tell_directs};
 pub use doings::with_effects;
 pub use effect::Effect;
 pub use family::{is_clang, is_gcc};
 pub use given::Brings;
 pub use key::{Keeping, Key, key_of};
 pub use made::made_beside;
-pub use no_key::{NoKey, Reason, push_no_rows};
-pub use part::{Ask, Output, Part, push_key};
+pub use no_key::{NoKey, Reason, tell_no_rows};
+pub use part::{Ask, Output, Part, tell_key};
 pub use told::RunWords;

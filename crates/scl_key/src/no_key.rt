@@ -3,7 +3,8 @@ ghost use Rattle.std.specs.Prelude.{◌≡◌, ◌++◌, ◌∷◌, [], map, fil
 ghost use Rattle.std.specs.List.{flat_map, list_any};
 ghost use Rattle.scl_values.specs.Words.{words_of};
 ghost use Rattle.scl_text.specs.Records.{parsed_of};
-ghost use Rattle.scl_description.specs.Rows.{entries_text, entry_text, row_entry};
+ghost use Rattle.scl_description.specs.Rows.{entry_rows, row_entry, rows_of};
+ghost use Rattle.scl_description.specs.Takers.{Adds};
 ghost use Rattle.scl_key.specs.Effects.{assembler_effect, assembler_words, behind, judged, judged_in, suffixes, writes_unnamed};
 ghost use Rattle.scl_key.specs.JudgedViews.{all_judged};
 ghost use Rattle.scl_key.specs.Keys.{asks_for_rules, hazards, hides_file, is_no_file, lost_files, no_key, no_key_by, no_key_entry, no_keys, no_keys_by_words, reason_name, reason_of, repeated, unnamed, unnamed_by, view_of};
@@ -17,7 +18,7 @@ use crate::made::{dependency_files, handed_file};
 use crate::part::Output;
 use crate::reads::push_values;
 use crate::told::{Line, RunWords};
-use scl_description::push_row;
+use scl_description::{TakesRows, tell_row};
 use scl_files::View;
 use scl_reader::Compiler;
 use scl_text::Mem;
@@ -398,26 +399,26 @@ pub(crate) fn no_keys(
     Ok(why)
 }
 
-/// Appends the row of a reason and of its word.
-fn push_no_fields(text: &mut Vec<u8>, reason: &str, word: &[u8]) -> Mem<()>
-    ensures { OnOk result (text.new.items ≡ text.old.items ++ entry_text (row_entry (codes "keep") (codes "no" ∷ reason.now ∷ word.now ∷ []))) }
+/// Tells the row of a reason and of its word.
+fn tell_no_fields<R: TakesRows>(rows: &mut R, reason: &str, word: &[u8]) -> Mem<()>
+    ensures { OnOk result (Adds R.has rows.old rows.new (entry_rows (row_entry (codes "keep") (codes "no" ∷ reason.now ∷ word.now ∷ [])))) }
 {
-    push_row(text, "keep", &[b"no", reason.as_bytes(), word])
+    tell_row(rows, "keep", &[b"no", reason.as_bytes(), word])
 }
 
-/// Appends a row `keep no REASON W`.
-fn push_no_row(text: &mut Vec<u8>, why: &NoKey) -> Mem<()>
-    ensures { OnOk result (text.new.items ≡ text.old.items ++ entry_text (no_key_entry (no_key_of why.now))) }
+/// Tells a row `keep no REASON W`.
+fn tell_no_row<R: TakesRows>(rows: &mut R, why: &NoKey) -> Mem<()>
+    ensures { OnOk result (Adds R.has rows.old rows.new (entry_rows (no_key_entry (no_key_of why.now)))) }
 {
-    push_no_fields(text, why.reason.name(), &why.word)
+    tell_no_fields(rows, why.reason.name(), &why.word)
 }
 
-/// Appends a row `keep no REASON W` for each reason.
-pub fn push_no_rows(text: &mut Vec<u8>, why: &[NoKey]) -> Mem<()>
-    ensures { OnOk result (text.new.items ≡ text.old.items ++ entries_text (map no_key_entry (no_keys_of why.now))) }
+/// Tells a row `keep no REASON W` for each reason.
+pub fn tell_no_rows<R: TakesRows>(rows: &mut R, why: &[NoKey]) -> Mem<()>
+    ensures { OnOk result (Adds R.has rows.old rows.new (rows_of (map no_key_entry (no_keys_of why.now)))) }
 {
     for one in why {
-        push_no_row(text, one)?;
+        tell_no_row(rows, one)?;
     }
     Ok(())
 }

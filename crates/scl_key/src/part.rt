@@ -1,14 +1,12 @@
 //! The parts of a key, and their rows.
-ghost use Rattle.std.specs.Prelude.{◌≡◌, ◌++◌, ◌∷◌, [], map, codes, IfOk, OnOk};
-ghost use Rattle.scl_files.specs.Characters.{space};
-ghost use Rattle.scl_values.specs.Escaped.{escaped};
-ghost use Rattle.scl_values.specs.Words.{words_of};
+ghost use Rattle.std.specs.Prelude.{◌≡◌, ◌∷◌, [], codes, IfOk, OnOk};
 ghost use Rattle.scl_description.specs.Records.{output_rest};
-ghost use Rattle.scl_description.specs.Rows.{entries_text, entry_text, fields_behind, row_entry};
-ghost use Rattle.scl_key.specs.Parts.{ask_name, fields, is_asked, key_entries, part_entry};
+ghost use Rattle.scl_description.specs.Rows.{entry_rows, row_entry, rows_of};
+ghost use Rattle.scl_description.specs.Takers.{Adds};
+ghost use Rattle.scl_key.specs.Parts.{ask_name, is_asked, key_entries, part_entry};
 ghost use Rattle.scl_key.specs.Views.{output_of, part_of, parts_of};
 
-use scl_description::{push_field, push_row, push_row_of, push_word};
+use scl_description::{TakesRows, tell_row, tell_word};
 use scl_text::Mem;
 use std::alloc::Global;
 
@@ -120,74 +118,50 @@ impl Part {
     }
 }
 
-/// Appends fields, each after a space.
-fn push_all_behind(text: &mut Vec<u8>, words: &[Vec<u8>]) -> Mem<()>
-    ensures { OnOk result (text.new.items ≡ text.old.items ++ fields_behind (words_of words.now)) }
-{
-    for word in words {
-        text.push(b' ')?;
-        push_field(text, word)?;
-    }
-    Ok(())
-}
-
-/// Appends the row `KIND NAME W ..`.
-#[tactic(auto, unfolding(scl_description::specs::Rows::entry_text))]
-pub(crate) fn push_named(text: &mut Vec<u8>, kind: &str, name: &str, words: &[Vec<u8>]) -> Mem<()>
-    ensures { OnOk result (text.new.items ≡ text.old.items ++ entry_text (row_entry kind.now (name.now ∷ words_of words.now))) }
-{
-    push_field(text, kind.as_bytes())?;
-    text.push(b' ')?;
-    push_field(text, name.as_bytes())?;
-    push_all_behind(text, words)?;
-    text.push(b'\n')?;
-    Ok(())
-}
-
-/// Appends the row of an output.
-fn push_output(text: &mut Vec<u8>, output: &Output) -> Mem<()>
-    ensures { OnOk result (text.new.items ≡ text.old.items ++ entry_text (row_entry (codes "key") (codes "output" ∷ output_rest (output_of output.now)))) }
+/// Tells the row of an output.
+fn tell_output<R: TakesRows>(rows: &mut R, output: &Output) -> Mem<()>
+    ensures { OnOk result (Adds R.has rows.old rows.new (entry_rows (row_entry (codes "key") (codes "output" ∷ output_rest (output_of output.now))))) }
 {
     let (name, path) = (output.name.as_slice(), output.path.as_slice());
     if output.optional {
-        push_row(text, "key", &[b"output", name, path, b"optional"])
+        tell_row(rows, "key", &[b"output", name, path, b"optional"])
     } else {
-        push_row(text, "key", &[b"output", name, path])
+        tell_row(rows, "key", &[b"output", name, path])
     }
 }
 
-/// Appends the row of what is asked of a name.
-fn push_asked(text: &mut Vec<u8>, ask: &str, name: &[u8]) -> Mem<()>
-    ensures { OnOk result (text.new.items ≡ text.old.items ++ entry_text (row_entry (codes "key") (ask.now ∷ name.now ∷ []))) }
+/// Tells the row of what is asked of a name.
+fn tell_asked<R: TakesRows>(rows: &mut R, ask: &str, name: &[u8]) -> Mem<()>
+    ensures { OnOk result (Adds R.has rows.old rows.new (entry_rows (row_entry (codes "key") (ask.now ∷ name.now ∷ [])))) }
 {
-    push_row(text, "key", &[ask.as_bytes(), name])
+    tell_row(rows, "key", &[ask.as_bytes(), name])
 }
 
-/// Appends the row of a part.
-fn push_part(text: &mut Vec<u8>, part: &Part) -> Mem<()>
-    ensures { OnOk result (text.new.items ≡ text.old.items ++ entry_text (part_entry (part_of part.now))) }
+/// Tells the row of a part.
+fn tell_part<R: TakesRows>(rows: &mut R, part: &Part) -> Mem<()>
+    ensures { OnOk result (Adds R.has rows.old rows.new (entry_rows (part_entry (part_of part.now)))) }
 {
     match part {
-        Part::Is(row) => push_named(text, "key", "is", row),
-        Part::Output(output) => push_output(text, output),
-        Part::Directory => push_word(text, "key", b"directory"),
-        Part::Compiler => push_word(text, "key", b"compiler"),
-        Part::Plan(words) => push_named(text, "key", "plan", words),
-        Part::Asked(ask, name) => push_asked(text, ask.name(), name),
-        Part::Run(words) => push_named(text, "key", "run", words),
-        Part::RunElse(words) => push_named(text, "key", "run-else", words),
-        Part::Pch(searched) => push_named(text, "key", "pch", searched),
-        Part::Sources => push_word(text, "key", b"sources"),
-        Part::Times => push_word(text, "key", b"times"),
+        Part::Is(row) => rows.take("key", &[b"is"], row),
+        Part::Output(output) => tell_output(rows, output),
+        Part::Directory => tell_word(rows, "key", b"directory"),
+        Part::Compiler => tell_word(rows, "key", b"compiler"),
+        Part::Plan(words) => rows.take("key", &[b"plan"], words),
+        Part::Asked(ask, name) => tell_asked(rows, ask.name(), name),
+        Part::Run(words) => rows.take("key", &[b"run"], words),
+        Part::RunElse(words) => rows.take("key", &[b"run-else"], words),
+        Part::Pch(searched) => rows.take("key", &[b"pch"], searched),
+        Part::Sources => tell_word(rows, "key", b"sources"),
+        Part::Times => tell_word(rows, "key", b"times"),
     }
 }
 
-/// Appends the rows `key` of a key.
-pub fn push_key(text: &mut Vec<u8>, key: &[Part]) -> Mem<()>
-    ensures { OnOk result (text.new.items ≡ text.old.items ++ entries_text (key_entries (parts_of key.now))) }
+/// Tells the rows `key` of a key.
+pub fn tell_key<R: TakesRows>(rows: &mut R, key: &[Part]) -> Mem<()>
+    ensures { OnOk result (Adds R.has rows.old rows.new (rows_of (key_entries (parts_of key.now)))) }
 {
     for part in key {
-        push_part(text, part)?;
+        tell_part(rows, part)?;
     }
     Ok(())
 }

@@ -19,7 +19,7 @@ use crate::part::Part;
 use scl_gnu::clang::Clang;
 use scl_gnu::gcc::{Gcc, without_output_files};
 use scl_msvc::msvc::Msvc;
-use scl_reader::Compiler;
+use scl_reader::{Compiler, RunOptions};
 use scl_text::command::{append_words, copy_words, push_word};
 use scl_text::language::Language;
 use scl_text::records::{CommandError, ParsedArguments};
@@ -315,7 +315,12 @@ pub(crate) fn marked_runs(
 ) -> Mem<Vec<Vec<Vec<u8>>>>
     ensures { IfOk result (λ runs. runs_of runs.items ≡ marked_runs compiler (parsed_of parsed.now)) }
 {
-    compiler.preprocess_runs(alloc, parsed, true, false, true)
+    let options = RunOptions {
+        may_dist: true,
+        rewrite_includes_only: false,
+        cache_mode: true,
+    };
+    compiler.preprocess_runs(alloc, parsed, options)
 }
 
 /// The record of the runs of Gcc and Clang that show the text of each header.

@@ -1,5 +1,5 @@
 -- A load goes on, and how it ends.
-use Rattle.std.proofs.Common.{◌≡◌, ◌+◌, ◌<◌, ◌++◌, ℕ, true, false, List, [], None, Ok, Err, inl, Contains, map, refl, sym, ap, subst, ◌∙◌}
+use Rattle.std.proofs.Common.{◌≡◌, ◌+◌, ◌<◌, ℕ, true, false, List, [], Ok, Contains, map, refl, sym, ap, subst, ◌∙◌}
 use Rattle.scl_files.specs.Views.{Viewed}
 use Rattle.scl_files.specs.declared.expand.Limits.{Limits}
 use Rattle.scl_values.specs.Each.{Each}
@@ -12,21 +12,18 @@ use Rattle.scl_reader.specs.declared.compiler.Compiler.{Compiler}
 use Rattle.scl_reader.specs.declared.reading.Reading.{Reading}
 use Rattle.scl_reader.proofs.QuestionLaws.{are-decided, readings-decided}
 use Rattle.scl_reader.proofs.ReadLaws.{readings-say}
-use Rattle.scl_load.specs.Leads.{AreFollowed, IsLead, IsLed, IsReadOnce, Lead, file_leads, leads_found, leads_of}
-use Rattle.scl_load.specs.Loads.{AreAllSame, AreLooks, HasNoneAsked, IsDiskError, IsEnd, IsLoaded, IsLookedFor, IsTooLong, IsUnended, Load, asked_all, asked_file, asked_on, first_view, load_of, none}
-use Rattle.scl_load.specs.declared.leads.Leads as all
+use Rattle.scl_load.specs.Leads.{AreFollowed, AsksIn, IsLead, IsLed, IsReadOnce, Leads, file_leads, leads_found, with_more}
+use Rattle.scl_load.specs.Loads.{AreAllSame, AreLooks, HasNoneAsked, IsLoaded, IsLookedFor, Load, asked_all, asked_file, asked_on, first_view, load_of, none}
 use Rattle.scl_load.specs.declared.loader.DiskLine.{DiskLine}
-use Rattle.scl_load.specs.declared.loader.LoadError.{LoadError}
-use Rattle.scl_load.specs.declared.loader.LoadError.TheVariants as errors
 use Rattle.scl_load.proofs.ExtendLaws.{extends-empty}
 use Rattle.scl_load.proofs.LeadLaws.{each-both, each-flat, each-in, each-inside, each-mapped, each-so, leads-kept}
 
 module _ (holds : Viewed → Type 0) (load : Load) where
   -- on each disk of which this holds: n readings found something, the view was made, and these are left to look for
-  abbrev pub IsUnderWay : ℕ → Viewed → List Lead → Type 0
+  abbrev pub IsUnderWay : ℕ → Viewed → Leads → Type 0
   IsUnderWay readings view leads = (held : Viewed) → holds held → held.is_multiarch ≡ load.is_multiarch → IsLed held load readings view leads
 
-  pub last-reading : (readings : ℕ) (before after : Viewed) (leads : List Lead) (q : Questions) → readings < load.most_rounds → IsUnderWay readings before leads
+  pub last-reading : (readings : ℕ) (before after : Viewed) (leads : Leads) (q : Questions) → readings < load.most_rounds → IsUnderWay readings before leads
       → has_at_most load.most (load.asks before) ≡ true → q ≡ questions_of (load.asks before) → IsLookedFor holds (HasNoneAsked q) (AreAllSame q) before after false
       → (held : Viewed) → holds held → held.is_multiarch ≡ load.is_multiarch → IsLoaded held load after
   last-reading readings before after leads q allowed way within is looked held h m =
@@ -39,17 +36,6 @@ module _ (holds : Viewed → Type 0) (load : Load) where
         has_none = subst (HasNoneOf held) is found.1;
       })
 
-  pub too-long : (readings : ℕ) (view : Viewed) (leads : List Lead) → readings < load.most_rounds → IsUnderWay readings view leads → has_at_most load.most (load.asks view) ≡ false
-      → (held : Viewed) → holds held → held.is_multiarch ≡ load.is_multiarch → IsTooLong held load
-  too-long readings view leads allowed way longer held h m = record {
-    view = view;
-    is_made = record { readings = readings; are_looks = (way held h m).are_looks; are_allowed = allowed };
-    is_longer = longer;
-  }
-
-  pub unended : (view : Viewed) (leads : List Lead) → IsUnderWay load.most_rounds view leads → (held : Viewed) → holds held → held.is_multiarch ≡ load.is_multiarch → IsUnended held load
-  unended view leads way held h m = record { view = view; are_looks = (way held h m).are_looks }
-
 -- the questions of a reading of a line are those of the line's request
 pub asks-so : (compiler : Compiler) (line : Given) (request : Request) (most : Limits) (reading : Reading) (asked : Questions) → asked_for compiler line ≡ request
     → (has_at_most most (asked_for compiler line) ≡ true) × (reading ≡ read_of (asked_for compiler line)) → asked ≡ questions_in line reading
@@ -58,7 +44,7 @@ asks-so compiler line request most reading asked is read asks =
     subst (λ r. (has_at_most most r ≡ true) × (reading ≡ read_of r) × (asked ≡ questions_of r)) is (read.0, read.1, asks ∙ ap (questions_in line) read.1)
 
 -- if the disk has none of a reading's questions, the reading decides the record and the answer
-module _ (holds : Viewed → Type 0) (line : DiskLine) (most : Limits) (most_rounds readings : ℕ) (before after : Viewed) (leads : List Lead) (q : Questions)
+module _ (holds : Viewed → Type 0) (line : DiskLine) (most : Limits) (most_rounds readings : ℕ) (before after : Viewed) (leads : Leads) (q : Questions)
     (way : IsUnderWay holds (load_of line most most_rounds) readings before leads) (is : q ≡ questions_of (asked_on line before))
     (looked : IsLookedFor holds (HasNoneAsked q) (AreAllSame q) before after false) where
   pub same-answer : (held : Viewed) → holds held → held.is_multiarch ≡ line.multiarch → answer_to (asked_on line held) ≡ answer_to (asked_on line after)
@@ -81,70 +67,47 @@ module _ (disk : Viewed) (line : DiskLine) (most : Limits) (most_rounds : ℕ) w
   abbrev load : Load
   load = load_of line most most_rounds
 
-  pub led-first : disk.is_multiarch ≡ line.multiarch → IsLed disk load 0 (first_view line.multiarch) []
+  pub led-first : disk.is_multiarch ≡ line.multiarch → IsLed disk load 0 (first_view line.multiarch) (record { directory = line.directory.now; rounds = most_rounds; ahead = [] })
   led-first m = record {
     are_looks = none;
     extends = extends-empty disk line.multiarch m;
+    asks_in = λ _. refl;
+    most_rounds = refl;
     are_leads = tt;
   }
 
   -- what is named by the files that a reading lacked and that were found
-  found-leads : (readings : ℕ) (before after : Viewed) → AreLooks disk load readings before → Extends disk after
-      → Each (IsLead disk load after) (leads_found (read_of (asked_on line before)) after line.directory.now (readings + 1))
-  found-leads readings before after looks extends =
+  found-leads : (directory : List ℕ) → AsksIn directory load → (readings : ℕ) (before after : Viewed) → AreLooks disk load readings before → Extends disk after
+      → Each (IsLead disk load after) (leads_found (read_of (asked_on line before)) after directory (readings + 1))
+  found-leads directory asks readings before after looks extends =
       let lacked = files_lacked (read_of (asked_on line before)) in
       let paths = map (λ file. file.path) lacked in
-      each-flat (IsLead disk load after) (file_leads after line.directory.now (readings + 1)) lacked
-      (each-so (λ file. Contains paths file.path) (λ file. Each (IsLead disk load after) (file_leads after line.directory.now (readings + 1) file)) lacked
-      (λ file has. each-inside disk load after line.directory.now (λ _. refl) extends file.kind file.path readings (asked_file readings before file.path looks has))
+      each-flat (IsLead disk load after) (file_leads after directory (readings + 1)) lacked
+      (each-so (λ file. Contains paths file.path) (λ file. Each (IsLead disk load after) (file_leads after directory (readings + 1) file)) lacked
+      (λ file has. each-inside disk load after directory asks extends file.kind file.path readings (asked_file readings before file.path looks has))
       (each-mapped (Contains paths) (λ file. file.path) lacked (each-in (Contains paths) paths (λ path has. has))))
 
-  pub led-more : (readings : ℕ) (before after : Viewed) (leads more : List Lead) (holds : Viewed → Type 0) → holds disk → IsLed disk load readings before leads
+  pub led-more : (readings : ℕ) (before after : Viewed) (leads : Leads) (holds : Viewed → Type 0) → holds disk → IsLed disk load readings before leads
       → has_at_most most (asked_on line before) ≡ true
       → IsLookedFor holds (HasNoneAsked (questions_of (asked_on line before))) (AreAllSame (questions_of (asked_on line before))) before after true
-      → more ≡ leads ++ leads_found (read_of (asked_on line before)) after line.directory.now (readings + 1)
-      → IsLed disk load (readings + 1) after more
-  led-more readings before after leads more holds h led within looked is =
+      → IsLed disk load (readings + 1) after (with_more leads (leads_found (read_of (asked_on line before)) after leads.directory (readings + 1)))
+  led-more readings before after leads holds h led within looked =
       let look = looked.1 disk h led.extends in record {
         are_looks = asked_all readings before after led.are_looks within look;
         extends = look.extends;
-        are_leads = subst (Each (IsLead disk load after)) (sym is)
-            (each-both (IsLead disk load after) leads _ (leads-kept load line.directory.now (λ _. refl) before after look.keeps disk leads led.are_leads)
-            (found-leads readings before after led.are_looks look.extends));
+        asks_in = led.asks_in;
+        most_rounds = led.most_rounds;
+        are_leads = each-both (IsLead disk load after) leads.ahead _ (leads-kept load leads.directory led.asks_in before after look.keeps disk leads.ahead led.are_leads)
+            (found-leads leads.directory led.asks_in readings before after led.are_looks look.extends);
       }
 
-module _ {E : Type 0} (holds : Viewed → Type 0) (fails : E → Type 0) (line : DiskLine) (most : Limits) (most_rounds readings : ℕ) (before after : Viewed) (leads more : all.Leads)
-    (way : IsUnderWay holds (load_of line most most_rounds) readings before (leads_of leads)) where
-  pub followed : {R : Type 0} (r : R) → AreFollowed {R = R} {E = E} holds fails line.directory.now most_rounds leads more before after (Ok r)
-      → IsUnderWay holds (load_of line most most_rounds) readings after (leads_of more)
-  followed r on held h m = on held (load_of line most most_rounds) readings h (λ _. refl) (way held h m)
+module _ {E : Type 0} (holds : Viewed → Type 0) (fails : E → Type 0) (line : DiskLine) (most : Limits) (most_rounds readings : ℕ) (before after : Viewed) (leads more : Leads)
+    (way : IsUnderWay holds (load_of line most most_rounds) readings before leads) where
+  pub followed : {R : Type 0} (r : R) → AreFollowed {R = R} {E = E} holds fails leads more before after (Ok r) → IsUnderWay holds (load_of line most most_rounds) readings after more
+  followed r on held h m = on held (load_of line most most_rounds) readings h (way held h m)
 
-  pub not-followed : (R : Type 0) (error : LoadError E) → AreFollowed {R = R} {E = E} holds fails line.directory.now most_rounds leads more before after (Err error)
-      → (held : Viewed) → holds held → held.is_multiarch ≡ line.multiarch → IsEnd held (load_of line most most_rounds) (Err error)
-  not-followed R (errors.Disk error) f held h m = tt
-  not-followed R errors.TooManyWords f held h m = absurd f
-  not-followed R errors.TooManyRounds f held h m = inl (f held (load_of line most most_rounds) readings h (λ _. refl) refl (way held h m))
-
-  pub read-more : (depth : ℕ) → depth ≡ readings + 1 → IsReadOnce holds fails line most depth leads more before after (Ok None)
-      → IsUnderWay holds (load_of line most most_rounds) (readings + 1) after (leads_of more)
-  read-more depth deeper once held h m = led-more held line most most_rounds readings before after (leads_of leads) (leads_of more) holds h (way held h m) once.0 once.1
-      (once.2 ∙ ap (λ d. leads_of leads ++ leads_found (read_of (asked_on line before)) after line.directory.now d) deeper)
-
-  pub not-read : (depth : ℕ) (error : LoadError E) → readings < most_rounds → IsReadOnce holds fails line most depth leads more before after (Err error)
-      → (held : Viewed) → holds held → held.is_multiarch ≡ line.multiarch → IsEnd held (load_of line most most_rounds) (Err error)
-  not-read depth (errors.Disk error) allowed once held h m = tt
-  not-read depth errors.TooManyWords allowed once held h m = too-long holds (load_of line most most_rounds) readings before (leads_of leads) allowed way once held h m
-  not-read depth errors.TooManyRounds allowed once held h m = absurd once
-
-module _ {E : Type 0} (holds : Viewed → Type 0) (fails : E → Type 0) where
-  pub followed-fails : (R : Type 0) (directory : List ℕ) (rounds : ℕ) (leads more : all.Leads) (before after : Viewed) (error : LoadError E)
-      → AreFollowed {R = R} {E = E} holds fails directory rounds leads more before after (Err error) → IsDiskError fails error
-  followed-fails R directory rounds leads more before after (errors.Disk error) f = f
-  followed-fails R directory rounds leads more before after errors.TooManyWords f = tt
-  followed-fails R directory rounds leads more before after errors.TooManyRounds f = tt
-
-  pub read-fails : (line : DiskLine) (most : Limits) (depth : ℕ) (leads more : all.Leads) (before after : Viewed) (error : LoadError E)
-      → IsReadOnce holds fails line most depth leads more before after (Err error) → IsDiskError fails error
-  read-fails line most depth leads more before after (errors.Disk error) f = f
-  read-fails line most depth leads more before after errors.TooManyWords f = tt
-  read-fails line most depth leads more before after errors.TooManyRounds f = tt
+  pub read-more : (reading : Reading) → IsReadOnce holds fails line most before after (Ok (reading, true)) → more ≡ with_more leads (leads_found reading after leads.directory (readings + 1))
+      → IsUnderWay holds (load_of line most most_rounds) (readings + 1) after more
+  read-more reading once is held h m =
+      subst (IsLed held (load_of line most most_rounds) (readings + 1) after) (sym (is ∙ ap (λ r. with_more leads (leads_found r after leads.directory (readings + 1))) once.1))
+      (led-more held line most most_rounds readings before after leads holds h (way held h m) once.0 once.2)

@@ -1,8 +1,9 @@
 -- Response files that words name, followed from file to file.
-use Rattle.std.specs.Prelude.{◌≡◌, ◌⊎◌, ℕ, true, false, List, [], ◌∷◌, ◌++◌, map, Option, None, Some, Result, Ok, Err}
+use Rattle.std.specs.Prelude.{◌≡◌, ℕ, Bool, true, false, List, [], ◌∷◌, ◌++◌, map, Option, None, Some, Result, Ok, Err, if◌then◌else◌}
 use Rattle.std.specs.List.{flat_map}
 use Rattle.scl_files.specs.ResponseFiles.{arguments, named}
 use Rattle.scl_files.specs.Views.{Viewed, bytes_at}
+use Rattle.scl_files.specs.contracts.expand.ExpansionKindPartialEq.TheImpl.{ghosts}
 use Rattle.scl_files.specs.declared.expand.ExpansionKind.{ExpansionKind}
 use Rattle.scl_files.specs.declared.expand.ExpansionKind.TheVariants as expansions
 use Rattle.scl_files.specs.declared.expand.Limits.{Limits}
@@ -11,7 +12,7 @@ use Rattle.scl_reader.specs.Reads.{Lacked, files_lacked, read_of}
 use Rattle.scl_reader.specs.Within.{has_at_most}
 use Rattle.scl_reader.specs.declared.reading.Reading.{Reading}
 use Rattle.scl_values.specs.Each.{Each}
-use Rattle.scl_load.specs.Loads.{AreAllSame, AreLooks, HasNoneAsked, IsChain, IsDeep, IsGiven, IsInside, IsLookedFor, Load, asked_on, is_there}
+use Rattle.scl_load.specs.Loads.{AreAllSame, AreLooks, HasNoneAsked, IsChain, IsDeep, IsInside, IsLookedFor, Load, asked_on, is_there}
 use Rattle.scl_load.specs.declared.leads.Lead as code
 use Rattle.scl_load.specs.declared.leads.Leads as all
 use Rattle.scl_load.specs.declared.loader.DiskLine.{DiskLine}
@@ -28,8 +29,18 @@ pub record Lead : Type 0 where
 abbrev pub lead_of : code.Lead → Lead
 lead_of lead = record { kind = lead.kind; path = lead.path.items; depth = lead.depth }
 
-abbrev pub leads_of : all.Leads → List Lead
-leads_of leads = map lead_of leads.ahead.items
+-- response files to look for, in order: the directory in which words name them, and the limit on the files of a chain
+pub record Leads : Type 0 where
+  pub directory : List ℕ
+  pub rounds : ℕ
+  pub ahead : List Lead
+
+abbrev pub leads_of : all.Leads → Leads
+leads_of leads = record { directory = leads.directory.now; rounds = leads.rounds; ahead = map lead_of leads.ahead.items }
+
+-- others after them
+abbrev pub with_more : Leads → List Lead → Leads
+with_more leads more = record leads { ahead = leads.ahead ++ more }
 
 -- the one with this path, if there is a path
 abbrev pub lead_from : ExpansionKind → ℕ → Option (List ℕ) → List Lead
@@ -50,9 +61,7 @@ leads_in kind directory (Some words) depth = leads_named kind directory words de
 
 -- those that the words of a file with these bytes name; words in Msvc's files name none
 abbrev pub leads_inside : ExpansionKind → List ℕ → List ℕ → ℕ → List Lead
-leads_inside expansions.Gnu directory bytes depth = leads_in expansions.Gnu directory (arguments expansions.Gnu bytes) depth
-leads_inside expansions.Msvc directory bytes depth = []
-leads_inside expansions.Diab directory bytes depth = leads_in expansions.Diab directory (arguments expansions.Diab bytes) depth
+leads_inside kind directory bytes depth = if ghosts.eq kind expansions.Msvc then [] else leads_in kind directory (arguments kind bytes) depth
 
 abbrev pub leads_from : ExpansionKind → List ℕ → Option (List ℕ) → ℕ → List Lead
 leads_from kind directory None depth = []
@@ -71,55 +80,48 @@ leads_found reading view directory depth = flat_map (file_leads view directory d
 -- it is one of a load that made the view
 pub record IsLead (disk : Viewed) (load : Load) (view : Viewed) (lead : Lead) : Type 0 where
   pub is_chain : IsChain disk load lead.depth lead.path
-  pub is_named : IsGiven load lead.path ⊎ ((from : List ℕ) × IsInside load view from lead.path)
-
--- a load on the disk made the view with n readings, and these are left to look for
-pub record IsLed (disk : Viewed) (load : Load) (readings : ℕ) (view : Viewed) (leads : List Lead) : Type 0 where
-  pub are_looks : AreLooks disk load readings view
-  pub extends : Extends disk view
-  pub are_leads : Each (IsLead disk load view) leads
+  pub is_named : (from : List ℕ) × IsInside load view from lead.path
 
 -- each reading of a load is in the directory
 abbrev pub AsksIn : List ℕ → Load → Type 0
 AsksIn directory load = (view : Viewed) → (load.asks view).directory ≡ directory
 
--- how a load that reads in the directory goes on, on each disk of which this holds
-abbrev pub GoesOn : (Viewed → Type 0) → (directory : List ℕ) → (before after : Viewed) → (leads leads' : List Lead) → Type 0
-GoesOn holds directory before after leads leads' = (disk : Viewed) (load : Load) (readings : ℕ) → holds disk → AsksIn directory load → IsLed disk load readings before leads
-    → IsLed disk load readings after leads'
+-- a load on the disk made the view with n readings, and these are left to look for
+pub record IsLed (disk : Viewed) (load : Load) (readings : ℕ) (view : Viewed) (leads : Leads) : Type 0 where
+  pub are_looks : AreLooks disk load readings view
+  pub extends : Extends disk view
+  pub asks_in : AsksIn leads.directory load
+  pub most_rounds : load.most_rounds ≡ leads.rounds
+  pub are_leads : Each (IsLead disk load view) leads.ahead
+
+-- how a load goes on, on each disk of which this holds
+abbrev pub GoesOn : (Viewed → Type 0) → (before after : Viewed) → (leads leads' : Leads) → Type 0
+GoesOn holds before after leads leads' = (disk : Viewed) (load : Load) (readings : ℕ) → holds disk → IsLed disk load readings before leads → IsLed disk load readings after leads'
 
 -- it is a lead of such a load, and the disk has its file
-abbrev pub IsFound : (Viewed → Type 0) → (directory : List ℕ) → (before after : Viewed) → List Lead → Lead → Type 0
-IsFound holds directory before after leads lead = (disk : Viewed) (load : Load) (readings : ℕ) → holds disk → AsksIn directory load → IsLed disk load readings before leads
+abbrev pub IsFound : (Viewed → Type 0) → (before after : Viewed) → Leads → Lead → Type 0
+IsFound holds before after leads lead = (disk : Viewed) (load : Load) (readings : ℕ) → holds disk → IsLed disk load readings before leads
     → IsLead disk load after lead × (is_there kinds.File lead.path disk ≡ true)
 
 -- the next one that the disk has and the view did not have was found, or there is none; or the disk fails
-abbrev pub IsFoundNext : {E : Type 0} → (Viewed → Type 0) → (E → Type 0) → (leads leads' : all.Leads) → (before after : Viewed) → Result (Option code.Lead) E → Type 0
-IsFoundNext holds fails leads leads' before after (Ok (Some lead)) =
-    (directory : List ℕ) → GoesOn holds directory before after (leads_of leads) (leads_of leads') × IsFound holds directory before after (leads_of leads) (lead_of lead)
-IsFoundNext holds fails leads leads' before after (Ok None) = (directory : List ℕ) → GoesOn holds directory before after (leads_of leads) (leads_of leads')
+abbrev pub IsFoundNext : {E : Type 0} → (Viewed → Type 0) → (E → Type 0) → (leads leads' : Leads) → (before after : Viewed) → Result (Option code.Lead) E → Type 0
+IsFoundNext holds fails leads leads' before after (Ok (Some lead)) = GoesOn holds before after leads leads' × IsFound holds before after leads (lead_of lead)
+IsFoundNext holds fails leads leads' before after (Ok None) = GoesOn holds before after leads leads'
 IsFoundNext holds fails leads leads' before after (Err error) = fails error
 
--- a load that reads in the directory went on; or the disk fails; or a chain has as many files as the limit on rounds
-abbrev pub AreFollowed : {R E : Type 0} → (Viewed → Type 0) → (E → Type 0) → (directory : List ℕ) → (rounds : ℕ) → (leads leads' : all.Leads) → (before after : Viewed)
-    → Result R (LoadError E) → Type 0
-AreFollowed holds fails directory rounds leads leads' before after (Ok _) = GoesOn holds directory before after (leads_of leads) (leads_of leads')
-AreFollowed holds fails directory rounds leads leads' before after (Err (errors.Disk error)) = fails error
-AreFollowed holds fails directory rounds leads leads' before after (Err errors.TooManyWords) = ⊥
-AreFollowed holds fails directory rounds leads leads' before after (Err errors.TooManyRounds) = (disk : Viewed) (load : Load) (readings : ℕ) → holds disk → AsksIn directory load
-    → load.most_rounds ≡ rounds → IsLed disk load readings before (leads_of leads) → IsDeep disk load
+-- a load went on; or the disk fails; or a chain has as many files as the limit on rounds
+abbrev pub AreFollowed : {R E : Type 0} → (Viewed → Type 0) → (E → Type 0) → (leads leads' : Leads) → (before after : Viewed) → Result R (LoadError E) → Type 0
+AreFollowed holds fails leads leads' before after (Ok _) = GoesOn holds before after leads leads'
+AreFollowed holds fails leads leads' before after (Err (errors.Disk error)) = fails error
+AreFollowed holds fails leads leads' before after (Err errors.TooManyWords) = ⊥
+AreFollowed holds fails leads leads' before after (Err errors.TooManyRounds) = (disk : Viewed) (load : Load) (readings : ℕ) → holds disk → IsLed disk load readings before leads → IsDeep disk load
 
 -- ---- a reading
 
--- No command line was too long, and none of the reading's questions was found. Or something was found, and what is named by the
--- files that the reading lacked follows the leads. Or a command line was too long, or the disk fails.
-abbrev pub IsReadOnce : {E : Type 0} → (Viewed → Type 0) → (E → Type 0) → DiskLine → (most : Limits) → (depth : ℕ) → (leads leads' : all.Leads) → (before after : Viewed)
-    → Result (Option Reading) (LoadError E) → Type 0
-IsReadOnce holds fails line most depth leads leads' before after (Ok (Some reading)) = let request = asked_on line before in
-    (has_at_most most request ≡ true) × (reading ≡ read_of request) × IsLookedFor holds (HasNoneAsked (questions_of request)) (AreAllSame (questions_of request)) before after false
-IsReadOnce holds fails line most depth leads leads' before after (Ok None) = let request = asked_on line before in
-    (has_at_most most request ≡ true) × IsLookedFor holds (HasNoneAsked (questions_of request)) (AreAllSame (questions_of request)) before after true
-    × (leads_of leads' ≡ leads_of leads ++ leads_found (read_of request) after line.directory.now depth)
-IsReadOnce holds fails line most depth leads leads' before after (Err (errors.Disk error)) = fails error
-IsReadOnce holds fails line most depth leads leads' before after (Err errors.TooManyWords) = has_at_most most (asked_on line before) ≡ false
-IsReadOnce holds fails line most depth leads leads' before after (Err errors.TooManyRounds) = ⊥
+-- No command line was too long, and the reading's questions were looked for. Or a command line was too long, or the disk fails.
+abbrev pub IsReadOnce : {E : Type 0} → (Viewed → Type 0) → (E → Type 0) → DiskLine → (most : Limits) → (before after : Viewed) → Result (Reading × Bool) (LoadError E) → Type 0
+IsReadOnce holds fails line most before after (Ok both) = let request = asked_on line before in
+    (has_at_most most request ≡ true) × (both.0 ≡ read_of request) × IsLookedFor holds (HasNoneAsked (questions_of request)) (AreAllSame (questions_of request)) before after both.1
+IsReadOnce holds fails line most before after (Err (errors.Disk error)) = fails error
+IsReadOnce holds fails line most before after (Err errors.TooManyWords) = has_at_most most (asked_on line before) ≡ false
+IsReadOnce holds fails line most before after (Err errors.TooManyRounds) = ⊥

@@ -8,7 +8,6 @@ use Rattle.scl_files.specs.Views.{Viewed, empty_view, bytes_at, exists, is_direc
 use Rattle.scl_files.specs.declared.expand.ExpansionKind.{ExpansionKind}
 use Rattle.scl_files.specs.declared.expand.Limits.{Limits}
 use Rattle.scl_text.specs.Commands.{pairs_of}
-use Rattle.scl_reader.specs.Compilers.{expansion_of}
 use Rattle.scl_reader.specs.Questions.{Questions, Extends, HasNoneOf, questions_of}
 use Rattle.scl_reader.specs.CommandLines.{Request, asked}
 use Rattle.scl_reader.specs.Within.{has_at_most}
@@ -86,31 +85,25 @@ first_view multiarch = record empty_view { is_multiarch = multiarch }
 abbrev pub paths_named : ExpansionKind → List ℕ → List (List ℕ) → List (List ℕ)
 paths_named kind directory words = filter_map (named kind directory) words
 
--- the given words name a response file with this path
-abbrev pub IsGiven : Load → List ℕ → Type 0
-IsGiven load path = let r = load.asks (first_view load.is_multiarch) in
-    (kind : ExpansionKind) × (expansion_of r.compiler ≡ Some kind) × Contains (paths_named kind r.directory r.words) path
-
--- words inside a file of the view name it
+-- words inside a file of the view name a response file with this path
 abbrev pub IsInside : Load → Viewed → List ℕ → List ℕ → Type 0
 IsInside load view file path = (kind : ExpansionKind) × (bytes : List ℕ) × (words : List (List ℕ)) × (bytes_at file view.files ≡ Some bytes) × (arguments kind bytes ≡ Some words)
     × Contains (paths_named kind (load.asks view).directory words) path
 
 -- Looks that make the view from nothing, with the number of readings that found something. Each look is for a response file
--- that the given words name, or words inside a file that was found. Or it is for all of a reading's questions, if no command line
--- is too long, and finds some of it.
+-- that words inside a file that was found name. Or it is for all of a reading's questions, if no command line is too long, and
+-- finds some of it.
 pub data AreLooks (disk : Viewed) (load : Load) : ℕ → Viewed → Type 0 where
   none : AreLooks disk load 0 (first_view load.is_multiarch)
-  file : (n : ℕ) (before after : Viewed) (path : List ℕ) (found : Bool) → AreLooks disk load n before → IsGiven load path ⊎ ((from : List ℕ) × IsInside load before from path)
+  file : (n : ℕ) (before after : Viewed) (from path : List ℕ) (found : Bool) → AreLooks disk load n before → IsInside load before from path
       → IsLook (IsAbsent kinds.File path) (IsSame kinds.File path) disk before after found → AreLooks disk load n after
   asked_all : (n : ℕ) (before after : Viewed) → AreLooks disk load n before → has_at_most load.most (load.asks before) ≡ true
       → IsLook (HasNoneAsked (questions_of (load.asks before))) (AreAllSame (questions_of (load.asks before))) disk before after true
       → AreLooks disk load (n + 1) after
 
--- A path that is reached in n steps. It is given (n is 0); or it is a question of a reading, after n readings that found
--- something; or it is named by a file of the disk that is reached in one step less.
+-- A path that is reached in n steps. It is a question of a reading, after n readings that found something; or it is named by a
+-- file of the disk that is reached in one step less.
 pub data IsChain (disk : Viewed) (load : Load) : ℕ → List ℕ → Type 0 where
-  given : (path : List ℕ) → IsGiven load path → IsChain disk load 0 path
   asked_file : (n : ℕ) (view : Viewed) (path : List ℕ) → AreLooks disk load n view → Contains (questions_of (load.asks view)).files path → IsChain disk load n path
   inside : (n : ℕ) (from path : List ℕ) → IsChain disk load n from → IsInside load disk from path → IsChain disk load (n + 1) path
 

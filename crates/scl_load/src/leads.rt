@@ -1,18 +1,15 @@
 //! Response files that words name, followed from file to file on a disk.
-ghost use Rattle.std.specs.Prelude.{◌≡◌, [], ◌++◌, ◌+◌, ◌≤◌, IfOk, MatchOption, OnOk};
-ghost use Rattle.std.specs.List.{flat_map};
-ghost use Rattle.scl_files.specs.ResponseFiles.{arguments};
-ghost use Rattle.scl_files.specs.Views.{bytes_at};
-ghost use Rattle.scl_reader.specs.Reads.{lacked_of};
+ghost use Rattle.std.specs.Prelude.{◌≡◌, [], ◌+◌, ◌≤◌, IfOk, MatchOption, OnOk};
+ghost use Rattle.std.specs.Option.{option_copied};
 ghost use Rattle.scl_values.specs.Words.{words_of};
-ghost use Rattle.scl_load.specs.Leads.{AreFollowed, IsFoundNext, file_leads, lead_at, leads_named, leads_in, leads_inside, leads_from, leads_found, leads_of};
+ghost use Rattle.scl_load.specs.Leads.{AreFollowed, IsFoundNext, leads_from, leads_found, leads_named, leads_of, with_more};
 
 use crate::disk::Disk;
 use crate::loader::LoadError;
 use crate::look::look_for_file;
 use scl_files::expand::ExpansionKind;
 use scl_files::response_file::{arguments, named};
-use scl_reader::{LackedFile, Mem, Reading, View};
+use scl_reader::{Mem, Reading, View};
 use std::alloc::Global;
 use std::collections::VecDeque;
 
@@ -24,9 +21,11 @@ struct Lead {
     depth: u32,
 }
 
-/// Response files to look for, in order.
+/// Response files to look for, in order: the directory in which words name them, and the limit on the files of a chain.
 #[derive(Drop)]
-pub(crate) struct Leads {
+pub(crate) struct Leads<'a> {
+    directory: &'a [u8],
+    rounds: u32,
     ahead: VecDeque<Lead>,
 }
 
@@ -41,31 +40,16 @@ fn next_depth(depth: u32, rounds: u32) -> Option<u32>
     }
 }
 
-impl Leads {
+impl<'a> Leads<'a> {
     /// None yet.
-    pub(crate) fn new(alloc: Global) -> Leads
-        ensures { leads_of result ≡ [] }
+    pub(crate) fn new(alloc: Global, directory: &'a [u8], rounds: u32) -> Leads<'a>
+        ensures { leads_of result ≡ record { directory = directory.now; rounds = rounds; ahead = [] } }
     {
         Leads {
+            directory,
+            rounds,
             ahead: VecDeque::new(alloc),
         }
-    }
-
-    /// Appends the one that a word names, if it names one.
-    fn push_word(
-        &mut self,
-        alloc: Global,
-        kind: ExpansionKind,
-        cwd: &[u8],
-        word: &[u8],
-        depth: u32,
-    ) -> Mem<()>
-        ensures { OnOk result (leads_of self.new ≡ leads_of self.old ++ lead_at kind cwd.now depth word.now) }
-    {
-        if let Some(path) = named(alloc, kind, cwd, word)? {
-            self.ahead.push_back(Lead { kind, path, depth })?;
-        }
-        Ok(())
     }
 
     /// Appends those that words name.
@@ -73,101 +57,57 @@ impl Leads {
         &mut self,
         alloc: Global,
         kind: ExpansionKind,
-        cwd: &[u8],
         words: &[Vec<u8>],
         depth: u32,
     ) -> Mem<()>
-        ensures { OnOk result (leads_of self.new ≡ leads_of self.old ++ leads_named kind cwd.now (words_of words.now) depth) }
+        ensures { OnOk result (leads_of self.new ≡ with_more (leads_of self.old) (leads_named kind self.old.directory.now (words_of words.now) depth)) }
     {
         for word in words {
-            self.push_word(alloc, kind, cwd, word, depth)?;
+            if let Some(path) = named(alloc, kind, self.directory, word)? {
+                self.ahead.push_back(Lead { kind, path, depth })?;
+            }
         }
         Ok(())
     }
 
-    /// Appends those that the words in a text name.
-    fn push_text(
-        &mut self,
-        alloc: Global,
-        kind: ExpansionKind,
-        bytes: &[u8],
-        cwd: &[u8],
-        depth: u32,
-    ) -> Mem<()>
-        ensures { OnOk result (leads_of self.new ≡ leads_of self.old ++ leads_in kind cwd.now (arguments kind bytes.now) depth) }
-    {
-        match arguments(alloc, kind, bytes)? {
-            Some(words) => self.push_named(alloc, kind, cwd, &words, depth),
-            None => Ok(()),
-        }
-    }
-
-    /// Appends those that the words of a file name; words in Msvc's files name none.
+    /// Appends those that the words of a file name, if there is one; words in Msvc's files name none.
     fn push_inside(
         &mut self,
         alloc: Global,
         kind: ExpansionKind,
-        bytes: &[u8],
-        cwd: &[u8],
+        bytes: Option<&[u8]>,
         depth: u32,
     ) -> Mem<()>
-        ensures { OnOk result (leads_of self.new ≡ leads_of self.old ++ leads_inside kind cwd.now bytes.now depth) }
+        ensures { OnOk result (leads_of self.new ≡ with_more (leads_of self.old) (leads_from kind self.old.directory.now (option_copied bytes.entry) depth)) }
     {
-        match kind {
-            ExpansionKind::Gnu => self.push_text(alloc, ExpansionKind::Gnu, bytes, cwd, depth),
-            ExpansionKind::Msvc => Ok(()),
-            ExpansionKind::Diab => self.push_text(alloc, ExpansionKind::Diab, bytes, cwd, depth),
+        let Some(bytes) = bytes else {
+            return Ok(());
+        };
+        if kind == ExpansionKind::Msvc {
+            return Ok(());
         }
-    }
-
-    /// Appends those that a file names, if the view has it.
-    fn push_file(
-        &mut self,
-        alloc: Global,
-        kind: ExpansionKind,
-        path: &[u8],
-        view: &View,
-        cwd: &[u8],
-        depth: u32,
-    ) -> Mem<()>
-        ensures { OnOk result (leads_of self.new ≡ leads_of self.old ++ leads_from kind cwd.now (bytes_at path.now view.now.files) depth) }
-    {
-        match view.file(path) {
-            Some(bytes) => self.push_inside(alloc, kind, bytes, cwd, depth),
+        match arguments(alloc, kind, bytes)? {
+            Some(words) => self.push_named(alloc, kind, &words, depth),
             None => Ok(()),
         }
-    }
-
-    /// Appends those that files name, of the files that the view has.
-    fn push_files(
-        &mut self,
-        alloc: Global,
-        files: &[LackedFile],
-        view: &View,
-        cwd: &[u8],
-        depth: u32,
-    ) -> Mem<()>
-        ensures { OnOk result (leads_of self.new ≡ leads_of self.old ++ flat_map (file_leads view.now cwd.now depth) (lacked_of files.now)) }
-    {
-        for file in files {
-            self.push_file(alloc, file.kind, &file.path, view, cwd, depth)?;
-        }
-        Ok(())
     }
 
     /// Appends those that are named by the files which the reading lacked and the view has.
     pub(crate) fn push_found(
         &mut self,
         alloc: Global,
-        reading: &Reading,
+        reading: Reading,
         view: &View,
-        cwd: &[u8],
         depth: u32,
     ) -> Mem<()>
-        ensures { OnOk result (leads_of self.new ≡ leads_of self.old ++ leads_found reading.now view.now cwd.now depth) }
+        ensures { OnOk result (leads_of self.new ≡ with_more (leads_of self.old) (leads_found reading view.now self.old.directory.now depth)) }
     {
-        let files = reading.files_lacked(alloc)?;
-        self.push_files(alloc, &files, view, cwd, depth)
+        let files = reading.files_lacked(alloc);
+        drop(reading);
+        for file in &files? {
+            self.push_inside(alloc, file.kind, view.file(&file.path), depth)?;
+        }
+        Ok(())
     }
 
     /// The next one that the disk has and the view did not have; it is added to the view. Those before it are dropped.
@@ -177,7 +117,7 @@ impl Leads {
         disk: &D,
         view: &mut View,
     ) -> Mem<Result<Option<Lead>, D::Error>>
-        ensures { IfOk result (IsFoundNext (D.holds disk.now) (D.fails disk.now) self.old self.new view.old view.new) }
+        ensures { IfOk result (IsFoundNext (D.holds disk.now) (D.fails disk.now) (leads_of self.old) (leads_of self.new) view.old view.new) }
     {
         while let Some(lead) = self.ahead.pop_front() {
             if view.file(&lead.path).is_some() {
@@ -199,19 +139,17 @@ impl Leads {
         alloc: Global,
         disk: &D,
         view: &mut View,
-        cwd: &[u8],
-        rounds: u32,
     ) -> Mem<Result<bool, LoadError<D::Error>>>
-        ensures { IfOk result (AreFollowed (D.holds disk.now) (D.fails disk.now) cwd.now rounds self.old self.new view.old view.new) }
+        ensures { IfOk result (AreFollowed (D.holds disk.now) (D.fails disk.now) (leads_of self.old) (leads_of self.new) view.old view.new) }
     {
         let lead = match self.find(alloc, disk, view)? {
             Ok(Some(lead)) => lead,
             Ok(None) => return Ok(Ok(false)),
             Err(error) => return Ok(Err(LoadError::Disk(error))),
         };
-        match next_depth(lead.depth, rounds) {
+        match next_depth(lead.depth, self.rounds) {
             Some(depth) => {
-                self.push_file(alloc, lead.kind, &lead.path, view, cwd, depth)?;
+                self.push_inside(alloc, lead.kind, view.file(&lead.path), depth)?;
                 Ok(Ok(true))
             }
             None => Ok(Err(LoadError::TooManyRounds)),
@@ -225,14 +163,12 @@ impl Leads {
         alloc: Global,
         disk: &D,
         view: &mut View,
-        cwd: &[u8],
         most: usize,
-        rounds: u32,
     ) -> Mem<Result<(), LoadError<D::Error>>>
-        ensures { IfOk result (AreFollowed (D.holds disk.now) (D.fails disk.now) cwd.now rounds self.old self.new view.old view.new) }
+        ensures { IfOk result (AreFollowed (D.holds disk.now) (D.fails disk.now) (leads_of self.old) (leads_of self.new) view.old view.new) }
     {
         for _found in 0..most {
-            match self.step(alloc, disk, view, cwd, rounds)? {
+            match self.step(alloc, disk, view)? {
                 Ok(true) => {}
                 Ok(false) => return Ok(Ok(())),
                 Err(error) => return Ok(Err(error)),

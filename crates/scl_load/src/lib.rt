@@ -2,6 +2,7 @@
 #![tactic(auto)]
 
 mod disk;
+pub mod laws;
 mod leads;
 mod loader;
 mod look;

@@ -90,31 +90,22 @@ fn read_in(
     }
 }
 
-/// Reads the command line in the view, and looks for the reading's questions. If nothing is found, gives the reading.
-/// Otherwise appends to the leads, at this depth, what is named by the files that the reading lacked.
+/// Reads the command line in the view, and looks for the reading's questions; says whether any of it was found.
 fn read_once<D: Disk>(
     alloc: Global,
     disk: &D,
     line: &DiskLine<'_>,
     view: &mut View,
-    leads: &mut Leads,
     most: Limits,
-    depth: u32,
-) -> Mem<Result<Option<Reading>, LoadError<D::Error>>>
-    ensures { IfOk result (IsReadOnce (D.holds disk.now) (D.fails disk.now) line.now most depth leads.old leads.new view.old view.new) }
+) -> Mem<Result<(Reading, bool), LoadError<D::Error>>>
+    ensures { IfOk result (IsReadOnce (D.holds disk.now) (D.fails disk.now) line.now most view.old view.new) }
 {
     let (reading, questions) = match read_in(alloc, line, view, most)? {
         Ok(both) => both,
         Err(TooManyWords) => return Ok(Err(LoadError::TooManyWords)),
     };
     match look_for_all(alloc, disk, view, &questions) {
-        Ok(Ok(false)) => Ok(Ok(Some(reading))),
-        Ok(Ok(true)) => {
-            let pushed = leads.push_found(alloc, &reading, view, line.directory, depth);
-            drop(reading);
-            pushed?;
-            Ok(Ok(None))
-        }
+        Ok(Ok(found)) => Ok(Ok((reading, found))),
         Ok(Err(error)) => {
             drop(reading);
             Ok(Err(LoadError::Disk(error)))
@@ -152,21 +143,14 @@ pub fn load<D: Disk>(
 {
     let mut view = View::new(alloc);
     view.set_multiarch(line.multiarch);
-    let mut leads = Leads::new(alloc);
+    let mut leads = Leads::new(alloc, line.directory, rounds);
     for round in 0..rounds {
-        if let Err(error) = leads.follow(
-            alloc,
-            disk,
-            &mut view,
-            line.directory,
-            most.words,
-            rounds,
-        )? {
+        if let Err(error) = leads.follow(alloc, disk, &mut view, most.words)? {
             return Ok(Err(error));
         }
-        match read_once(alloc, disk, line, &mut view, &mut leads, most, round + 1)? {
-            Ok(Some(reading)) => return Ok(Ok(Loaded { view, reading })),
-            Ok(None) => {}
+        match read_once(alloc, disk, line, &mut view, most)? {
+            Ok((reading, false)) => return Ok(Ok(Loaded { view, reading })),
+            Ok((reading, true)) => leads.push_found(alloc, reading, &view, round + 1)?,
             Err(error) => return Ok(Err(error)),
         }
     }

@@ -77,7 +77,7 @@ pub static ROWS: &[Row] = rows![
     (&["command"], "-0", "", Takes::Nothing, "End each word with a NUL, in place of quotes for a shell"),
     (&["command"], "--strict", "", Takes::Nothing, "Write no command where a hazard concerns the files that it makes"),
     (&["check"], "--keep", "", Takes::Nothing, "Say whether the result may be kept under a key, in place of the hazards"),
-    (&["database"], "--keep", "", Takes::Nothing, "Count what may be kept under a key, and why the rest may not; it takes longer"),
+    (&["database"], "--keep", "", Takes::Nothing, "Count what may be kept under a key, and why the rest may not"),
     (&["database"], "--only", "WHAT", Takes::NameOf(KINDS), "Write only the entries of this kind"),
     (&["command"], "--color", "WHEN", Takes::NameOf(COLORS), "When messages of gcc and clang have colours: always, as without it; never; auto: where they go to a terminal"),
     (&["explain", "check", "database"], "--json", "", Takes::Nothing, "Write JSON, an object a line"),

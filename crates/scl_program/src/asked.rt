@@ -127,7 +127,7 @@ impl<'m, 'a> Asked<'m, 'a> {
     /// How command lines are described.
     pub fn settings(&self, alloc: Global) -> Mem<Settings> {
         let mut settings = Settings::new(alloc);
-        settings.may_dist = self.has("--may-dist");
+        settings.runs.may_dist = self.has("--may-dist");
         settings.version = self.version(alloc)?;
         settings.limits = self.limits();
         settings.bases = base_dirs(alloc, &self.values(alloc, "--base")?)?;

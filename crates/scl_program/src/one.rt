@@ -7,8 +7,8 @@ use scl_cl::text::command::copy_words;
 use scl_cl::{ColorMode, path};
 use scl_describe::Tables;
 use scl_explain::{
-    Case, CaseError, CommandForm, Ending, Form, Paint, Reply, WordForm, check as check_reply,
-    command as command_reply, explain as explain_reply,
+    Case, CaseError, CommandForm, Conditions, Ending, Form, Means, Paint, Reply, WordForm,
+    check as check_reply, command as command_reply, explain as explain_reply,
 };
 use scl_report::{Pages, absent_text, check_kept, color_word};
 use std::env::{Env, FillError};
@@ -48,21 +48,16 @@ pub fn case_of_words(
     directory: Vec<u8>,
 ) -> Result<Option<Case>, Fault> {
     let alloc = rt.alloc();
-    let env_vars = variables_of(rt, asked)?;
+    let conditions = Conditions {
+        cwd: directory,
+        env_vars: variables_of(rt, asked)?,
+        multiarch: asked.has("--multiarch"),
+        settings: asked.settings(alloc)?,
+    };
     let launchers = asked.values(alloc, "--launcher")?;
-    match Case::of_words(
-        alloc,
-        copy_words(alloc, words)?,
-        &launchers,
-        asked.compiler(),
-        directory,
-        env_vars,
-    )? {
-        Ok(mut case) => {
-            case.multiarch = asked.has("--multiarch");
-            case.settings = asked.settings(alloc)?;
-            Ok(Some(case))
-        }
+    let all = copy_words(alloc, words)?;
+    match Case::of_words(alloc, all, &launchers, asked.compiler(), conditions)? {
+        Ok(case) => Ok(Some(case)),
         Err(error) => {
             no_case(rt, &error, words)?;
             Ok(None)
@@ -144,6 +139,15 @@ fn form_of(rt: &HostRuntime, asked: &Asked<'_, '_>) -> Form {
     }
 }
 
+/// What a command line is answered by.
+fn means_of<'r, 't>(rt: &'r HostRuntime, tables: &Tables<'t>) -> Means<'t, SystemDisk<'r>, Pages> {
+    Means {
+        disk: SystemDisk::new(rt),
+        tables: *tables,
+        report: Pages,
+    }
+}
+
 /// Says what a command line is.
 pub fn explain(
     rt: &HostRuntime,
@@ -154,9 +158,8 @@ pub fn explain(
         return Ok(Ending::Usage);
     };
     tell_absent(rt, tables, &case)?;
-    let disk = SystemDisk::new(rt);
-    let form = form_of(rt, asked);
-    let reply = explain_reply(rt.alloc(), &disk, tables, &case, form, &Pages)?;
+    let by = means_of(rt, tables);
+    let reply = explain_reply(rt.alloc(), &by, &case, form_of(rt, asked))?;
     say(rt, &reply)
 }
 
@@ -199,12 +202,12 @@ pub fn command(
     };
     put_color(rt, asked, &mut case)?;
     tell_absent(rt, tables, &case)?;
-    let disk = SystemDisk::new(rt);
+    let by = means_of(rt, tables);
     let form = CommandForm {
         words: word_form(rt, asked),
         is_strict: asked.has("--strict"),
     };
-    let reply = command_reply(rt.alloc(), &disk, tables, &case, form, &Pages)?;
+    let reply = command_reply(rt.alloc(), &by, &case, form)?;
     say(rt, &reply)
 }
 
@@ -215,11 +218,11 @@ fn checked(
     asked: &Asked<'_, '_>,
     case: &Case,
 ) -> Result<Reply, Fault> {
-    let (alloc, disk, form) = (rt.alloc(), SystemDisk::new(rt), form_of(rt, asked));
+    let (by, form) = (means_of(rt, tables), form_of(rt, asked));
     if asked.has("--keep") {
-        return Ok(check_kept(alloc, &disk, tables, case, form)?);
+        return Ok(check_kept(rt.alloc(), &by.disk, tables, case, form)?);
     }
-    Ok(check_reply(alloc, &disk, tables, case, form, &Pages)?)
+    Ok(check_reply(rt.alloc(), &by, case, form)?)
 }
 
 /// Says which hazards a command line has, or whether its outcome may be kept.

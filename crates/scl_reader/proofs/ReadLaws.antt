@@ -1,5 +1,5 @@
 -- A reading is by the compiler of the request, and says what the words say; its answer is that to the request.
-use Rattle.std.proofs.Common.{◌≡◌, ℕ, true, false, List, [], ◌∷◌, Result, Ok, length, refl, ap, sym, subst, ◌∙◌}
+use Rattle.std.proofs.Common.{◌≡◌, ℕ, true, false, List, [], ◌∷◌, length, refl, ap, sym, subst, ◌∙◌}
 use Rattle.scl_files.specs.Expanded.{standing}
 use Rattle.scl_files.specs.Sources.{indices}
 use Rattle.scl_files.specs.declared.expand.ExpansionKind.TheVariants as expansions
@@ -12,18 +12,15 @@ use Rattle.scl_small.specs.DiabReading as diab
 use Rattle.scl_small.specs.DiabTable as diab_table
 use Rattle.scl_small.specs.TaskingReading as tasking
 use Rattle.scl_small.specs.TaskingTable as tasking_table
-use Rattle.scl_text.specs.Records.{Parsed, Verdict, parsed_of}
 use Rattle.scl_text.specs.declared.records.CCompilerKind.TheVariants as kinds
 use Rattle.scl_text.specs.declared.records.CompilerArguments.{CompilerArguments}
-use Rattle.scl_text.specs.declared.records.CompilerArguments.TheVariants as outcomes
 use Rattle.scl_values.specs.Tables.{owner_in}
-use Rattle.scl_values.specs.Words.{words_of}
+use Rattle.scl_reader.specs.declared.compilation.Compilation.{Compilation}
 use Rattle.scl_reader.specs.declared.compiler.Compiler.{Compiler}
 use Rattle.scl_reader.specs.declared.compiler.Compiler.TheVariants as compilers
-use Rattle.scl_reader.specs.declared.kept.Compilation.{Compilation}
 use Rattle.scl_reader.specs.declared.reading.Reading.{Reading}
 use Rattle.scl_reader.specs.Answers.{answer_to, environment_by, read_again_by, reading_by}
-use Rattle.scl_reader.specs.AnswersGiven.{AnswersReading, HasBuilt, HasKept, HasParts, IfCompiled, IsAnswerBy, answer_of}
+use Rattle.scl_reader.specs.AnswersGiven.{AnswersReading, HasParts, IfCompiled, IsAnswerBy, answer_of}
 use Rattle.scl_reader.specs.CommandLines.{Given, Request, asked_for, given_in}
 use Rattle.scl_reader.specs.Definitions.{definitions_of}
 use Rattle.scl_reader.specs.Reads.{IsReadBy, ReadingsSay, compiler_of, expanded, outcome_in, read_by, read_of}
@@ -53,32 +50,15 @@ readings-say request = record { compiler = by-compiler request.compiler (given_i
 
 -- ---- answers
 
-module _ (said : Result Parsed Verdict) (promise : Parsed → List (List ℕ) → Type 0) where
-  abbrev Kept : CompilerArguments Compilation → Type 0
-  Kept answer = HasKept (λ compilation. compilation.command) (λ compilation parsed. parsed_of compilation.parsed ≡ parsed) said promise answer
-
-  parts-of : (executable : List ℕ) (pairs : List (List ℕ × List ℕ)) (directory : List ℕ) (answer : CompilerArguments Compilation)
-      → HasBuilt (λ compilation. compilation.command) executable pairs directory answer → Kept answer → HasParts said executable pairs directory answer
-  parts-of executable pairs directory (outcomes.Ok compilation) built kept = (kept.2 ∙ ap Ok (sym kept.1), built)
-  parts-of executable pairs directory (outcomes.CannotCache reason text) built kept = tt
-  parts-of executable pairs directory outcomes.NotCompilation built kept = tt
-
-  compiled-of : (answer : CompilerArguments Compilation) → Kept answer → IfCompiled promise answer
-  compiled-of (outcomes.Ok compilation) kept = subst (λ p. promise p (words_of compilation.command.arguments.items)) (sym kept.1) kept.3
-  compiled-of (outcomes.CannotCache reason text) kept = tt
-  compiled-of outcomes.NotCompilation kept = tt
-
 module _ (request : Request) (executable : List ℕ) (answer : CompilerArguments Compilation) where
   abbrev Answers : Reading → Type 0
   Answers reading = AnswersReading (definitions_of (compiler_of reading)) executable (outcome_in reading) request.directory request.environment request.view answer
 
   abbrev IsAnswer : Compiler → Type 0
-  IsAnswer compiler = IsAnswerBy (λ compilation. compilation.command) (λ compilation. compilation.cacheable) (λ compilation parsed. parsed_of compilation.parsed ≡ parsed) (definitions_of compiler)
-      executable request.words request.directory request.environment request.view answer
+  IsAnswer compiler = IsAnswerBy (definitions_of compiler) executable (given_in request) answer
 
-  -- the answer of a request's reading is that to the request
-  pub answer_read : (reading : Reading) → reading ≡ read_of request → Answers reading → IsAnswer request.compiler
-  answer_read reading e h =
+  answer-read : (reading : Reading) → reading ≡ read_of request → Answers reading → IsAnswer request.compiler
+  answer-read reading e h =
       let is : IsReadBy request = readings-say request in
       let here : Answers (read_of request) = subst Answers e h in
       subst IsAnswer is.compiler (here request.words (ap (λ c. reading_by c (asked_for c (given_in request))) is.compiler ∙ sym is.outcome))
@@ -91,11 +71,5 @@ module _ (request : Request) (executable : List ℕ) (answer : CompilerArguments
 
   pub answer_of_read : (reading : Reading) → reading ≡ read_of request → Answers reading → IsOf
   answer_of_read reading e h =
-      let is : IsAnswer request.compiler = answer_read reading e h in
-      let said : Result Parsed Verdict = reading_by request.compiler request in
-      let promise : Parsed → List (List ℕ) → Type 0 = read_again_by request.compiler request in
-      record {
-        is = is.answer_is;
-        parts = parts-of said promise executable (environment_by request.compiler request.environment) request.directory answer is.has_parts is.has_kept;
-        read_again = compiled-of said promise answer is.has_kept;
-      }
+      let is : IsAnswer request.compiler = answer-read reading e h in
+      record { is = is.answer_is; parts = is.has_parts; read_again = is.is_read_again }

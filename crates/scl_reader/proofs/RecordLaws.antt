@@ -1,15 +1,13 @@
 -- What an answer that is no command says of its record: there is none.
-use Rattle.std.proofs.Common.{◌≡◌, ℕ, true, List, Option, None, Some, Result, Ok, Err, ◌∙◌, refl, ap, sym, subst}
+use Rattle.std.proofs.Common.{◌≡◌, ℕ, true, List, Option, None, Some, Result, Ok, Err, refl, ap, sym, subst}
 use Rattle.std.specs.Prelude.{is_some}
 use Rattle.std.specs.Result.{result_ok}
-use Rattle.scl_files.specs.Views.{Viewed}
-use Rattle.scl_text.specs.Records.{Parsed, Verdict, parsed_of}
+use Rattle.scl_text.specs.Records.{Parsed, Verdict}
 use Rattle.scl_text.specs.declared.records.Cacheable.{Cacheable}
 use Rattle.scl_text.specs.declared.records.CompilerArguments.{CompilerArguments}
 use Rattle.scl_text.specs.declared.records.CompilerArguments.TheVariants as outcomes
-use Rattle.scl_reader.specs.declared.compiler.Compiler.{Compiler}
-use Rattle.scl_reader.specs.declared.kept.Compilation.{Compilation}
-use Rattle.scl_reader.specs.CommandLines.{Request, asked}
+use Rattle.scl_reader.specs.declared.compilation.Compilation.{Compilation}
+use Rattle.scl_reader.specs.CommandLines.{Request, given_in}
 use Rattle.scl_reader.specs.Answers.{Answer, compiled, cannot_cache, not_compilation, answer_with, answer_from, answer_to, command_by, kept_by, reading_by}
 use Rattle.scl_reader.specs.AnswersGiven.{record_given, IsAnswerBy}
 use Rattle.scl_reader.specs.Definitions.{definitions_of}
@@ -41,15 +39,14 @@ none-read : (r : Result Parsed Verdict) → HasNoRecord r → None ≡ result_ok
 none-read (Ok p) n = absurd n
 none-read (Err v) n = refl
 
-module _ (compiler : Compiler) (words : List (List ℕ)) (directory : List ℕ) (pairs : List (List ℕ × List ℕ)) (view : Viewed) (executable : List ℕ) where
-  abbrev said : Result Parsed Verdict
-  said = reading_by compiler (asked compiler words directory pairs view)
-
+module _ (request : Request) (executable : List ℕ) where
   abbrev IsAnswer : CompilerArguments Compilation → Type 0
-  IsAnswer = IsAnswerBy (λ compilation. compilation.command) (λ compilation. compilation.cacheable) (λ compilation parsed. parsed_of compilation.parsed ≡ parsed) (definitions_of compiler)
-      executable words directory pairs view
+  IsAnswer = IsAnswerBy (definitions_of request.compiler) executable (given_in request)
+
+  abbrev said : Result Parsed Verdict
+  said = reading_by request.compiler request
 
   pub record_is_given : (answer : CompilerArguments Compilation) → IsAnswer answer → record_given answer ≡ result_ok said
-  record_is_given (outcomes.Ok compilation) is = ap Some is.has_kept.1 ∙ sym (ap result_ok is.has_kept.2)
-  record_is_given (outcomes.CannotCache reason text) is = none-read said (no-record-read (asked compiler words directory pairs view) (subst IsNone is.answer_is tt))
-  record_is_given outcomes.NotCompilation is = none-read said (no-record-read (asked compiler words directory pairs view) (subst IsNone is.answer_is tt))
+  record_is_given (outcomes.Ok compilation) is = sym (ap result_ok is.has_parts.0)
+  record_is_given (outcomes.CannotCache reason text) is = none-read said (no-record-read request (subst IsNone is.answer_is tt))
+  record_is_given outcomes.NotCompilation is = none-read said (no-record-read request (subst IsNone is.answer_is tt))

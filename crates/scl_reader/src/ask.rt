@@ -29,11 +29,11 @@ pub(crate) trait Query: Sized {
     /// The answer of a compiler.
     fn ask<C: CCompilerImpl>(self, alloc: Global, compiler: &C) -> Mem<Self::Answer>
         ensures { IfOk result (λ answer. gives self (record {
-          reading = C.reading compiler.now;
+          reading = λ line. C.reading compiler.now line.words line.directory line.environment line.view;
           command = command_by (C.command compiler.now);
           environment = C.environment compiler.now;
-          cacheable = λ words directory environment view parsed. C.cacheable compiler.now parsed directory view;
-          is_read_again = C.is_read_again compiler.now;
+          cacheable = λ line parsed. C.cacheable compiler.now parsed line.directory line.view;
+          is_read_again = λ line. C.is_read_again compiler.now line.words line.directory line.environment line.view;
           runs = C.runs compiler.now;
         }) answer) };
 }

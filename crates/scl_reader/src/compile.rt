@@ -2,44 +2,43 @@
 ghost use Rattle.std.specs.Prelude.{◌≡◌, ℕ, List, IfOk, Ok};
 ghost use Rattle.std.specs.Result.{result_ok};
 ghost use Rattle.scl_files.specs.Views.{Viewed};
-ghost use Rattle.scl_text.specs.Records.{outcome_of, parsed_of};
-ghost use Rattle.scl_values.specs.Words.{words_of};
 ghost use Rattle.scl_text.specs.Commands.{pairs_of, command_by};
-ghost use Rattle.scl_reader.specs.CommandLines.{asked};
-ghost use Rattle.scl_reader.specs.Answers.{Keeps, answer_to, answer_with, environment_by, reading_by, read_again_by};
-ghost use Rattle.scl_reader.specs.AnswersGiven.{answer_by, answer_of, command_answer, record_given, HasBuilt, HasKept, HasParts, HasCommand, IfCompiled, IsAnswerBy, AnswersOutcome, AnswersReading};
+ghost use Rattle.scl_text.specs.Records.{parsed_of};
+ghost use Rattle.scl_reader.specs.CommandLines.{asked_for, given_by};
+ghost use Rattle.scl_reader.specs.Answers.{answer_to, answer_with, environment_by, reading_by, read_again_by};
+ghost use Rattle.scl_reader.specs.AnswersGiven.{answer_of, record_given, HasParts, IfCompiled, AnswersReading};
 ghost use Rattle.scl_reader.specs.Definitions.{definitions_of};
 ghost use Rattle.scl_reader.specs.Reads.{compiler_of, outcome_in};
 
 use crate::ask::Query;
 use crate::command_line::CommandLine;
+use crate::compilation::Compilation;
 use crate::compiler::Compiler;
-use crate::kept::{BuiltCommand, Compilation, Kept};
 use crate::reading::Reading;
-use scl_text::command::copy_words;
 use scl_text::records::{CommandError, CompilerArguments, ParsedArguments};
-use scl_text::{CCompilerImpl, Mem, View};
+use scl_text::{CCompilerImpl, Mem};
 use std::alloc::{AllocError, Global};
-use std::marker::PhantomData;
 
-/// The answer of a record: what is kept of it.
-fn answer_record<C: CCompilerImpl, K: Kept>(
+/// The answer of a record, which is moved in.
+fn answer_record<C: CCompilerImpl>(
     alloc: Global,
     compiler: &C,
     executable: &[u8],
     parsed: ParsedArguments,
-    cwd: &[u8],
-    env_vars: &[(Vec<u8>, Vec<u8>)],
-    view: &View,
-) -> Mem<CompilerArguments<K>>
-    ensures answer { IfOk result (λ answer. answer_by K.command K.cacheable answer ≡ answer_with (command_by (C.command compiler.now) (parsed_of parsed)) (C.cacheable compiler.now (parsed_of parsed) cwd.now view.now)) }
-    ensures parts { IfOk result (λ answer. HasBuilt K.command executable.now (C.environment compiler.now (pairs_of env_vars.now)) cwd.now answer) }
-    ensures kept { IfOk result (λ answer. (line : List (List ℕ)) (directory : List ℕ) (pairs : List (List ℕ × List ℕ)) (files : Viewed) →
-        C.reading compiler.now line directory pairs files ≡ Ok (parsed_of parsed) →
-        HasKept K.command K.is_of (Ok (parsed_of parsed)) (C.is_read_again compiler.now line directory pairs files) answer) }
+    line: &CommandLine<'_>,
+) -> Mem<CompilerArguments<Compilation>>
+    ensures answer { IfOk result (λ answer. answer_of answer ≡ answer_with (command_by (C.command compiler.now) (parsed_of parsed)) (C.cacheable compiler.now (parsed_of parsed) line.now.directory.now line.now.view.now)) }
+    ensures parts { IfOk result (HasParts (Ok (parsed_of parsed)) executable.now (C.environment compiler.now (pairs_of line.now.environment.now)) line.now.directory.now) }
+    ensures read_again { IfOk result (λ answer. (words : List (List ℕ)) (directory : List ℕ) (pairs : List (List ℕ × List ℕ)) (files : Viewed) →
+        C.reading compiler.now words directory pairs files ≡ Ok (parsed_of parsed) → IfCompiled (C.is_read_again compiler.now words directory pairs files) answer) }
 {
-    match K::keep(alloc, compiler, executable, parsed, cwd, env_vars, view) {
-        Ok(kept) => Ok(CompilerArguments::Ok(kept)),
+    let (cwd, env_vars, view) = (line.directory, line.environment, line.view);
+    match compiler.generate_compile_commands(alloc, executable, &parsed, cwd, env_vars, view) {
+        Ok((command, cacheable)) => Ok(CompilerArguments::Ok(Compilation {
+            parsed,
+            command,
+            cacheable,
+        })),
         Err(CommandError::MissingObj) => Ok(CompilerArguments::CannotCache(
             "Missing object file output",
             None,
@@ -48,68 +47,67 @@ fn answer_record<C: CCompilerImpl, K: Kept>(
     }
 }
 
-/// What a command line says; its words are moved in.
-#[derive(Drop)]
+/// What a command line says.
+#[derive(Clone, Copy)]
 struct Parse<'a> {
-    words: Vec<Vec<u8>>,
-    cwd: &'a [u8],
-    env_vars: &'a [(Vec<u8>, Vec<u8>)],
-    view: &'a View,
+    line: CommandLine<'a>,
 }
 
 impl<'a> Query for Parse<'a> {
     ghost use Rattle.std.specs.Prelude.{◌≡◌};
-    ghost use Rattle.scl_values.specs.Words.{words_of};
-    ghost use Rattle.scl_text.specs.Commands.{pairs_of};
     ghost use Rattle.scl_text.specs.Records.{outcome_of};
+    ghost use Rattle.scl_reader.specs.CommandLines.{given_by};
 
     type Answer = CompilerArguments<ParsedArguments>;
 
-    ghost gives = { λ query definitions outcome.
-        outcome_of outcome ≡ definitions.reading (words_of query.words.items) query.cwd.now (pairs_of query.env_vars.now) query.view.now };
+    ghost gives = { λ query definitions outcome. outcome_of outcome ≡ definitions.reading (given_by query.line) };
 
     fn ask<C: CCompilerImpl>(
         self,
         alloc: Global,
         compiler: &C,
     ) -> Mem<CompilerArguments<ParsedArguments>> {
-        compiler.parse_arguments_owned(alloc, self.words, self.cwd, self.env_vars, self.view)
+        let CommandLine {
+            words,
+            directory,
+            environment,
+            view,
+        } = self.line;
+        compiler.parse_arguments(alloc, words, directory, environment, view)
     }
 }
 
 /// The answer of what a command line says, which is moved in.
 #[derive(Drop)]
-struct Answered<'a, K> {
+struct Answered<'a> {
     executable: &'a [u8],
     outcome: CompilerArguments<ParsedArguments>,
-    cwd: &'a [u8],
-    env_vars: &'a [(Vec<u8>, Vec<u8>)],
-    view: &'a View,
-    kept: PhantomData<K>,
+    line: CommandLine<'a>,
 }
 
-impl<'a, K: Kept> Query for Answered<'a, K> {
+impl<'a> Query for Answered<'a> {
     ghost use Rattle.scl_text.specs.Commands.{pairs_of};
     ghost use Rattle.scl_text.specs.Records.{outcome_of};
-    ghost use Rattle.scl_reader.specs.AnswersGiven.{AnswersOutcome};
+    ghost use Rattle.scl_reader.specs.AnswersGiven.{AnswersReading};
 
-    type Answer = CompilerArguments<K>;
+    type Answer = CompilerArguments<Compilation>;
 
-    ghost gives = { λ query definitions. AnswersOutcome K.command K.cacheable K.is_of definitions query.executable.now
-        (outcome_of query.outcome) query.cwd.now (pairs_of query.env_vars.now) query.view.now };
+    ghost gives = { λ query definitions. AnswersReading definitions query.executable.now (outcome_of query.outcome)
+        query.line.directory.now (pairs_of query.line.environment.now) query.line.view.now };
 
-    fn ask<C: CCompilerImpl>(self, alloc: Global, compiler: &C) -> Mem<CompilerArguments<K>> {
+    fn ask<C: CCompilerImpl>(
+        self,
+        alloc: Global,
+        compiler: &C,
+    ) -> Mem<CompilerArguments<Compilation>> {
         let Answered {
             executable,
             outcome,
-            cwd,
-            env_vars,
-            view,
-            kept: _,
+            line,
         } = self;
         match outcome {
             CompilerArguments::Ok(parsed) => {
-                answer_record(alloc, compiler, executable, parsed, cwd, env_vars, view)
+                answer_record(alloc, compiler, executable, parsed, &line)
             }
             CompilerArguments::CannotCache(reason, text) => {
                 Ok(CompilerArguments::CannotCache(reason, text))
@@ -119,90 +117,28 @@ impl<'a, K: Kept> Query for Answered<'a, K> {
     }
 }
 
-/// The answer of what a command line says, which is moved in.
-fn answer_outcome<K: Kept>(
-    alloc: Global,
-    compiler: Compiler,
-    executable: &[u8],
-    outcome: CompilerArguments<ParsedArguments>,
-    cwd: &[u8],
-    env_vars: &[(Vec<u8>, Vec<u8>)],
-    view: &View,
-) -> Mem<CompilerArguments<K>>
-    ensures { IfOk result (AnswersOutcome K.command K.cacheable K.is_of (definitions_of compiler) executable.now (outcome_of outcome) cwd.now (pairs_of env_vars.now) view.now) }
-{
-    let query = Answered {
-        executable,
-        outcome,
-        cwd,
-        env_vars,
-        view,
-        kept: PhantomData,
-    };
-    compiler.ask(alloc, query)
-}
-
-/// What a command line is answered; its words are moved in.
-fn compile_words<K: Kept>(
-    alloc: Global,
-    compiler: Compiler,
-    executable: &[u8],
-    words: Vec<Vec<u8>>,
-    cwd: &[u8],
-    env_vars: &[(Vec<u8>, Vec<u8>)],
-    view: &View,
-) -> Mem<CompilerArguments<K>>
-    ensures { IfOk result (IsAnswerBy K.command K.cacheable K.is_of (definitions_of compiler) executable.now (words_of words.items) cwd.now (pairs_of env_vars.now) view.now) }
-{
-    let query = Parse {
-        words,
-        cwd,
-        env_vars,
-        view,
-    };
-    let outcome = compiler.ask(alloc, query)?;
-    answer_outcome(alloc, compiler, executable, outcome, cwd, env_vars, view)
-}
-
 impl Compiler {
-    /// What a command line is answered: the words after the program `executable`, read in the directory `cwd`, with the
-    /// environment `env_vars` and the files of `view`. All are bytes. Where the answer is a command, it is read again
+    /// What a command line is answered, with the program `executable`. Where the answer is a command, it is read again
     /// (docs/RULES.md, Answers, and Cutting again).
     pub fn answer(
         self,
         alloc: Global,
         executable: &[u8],
-        words: &[Vec<u8>],
-        cwd: &[u8],
-        env_vars: &[(Vec<u8>, Vec<u8>)],
-        view: &View,
+        line: &CommandLine<'_>,
     ) -> Mem<CompilerArguments<Compilation>>
-        ensures answer { IfOk result (λ answer. answer_of answer ≡ answer_to (asked self (words_of words.now) cwd.now (pairs_of env_vars.now) view.now)) }
-        ensures parts { IfOk result (λ answer. HasParts (reading_by self (asked self (words_of words.now) cwd.now (pairs_of env_vars.now) view.now))
-            executable.now (environment_by self (pairs_of env_vars.now)) cwd.now answer) }
-        ensures record { IfOk result (λ answer. record_given answer ≡ result_ok (reading_by self (asked self (words_of words.now) cwd.now (pairs_of env_vars.now) view.now))) }
-        ensures read_again { IfOk result (λ answer. IfCompiled (read_again_by self (asked self (words_of words.now) cwd.now (pairs_of env_vars.now) view.now)) answer) }
+        ensures answer { IfOk result (λ answer. answer_of answer ≡ answer_to (asked_for self (given_by line.now))) }
+        ensures parts { let request = asked_for self (given_by line.now) in
+            IfOk result (HasParts (reading_by self request) executable.now (environment_by self request.environment) request.directory) }
+        ensures record { IfOk result (λ answer. record_given answer ≡ result_ok (reading_by self (asked_for self (given_by line.now)))) }
+        ensures read_again { IfOk result (IfCompiled (read_again_by self (asked_for self (given_by line.now)))) }
     {
-        let words = copy_words(alloc, words)?;
-        compile_words(alloc, self, executable, words, cwd, env_vars, view)
-    }
-
-    /// What `answer` answers, to words that are moved in; what was read is made into the command, and not kept.
-    pub fn command(
-        self,
-        alloc: Global,
-        executable: &[u8],
-        words: Vec<Vec<u8>>,
-        cwd: &[u8],
-        env_vars: &[(Vec<u8>, Vec<u8>)],
-        view: &View,
-    ) -> Mem<CompilerArguments<BuiltCommand>>
-        ensures answer { IfOk result (λ answer. command_answer answer ≡ answer_to (asked self (words_of words.items) cwd.now (pairs_of env_vars.now) view.now)) }
-        ensures parts { IfOk result (λ answer. HasCommand executable.now (environment_by self (pairs_of env_vars.now)) cwd.now answer) }
-        ensures read_again { IfOk result (λ answer. Keeps (read_again_by self (asked self (words_of words.items) cwd.now (pairs_of env_vars.now) view.now))
-            (reading_by self (asked self (words_of words.items) cwd.now (pairs_of env_vars.now) view.now)) (command_answer answer)) }
-    {
-        compile_words(alloc, self, executable, words, cwd, env_vars, view)
+        let outcome = self.ask(alloc, Parse { line: *line })?;
+        let query = Answered {
+            executable,
+            outcome,
+            line: *line,
+        };
+        self.ask(alloc, query)
     }
 }
 
@@ -218,21 +154,11 @@ impl Reading {
         ensures { IfOk result (AnswersReading (definitions_of (compiler_of self)) executable.now (outcome_in self) line.now.directory.now (pairs_of line.now.environment.now) line.now.view.now) }
     {
         let compiler = self.compiler();
-        let CommandLine {
-            words: _,
-            directory,
-            environment,
-            view,
-        } = *line;
-        let outcome = self.into_outcome();
-        answer_outcome(
-            alloc,
-            compiler,
+        let query = Answered {
             executable,
-            outcome,
-            directory,
-            environment,
-            view,
-        )
+            outcome: self.into_outcome(),
+            line: *line,
+        };
+        compiler.ask(alloc, query)
     }
 }

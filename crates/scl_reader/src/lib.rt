@@ -5,9 +5,9 @@
 mod apple;
 mod ask;
 mod command_line;
+mod compilation;
 mod compile;
 mod compiler;
-mod kept;
 pub mod laws;
 mod precompiled;
 mod questions;
@@ -18,9 +18,10 @@ mod within;
 
 pub use apple::is_apple;
 pub use command_line::CommandLine;
+pub use compilation::Compilation;
 pub use compiler::Compiler;
-pub use kept::{BuiltCommand, Compilation, Kept};
 pub use questions::Questions;
 pub use reading::{LackedFile, Reading};
+pub use runs::RunOptions;
 pub use scl_text::records::{CompilerArguments, ParsedArguments};
 pub use scl_text::{Limits, Mem, TooManyWords, View};

@@ -3,9 +3,8 @@ ghost use Rattle.std.specs.Prelude.{◌≡◌, ◌++◌, [], true, false, map, I
 ghost use Rattle.std.specs.List.{flat_map};
 ghost use Rattle.std.specs.Option.{option_copied};
 ghost use Rattle.scl_values.specs.Words.{words_of};
-ghost use Rattle.scl_text.specs.Commands.{pairs_of};
 ghost use Rattle.scl_text.specs.Records.{outcome_of};
-ghost use Rattle.scl_reader.specs.CommandLines.{asked, given_by};
+ghost use Rattle.scl_reader.specs.CommandLines.{asked_for, given_by};
 ghost use Rattle.scl_reader.specs.Reads.{lacked_of};
 ghost use Rattle.scl_reader.specs.Within.{has_at_most};
 ghost use Rattle.scl_reader.specs.Questions.{database_in, hash_files, no_directory, no_path, database_asked, questions_in, questions_of};
@@ -145,28 +144,18 @@ impl Compiler {
     /// profiles may lie; the file that debug information may be added to; and the precompiled headers that matter
     /// (docs/RULES.md, Questions). A disk that has what the view has, and none of the questions, gives the same reading and
     /// answer (`laws::of_questions`). `TooManyWords` where `answer_within` says so. The outer error is the refusal of memory.
-    #[tactic(auto, using(crate::proofs::ReadLaws::answer_read))]
     pub fn open_questions(
         self,
         alloc: Global,
-        words: &[Vec<u8>],
-        cwd: &[u8],
-        env_vars: &[(Vec<u8>, Vec<u8>)],
-        view: &View,
+        line: &CommandLine<'_>,
         most: Limits,
     ) -> Mem<Result<Questions, TooManyWords>>
-        ensures { IfOk result (λ said. let request = asked self (words_of words.now) cwd.now (pairs_of env_vars.now) view.now in
+        ensures { IfOk result (λ said. let request = asked_for self (given_by line.now) in
             MatchResult said (λ questions. (has_at_most most request ≡ true) × (given questions ≡ questions_of request)) (λ _. has_at_most most request ≡ false)) }
     {
-        let line = CommandLine {
-            words,
-            directory: cwd,
-            environment: env_vars,
-            view,
-        };
-        match self.read(alloc, &line, most)? {
+        match self.read(alloc, line, most)? {
             Ok(reading) => {
-                let questions = reading.questions(alloc, &line);
+                let questions = reading.questions(alloc, line);
                 drop(reading);
                 Ok(Ok(questions?))
             }

@@ -63,24 +63,31 @@ fn expanded(
     expand_line(alloc, kind, line.directory, given, line.view, most)
 }
 
+/// A driver of Gcc or Clang.
+#[derive(Clone, Copy)]
+struct GnuDriver {
+    kind: CCompilerKind,
+    plusplus: bool,
+}
+
 /// A command line of Gcc or Clang, by these tables.
 fn read_gnu<S: SearchableArgInfo<gcc::ArgData>>(
     alloc: Global,
     line: &CommandLine<'_>,
     arg_info: &S,
-    plusplus: bool,
-    kind: CCompilerKind,
+    driver: GnuDriver,
     most: Limits,
 ) -> Mem<Result<Reading, TooManyWords>>
     requires { IsTrue (tables_hold_values holds_value (S.tables arg_info.now)) }
-    ensures { IfOk result (λ said. let within = is_gnu_within most kind (S.tables arg_info.now) (given_by line.now) in
-        MatchResult said (λ reading. (within ≡ true) × (reading ≡ Reading.Gnu (gnu_read kind plusplus (S.tables arg_info.now) (given_by line.now)))) (λ _. within ≡ false)) }
+    ensures { IfOk result (λ said. let within = is_gnu_within most driver.kind (S.tables arg_info.now) (given_by line.now) in
+        MatchResult said (λ reading. (within ≡ true) × (reading ≡ Reading.Gnu (gnu_read driver.kind driver.plusplus (S.tables arg_info.now) (given_by line.now)))) (λ _. within ≡ false)) }
 {
     let expanded = match expanded(alloc, ExpansionKind::Gnu, line, most)? {
         Ok(expanded) => expanded,
         Err(too_many) => return Ok(Err(too_many)),
     };
     let (directory, view) = (line.directory, line.view);
+    let GnuDriver { kind, plusplus } = driver;
     match GnuReading::read(
         alloc, expanded, directory, arg_info, plusplus, kind, view, most,
     )? {
@@ -100,7 +107,8 @@ fn read_gcc(
         MatchResult said (λ reading. (within ≡ true) × (reading ≡ Reading.Gnu (gnu_read CCompilerKind.Gcc plusplus (gcc_rows ∷ []) (given_by line.now)))) (λ _. within ≡ false)) }
 {
     let tree = FlagTree::build(alloc, &gcc::table())?;
-    read_gnu(alloc, line, &tree, plusplus, CCompilerKind::Gcc, most)
+    let kind = CCompilerKind::Gcc;
+    read_gnu(alloc, line, &tree, GnuDriver { kind, plusplus }, most)
 }
 
 /// A command line of Clang.
@@ -114,7 +122,8 @@ fn read_clang(
         MatchResult said (λ reading. (within ≡ true) × (reading ≡ Reading.Gnu (gnu_read CCompilerKind.Clang plusplus clang_tables (given_by line.now)))) (λ _. within ≡ false)) }
 {
     let trees = clang::trees(alloc)?;
-    read_gnu(alloc, line, &trees, plusplus, CCompilerKind::Clang, most)
+    let kind = CCompilerKind::Clang;
+    read_gnu(alloc, line, &trees, GnuDriver { kind, plusplus }, most)
 }
 
 /// A command line of cl or clang-cl.

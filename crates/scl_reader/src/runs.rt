@@ -13,13 +13,22 @@ use scl_text::records::ParsedArguments;
 use scl_text::{CCompilerImpl, Mem};
 use std::alloc::Global;
 
+/// What the runs of the preprocessor are for (docs/RULES.md, Preprocessing).
+#[derive(Debug, Clone, Copy, PartialEq, Eq)]
+pub struct RunOptions {
+    /// They are for a distant compiler too.
+    pub may_dist: bool,
+    /// Macros are left in place, if the compiler can do so.
+    pub rewrite_includes_only: bool,
+    /// They are for a cache of preprocessor runs.
+    pub cache_mode: bool,
+}
+
 /// The words of the runs of the preprocessor for a record.
-#[derive(Drop)]
+#[derive(Clone, Copy)]
 struct PreprocessRuns<'a> {
     parsed: &'a ParsedArguments,
-    may_dist: bool,
-    rewrite_includes_only: bool,
-    cache_mode: bool,
+    options: RunOptions,
 }
 
 impl<'a> Query for PreprocessRuns<'a> {
@@ -29,41 +38,32 @@ impl<'a> Query for PreprocessRuns<'a> {
 
     type Answer = Vec<Vec<Vec<u8>>>;
 
-    ghost gives = { λ query definitions runs. runs_of runs.items ≡ definitions.runs query.may_dist query.rewrite_includes_only query.cache_mode (parsed_of query.parsed.now) };
+    ghost gives = { λ query definitions runs.
+        runs_of runs.items ≡ definitions.runs query.options.may_dist query.options.rewrite_includes_only query.options.cache_mode (parsed_of query.parsed.now) };
 
     fn ask<C: CCompilerImpl>(self, alloc: Global, compiler: &C) -> Mem<Vec<Vec<Vec<u8>>>> {
         compiler.preprocess_passes(
             alloc,
             self.parsed,
-            self.may_dist,
-            self.rewrite_includes_only,
-            self.cache_mode,
+            self.options.may_dist,
+            self.options.rewrite_includes_only,
+            self.options.cache_mode,
         )
     }
 }
 
 impl Compiler {
-    /// The words of the runs of the preprocessor for a record that this compiler read, in order: for a distant compiler or
-    /// not, with macros left in place where that is requested, for a cache of preprocessor runs or not; no version of the
-    /// compiler is known (docs/RULES.md, Preprocessing).
+    /// The words of the runs of the preprocessor for a record that this compiler read, in order, as the options request; no
+    /// version of the compiler is known (docs/RULES.md, Preprocessing).
     pub fn preprocess_runs(
         self,
         alloc: Global,
         parsed: &ParsedArguments,
-        may_dist: bool,
-        rewrite_includes_only: bool,
-        cache_mode: bool,
+        options: RunOptions,
     ) -> Mem<Vec<Vec<Vec<u8>>>>
-        ensures { IfOk result (λ runs. runs_of runs.items ≡ runs_by self may_dist rewrite_includes_only cache_mode (parsed_of parsed.now)) }
+        ensures { IfOk result (λ runs. runs_of runs.items ≡ runs_by self options.may_dist options.rewrite_includes_only options.cache_mode (parsed_of parsed.now)) }
     {
-        self.preprocess_runs_with(
-            alloc,
-            None,
-            parsed,
-            may_dist,
-            rewrite_includes_only,
-            cache_mode,
-        )
+        self.preprocess_runs_with(alloc, None, parsed, options)
     }
 
     /// What `preprocess_runs` gives of a compiler whose version has this text, if it is known: from some version on Clang has
@@ -73,19 +73,11 @@ impl Compiler {
         alloc: Global,
         version: Option<String>,
         parsed: &ParsedArguments,
-        may_dist: bool,
-        rewrite_includes_only: bool,
-        cache_mode: bool,
+        options: RunOptions,
     ) -> Mem<Vec<Vec<Vec<u8>>>>
-        ensures { IfOk result (λ runs. runs_of runs.items ≡ runs_with (option_map string_bytes version) self may_dist rewrite_includes_only cache_mode (parsed_of parsed.now)) }
+        ensures { IfOk result (λ runs. runs_of runs.items ≡ runs_with (option_map string_bytes version) self options.may_dist options.rewrite_includes_only options.cache_mode (parsed_of parsed.now)) }
     {
-        let query = PreprocessRuns {
-            parsed,
-            may_dist,
-            rewrite_includes_only,
-            cache_mode,
-        };
-        self.ask_with(alloc, query, version)
+        self.ask_with(alloc, PreprocessRuns { parsed, options }, version)
     }
 }
 
@@ -96,21 +88,14 @@ impl Reading {
         &self,
         alloc: Global,
         version: Option<String>,
-        may_dist: bool,
-        rewrite_includes_only: bool,
-        cache_mode: bool,
+        options: RunOptions,
     ) -> Mem<Vec<Vec<Vec<u8>>>>
-        ensures { IfOk result (λ runs. runs_of runs.items ≡ runs_in (option_map string_bytes version) may_dist rewrite_includes_only cache_mode self.now) }
+        ensures { IfOk result (λ runs. runs_of runs.items ≡ runs_in (option_map string_bytes version) options.may_dist options.rewrite_includes_only options.cache_mode self.now) }
     {
         match self.record() {
-            Some(parsed) => self.compiler().preprocess_runs_with(
-                alloc,
-                version,
-                parsed,
-                may_dist,
-                rewrite_includes_only,
-                cache_mode,
-            ),
+            Some(parsed) => self
+                .compiler()
+                .preprocess_runs_with(alloc, version, parsed, options),
             None => Ok(Vec::new(alloc)),
         }
     }

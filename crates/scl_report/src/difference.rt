@@ -5,7 +5,6 @@ use crate::foreign::{ForeignDisk, is_windows};
 use scl_cl::Mem;
 use scl_describe::Tables;
 use scl_explain::{Case, answer_case, has_key, has_key_of, load_error_text};
-use scl_json::read_rows;
 use scl_load::Disk;
 use scl_shell::shown_words;
 use std::alloc::Global;
@@ -119,13 +118,10 @@ impl Compared {
         D::Error: Display,
     {
         match answer_case(alloc, disk, tables, case)? {
-            Ok(answered) => {
-                let text = answered.description.text(alloc)?;
-                Ok(Ok(Compared {
-                    outcome: outcome_text(alloc, case, &answered)?,
-                    rows: read_rows(alloc, &text)?,
-                }))
-            }
+            Ok(answered) => Ok(Ok(Compared {
+                outcome: outcome_text(alloc, case, &answered)?,
+                rows: answered.description.rows(alloc)?,
+            })),
             Err(error) => Ok(Err(load_error_text(alloc, &error)?)),
         }
     }

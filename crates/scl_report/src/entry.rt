@@ -3,7 +3,7 @@ use crate::batch::Batch;
 use crate::foreign::is_windows;
 use crate::settings::copied;
 use scl_cl::{Mem, path};
-use scl_explain::{Case, CaseError};
+use scl_explain::{Case, CaseError, Conditions};
 use scl_shell::{ShellError, WindowsError, operator_at, shell_words, windows_words};
 use scl_text::command::copy_pairs;
 use serde_json::{Map, Value};
@@ -154,15 +154,13 @@ impl<'a> Batch<'a> {
         if words.iter().any(|word| word.contains(&0)) {
             return Ok(Err(EntryError::Nul));
         }
-        let cwd = directory_in(alloc, &self.base, directory.as_bytes())?;
-        let env_vars = copy_pairs(alloc, &self.env_vars)?;
-        match Case::of_words(alloc, words, &self.launchers, self.named, cwd, env_vars)? {
-            Ok(mut case) => {
-                case.multiarch = self.multiarch;
-                case.settings = copied(alloc, &self.settings)?;
-                Ok(Ok(case))
-            }
-            Err(error) => Ok(Err(EntryError::Case(error))),
-        }
+        let conditions = Conditions {
+            cwd: directory_in(alloc, &self.base, directory.as_bytes())?,
+            env_vars: copy_pairs(alloc, &self.env_vars)?,
+            multiarch: self.multiarch,
+            settings: copied(alloc, &self.settings)?,
+        };
+        let case = Case::of_words(alloc, words, &self.launchers, self.named, conditions)?;
+        Ok(case.map_err(EntryError::Case))
     }
 }

@@ -1,5 +1,5 @@
 //! The flags of the compilers' tables, as a page for people and as JSON.
-use crate::document::{Rows, document_of, push_field, row_named, versioned};
+use crate::document::{document_of, versioned};
 use crate::options::fate;
 use crate::table::Table;
 use scl_cl::args::{ArgDisposition, ArgRow};
@@ -7,6 +7,7 @@ use scl_cl::{
     CommandLine, Compiler, Limits, Mem, TooManyWords, View, clang, diab, gcc, msvc, tasking_vx,
 };
 use scl_describe::{Destination, Row, rows_of};
+use scl_description::{RowList, tell_row};
 use scl_rows::NamedKind;
 use scl_shell::shown;
 use std::alloc::Global;
@@ -302,54 +303,67 @@ pub fn flags_text(alloc: Global, compiler: Option<Compiler>, words: &[Vec<u8>]) 
     Ok(text)
 }
 
-/// Appends the row of a flag: the compiler, the flag, how its value stands, its kind, and where it goes.
-fn push_flag_row(alloc: Global, rows: &mut Rows, compiler: Compiler, flag: &Flag) -> Mem<()> {
-    let mut row = row_named(alloc, "flags")?;
-    push_field(alloc, &mut row, compiler.name().as_bytes())?;
-    push_field(alloc, &mut row, flag.name.as_bytes())?;
-    push_field(alloc, &mut row, value_text(alloc, flag.value)?.as_bytes())?;
-    push_field(alloc, &mut row, flag.kind.as_bytes())?;
-    let place = place(alloc, compiler, flag)?;
-    push_field(alloc, &mut row, place.name().as_bytes())?;
-    rows.push(row)?;
-    Ok(())
+/// Tells the row of a flag: the compiler, the flag, how its value stands, its kind, and where it goes.
+fn tell_flag(alloc: Global, rows: &mut RowList, compiler: Compiler, flag: &Flag) -> Mem<()> {
+    let value = value_text(alloc, flag.value)?;
+    let fields = [
+        compiler.name().as_bytes(),
+        flag.name.as_bytes(),
+        value.as_bytes(),
+        flag.kind.as_bytes(),
+        place(alloc, compiler, flag)?.name().as_bytes(),
+    ];
+    tell_row(rows, "flags", &fields)
 }
 
-fn push_flag_rows(alloc: Global, rows: &mut Rows, compiler: Compiler, flags: &[Flag]) -> Mem<()> {
+fn tell_flags(alloc: Global, rows: &mut RowList, compiler: Compiler, flags: &[Flag]) -> Mem<()> {
     for flag in flags {
-        push_flag_row(alloc, rows, compiler, flag)?;
+        tell_flag(alloc, rows, compiler, flag)?;
     }
     Ok(())
 }
 
-/// Appends the row of a word: the compiler, the word, the flag of which it is, if there is one, and where it goes.
-fn push_word_row(alloc: Global, rows: &mut Rows, compiler: Compiler, word: &[u8]) -> Mem<()> {
+/// Tells the row of a word: the compiler, the word, the flag of which it is, and where it goes.
+fn tell_fit<'t>(
+    rows: &mut RowList,
+    compiler: &'t [u8],
+    word: &'t [u8],
+    flag: &'t [u8],
+    place: &'t [u8],
+) -> Mem<()> {
+    tell_row(rows, "words", &[compiler, word, flag, place])
+}
+
+/// Tells the row of a word, with the empty flag if it is of none, and the rows of the flags that fit it.
+fn tell_given(alloc: Global, rows: &mut RowList, compiler: Compiler, word: &[u8]) -> Mem<()> {
     let flags = fitting(alloc, compiler, word)?;
     let (name, place) = match flags.first() {
         Some(flag) => (flag.name, place(alloc, compiler, flag)?),
         None => ("", word_place(alloc, compiler, word)?),
     };
-    let mut row = row_named(alloc, "words")?;
-    push_field(alloc, &mut row, compiler.name().as_bytes())?;
-    push_field(alloc, &mut row, word)?;
-    push_field(alloc, &mut row, name.as_bytes())?;
-    push_field(alloc, &mut row, place.name().as_bytes())?;
-    rows.push(row)?;
-    push_flag_rows(alloc, rows, compiler, &flags)
+    let compiler_name = compiler.name().as_bytes();
+    tell_fit(
+        rows,
+        compiler_name,
+        word,
+        name.as_bytes(),
+        place.name().as_bytes(),
+    )?;
+    tell_flags(alloc, rows, compiler, &flags)
 }
 
-fn push_compiler_rows(
+fn tell_compiler(
     alloc: Global,
-    rows: &mut Rows,
+    rows: &mut RowList,
     compiler: Compiler,
     words: &[Vec<u8>],
 ) -> Mem<()> {
     if words.is_empty() {
         let flags = flags_of(alloc, compiler, None)?;
-        return push_flag_rows(alloc, rows, compiler, &flags);
+        return tell_flags(alloc, rows, compiler, &flags);
     }
     for word in words {
-        push_word_row(alloc, rows, compiler, word)?;
+        tell_given(alloc, rows, compiler, word)?;
     }
     Ok(())
 }
@@ -358,7 +372,7 @@ fn push_compiler_rows(
 pub fn flags_json(alloc: Global, compiler: Option<Compiler>, words: &[Vec<u8>]) -> Mem<Vec<u8>> {
     let mut rows = versioned(alloc)?;
     for compiler in &compilers_of(alloc, compiler)? {
-        push_compiler_rows(alloc, &mut rows, *compiler, words)?;
+        tell_compiler(alloc, &mut rows, *compiler, words)?;
     }
     document_of(alloc, &["version", "flags", "words"], &rows)
 }

@@ -1,11 +1,12 @@
 //! Answers as JSON: an object in one line, made from the rows of the description and from those of the program (docs/PROTOCOL.md, JSON).
 use crate::batch::Named;
+use crate::document::versioned;
 use crate::nothing::why_nothing;
 use scl_cl::{CompilerArguments, Mem};
-use scl_description::{push_maybe, push_row, push_word, push_words};
+use scl_description::{RowList, TakesRows, tell_maybe, tell_word, tell_words};
 use scl_explain::{Answered, Case, unrunnable_text};
 use scl_hazards::danger_name;
-use scl_json::{json_of, read_rows};
+use scl_json::json_of;
 use std::alloc::Global;
 
 /// The rows whose members each answer has that is a command.
@@ -79,84 +80,82 @@ fn firsts_of(answered: &Answered<'_>) -> &'static [&'static str] {
     }
 }
 
-/// The object of these rows.
-fn object_of(alloc: Global, firsts: &[&str], text: &[u8]) -> Mem<Vec<u8>> {
-    json_of(alloc, firsts, &read_rows(alloc, text)?)
-}
-
-/// Appends the row of a hazard: its name, its danger, and what happens.
-fn push_danger<'t>(
-    text: &mut Vec<u8>,
+/// Tells the row of a hazard: its name, its danger, what happens, and then words.
+pub(crate) fn tell_danger<'t>(
+    rows: &mut RowList,
     name: &'t [u8],
     danger: &'t [u8],
     consequence: &'t [u8],
+    words: &[Vec<u8>],
 ) -> Mem<()> {
-    push_row(text, "danger", &[name, danger, consequence])
+    rows.take("danger", &[name, danger, consequence], words)
 }
 
-/// Appends a row for each hazard, with what happens.
-fn push_dangers(text: &mut Vec<u8>, answered: &Answered<'_>) -> Mem<()> {
+/// Tells a row for each hazard.
+fn tell_dangers(rows: &mut RowList, answered: &Answered<'_>) -> Mem<()> {
     for hazard in &answered.description.told.hazards {
         let danger = danger_name(hazard.danger()).as_bytes();
-        push_danger(text, hazard.name(), danger, hazard.consequence())?;
+        tell_danger(rows, hazard.name(), danger, hazard.consequence(), &[])?;
     }
     Ok(())
 }
 
-/// Appends what no description says of how the command line is answered.
-fn push_ending(alloc: Global, text: &mut Vec<u8>, case: &Case, answered: &Answered<'_>) -> Mem<()> {
+/// Tells what no description says of how the command line is answered.
+fn tell_ending(alloc: Global, rows: &mut RowList, case: &Case, answered: &Answered<'_>) -> Mem<()> {
     match &answered.description.answer {
         CompilerArguments::Ok(compilation) => {
             let words = &compilation.command.arguments;
             let why = unrunnable_text(alloc, &case.program, words)?;
-            let why = why.as_deref().map(str::as_bytes);
-            push_maybe(text, "unrunnable", why)
+            tell_maybe(rows, "unrunnable", why.as_deref().map(str::as_bytes))
         }
         CompilerArguments::CannotCache(_, _) => Ok(()),
         CompilerArguments::NotCompilation => {
-            push_word(
-                text,
-                "nothing",
-                why_nothing(&answered.description.options).as_bytes(),
-            )
+            let why = why_nothing(&answered.description.options);
+            tell_word(rows, "nothing", why.as_bytes())
         }
     }
 }
 
-/// Appends the rows of the program: the request, what was read, and sentences for people.
-fn push_own_rows(
+/// Tells the rows of the program: the request, what was read, and sentences for people.
+fn tell_own(alloc: Global, rows: &mut RowList, case: &Case, answered: &Answered<'_>) -> Mem<()> {
+    tell_word(rows, "compiler", case.compiler.name().as_bytes())?;
+    tell_word(rows, "program", &case.program)?;
+    tell_word(rows, "directory", &case.cwd)?;
+    tell_words(rows, "response-file", &answered.response_files)?;
+    tell_words(rows, "missing-file", &answered.missing_files)?;
+    tell_dangers(rows, answered)?;
+    tell_ending(alloc, rows, case, answered)
+}
+
+/// The object of the rows of a description, and after them of these rows and of those of the program.
+fn object_of(
     alloc: Global,
-    text: &mut Vec<u8>,
+    mut own: RowList,
     case: &Case,
     answered: &Answered<'_>,
-) -> Mem<()> {
-    push_word(text, "compiler", case.compiler.name().as_bytes())?;
-    push_word(text, "program", &case.program)?;
-    push_word(text, "directory", &case.cwd)?;
-    push_words(text, "response-file", &answered.response_files)?;
-    push_words(text, "missing-file", &answered.missing_files)?;
-    push_dangers(text, answered)?;
-    push_ending(alloc, text, case, answered)
+) -> Mem<Vec<u8>> {
+    tell_own(alloc, &mut own, case, answered)?;
+    let mut rows = answered.description.rows(alloc)?;
+    rows.append(&mut own.into_rows())?;
+    json_of(alloc, firsts_of(answered), &rows)
 }
 
 /// The answer to a command line.
 pub(crate) fn answer_line(alloc: Global, case: &Case, answered: &Answered<'_>) -> Mem<String> {
-    let mut text = answered.description.text(alloc)?;
-    push_own_rows(alloc, &mut text, case, answered)?;
-    let mut line = object_of(alloc, firsts_of(answered), &text)?;
+    let mut line = object_of(alloc, RowList::new(alloc), case, answered)?;
     line.push(b'\n')?;
     String::from_utf8_lossy(alloc, &line)
 }
 
-/// Appends the rows of an entry: its number, and the file that it names, if it names one.
-fn push_entry(alloc: Global, text: &mut Vec<u8>, named: Named<'_>) -> Mem<()> {
+/// Tells the rows of an entry: its number, and the file that it names, if it names one.
+fn tell_entry(alloc: Global, rows: &mut RowList, named: Named<'_>) -> Mem<()> {
     let Named { entry, file } = named;
     let number = format!(in alloc; "{entry}")?;
-    push_word(text, "entry", number.as_bytes())?;
+    tell_word(rows, "entry", number.as_bytes())?;
     if file.is_empty() {
         Ok(())
     } else {
-        push_word(text, "file", file.as_bytes())
+        tell_word(rows, "file", file.as_bytes())
     }
 }
 
@@ -167,17 +166,15 @@ pub(crate) fn entry_object(
     case: &Case,
     answered: &Answered<'_>,
 ) -> Mem<Vec<u8>> {
-    let mut text = answered.description.text(alloc)?;
-    push_entry(alloc, &mut text, named)?;
-    push_own_rows(alloc, &mut text, case, answered)?;
-    object_of(alloc, firsts_of(answered), &text)
+    let mut own = RowList::new(alloc);
+    tell_entry(alloc, &mut own, named)?;
+    object_of(alloc, own, case, answered)
 }
 
 /// Why an entry of a database has no answer.
 pub(crate) fn refused_object(alloc: Global, named: Named<'_>, why: &str) -> Mem<Vec<u8>> {
-    let mut text = Vec::new(alloc);
-    push_word(&mut text, "version", b"1")?;
-    push_entry(alloc, &mut text, named)?;
-    push_word(&mut text, "error", why.as_bytes())?;
-    object_of(alloc, &ERROR, &text)
+    let mut rows = versioned(alloc)?;
+    tell_entry(alloc, &mut rows, named)?;
+    tell_word(&mut rows, "error", why.as_bytes())?;
+    json_of(alloc, &ERROR, rows.rows())
 }

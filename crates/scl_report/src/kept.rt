@@ -1,27 +1,12 @@
 //! Only whether the outcome of a command line may be kept under a key.
-use crate::json::answer_line;
 use crate::keep::kept_texts;
 use crate::pages::Pages;
-use scl_cl::{Cacheable, CompilerArguments, Mem};
+use scl_cl::{CompilerArguments, Mem};
 use scl_describe::{Kept, Tables};
-use scl_explain::{
-    Answered, Case, Ending, Form, Reply, answer_case, cached_text, check, load_error_text,
-    unrunnable_text,
-};
+use scl_explain::{Answered, Case, Ending, Form, Reply, answer_case, check_reply, unread};
 use scl_load::Disk;
 use std::alloc::Global;
 use std::fmt::Display;
-
-/// Whether a command line has a command that can be run, and whether what it makes may be kept at all, by the rules.
-fn cacheable_of(alloc: Global, case: &Case, answered: &Answered<'_>) -> Mem<Option<Cacheable>> {
-    let CompilerArguments::Ok(compilation) = &answered.description.answer else {
-        return Ok(None);
-    };
-    match unrunnable_text(alloc, &case.program, &compilation.command.arguments)? {
-        Some(_) => Ok(None),
-        None => Ok(Some(compilation.cacheable)),
-    }
-}
 
 /// A line for each row `keep`.
 fn kept_lines(alloc: Global, kept: &Kept) -> Mem<Vec<u8>> {
@@ -32,34 +17,19 @@ fn kept_lines(alloc: Global, kept: &Kept) -> Mem<Vec<u8>> {
     Ok(text.into_bytes())
 }
 
-/// The line of standard error for a person: that the outcome may not be kept, by the rules.
-fn error_line(alloc: Global, form: Form, cacheable: Cacheable) -> Mem<Option<String>> {
-    match (form, cacheable) {
-        (Form::Text(_), Cacheable::No) => {
-            Ok(Some(String::from_str(alloc, cached_text(cacheable))?))
+/// What is said of keeping what a command makes; where no command can be run, what `check` says.
+fn kept_reply(alloc: Global, case: &Case, answered: &Answered<'_>, form: Form) -> Mem<Reply> {
+    let mut reply = check_reply(alloc, case, answered, form, &Pages)?;
+    let (answer, kept) = (&answered.description.answer, &answered.description.kept);
+    if let CompilerArguments::Ok(compilation) = answer
+        && reply.ending != Ending::HoldsNul
+    {
+        if let Form::Text(_) = form {
+            reply.output = kept_lines(alloc, kept)?;
         }
-        (Form::Text(_) | Form::Json, _) => Ok(None),
+        reply.ending = Ending::of_keeping(compilation.cacheable, kept);
     }
-}
-
-/// What is said of keeping what a command makes.
-fn kept_reply(
-    alloc: Global,
-    case: &Case,
-    answered: &Answered<'_>,
-    cacheable: Cacheable,
-    form: Form,
-) -> Mem<Reply> {
-    let kept = &answered.description.kept;
-    let output = match form {
-        Form::Text(_) => kept_lines(alloc, kept)?,
-        Form::Json => answer_line(alloc, case, answered)?.into_bytes(),
-    };
-    Ok(Reply {
-        output,
-        error: error_line(alloc, form, cacheable)?,
-        ending: Ending::of_keeping(cacheable, kept),
-    })
+    Ok(reply)
 }
 
 /// Whether the outcome of a command line may be kept under a key: a line for each row `keep`, or for machines the object that
@@ -76,14 +46,7 @@ where
     D::Error: Display,
 {
     match answer_case(alloc, disk, tables, case)? {
-        Ok(answered) => match cacheable_of(alloc, case, &answered)? {
-            Some(cacheable) => kept_reply(alloc, case, &answered, cacheable, form),
-            None => check(alloc, disk, tables, case, form, &Pages),
-        },
-        Err(error) => Ok(Reply {
-            output: Vec::new(alloc),
-            error: Some(load_error_text(alloc, &error)?),
-            ending: Ending::FileFailed,
-        }),
+        Ok(answered) => kept_reply(alloc, case, &answered, form),
+        Err(error) => unread(alloc, &error),
     }
 }

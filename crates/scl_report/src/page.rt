@@ -3,7 +3,7 @@ use crate::keep::kept_texts;
 use crate::nothing::nothing_text;
 use crate::options::push_options;
 use crate::paint::{Codes, codes_of};
-use scl_cl::{Cacheable, Compilation, CompilerArguments, Mem};
+use scl_cl::{Cacheable, Compilation, CompilerArguments, Mem, ParsedArguments};
 use scl_describe::Kept;
 use scl_explain::{Answered, Case, Paint, cached_text, refusal_text, unrunnable_text};
 use scl_hazards::Hazard;
@@ -21,13 +21,13 @@ struct Page {
     text: String,
 }
 
-/// The columns that a title takes.
-const TITLE: usize = 15;
+/// The columns that a title takes at least, without what parts it from its text.
+const TITLE: usize = 14;
 
 impl Page {
     fn push_title(&mut self, title: &str) -> Mem<()> {
         let (begin, end) = (self.codes.title, self.codes.end);
-        write!(self.text, "{begin}{title}:{end}")?;
+        write!(self.text, "{begin}{title}:{end} ")?;
         for _ in title.len()..TITLE {
             self.text.push(' ')?;
         }
@@ -130,22 +130,34 @@ fn push_outputs(page: &mut Page, compilation: &Compilation) -> Mem<()> {
     Ok(())
 }
 
-/// The files that the command writes beside the outputs of its record.
-fn push_written(page: &mut Page, compilation: &Compilation) -> Mem<()> {
-    for output in &made_beside(page.alloc, &compilation.parsed)? {
-        let name = shown(page.alloc, &output.name)?;
-        let note = format!(in page.alloc; " ({name})")?;
-        page.path("output", &output.path, note.as_str())?;
+/// The file of diagnostics that the command writes beside the outputs of its record.
+fn push_diagnostics(page: &mut Page, parsed: &ParsedArguments) -> Mem<()> {
+    for output in &made_beside(page.alloc, parsed)? {
+        if output.name.as_slice() == b"dia".as_slice() {
+            page.path("output", &output.path, " (dia)")?;
+        }
     }
     Ok(())
 }
 
-fn push_record(page: &mut Page, compilation: &Compilation) -> Mem<()> {
+/// The dependency file that the command writes, or that only the given command does.
+fn push_dependencies(page: &mut Page, writes: Option<&[u8]>, parsed: &ParsedArguments) -> Mem<()> {
+    if let Some(path) = writes {
+        page.path("output", path, " (d)")?;
+    }
+    if let Some(path) = &parsed.depfile {
+        page.path("dependency file of the given command", path, "")?;
+    }
+    Ok(())
+}
+
+fn push_record(page: &mut Page, writes: Option<&[u8]>, compilation: &Compilation) -> Mem<()> {
     let parsed = &compilation.parsed;
     let note = format!(in page.alloc; " ({:?})", parsed.language)?;
     page.path("input", &parsed.input, note.as_str())?;
     push_outputs(page, compilation)?;
-    push_written(page, compilation)?;
+    push_dependencies(page, writes, parsed)?;
+    push_diagnostics(page, parsed)?;
     page.paths("hashed too", &parsed.extra_hash_files, "")?;
     if let Some(flag) = &parsed.too_hard_for_preprocessor_cache_mode {
         let flag = shown(page.alloc, flag)?;
@@ -172,7 +184,7 @@ fn push_hazards(page: &mut Page, hazards: &[Hazard<'_>]) -> Mem<()> {
 fn push_commands(page: &mut Page, case: &Case, answered: &Answered<'_>) -> Mem<()> {
     let described = &answered.description;
     if let CompilerArguments::Ok(compilation) = &described.answer {
-        push_record(page, compilation)?;
+        push_record(page, described.writes.as_deref(), compilation)?;
         push_hazards(page, &described.told.hazards)?;
         page.command("command", &case.program, &compilation.command.arguments)?;
         for run in &described.runs {

@@ -1,8 +1,8 @@
 //! What pairs of command lines differ in, as JSON, and what is counted over the pairs of two databases.
 use crate::alone::Alone;
 use crate::difference::Compared;
-use crate::document::{Rows, push_field, row_named};
 use scl_cl::Mem;
+use scl_description::{RowList, tell_row_of, tell_word};
 use scl_json::push_json;
 use std::alloc::Global;
 
@@ -25,63 +25,51 @@ static LISTS: [&str; 4] = ["option", "key", ASKED, "keep"];
 /// The list of its rows of the key that only ask something else.
 const ASKED: &str = "asked";
 
-fn is_among(names: &[&str], row: &[Vec<u8>]) -> bool {
-    match row.first() {
-        Some(first) => names.iter().any(|name| first.as_slice() == name.as_bytes()),
-        None => false,
-    }
-}
-
-/// The same fields.
-fn copied(alloc: Global, row: &[Vec<u8>]) -> Mem<Vec<Vec<u8>>> {
-    let mut copy = Vec::new(alloc);
-    for field in row {
-        push_field(alloc, &mut copy, field)?;
-    }
-    Ok(copy)
-}
-
-fn push_copies(alloc: Global, side: &mut Rows, rows: &[&[Vec<u8>]]) -> Mem<()> {
-    for row in rows {
-        side.push(copied(alloc, row)?)?;
-    }
-    Ok(())
-}
-
-/// A row of the key as a row of the list `ASKED`.
-fn asked_row(alloc: Global, row: &[Vec<u8>]) -> Mem<Vec<Vec<u8>>> {
-    let mut asked = row_named(alloc, ASKED)?;
-    for field in row.iter().skip(1) {
-        push_field(alloc, &mut asked, field)?;
-    }
-    Ok(asked)
-}
-
-fn push_asked(alloc: Global, side: &mut Rows, rows: &[&[Vec<u8>]]) -> Mem<()> {
-    for row in rows {
-        side.push(asked_row(alloc, row)?)?;
-    }
-    Ok(())
-}
-
-/// The rows that say how a side is answered.
-fn outcome_rows(alloc: Global, rows: &[Vec<Vec<u8>>]) -> Mem<Rows> {
-    let mut side = Vec::new(alloc);
-    for row in rows {
-        if is_among(&OUTCOME, row) {
-            side.push(copied(alloc, row)?)?;
+/// Tells a row, if it has one of these names.
+fn tell_named(side: &mut RowList, names: &[&str], row: &[Vec<u8>]) -> Mem<()> {
+    let Some((first, fields)) = row.split_first() else {
+        return Ok(());
+    };
+    for name in names {
+        if first.as_slice() == name.as_bytes() {
+            return tell_row_of(side, name, fields);
         }
     }
-    Ok(side)
+    Ok(())
+}
+
+/// Tells the rows that say how a side is answered.
+fn tell_outcome(side: &mut RowList, rows: &[Vec<Vec<u8>>]) -> Mem<()> {
+    for row in rows {
+        tell_named(side, &OUTCOME, row)?;
+    }
+    Ok(())
+}
+
+/// Tells rows of the lists.
+fn tell_listed(side: &mut RowList, rows: &[&[Vec<u8>]]) -> Mem<()> {
+    for row in rows {
+        tell_named(side, &LISTS, row)?;
+    }
+    Ok(())
+}
+
+/// Tells rows of the key as rows of the list `ASKED`.
+fn tell_asked(side: &mut RowList, rows: &[&[Vec<u8>]]) -> Mem<()> {
+    for row in rows {
+        tell_row_of(side, ASKED, row.get(1..).unwrap_or(&[]))?;
+    }
+    Ok(())
 }
 
 /// The rows of a side: how it is answered, and those of its lists.
-fn rows_of_side(alloc: Global, rows: &[Vec<Vec<u8>>], others: &[Vec<Vec<u8>>]) -> Mem<Rows> {
+fn rows_of_side(alloc: Global, rows: &[Vec<Vec<u8>>], others: &[Vec<Vec<u8>>]) -> Mem<RowList> {
     let alone = Alone::of_rows(alloc, rows, others)?;
-    let mut side = outcome_rows(alloc, rows)?;
-    push_copies(alloc, &mut side, &alone.options)?;
-    push_copies(alloc, &mut side, &alone.key)?;
-    push_asked(alloc, &mut side, &alone.asked)?;
+    let mut side = RowList::new(alloc);
+    tell_outcome(&mut side, rows)?;
+    tell_listed(&mut side, &alone.options)?;
+    tell_listed(&mut side, &alone.key)?;
+    tell_asked(&mut side, &alone.asked)?;
     Ok(side)
 }
 
@@ -95,11 +83,9 @@ fn push_side(
 ) -> Mem<()> {
     let mut side = rows_of_side(alloc, rows, others)?;
     if !file.is_empty() {
-        let mut row = row_named(alloc, "file")?;
-        push_field(alloc, &mut row, file.as_bytes())?;
-        side.push(row)?;
+        tell_word(&mut side, "file", file.as_bytes())?;
     }
-    push_json(alloc, json, &LISTS, &side)
+    push_json(alloc, json, &LISTS, side.rows())
 }
 
 fn push_truth(json: &mut Vec<u8>, holds: bool) -> Mem<()> {

@@ -1,7 +1,9 @@
 //! All reasons and hazards, as a page for people and as JSON.
-use crate::document::{Rows, document_of, push_field, row_named, versioned};
+use crate::document::{document_of, versioned};
+use crate::json::tell_danger;
 use crate::keep::{REASONS, UNKNOWN, sentence_of};
 use scl_cl::Mem;
+use scl_description::{RowList, tell_row};
 use scl_hazards::{
     Catalogue, Compiler, Entry, Hazard, compiler_name, danger_name, hazard_of, is_of,
 };
@@ -93,77 +95,69 @@ pub fn reasons_text(alloc: Global, catalogue: &Catalogue<'_>) -> Mem<String> {
     Ok(text)
 }
 
-/// Appends the row of a reason: the reason, and its sentence.
-fn push_reason_row(
-    alloc: Global,
-    rows: &mut Rows,
-    name: &str,
-    reason: &str,
-    sentence: &str,
-) -> Mem<()> {
-    let mut row = row_named(alloc, name)?;
-    push_field(alloc, &mut row, reason.as_bytes())?;
-    push_field(alloc, &mut row, sentence.as_bytes())?;
-    rows.push(row)?;
-    Ok(())
-}
-
-fn push_explanation_rows(alloc: Global, rows: &mut Rows, explanation: &Explanation) -> Mem<()> {
+/// Tells the rows of the reasons why a command line can't be cached: each reason, and its sentence.
+fn tell_explanation(rows: &mut RowList, explanation: &Explanation) -> Mem<()> {
     for reason in explanation.reasons {
-        push_reason_row(alloc, rows, "reasons", reason, explanation.text)?;
+        let fields = [reason.as_bytes(), explanation.text.as_bytes()];
+        tell_row(rows, "reasons", &fields)?;
     }
     Ok(())
 }
 
-/// Appends the fields of the compilers of which the entry speaks.
-fn push_compiler_fields(alloc: Global, row: &mut Vec<Vec<u8>>, entry: &Entry<'_>) -> Mem<()> {
+/// The names of the compilers of which the entry speaks.
+fn compiler_names(alloc: Global, entry: &Entry<'_>) -> Mem<Vec<Vec<u8>>> {
+    let mut names = Vec::new(alloc);
     for compiler in COMPILERS {
         if is_of(entry, compiler) {
-            push_field(alloc, row, compiler_name(compiler).as_bytes())?;
+            names.push(Vec::from_slice(alloc, compiler_name(compiler).as_bytes())?)?;
         }
     }
-    Ok(())
+    Ok(names)
 }
 
-/// Appends the row of a hazard: its name, its danger, what happens, and the compilers.
-fn push_hazard_row(
+/// Tells the row of a hazard: its name, its danger, what happens, and the compilers.
+fn tell_hazard(
     alloc: Global,
-    rows: &mut Rows,
+    rows: &mut RowList,
     entry: &Entry<'_>,
     hazard: &Hazard<'_>,
 ) -> Mem<()> {
-    let mut row = row_named(alloc, "danger")?;
-    push_field(alloc, &mut row, hazard.name())?;
-    push_field(alloc, &mut row, danger_name(hazard.danger()).as_bytes())?;
-    push_field(alloc, &mut row, hazard.consequence())?;
-    push_compiler_fields(alloc, &mut row, entry)?;
-    rows.push(row)?;
-    Ok(())
+    let danger = danger_name(hazard.danger()).as_bytes();
+    let compilers = compiler_names(alloc, entry)?;
+    tell_danger(
+        rows,
+        hazard.name(),
+        danger,
+        hazard.consequence(),
+        &compilers,
+    )
 }
 
-fn push_hazard_rows(alloc: Global, rows: &mut Rows, catalogue: &Catalogue<'_>) -> Mem<()> {
+fn tell_hazards(alloc: Global, rows: &mut RowList, catalogue: &Catalogue<'_>) -> Mem<()> {
     for entry in catalogue.entries {
         if let Some(hazard) = hazard_of(entry) {
-            push_hazard_row(alloc, rows, entry, &hazard)?;
+            tell_hazard(alloc, rows, entry, &hazard)?;
         }
     }
     Ok(())
 }
 
-fn push_verdict_rows(alloc: Global, rows: &mut Rows) -> Mem<()> {
+/// Tells the rows of the reasons why nothing may be kept under a key.
+fn tell_verdicts(rows: &mut RowList) -> Mem<()> {
     for reason in REASONS {
-        push_reason_row(alloc, rows, "keep", reason.name(), sentence_of(reason))?;
+        let (name, sentence) = (reason.name(), sentence_of(reason));
+        tell_row(rows, "keep", &[name.as_bytes(), sentence.as_bytes()])?;
     }
-    push_reason_row(alloc, rows, "keep", "unknown", UNKNOWN)
+    tell_row(rows, "keep", &[b"unknown".as_slice(), UNKNOWN.as_bytes()])
 }
 
 /// The same as a document: the rows `reasons` and `keep`, and the hazards (docs/PROTOCOL.md, JSON).
 pub fn reasons_json(alloc: Global, catalogue: &Catalogue<'_>) -> Mem<Vec<u8>> {
     let mut rows = versioned(alloc)?;
     for explanation in explanations() {
-        push_explanation_rows(alloc, &mut rows, explanation)?;
+        tell_explanation(&mut rows, explanation)?;
     }
-    push_verdict_rows(alloc, &mut rows)?;
-    push_hazard_rows(alloc, &mut rows, catalogue)?;
+    tell_verdicts(&mut rows)?;
+    tell_hazards(alloc, &mut rows, catalogue)?;
     document_of(alloc, &["version", "reasons", "keep", "danger"], &rows)
 }

@@ -7,9 +7,7 @@ use std::alloc::Global;
 /// The same settings.
 pub(crate) fn copied(alloc: Global, settings: &Settings) -> Mem<Settings> {
     Ok(Settings {
-        may_dist: settings.may_dist,
-        rewrite_includes_only: settings.rewrite_includes_only,
-        cache_mode: settings.cache_mode,
+        runs: settings.runs,
         version: copy_text(alloc, &settings.version)?,
         limits: settings.limits,
         wants: settings.wants,

@@ -4,7 +4,7 @@ use crate::digest::{push_met, push_more};
 use crate::keep::{REASONS, UNKNOWN, sentence_of};
 use scl_cl::Mem;
 use scl_describe::Kept;
-use scl_explain::{Counts, Met};
+use scl_explain::{Counts, Met, meet};
 use scl_key::{NoKey, Reason};
 use scl_shell::shown_briefly;
 use std::alloc::Global;
@@ -32,18 +32,6 @@ pub struct Tally {
     pub(crate) keeps: Keeps,
 }
 
-/// Counts a key once more.
-fn meet(alloc: Global, map: &mut BTreeMap<Vec<u8>, Met>, key: &[u8], named: Named<'_>) -> Mem<()> {
-    let first = Met {
-        times: 0,
-        entry: named.entry,
-        file: String::from_str(alloc, named.file)?,
-    };
-    let met = map.entry(Vec::from_slice(alloc, key)?)?.or_insert(first);
-    met.times = met.times.saturating_add(1);
-    Ok(())
-}
-
 /// Whether one of these has this reason.
 fn has_reason(reasons: &[NoKey], wanted: Reason) -> bool {
     reasons.iter().any(|why| why.reason == wanted)
@@ -64,8 +52,8 @@ impl Keeps {
     fn count_reasons(&mut self, alloc: Global, named: Named<'_>, reasons: &[NoKey]) -> Mem<()> {
         for (at, why) in reasons.iter().enumerate() {
             if !has_reason(&reasons[..at], why.reason) {
-                let name = why.reason.name();
-                meet(alloc, &mut self.reasons, name.as_bytes(), named)?;
+                let name = Vec::from_slice(alloc, why.reason.name().as_bytes())?;
+                meet(alloc, &mut self.reasons, name, named.entry, named.file)?;
             }
         }
         Ok(())
@@ -78,7 +66,8 @@ impl Keeps {
             Kept::Under(_) => self.kept = self.kept.saturating_add(1),
             Kept::Unknown(word) => {
                 self.unjudged = self.unjudged.saturating_add(1);
-                meet(alloc, &mut self.words, word, named)?;
+                let word = Vec::from_slice(alloc, word)?;
+                meet(alloc, &mut self.words, word, named.entry, named.file)?;
             }
             Kept::Not(reasons) => {
                 self.barred = self.barred.saturating_add(1);

@@ -5,7 +5,7 @@ use Rattle.std.specs.declared.alloc.Global.{Global}
 use Rattle.std.specs.Result.{result_ok}
 use Rattle.scl_description.specs.Lines.{lines_of}
 use Rattle.scl_description.specs.Rows.{Entry, entries_text}
-use Rattle.scl_cl.specs.Requests.{request_in}
+use Rattle.scl_cl.specs.Requests.{request_from}
 use Rattle.scl_describe.specs.Descriptions.{too_many_entries}
 use Rattle.scl_msvc.specs.Depfile.{IsDepfileAnswer, depfile_object}
 use Rattle.scl_msvc.specs.declared.msvc.depfile.DepfileError.{DepfileError}
@@ -19,9 +19,6 @@ use Rattle.scl_reader.specs.declared.compiler.Compiler.{Compiler}
 use Rattle.scl_reader.specs.declared.reading.Reading.{Reading}
 use Rattle.scl_text.specs.Records.{Parsed, Verdict}
 use Rattle.scl_requests.specs.Depfiles.{IsDepfileSaid, IsReadingSaid, IsRequestSaid, IsSaid, IsSaidBy, IsSaidWithin, Shown, is_clang_cl, made_entries, nothing_entries, shown_in, told_of, unread_entries}
-
-pub two_blank : (lines : List ℕ) → lines_of (10 ∷ 10 ∷ lines) ≡ [] ∷ [] ∷ lines_of lines
-two_blank lines = refl
 
 -- ---- by a record, and by a reading
 
@@ -99,21 +96,19 @@ module _ (request : Request) (line : Given) (shown : Shown) where
 
 -- ---- by lines
 
-module _ (bytes line rest made : List ℕ) (cut : lines_of bytes ≡ line ∷ lines_of rest) (blank : lines_of made ≡ [] ∷ [] ∷ lines_of rest) where
-  pub by_request : (shown : Shown) (request : Request) (text : List ℕ) → Some shown ≡ shown_in line → request_in (lines_of made) ≡ Ok request → IsRequestSaid request shown text → IsSaid (lines_of bytes) (Ok text)
-  by_request shown request text shows reads h =
-      let By : Result Request ℕ → Type 0 = λ r. IsSaidBy (Some shown) r (Ok text) in
-      let Of : List (List ℕ) → Type 0 = λ ls. IsSaidBy (Some shown) (request_in ls) (Ok text) in
-      subst (λ ls. IsSaid ls (Ok text)) (sym cut) (subst (λ o. IsSaidBy o (request_in ([] ∷ [] ∷ lines_of rest)) (Ok text)) shows (subst Of blank (subst By (sym reads) h)))
+module _ (bytes line rest : List ℕ) (cut : lines_of bytes ≡ line ∷ lines_of rest) where
+  by : (shown : Option Shown) (request : Result Request ℕ) (said : Result (List ℕ) ℕ) → shown ≡ shown_in line → request_from 3 [] (lines_of rest) ≡ request → IsSaidBy shown request said → IsSaid (lines_of bytes) said
+  by shown request said shows reads h =
+      subst (λ ls. IsSaid ls said) (sym cut) (subst (λ o. IsSaidBy o (request_from 3 [] (lines_of rest)) said) shows (subst (λ r. IsSaidBy shown r said) (sym reads) h))
 
-  pub by_bad_line : (shown : Shown) (number : ℕ) → Some shown ≡ shown_in line → request_in (lines_of made) ≡ Err number → IsSaid (lines_of bytes) (Err number)
-  by_bad_line shown number shows reads =
-      let By : Result Request ℕ → Type 0 = λ r. IsSaidBy (Some shown) r (Err number) in
-      let Of : List (List ℕ) → Type 0 = λ ls. IsSaidBy (Some shown) (request_in ls) (Err number) in
-      subst (λ ls. IsSaid ls (Err number)) (sym cut) (subst (λ o. IsSaidBy o (request_in ([] ∷ [] ∷ lines_of rest)) (Err number)) shows (subst Of blank (subst By (sym reads) refl)))
+  pub by_request : (shown : Shown) (request : Request) (text : List ℕ) → Some shown ≡ shown_in line → request_from 3 [] (lines_of rest) ≡ Ok request → IsRequestSaid request shown text → IsSaid (lines_of bytes) (Ok text)
+  by_request shown request text shows reads h = by (Some shown) (Ok request) (Ok text) shows reads h
 
-pub none_shown : (bytes line rest : List ℕ) → lines_of bytes ≡ line ∷ lines_of rest → None ≡ shown_in line → IsSaid (lines_of bytes) (Err 2)
-none_shown bytes line rest cut shows = subst (λ ls. IsSaid ls (Err 2)) (sym cut) (subst (λ o. IsSaidBy o (request_in ([] ∷ [] ∷ lines_of rest)) (Err 2)) shows refl)
+  pub by_bad_line : (shown : Shown) (number : ℕ) → Some shown ≡ shown_in line → request_from 3 [] (lines_of rest) ≡ Err number → IsSaid (lines_of bytes) (Err number)
+  by_bad_line shown number shows reads = by (Some shown) (Err number) (Err number) shows reads refl
+
+  pub none_shown : None ≡ shown_in line → IsSaid (lines_of bytes) (Err 2)
+  none_shown shows = by None (request_from 3 [] (lines_of rest)) (Err 2) shows refl refl
 
 pub no_line : (bytes : List ℕ) → bytes ≡ [] → IsSaid (lines_of bytes) (Err 2)
 no_line bytes none = subst (λ b. IsSaid (lines_of b) (Err 2)) (sym none) refl

@@ -18,11 +18,11 @@ by_kind kind tables bytes said is h = subst (λ k. AnswersBy k tables bytes said
 
 -- ---- what the code answers
 
-pub name_said : (tables : Tables) (bytes : List ℕ) (said : Result (Vec ℕ Global) ℕ) → kind_of (lines_of bytes) ≡ kinds.Name
-    → MatchResult said (λ text. named (lines_of bytes) ≡ Ok text.items) (λ number. named (lines_of bytes) ≡ Err number)
+pub name_said : (tables : Tables) (bytes : List ℕ) (lines : List (List ℕ)) (said : Result (Vec ℕ Global) ℕ) → kind_of (lines_of bytes) ≡ kinds.Name → lines ≡ drop 1 (lines_of bytes)
+    → MatchResult said (λ text. named lines ≡ Ok text.items) (λ number. named lines ≡ Err number)
     → MatchResult said (λ text. AnswersBytes tables bytes (Ok text.items)) (λ number. AnswersBytes tables bytes (Err number))
-name_said tables bytes (Ok text) is h = by_kind kinds.Name tables bytes (Ok text.items) is h
-name_said tables bytes (Err number) is h = by_kind kinds.Name tables bytes (Err number) is h
+name_said tables bytes lines (Ok text) is are h = by_kind kinds.Name tables bytes (Ok text.items) is (subst (λ ls. named ls ≡ Ok text.items) are h)
+name_said tables bytes lines (Err number) is are h = by_kind kinds.Name tables bytes (Err number) is (subst (λ ls. named ls ≡ Err number) are h)
 
 pub description_said : (tables : Tables) (bytes : List ℕ) (said : Result (Vec ℕ Global) ℕ) → kind_of (lines_of bytes) ≡ kinds.Description
     → MatchResult said (λ text. DescribesBytes tables bytes (Ok text.items)) (λ number. DescribesBytes tables bytes (Err number))

@@ -3,7 +3,7 @@ use Rattle.std.specs.Prelude.{◌≡◌, ℕ, Bool, true, false, List, [], ◌�
 use Rattle.std.specs.Str.{bytes_eq}
 use Rattle.scl_files.specs.Characters.{space, tab}
 use Rattle.scl_files.specs.Decoding.{utf8_text}
-use Rattle.scl_cl.specs.Requests.{request_in}
+use Rattle.scl_cl.specs.Requests.{request_from}
 use Rattle.scl_describe.specs.Descriptions.{too_many_entries, version_entry}
 use Rattle.scl_description.specs.Fields.{field_of}
 use Rattle.scl_description.specs.Lines.{cut_at}
@@ -104,4 +104,4 @@ IsSaidBy (Some shown) (Err number) said = Err number ≡ said
 -- to the lines after the first: one of the error output, and those of a request
 abbrev pub IsSaid : List (List ℕ) → Result (List ℕ) ℕ → Type 0
 IsSaid [] said = Err 2 ≡ said
-IsSaid (line ∷ lines) said = IsSaidBy (shown_in line) (request_in ([] ∷ [] ∷ lines)) said
+IsSaid (line ∷ lines) said = IsSaidBy (shown_in line) (request_from 3 [] lines) said

@@ -35,7 +35,7 @@ kind_of [] = kinds.Description
 kind_of (line ∷ lines) = kind_in line
 
 abbrev pub AnswersBy : Kind → Tables → List ℕ → Result (List ℕ) ℕ → Type 0
-AnswersBy kinds.Name tables bytes said = named (lines_of bytes) ≡ said
+AnswersBy kinds.Name tables bytes said = named (drop 1 (lines_of bytes)) ≡ said
 AnswersBy kinds.Join tables bytes said = joined (drop 1 (lines_of bytes)) ≡ said
 AnswersBy kinds.Map tables bytes said = mapped (drop 1 (lines_of bytes)) ≡ said
 AnswersBy kinds.Depfile tables bytes said = IsSaid (drop 1 (lines_of bytes)) said

@@ -1,5 +1,5 @@
 //! The dependency file that clang-cl does not write, from what it wrote on its error output.
-ghost use Rattle.std.specs.Prelude.{◌≡◌, ◌∷◌, [], IfOk, MatchResult, Ok, Err};
+ghost use Rattle.std.specs.Prelude.{◌≡◌, IfOk, MatchResult, Ok, Err};
 ghost use Rattle.std.specs.Option.{option_map};
 ghost use Rattle.scl_cl.specs.Drafts.{asked_by};
 ghost use Rattle.scl_describe.specs.Descriptions.{too_many_entries};
@@ -11,7 +11,7 @@ ghost use Rattle.scl_reader.specs.declared.reading.Reading.{Reading};
 ghost use Rattle.scl_text.specs.Records.{parsed_of};
 ghost use Rattle.scl_requests.specs.Depfiles.{IsDepfileSaid, IsReadingSaid, IsRequestSaid, IsSaid, is_clang_cl, made_entries, nothing_entries, shown_by, shown_cut, shown_in, unread_entries};
 
-use scl_cl::{Compiler, Mem, Request, read_request};
+use scl_cl::{Compiler, Mem, NoLines, Request, read_lines};
 use scl_description::{cut_at, next_line, push_word, push_yes, read_field};
 use scl_msvc::msvc::{DepfileError, DepfileText, depfile_text};
 use scl_reader::{Limits, ParsedArguments, Reading};
@@ -162,16 +162,6 @@ fn request_said(alloc: Global, request: &Request, shown: &Shown) -> Mem<Vec<u8>>
     }
 }
 
-/// The lines of a request after two blank ones, so that a bad line has its number.
-#[tactic(auto, using(crate::proofs::DepfileLaws::two_blank))]
-fn blank_two(alloc: Global, lines: &[u8]) -> Mem<Vec<u8>>
-    ensures { IfOk result (λ made. lines_of made.items ≡ [] ∷ [] ∷ lines_of lines.now) }
-{
-    let mut made = Vec::from_slice(alloc, b"\n\n")?;
-    made.extend_from_slice(lines)?;
-    Ok(made)
-}
-
 /// What is answered to the lines after the first: one of the error output, and those of a request.
 #[tactic(auto, using(crate::proofs::DepfileLaws::by_request, crate::proofs::DepfileLaws::by_bad_line, crate::proofs::DepfileLaws::none_shown, crate::proofs::DepfileLaws::no_line))]
 pub(crate) fn depfile_said(alloc: Global, bytes: &[u8]) -> Mem<Result<Vec<u8>, u64>>
@@ -183,8 +173,7 @@ pub(crate) fn depfile_said(alloc: Global, bytes: &[u8]) -> Mem<Result<Vec<u8>, u
     let Some(shown) = shown_in(alloc, line)? else {
         return Ok(Err(2));
     };
-    let lines = blank_two(alloc, rest)?;
-    match read_request(alloc, &lines)? {
+    match read_lines(alloc, None, 3, rest, &mut NoLines)? {
         Ok(request) => Ok(Ok(request_said(alloc, &request, &shown)?)),
         Err(number) => Ok(Err(number)),
     }

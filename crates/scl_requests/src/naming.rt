@@ -1,14 +1,14 @@
 //! Which compiler a program is by its name, and which word of a command line is the program.
-ghost use Rattle.std.specs.Prelude.{◌≡◌, ◌++◌, ◌∷◌, [], codes, IfOk, MatchResult, OnOk, Ok, Err};
+ghost use Rattle.std.specs.Prelude.{◌≡◌, ◌++◌, codes, IfOk, MatchResult, OnOk, Ok, Err};
 ghost use Rattle.scl_values.specs.Words.{words_of};
 ghost use Rattle.scl_description.specs.Lines.{lines_of};
 ghost use Rattle.scl_description.specs.Rows.{entries_text, entry_text};
 ghost use Rattle.scl_describe.specs.Descriptions.{version_entry};
 ghost use Rattle.scl_describe.specs.OptionLines.{index_entry};
-ghost use Rattle.scl_requests.specs.Naming.{compiler_at, compiler_entry, name_entries, named, with_compiler};
+ghost use Rattle.scl_requests.specs.Naming.{compiler_at, compiler_entry, name_entries, named};
 
-use scl_cl::{Compiler, Mem, read_request};
-use scl_description::{next_line, push_word};
+use scl_cl::{Compiler, Mem, NoLines, read_lines};
+use scl_description::push_word;
 use scl_names::{compiler_of, program_at};
 use std::alloc::Global;
 
@@ -58,25 +58,13 @@ fn name_text(alloc: Global, words: &[Vec<u8>]) -> Mem<Vec<u8>>
     Ok(text)
 }
 
-/// The lines of a request with a line of a compiler in the place of the first.
-#[tactic(auto, using(crate::proofs::NamingLaws::first_line))]
-fn with_compiler(alloc: Global, bytes: &[u8]) -> Mem<Vec<u8>>
-    ensures { IfOk result (λ lines. lines_of lines.items ≡ with_compiler (lines_of bytes.now)) }
-{
-    let mut lines = Vec::from_slice(alloc, b"compiler gcc\n")?;
-    if let Some((_, rest)) = next_line(bytes) {
-        lines.extend_from_slice(rest)?;
-    }
-    Ok(lines)
-}
-
-/// What is answered to a request whose first line is `name`.
+/// What is answered to the lines after the first, `name`. A compiler is as if named before them, no matter which, since only words
+/// are looked at.
 #[tactic(auto, using(crate::proofs::NamingLaws::is_named, crate::proofs::NamingLaws::is_bad))]
 pub(crate) fn named(alloc: Global, bytes: &[u8]) -> Mem<Result<Vec<u8>, u64>>
     ensures { IfOk result (λ said. MatchResult said (λ text. named (lines_of bytes.now) ≡ Ok text.items) (λ number. named (lines_of bytes.now) ≡ Err number)) }
 {
-    let lines = with_compiler(alloc, bytes)?;
-    match read_request(alloc, &lines)? {
+    match read_lines(alloc, Some(Compiler::Gcc), 2, bytes, &mut NoLines)? {
         Ok(request) => Ok(Ok(name_text(alloc, &request.words)?)),
         Err(number) => Ok(Err(number)),
     }

@@ -87,7 +87,7 @@ impl<'a> Service for Requests<'a> {
     #[tactic(auto, using(crate::proofs::RequestLaws::name_said, crate::proofs::RequestLaws::join_said, crate::proofs::RequestLaws::map_said, crate::proofs::RequestLaws::depfile_said, crate::proofs::RequestLaws::made_by_said, crate::proofs::RequestLaws::description_said))]
     fn answer(&self, alloc: Global, bytes: Vec<u8>) -> Mem<Result<Vec<u8>, u64>> {
         match kind_of(&bytes) {
-            Kind::Name => Ok(named(alloc, &bytes)?),
+            Kind::Name => Ok(named(alloc, after_first(&bytes))?),
             Kind::Join => Ok(joined(alloc, after_first(&bytes))?),
             Kind::Map => Ok(mapped(alloc, after_first(&bytes))?),
             Kind::Depfile => Ok(depfile_said(alloc, after_first(&bytes))?),

@@ -29,7 +29,7 @@ use Rattle.scl_values.specs.Words.{words_of}
 use Rattle.scl_values.specs.declared.argument.ArgDisposition.{ArgDisposition}
 use Rattle.scl_values.specs.declared.argument.ArgDisposition.TheVariants as how
 use Rattle.scl_values.specs.declared.argument.NormalizedDisposition.{NormalizedDisposition}
-use Rattle.scl_rows.specs.Lines.{Ways, first_said, line_rows, row_end, row_of, rows_judged}
+use Rattle.scl_rows.specs.Lines.{Ways, first_row, line_rows, row_end, row_of, rows_judged}
 use Rattle.scl_rows.specs.Rows.{Told, first_refusal, handed, is_list, printed_at, words_given, words_to}
 use Rattle.scl_rows.specs.contracts.destination.DestinationPartialEq.TheImpl.{ghosts}
 use Rattle.scl_rows.specs.declared.destination.Destination.{Destination}
@@ -50,11 +50,11 @@ options-at see options i option within is =
     ap (map see) (drop-cons options i option within ∙ ap (λ first. first ∷ drop (suc i) options) (sym is) ∙ ap (λ n. option ∷ drop n options) (sym (add-one i)))
 
 -- one more row, of the options of a loop
-pub judged-more : {K : Type 0} (ways : Ways K) (old new all : List Told) (row : Told) (words own next : List (List ℕ)) (count : ℕ) (ats left : List (Option ℕ)) (at : Option ℕ) (said after : List (Option Verdict)) (refusal : Option Verdict)
-    (o : Seen K) (os rest : List (Seen K)) → new ≡ old ++ row ∷ [] → row ≡ row_of ways own at refusal o → count ≡ length (spelled o) → own ≡ take count words → next ≡ drop count words → at ≡ first_at ats → left ≡ drop 1 ats
-    → refusal ≡ first_said said → after ≡ drop 1 said → os ≡ o ∷ rest → old ++ rows_judged ways words ats said os ≡ all → new ++ rows_judged ways next left after rest ≡ all
-judged-more ways old new all row words own next count ats left at said after refusal o os rest pushed is_row is_count is_own is_next is_at is_left is_refusal is_after is_os before =
-    let same : row ∷ rows_judged ways next left after rest ≡ rows_judged ways words ats said os = rw (is_os, is_row, is_own, is_next, is_at, is_left, is_refusal, is_after, is_count) refl in
+pub judged-more : {K : Type 0} (ways : Ways K) (old new all : List Told) (row : Told) (words next : List (List ℕ)) (count : ℕ) (ats left : List (Option ℕ)) (said after : List (Option Verdict))
+    (o : Seen K) (os rest : List (Seen K)) → new ≡ old ++ row ∷ [] → row ≡ first_row ways words ats said o → count ≡ length (spelled o)
+    → next ≡ drop count words → left ≡ drop 1 ats → after ≡ drop 1 said → os ≡ o ∷ rest → old ++ rows_judged ways words ats said os ≡ all → new ++ rows_judged ways next left after rest ≡ all
+judged-more ways old new all row words next count ats left said after o os rest pushed is_row is_count is_next is_left is_after is_os before =
+    let same : row ∷ rows_judged ways next left after rest ≡ rows_judged ways words ats said os = rw (is_os, is_row, is_next, is_left, is_after, is_count) refl in
     ap (λ rows. rows ++ rows_judged ways next left after rest) pushed
     ∙ append_assoc old (row ∷ []) (rows_judged ways next left after rest)
     ∙ ap (λ rows. old ++ rows) same

@@ -24,6 +24,7 @@ use Rattle.scl_values.specs.Seen.{Seen, Raw, Unknown, Known}
 use Rattle.scl_rows.specs.KindNames.{gnu_kind_name}
 use Rattle.scl_rows.specs.Lines.{Ways, line_rows}
 use Rattle.scl_rows.specs.Rows.{Told, Tells, words_given}
+use Rattle.scl_rows.specs.contracts.destination.DestinationPartialEq.TheImpl.{ghosts}
 use Rattle.scl_rows.specs.declared.destination.Destination.{Destination}
 use Rattle.scl_rows.specs.declared.destination.Destination.TheVariants as destinations
 use Rattle.scl_rows.specs.declared.origin.Origin.TheVariants as origins
@@ -75,36 +76,34 @@ inner_ways = record { name = gnu_kind_name; goes = inner_goes; side = side_of_fl
 
 -- ---- the rows that the rules add
 
--- an added row of a flag of this kind with its value, printed as these words
-abbrev pub row_added : Destination → List ℕ → List ℕ → Kind → List (List ℕ) → Told
-row_added there flag value k words = record {
+-- the words of an added option in this list: two about dependencies, else one
+abbrev pub words_added : Destination → List ℕ → List ℕ → List (List ℕ)
+words_added there flag value = if ghosts.eq there destinations.Dependency then flag ∷ value ∷ [] else (flag ++ value) ∷ []
+
+-- an added row of a flag of this kind with its value
+abbrev pub row_added : Destination → List ℕ → List ℕ → Kind → Told
+row_added there flag value k = record {
   given = [];
   flag = Some flag;
   value = Some value;
   kind = gnu_kind_name k;
   destination = there;
   origin = origins.Added;
-  printed = words;
+  printed = words_added there flag value;
   refusal = None;
   at = None;
 }
 
-abbrev pub row_apart : List ℕ → List ℕ → Kind → Told
-row_apart flag value k = row_added destinations.Dependency flag value k (flag ∷ value ∷ [])
-
-abbrev pub row_joined : List ℕ → List ℕ → Kind → Told
-row_joined flag value k = row_added destinations.Common flag value k ((flag ++ value) ∷ [])
-
 abbrev pub rows_depfile : Bool → List ℕ → List Told
 rows_depfile true object = []
-rows_depfile false object = row_apart (codes "-MF") (with_extension object (codes "d")) kind.DepArgumentPath ∷ []
+rows_depfile false object = row_added destinations.Dependency (codes "-MF") (with_extension object (codes "d")) kind.DepArgumentPath ∷ []
 
 abbrev pub rows_target : (is_needed has_path : Bool) (flag target : Option (List ℕ)) → List ℕ → List Told
-rows_target true has_path flag target object = row_apart (unwrap_or flag (codes "-MT")) (unwrap_or target object) kind.DepTarget ∷ rows_depfile has_path object
+rows_target true has_path flag target object = row_added destinations.Dependency (unwrap_or flag (codes "-MT")) (unwrap_or target object) kind.DepTarget ∷ rows_depfile has_path object
 rows_target false has_path flag target object = []
 
 abbrev pub rows_split : Bool → List ℕ → List Told
-rows_split true object = row_joined (codes "-D_gsplit_dwarf_path=") (with_extension object (codes "dwo")) kind.PassThrough ∷ []
+rows_split true object = row_added destinations.Common (codes "-D_gsplit_dwarf_path=") (with_extension object (codes "dwo")) kind.PassThrough ∷ []
 rows_split false object = []
 
 -- those of the compilation of an input in this language to this object

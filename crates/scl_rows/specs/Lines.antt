@@ -67,12 +67,14 @@ abbrev pub first_said : List (Option Verdict) → Option Verdict
 first_said [] = None
 first_said (said ∷ others) = said
 
+-- the row of an option that is the first of those ahead, which have these words, indices and refusals
+abbrev pub first_row : {K : Type 0} → Ways K → List (List ℕ) → List (Option ℕ) → List (Option Verdict) → Seen K → Told
+first_row ways words ats said o = row_of ways (take (length (spelled o)) words) (first_at ats) (first_said said) o
+
 -- the rows of options that were cut from these words, with these indices and refusals
 abbrev pub rows_judged : {K : Type 0} → Ways K → List (List ℕ) → List (Option ℕ) → List (Option Verdict) → List (Seen K) → List Told
 rows_judged ways words ats said [] = []
-rows_judged ways words ats said (o ∷ os) =
-    let count = length (spelled o) in
-    row_of ways (take count words) (first_at ats) (first_said said) o ∷ rows_judged ways (drop count words) (drop 1 ats) (drop 1 said) os
+rows_judged ways words ats said (o ∷ os) = first_row ways words ats said o ∷ rows_judged ways (drop (length (spelled o)) words) (drop 1 ats) (drop 1 said) os
 
 -- the row of a last flag without its value
 abbrev pub row_dangling : {K : Type 0} → (K → List ℕ) → Origin → Dangled K → Told

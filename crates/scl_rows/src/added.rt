@@ -4,7 +4,7 @@ ghost use Rattle.scl_args.specs.Options.{last_flag, last_text};
 ghost use Rattle.scl_gnu_reading.specs.Kinds.{of};
 ghost use Rattle.scl_text.specs.Records.{outcome_of, parsed_of};
 ghost use Rattle.scl_values.specs.Words.{words_of};
-ghost use Rattle.scl_rows.specs.GnuRows.{row_added, row_apart, row_joined, rows_added, rows_depfile, rows_recorded, rows_split, rows_target};
+ghost use Rattle.scl_rows.specs.GnuRows.{row_added, rows_added, rows_depfile, rows_recorded, rows_split, rows_target, words_added};
 ghost use Rattle.scl_rows.specs.Rows.{told};
 
 use crate::destination::Destination;
@@ -20,45 +20,38 @@ use scl_text::records::{CompilerArguments, ParsedArguments};
 use scl_values::join_word;
 use std::alloc::Global;
 
-/// An added row of a flag of this kind with its value, printed as these words.
+/// The words of an added option in this list: two about dependencies, else one.
+fn words_added(alloc: Global, there: Destination, flag: &str, value: &[u8]) -> Mem<Vec<Vec<u8>>>
+    ensures { IfOk result (λ words. words_of words.items ≡ words_added there flag.now value.now) }
+{
+    if there != Destination::Dependency {
+        return Ok(vec![in alloc; join_word(alloc, flag, None, value)?]?);
+    }
+    let first = Vec::from_slice(alloc, flag.as_bytes())?;
+    Ok(vec![in alloc; first, Vec::from_slice(alloc, value)?]?)
+}
+
+/// An added row of a flag of this kind with its value.
 fn row_added(
     alloc: Global,
-    destination: Destination,
+    there: Destination,
     flag: &'static str,
     value: &[u8],
     kind: Kind,
-    words: Vec<Vec<u8>>,
 ) -> Mem<Row>
-    ensures { IfOk result (λ row. told row ≡ row_added destination flag.now value.now kind (words_of words.items)) }
+    ensures { IfOk result (λ row. told row ≡ row_added there flag.now value.now kind) }
 {
     Ok(Row {
         given: Vec::new(alloc),
         flag: Some(flag),
         value: Some(Vec::from_slice(alloc, value)?),
         kind: kind.name(),
-        destination,
+        destination: there,
         origin: Origin::Added,
-        printed: words,
+        printed: words_added(alloc, there, flag, value)?,
         refusal: None,
         at: None,
     })
-}
-
-/// An added row of two words about dependencies.
-fn row_apart(alloc: Global, flag: &'static str, value: &[u8], kind: Kind) -> Mem<Row>
-    ensures { IfOk result (λ row. told row ≡ row_apart flag.now value.now kind) }
-{
-    let first = Vec::from_slice(alloc, flag.as_bytes())?;
-    let words = vec![in alloc; first, Vec::from_slice(alloc, value)?]?;
-    row_added(alloc, Destination::Dependency, flag, value, kind, words)
-}
-
-/// An added row of one common word.
-fn row_joined(alloc: Global, flag: &'static str, value: &[u8], kind: Kind) -> Mem<Row>
-    ensures { IfOk result (λ row. told row ≡ row_joined flag.now value.now kind) }
-{
-    let words = vec![in alloc; join_word(alloc, flag, None, value)?]?;
-    row_added(alloc, Destination::Common, flag, value, kind, words)
 }
 
 /// Appends the row of the dependency file's path, unless the line has one.
@@ -67,7 +60,8 @@ fn push_depfile(alloc: Global, rows: &mut Vec<Row>, has_path: bool, object: &[u8
 {
     if !has_path {
         let path = with_extension(alloc, object, b"d")?;
-        rows.push(row_apart(alloc, "-MF", &path, Kind::DepArgumentPath)?)?;
+        let there = Destination::Dependency;
+        rows.push(row_added(alloc, there, "-MF", &path, Kind::DepArgumentPath)?)?;
     }
     Ok(())
 }
@@ -87,7 +81,8 @@ fn target_rows(
         let target = OfKinds(&[Kind::DepTarget]);
         let flag = options.last_flag(&target).unwrap_or("-MT");
         let value = options.last_text(&target).unwrap_or(object);
-        rows.push(row_apart(alloc, flag, value, Kind::DepTarget)?)?;
+        let there = Destination::Dependency;
+        rows.push(row_added(alloc, there, flag, value, Kind::DepTarget)?)?;
         let path = options.last_text(&OfKinds(&[Kind::DepArgumentPath]));
         push_depfile(alloc, &mut rows, path.is_some(), object)?;
     }
@@ -101,8 +96,8 @@ fn split_rows(alloc: Global, is_split: bool, object: &[u8]) -> Mem<Vec<Row>>
     let mut rows = Vec::new(alloc);
     if is_split {
         let path = with_extension(alloc, object, b"dwo")?;
-        let row = row_joined(alloc, "-D_gsplit_dwarf_path=", &path, Kind::PassThrough)?;
-        rows.push(row)?;
+        let (there, flag) = (Destination::Common, "-D_gsplit_dwarf_path=");
+        rows.push(row_added(alloc, there, flag, &path, Kind::PassThrough)?)?;
     }
     Ok(rows)
 }

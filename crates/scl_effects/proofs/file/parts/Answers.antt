@@ -1,4 +1,4 @@
-use Rattle.std.proofs.Common.{eqb, ◌||◌, rules, tests}
+use Rattle.std.proofs.Common.{rules, tests}
 use Rattle.std.proofs.lemmas.Iterator.Consumers.{map_from_collect}
 use Rattle.std.proofs.lemmas.Iterator.Splits.{YieldsList-from_slice_split}
 use Rattle.scl_effects.specs.Files.{is_brace}

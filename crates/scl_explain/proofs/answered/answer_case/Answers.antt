@@ -1,6 +1,8 @@
 use Rattle.std.proofs.Common.{◌∙◌, sym}
 use Rattle.scl_hazards.specs.Hazards.{tables_of}
+use Rattle.scl_reader.proofs.QuestionLaws.{are-decided}
 use Rattle.scl_explain.proofs.LoadedLaws.{is_decided}
+use Rattle.scl_explain.specs.Said.{request_of}
 use Rattle.scl_explain.proofs.answered.answer_case.Goals as goal
 
 pub returns-clause-decided : goal.returns-clause-decided
@@ -9,3 +11,6 @@ returns-clause-decided g c =
 
 pub returns-clause-answer : goal.returns-clause-answer
 returns-clause-answer g c = λ held h m. (returns-clause-decided g c).answer held h m ∙ sym c.in_ok-answered.ensures.described.answer
+
+pub returns-clause-decides : goal.returns-clause-decides
+returns-clause-decides g c = λ disk extends none. are-decided (request_of c.args.case.now c.in_ok-answered.answered.view) disk extends none ∙ sym c.in_ok-answered.ensures.described.answer

@@ -5,5 +5,5 @@ use Rattle.scl_explain.proofs.commanded.command.Goals as goal
 
 pub returns-in-Ok : goal.returns-in-Ok
 returns-in-Ok g c =
-    said_reply _ (tables_of c.args.tables.now) (g.D.Disk.holds c.args.disk.now) c.args.case.now (IsCommanded c.args.form c.args.case.now) c.in-Ok.answered.view c.in-Ok.answered.description
+    said_reply _ (tables_of c.args.by.now.tables) (g.D.Disk.holds c.args.by.now.disk) c.args.case.now (IsCommanded c.args.form c.args.case.now) c.in-Ok.answered.view c.in-Ok.answered.description
     c.command_reply.result (rw c.in-Ok.is at c.in_ok-answered.ensures.decided) (rw c.in-Ok.is at c.in_ok-answered.ensures.described) c.command_reply.ensures

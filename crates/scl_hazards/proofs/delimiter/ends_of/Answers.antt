@@ -1,4 +1,4 @@
-use Rattle.std.proofs.Common.{◌≡◌, sym, ap, ◌∙◌, length}
+use Rattle.std.proofs.Common.{sym, ap, ◌∙◌, length}
 use Rattle.scl_hazards.proofs.EndLemmas.{ends-more, ends-same}
 use Rattle.scl_hazards.proofs.delimiter.ends_of.Goals as goal
 use Rattle.scl_hazards.proofs.delimiter.ends_of.Goals.{in-Some+in_ok-insert, in_default}

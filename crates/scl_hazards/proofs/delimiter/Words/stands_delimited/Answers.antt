@@ -1,4 +1,4 @@
-use Rattle.std.proofs.Common.{◌≡◌, ◌∙◌}
+use Rattle.std.proofs.Common.{◌∙◌}
 use Rattle.scl_hazards.proofs.delimiter.Words.stands_delimited.Goals as goal
 
 pub returns-in-Some-ends : goal.returns-in-Some-ends
