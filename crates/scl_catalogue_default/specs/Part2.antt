@@ -35,7 +35,7 @@ unfoldable pub output_elsewhere_entry : Entry
 output_elsewhere_entry = entry (Hazard danger.Object) (codes "output-elsewhere")
     (codes "The compiler writes another file than one that the record names, or none.") (
     case (meant compiler.Gcc None None ∷ meant compiler.Clang None None ∷ []) (asked (Given (Last long_output_group (unnamed (test class.Kind (text (is (codes "output") ∷ []) []) [] ∷ [])))) ∷ []) ∷
-    case (meant compiler.Gcc None None ∷ []) (asked (Given (Any (unnamed (test class.Kind (text (is (codes "coverage") ∷ is (codes "test-coverage") ∷ []) []) [] ∷ [])))) ∷ asked (Given (Any (unnamed (test class.Unknown (text (is (codes "-dumpbase") ∷ is (codes "--dumpbase") ∷ is (codes "--dumpdir") ∷ []) []) [] ∷ [])))) ∷ []) ∷
+    case (meant compiler.Gcc None None ∷ []) (asked (Given (Any (unnamed (test class.Kind (text (is (codes "coverage") ∷ is (codes "test-coverage") ∷ []) []) [] ∷ [])))) ∷ asked (Given (Any (unnamed (test class.Unknown (text (is (codes "-dumpbase") ∷ is (codes "--dumpbase") ∷ is (codes "-dumpdir") ∷ is (codes "--dumpdir") ∷ []) []) [] ∷ [])))) ∷ []) ∷
     case (meant compiler.Gcc None None ∷ []) (asked (Given (Any (unnamed (test class.Unknown (text (is (codes "-###") ∷ is (codes "--help") ∷ is (codes "--version") ∷ is (codes "--target-help") ∷ is (codes "-dumpfullversion") ∷ is (codes "-dumpmachine") ∷ is (codes "-dumpspecs") ∷ is (codes "-dumpversion") ∷ begins (codes "-print-") ∷ begins (codes "--print-") ∷ []) []) [] ∷ [])))) ∷ []) ∷
     case (meant compiler.Gcc None None ∷ []) (asked (At place.Language (text (is (codes "rs") ∷ []) [])) ∷ denied (Given (Any language_group)) ∷ []) ∷
     case (meant compiler.Clang None None ∷ []) (asked (Given (Any (unnamed (test class.Unknown (text (is (codes "-###") ∷ is (codes "-help") ∷ is (codes "--help") ∷ is (codes "--help-hidden") ∷ is (codes "--version") ∷ is (codes "-dumpmachine") ∷ is (codes "-dumpversion") ∷ begins (codes "-ccc-print-") ∷ begins (codes "-print-") ∷ begins (codes "--print-") ∷ []) (is (codes "-print-ivar-layout") ∷ is (codes "-print-rocm-search-dirs") ∷ is (codes "--print-rocm-search-dirs") ∷ [])) [] ∷ [])))) ∷ []) ∷

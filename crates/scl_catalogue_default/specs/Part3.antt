@@ -149,7 +149,7 @@ dependency_names_of_input_entry = entry (Hazard danger.Run) (codes "dependency-n
 unfoldable pub dependency_names_of_dumps_entry : Entry
 dependency_names_of_dumps_entry = entry (Hazard danger.SideFile) (codes "dependency-names-of-dumps")
     (codes "The dependency file is named as dumps are, and the built command names it after the object.") (
-    case (meant compiler.Gcc None None ∷ []) (asked (Is fact.Preprocessed) ∷ asked (Given (Any (unnamed (test class.Unknown (text (is (codes "-dumpbase") ∷ is (codes "--dumpbase") ∷ is (codes "--dumpdir") ∷ []) []) [] ∷ [])))) ∷ asked (Given (Any (unnamed (test class.Unknown (text (begins (codes "--write-") ∷ []) []) [] ∷ test class.Flag (text (is (codes "-MD") ∷ is (codes "-MMD") ∷ []) []) [] ∷ [])))) ∷ denied (Given (Any output_group)) ∷ denied (Given (Any (unnamed (test class.Kind (text (is (codes "dep-argument-path") ∷ []) []) [] ∷ test class.Unknown (text (begins (codes "-MF") ∷ []) []) [] ∷ [])))) ∷ []) ∷
+    case (meant compiler.Gcc None None ∷ []) (asked (Is fact.Preprocessed) ∷ asked (Given (Any (unnamed (test class.Unknown (text (is (codes "-dumpbase") ∷ is (codes "--dumpbase") ∷ is (codes "-dumpdir") ∷ is (codes "--dumpdir") ∷ []) []) [] ∷ [])))) ∷ asked (Given (Any (unnamed (test class.Unknown (text (begins (codes "--write-") ∷ []) []) [] ∷ test class.Flag (text (is (codes "-MD") ∷ is (codes "-MMD") ∷ []) []) [] ∷ [])))) ∷ denied (Given (Any output_group)) ∷ denied (Given (Any (unnamed (test class.Kind (text (is (codes "dep-argument-path") ∷ []) []) [] ∷ test class.Unknown (text (begins (codes "-MF") ∷ []) []) [] ∷ [])))) ∷ []) ∷
     [])
 
 unfoldable pub part_3 : List Entry

@@ -40,7 +40,7 @@ kept_intermediates_entry = entry (Effect verb.Writes (codes "{input-stem}.*")) (
 unfoldable pub drawn_graphs_entry : Entry
 drawn_graphs_entry = entry (Effect verb.Writes (codes "*")) (codes "drawn-graphs")
     (codes "Graphs are written, to be drawn.") (
-    case (meant compiler.Clang None None ∷ []) (asked (Given (Any (unnamed (test class.Flag (text (is (codes "-mllvm") ∷ []) []) (Value (text (begins (codes "-dot-") ∷ begins (codes "-view-") ∷ begins (codes "-polly-dot") ∷ begins (codes "--dot-") ∷ begins (codes "--view-") ∷ begins (codes "--polly-dot") ∷ []) []) ∷ []) ∷ [])))) ∷ []) ∷
+    case (meant compiler.Clang None None ∷ []) (asked (Given (Any (unnamed (test class.Flag (text (is (codes "-mllvm") ∷ []) []) (Value (text (begins (codes "-dot-") ∷ begins (codes "-view-") ∷ begins (codes "-polly-dot") ∷ begins (codes "-x86-lvi-load-dot") ∷ begins (codes "--dot-") ∷ begins (codes "--view-") ∷ begins (codes "--polly-dot") ∷ begins (codes "--x86-lvi-load-dot") ∷ []) []) ∷ []) ∷ [])))) ∷ []) ∷
     [])
 
 unfoldable pub statistics_in_file_entry : Entry
@@ -113,7 +113,7 @@ unfoldable pub shown_by_preprocessor_entry : Entry
 shown_by_preprocessor_entry = entry Plain (codes "shown-by-preprocessor")
     (codes "The run of the preprocessor shows what it does.") (
     case (meant compiler.Gcc None None ∷ meant compiler.Clang None None ∷ []) (asked (Given (Any (unnamed (test class.Kind (text (is (codes "preprocessor-argument-flag") ∷ is (codes "preprocessor-argument-path") ∷ []) []) [] ∷ test class.Flag (text (is (codes "-D") ∷ is (codes "-U") ∷ is (codes "-A") ∷ is (codes "-stdlib") ∷ is (codes "--sysroot") ∷ []) []) [] ∷ [])))) ∷ []) ∷
-    case (meant compiler.Gcc None None ∷ meant compiler.Clang None None ∷ []) (asked (Given (Any (unnamed (test class.Flag (text (is (codes "-Wp") ∷ []) []) (Value (text (begins (codes "-C") ∷ begins (codes "-D") ∷ begins (codes "-I") ∷ begins (codes "-MD,") ∷ begins (codes "-MMD,") ∷ begins (codes "-P") ∷ begins (codes "-U") ∷ []) (holds (codes ",-M") ∷ holds (codes ",-a") ∷ holds (codes ",-d") ∷ holds (codes ",-f") ∷ holds (codes ",-i") ∷ holds (codes ",-o") ∷ holds (codes ",-x") ∷ holds (codes ",@") ∷ [])) ∷ []) ∷ [])))) ∷ []) ∷
+    case (meant compiler.Gcc None None ∷ meant compiler.Clang None None ∷ []) (asked (Given (Any (unnamed (test class.Flag (text (is (codes "-Wp") ∷ []) []) (Value (text (begins (codes "-C") ∷ begins (codes "-D") ∷ begins (codes "-I") ∷ begins (codes "-MD,") ∷ begins (codes "-MMD,") ∷ begins (codes "-P") ∷ begins (codes "-U") ∷ []) (holds (codes ",-a") ∷ holds (codes ",-b") ∷ holds (codes ",-c") ∷ holds (codes ",-d") ∷ holds (codes ",-e") ∷ holds (codes ",-f") ∷ holds (codes ",-g") ∷ holds (codes ",-h") ∷ holds (codes ",-i") ∷ holds (codes ",-j") ∷ holds (codes ",-k") ∷ holds (codes ",-l") ∷ holds (codes ",-m") ∷ holds (codes ",-n") ∷ holds (codes ",-o") ∷ holds (codes ",-p") ∷ holds (codes ",-q") ∷ holds (codes ",-r") ∷ holds (codes ",-s") ∷ holds (codes ",-t") ∷ holds (codes ",-u") ∷ holds (codes ",-v") ∷ holds (codes ",-w") ∷ holds (codes ",-x") ∷ holds (codes ",-y") ∷ holds (codes ",-z") ∷ holds (codes ",-A") ∷ holds (codes ",-B") ∷ holds (codes ",-C") ∷ holds (codes ",-E") ∷ holds (codes ",-F") ∷ holds (codes ",-G") ∷ holds (codes ",-H") ∷ holds (codes ",-I") ∷ holds (codes ",-J") ∷ holds (codes ",-K") ∷ holds (codes ",-L") ∷ holds (codes ",-M") ∷ holds (codes ",-N") ∷ holds (codes ",-O") ∷ holds (codes ",-P") ∷ holds (codes ",-Q") ∷ holds (codes ",-R") ∷ holds (codes ",-S") ∷ holds (codes ",-T") ∷ holds (codes ",-V") ∷ holds (codes ",-W") ∷ holds (codes ",-X") ∷ holds (codes ",-Y") ∷ holds (codes ",-Z") ∷ holds (codes ",--") ∷ holds (codes ",@") ∷ [])) ∷ []) ∷ [])))) ∷ []) ∷
     case (meant compiler.Gcc None None ∷ meant compiler.Clang None None ∷ []) (asked (Given (Any (unnamed (test class.Flag (text (is (codes "-Xpreprocessor") ∷ []) []) (Value (text (is (codes "-C") ∷ is (codes "-CC") ∷ begins (codes "-D") ∷ begins (codes "-I") ∷ is (codes "-MP") ∷ is (codes "-P") ∷ begins (codes "-U") ∷ is (codes "-fopenmp") ∷ is (codes "-w") ∷ []) []) ∷ []) ∷ [])))) ∷ []) ∷
     case (meant compiler.Clang None None ∷ meant compiler.ClangCl None None ∷ []) (asked (Inner (Any (unnamed (test class.Kind (text (is (codes "preprocessor-argument-flag") ∷ is (codes "preprocessor-argument-path") ∷ []) []) [] ∷ test class.Flag (text (is (codes "-D") ∷ is (codes "-U") ∷ is (codes "-A") ∷ is (codes "-stdlib") ∷ is (codes "--sysroot") ∷ []) []) [] ∷ [])))) ∷ []) ∷
     case (meant compiler.ClangCl None None ∷ meant compiler.Cl None None ∷ []) (asked (Given (Any (unnamed (test class.Kind (text (is (codes "preprocessor-argument") ∷ is (codes "preprocessor-argument-path") ∷ is (codes "external-include-path") ∷ []) []) [] ∷ [])))) ∷ []) ∷

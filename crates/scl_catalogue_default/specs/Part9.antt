@@ -74,9 +74,9 @@ handed_to_assembler_entry = entry Plain (codes "handed-to-assembler")
 unfoldable pub handed_to_llvm_entry : Entry
 handed_to_llvm_entry = entry Plain (codes "handed-to-llvm")
     (codes "It changes the code that is made, and no file.") (
-    case (meant compiler.Clang None None ∷ []) (asked (Given (Any (unnamed (test class.Flag (text (is (codes "-mllvm") ∷ []) []) (Value (text (begins (codes "-aarch64-") ∷ begins (codes "-addr-") ∷ begins (codes "-align-") ∷ begins (codes "-amdgpu-") ∷ begins (codes "-arm-") ∷ begins (codes "-asan-") ∷ begins (codes "-branch-") ∷ begins (codes "-cold-") ∷ begins (codes "-disable-") ∷ begins (codes "-dse-") ∷ begins (codes "-dwarf-") ∷ begins (codes "-early-") ∷ begins (codes "-emulated-") ∷ begins (codes "-enable-") ∷ begins (codes "-expand-") ∷ begins (codes "-force-") ∷ begins (codes "-generate-") ∷ begins (codes "-global-") ∷ begins (codes "-gvn-") ∷ begins (codes "-hexagon-") ∷ begins (codes "-hot-") ∷ begins (codes "-hwasan-") ∷ begins (codes "-import-instr-") ∷ begins (codes "-inline-") ∷ begins (codes "-inlinecold-") ∷ begins (codes "-inlinehint-") ∷ begins (codes "-insert-") ∷ begins (codes "-instcombine-") ∷ begins (codes "-instrprof-") ∷ begins (codes "-interleave-") ∷ begins (codes "-jump-") ∷ begins (codes "-licm-") ∷ begins (codes "-loop-") ∷ begins (codes "-lsr-") ∷ begins (codes "-max-") ∷ begins (codes "-min-") ∷ begins (codes "-mips-") ∷ begins (codes "-misched") ∷ begins (codes "-msan-") ∷ begins (codes "-nvptx-") ∷ begins (codes "-no-") ∷ begins (codes "-partial-") ∷ begins (codes "-phi-") ∷ begins (codes "-ppc-") ∷ begins (codes "-prefer-") ∷ begins (codes "-regalloc") ∷ begins (codes "-riscv-") ∷ begins (codes "-rotation-") ∷ begins (codes "-runtime-") ∷ begins (codes "-sanitizer-coverage-") ∷ begins (codes "-scalar-") ∷ begins (codes "-sched-") ∷ begins (codes "-simple-") ∷ begins (codes "-simplifycfg-") ∷ begins (codes "-slp-") ∷ begins (codes "-split-") ∷ begins (codes "-switch-") ∷ begins (codes "-tail-") ∷ begins (codes "-tsan-") ∷ begins (codes "-two-") ∷ begins (codes "-unroll-") ∷ begins (codes "-unswitch-") ∷ begins (codes "-use-") ∷ begins (codes "-vector-") ∷ begins (codes "-vectorize-") ∷ begins (codes "-wasm-") ∷ begins (codes "-x86-") ∷ is (codes "-polly") ∷ begins (codes "-pass-remarks=") ∷ begins (codes "-pass-remarks-missed=") ∷ begins (codes "-pass-remarks-analysis=") ∷ begins (codes "-inline-threshold=") ∷ begins (codes "-fast-isel") ∷ begins (codes "-treat-scalable-fixed-error-as-warning") ∷ begins (codes "-emit-gnuas-syntax-on-zos") ∷ begins (codes "-rng-seed=") ∷ begins (codes "-crash-diagnostics-dir=") ∷ begins (codes "-stackcoloring") ∷ begins (codes "-mergefunc") ∷ begins (codes "-hot-cold-split") ∷ begins (codes "-attributor-enable=") ∷ is (codes "-import-all-index") ∷ begins (codes "-import-hot-") ∷ begins (codes "-import-cold-") ∷ begins (codes "-import-critical-") ∷ begins (codes "-wholeprogramdevirt-branch") ∷ begins (codes "-experimental-") ∷ is (codes "-extra-vectorizer-passes") ∷ []) (begins (codes "-amdgpu-dump") ∷ begins (codes "-x86-lvi-load-opt-plugin") ∷ [])) ∷ []) ∷ [])))) ∷ []) ∷
-    case (meant compiler.ClangCl None None ∷ []) (asked (Given (Any (unnamed (test class.Unknown (text (is (codes "-mllvm") ∷ begins (codes "-aarch64-") ∷ begins (codes "-addr-") ∷ begins (codes "-align-") ∷ begins (codes "-amdgpu-") ∷ begins (codes "-arm-") ∷ begins (codes "-asan-") ∷ begins (codes "-branch-") ∷ begins (codes "-cold-") ∷ begins (codes "-disable-") ∷ begins (codes "-dse-") ∷ begins (codes "-dwarf-") ∷ begins (codes "-early-") ∷ begins (codes "-emulated-") ∷ begins (codes "-enable-") ∷ begins (codes "-expand-") ∷ begins (codes "-force-") ∷ begins (codes "-generate-") ∷ begins (codes "-global-") ∷ begins (codes "-gvn-") ∷ begins (codes "-hexagon-") ∷ begins (codes "-hot-") ∷ begins (codes "-hwasan-") ∷ begins (codes "-import-instr-") ∷ begins (codes "-inline-") ∷ begins (codes "-inlinecold-") ∷ begins (codes "-inlinehint-") ∷ begins (codes "-insert-") ∷ begins (codes "-instcombine-") ∷ begins (codes "-instrprof-") ∷ begins (codes "-interleave-") ∷ begins (codes "-jump-") ∷ begins (codes "-licm-") ∷ begins (codes "-loop-") ∷ begins (codes "-lsr-") ∷ begins (codes "-max-") ∷ begins (codes "-min-") ∷ begins (codes "-mips-") ∷ begins (codes "-misched") ∷ begins (codes "-msan-") ∷ begins (codes "-nvptx-") ∷ begins (codes "-no-") ∷ begins (codes "-partial-") ∷ begins (codes "-phi-") ∷ begins (codes "-ppc-") ∷ begins (codes "-prefer-") ∷ begins (codes "-regalloc") ∷ begins (codes "-riscv-") ∷ begins (codes "-rotation-") ∷ begins (codes "-runtime-") ∷ begins (codes "-sanitizer-coverage-") ∷ begins (codes "-scalar-") ∷ begins (codes "-sched-") ∷ begins (codes "-simple-") ∷ begins (codes "-simplifycfg-") ∷ begins (codes "-slp-") ∷ begins (codes "-split-") ∷ begins (codes "-switch-") ∷ begins (codes "-tail-") ∷ begins (codes "-tsan-") ∷ begins (codes "-two-") ∷ begins (codes "-unroll-") ∷ begins (codes "-unswitch-") ∷ begins (codes "-use-") ∷ begins (codes "-vector-") ∷ begins (codes "-vectorize-") ∷ begins (codes "-wasm-") ∷ begins (codes "-x86-") ∷ is (codes "-polly") ∷ begins (codes "-pass-remarks=") ∷ begins (codes "-pass-remarks-missed=") ∷ begins (codes "-pass-remarks-analysis=") ∷ begins (codes "-inline-threshold=") ∷ begins (codes "-fast-isel") ∷ begins (codes "-treat-scalable-fixed-error-as-warning") ∷ begins (codes "-emit-gnuas-syntax-on-zos") ∷ begins (codes "-rng-seed=") ∷ begins (codes "-crash-diagnostics-dir=") ∷ begins (codes "-stackcoloring") ∷ begins (codes "-mergefunc") ∷ begins (codes "-hot-cold-split") ∷ begins (codes "-attributor-enable=") ∷ is (codes "-import-all-index") ∷ begins (codes "-import-hot-") ∷ begins (codes "-import-cold-") ∷ begins (codes "-import-critical-") ∷ begins (codes "-wholeprogramdevirt-branch") ∷ begins (codes "-experimental-") ∷ is (codes "-extra-vectorizer-passes") ∷ []) (begins (codes "-amdgpu-dump") ∷ begins (codes "-x86-lvi-load-opt-plugin") ∷ [])) [] ∷ [])))) ∷ []) ∷
-    case (meant compiler.Clang None None ∷ meant compiler.ClangCl None None ∷ []) (asked (Inner (Any (unnamed (test class.Flag (text (is (codes "-mllvm") ∷ []) []) (Value (text (begins (codes "-aarch64-") ∷ begins (codes "-addr-") ∷ begins (codes "-align-") ∷ begins (codes "-amdgpu-") ∷ begins (codes "-arm-") ∷ begins (codes "-asan-") ∷ begins (codes "-branch-") ∷ begins (codes "-cold-") ∷ begins (codes "-disable-") ∷ begins (codes "-dse-") ∷ begins (codes "-dwarf-") ∷ begins (codes "-early-") ∷ begins (codes "-emulated-") ∷ begins (codes "-enable-") ∷ begins (codes "-expand-") ∷ begins (codes "-force-") ∷ begins (codes "-generate-") ∷ begins (codes "-global-") ∷ begins (codes "-gvn-") ∷ begins (codes "-hexagon-") ∷ begins (codes "-hot-") ∷ begins (codes "-hwasan-") ∷ begins (codes "-import-instr-") ∷ begins (codes "-inline-") ∷ begins (codes "-inlinecold-") ∷ begins (codes "-inlinehint-") ∷ begins (codes "-insert-") ∷ begins (codes "-instcombine-") ∷ begins (codes "-instrprof-") ∷ begins (codes "-interleave-") ∷ begins (codes "-jump-") ∷ begins (codes "-licm-") ∷ begins (codes "-loop-") ∷ begins (codes "-lsr-") ∷ begins (codes "-max-") ∷ begins (codes "-min-") ∷ begins (codes "-mips-") ∷ begins (codes "-misched") ∷ begins (codes "-msan-") ∷ begins (codes "-nvptx-") ∷ begins (codes "-no-") ∷ begins (codes "-partial-") ∷ begins (codes "-phi-") ∷ begins (codes "-ppc-") ∷ begins (codes "-prefer-") ∷ begins (codes "-regalloc") ∷ begins (codes "-riscv-") ∷ begins (codes "-rotation-") ∷ begins (codes "-runtime-") ∷ begins (codes "-sanitizer-coverage-") ∷ begins (codes "-scalar-") ∷ begins (codes "-sched-") ∷ begins (codes "-simple-") ∷ begins (codes "-simplifycfg-") ∷ begins (codes "-slp-") ∷ begins (codes "-split-") ∷ begins (codes "-switch-") ∷ begins (codes "-tail-") ∷ begins (codes "-tsan-") ∷ begins (codes "-two-") ∷ begins (codes "-unroll-") ∷ begins (codes "-unswitch-") ∷ begins (codes "-use-") ∷ begins (codes "-vector-") ∷ begins (codes "-vectorize-") ∷ begins (codes "-wasm-") ∷ begins (codes "-x86-") ∷ is (codes "-polly") ∷ begins (codes "-pass-remarks=") ∷ begins (codes "-pass-remarks-missed=") ∷ begins (codes "-pass-remarks-analysis=") ∷ begins (codes "-inline-threshold=") ∷ begins (codes "-fast-isel") ∷ begins (codes "-treat-scalable-fixed-error-as-warning") ∷ begins (codes "-emit-gnuas-syntax-on-zos") ∷ begins (codes "-rng-seed=") ∷ begins (codes "-crash-diagnostics-dir=") ∷ begins (codes "-stackcoloring") ∷ begins (codes "-mergefunc") ∷ begins (codes "-hot-cold-split") ∷ begins (codes "-attributor-enable=") ∷ is (codes "-import-all-index") ∷ begins (codes "-import-hot-") ∷ begins (codes "-import-cold-") ∷ begins (codes "-import-critical-") ∷ begins (codes "-wholeprogramdevirt-branch") ∷ begins (codes "-experimental-") ∷ is (codes "-extra-vectorizer-passes") ∷ []) (begins (codes "-amdgpu-dump") ∷ begins (codes "-x86-lvi-load-opt-plugin") ∷ [])) ∷ []) ∷ [])))) ∷ []) ∷
+    case (meant compiler.Clang None None ∷ []) (asked (Given (Any (unnamed (test class.Flag (text (is (codes "-mllvm") ∷ []) []) (Value (text (begins (codes "-aarch64-") ∷ begins (codes "-addr-") ∷ begins (codes "-align-") ∷ begins (codes "-amdgpu-") ∷ begins (codes "-arm-") ∷ begins (codes "-asan-") ∷ begins (codes "-branch-") ∷ begins (codes "-cold-") ∷ begins (codes "-disable-") ∷ begins (codes "-dse-") ∷ begins (codes "-dwarf-") ∷ begins (codes "-early-") ∷ begins (codes "-emulated-") ∷ begins (codes "-enable-") ∷ begins (codes "-expand-") ∷ begins (codes "-force-") ∷ begins (codes "-generate-") ∷ begins (codes "-global-") ∷ begins (codes "-gvn-") ∷ begins (codes "-hexagon-") ∷ begins (codes "-hot-") ∷ begins (codes "-hwasan-") ∷ begins (codes "-import-instr-") ∷ begins (codes "-inline-") ∷ begins (codes "-inlinecold-") ∷ begins (codes "-inlinehint-") ∷ begins (codes "-insert-") ∷ begins (codes "-instcombine-") ∷ begins (codes "-instrprof-") ∷ begins (codes "-interleave-") ∷ begins (codes "-jump-") ∷ begins (codes "-licm-") ∷ begins (codes "-loop-") ∷ begins (codes "-lsr-") ∷ begins (codes "-max-") ∷ begins (codes "-min-") ∷ begins (codes "-mips-") ∷ begins (codes "-misched") ∷ begins (codes "-msan-") ∷ begins (codes "-nvptx-") ∷ begins (codes "-no-") ∷ begins (codes "-partial-") ∷ begins (codes "-phi-") ∷ begins (codes "-ppc-") ∷ begins (codes "-prefer-") ∷ begins (codes "-regalloc") ∷ begins (codes "-riscv-") ∷ begins (codes "-rotation-") ∷ begins (codes "-runtime-") ∷ begins (codes "-sanitizer-coverage-") ∷ begins (codes "-scalar-") ∷ begins (codes "-sched-") ∷ begins (codes "-simple-") ∷ begins (codes "-simplifycfg-") ∷ begins (codes "-slp-") ∷ begins (codes "-split-") ∷ begins (codes "-switch-") ∷ begins (codes "-tail-") ∷ begins (codes "-tsan-") ∷ begins (codes "-two-") ∷ begins (codes "-unroll-") ∷ begins (codes "-unswitch-") ∷ begins (codes "-use-") ∷ begins (codes "-vector-") ∷ begins (codes "-vectorize-") ∷ begins (codes "-wasm-") ∷ begins (codes "-x86-") ∷ is (codes "-polly") ∷ begins (codes "-pass-remarks=") ∷ begins (codes "-pass-remarks-missed=") ∷ begins (codes "-pass-remarks-analysis=") ∷ begins (codes "-inline-threshold=") ∷ begins (codes "-fast-isel") ∷ begins (codes "-treat-scalable-fixed-error-as-warning") ∷ begins (codes "-emit-gnuas-syntax-on-zos") ∷ begins (codes "-rng-seed=") ∷ begins (codes "-crash-diagnostics-dir=") ∷ begins (codes "-stackcoloring") ∷ begins (codes "-mergefunc") ∷ begins (codes "-hot-cold-split") ∷ begins (codes "-attributor-enable=") ∷ is (codes "-import-all-index") ∷ begins (codes "-import-hot-") ∷ begins (codes "-import-cold-") ∷ begins (codes "-import-critical-") ∷ begins (codes "-wholeprogramdevirt-branch") ∷ begins (codes "-experimental-") ∷ is (codes "-extra-vectorizer-passes") ∷ []) (holds (codes "dot") ∷ holds (codes "dump") ∷ holds (codes "print") ∷ holds (codes "stats") ∷ holds (codes "-file=") ∷ holds (codes "interactive-channel") ∷ holds (codes "training-log") ∷ holds (codes "log-dir") ∷ begins (codes "-regalloc-model") ∷ begins (codes "-regalloc-priority-model") ∷ begins (codes "-x86-lvi-load-opt-plugin") ∷ [])) ∷ []) ∷ [])))) ∷ []) ∷
+    case (meant compiler.ClangCl None None ∷ []) (asked (Given (Any (unnamed (test class.Unknown (text (is (codes "-mllvm") ∷ begins (codes "-aarch64-") ∷ begins (codes "-addr-") ∷ begins (codes "-align-") ∷ begins (codes "-amdgpu-") ∷ begins (codes "-arm-") ∷ begins (codes "-asan-") ∷ begins (codes "-branch-") ∷ begins (codes "-cold-") ∷ begins (codes "-disable-") ∷ begins (codes "-dse-") ∷ begins (codes "-dwarf-") ∷ begins (codes "-early-") ∷ begins (codes "-emulated-") ∷ begins (codes "-enable-") ∷ begins (codes "-expand-") ∷ begins (codes "-force-") ∷ begins (codes "-generate-") ∷ begins (codes "-global-") ∷ begins (codes "-gvn-") ∷ begins (codes "-hexagon-") ∷ begins (codes "-hot-") ∷ begins (codes "-hwasan-") ∷ begins (codes "-import-instr-") ∷ begins (codes "-inline-") ∷ begins (codes "-inlinecold-") ∷ begins (codes "-inlinehint-") ∷ begins (codes "-insert-") ∷ begins (codes "-instcombine-") ∷ begins (codes "-instrprof-") ∷ begins (codes "-interleave-") ∷ begins (codes "-jump-") ∷ begins (codes "-licm-") ∷ begins (codes "-loop-") ∷ begins (codes "-lsr-") ∷ begins (codes "-max-") ∷ begins (codes "-min-") ∷ begins (codes "-mips-") ∷ begins (codes "-misched") ∷ begins (codes "-msan-") ∷ begins (codes "-nvptx-") ∷ begins (codes "-no-") ∷ begins (codes "-partial-") ∷ begins (codes "-phi-") ∷ begins (codes "-ppc-") ∷ begins (codes "-prefer-") ∷ begins (codes "-regalloc") ∷ begins (codes "-riscv-") ∷ begins (codes "-rotation-") ∷ begins (codes "-runtime-") ∷ begins (codes "-sanitizer-coverage-") ∷ begins (codes "-scalar-") ∷ begins (codes "-sched-") ∷ begins (codes "-simple-") ∷ begins (codes "-simplifycfg-") ∷ begins (codes "-slp-") ∷ begins (codes "-split-") ∷ begins (codes "-switch-") ∷ begins (codes "-tail-") ∷ begins (codes "-tsan-") ∷ begins (codes "-two-") ∷ begins (codes "-unroll-") ∷ begins (codes "-unswitch-") ∷ begins (codes "-use-") ∷ begins (codes "-vector-") ∷ begins (codes "-vectorize-") ∷ begins (codes "-wasm-") ∷ begins (codes "-x86-") ∷ is (codes "-polly") ∷ begins (codes "-pass-remarks=") ∷ begins (codes "-pass-remarks-missed=") ∷ begins (codes "-pass-remarks-analysis=") ∷ begins (codes "-inline-threshold=") ∷ begins (codes "-fast-isel") ∷ begins (codes "-treat-scalable-fixed-error-as-warning") ∷ begins (codes "-emit-gnuas-syntax-on-zos") ∷ begins (codes "-rng-seed=") ∷ begins (codes "-crash-diagnostics-dir=") ∷ begins (codes "-stackcoloring") ∷ begins (codes "-mergefunc") ∷ begins (codes "-hot-cold-split") ∷ begins (codes "-attributor-enable=") ∷ is (codes "-import-all-index") ∷ begins (codes "-import-hot-") ∷ begins (codes "-import-cold-") ∷ begins (codes "-import-critical-") ∷ begins (codes "-wholeprogramdevirt-branch") ∷ begins (codes "-experimental-") ∷ is (codes "-extra-vectorizer-passes") ∷ []) (holds (codes "dot") ∷ holds (codes "dump") ∷ holds (codes "print") ∷ holds (codes "stats") ∷ holds (codes "-file=") ∷ holds (codes "interactive-channel") ∷ holds (codes "training-log") ∷ holds (codes "log-dir") ∷ begins (codes "-regalloc-model") ∷ begins (codes "-regalloc-priority-model") ∷ begins (codes "-x86-lvi-load-opt-plugin") ∷ [])) [] ∷ [])))) ∷ []) ∷
+    case (meant compiler.Clang None None ∷ meant compiler.ClangCl None None ∷ []) (asked (Inner (Any (unnamed (test class.Flag (text (is (codes "-mllvm") ∷ []) []) (Value (text (begins (codes "-aarch64-") ∷ begins (codes "-addr-") ∷ begins (codes "-align-") ∷ begins (codes "-amdgpu-") ∷ begins (codes "-arm-") ∷ begins (codes "-asan-") ∷ begins (codes "-branch-") ∷ begins (codes "-cold-") ∷ begins (codes "-disable-") ∷ begins (codes "-dse-") ∷ begins (codes "-dwarf-") ∷ begins (codes "-early-") ∷ begins (codes "-emulated-") ∷ begins (codes "-enable-") ∷ begins (codes "-expand-") ∷ begins (codes "-force-") ∷ begins (codes "-generate-") ∷ begins (codes "-global-") ∷ begins (codes "-gvn-") ∷ begins (codes "-hexagon-") ∷ begins (codes "-hot-") ∷ begins (codes "-hwasan-") ∷ begins (codes "-import-instr-") ∷ begins (codes "-inline-") ∷ begins (codes "-inlinecold-") ∷ begins (codes "-inlinehint-") ∷ begins (codes "-insert-") ∷ begins (codes "-instcombine-") ∷ begins (codes "-instrprof-") ∷ begins (codes "-interleave-") ∷ begins (codes "-jump-") ∷ begins (codes "-licm-") ∷ begins (codes "-loop-") ∷ begins (codes "-lsr-") ∷ begins (codes "-max-") ∷ begins (codes "-min-") ∷ begins (codes "-mips-") ∷ begins (codes "-misched") ∷ begins (codes "-msan-") ∷ begins (codes "-nvptx-") ∷ begins (codes "-no-") ∷ begins (codes "-partial-") ∷ begins (codes "-phi-") ∷ begins (codes "-ppc-") ∷ begins (codes "-prefer-") ∷ begins (codes "-regalloc") ∷ begins (codes "-riscv-") ∷ begins (codes "-rotation-") ∷ begins (codes "-runtime-") ∷ begins (codes "-sanitizer-coverage-") ∷ begins (codes "-scalar-") ∷ begins (codes "-sched-") ∷ begins (codes "-simple-") ∷ begins (codes "-simplifycfg-") ∷ begins (codes "-slp-") ∷ begins (codes "-split-") ∷ begins (codes "-switch-") ∷ begins (codes "-tail-") ∷ begins (codes "-tsan-") ∷ begins (codes "-two-") ∷ begins (codes "-unroll-") ∷ begins (codes "-unswitch-") ∷ begins (codes "-use-") ∷ begins (codes "-vector-") ∷ begins (codes "-vectorize-") ∷ begins (codes "-wasm-") ∷ begins (codes "-x86-") ∷ is (codes "-polly") ∷ begins (codes "-pass-remarks=") ∷ begins (codes "-pass-remarks-missed=") ∷ begins (codes "-pass-remarks-analysis=") ∷ begins (codes "-inline-threshold=") ∷ begins (codes "-fast-isel") ∷ begins (codes "-treat-scalable-fixed-error-as-warning") ∷ begins (codes "-emit-gnuas-syntax-on-zos") ∷ begins (codes "-rng-seed=") ∷ begins (codes "-crash-diagnostics-dir=") ∷ begins (codes "-stackcoloring") ∷ begins (codes "-mergefunc") ∷ begins (codes "-hot-cold-split") ∷ begins (codes "-attributor-enable=") ∷ is (codes "-import-all-index") ∷ begins (codes "-import-hot-") ∷ begins (codes "-import-cold-") ∷ begins (codes "-import-critical-") ∷ begins (codes "-wholeprogramdevirt-branch") ∷ begins (codes "-experimental-") ∷ is (codes "-extra-vectorizer-passes") ∷ []) (holds (codes "dot") ∷ holds (codes "dump") ∷ holds (codes "print") ∷ holds (codes "stats") ∷ holds (codes "-file=") ∷ holds (codes "interactive-channel") ∷ holds (codes "training-log") ∷ holds (codes "log-dir") ∷ begins (codes "-regalloc-model") ∷ begins (codes "-regalloc-priority-model") ∷ begins (codes "-x86-lvi-load-opt-plugin") ∷ [])) ∷ []) ∷ [])))) ∷ []) ∷
     [])
 
 unfoldable pub maps_of_paths_entry : Entry

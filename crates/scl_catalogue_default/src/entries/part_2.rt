@@ -51,7 +51,7 @@ static ENTRY_OUTPUT_ELSEWHERE: Entry<'static> = entry! {
     Hazard Object b"output-elsewhere"
     b"The compiler writes another file than one that the record names, or none."
     [(Gcc) (Clang) : {Given Last (part_1 LONG_OUTPUT) ([Kind {Is b"output"}])}]
-    [(Gcc) : {Given Any ([Kind {Is b"coverage" Is b"test-coverage"}])} {Given Any ([Unknown {Is b"-dumpbase" Is b"--dumpbase" Is b"--dumpdir"}])}]
+    [(Gcc) : {Given Any ([Kind {Is b"coverage" Is b"test-coverage"}])} {Given Any ([Unknown {Is b"-dumpbase" Is b"--dumpbase" Is b"-dumpdir" Is b"--dumpdir"}])}]
     [(Gcc) : {Given Any ([Unknown {Is b"-###" Is b"--help" Is b"--version" Is b"--target-help" Is b"-dumpfullversion" Is b"-dumpmachine" Is b"-dumpspecs" Is b"-dumpversion" Begins b"-print-" Begins b"--print-"}])}]
     [(Gcc) : {At Language Is b"rs"} {not Given Any (part_1 LANGUAGE)}]
     [(Clang) : {Given Any ([Unknown {Is b"-###" Is b"-help" Is b"--help" Is b"--help-hidden" Is b"--version" Is b"-dumpmachine" Is b"-dumpversion" Begins b"-ccc-print-" Begins b"-print-" Begins b"--print-" ; Is b"-print-ivar-layout" Is b"-print-rocm-search-dirs" Is b"--print-rocm-search-dirs"}])}]

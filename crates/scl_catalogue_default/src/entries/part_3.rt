@@ -263,7 +263,7 @@ fn dependency_names_of_input_entry() -> Entry<'static>
 static ENTRY_DEPENDENCY_NAMES_OF_DUMPS: Entry<'static> = entry! {
     Hazard SideFile b"dependency-names-of-dumps"
     b"The dependency file is named as dumps are, and the built command names it after the object."
-    [(Gcc) : {Is Preprocessed} {Given Any ([Unknown {Is b"-dumpbase" Is b"--dumpbase" Is b"--dumpdir"}])} {Given Any ([Unknown {Begins b"--write-"}] [Flag {Is b"-MD" Is b"-MMD"}])} {not Given Any (part_1 OUTPUT)} {not Given Any ([Kind {Is b"dep-argument-path"}] [Unknown {Begins b"-MF"}])}]
+    [(Gcc) : {Is Preprocessed} {Given Any ([Unknown {Is b"-dumpbase" Is b"--dumpbase" Is b"-dumpdir" Is b"--dumpdir"}])} {Given Any ([Unknown {Begins b"--write-"}] [Flag {Is b"-MD" Is b"-MMD"}])} {not Given Any (part_1 OUTPUT)} {not Given Any ([Kind {Is b"dep-argument-path"}] [Unknown {Begins b"-MF"}])}]
 };
 
 #[tactic(auto, unfolding(crate::specs::Part3::dependency_names_of_dumps_entry))]

@@ -73,7 +73,7 @@ fn kept_intermediates_entry() -> Entry<'static>
 static ENTRY_DRAWN_GRAPHS: Entry<'static> = entry! {
     Effect Writes b"*" b"drawn-graphs"
     b"Graphs are written, to be drawn."
-    [(Clang) : {Given Any ([Flag {Is b"-mllvm"} {Value Begins b"-dot-" Begins b"-view-" Begins b"-polly-dot" Begins b"--dot-" Begins b"--view-" Begins b"--polly-dot"}])}]
+    [(Clang) : {Given Any ([Flag {Is b"-mllvm"} {Value Begins b"-dot-" Begins b"-view-" Begins b"-polly-dot" Begins b"-x86-lvi-load-dot" Begins b"--dot-" Begins b"--view-" Begins b"--polly-dot" Begins b"--x86-lvi-load-dot"}])}]
 };
 
 #[tactic(auto, unfolding(crate::specs::Part8::drawn_graphs_entry))]
@@ -216,7 +216,7 @@ static ENTRY_SHOWN_BY_PREPROCESSOR: Entry<'static> = entry! {
     Plain b"shown-by-preprocessor"
     b"The run of the preprocessor shows what it does."
     [(Gcc) (Clang) : {Given Any ([Kind {Is b"preprocessor-argument-flag" Is b"preprocessor-argument-path"}] [Flag {Is b"-D" Is b"-U" Is b"-A" Is b"-stdlib" Is b"--sysroot"}])}]
-    [(Gcc) (Clang) : {Given Any ([Flag {Is b"-Wp"} {Value Begins b"-C" Begins b"-D" Begins b"-I" Begins b"-MD," Begins b"-MMD," Begins b"-P" Begins b"-U" ; Holds b",-M" Holds b",-a" Holds b",-d" Holds b",-f" Holds b",-i" Holds b",-o" Holds b",-x" Holds b",@"}])}]
+    [(Gcc) (Clang) : {Given Any ([Flag {Is b"-Wp"} {Value Begins b"-C" Begins b"-D" Begins b"-I" Begins b"-MD," Begins b"-MMD," Begins b"-P" Begins b"-U" ; Holds b",-a" Holds b",-b" Holds b",-c" Holds b",-d" Holds b",-e" Holds b",-f" Holds b",-g" Holds b",-h" Holds b",-i" Holds b",-j" Holds b",-k" Holds b",-l" Holds b",-m" Holds b",-n" Holds b",-o" Holds b",-p" Holds b",-q" Holds b",-r" Holds b",-s" Holds b",-t" Holds b",-u" Holds b",-v" Holds b",-w" Holds b",-x" Holds b",-y" Holds b",-z" Holds b",-A" Holds b",-B" Holds b",-C" Holds b",-E" Holds b",-F" Holds b",-G" Holds b",-H" Holds b",-I" Holds b",-J" Holds b",-K" Holds b",-L" Holds b",-M" Holds b",-N" Holds b",-O" Holds b",-P" Holds b",-Q" Holds b",-R" Holds b",-S" Holds b",-T" Holds b",-V" Holds b",-W" Holds b",-X" Holds b",-Y" Holds b",-Z" Holds b",--" Holds b",@"}])}]
     [(Gcc) (Clang) : {Given Any ([Flag {Is b"-Xpreprocessor"} {Value Is b"-C" Is b"-CC" Begins b"-D" Begins b"-I" Is b"-MP" Is b"-P" Begins b"-U" Is b"-fopenmp" Is b"-w"}])}]
     [(Clang) (ClangCl) : {Inner Any ([Kind {Is b"preprocessor-argument-flag" Is b"preprocessor-argument-path"}] [Flag {Is b"-D" Is b"-U" Is b"-A" Is b"-stdlib" Is b"--sysroot"}])}]
     [(ClangCl) (Cl) : {Given Any ([Kind {Is b"preprocessor-argument" Is b"preprocessor-argument-path" Is b"external-include-path"}])}]
