@@ -10,7 +10,7 @@ use Rattle.scl_questions.specs.Views.{question_of, questions_of, row_of, rows_of
 use Rattle.scl_questions.specs.declared.question.Question as declared_question
 use Rattle.scl_questions.specs.declared.row.Field as declared_field
 use Rattle.scl_rounds.specs.Answers.{row_on}
-use Rattle.scl_rounds.specs.Keys.{Key, is_early}
+use Rattle.scl_rounds.specs.Keys.{Key, is_answered}
 
 -- ---- questions
 
@@ -62,11 +62,11 @@ rows_behind : (rows : List (Vec declared_field.Field Global)) (row : Vec declare
 rows_behind rows row None = refl
 rows_behind rows row (Some rest) = ap Some (row_behind rows row rest)
 
--- the row of an early part is there
-pub row_there : (key : Key) (m : Machine) (rows : List (Vec declared_field.Field Global)) (row : Vec declared_field.Field Global) (part : Part) (parts : List Part) → is_early part ≡ true → Some (row_of row.items) ≡ row_on key m part
-    → option_map (λ rest. rows_of (rows ++ row ∷ []) ++ rest) (all_there (map (row_on key m) (filter is_early parts)))
-    ≡ option_map (λ rest. rows_of rows ++ rest) (all_there (map (row_on key m) (filter is_early (part ∷ parts))))
-row_there key m rows row part parts early there =
-    rows_behind rows row (all_there (map (row_on key m) (filter is_early parts)))
-    ∙ ap (λ it. option_map (λ rest. rows_of rows ++ rest) (option_map (λ values. values.0 ∷ values.1) (option_zip it (all_there (map (row_on key m) (filter is_early parts)))))) there
-    ∙ ap (λ b. option_map (λ rest. rows_of rows ++ rest) (all_there (map (row_on key m) (cond b (part ∷ filter is_early parts) (filter is_early parts))))) (sym early)
+-- the row of a part that is answered is there
+pub row_there : (key : Key) (m : Machine) (rows : List (Vec declared_field.Field Global)) (row : Vec declared_field.Field Global) (part : Part) (parts : List Part) → is_answered part ≡ true → Some (row_of row.items) ≡ row_on key m part
+    → option_map (λ rest. rows_of (rows ++ row ∷ []) ++ rest) (all_there (map (row_on key m) (filter is_answered parts)))
+    ≡ option_map (λ rest. rows_of rows ++ rest) (all_there (map (row_on key m) (filter is_answered (part ∷ parts))))
+row_there key m rows row part parts answered there =
+    rows_behind rows row (all_there (map (row_on key m) (filter is_answered parts)))
+    ∙ ap (λ it. option_map (λ rest. rows_of rows ++ rest) (option_map (λ values. values.0 ∷ values.1) (option_zip it (all_there (map (row_on key m) (filter is_answered parts)))))) there
+    ∙ ap (λ b. option_map (λ rest. rows_of rows ++ rest) (all_there (map (row_on key m) (cond b (part ∷ filter is_answered parts) (filter is_answered parts))))) (sym answered)

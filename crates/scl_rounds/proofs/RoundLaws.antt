@@ -1,24 +1,26 @@
 -- Each round, and the rows, depend on nothing but what was asked.
-use Rattle.std.proofs.Common.{◌≡◌, ◌&&◌, ◌||◌, Bool, true, false, cond, ℕ, List, [], ◌∷◌, ◌++◌, map, filter, Option, None, Some, refl, sym, ap, subst, ◌∙◌}
-use Rattle.std.specs.List.{flat_map}
-use Rattle.std.specs.Option.{option_map, option_zip, unwrap_or}
+use Rattle.std.proofs.Common.{◌≡◌, ◌&&◌, ◌||◌, is_none, Bool, true, false, cond, ℕ, List, [], ◌∷◌, ◌++◌, map, filter, Option, None, Some, refl, sym, ap, subst, ◌∙◌}
+use Rattle.std.proofs.lemmas.Bool.{and_parts}
+use Rattle.std.specs.List.{flat_map, list_any}
+use Rattle.std.specs.Option.{option_and_then, option_map, option_zip, unwrap_or}
 use Rattle.std.specs.Str.{bytes_eq}
 use Rattle.scl_files.specs.Paths.{begins_with_slash}
 use Rattle.scl_key.specs.declared.part.Ask.{Ask}
 use Rattle.scl_key.specs.declared.part.Ask.TheVariants as asks
 use Rattle.scl_key.specs.Parts.{Part, is, output, directory, compiler, plan, asked, run, run_else, pch, sources, times}
-use Rattle.scl_lookup.specs.Keys.{said, all_there}
+use Rattle.scl_lookup.specs.Keys.{Row, said, all_there, ran_on, unfailed}
 use Rattle.scl_lookup.specs.Lists.{Agree}
 use Rattle.scl_lookup.specs.Questions.{Question, file, real, Machine}
 use Rattle.scl_questions.specs.Rounds.{joined, was_asked, with_one}
 use Rattle.scl_questions.specs.Same.{same}
-use Rattle.scl_questions.specs.Talks.{AreDecided}
+use Rattle.scl_questions.specs.Talks.{AreDecided, ends}
 use Rattle.scl_questions.specs.Told.{value_told, unset_told, file_told, maybe_told, regular_told, program_told}
 use Rattle.scl_questions.proofs.SameLaws.{same_one}
 use Rattle.scl_questions.proofs.TalkLaws.{talks_end}
 use Rattle.scl_rounds.specs.Answers.{answer_asked, answer_on, directory_by, directory_on, row_by, row_on, rows_on, said_directory}
-use Rattle.scl_rounds.specs.Keys.{Key, is_early, is_made}
-use Rattle.scl_rounds.specs.Rounds.{behind, behind_said, early, early_asked, first_round, second_round, rounds, TwoRoundsGiveRows}
+use Rattle.scl_rounds.specs.Keys.{Key, asks_early, is_answered, is_early, is_made}
+use Rattle.scl_rounds.specs.Rounds.{asked_run, behind_said, first, first_asked, forbids, is_forbidden, rounds, second, third, RoundsGiveRows}
+use Rattle.scl_rounds.specs.Runs.{fails, has_failed, may_fail, no_text, run_told}
 
 -- ---- what both answer alike
 
@@ -57,13 +59,33 @@ directory_by_one w m place (Some name) h = name_one w m place name (begins_with_
 directory_one : (w m : Machine) (place : List ℕ) → w said_directory ≡ m said_directory → Agree w m (behind_said place (m said_directory)) → directory_on place w ≡ directory_on place m
 directory_one w m place e h = ap (directory_by place w) e ∙ directory_by_one w m place (m said_directory) h
 
--- ---- parts
+-- ---- all parts
+
+any_one : (w m : Machine) (asks : Part → List Question) (one other : Part → Bool) (parts : List Part) → ((part : Part) → Agree w m (asks part) → one part ≡ other part)
+    → Agree w m (flat_map asks parts) → list_any one parts ≡ list_any other parts
+any_one w m asks one other [] each h = refl
+any_one w m asks one other (part ∷ parts) each h =
+    let it = agree_both w m (asks part) (flat_map asks parts) h in
+    ap (λ b. b || list_any one parts) (each part it.0) ∙ ap (λ b. other part || b) (any_one w m asks one other parts each it.1)
+
+all_one : (w m : Machine) (asks one other : Part → List Question) (parts : List Part) → ((part : Part) → Agree w m (asks part) → one part ≡ other part)
+    → Agree w m (flat_map asks parts) → flat_map one parts ≡ flat_map other parts
+all_one w m asks one other [] each h = refl
+all_one w m asks one other (part ∷ parts) each h =
+    let it = agree_both w m (asks part) (flat_map asks parts) h in
+    ap (λ qs. qs ++ flat_map one parts) (each part it.0) ∙ ap (λ qs. other part ++ qs) (all_one w m asks one other parts each it.1)
+
+each_one : (one other : Part → List Question) (parts : List Part) → ((part : Part) → one part ≡ other part) → flat_map one parts ≡ flat_map other parts
+each_one one other [] each = refl
+each_one one other (part ∷ parts) each = ap (λ qs. qs ++ flat_map one parts) (each part) ∙ ap (λ qs. other part ++ qs) (each_one one other parts each)
+
+-- ---- what the first round answers
 
 maybe_one : (w m : Machine) (path : List ℕ) (b : Bool) → Agree w m (cond b [] (file path ∷ [])) → cond b (Some []) (maybe_told (w (file path))) ≡ cond b (Some []) (maybe_told (m (file path)))
 maybe_one w m path true h = refl
 maybe_one w m path false h = ap maybe_told h.0
 
-asked_one : (key : Key) (w m : Machine) (ask : Ask) (name : List ℕ) → Agree w m (early_asked key ask name) → answer_asked key w ask name ≡ answer_asked key m ask name
+asked_one : (key : Key) (w m : Machine) (ask : Ask) (name : List ℕ) → Agree w m (first_asked key ask name) → answer_asked key w ask name ≡ answer_asked key m ask name
 asked_one key w m asks.Env name h = ap (λ it. Some (value_told it)) h.0
 asked_one key w m asks.Unset name h = ap unset_told h.0
 asked_one key w m asks.File name h = ap file_told h.0
@@ -72,39 +94,83 @@ asked_one key w m asks.Regular name h = ap regular_told h.0
 asked_one key w m asks.SourcesIfShown name h = refl
 asked_one key w m asks.RefuseIfShown name h = refl
 
-answer_one : (key : Key) (w m : Machine) (part : Part) → Agree w m (early key part) → Agree w m (behind key m part) → answer_on key w part ≡ answer_on key m part
-answer_one key w m (is row) h k = refl
-answer_one key w m (output made) h k = refl
-answer_one key w m directory h k = ap (λ it. Some (said it ∷ [])) (directory_one w m key.place h.0 k)
-answer_one key w m compiler h k = ap program_told h.0
-answer_one key w m (plan words) h k = refl
-answer_one key w m (asked ask name) h k = asked_one key w m ask name h
-answer_one key w m (run words) h k = refl
-answer_one key w m (run_else words) h k = refl
-answer_one key w m (pch searched) h k = refl
-answer_one key w m sources h k = refl
-answer_one key w m times h k = refl
+forbids_one : (key : Key) (w m : Machine) (part : Part) → Agree w m (first key part) → forbids key w part ≡ forbids key m part
+forbids_one key w m (is row) h = refl
+forbids_one key w m (output made) h = refl
+forbids_one key w m directory h = refl
+forbids_one key w m compiler h = ap (λ it. is_none (program_told it)) h.0
+forbids_one key w m (plan words) h = refl
+forbids_one key w m (asked ask name) h = ap (λ it. asks_early ask && is_none it) (asked_one key w m ask name h)
+forbids_one key w m (run words) h = refl
+forbids_one key w m (run_else words) h = refl
+forbids_one key w m (pch searched) h = refl
+forbids_one key w m sources h = refl
+forbids_one key w m times h = refl
 
-behind_one : (key : Key) (w m : Machine) (part : Part) → Agree w m (early key part) → behind key w part ≡ behind key m part
-behind_one key w m (is row) h = refl
-behind_one key w m (output made) h = refl
-behind_one key w m directory h = ap (behind_said key.place) h.0
-behind_one key w m compiler h = refl
-behind_one key w m (plan words) h = refl
-behind_one key w m (asked ask name) h = refl
-behind_one key w m (run words) h = refl
-behind_one key w m (run_else words) h = refl
-behind_one key w m (pch searched) h = refl
-behind_one key w m sources h = refl
-behind_one key w m times h = refl
+-- ---- what each round asks
 
--- ---- keys
+second_one : (key : Key) (w m : Machine) (part : Part) → Agree w m (first key part) → second key w part ≡ second key m part
+second_one key w m (is row) h = refl
+second_one key w m (output made) h = refl
+second_one key w m directory h = ap (behind_said key.place) h.0
+second_one key w m compiler h = refl
+second_one key w m (plan words) h = refl
+second_one key w m (asked ask name) h = refl
+second_one key w m (run words) h = refl
+second_one key w m (run_else words) h = refl
+second_one key w m (pch searched) h = refl
+second_one key w m sources h = refl
+second_one key w m times h = refl
 
-all_behind_one : (key : Key) (w m : Machine) (parts : List Part) → Agree w m (flat_map (early key) parts) → flat_map (behind key w) parts ≡ flat_map (behind key m) parts
-all_behind_one key w m [] h = refl
-all_behind_one key w m (part ∷ parts) h =
-    let it = agree_both w m (early key part) (flat_map (early key) parts) h in
-    ap (λ qs. qs ++ flat_map (behind key w) parts) (behind_one key w m part it.0) ∙ ap (λ qs. behind key m part ++ qs) (all_behind_one key w m parts it.1)
+fails_one : (key : Key) (w m : Machine) (part : Part) → Agree w m (second key m part) → fails w part ≡ fails m part
+fails_one key w m (is row) h = refl
+fails_one key w m (output made) h = refl
+fails_one key w m directory h = refl
+fails_one key w m compiler h = refl
+fails_one key w m (plan words) h = refl
+fails_one key w m (asked ask name) h = refl
+fails_one key w m (run words) h = ap (λ it. is_none (unfailed it)) h.0
+fails_one key w m (run_else words) h = refl
+fails_one key w m (pch searched) h = refl
+fails_one key w m sources h = refl
+fails_one key w m times h = refl
+
+third_one : (key : Key) (w m : Machine) → has_failed key w ≡ has_failed key m → (part : Part) → third key w part ≡ third key m part
+third_one key w m e (is row) = refl
+third_one key w m e (output made) = refl
+third_one key w m e directory = refl
+third_one key w m e compiler = refl
+third_one key w m e (plan words) = refl
+third_one key w m e (asked ask name) = refl
+third_one key w m e (run words) = refl
+third_one key w m e (run_else words) = ap (λ b. cond b (asked_run words) []) e
+third_one key w m e (pch searched) = refl
+third_one key w m e sources = refl
+third_one key w m e times = refl
+
+-- ---- answers
+
+else_one : (w m : Machine) (words : List (List ℕ)) (b : Bool) → Agree w m (cond b (asked_run words) [])
+    → cond b (run_told false (ran_on w words)) (Some no_text) ≡ cond b (run_told false (ran_on m words)) (Some no_text)
+else_one w m words true h = ap (λ it. run_told false (unfailed it)) h.0
+else_one w m words false h = refl
+
+answer_one : (key : Key) (w m : Machine) → has_failed key w ≡ has_failed key m → (part : Part) → Agree w m (first key part) → Agree w m (second key m part) → Agree w m (third key m part)
+    → answer_on key w part ≡ answer_on key m part
+answer_one key w m e (is row) h k l = refl
+answer_one key w m e (output made) h k l = refl
+answer_one key w m e directory h k l = ap (λ it. Some (said it ∷ [])) (directory_one w m key.place h.0 k)
+answer_one key w m e compiler h k l = ap program_told h.0
+answer_one key w m e (plan words) h k l = refl
+answer_one key w m e (asked ask name) h k l = asked_one key w m ask name h
+answer_one key w m e (run words) h k l = ap (λ it. run_told (may_fail key) (unfailed it)) k.0
+answer_one key w m e (run_else words) h k l =
+    ap (λ b. cond b (run_told false (ran_on w words)) (Some no_text)) e ∙ else_one w m words (has_failed key m) l
+answer_one key w m e (pch searched) h k l = refl
+answer_one key w m e sources h k l = refl
+answer_one key w m e times h k l = refl
+
+-- ---- rows
 
 rows_by : (key : Key) (w m : Machine) (part : Part) (parts : List Part) (b : Bool) → row_on key w part ≡ row_on key m part → all_there (map (row_on key w) parts) ≡ all_there (map (row_on key m) parts)
     → all_there (map (row_on key w) (cond b (part ∷ parts) parts)) ≡ all_there (map (row_on key m) (cond b (part ∷ parts) parts))
@@ -113,30 +179,106 @@ rows_by key w m part parts true e rest =
     ∙ ap (λ rows. option_map (λ values. values.0 ∷ values.1) (option_zip (row_on key m part) rows)) rest
 rows_by key w m part parts false e rest = rest
 
-rows_one : (key : Key) (w m : Machine) (parts : List Part) → Agree w m (flat_map (early key) parts) → Agree w m (flat_map (behind key m) parts)
-    → all_there (map (row_on key w) (filter is_early parts)) ≡ all_there (map (row_on key m) (filter is_early parts))
-rows_one key w m [] h k = refl
-rows_one key w m (part ∷ parts) h k =
-    let it = agree_both w m (early key part) (flat_map (early key) parts) h in
-    let other = agree_both w m (behind key m part) (flat_map (behind key m) parts) k in
-    rows_by key w m part (filter is_early parts) (is_early part) (ap (option_map (row_by part)) (answer_one key w m part it.0 other.0)) (rows_one key w m parts it.1 other.1)
+rows_one : (key : Key) (w m : Machine) (parts : List Part) → has_failed key w ≡ has_failed key m
+    → Agree w m (flat_map (first key) parts) → Agree w m (flat_map (second key m) parts) → Agree w m (flat_map (third key m) parts)
+    → all_there (map (row_on key w) (filter is_answered parts)) ≡ all_there (map (row_on key m) (filter is_answered parts))
+rows_one key w m [] e h k l = refl
+rows_one key w m (part ∷ parts) e h k l =
+    let one = agree_both w m (first key part) (flat_map (first key) parts) h in
+    let two = agree_both w m (second key m part) (flat_map (second key m) parts) k in
+    let three = agree_both w m (third key m part) (flat_map (third key m) parts) l in
+    rows_by key w m part (filter is_answered parts) (is_answered part) (ap (option_map (row_by part)) (answer_one key w m e part one.0 two.0 three.0)) (rows_one key w m parts e one.1 two.1 three.1)
+
+-- ---- keys
 
 same_some : {A : Type 0} (a b : List A) → Some a ≡ Some b → a ≡ b
 same_some a b e = ap (λ o. unwrap_or o []) e
 
+some_by : {A : Type 0} (b : Bool) (questions others : List A) → cond b None (Some questions) ≡ Some others → questions ≡ others
+some_by true questions others e = absurd (cc)
+some_by false questions others e = same_some questions others e
+
+-- both answer alike what a round asked, and what was asked before it
+agree_round : (w m : Machine) (before questions others : List Question) → questions ≡ others → Agree w m (joined before others) → Agree w m before × Agree w m questions
+agree_round w m before questions others e h = let it = agree_joined w m before others h in (it.0, subst (Agree w m) (sym e) it.1)
+
+is_forbidden_one : (key : Key) (w m : Machine) → Agree w m (flat_map (first key) key.parts) → is_forbidden key w ≡ is_forbidden key m
+is_forbidden_one key w m h = any_one w m (first key) (forbids key w) (forbids key m) key.parts (forbids_one key w m) h
+
+has_failed_one : (key : Key) (w m : Machine) → Agree w m (flat_map (second key m) key.parts) → has_failed key w ≡ has_failed key m
+has_failed_one key w m h = any_one w m (second key m) (fails w) (fails m) key.parts (fails_one key w m) h
+
 decided : (key : Key) (m : Machine) → AreDecided m (rows_on key) (rounds key) []
 decided key m = (
   λ w agree. refl,
-  λ early_ones is_first.
-      let first : first_round key ≡ early_ones = same_some (first_round key) early_ones is_first in (
-        λ w agree. ap Some (all_behind_one key w m key.parts (subst (Agree w m) (sym first) (agree_joined w m [] early_ones agree).1)),
-        λ others is_second.
-            let second : second_round key m ≡ others = same_some (second_round key m) others is_second in
-            λ w agree.
-            let it = agree_joined w m (joined [] early_ones) others agree in
-            rows_one key w m key.parts (subst (Agree w m) (sym first) (agree_joined w m [] early_ones it.0).1) (subst (Agree w m) (sym second) it.1),
+  λ ones is_first.
+      let one : flat_map (first key) key.parts ≡ ones = same_some (flat_map (first key) key.parts) ones is_first in (
+        λ w agree.
+            let h = agree_round w m [] (flat_map (first key) key.parts) ones one agree in
+            ap (λ b. cond b None (Some (flat_map (second key w) key.parts))) (is_forbidden_one key w m h.1)
+            ∙ ap (λ qs. cond (is_forbidden key m) None (Some qs)) (all_one w m (first key) (second key w) (second key m) key.parts (second_one key w m) h.1),
+        λ twos is_second.
+            let two : flat_map (second key m) key.parts ≡ twos = some_by (is_forbidden key m) (flat_map (second key m) key.parts) twos is_second in (
+              λ w agree.
+                  let k = agree_round w m (joined [] ones) (flat_map (second key m) key.parts) twos two agree in
+                  ap Some (each_one (third key w) (third key m) key.parts (third_one key w m (has_failed_one key w m k.1))),
+              λ threes is_third.
+                  let three : flat_map (third key m) key.parts ≡ threes = same_some (flat_map (third key m) key.parts) threes is_third in
+                  λ w agree.
+                  let l = agree_round w m (joined (joined [] ones) twos) (flat_map (third key m) key.parts) threes three agree in
+                  let k = agree_round w m (joined [] ones) (flat_map (second key m) key.parts) twos two l.0 in
+                  let h = agree_round w m [] (flat_map (first key) key.parts) ones one k.0 in
+                  rows_one key w m key.parts (has_failed_one key w m k.1) h.1 k.1 l.1,
+            ),
       ),
 )
 
-pub two_rounds_give_rows : TwoRoundsGiveRows
-two_rounds_give_rows key m = talks_end m (rows_on key) (rounds key) (decided key m)
+-- ---- where the first round forbids to keep, there are no rows
+
+is_early_answered : (part : Part) → is_early part ≡ true → is_answered part ≡ true
+is_early_answered (is row) e = refl
+is_early_answered (output made) e = refl
+is_early_answered directory e = refl
+is_early_answered compiler e = refl
+is_early_answered (plan words) e = e
+is_early_answered (asked ask name) e = e
+is_early_answered (run words) e = refl
+is_early_answered (run_else words) e = refl
+is_early_answered (pch searched) e = e
+is_early_answered sources e = e
+is_early_answered times e = e
+
+no_row : {A B : Type 0} (f : A → B) (o : Option A) → is_none o ≡ true → option_map f o ≡ None
+no_row f None e = refl
+no_row f (Some it) e = absurd (cc)
+
+none_first : (row : Option Row) (rows : Option (List Row)) → row ≡ None → option_map (λ values. values.0 ∷ values.1) (option_zip row rows) ≡ None
+none_first row rows e = ap (λ it. option_map (λ values. values.0 ∷ values.1) (option_zip it rows)) e
+
+none_zipped : (row : Option Row) → option_map (λ values. values.0 ∷ values.1) (option_zip row None) ≡ None
+none_zipped None = refl
+none_zipped (Some row) = refl
+
+none_behind : (key : Key) (m : Machine) (part : Part) (parts : List Part) (b : Bool) → all_there (map (row_on key m) parts) ≡ None → all_there (map (row_on key m) (cond b (part ∷ parts) parts)) ≡ None
+none_behind key m part parts true e = ap (λ rows. option_map (λ values. values.0 ∷ values.1) (option_zip (row_on key m part) rows)) e ∙ none_zipped (row_on key m part)
+none_behind key m part parts false e = e
+
+no_rows_by : (key : Key) (m : Machine) (part : Part) (parts : List Part) (b : Bool) → forbids key m part ≡ b → (b || list_any (forbids key m) parts) ≡ true
+    → (list_any (forbids key m) parts ≡ true → all_there (map (row_on key m) (filter is_answered parts)) ≡ None)
+    → all_there (map (row_on key m) (filter is_answered (part ∷ parts))) ≡ None
+no_rows_by key m part parts true judged any rest =
+    let both = and_parts (is_early part) (is_none (answer_on key m part)) judged in
+    ap (λ b. all_there (map (row_on key m) (cond b (part ∷ filter is_answered parts) (filter is_answered parts)))) (is_early_answered part both.0)
+    ∙ none_first (row_on key m part) (all_there (map (row_on key m) (filter is_answered parts))) (no_row (row_by part) (answer_on key m part) both.1)
+no_rows_by key m part parts false judged any rest = none_behind key m part (filter is_answered parts) (is_answered part) (rest any)
+
+no_rows : (key : Key) (m : Machine) (parts : List Part) → list_any (forbids key m) parts ≡ true → all_there (map (row_on key m) (filter is_answered parts)) ≡ None
+no_rows key m [] e = absurd (let no : false ≡ true = e in cc)
+no_rows key m (part ∷ parts) e = no_rows_by key m part parts (forbids key m part) refl e (no_rows key m parts)
+
+rows_if : (key : Key) (m : Machine) (b : Bool) → is_forbidden key m ≡ b → option_and_then (λ questions. rows_on key m) (cond b None (Some (flat_map (second key m) key.parts))) ≡ rows_on key m
+rows_if key m true e = sym (no_rows key m key.parts e)
+rows_if key m false e = refl
+
+pub rounds_give_rows : RoundsGiveRows
+rounds_give_rows key m = talks_end m (rows_on key) (rounds key) (decided key m) ∙ ap ends (rows_if key m (is_forbidden key m) refl)

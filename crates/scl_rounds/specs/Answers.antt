@@ -1,15 +1,16 @@
 -- What the parts of a key say on a machine.
-use Rattle.std.specs.Prelude.{ℕ, ◌&&◌, cond, List, [], ◌∷◌, ◌++◌, map, filter, codes, Option, None, Some}
+use Rattle.std.specs.Prelude.{ℕ, ◌&&◌, false, cond, List, [], ◌∷◌, ◌++◌, map, filter, codes, Option, None, Some}
 use Rattle.std.specs.Option.{option_map}
 use Rattle.std.specs.Str.{bytes_eq}
 use Rattle.scl_files.specs.Paths.{begins_with_slash}
 use Rattle.scl_key.specs.declared.part.Ask.{Ask}
 use Rattle.scl_key.specs.declared.part.Ask.TheVariants as asks
-use Rattle.scl_key.specs.Parts.{Part, is, output, directory, compiler, asked, hashed}
-use Rattle.scl_lookup.specs.Keys.{Field, said, Row, all_there}
+use Rattle.scl_key.specs.Parts.{Part, is, output, directory, compiler, asked, run, run_else, hashed}
+use Rattle.scl_lookup.specs.Keys.{Field, said, Row, all_there, ran_on}
 use Rattle.scl_lookup.specs.Questions.{Question, env, program, file, real, Machine}
 use Rattle.scl_questions.specs.Told.{value_told, unset_told, file_told, maybe_told, regular_told, program_told}
-use Rattle.scl_rounds.specs.Keys.{Key, is_early, is_made}
+use Rattle.scl_rounds.specs.Keys.{Key, is_answered, is_made}
+use Rattle.scl_rounds.specs.Runs.{has_failed, may_fail, no_text, run_told}
 
 -- ---- the directory
 
@@ -34,13 +35,15 @@ answer_asked key m asks.Maybe path = cond (is_made key path) (Some []) (maybe_to
 answer_asked key m asks.Regular path = regular_told (m (file path))
 answer_asked key m other pattern = None
 
--- what a machine answers to a part; none: nothing may be kept, or it takes a run
+-- what a machine answers to a part; none: nothing may be kept, or no round answers it
 abbrev pub answer_on : Key → Machine → Part → Option (List Field)
 answer_on key m (is row) = Some []
 answer_on key m (output made) = Some []
 answer_on key m directory = Some (said (directory_on key.place m) ∷ [])
 answer_on key m compiler = program_told (m (program []))
 answer_on key m (asked ask name) = answer_asked key m ask name
+answer_on key m (run words) = run_told (may_fail key) (ran_on m words)
+answer_on key m (run_else words) = cond (has_failed key m) (run_told false (ran_on m words)) (Some no_text)
 answer_on key m other = None
 
 -- ---- rows
@@ -52,6 +55,6 @@ row_by part answer = map said (hashed part) ++ answer
 abbrev pub row_on : Key → Machine → Part → Option Row
 row_on key m part = option_map (row_by part) (answer_on key m part)
 
--- the rows of the early parts, if each has one
+-- the rows of the parts that are answered, if each has one
 abbrev pub rows_on : Key → Machine → Option (List Row)
-rows_on key m = all_there (map (row_on key m) (filter is_early key.parts))
+rows_on key m = all_there (map (row_on key m) (filter is_answered key.parts))

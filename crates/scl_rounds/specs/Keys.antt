@@ -1,10 +1,10 @@
--- A key, and those of its parts that ask before anything runs.
+-- A key, and which of its parts are answered.
 use Rattle.std.specs.Prelude.{ℕ, Bool, true, false, List}
 use Rattle.std.specs.List.{list_any}
 use Rattle.scl_files.specs.Paths.{join, same_path}
 use Rattle.scl_key.specs.declared.part.Ask.{Ask}
 use Rattle.scl_key.specs.declared.part.Ask.TheVariants as asks
-use Rattle.scl_key.specs.Parts.{Part, is, output, directory, compiler, asked}
+use Rattle.scl_key.specs.Parts.{Part, is, output, directory, compiler, asked, run, run_else}
 
 -- the parts of a key, and the directory of the compiler
 pub record Key : Type 0 where
@@ -16,14 +16,24 @@ asks_early asks.SourcesIfShown = false
 asks_early asks.RefuseIfShown = false
 asks_early other = true
 
--- it is answered before anything runs
+-- the first round answers it
 abbrev pub is_early : Part → Bool
 is_early (is row) = true
 is_early (output made) = true
-is_early directory = true
 is_early compiler = true
 is_early (asked ask name) = asks_early ask
 is_early other = false
+
+-- a round answers it
+abbrev pub is_answered : Part → Bool
+is_answered (is row) = true
+is_answered (output made) = true
+is_answered directory = true
+is_answered compiler = true
+is_answered (asked ask name) = asks_early ask
+is_answered (run words) = true
+is_answered (run_else words) = true
+is_answered other = false
 
 -- ---- outputs
 

@@ -1,59 +1,81 @@
 -- What a key asks of a machine, round by round.
-use Rattle.std.specs.Prelude.{◌≡◌, ℕ, cond, List, [], ◌∷◌, Option, None, Some}
-use Rattle.std.specs.List.{flat_map}
+use Rattle.std.specs.Prelude.{◌≡◌, ◌&&◌, ℕ, is_none, Bool, false, cond, List, [], ◌∷◌, length, map, Option, None, Some}
+use Rattle.std.specs.List.{flat_map, list_any}
 use Rattle.scl_files.specs.Paths.{begins_with_slash}
 use Rattle.scl_key.specs.declared.part.Ask.{Ask}
 use Rattle.scl_key.specs.declared.part.Ask.TheVariants as asks
-use Rattle.scl_key.specs.Parts.{Part, directory, compiler, asked}
-use Rattle.scl_lookup.specs.Questions.{Question, env, program, file, real, Machine}
+use Rattle.scl_key.specs.Parts.{Part, directory, compiler, asked, run as run_part, run_else}
+use Rattle.scl_lookup.specs.Questions.{Question, env, program, file, real, run, Machine}
 use Rattle.scl_questions.specs.Talks.{Stage, ends, talk}
-use Rattle.scl_rounds.specs.Answers.{rows_on, said_directory}
-use Rattle.scl_rounds.specs.Keys.{Key, is_made}
+use Rattle.scl_rounds.specs.declared.question.Phase.{Phase}
+use Rattle.scl_rounds.specs.declared.question.Phase.TheVariants as phases
+use Rattle.scl_rounds.specs.Answers.{answer_on, rows_on, said_directory}
+use Rattle.scl_rounds.specs.Keys.{Key, is_early, is_made}
+use Rattle.scl_rounds.specs.Runs.{has_failed}
 
--- ---- the first round
+-- ---- what each round asks for a part
 
-abbrev pub early_asked : Key → Ask → List ℕ → List Question
-early_asked key asks.Env name = env name ∷ []
-early_asked key asks.Unset name = env name ∷ []
-early_asked key asks.File path = file path ∷ []
-early_asked key asks.Maybe path = cond (is_made key path) [] (file path ∷ [])
-early_asked key asks.Regular path = file path ∷ []
-early_asked key other pattern = []
+abbrev pub first_asked : Key → Ask → List ℕ → List Question
+first_asked key asks.Env name = env name ∷ []
+first_asked key asks.Unset name = env name ∷ []
+first_asked key asks.File path = file path ∷ []
+first_asked key asks.Maybe path = cond (is_made key path) [] (file path ∷ [])
+first_asked key asks.Regular path = file path ∷ []
+first_asked key other pattern = []
 
--- what the first round asks for a part
-abbrev pub early : Key → Part → List Question
-early key directory = said_directory ∷ []
-early key compiler = program [] ∷ []
-early key (asked ask name) = early_asked key ask name
-early key other = []
-
--- ---- the second round
+abbrev pub first : Key → Part → List Question
+first key directory = said_directory ∷ []
+first key compiler = program [] ∷ []
+first key (asked ask name) = first_asked key ask name
+first key other = []
 
 -- whether `PWD` names the directory: its path without links is that of the place
 abbrev pub behind_said : (place : List ℕ) → Option (List ℕ) → List Question
 behind_said place None = []
 behind_said place (Some name) = cond (begins_with_slash name) (real name ∷ real place ∷ []) []
 
--- what the second round asks for a part, by the answers of the first
-abbrev pub behind : Key → Machine → Part → List Question
-behind key m directory = behind_said key.place (m said_directory)
-behind key m other = []
+-- A run writes its messages in the language of the environment, as the compilation does: they belong to the key.
+abbrev pub asked_run : (words : List (List ℕ)) → List Question
+asked_run words = run [] words ∷ []
 
--- ---- all rounds
+abbrev pub second : Key → Machine → Part → List Question
+second key m directory = behind_said key.place (m said_directory)
+second key m (run_part words) = asked_run words
+second key m other = []
 
-abbrev pub first_round : Key → List Question
-first_round key = flat_map (early key) key.parts
+abbrev pub third : Key → Machine → Part → List Question
+third key m (run_else words) = cond (has_failed key m) (asked_run words) []
+third key m other = []
 
-abbrev pub second_round : Key → Machine → List Question
-second_round key m = flat_map (behind key m) key.parts
+-- ---- rounds
 
--- those behind the first
-abbrev pub rounds_behind : Key → List Stage
-rounds_behind key = (λ m. Some (second_round key m)) ∷ []
+abbrev pub asked_in : Key → Phase → Machine → Part → List Question
+asked_in key phases.First m part = first key part
+asked_in key phases.Runs m part = second key m part
+asked_in key phases.RunsElse m part = third key m part
+
+-- nothing may be kept, by what the first round answers
+abbrev pub forbids : Key → Machine → Part → Bool
+forbids key m part = is_early part && is_none (answer_on key m part)
+
+abbrev pub is_forbidden : Key → Machine → Bool
+is_forbidden key m = list_any (forbids key m) key.parts
+
+-- nothing is run for a key under which nothing may be kept
+abbrev pub is_vain : Key → Phase → Machine → Bool
+is_vain key phases.First m = false
+is_vain key phases.Runs m = is_forbidden key m
+is_vain key phases.RunsElse m = false
+
+abbrev pub stage : Key → Phase → Stage
+stage key phase m = cond (is_vain key phase m) None (Some (flat_map (asked_in key phase m) key.parts))
+
+abbrev pub all_phases : List Phase
+all_phases = phases.First ∷ phases.Runs ∷ phases.RunsElse ∷ []
 
 abbrev pub rounds : Key → List Stage
-rounds key = (λ m. Some (first_round key)) ∷ rounds_behind key
+rounds key = map (stage key) all_phases
 
--- In two rounds a caller that answers truly gets the rows of the key on its machine, or that there are none.
-abbrev pub TwoRoundsGiveRows : Type 0
-TwoRoundsGiveRows = (key : Key) (m : Machine) → talk 2 m (rows_on key) (rounds key) [] ≡ ends (rows_on key m)
+-- In as many rounds a caller that answers truly gets the rows of the key on its machine, or that there are none.
+abbrev pub RoundsGiveRows : Type 0
+RoundsGiveRows = (key : Key) (m : Machine) → talk (length (rounds key)) m (rows_on key) (rounds key) [] ≡ ends (rows_on key m)

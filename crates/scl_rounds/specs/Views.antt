@@ -1,8 +1,8 @@
 -- What the code's values stand for.
-use Rattle.std.specs.Prelude.{List, None, Some}
+use Rattle.std.specs.Prelude.{List, None, Some, Option}
 use Rattle.scl_key.specs.Views.{parts_of}
 use Rattle.scl_lookup.specs.Keys.{Row}
-use Rattle.scl_lookup.specs.Questions.{Question, Machine}
+use Rattle.scl_lookup.specs.Questions.{Machine}
 use Rattle.scl_questions.specs.Answers.{told}
 use Rattle.scl_questions.specs.Talks.{Said, looks_up, ends, refuses}
 use Rattle.scl_questions.specs.Views.{questions_of, replies_of, rows_of}
@@ -10,8 +10,6 @@ use Rattle.scl_rounds.specs.declared.answer.Told as declared_told
 use Rattle.scl_rounds.specs.declared.key.Key as declared_key
 use Rattle.scl_rounds.specs.declared.next.Next as declared_next
 use Rattle.scl_rounds.specs.declared.next.Next.TheVariants as nexts
-use Rattle.scl_rounds.specs.declared.next.Turn as declared_turn
-use Rattle.scl_rounds.specs.declared.next.Turn.TheVariants as turns
 use Rattle.scl_rounds.specs.Keys.{Key}
 
 abbrev pub key_of : declared_key.Key → Key
@@ -27,7 +25,7 @@ next_of (nexts.Found rows) = ends (Some (rows_of rows.items))
 next_of nexts.Nothing = ends None
 next_of (nexts.Refused number) = refuses number
 
--- a round that is over goes on with all that was asked; else what is said in it
-abbrev pub turn_of : (behind : List Question → Said (List Row)) → declared_turn.Turn → Said (List Row)
-turn_of behind (turns.Over asked) = behind (questions_of asked.items)
-turn_of behind (turns.Says next) = next_of next
+-- what is said in a round, or else behind it
+abbrev pub said_or : (behind : Said (List Row)) → Option declared_next.Next → Said (List Row)
+said_or behind None = behind
+said_or behind (Some next) = next_of next

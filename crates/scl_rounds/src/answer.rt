@@ -1,16 +1,19 @@
 //! What a machine answers to the parts of a key.
-ghost use Rattle.std.specs.Prelude.{◌≡◌, ◌∷◌, [], IfOk};
+ghost use Rattle.std.specs.Prelude.{◌≡◌, ◌∷◌, [], cond, false, Some, IfOk};
 ghost use Rattle.std.specs.Option.{option_copied, option_map};
 ghost use Rattle.std.specs.Str.{bytes_eq};
+ghost use Rattle.scl_values.specs.Words.{words_of};
 ghost use Rattle.scl_key.specs.Views.{part_of};
-ghost use Rattle.scl_lookup.specs.Keys.{said};
+ghost use Rattle.scl_lookup.specs.Keys.{ran_on, said};
 ghost use Rattle.scl_lookup.specs.Questions.{env, file, program, real};
 ghost use Rattle.scl_questions.specs.Told.{file_told, maybe_told, program_told, regular_told, unset_told, value_told};
 ghost use Rattle.scl_questions.specs.Views.{row_of};
 ghost use Rattle.scl_rounds.specs.Answers.{answer_asked, answer_on, directory_on, said_directory};
+ghost use Rattle.scl_rounds.specs.Runs.{has_failed, may_fail, no_text, run_told};
 ghost use Rattle.scl_rounds.specs.Views.{key_of, machine_of};
 
 use crate::key::{Key, is_made};
+use crate::run::{has_failed, may_fail, no_text, ran, run_told};
 use scl_key::{Ask, Part};
 use scl_questions::{
     Answer, Field, Question, file_told, maybe_told, program, program_told, real, regular_told,
@@ -124,7 +127,33 @@ fn asked_answer(
     }
 }
 
-/// What a machine answers to a part; none: nothing may be kept, or it takes a run.
+fn run_answer(
+    alloc: Global,
+    told: &Told<'_>,
+    key: &Key<'_>,
+    words: &[Vec<u8>],
+) -> Mem<Option<Vec<Field>>>
+    ensures { IfOk result (λ answer. option_map (λ answer. row_of answer.items) answer ≡ run_told (may_fail (key_of key.now)) (ran_on (machine_of told.now) (words_of words.now))) }
+{
+    run_told(alloc, ran(alloc, told, words)?, may_fail(key))
+}
+
+fn run_else_answer(
+    alloc: Global,
+    told: &Told<'_>,
+    key: &Key<'_>,
+    words: &[Vec<u8>],
+) -> Mem<Option<Vec<Field>>>
+    ensures { IfOk result (λ answer. option_map (λ answer. row_of answer.items) answer ≡ cond (has_failed (key_of key.now) (machine_of told.now)) (run_told false (ran_on (machine_of told.now) (words_of words.now))) (Some no_text)) }
+{
+    if has_failed(alloc, told, key)? {
+        run_told(alloc, ran(alloc, told, words)?, false)
+    } else {
+        Ok(Some(no_text(alloc)?))
+    }
+}
+
+/// What a machine answers to a part; none: nothing may be kept, or no round answers it.
 pub(crate) fn answer(
     alloc: Global,
     told: &Told<'_>,
@@ -138,11 +167,8 @@ pub(crate) fn answer(
         Part::Directory => Ok(Some(directory_answer(alloc, told, key.place)?)),
         Part::Compiler => compiler_answer(alloc, told),
         Part::Asked(ask, name) => asked_answer(alloc, told, key, *ask, name),
-        Part::Plan(_)
-        | Part::Run(_)
-        | Part::RunElse(_)
-        | Part::Pch(_)
-        | Part::Sources
-        | Part::Times => Ok(None),
+        Part::Run(words) => run_answer(alloc, told, key, words),
+        Part::RunElse(words) => run_else_answer(alloc, told, key, words),
+        Part::Plan(_) | Part::Pch(_) | Part::Sources | Part::Times => Ok(None),
     }
 }

@@ -1,7 +1,7 @@
-//! A key, and those of its parts that ask before anything runs.
+//! A key, and which of its parts are answered.
 ghost use Rattle.std.specs.Prelude.{◌≡◌, IfOk};
 ghost use Rattle.scl_key.specs.Views.{part_of};
-ghost use Rattle.scl_rounds.specs.Keys.{asks_early, is_early, is_made, is_output_at};
+ghost use Rattle.scl_rounds.specs.Keys.{asks_early, is_answered, is_early, is_made, is_output_at};
 ghost use Rattle.scl_rounds.specs.Views.{key_of};
 
 use scl_files::path::{join, same_path};
@@ -27,19 +27,36 @@ fn asks_early(ask: Ask) -> bool
     }
 }
 
-/// Whether a part is answered before anything runs.
+/// Whether the first round answers a part.
 pub(crate) fn is_early(part: &Part) -> bool
     ensures { result ≡ is_early (part_of part.now) }
 {
     match part {
-        Part::Is(_) | Part::Output(_) | Part::Directory | Part::Compiler => true,
+        Part::Is(_) | Part::Output(_) | Part::Compiler => true,
         Part::Asked(ask, _) => asks_early(*ask),
-        Part::Plan(_)
+        Part::Directory
+        | Part::Plan(_)
         | Part::Run(_)
         | Part::RunElse(_)
         | Part::Pch(_)
         | Part::Sources
         | Part::Times => false,
+    }
+}
+
+/// Whether a round answers a part.
+pub(crate) fn is_answered(part: &Part) -> bool
+    ensures { result ≡ is_answered (part_of part.now) }
+{
+    match part {
+        Part::Is(_)
+        | Part::Output(_)
+        | Part::Directory
+        | Part::Compiler
+        | Part::Run(_)
+        | Part::RunElse(_) => true,
+        Part::Asked(ask, _) => asks_early(*ask),
+        Part::Plan(_) | Part::Pch(_) | Part::Sources | Part::Times => false,
     }
 }
 

@@ -1,4 +1,4 @@
-//! The rounds of a lookup: what a key asks of a machine before anything runs, and its rows by the answers.
+//! The rounds of a lookup: what a key asks of a machine, and its rows by the answers.
 #![tactic(auto)]
 
 mod answer;
@@ -7,6 +7,7 @@ pub mod laws;
 mod next;
 mod question;
 mod row;
+mod run;
 
 pub use key::Key;
 pub use next::{Next, look_up};

@@ -1,19 +1,33 @@
 //! What a key asks of a machine, round by round.
 ghost use Rattle.std.specs.Prelude.{◌≡◌, ◌++◌, ◌∷◌, [], IfOk, OnOk};
-ghost use Rattle.std.specs.Option.{option_copied};
+ghost use Rattle.std.specs.Option.{option_copied, option_map};
+ghost use Rattle.scl_values.specs.Words.{words_of};
 ghost use Rattle.scl_key.specs.declared.part.Ask.TheVariants as asks;
 ghost use Rattle.scl_key.specs.Views.{part_of};
 ghost use Rattle.scl_lookup.specs.Questions.{env, file, program};
 ghost use Rattle.scl_questions.specs.Views.{questions_of};
-ghost use Rattle.scl_rounds.specs.Rounds.{behind_said, early, early_asked, first_round, second_round};
+ghost use Rattle.scl_rounds.specs.Rounds.{asked_in, asked_run, behind_said, first, first_asked, forbids, is_forbidden, is_vain, second, stage, third};
 ghost use Rattle.scl_rounds.specs.Views.{key_of, machine_of};
 
-use crate::answer::{Told, said_directory};
-use crate::key::{Key, is_made};
+use crate::answer::{Told, answer, said_directory};
+use crate::key::{Key, is_early, is_made};
+use crate::run::has_failed;
 use scl_key::{Ask, Part};
-use scl_questions::Question;
+use scl_questions::{Language, Question};
+use scl_text::command::copy_words;
 use scl_values::Mem;
 use std::alloc::Global;
+
+/// The rounds, in order.
+#[derive(Debug, Clone, Copy, PartialEq, Eq)]
+pub(crate) enum Phase {
+    /// What needs no answer.
+    First,
+    /// The runs, and where `PWD` leads.
+    Runs,
+    /// The runs in place of those that failed.
+    RunsElse,
+}
 
 fn push_env(alloc: Global, questions: &mut Vec<Question>, name: &[u8]) -> Mem<()>
     ensures { OnOk result (questions_of questions.new.items ≡ questions_of questions.old.items ++ env name.now ∷ []) }
@@ -36,9 +50,17 @@ fn push_compiler(alloc: Global, questions: &mut Vec<Question>) -> Mem<()>
     Ok(())
 }
 
+/// Appends what a run writes. Its messages belong to the key, so they are in the language in which the compilation writes them.
+fn push_run(alloc: Global, questions: &mut Vec<Question>, words: &[Vec<u8>]) -> Mem<()>
+    ensures { OnOk result (questions_of questions.new.items ≡ questions_of questions.old.items ++ asked_run (words_of words.now)) }
+{
+    questions.push(Question::Run(Language::Own, copy_words(alloc, words)?))?;
+    Ok(())
+}
+
 /// Appends what the first round asks of a file that may be there, unless the command writes it.
 fn push_maybe(alloc: Global, questions: &mut Vec<Question>, key: &Key<'_>, path: &[u8]) -> Mem<()>
-    ensures { OnOk result (questions_of questions.new.items ≡ questions_of questions.old.items ++ early_asked (key_of key.now) asks.Maybe path.now) }
+    ensures { OnOk result (questions_of questions.new.items ≡ questions_of questions.old.items ++ first_asked (key_of key.now) asks.Maybe path.now) }
 {
     if is_made(alloc, key, path)? {
         return Ok(());
@@ -54,7 +76,7 @@ fn push_asked(
     ask: Ask,
     name: &[u8],
 ) -> Mem<()>
-    ensures { OnOk result (questions_of questions.new.items ≡ questions_of questions.old.items ++ early_asked (key_of key.now) ask name.now) }
+    ensures { OnOk result (questions_of questions.new.items ≡ questions_of questions.old.items ++ first_asked (key_of key.now) ask name.now) }
 {
     match ask {
         Ask::Env | Ask::Unset => push_env(alloc, questions, name),
@@ -65,8 +87,8 @@ fn push_asked(
 }
 
 /// Appends what the first round asks for a part.
-fn push_early(alloc: Global, questions: &mut Vec<Question>, key: &Key<'_>, part: &Part) -> Mem<()>
-    ensures { OnOk result (questions_of questions.new.items ≡ questions_of questions.old.items ++ early (key_of key.now) (part_of part.now)) }
+fn push_first(alloc: Global, questions: &mut Vec<Question>, key: &Key<'_>, part: &Part) -> Mem<()>
+    ensures { OnOk result (questions_of questions.new.items ≡ questions_of questions.old.items ++ first (key_of key.now) (part_of part.now)) }
 {
     match part {
         Part::Directory => push_env(alloc, questions, b"PWD"),
@@ -81,17 +103,6 @@ fn push_early(alloc: Global, questions: &mut Vec<Question>, key: &Key<'_>, part:
         | Part::Sources
         | Part::Times => Ok(()),
     }
-}
-
-/// What the first round asks.
-pub(crate) fn first_round(alloc: Global, key: &Key<'_>) -> Mem<Vec<Question>>
-    ensures { IfOk result (λ questions. questions_of questions.items ≡ first_round (key_of key.now)) }
-{
-    let mut questions = Vec::new(alloc);
-    for part in key.parts {
-        push_early(alloc, &mut questions, key, part)?;
-    }
-    Ok(questions)
 }
 
 /// Appends the questions whether a name leads where the place does.
@@ -112,16 +123,100 @@ fn push_real(
     Ok(())
 }
 
-/// What the second round asks, by the answers of the first.
-pub(crate) fn second_round(alloc: Global, told: &Told<'_>, key: &Key<'_>) -> Mem<Vec<Question>>
-    ensures { IfOk result (λ questions. questions_of questions.items ≡ second_round (key_of key.now) (machine_of told.now)) }
+/// Appends what the second round asks for a part.
+fn push_second(
+    alloc: Global,
+    questions: &mut Vec<Question>,
+    told: &Told<'_>,
+    key: &Key<'_>,
+    part: &Part,
+) -> Mem<()>
+    ensures { OnOk result (questions_of questions.new.items ≡ questions_of questions.old.items ++ second (key_of key.now) (machine_of told.now) (part_of part.now)) }
 {
-    let mut questions = Vec::new(alloc);
-    for part in key.parts {
-        if let Part::Directory = part {
+    match part {
+        Part::Directory => {
             let name = said_directory(alloc, told)?;
-            push_real(alloc, &mut questions, key.place, name)?;
+            push_real(alloc, questions, key.place, name)
+        }
+        Part::Run(words) => push_run(alloc, questions, words),
+        Part::Is(_)
+        | Part::Output(_)
+        | Part::Compiler
+        | Part::Plan(_)
+        | Part::Asked(_, _)
+        | Part::RunElse(_)
+        | Part::Pch(_)
+        | Part::Sources
+        | Part::Times => Ok(()),
+    }
+}
+
+/// Appends what the third round asks for a part.
+fn push_third(
+    alloc: Global,
+    questions: &mut Vec<Question>,
+    told: &Told<'_>,
+    key: &Key<'_>,
+    part: &Part,
+) -> Mem<()>
+    ensures { OnOk result (questions_of questions.new.items ≡ questions_of questions.old.items ++ third (key_of key.now) (machine_of told.now) (part_of part.now)) }
+{
+    if let Part::RunElse(words) = part {
+        if has_failed(alloc, told, key)? {
+            push_run(alloc, questions, words)?;
         }
     }
-    Ok(questions)
+    Ok(())
+}
+
+/// Whether nothing may be kept, by what the first round answers to a part.
+fn forbids(alloc: Global, told: &Told<'_>, key: &Key<'_>, part: &Part) -> Mem<bool>
+    ensures { IfOk result (λ it. it ≡ forbids (key_of key.now) (machine_of told.now) (part_of part.now)) }
+{
+    Ok(is_early(part) && answer(alloc, told, key, part)?.is_none())
+}
+
+/// Whether nothing may be kept, by what the first round answers.
+fn is_forbidden(alloc: Global, told: &Told<'_>, key: &Key<'_>) -> Mem<bool>
+    ensures { IfOk result (λ it. it ≡ is_forbidden (key_of key.now) (machine_of told.now)) }
+{
+    for part in key.parts {
+        if forbids(alloc, told, key, part)? {
+            return Ok(true);
+        }
+    }
+    Ok(false)
+}
+
+/// Whether a round would run something for a key under which nothing may be kept.
+fn is_vain(alloc: Global, told: &Told<'_>, key: &Key<'_>, phase: Phase) -> Mem<bool>
+    ensures { IfOk result (λ it. it ≡ is_vain (key_of key.now) phase (machine_of told.now)) }
+{
+    match phase {
+        Phase::First | Phase::RunsElse => Ok(false),
+        Phase::Runs => is_forbidden(alloc, told, key),
+    }
+}
+
+/// What a round asks, by the answers of those before it; none: nothing may be kept.
+pub(crate) fn questions(
+    alloc: Global,
+    told: &Told<'_>,
+    key: &Key<'_>,
+    phase: Phase,
+) -> Mem<Option<Vec<Question>>>
+    ensures { IfOk result (λ it. option_map (λ questions. questions_of questions.items) it ≡ stage (key_of key.now) phase (machine_of told.now)) }
+{
+    if is_vain(alloc, told, key, phase)? {
+        return Ok(None);
+    }
+    let mut questions = Vec::new(alloc);
+    for part in key.parts {
+        match phase {
+            Phase::First => push_first(alloc, &mut questions, key, part)?,
+            Phase::Runs => push_second(alloc, &mut questions, told, key, part)?,
+            Phase::RunsElse => push_third(alloc, &mut questions, told, key, part)?,
+        }
+    }
+    Ok(Some(questions))
 }

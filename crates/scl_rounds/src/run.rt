@@ -1,0 +1,130 @@
+//! What the runs of a key write.
+ghost use Rattle.std.specs.Prelude.{◌≡◌, IfOk};
+ghost use Rattle.std.specs.Option.{option_map};
+ghost use Rattle.scl_values.specs.Words.{words_of};
+ghost use Rattle.scl_key.specs.Views.{part_of};
+ghost use Rattle.scl_lookup.specs.Keys.{ran_on};
+ghost use Rattle.scl_questions.specs.Views.{row_of, written_of};
+ghost use Rattle.scl_rounds.specs.Runs.{fails, has_failed, has_marker, is_else, may_fail, names_sources, no_text, run_told, written_told};
+ghost use Rattle.scl_rounds.specs.Views.{key_of, machine_of};
+
+use crate::answer::Told;
+use crate::key::Key;
+use scl_key::Part;
+use scl_questions::{Answer, Field, Language, Question, Written, answer_to};
+use scl_readings::{lines_after, marker_of};
+use scl_text::command::copy_words;
+use scl_values::Mem;
+use std::alloc::Global;
+
+/// What a run wrote, if it did not fail.
+pub(crate) fn ran<'a>(alloc: Global, told: &Told<'a>, words: &[Vec<u8>]) -> Mem<Option<&'a Written>>
+    ensures { IfOk result (λ ran. option_map (λ it. written_of it.now) ran ≡ ran_on (machine_of told.now) (words_of words.now)) }
+{
+    let question = Question::Run(Language::Own, copy_words(alloc, words)?);
+    if let Some(Answer::Written(written)) = answer_to(&question, told.asked, told.answers) {
+        if written.status == 0 {
+            return Ok(Some(written));
+        }
+    }
+    Ok(None)
+}
+
+/// Whether a run may fail: the key has others in its place.
+pub(crate) fn may_fail(key: &Key<'_>) -> bool
+    ensures { result ≡ may_fail (key_of key.now) }
+{
+    for part in key.parts {
+        if let Part::RunElse(_) = part {
+            return true;
+        }
+    }
+    false
+}
+
+fn fails(alloc: Global, told: &Told<'_>, part: &Part) -> Mem<bool>
+    ensures { IfOk result (λ it. it ≡ fails (machine_of told.now) (part_of part.now)) }
+{
+    match part {
+        Part::Run(words) => Ok(ran(alloc, told, words)?.is_none()),
+        Part::Is(_)
+        | Part::Output(_)
+        | Part::Directory
+        | Part::Compiler
+        | Part::Plan(_)
+        | Part::Asked(_, _)
+        | Part::RunElse(_)
+        | Part::Pch(_)
+        | Part::Sources
+        | Part::Times => Ok(false),
+    }
+}
+
+/// Whether a run failed, so that the others are needed.
+pub(crate) fn has_failed(alloc: Global, told: &Told<'_>, key: &Key<'_>) -> Mem<bool>
+    ensures { IfOk result (λ it. it ≡ has_failed (key_of key.now) (machine_of told.now)) }
+{
+    for part in key.parts {
+        if fails(alloc, told, part)? {
+            return Ok(true);
+        }
+    }
+    Ok(false)
+}
+
+fn has_marker(alloc: Global, text: &[u8]) -> Mem<bool>
+    ensures { IfOk result (λ it. it ≡ has_marker text.now) }
+{
+    let directives = lines_after(alloc, b'#', text)?;
+    for directive in &directives {
+        if marker_of(directive).is_some() {
+            return Ok(true);
+        }
+    }
+    Ok(false)
+}
+
+/// Whether a text names its sources: it is empty, or has a line marker.
+fn names_sources(alloc: Global, text: &[u8]) -> Mem<bool>
+    ensures { IfOk result (λ it. it ≡ names_sources text.now) }
+{
+    Ok(text.is_empty() || has_marker(alloc, text)?)
+}
+
+/// Both outputs of a run and the bytes of its own file; nothing may be kept if its text hides the sources.
+fn written_told(alloc: Global, written: &Written) -> Mem<Option<Vec<Field>>>
+    ensures { IfOk result (λ answer. option_map (λ answer. row_of answer.items) answer ≡ written_told (written_of written.now)) }
+{
+    if !names_sources(alloc, &written.output)? {
+        return Ok(None);
+    }
+    let mut answer = Vec::new(alloc);
+    answer.push(Field::Said(Vec::from_slice(alloc, &written.output)?))?;
+    answer.push(Field::Said(Vec::from_slice(alloc, &written.messages)?))?;
+    answer.push(Field::Said(Vec::from_slice(alloc, &written.own)?))?;
+    Ok(Some(answer))
+}
+
+/// That there is no text.
+pub(crate) fn no_text(alloc: Global) -> Mem<Vec<Field>>
+    ensures { IfOk result (λ answer. row_of answer.items ≡ no_text) }
+{
+    let mut answer = Vec::new(alloc);
+    answer.push(Field::Said(Vec::from_slice(alloc, b"-")?))?;
+    Ok(answer)
+}
+
+/// What a run wrote, or that it failed, if it may fail.
+pub(crate) fn run_told(
+    alloc: Global,
+    ran: Option<&Written>,
+    may_fail: bool,
+) -> Mem<Option<Vec<Field>>>
+    ensures { IfOk result (λ answer. option_map (λ answer. row_of answer.items) answer ≡ run_told may_fail (option_map (λ it. written_of it.now) ran.entry)) }
+{
+    match ran {
+        Some(written) => written_told(alloc, written),
+        None if may_fail => Ok(Some(no_text(alloc)?)),
+        None => Ok(None),
+    }
+}
