@@ -146,12 +146,15 @@ def measured(program, make, most):
     while fastest(program, make, count, 1) - empty < ENOUGH and count * 2 <= most:
         count *= 2
     before = after = math.inf
+    rounds = []
     for _ in range(ROUNDS):
-        before, after = min(before, fastest(program, make, count)), min(after, fastest(program, make, count * TIMES))
+        rounds.append(Grown(count, empty, fastest(program, make, count), fastest(program, make, count * TIMES)))
+        before, after = min(before, rounds[-1].before), min(after, rounds[-1].after)
         grown = Grown(count, empty, before, after)
         if grown.holds():
-            break
-    return grown
+            return grown
+    # a host of two speeds gives one number its fast runs and the other its slow ones; the two of a round are of one moment
+    return sorted(rounds, key=lambda it: it.exponent)[ROUNDS // 2]
 
 
 def row(name, program, grown):
