@@ -1,5 +1,5 @@
 -- A call that reads a text gives back what was written as the text.
-use Rattle.std.proofs.Common.{◌≡◌, ◌∙◌, ℕ, List, Result, Ok, ap, subst}
+use Rattle.std.proofs.Common.{◌∙◌, ℕ, List, Result, ap, subst}
 use Rattle.scl_catalogue.specs.Form.{Catalogue}
 use Rattle.scl_catalogue_text.specs.Again.{GivesBack}
 use Rattle.scl_catalogue_text.specs.Lines.{read}

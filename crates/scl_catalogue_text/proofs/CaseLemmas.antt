@@ -1,5 +1,5 @@
 -- Cases, read again.
-use Rattle.std.proofs.Common.{◌≡◌, ◌∙◌, ℕ, ◌+◌, ◌-◌, ◌*◌, ◌/◌, ◌%◌, ◌^◌, ◌<◌, ◌≤◌, ◌==◌, Bool, true, false, not, ◌&&◌, ◌||◌, cond, List, [], ◌∷◌, ◌++◌, map, codes, Option, None, Some, Result, Ok, Err, nat_lt, append_assoc, refl, sym, ap, arith}
+use Rattle.std.proofs.Common.{◌≡◌, ◌∙◌, ℕ, ◌+◌, ◌-◌, ◌*◌, ◌/◌, ◌%◌, ◌<◌, ◌≤◌, ◌==◌, Bool, true, false, not, ◌&&◌, ◌||◌, List, [], ◌∷◌, ◌++◌, map, codes, Option, None, Some, Ok, nat_lt, append_assoc, refl, sym, ap, arith}
 use Rattle.std.proofs.lemmas.Bool.{lt-ltb, ltb-true}
 use Rattle.std.proofs.lemmas.Fmt.{decimal_by_steps}
 use Rattle.std.proofs.lemmas.List.{append-nil}
@@ -7,15 +7,15 @@ use Rattle.std.specs.Char.{is_ascii_control}
 use Rattle.std.specs.Fmt.{decimal}
 use Rattle.std.specs.List.{list_all, list_any}
 use Rattle.std.specs.Prelude.{option_and_then}
-use Rattle.scl_catalogue.specs.Form.{Group, Condition, Case}
+use Rattle.scl_catalogue.specs.Form.{Group, Case}
 use Rattle.scl_catalogue.specs.declared.case.Compiler.{Compiler}
 use Rattle.scl_catalogue.specs.declared.case.Compiler.TheVariants as compiler
 use Rattle.scl_catalogue.specs.declared.case.Served.{Served}
 use Rattle.scl_catalogue.specs.declared.case.Version.{Version}
 use Rattle.scl_catalogue_text.specs.Cutting.{from_mark, parts, until_mark, words}
 use Rattle.scl_catalogue_text.specs.Names.{compiler_name, compiler_named}
-use Rattle.scl_catalogue_text.specs.Outcome.{after, each}
-use Rattle.scl_catalogue_text.specs.Reading.{all_served, bound_read, case_by, case_read, number_from, number_read, one_bound, served_by, served_of_words, served_read, two_bounds, version_of, version_read, with_digit}
+use Rattle.scl_catalogue_text.specs.Outcome.{each}
+use Rattle.scl_catalogue_text.specs.Reading.{all_served, case_by, case_read, number_from, number_read, one_bound, served_by, served_of_words, served_read, two_bounds, version_read, with_digit}
 use Rattle.scl_catalogue_text.specs.Writable.{IsCase, has_one, is_bound, is_served}
 use Rattle.scl_catalogue_text.specs.Written.{bound_words, case_text, condition_text, joined, served_words, spaced, version_text}
 use Rattle.scl_catalogue_text.proofs.ConditionLemmas.{conditions-bytes, conditions-written, is_of_line}

@@ -1,23 +1,23 @@
 -- Conditions, read again.
-use Rattle.std.proofs.Common.{◌≡◌, ◌∙◌, ℕ, ◌==◌, Bool, true, false, not, ◌&&◌, ◌||◌, cond, List, [], ◌∷◌, ◌++◌, map, codes, Option, None, Some, Result, Ok, Err, refl, sym, ap, arith}
+use Rattle.std.proofs.Common.{◌≡◌, ◌∙◌, ℕ, ◌==◌, Bool, true, false, not, ◌||◌, cond, List, [], ◌∷◌, ◌++◌, map, codes, Option, None, Some, Ok, refl, sym, ap, arith}
 use Rattle.std.proofs.lemmas.List.{append-nil}
 use Rattle.std.specs.Char.{is_ascii_control}
 use Rattle.std.specs.List.{list_all, list_any}
 use Rattle.std.specs.Str.{bytes_eq}
-use Rattle.scl_catalogue.specs.Form.{Text, Group, Relation, Any, Two, Before, Unfollowed, Last, Question, Is, At, Given, Inner, Condition}
+use Rattle.scl_catalogue.specs.Form.{Group, Relation, Any, Two, Before, Unfollowed, Last, Question, Is, At, Given, Inner, Condition}
 use Rattle.scl_catalogue.specs.declared.condition.Fact.{Fact}
 use Rattle.scl_catalogue.specs.declared.condition.Fact.TheVariants as fact
 use Rattle.scl_catalogue.specs.declared.condition.Place.{Place}
 use Rattle.scl_catalogue.specs.declared.condition.Place.TheVariants as place
 use Rattle.scl_catalogue_text.specs.Cutting.{first_word, other_words, parts}
 use Rattle.scl_catalogue_text.specs.Names.{fact_name, fact_named, place_name, place_named}
-use Rattle.scl_catalogue_text.specs.Outcome.{after, at_end, each}
-use Rattle.scl_catalogue_text.specs.Reading.{condition_by, condition_read, conditions_read, group_read, is_relation, of_one, of_two, question_by, question_of_names, relation_of_one, relation_of_parts, relation_of_two, relation_read, text_read}
-use Rattle.scl_catalogue_text.specs.Writable.{AreConditions, CanBeAsked, IsQuestion, IsRelation, has_one, is_text, lacks}
+use Rattle.scl_catalogue_text.specs.Outcome.{each}
+use Rattle.scl_catalogue_text.specs.Reading.{condition_by, condition_read, conditions_read, is_relation, of_one, of_two, question_by, relation_of_one, relation_of_parts, relation_of_two, relation_read}
+use Rattle.scl_catalogue_text.specs.Writable.{AreConditions, CanBeAsked, IsQuestion, IsRelation, has_one}
 use Rattle.scl_catalogue_text.specs.Written.{condition_text, group_text, joined, question_text, relation_text, text_text, two_texts}
 use Rattle.scl_catalogue_text.proofs.GroupLemmas.{group-begins, group-behind, group-lacks, group-written, HasNoControl, joined-bytes, lacks-all, other-than-control}
 use Rattle.scl_catalogue_text.proofs.SplitLemmas.{IsBehindWord, behind-blank, behind-none, first-word, is_unbroken, other-words, parts-joined, parts-next, parts-one}
-use Rattle.scl_catalogue_text.proofs.TestLemmas.{all-append, all-weaker, and-left, and-right, both, lacks-passed, lacks_mark}
+use Rattle.scl_catalogue_text.proofs.TestLemmas.{all-append, all-weaker, both, lacks-passed, lacks_mark}
 use Rattle.scl_catalogue_text.proofs.TextLemmas.{begins-text, behind-text, is_of_text, of-text, text-written}
 
 -- ---- which bytes are not in it

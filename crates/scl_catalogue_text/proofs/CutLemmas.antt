@@ -1,8 +1,8 @@
 -- Bytes before a mark, and those from it on.
-use Rattle.std.proofs.Common.{◌≡◌, ℕ, suc, ◌+◌, ◌-◌, ◌≤◌, ◌==◌, Bool, true, false, cond, List, [], ◌∷◌, length, take, refl, sym, ap, ◌∙◌, arith}
+use Rattle.std.proofs.Common.{◌≡◌, ℕ, suc, ◌-◌, ◌≤◌, ◌==◌, true, false, cond, List, [], ◌∷◌, length, take, refl, sym, ap, ◌∙◌, arith}
 use Rattle.scl_catalogue_text.specs.Cutting.{from_mark, until_mark}
 
-from-le : (mark : ℕ) (bs : List ℕ) → length (from_mark mark bs) ≤ length bs
+pub from-le : (mark : ℕ) (bs : List ℕ) → length (from_mark mark bs) ≤ length bs
 from-le mark [] = omega arith
 from-le mark (b ∷ bs) = elim (b == mark) as (λ t. length (cond t (b ∷ bs) (from_mark mark bs)) ≤ length (b ∷ bs)) [
   | true ↦ omega arith

@@ -1,8 +1,7 @@
 -- What is read of parts one after the other.
-use Rattle.std.proofs.Common.{◌≡◌, ◌∙◌, Bor, ℕ, suc, ◌+◌, ◌<◌, ◌≤◌, List, [], ◌∷◌, ◌++◌, length, map, get_or, drop, drop-cons, add-one, append_assoc, Result, Ok, Err, refl, sym, ap, subst, arith}
+use Rattle.std.proofs.Common.{◌≡◌, ◌∙◌, Bor, ℕ, ◌+◌, ◌<◌, ◌≤◌, List, [], ◌∷◌, ◌++◌, length, map, get_or, drop, drop-cons, add-one, append_assoc, Result, Ok, Err, refl, sym, ap, subst}
 use Rattle.std.proofs.lemmas.List.{append-nil, drop_all}
-use Rattle.scl_catalogue_text.specs.Lines.{SoFar, catalogue_so_far, lines_read, with_line}
-use Rattle.scl_catalogue_text.specs.Outcome.{StopsAt, after, after_line, at_line, each}
+use Rattle.scl_catalogue_text.specs.Outcome.{StopsAt, after, each}
 use Rattle.scl_catalogue_text.specs.Reading.{escape, escapes}
 use Rattle.scl_catalogue_text.specs.declared.mistake.Mistake.{Mistake}
 use Rattle.scl_catalogue_text.specs.declared.mistake.Stop.{Stop}
@@ -38,6 +37,19 @@ pub each_end : {B C : Type 0} (f : List ℕ → Result C Mistake) (view : B → 
 each_end f view parts i old r h e =
     let f : after (each f (bytes_of (drop i parts))) (λ read. Ok (map view old ++ read)) ≡ Ok (map view old) = rw (no-part parts i h) (ap Ok (append-nil (map view old))) in
     sym e ∙ f
+
+-- the same, where the first of what is left is read
+pub each_next : {B C : Type 0} (f : List ℕ → Result C Mistake) (view : B → C) (xs ys : List (List ℕ)) (w : List ℕ) (old new : List B) (x : B) (r : Result (List C) Mistake) → xs ≡ w ∷ ys → f w ≡ Ok (view x) → new ≡ old ++ x ∷ []
+    → after (each f xs) (λ read. Ok (map view old ++ read)) ≡ r → after (each f ys) (λ read. Ok (map view new ++ read)) ≡ r
+each_next f view xs ys w old new x r e one added h =
+    let step : after (each f xs) (λ read. Ok (map view old ++ read)) ≡ after (each f ys) (λ read. Ok ((map view old ++ view x ∷ []) ++ read)) =
+    rw (e, one) (pushed (each f ys) (map view old) (view x)) in
+    rw (added, map-push view old x) (sym step ∙ h)
+
+pub each_last : {B C : Type 0} (f : List ℕ → Result C Mistake) (view : B → C) (xs : List (List ℕ)) (old : List B) (r : Result (List C) Mistake) → xs ≡ [] → after (each f xs) (λ read. Ok (map view old ++ read)) ≡ r → r ≡ Ok (map view old)
+each_last f view xs old r e h =
+    let end : after (each f xs) (λ read. Ok (map view old ++ read)) ≡ Ok (map view old) = rw e (ap Ok (append-nil (map view old))) in
+    sym h ∙ end
 
 -- ---- parts after backslashes
 

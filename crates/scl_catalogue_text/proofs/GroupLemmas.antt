@@ -1,5 +1,5 @@
 -- Tests and groups, read again.
-use Rattle.std.proofs.Common.{◌≡◌, ◌∙◌, ℕ, ◌==◌, Bool, true, false, not, ◌&&◌, ◌||◌, List, [], ◌∷◌, ◌++◌, map, filter, Option, Some, Result, Ok, Err, append_assoc, refl, sym, ap, arith}
+use Rattle.std.proofs.Common.{◌≡◌, ◌∙◌, ℕ, ◌==◌, Bool, true, false, not, ◌||◌, List, [], ◌∷◌, ◌++◌, map, filter, Some, Ok, append_assoc, refl, sym, ap, arith}
 use Rattle.std.proofs.lemmas.Bool.{eqb-true, not-true}
 use Rattle.std.proofs.lemmas.List.{append-nil}
 use Rattle.std.proofs.lemmas.List.Splits.{slice_split-cons_no}
@@ -11,15 +11,13 @@ use Rattle.scl_catalogue.specs.declared.seen.Mark.TheVariants as mark
 use Rattle.scl_catalogue.specs.declared.test.Class.{Class}
 use Rattle.scl_catalogue.specs.declared.test.Class.TheVariants as class
 use Rattle.scl_catalogue_text.specs.Cutting.{first_word, is_word, other_words, parts, words}
-use Rattle.scl_catalogue_text.specs.Names.{class_name, class_named, mark_name, mark_named}
-use Rattle.scl_catalogue_text.specs.Outcome.{after, at_end, each}
-use Rattle.scl_catalogue_text.specs.Reading.{demand_by, demand_read, group_named, group_of_words, group_read, group_without_name, test_by, test_read, tests_read, text_read}
+use Rattle.scl_catalogue_text.specs.Names.{class_name, class_named, mark_name}
+use Rattle.scl_catalogue_text.specs.Reading.{demand_by, demand_read, group_named, group_of_words, group_read, test_by, test_read, tests_read}
 use Rattle.scl_catalogue_text.specs.Writable.{CanBeAsked, IsNamedOr, are_tests, has_one, is_demand, is_group_name, is_test, is_text, lacks}
 use Rattle.scl_catalogue_text.specs.Written.{demand_text, group_text, joined, named_text, spaced, test_text, tests_text, text_text}
-use Rattle.scl_catalogue_text.specs.declared.mistake.Mistake.{Mistake}
-use Rattle.scl_catalogue_text.proofs.SplitLemmas.{IsBehindWord, behind-blank, behind-none, first-word, is_unbroken, other-words, parts-append, parts-joined, parts-mark, words-spaced}
+use Rattle.scl_catalogue_text.proofs.SplitLemmas.{IsBehindWord, behind-blank, first-word, is_unbroken, other-words, parts-append, parts-joined, parts-mark, words-spaced}
 use Rattle.scl_catalogue_text.proofs.TestLemmas.{all-append, all-weaker, and-left, and-right, both, lacks-passed, lacks_mark, or-false-right, or-left}
-use Rattle.scl_catalogue_text.proofs.TextLemmas.{BeginsWord, all-mapped, begins-text, behind-text, each-written, is_of_text, of-text, text-written}
+use Rattle.scl_catalogue_text.proofs.TextLemmas.{all-mapped, begins-text, behind-text, each-written, is_of_text, of-text, text-written}
 
 -- ---- demands
 

@@ -6,7 +6,9 @@ pub mod CutLemmas
 pub mod EachLemmas
 pub mod GroupLemmas
 pub mod LineLemmas
+pub mod PlainLemmas
 pub mod SplitLemmas
 pub mod TestLemmas
 pub mod TextLemmas
+pub mod WordLemmas
 pub mod WrongLemmas

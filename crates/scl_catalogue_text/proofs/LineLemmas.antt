@@ -1,8 +1,7 @@
 -- The lines of a catalogue's text, read again.
-use Rattle.std.proofs.Common.{◌≡◌, ◌∙◌, ℕ, ◌+◌, ◌==◌, Bool, true, false, not, ◌&&◌, ◌||◌, cond, List, [], ◌∷◌, ◌++◌, map, codes, Option, None, Some, Result, Ok, Err, append_assoc, refl, sym, ap}
+use Rattle.std.proofs.Common.{◌≡◌, ◌∙◌, ℕ, ◌+◌, ◌==◌, Bool, true, false, not, ◌||◌, List, [], ◌∷◌, ◌++◌, map, codes, Option, None, Some, Result, Ok, append_assoc, refl, sym, ap}
 use Rattle.std.proofs.lemmas.Bool.{not-true}
 use Rattle.std.proofs.lemmas.List.{append-nil}
-use Rattle.std.proofs.lemmas.List.Folds.{list_all-append}
 use Rattle.std.specs.Char.{is_ascii_control}
 use Rattle.std.specs.List.{list_all, list_any}
 use Rattle.std.specs.Str.{bytes_eq}
@@ -15,19 +14,18 @@ use Rattle.scl_catalogue.specs.declared.entry.Verb.{Verb}
 use Rattle.scl_catalogue.specs.declared.entry.Verb.TheVariants as verb
 use Rattle.scl_catalogue_text.specs.Cutting.{first_word, from_mark, other_words, parts, until_mark, words}
 use Rattle.scl_catalogue_text.specs.Files.{has_its_options}
-use Rattle.scl_catalogue_text.specs.Lines.{NewCase, NewEntry, NewGroup, Nothing, Said, Says, SoFar, added, catalogue_so_far, effect_read, group_line_by, group_line_read, hazard_read, line_by, line_read, lines_read, name_read, read, with_last, with_line}
+use Rattle.scl_catalogue_text.specs.Lines.{NewCase, NewEntry, NewGroup, Nothing, Says, SoFar, added, effect_read, group_line_by, group_line_read, hazard_read, line_by, line_read, lines_read, name_read, read, with_last, with_line}
 use Rattle.scl_catalogue_text.specs.Names.{compiler_name, danger_name, danger_named, verb_name, verb_named}
-use Rattle.scl_catalogue_text.specs.Outcome.{after, after_line, at_end, at_line}
+use Rattle.scl_catalogue_text.specs.Outcome.{after}
 use Rattle.scl_catalogue_text.specs.Reading.{case_read, group_named, tests_read}
 use Rattle.scl_catalogue_text.specs.Writable.{AreCases, AreEntries, AreGroups, CanBeWritten, IsCase, IsEntry, are_tests, has_one, HasWords, is_group_name, is_plain_word, is_served}
 use Rattle.scl_catalogue_text.specs.Written.{case_text, condition_text, entry_lines, group_line, head_text, joined, lines_of, lines_of_entries, lines_text, spaced, tests_text, written}
 use Rattle.scl_catalogue_text.specs.declared.mistake.BadLine.{BadLine}
-use Rattle.scl_catalogue_text.specs.declared.mistake.Mistake.{Mistake}
 use Rattle.scl_catalogue_text.proofs.CaseLemmas.{begins-compiler, case-bytes, case-written}
 use Rattle.scl_catalogue_text.proofs.ConditionLemmas.{is_of_line}
 use Rattle.scl_catalogue_text.proofs.GroupLemmas.{is_of_name, is_of_tests, lacks-all, name-unbroken, of-tests, other-than-control, tests-control, tests-written}
 use Rattle.scl_catalogue_text.proofs.SplitLemmas.{behind-none, first-word, from-append, is_unbroken, other-words, parts-lines, until-append, words-spaced}
-use Rattle.scl_catalogue_text.proofs.TestLemmas.{all-append, all-weaker, and-left, and-right, both, lacks-passed, lacks_mark}
+use Rattle.scl_catalogue_text.proofs.TestLemmas.{all-append, and-left, and-right, both, lacks-passed, lacks_mark}
 use Rattle.scl_catalogue_text.proofs.TextLemmas.{spaced-bytes}
 
 -- ---- groups

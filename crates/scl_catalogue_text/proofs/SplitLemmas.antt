@@ -1,12 +1,13 @@
 -- Parts between marks, and words between blanks.
-use Rattle.std.proofs.Common.{◌≡◌, ◌∙◌, ℕ, ◌==◌, Bool, true, false, not, ◌&&◌, cond, List, [], ◌∷◌, ◌++◌, map, filter, refl, sym, ap, rules, tests}
+use Rattle.std.proofs.Common.{◌≡◌, ◌∙◌, ℕ, ◌+◌, ◌<◌, ◌==◌, Bool, true, false, not, ◌&&◌, ◌||◌, List, [], ◌∷◌, ◌++◌, filter, length, take, drop, get_or, refl, sym, ap, rules, tests, arith, length-take-le, get_or-take}
 use Rattle.std.proofs.lemmas.Bool.{not-true}
-use Rattle.std.proofs.lemmas.List.{append-nil}
-use Rattle.std.proofs.lemmas.List.Splits.{slice_split-cons_no}
-use Rattle.std.specs.List.{list_all, onto_first, slice_split}
+use Rattle.std.proofs.lemmas.List.{append-nil, drop_more, take-append-drop}
+use Rattle.std.proofs.lemmas.List.Elements.{All-from_get_or}
+use Rattle.std.proofs.lemmas.List.Splits.{slice_split-cons_no, slice_split_at, slice_split_none}
+use Rattle.std.specs.List.{list_all, list_any, onto_first, slice_split}
 use Rattle.scl_catalogue_text.specs.Cutting.{behind_blanks, first_word, from_mark, is_word, other_words, parts, until_mark, words}
 use Rattle.scl_catalogue_text.specs.Writable.{has_one}
-use Rattle.scl_catalogue_text.specs.Written.{all_of, joined, lines_text, spaced}
+use Rattle.scl_catalogue_text.specs.Written.{joined, lines_text, spaced}
 use Rattle.scl_catalogue_text.proofs.TestLemmas.{and-left, and-right, both, lacks_mark}
 
 -- bytes without the mark stand before the first part of what follows
@@ -17,6 +18,13 @@ parts-append m (b ∷ w) xs q ps h e =
     let no : (b == m) ≡ false = not-true (b == m) (and-left (not (b == m)) (lacks_mark m w) h) in
     let rest : slice_split (λ c. c == m) (w ++ xs) ≡ (w ++ q) ∷ ps = parts-append m w xs q ps (and-right (not (b == m)) (lacks_mark m w) h) e in
     slice_split-cons_no (λ c. c == m) b (w ++ xs) no ∙ ap (onto_first b) rest
+
+none-lacks : (m : ℕ) (w : List ℕ) → list_any (λ b. b == m) w ≡ false → lacks_mark m w ≡ true
+none-lacks m [] h = refl
+none-lacks m (b ∷ w) h = (elim (b == m) as (λ t. (t || list_any (λ c. c == m) w) ≡ false → (not t && lacks_mark m w) ≡ true) [
+  | true ↦ (λ k. let no : true ≡ false = k in cc)
+  | false ↦ (λ k. none-lacks m w k)
+]) h
 
 pub parts-one : (m : ℕ) (w : List ℕ) → lacks_mark m w ≡ true → parts m w ≡ w ∷ []
 unfolding parts
@@ -31,6 +39,38 @@ parts-mark m xs = rw (same-mark m) refl
 
 pub parts-next : (m : ℕ) (w xs : List ℕ) → lacks_mark m w ≡ true → parts m (w ++ m ∷ xs) ≡ w ∷ parts m xs
 parts-next m w xs h = let e : parts m (w ++ m ∷ xs) ≡ (w ++ []) ∷ parts m xs = parts-append m w (m ∷ xs) [] (parts m xs) h (parts-mark m xs) in rw append-nil at e
+
+pub one_part : (m : ℕ) (w : List ℕ) → list_any (λ b. b == m) w ≡ false → parts m w ≡ w ∷ []
+one_part m w h = parts-one m w (none-lacks m w h)
+
+parts-last : (m : ℕ) (w : List ℕ) → lacks_mark m w ≡ true → parts m (w ++ m ∷ []) ≡ w ∷ [] ∷ []
+unfolding parts
+parts-last m w h = parts-next m w [] h
+
+-- the parts of a word whose last byte is the mark, and which has no other
+pub star_last : (m : ℕ) (word w : List ℕ) (b : ℕ) → word ≡ w ++ b ∷ [] → b ≡ m → list_any (λ c. c == m) w ≡ false → parts m word ≡ w ∷ [] ∷ []
+star_last m word w b e same h = rw (e, same) (parts-last m w (none-lacks m w h))
+
+-- no byte before a place is the mark
+abbrev NoneBelow : ℕ → List ℕ → ℕ → Type 0
+NoneBelow m bs at = (k : ℕ) → k < at → ¬ ((get_or bs k 0 == m) ≡ true)
+
+is-not : (b : Bool) → ¬ (b ≡ true) → b ≡ false
+is-not true h = absurd (h refl)
+is-not false h = refl
+
+pub parts-at : (m : ℕ) (bs : List ℕ) (at : ℕ) → at < length bs → (get_or bs at 0 == m) ≡ true → NoneBelow m bs at → parts m bs ≡ take at bs ∷ parts m (drop (at + 1) bs)
+unfolding parts
+parts-at m bs at h here none =
+    let long : length (take at bs) ≡ at = length-take-le at bs (omega (arith, h)) in
+    let cut : bs ≡ take at bs ++ get_or bs at 0 ∷ drop (at + 1) bs = sym (take-append-drop at bs) ∙ ap (λ (rest : List ℕ). take at bs ++ rest) (drop_more bs at 0 h) in
+    ap (slice_split (λ b. b == m)) cut
+    ∙ slice_split_at (λ b. b == m) (take at bs) (get_or bs at 0) (drop (at + 1) bs)
+    (All-from_get_or (λ b. (b == m) ≡ false) (take at bs) 0 (λ k low. ap (λ b. b == m) (get_or-take at bs k 0 (omega (arith, low, long))) ∙ is-not (get_or bs k 0 == m) (none k (omega (arith, low, long))))) here
+
+pub parts-none : (m : ℕ) (bs : List ℕ) → NoneBelow m bs (length bs) → parts m bs ≡ bs ∷ []
+unfolding parts
+parts-none m bs none = slice_split_none (λ b. b == m) bs (All-from_get_or (λ b. (b == m) ≡ false) bs 0 (λ k low. is-not (get_or bs k 0 == m) (none k low)))
 
 pub parts-joined : (m : ℕ) (p : List ℕ) (ps : List (List ℕ)) → list_all (lacks_mark m) (p ∷ ps) ≡ true → parts m (joined m (p ∷ ps)) ≡ p ∷ ps
 parts-joined m p [] h = parts-one m p (and-left (lacks_mark m p) true h)

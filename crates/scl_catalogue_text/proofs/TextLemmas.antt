@@ -1,5 +1,5 @@
 -- Patterns, and texts of them, read again.
-use Rattle.std.proofs.Common.{◌≡◌, ◌∙◌, ℕ, ◌==◌, Bool, true, false, not, ◌&&◌, ◌||◌, List, [], ◌∷◌, ◌++◌, map, Option, Some, Result, Ok, Err, append_assoc, refl, sym, ap}
+use Rattle.std.proofs.Common.{◌≡◌, ◌∙◌, ℕ, ◌==◌, Bool, true, false, not, ◌&&◌, ◌||◌, List, [], ◌∷◌, ◌++◌, map, Result, Ok, append_assoc, refl, ap}
 use Rattle.std.proofs.lemmas.Bool.{not-true}
 use Rattle.std.proofs.lemmas.List.{append-nil}
 use Rattle.std.specs.List.{list_all}
@@ -7,7 +7,7 @@ use Rattle.scl_catalogue.specs.Form.{Pattern, Text}
 use Rattle.scl_catalogue.specs.declared.text.How.{How}
 use Rattle.scl_catalogue.specs.declared.text.How.TheVariants as how
 use Rattle.scl_catalogue_text.specs.Cutting.{parts, words}
-use Rattle.scl_catalogue_text.specs.Outcome.{after, each}
+use Rattle.scl_catalogue_text.specs.Outcome.{each}
 use Rattle.scl_catalogue_text.specs.Reading.{pattern_as, pattern_read, patterns_read, star_in_two, starred_parts, text_of_parts, text_read, text_with, text_without}
 use Rattle.scl_catalogue_text.specs.Writable.{are_patterns, has_one, is_bytes, is_text}
 use Rattle.scl_catalogue_text.specs.Written.{bytes_text, except_text, pattern_text, spaced, starred, text_text}

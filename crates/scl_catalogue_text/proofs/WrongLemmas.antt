@@ -1,11 +1,11 @@
 -- A text that is not read has a first line that is wrong.
-use Rattle.std.proofs.Common.{◌≡◌, ◌∙◌, ℕ, suc, ◌+◌, List, [], ◌∷◌, ◌++◌, length, None, Result, Ok, Err, refl, sym, ap, subst, arith}
+use Rattle.std.proofs.Common.{◌≡◌, ℕ, ◌+◌, List, [], ◌∷◌, length, None, Result, Ok, Err, refl, ap, subst, arith}
 use Rattle.std.specs.Result.{IfErr}
 use Rattle.scl_catalogue.specs.Form.{Catalogue}
 use Rattle.scl_catalogue_text.specs.Cutting.{parts}
 use Rattle.scl_catalogue_text.specs.Lines.{SoFar, lines_read, read, with_line}
 use Rattle.scl_catalogue_text.specs.Outcome.{ReadsText, after_line, at_line}
-use Rattle.scl_catalogue_text.specs.Wrong.{IsFirstWrong, IsWrong, with_lines}
+use Rattle.scl_catalogue_text.specs.Wrong.{IsFirstWrong, IsWrong}
 use Rattle.scl_catalogue_text.specs.declared.mistake.BadLine.{BadLine}
 use Rattle.scl_catalogue_text.specs.declared.mistake.Mistake.{Mistake}
 use Rattle.scl_catalogue_text.specs.declared.mistake.ReadError.{ReadError}

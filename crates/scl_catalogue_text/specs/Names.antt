@@ -1,5 +1,5 @@
 -- The words by which a catalogue's text names things.
-use Rattle.std.specs.Prelude.{ℕ, Bool, cond, List, codes, Option, None, Some}
+use Rattle.std.specs.Prelude.{ℕ, cond, List, codes, Option, None, Some}
 use Rattle.std.specs.Str.{bytes_eq}
 use Rattle.scl_catalogue.specs.declared.case.Compiler.{Compiler}
 use Rattle.scl_catalogue.specs.declared.case.Compiler.TheVariants as compiler

@@ -1,5 +1,5 @@
 -- What the code's lines say, and what it has read so far.
-use Rattle.std.specs.Prelude.{List, Option, None, Some, map}
+use Rattle.std.specs.Prelude.{Option, None, Some, map}
 use Rattle.scl_catalogue.specs.Form.{Entry}
 use Rattle.scl_catalogue.specs.Views.{case_of, entry_of, group_of, tells_of}
 use Rattle.scl_catalogue_text.specs.Lines as lines

@@ -1,5 +1,5 @@
 -- A catalogue as its text.
-use Rattle.std.specs.Prelude.{ℕ, ◌+◌, ◌/◌, ◌%◌, nat_lt, ◌==◌, Bool, true, false, cond, not, ◌&&◌, List, [], ◌∷◌, ◌++◌, map, codes, Option, None, Some}
+use Rattle.std.specs.Prelude.{ℕ, ◌+◌, ◌/◌, ◌%◌, nat_lt, ◌==◌, Bool, cond, not, ◌&&◌, List, [], ◌∷◌, ◌++◌, map, codes, Option, None, Some}
 use Rattle.std.specs.Fmt.{decimal}
 use Rattle.std.specs.List.{list_any}
 use Rattle.scl_catalogue.specs.Form.{Pattern, Text, Demand, Marked, Value, Part, Test, Group, Relation, Any, Two, Before, Unfollowed, Last, Question, Is, At, Given, Inner, Condition, Case, Tells, Hazard, Effect, Reason, Plain, Entry, Catalogue}

@@ -1,7 +1,9 @@
 //! Bytes of a line, cut at blanks and other marks.
-ghost use Rattle.std.specs.Prelude.{◌≡◌, ◌≤◌, length, map, filter, IfOk};
+ghost use Rattle.std.specs.Prelude.{◌≡◌, ◌==◌, ◌<◌, ◌≤◌, ◌∷◌, [], not, true, length, map, IfOk, IfSome, MatchOption};
+ghost use Rattle.std.specs.List.{list_any};
 ghost use Rattle.scl_catalogue_text.specs.Cutting.{behind_blanks, first_word, from_mark, is_word, other_words, parts, until_mark, words};
 
+use memchr::memchr;
 use scl_values::Mem;
 use std::alloc::Global;
 
@@ -60,32 +62,70 @@ pub(crate) fn has_word(bytes: &[u8]) -> bool
     !word.is_empty()
 }
 
+/// The first word and the bytes after it; none where there is no word.
+#[tactic(auto, using(crate::proofs::WordLemmas::words_none, crate::proofs::WordLemmas::words_some, crate::proofs::WordLemmas::others_shorter))]
+pub(crate) fn next_word(bytes: &[u8]) -> Option<(&[u8], &[u8])>
+    ensures words { MatchOption result (words bytes.now ≡ []) (λ cut. words bytes.now ≡ cut.0.now ∷ words cut.1.now) }
+    ensures shorter { IfSome result (λ cut. length cut.1.now < length bytes.now) }
+{
+    let (word, others) = first_word(bytes);
+    if word.is_empty() {
+        return None;
+    }
+    Some((word, others))
+}
+
+/// Whether the mark stands nowhere. It looks at each byte, which takes less than to stop at the first mark.
+pub(crate) fn lacks(bytes: &[u8], mark: u8) -> bool
+    ensures { result ≡ not (list_any (λ byte. byte == mark) bytes.now) }
+{
+    let mut stands = false;
+    for byte in bytes {
+        stands |= *byte == mark;
+    }
+    !stands
+}
+
+/// Whether there is one part, so that no mark stands there.
+#[tactic(auto, using(crate::proofs::SplitLemmas::one_part))]
+pub(crate) fn is_one_part(bytes: &[u8], mark: u8) -> bool
+    ensures { result ≡ true → parts mark bytes.now ≡ bytes.now ∷ [] }
+{
+    lacks(bytes, mark)
+}
+
+/// The first part, and the bytes behind its mark; none where no mark stands.
+fn next_part(bytes: &[u8], mark: u8) -> Option<(&[u8], &[u8])>
+    ensures parts { MatchOption result (parts mark bytes.now ≡ bytes.now ∷ []) (λ cut. parts mark bytes.now ≡ cut.0.now ∷ parts mark cut.1.now) }
+    ensures shorter { IfSome result (λ cut. length cut.1.now < length bytes.now) }
+{
+    match memchr(mark, bytes) {
+        Some(at) => Some((&bytes[..at], &bytes[at + 1..])),
+        None => None,
+    }
+}
+
 /// The parts between the marks.
-#[tactic(auto, unfolding(crate::specs::Cutting::parts))]
 pub(crate) fn parts(alloc: Global, bytes: &[u8], mark: u8) -> Mem<Vec<&[u8]>>
     ensures { IfOk result (λ all. map (λ part. part.now) all.items ≡ parts mark bytes.now) }
 {
-    bytes.split(|byte| *byte == mark).collect(alloc)
-}
-
-/// The parts that are not empty.
-fn words_among<'a>(alloc: Global, parts: &[&'a [u8]]) -> Mem<Vec<&'a [u8]>>
-    ensures { IfOk result (λ all. map (λ word. word.now) all.items ≡ filter is_word (map (λ part. part.now) parts.now)) }
-{
     let mut all = Vec::new(alloc);
-    for part in parts {
-        if !part.is_empty() {
-            all.push(*part)?;
-        }
+    let mut left = bytes;
+    while let Some((part, others)) = next_part(left, mark) {
+        all.push(part)?;
+        left = others;
     }
+    all.push(left)?;
     Ok(all)
 }
 
 /// The words between blanks.
-#[tactic(auto, unfolding(crate::specs::Cutting::words))]
+#[tactic(auto, unfolding(crate::specs::Cutting::words, crate::specs::Cutting::parts))]
 pub(crate) fn words(alloc: Global, bytes: &[u8]) -> Mem<Vec<&[u8]>>
     ensures { IfOk result (λ all. map (λ word. word.now) all.items ≡ words bytes.now) }
 {
-    let parts = parts(alloc, bytes, b' ')?;
-    words_among(alloc, &parts)
+    bytes
+        .split(|byte| *byte == b' ')
+        .filter(|part| !part.is_empty())
+        .collect(alloc)
 }

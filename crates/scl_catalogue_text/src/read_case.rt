@@ -1,10 +1,10 @@
 //! Reads cases.
-ghost use Rattle.std.specs.Prelude.{◌≡◌, map};
+ghost use Rattle.std.specs.Prelude.{◌≡◌, ◌∷◌, [], map};
 ghost use Rattle.scl_catalogue.specs.Views.{case_of, group_of};
 ghost use Rattle.scl_catalogue_text.specs.Outcome.{each, Reads};
 ghost use Rattle.scl_catalogue_text.specs.Reading.{all_served, bound_read, case_read, number_from, number_read, one_bound, served_by, served_of_words, served_read, two_bounds, version_read, with_digit};
 
-use crate::cut::{cut_at, parts, words};
+use crate::cut::{cut_at, is_one_part, next_word, parts, words};
 use crate::mistake::{Mistake, Part, Stop};
 use crate::names::{compiler_named, is};
 use crate::read_condition::conditions;
@@ -125,10 +125,31 @@ fn served_of(words: &[&[u8]]) -> Part<Served>
     served_by(compiler, others)
 }
 
+/// The compiler of the name, of each version.
+#[tactic(auto, unfolding(crate::specs::Reading::served_by))]
+fn served_always(name: &[u8]) -> Part<Served>
+    ensures { Reads (λ served. served) result (served_of_words (name.now ∷ [])) }
+{
+    match compiler_named(name) {
+        Some(compiler) => Ok(Served {
+            compiler,
+            since: None,
+            until: None,
+        }),
+        None => Err(Stop::Mistake(Mistake::UnknownCompiler)),
+    }
+}
+
 #[tactic(auto, unfolding(crate::specs::Reading::served_read))]
 fn served(room: Room<'_>, bytes: &[u8]) -> Part<Served>
     ensures { Reads (λ served. served) result (served_read bytes.now) }
 {
+    let Some((name, others)) = next_word(bytes) else {
+        return Err(Stop::Mistake(Mistake::UnknownCompiler));
+    };
+    if next_word(others).is_none() {
+        return served_always(name);
+    }
     let words = words(room.alloc, bytes)?;
     served_of(&words)
 }
@@ -136,7 +157,7 @@ fn served(room: Room<'_>, bytes: &[u8]) -> Part<Served>
 fn each_served<'a>(room: Room<'a>, parts: &[&[u8]]) -> Part<&'a [Served]>
     ensures { Reads (λ all. all.now) result (each served_read (map (λ part. part.now) parts.now)) }
 {
-    let mut all = Vec::new(room.alloc);
+    let mut all = Vec::with_capacity(room.alloc, parts.len())?;
     for part in parts {
         let one = served(room, part)?;
         all.push(one)?;
@@ -149,6 +170,11 @@ fn each_served<'a>(room: Room<'a>, parts: &[&[u8]]) -> Part<&'a [Served]>
 fn all_served<'a>(room: Room<'a>, bytes: &[u8]) -> Part<&'a [Served]>
     ensures { Reads (λ all. all.now) result (all_served bytes.now) }
 {
+    if is_one_part(bytes, b',') {
+        let only = served(room, bytes)?;
+        let placed = room.arena.try_alloc_slice_copy(&[only])?;
+        return Ok(placed);
+    }
     let parts = parts(room.alloc, bytes, b',')?;
     each_served(room, &parts)
 }

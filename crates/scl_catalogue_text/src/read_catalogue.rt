@@ -66,7 +66,11 @@ fn has_name(entries: &[Entry<'_>], name: &[u8]) -> bool
 fn has_control(line: &[u8]) -> bool
     ensures { result ≡ list_any is_ascii_control line.now }
 {
-    line.iter().any(|byte| byte.is_ascii_control())
+    let mut found = false;
+    for byte in line {
+        found |= byte.is_ascii_control();
+    }
+    found
 }
 
 impl<'a> Reader<'a> {

@@ -4,7 +4,7 @@ ghost use Rattle.scl_catalogue.specs.Views.{condition_of, group_of, question_of,
 ghost use Rattle.scl_catalogue_text.specs.Outcome.{each, Reads};
 ghost use Rattle.scl_catalogue_text.specs.Reading.{condition_by, condition_read, conditions_read, is_relation, of_one, of_two, question_by, relation_of_one, relation_of_parts, relation_of_two, relation_read};
 
-use crate::cut::{first_word, has_word, parts};
+use crate::cut::{first_word, has_word, is_one_part, parts};
 use crate::mistake::{Mistake, Part, Stop};
 use crate::names::{fact_named, is, place_named};
 use crate::read_test::group;
@@ -96,7 +96,7 @@ fn relation_of<'a>(
 }
 
 /// The relation of the name, whose groups have `>` between them.
-#[tactic(auto, unfolding(crate::specs::Reading::relation_read))]
+#[tactic(auto, unfolding(crate::specs::Reading::relation_read, crate::specs::Reading::relation_of_parts))]
 fn relation<'a>(
     room: Room<'a>,
     groups: &[Group<'a>],
@@ -107,6 +107,9 @@ fn relation<'a>(
 {
     if !is_relation(name) {
         return Err(Stop::Mistake(Mistake::UnknownQuestion));
+    }
+    if is_one_part(bytes, b'>') {
+        return relation_of_one(room, groups, name, bytes);
     }
     let parts = parts(room.alloc, bytes, b'>')?;
     relation_of(room, groups, name, &parts)
@@ -180,7 +183,7 @@ fn each_condition<'a>(
 ) -> Part<&'a [Condition<'a>]>
     ensures { Reads (λ all. map condition_of all.now) result (each (condition_read (map group_of groups.now)) (map (λ part. part.now) parts.now)) }
 {
-    let mut all = Vec::new(room.alloc);
+    let mut all = Vec::with_capacity(room.alloc, parts.len())?;
     for part in parts {
         let one = condition(room, groups, part)?;
         all.push(one)?;
@@ -198,6 +201,11 @@ pub(crate) fn conditions<'a>(
 ) -> Part<&'a [Condition<'a>]>
     ensures { Reads (λ all. map condition_of all.now) result (conditions_read (map group_of groups.now) bytes.now) }
 {
+    if is_one_part(bytes, b';') {
+        let only = condition(room, groups, bytes)?;
+        let placed = room.arena.try_alloc_slice_copy(&[only])?;
+        return Ok(placed);
+    }
     let parts = parts(room.alloc, bytes, b';')?;
     each_condition(room, groups, &parts)
 }

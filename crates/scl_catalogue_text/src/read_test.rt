@@ -2,10 +2,11 @@
 ghost use Rattle.std.specs.Prelude.{◌≡◌, map};
 ghost use Rattle.std.specs.Option.{option_map};
 ghost use Rattle.scl_catalogue.specs.Views.{demand_of, group_of, test_of};
-ghost use Rattle.scl_catalogue_text.specs.Outcome.{each, Reads};
-ghost use Rattle.scl_catalogue_text.specs.Reading.{demand_by, demand_read, group_named, group_of_words, group_read, test_by, test_read, tests_read};
+ghost use Rattle.scl_catalogue_text.specs.declared.mistake.Mistake.TheVariants as mistake;
+ghost use Rattle.scl_catalogue_text.specs.Outcome.{each, or_mistake, Reads};
+ghost use Rattle.scl_catalogue_text.specs.Reading.{demand_by, demand_read, group_named, group_of_words, group_read, group_without_name, test_by, test_read, tests_read};
 
-use crate::cut::{first_word, has_word, parts, words};
+use crate::cut::{first_word, has_word, is_one_part, next_word, parts};
 use crate::mistake::{Mistake, Part, Stop};
 use crate::names::{class_named, is, mark_named};
 use crate::read_text::{Room, text};
@@ -43,7 +44,10 @@ fn demand<'a>(room: Room<'a>, bytes: &'a [u8]) -> Part<Demand<'a>>
 fn demands<'a>(room: Room<'a>, parts: &[&'a [u8]]) -> Part<&'a [Demand<'a>]>
     ensures { Reads (λ all. map demand_of all.now) result (each demand_read (map (λ part. part.now) parts.now)) }
 {
-    let mut all = Vec::new(room.alloc);
+    if parts.is_empty() {
+        return Ok(&[]);
+    }
+    let mut all = Vec::with_capacity(room.alloc, parts.len())?;
     for part in parts {
         let one = demand(room, part)?;
         all.push(one)?;
@@ -74,6 +78,9 @@ fn test_of<'a>(room: Room<'a>, first: &'a [u8], others: &[&'a [u8]]) -> Part<Tes
 fn test<'a>(room: Room<'a>, bytes: &'a [u8]) -> Part<Test<'a>>
     ensures { Reads test_of result (test_read bytes.now) }
 {
+    if is_one_part(bytes, b'&') {
+        return test_of(room, bytes, &[]);
+    }
     let parts = parts(room.alloc, bytes, b'&')?;
     match parts.split_first() {
         Some((first, others)) => test_of(room, first, others),
@@ -84,7 +91,7 @@ fn test<'a>(room: Room<'a>, bytes: &'a [u8]) -> Part<Test<'a>>
 fn each_test<'a>(room: Room<'a>, parts: &[&'a [u8]]) -> Part<&'a [Test<'a>]>
     ensures { Reads (λ all. map test_of all.now) result (each test_read (map (λ part. part.now) parts.now)) }
 {
-    let mut all = Vec::new(room.alloc);
+    let mut all = Vec::with_capacity(room.alloc, parts.len())?;
     for part in parts {
         let one = test(room, part)?;
         all.push(one)?;
@@ -98,6 +105,11 @@ fn each_test<'a>(room: Room<'a>, parts: &[&'a [u8]]) -> Part<&'a [Test<'a>]>
 pub(crate) fn tests<'a>(room: Room<'a>, bytes: &'a [u8]) -> Part<&'a [Test<'a>]>
     ensures { Reads (λ all. map test_of all.now) result (tests_read bytes.now) }
 {
+    if is_one_part(bytes, b'|') {
+        let only = test(room, bytes)?;
+        let placed = room.arena.try_alloc_slice_copy(&[only])?;
+        return Ok(placed);
+    }
     let parts = parts(room.alloc, bytes, b'|')?;
     each_test(room, &parts)
 }
@@ -114,30 +126,32 @@ pub(crate) fn group_named<'a>(groups: &[Group<'a>], name: &[u8]) -> Option<Group
     None
 }
 
-#[tactic(auto, unfolding(crate::specs::Reading::group_of_words))]
-fn group_of<'a>(
-    room: Room<'a>,
-    groups: &[Group<'a>],
-    bytes: &'a [u8],
-    words: &[&'a [u8]],
-) -> Part<Group<'a>>
-    ensures { Reads group_of result (group_of_words (map group_of groups.now) bytes.now (map (λ word. word.now) words.now)) }
+fn group_of<'a>(groups: &[Group<'a>], name: &[u8]) -> Part<Group<'a>>
+    ensures { Reads group_of result (or_mistake mistake.UnknownGroup (group_named (map group_of groups.now) name.now)) }
 {
-    if let [name] = words {
-        return match group_named(groups, name) {
-            Some(group) => Ok(group),
-            None => Err(Stop::Mistake(Mistake::UnknownGroup)),
-        };
+    match group_named(groups, name) {
+        Some(group) => Ok(group),
+        None => Err(Stop::Mistake(Mistake::UnknownGroup)),
     }
+}
+
+fn group_without_name<'a>(room: Room<'a>, bytes: &'a [u8]) -> Part<Group<'a>>
+    ensures { Reads group_of result (group_without_name bytes.now) }
+{
     let tests = tests(room, bytes)?;
     Ok(Group { name: &[], tests })
 }
 
 /// The group that is named by one word, or whose tests stand there.
-#[tactic(auto, unfolding(crate::specs::Reading::group_read))]
+#[tactic(auto, unfolding(crate::specs::Reading::group_read, crate::specs::Reading::group_of_words))]
 pub(crate) fn group<'a>(room: Room<'a>, groups: &[Group<'a>], bytes: &'a [u8]) -> Part<Group<'a>>
     ensures { Reads group_of result (group_read (map group_of groups.now) bytes.now) }
 {
-    let words = words(room.alloc, bytes)?;
-    group_of(room, groups, bytes, &words)
+    let Some((name, others)) = next_word(bytes) else {
+        return group_without_name(room, bytes);
+    };
+    if next_word(others).is_some() {
+        return group_without_name(room, bytes);
+    }
+    group_of(groups, name)
 }

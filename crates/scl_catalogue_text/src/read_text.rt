@@ -1,11 +1,13 @@
 //! Reads patterns.
-ghost use Rattle.std.specs.Prelude.{◌≡◌, ◌<◌, ◌++◌, map, IfSome, Ok};
+ghost use Rattle.std.specs.Prelude.{◌≡◌, ◌<◌, ◌++◌, ◌∷◌, ◌==◌, ◌&&◌, not, map, IfSome, Ok};
 ghost use Rattle.std.specs.Option.{option_map};
 ghost use Rattle.scl_catalogue.specs.Views.{pattern_of, text_of};
+ghost use Rattle.std.specs.List.{list_any};
+ghost use Rattle.scl_catalogue_text.specs.Cutting.{words};
 ghost use Rattle.scl_catalogue_text.specs.Outcome.{after, each, Reads};
 ghost use Rattle.scl_catalogue_text.specs.Reading.{digit, escape, escapes, hex_byte, pattern_read, patterns_read, starred_parts, text_of_parts, text_read, text_with, text_without, unescaped};
 
-use crate::cut::{parts, words};
+use crate::cut::{is_one_part, lacks, next_word, parts};
 use crate::mistake::{Mistake, Part, Stop};
 use bumpalo::Bump;
 use scl_catalogue::{How, Pattern, Text};
@@ -107,8 +109,9 @@ fn starred<'a>(parts: &[&'a [u8]]) -> Option<Pattern<'a>>
     Some(Pattern { how, text })
 }
 
+/// A pattern with stars elsewhere than at its end, or with escapes.
 #[tactic(auto, unfolding(crate::specs::Reading::pattern_read))]
-fn pattern<'a>(room: Room<'a>, word: &'a [u8]) -> Part<Pattern<'a>>
+fn pattern_with_marks<'a>(room: Room<'a>, word: &'a [u8]) -> Part<Pattern<'a>>
     ensures { Reads pattern_of result (pattern_read word.now) }
 {
     let parts = parts(room.alloc, word, b'*')?;
@@ -122,14 +125,55 @@ fn pattern<'a>(room: Room<'a>, word: &'a [u8]) -> Part<Pattern<'a>>
     })
 }
 
-fn each_pattern<'a>(room: Room<'a>, words: &[&'a [u8]]) -> Part<&'a [Pattern<'a>]>
-    ensures { Reads (λ all. map pattern_of all.now) result (each pattern_read (map (λ word. word.now) words.now)) }
+/// Whether neither a star nor a backslash stands there.
+fn is_plain(bytes: &[u8]) -> bool
+    ensures { result ≡ (not (list_any (λ byte. byte == 42) bytes.now) && not (list_any (λ byte. byte == 92) bytes.now)) }
 {
-    let mut all = Vec::new(room.alloc);
-    for word in words {
+    lacks(bytes, b'*') && lacks(bytes, b'\\')
+}
+
+#[tactic(auto, using(crate::proofs::PlainLemmas::plain_is, crate::proofs::PlainLemmas::plain_begins))]
+fn pattern<'a>(room: Room<'a>, word: &'a [u8]) -> Part<Pattern<'a>>
+    ensures { Reads pattern_of result (pattern_read word.now) }
+{
+    if let Some((last, text)) = word.split_last()
+        && *last == b'*'
+        && is_plain(text)
+    {
+        return Ok(Pattern {
+            how: How::Begins,
+            text,
+        });
+    }
+    if is_plain(word) {
+        return Ok(Pattern {
+            how: How::Is,
+            text: word,
+        });
+    }
+    pattern_with_marks(room, word)
+}
+
+#[tactic(auto, using(crate::proofs::EachLemmas::each_last))]
+fn push_patterns<'a>(room: Room<'a>, all: &mut Vec<Pattern<'a>>, bytes: &'a [u8]) -> Part<()>
+    ensures { Reads (λ _. map pattern_of all.new.items) result (after (each pattern_read (words bytes.now)) (λ more. Ok (map pattern_of all.old.items ++ more))) }
+{
+    let mut left = bytes;
+    while let Some((word, others)) = next_word(left) {
         let one = pattern(room, word)?;
         all.push(one)?;
+        left = others;
     }
+    Ok(())
+}
+
+/// A pattern, and those after it.
+fn with_patterns<'a>(room: Room<'a>, first: Pattern<'a>, bytes: &'a [u8]) -> Part<&'a [Pattern<'a>]>
+    ensures { Reads (λ all. map pattern_of all.now) result (after (each pattern_read (words bytes.now)) (λ more. Ok (pattern_of first.entry ∷ more))) }
+{
+    let mut all = Vec::with_capacity(room.alloc, bytes.len() / 8 + 2)?;
+    all.push(first)?;
+    push_patterns(room, &mut all, bytes)?;
     let placed = room.arena.try_alloc_slice_copy(&all)?;
     Ok(placed)
 }
@@ -138,12 +182,15 @@ fn each_pattern<'a>(room: Room<'a>, words: &[&'a [u8]]) -> Part<&'a [Pattern<'a>
 fn patterns<'a>(room: Room<'a>, bytes: &'a [u8]) -> Part<&'a [Pattern<'a>]>
     ensures { Reads (λ all. map pattern_of all.now) result (patterns_read bytes.now) }
 {
-    let words = words(room.alloc, bytes)?;
-    let all = each_pattern(room, &words)?;
-    if all.is_empty() {
+    let Some((word, others)) = next_word(bytes) else {
         return Err(Stop::Mistake(Mistake::NoPattern));
+    };
+    let first = pattern(room, word)?;
+    if next_word(others).is_some() {
+        return with_patterns(room, first, others);
     }
-    Ok(all)
+    let placed = room.arena.try_alloc_slice_copy(&[first])?;
+    Ok(placed)
 }
 
 #[tactic(auto, unfolding(crate::specs::Reading::text_with))]
@@ -175,10 +222,13 @@ fn text_of<'a>(room: Room<'a>, parts: &[&'a [u8]]) -> Part<Text<'a>>
 }
 
 /// Patterns, and after a mark those that are left out.
-#[tactic(auto, unfolding(crate::specs::Reading::text_read))]
+#[tactic(auto, unfolding(crate::specs::Reading::text_read, crate::specs::Reading::text_of_parts))]
 pub(crate) fn text<'a>(room: Room<'a>, bytes: &'a [u8]) -> Part<Text<'a>>
     ensures { Reads text_of result (text_read bytes.now) }
 {
+    if is_one_part(bytes, b'!') {
+        return text_without(room, bytes);
+    }
     let parts = parts(room.alloc, bytes, b'!')?;
     text_of(room, &parts)
 }
