@@ -166,6 +166,16 @@ handed_rules_group = group (codes "HANDED_RULES") (
     test class.Flag (text (is (codes "-Wp") ∷ is (codes "-Xpreprocessor") ∷ []) []) (Part (text (is (codes "-MD") ∷ is (codes "-MMD") ∷ []) []) ∷ []) ∷
     [])
 
+abbrev pub objc_flag_group : Group
+objc_flag_group = group (codes "OBJC_FLAG") (
+    test class.Unknown (text (is (codes "-ObjC") ∷ is (codes "-ObjC++") ∷ []) []) [] ∷
+    [])
+
+abbrev pub handed_file_group : Group
+handed_file_group = group (codes "HANDED_FILE") (
+    test class.Flag (text (is (codes "-Wp") ∷ is (codes "-Xpreprocessor") ∷ []) []) (Part (text (is (codes "-MD") ∷ is (codes "-MMD") ∷ is (codes "-MF") ∷ []) []) ∷ []) ∷
+    [])
+
 abbrev pub handed_target_group : Group
 handed_target_group = group (codes "HANDED_TARGET") (
     test class.Flag (text (is (codes "-Wp") ∷ is (codes "-Xpreprocessor") ∷ []) []) (Part (text (is (codes "-MT") ∷ is (codes "-MQ") ∷ []) []) ∷ []) ∷

@@ -83,7 +83,7 @@ unfoldable pub command_recorded_entry : Entry
 command_recorded_entry = entry (Hazard danger.Object) (codes "command-recorded")
     (codes "The object records the built command.") (
     case (meant compiler.Clang None None ∷ []) (asked (Given (Last (unnamed (test class.Unknown (text (is (codes "-frecord-command-line") ∷ is (codes "-frecord-gcc-switches") ∷ []) []) [] ∷ [])) (unnamed (test class.Unknown (text (is (codes "-fno-record-command-line") ∷ is (codes "-fno-record-gcc-switches") ∷ []) []) [] ∷ [])))) ∷ denied (At place.Language (text (is (codes "assembler") ∷ is (codes "assembler-with-cpp") ∷ []) [])) ∷ []) ∷
-    case (meant compiler.Clang None None ∷ []) (asked (Given (Any debug_group)) ∷ asked (Given (Last (unnamed (test class.Unknown (text (is (codes "-grecord-command-line") ∷ is (codes "-grecord-gcc-switches") ∷ []) []) [] ∷ [])) (unnamed (test class.Unknown (text (is (codes "-gno-record-command-line") ∷ is (codes "-gno-record-gcc-switches") ∷ []) []) [] ∷ [])))) ∷ []) ∷
+    case (meant compiler.Clang None None ∷ []) (asked (Given (Any debug_group)) ∷ asked (Given (Last (unnamed (test class.Unknown (text (is (codes "-grecord-command-line") ∷ is (codes "-grecord-gcc-switches") ∷ []) []) [] ∷ [])) (unnamed (test class.Unknown (text (is (codes "-gno-record-command-line") ∷ is (codes "-gno-record-gcc-switches") ∷ []) []) [] ∷ [])))) ∷ denied (At place.Language (text (is (codes "assembler") ∷ is (codes "assembler-with-cpp") ∷ []) [])) ∷ []) ∷
     [])
 
 unfoldable pub order_of_recorded_words_entry : Entry

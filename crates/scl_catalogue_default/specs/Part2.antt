@@ -2,7 +2,7 @@
 use Rattle.std.specs.Prelude.{List, [], ◌∷◌, codes, None, Some}
 use Rattle.scl_catalogue.specs.Form.{Entry, Marked, Value, Any, Two, Before, Unfollowed, Last, Is, At, Given, Hazard}
 use Rattle.scl_catalogue_default.specs.Words.{is, begins, holds, text, test, unnamed, asked, denied, version, meant, case, entry}
-use Rattle.scl_catalogue_default.specs.Groups.{input_group, language_group, long_header_group, long_output_group, output_group, one_output_group, need_group, target_group, dependency_file_group, fatal_group, not_fatal_group, silent_group, deprecated_fatal_group, deprecated_not_fatal_group, deprecated_off_group, deprecated_on_group, cl_output_group, cl_joined_output_group, cl_taking_next_group}
+use Rattle.scl_catalogue_default.specs.Groups.{input_group, language_group, long_header_group, long_output_group, output_group, one_output_group, need_group, target_group, dependency_file_group, objc_flag_group, fatal_group, not_fatal_group, silent_group, deprecated_fatal_group, deprecated_not_fatal_group, deprecated_off_group, deprecated_on_group, silent_unused_group, unused_fatal_group, unused_not_fatal_group, unused_off_group, unused_on_group, cl_output_group, cl_joined_output_group, cl_taking_next_group}
 use Rattle.scl_catalogue.specs.declared.case.Compiler.TheVariants as compiler
 use Rattle.scl_catalogue.specs.declared.entry.Danger.TheVariants as danger
 use Rattle.scl_catalogue.specs.declared.test.Class.TheVariants as class
@@ -77,7 +77,7 @@ several_device_outputs_entry = entry (Hazard danger.Object) (codes "several-devi
     (codes "The compilation has outputs for devices, which are named or marked otherwise.") (
     case (meant compiler.Clang None None ∷ []) (asked (Given (Any (unnamed (test class.Unknown (text (begins (codes "-fopenmp-targets=") ∷ []) []) [] ∷ [])))) ∷ []) ∷
     case (meant compiler.Clang None None ∷ []) (asked (At place.Language (text (is (codes "cuda") ∷ is (codes "hip") ∷ []) [])) ∷ asked (Given (Any (unnamed (test class.Unknown (text (begins (codes "--cuda-device-only") ∷ begins (codes "--offload-device-only") ∷ begins (codes "-cuid=") ∷ begins (codes "-fuse-cuid=") ∷ []) []) [] ∷ [])))) ∷ []) ∷
-    case (meant compiler.Clang None None ∷ []) (asked (Given (Any (unnamed (test class.Unknown (text (begins (codes "--cuda-gpu-arch=") ∷ begins (codes "--offload-arch=") ∷ []) []) [] ∷ [])))) ∷ denied (At place.Language (text (is (codes "cuda") ∷ is (codes "hip") ∷ []) [])) ∷ []) ∷
+    case (meant compiler.Clang None None ∷ []) (asked (Given (Any (unnamed (test class.Unknown (text (begins (codes "--cuda-gpu-arch=") ∷ begins (codes "--offload-arch=") ∷ []) []) [] ∷ [])))) ∷ denied (At place.Language (text (is (codes "cuda") ∷ is (codes "hip") ∷ []) [])) ∷ asked (Given (Any (unnamed (test class.Unknown (text (begins (codes "-fopenmp") ∷ begins (codes "-fsycl") ∷ []) []) [] ∷ [])))) ∷ []) ∷
     case (meant compiler.Clang None None ∷ []) (asked (At place.Language (text (is (codes "cuda") ∷ is (codes "hip") ∷ []) [])) ∷ asked (Given (Last (unnamed (test class.Unknown (text (is (codes "-fcuda-rdc") ∷ is (codes "-fgpu-rdc") ∷ []) []) [] ∷ [])) (unnamed (test class.Unknown (text (is (codes "-fno-cuda-rdc") ∷ is (codes "-fno-gpu-rdc") ∷ []) []) [] ∷ [])))) ∷ []) ∷
     [])
 
@@ -121,7 +121,10 @@ driver_mode_entry = entry (Hazard danger.Object) (codes "driver-mode")
 unfoldable pub objective_c_flag_entry : Entry
 objective_c_flag_entry = entry (Hazard danger.Object) (codes "objective-c-flag")
     (codes "The language that the built command states wins over the flag.") (
-    case (meant compiler.Clang None None ∷ []) (asked (Given (Any (unnamed (test class.Unknown (text (is (codes "-ObjC") ∷ is (codes "-ObjC++") ∷ []) []) [] ∷ [])))) ∷ denied (Given (Before language_group input_group)) ∷ []) ∷
+    case (meant compiler.Clang None None ∷ []) (asked (Given (Any (unnamed (test class.Unknown (text (is (codes "-ObjC") ∷ []) []) [] ∷ [])))) ∷ denied (Given (Before language_group input_group)) ∷ denied (At place.Language (text (is (codes "objective-c") ∷ []) [])) ∷ []) ∷
+    case (meant compiler.Clang None None ∷ []) (asked (Given (Any (unnamed (test class.Unknown (text (is (codes "-ObjC++") ∷ []) []) [] ∷ [])))) ∷ denied (Given (Before language_group input_group)) ∷ denied (At place.Language (text (is (codes "objective-c++") ∷ []) [])) ∷ []) ∷
+    case (meant compiler.Clang None None ∷ []) (asked (Given (Any objc_flag_group)) ∷ denied (Given (Before language_group input_group)) ∷ asked (Given (Last unused_fatal_group unused_not_fatal_group)) ∷ denied (Given (Any silent_unused_group)) ∷ denied (Given (Last unused_off_group unused_on_group)) ∷ []) ∷
+    case (meant compiler.Clang None None ∷ []) (asked (Given (Any objc_flag_group)) ∷ denied (Given (Before language_group input_group)) ∷ asked (Given (Last fatal_group not_fatal_group)) ∷ denied (Given (Any silent_unused_group)) ∷ denied (Given (Last unused_off_group unused_on_group)) ∷ denied (Given (Any unused_fatal_group)) ∷ denied (Given (Any unused_not_fatal_group)) ∷ []) ∷
     [])
 
 unfoldable pub c_as_cxx_entry : Entry

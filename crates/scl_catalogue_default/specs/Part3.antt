@@ -1,8 +1,8 @@
 -- Entries of the catalogue that is built in; `catalogue/build` writes it.
 use Rattle.std.specs.Prelude.{List, [], ◌∷◌, codes, None, Some}
-use Rattle.scl_catalogue.specs.Form.{Entry, Marked, Value, Part, Any, Two, Before, Last, Is, At, Given, Inner, Hazard}
+use Rattle.scl_catalogue.specs.Form.{Entry, Marked, Value, Any, Two, Before, Last, Is, At, Given, Inner, Hazard}
 use Rattle.scl_catalogue_default.specs.Words.{is, begins, holds, text, test, unnamed, asked, denied, version, meant, case, entry}
-use Rattle.scl_catalogue_default.specs.Groups.{output_group, standard_group, known_standard_group, no_standard_group, without_trigraphs_group, c23_group, trigraphs_group, need_group, target_group, targets_group, handed_rules_group, handed_target_group, long_rules_group, dependency_rules_group, asked_dependencies_group, other_dependencies_group, inner_dependencies_group, fatal_group, not_fatal_group, silent_group, silent_unused_group, unused_fatal_group, unused_not_fatal_group, unused_off_group, unused_on_group, unknown_fatal_group, unknown_not_fatal_group, unknown_off_group, unknown_on_group, cl_fatal_group, cl_cut_short_group}
+use Rattle.scl_catalogue_default.specs.Groups.{output_group, standard_group, known_standard_group, no_standard_group, without_trigraphs_group, c23_group, trigraphs_group, need_group, target_group, dependency_file_group, targets_group, handed_rules_group, handed_file_group, handed_target_group, long_rules_group, dependency_rules_group, asked_dependencies_group, other_dependencies_group, inner_dependencies_group, fatal_group, not_fatal_group, silent_group, silent_unused_group, unused_fatal_group, unused_not_fatal_group, unused_off_group, unused_on_group, unknown_fatal_group, unknown_not_fatal_group, unknown_off_group, unknown_on_group, cl_fatal_group, cl_cut_short_group}
 use Rattle.scl_catalogue.specs.declared.case.Compiler.TheVariants as compiler
 use Rattle.scl_catalogue.specs.declared.entry.Danger.TheVariants as danger
 use Rattle.scl_catalogue.specs.declared.test.Class.TheVariants as class
@@ -137,7 +137,8 @@ joined_dependency_file_entry = entry (Hazard danger.SideFile) (codes "joined-dep
 unfoldable pub dependency_file_handed_on_entry : Entry
 dependency_file_handed_on_entry = entry (Hazard danger.SideFile) (codes "dependency-file-handed-on")
     (codes "Another dependency file is written than the one that is passed on to the preprocessor.") (
-    case (meant compiler.Clang None None ∷ []) (asked (Is fact.Preprocessed) ∷ asked (Given (Any (unnamed (test class.Kind (text (is (codes "need-dep-target") ∷ is (codes "dep-argument-path") ∷ []) []) [] ∷ [])))) ∷ asked (Given (Any (unnamed (test class.Flag (text (is (codes "-Wp") ∷ is (codes "-Xpreprocessor") ∷ []) []) (Part (text (is (codes "-MD") ∷ is (codes "-MMD") ∷ is (codes "-MF") ∷ []) []) ∷ []) ∷ [])))) ∷ []) ∷
+    case (meant compiler.Clang None None ∷ []) (asked (Is fact.Preprocessed) ∷ asked (Given (Any handed_file_group)) ∷ asked (Given (Any need_group)) ∷ denied (Given (Any dependency_file_group)) ∷ []) ∷
+    case (meant compiler.Clang None None ∷ []) (asked (Is fact.Preprocessed) ∷ asked (Given (Last handed_file_group dependency_file_group)) ∷ asked (Given (Any dependency_file_group)) ∷ []) ∷
     [])
 
 unfoldable pub dependency_names_of_input_entry : Entry

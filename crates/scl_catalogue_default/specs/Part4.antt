@@ -2,7 +2,7 @@
 use Rattle.std.specs.Prelude.{List, [], ◌∷◌, codes, None}
 use Rattle.scl_catalogue.specs.Form.{Entry, Marked, Value, Any, Two, Before, Last, Is, At, Given, Inner, Hazard}
 use Rattle.scl_catalogue_default.specs.Words.{is, begins, text, test, unnamed, asked, denied, meant, case, entry}
-use Rattle.scl_catalogue_default.specs.Groups.{language_group, output_group, split_group, color_group, color_never_group, need_group, target_group, dependency_file_group, dependency_rules_group, using_target_group, diagnostics_file_group, unused_group, fatal_group, not_fatal_group, silent_unused_group, unused_fatal_group, unused_not_fatal_group, unused_off_group, unused_on_group, unused_block_group, cl_cut_short_group}
+use Rattle.scl_catalogue_default.specs.Groups.{input_group, language_group, output_group, split_group, color_group, color_never_group, need_group, target_group, dependency_file_group, objc_flag_group, dependency_rules_group, using_target_group, diagnostics_file_group, unused_group, fatal_group, not_fatal_group, silent_unused_group, unused_fatal_group, unused_not_fatal_group, unused_off_group, unused_on_group, unused_block_group, cl_cut_short_group}
 use Rattle.scl_catalogue.specs.declared.case.Compiler.TheVariants as compiler
 use Rattle.scl_catalogue.specs.declared.entry.Danger.TheVariants as danger
 use Rattle.scl_catalogue.specs.declared.test.Class.TheVariants as class
@@ -51,6 +51,7 @@ diagnostics_file_entry = entry (Hazard danger.SideFile) (codes "diagnostics-file
     case (meant compiler.Clang None None ∷ []) (asked (Given (Any diagnostics_file_group)) ∷ asked (Is fact.Plusplus) ∷ asked (At place.Extension (text (is (codes "c") ∷ []) [])) ∷ denied (Given (Any language_group)) ∷ []) ∷
     case (meant compiler.Clang None None ∷ []) (asked (Given (Any diagnostics_file_group)) ∷ asked (Given (Any need_group)) ∷ denied (Given (Any dependency_rules_group)) ∷ []) ∷
     case (meant compiler.Clang None None ∷ []) (asked (Given (Any diagnostics_file_group)) ∷ asked (Given (Any target_group)) ∷ denied (Given (Any need_group)) ∷ []) ∷
+    case (meant compiler.Clang None None ∷ []) (asked (Given (Any diagnostics_file_group)) ∷ asked (Given (Any objc_flag_group)) ∷ denied (Given (Before language_group input_group)) ∷ []) ∷
     case (meant compiler.Clang None None ∷ []) (asked (Given (Any diagnostics_file_group)) ∷ asked (Given (Before (unnamed (test class.Unknown (text (begins [] ∷ []) []) [] ∷ test class.Kind (text (is (codes "pass-through") ∷ is (codes "pass-through-path") ∷ []) []) [] ∷ [])) (unnamed (test class.Flag (text (is (codes "-imultilib") ∷ is (codes "-stdlib") ∷ []) []) [] ∷ [])))) ∷ []) ∷
     case (meant compiler.Clang None None ∷ []) (asked (Given (Any diagnostics_file_group)) ∷ asked (Given (Before unused_group (unnamed (test class.Flag (text (is (codes "-fno-working-directory") ∷ is (codes "-remap") ∷ []) []) [] ∷ [])))) ∷ []) ∷
     case (meant compiler.Clang None None ∷ []) (asked (Given (Any diagnostics_file_group)) ∷ asked (Given (Before unused_group dependency_file_group)) ∷ denied (Given (Any dependency_rules_group)) ∷ []) ∷
@@ -91,6 +92,7 @@ unused_words_said_entry = entry (Hazard danger.Messages) (codes "unused-words-sa
     case (meant compiler.Clang None None ∷ []) (asked (At place.Language (text (is (codes "assembler") ∷ []) [])) ∷ asked (Given (Any split_group)) ∷ denied (Given (Any silent_unused_group)) ∷ denied (Given (Last unused_off_group unused_on_group)) ∷ []) ∷
     case (meant compiler.Clang None None ∷ []) (asked (Is fact.Preprocessed) ∷ asked (Given (Any need_group)) ∷ denied (Given (Any using_target_group)) ∷ denied (Given (Any silent_unused_group)) ∷ denied (Given (Last unused_off_group unused_on_group)) ∷ []) ∷
     case (meant compiler.Clang None None ∷ []) (asked (Given (Any target_group)) ∷ denied (Given (Any need_group)) ∷ denied (Given (Any using_target_group)) ∷ denied (Given (Any silent_unused_group)) ∷ denied (Given (Last unused_off_group unused_on_group)) ∷ []) ∷
+    case (meant compiler.Clang None None ∷ []) (asked (Given (Any objc_flag_group)) ∷ denied (Given (Before language_group input_group)) ∷ denied (Given (Any silent_unused_group)) ∷ denied (Given (Last unused_off_group unused_on_group)) ∷ []) ∷
     [])
 
 unfoldable pub inner_input_entry : Entry

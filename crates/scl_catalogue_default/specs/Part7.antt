@@ -33,13 +33,14 @@ time_trace_in_file_entry = entry (Effect verb.Writes (codes "{value}")) (codes "
 unfoldable pub assembler_listing_entry : Entry
 assembler_listing_entry = entry (Effect verb.Writes (codes "{value}")) (codes "assembler-listing")
     (codes "The assembler writes a listing.") (
-    case (meant compiler.Gcc None None ∷ meant compiler.Clang None None ∷ []) (asked (Given (Any (unnamed (test class.Unknown (text (begins (codes "-Wa,-a=") ∷ begins (codes "-Wa,-ac=") ∷ begins (codes "-Wa,-acdghlmns=") ∷ begins (codes "-Wa,-acdghlnms=") ∷ begins (codes "-Wa,-ad=") ∷ begins (codes "-Wa,-adhl=") ∷ begins (codes "-Wa,-adhlm=") ∷ begins (codes "-Wa,-adhlmn=") ∷ begins (codes "-Wa,-adhlms=") ∷ begins (codes "-Wa,-adhlmsn=") ∷ begins (codes "-Wa,-adhln=") ∷ begins (codes "-Wa,-adhlnms=") ∷ begins (codes "-Wa,-adhlns=") ∷ begins (codes "-Wa,-adhls=") ∷ begins (codes "-Wa,-aghlms=") ∷ begins (codes "-Wa,-aghlns=") ∷ begins (codes "-Wa,-ah=") ∷ begins (codes "-Wa,-ahl=") ∷ begins (codes "-Wa,-ahld=") ∷ begins (codes "-Wa,-ahlds=") ∷ begins (codes "-Wa,-ahlm=") ∷ begins (codes "-Wa,-ahlms=") ∷ begins (codes "-Wa,-ahln=") ∷ begins (codes "-Wa,-ahlnd=") ∷ begins (codes "-Wa,-ahlns=") ∷ begins (codes "-Wa,-ahls=") ∷ begins (codes "-Wa,-al=") ∷ begins (codes "-Wa,-alh=") ∷ begins (codes "-Wa,-alhd=") ∷ begins (codes "-Wa,-alhms=") ∷ begins (codes "-Wa,-alhs=") ∷ begins (codes "-Wa,-alm=") ∷ begins (codes "-Wa,-almh=") ∷ begins (codes "-Wa,-alms=") ∷ begins (codes "-Wa,-aln=") ∷ begins (codes "-Wa,-als=") ∷ begins (codes "-Wa,-amhls=") ∷ begins (codes "-Wa,-an=") ∷ begins (codes "-Wa,-anhl=") ∷ begins (codes "-Wa,-anhlmsd=") ∷ begins (codes "-Wa,-as=") ∷ begins (codes "-Wa,-aslh=") ∷ begins (codes "-Wa,-a,-ad,-alms=") ∷ begins (codes "-Wa,-a,-ad,-ahlms=") ∷ begins (codes "-Wa,-a,-ad,-aln=") ∷ begins (codes "-Wa,-a,-ad,-as=") ∷ []) (holds (codes ",-D") ∷ holds (codes ",-E") ∷ holds (codes ",-F") ∷ holds (codes ",-I") ∷ holds (codes ",-J") ∷ holds (codes ",-K") ∷ holds (codes ",-L") ∷ holds (codes ",-M") ∷ holds (codes ",-N") ∷ holds (codes ",-O") ∷ holds (codes ",-R") ∷ holds (codes ",-V") ∷ holds (codes ",-W") ∷ holds (codes ",-X") ∷ holds (codes ",-Z") ∷ holds (codes ",-f") ∷ holds (codes ",-g") ∷ holds (codes ",-h") ∷ holds (codes ",-k") ∷ holds (codes ",-m") ∷ holds (codes ",-n") ∷ holds (codes ",-o") ∷ holds (codes ",-t") ∷ holds (codes ",-v") ∷ holds (codes ",-w") ∷ holds (codes ",-x") ∷ holds (codes ",-z") ∷ holds (codes ",--") ∷ holds (codes ",@") ∷ holds (codes ".lst,") ∷ holds (codes ".list,") ∷ holds (codes ".txt,") ∷ holds (codes ".s,") ∷ holds (codes ".S,") ∷ holds (codes ".asm,") ∷ [])) [] ∷ [])))) ∷ []) ∷
+    case (meant compiler.Gcc None None ∷ meant compiler.Clang None None ∷ []) (asked (Given (Any (unnamed (test class.Unknown (text (begins (codes "-Wa,-a=") ∷ begins (codes "-Wa,-ac=") ∷ begins (codes "-Wa,-acdghlmns=") ∷ begins (codes "-Wa,-acdghlnms=") ∷ begins (codes "-Wa,-ad=") ∷ begins (codes "-Wa,-adhl=") ∷ begins (codes "-Wa,-adhlm=") ∷ begins (codes "-Wa,-adhlmn=") ∷ begins (codes "-Wa,-adhlms=") ∷ begins (codes "-Wa,-adhlmsn=") ∷ begins (codes "-Wa,-adhln=") ∷ begins (codes "-Wa,-adhlnms=") ∷ begins (codes "-Wa,-adhlns=") ∷ begins (codes "-Wa,-adhls=") ∷ begins (codes "-Wa,-aghlms=") ∷ begins (codes "-Wa,-aghlns=") ∷ begins (codes "-Wa,-ah=") ∷ begins (codes "-Wa,-ahl=") ∷ begins (codes "-Wa,-ahld=") ∷ begins (codes "-Wa,-ahlds=") ∷ begins (codes "-Wa,-ahlm=") ∷ begins (codes "-Wa,-ahlms=") ∷ begins (codes "-Wa,-ahln=") ∷ begins (codes "-Wa,-ahlnd=") ∷ begins (codes "-Wa,-ahlns=") ∷ begins (codes "-Wa,-ahls=") ∷ begins (codes "-Wa,-al=") ∷ begins (codes "-Wa,-alh=") ∷ begins (codes "-Wa,-alhd=") ∷ begins (codes "-Wa,-alhms=") ∷ begins (codes "-Wa,-alhs=") ∷ begins (codes "-Wa,-alm=") ∷ begins (codes "-Wa,-almh=") ∷ begins (codes "-Wa,-alms=") ∷ begins (codes "-Wa,-aln=") ∷ begins (codes "-Wa,-als=") ∷ begins (codes "-Wa,-amhls=") ∷ begins (codes "-Wa,-an=") ∷ begins (codes "-Wa,-anhl=") ∷ begins (codes "-Wa,-anhlmsd=") ∷ begins (codes "-Wa,-as=") ∷ begins (codes "-Wa,-aslh=") ∷ []) (holds (codes "b,") ∷ holds (codes "c,") ∷ holds (codes "d,") ∷ holds (codes "e,") ∷ holds (codes "f,") ∷ holds (codes "g,") ∷ holds (codes "h,") ∷ holds (codes "i,") ∷ holds (codes "j,") ∷ holds (codes "k,") ∷ holds (codes "l,") ∷ holds (codes "m,") ∷ holds (codes "n,") ∷ holds (codes "o,") ∷ holds (codes "p,") ∷ holds (codes "q,") ∷ holds (codes "r,") ∷ holds (codes "s,") ∷ holds (codes "t,") ∷ holds (codes "u,") ∷ holds (codes "v,") ∷ holds (codes "w,") ∷ holds (codes "x,") ∷ holds (codes "y,") ∷ holds (codes "z,") ∷ holds (codes "0,") ∷ holds (codes "1,") ∷ holds (codes "2,") ∷ holds (codes "3,") ∷ holds (codes "4,") ∷ holds (codes "5,") ∷ holds (codes "6,") ∷ holds (codes "7,") ∷ holds (codes "8,") ∷ holds (codes "9,") ∷ holds (codes "S,") ∷ holds (codes ",@") ∷ [])) [] ∷ [])))) ∷ []) ∷
+    case (meant compiler.Gcc None None ∷ meant compiler.Clang None None ∷ []) (asked (Given (Any (unnamed (test class.Unknown (text (begins (codes "-Wa,-a,-ad,-alms=") ∷ begins (codes "-Wa,-a,-ad,-ahlms=") ∷ begins (codes "-Wa,-a,-ad,-aln=") ∷ begins (codes "-Wa,-a,-ad,-as=") ∷ []) (holds (codes "b,") ∷ holds (codes "c,") ∷ holds (codes "e,") ∷ holds (codes "f,") ∷ holds (codes "g,") ∷ holds (codes "h,") ∷ holds (codes "i,") ∷ holds (codes "j,") ∷ holds (codes "k,") ∷ holds (codes "l,") ∷ holds (codes "m,") ∷ holds (codes "n,") ∷ holds (codes "o,") ∷ holds (codes "p,") ∷ holds (codes "q,") ∷ holds (codes "r,") ∷ holds (codes "s,") ∷ holds (codes "t,") ∷ holds (codes "u,") ∷ holds (codes "v,") ∷ holds (codes "w,") ∷ holds (codes "x,") ∷ holds (codes "y,") ∷ holds (codes "z,") ∷ holds (codes ".d,") ∷ holds (codes "0,") ∷ holds (codes "1,") ∷ holds (codes "2,") ∷ holds (codes "3,") ∷ holds (codes "4,") ∷ holds (codes "5,") ∷ holds (codes "6,") ∷ holds (codes "7,") ∷ holds (codes "8,") ∷ holds (codes "9,") ∷ holds (codes "S,") ∷ holds (codes ",@") ∷ [])) [] ∷ [])))) ∷ []) ∷
     [])
 
 unfoldable pub assembler_dependencies_entry : Entry
 assembler_dependencies_entry = entry (Effect verb.Writes (codes "{value}")) (codes "assembler-dependencies")
     (codes "The assembler writes its dependency file.") (
-    case (meant compiler.Gcc None None ∷ meant compiler.Clang None None ∷ []) (asked (Given (Any (unnamed (test class.Unknown (text (begins (codes "-Wa,--MD=") ∷ []) (holds (codes ",-D") ∷ holds (codes ",-I") ∷ holds (codes ",-J") ∷ holds (codes ",-K") ∷ holds (codes ",-L") ∷ holds (codes ",-M") ∷ holds (codes ",-R") ∷ holds (codes ",-W") ∷ holds (codes ",-Z") ∷ holds (codes ",-a") ∷ holds (codes ",-f") ∷ holds (codes ",-g") ∷ holds (codes ",-m") ∷ holds (codes ",-n") ∷ holds (codes ",-o") ∷ holds (codes ",-v") ∷ holds (codes ",-w") ∷ holds (codes ",-x") ∷ holds (codes ",@") ∷ holds (codes ".d,") ∷ holds (codes ".dep,") ∷ holds (codes ".o,") ∷ [])) [] ∷ [])))) ∷ []) ∷
+    case (meant compiler.Gcc None None ∷ meant compiler.Clang None None ∷ []) (asked (Given (Any (unnamed (test class.Unknown (text (begins (codes "-Wa,--MD=") ∷ []) (holds (codes "b,") ∷ holds (codes "c,") ∷ holds (codes "d,") ∷ holds (codes "e,") ∷ holds (codes "f,") ∷ holds (codes "g,") ∷ holds (codes "h,") ∷ holds (codes "i,") ∷ holds (codes "j,") ∷ holds (codes "k,") ∷ holds (codes "l,") ∷ holds (codes "m,") ∷ holds (codes "n,") ∷ holds (codes "o,") ∷ holds (codes "p,") ∷ holds (codes "q,") ∷ holds (codes "r,") ∷ holds (codes "s,") ∷ holds (codes "t,") ∷ holds (codes "u,") ∷ holds (codes "v,") ∷ holds (codes "w,") ∷ holds (codes "x,") ∷ holds (codes "y,") ∷ holds (codes "z,") ∷ holds (codes "0,") ∷ holds (codes "1,") ∷ holds (codes "2,") ∷ holds (codes "3,") ∷ holds (codes "4,") ∷ holds (codes "5,") ∷ holds (codes "6,") ∷ holds (codes "7,") ∷ holds (codes "8,") ∷ holds (codes "9,") ∷ holds (codes "S,") ∷ holds (codes ",@") ∷ [])) [] ∷ [])))) ∷ []) ∷
     [])
 
 unfoldable pub handed_listing_entry : Entry

@@ -148,7 +148,7 @@ static ENTRY_COMMAND_RECORDED: Entry<'static> = entry! {
     Hazard Object b"command-recorded"
     b"The object records the built command."
     [(Clang) : {Given Last ([Unknown {Is b"-frecord-command-line" Is b"-frecord-gcc-switches"}]) ([Unknown {Is b"-fno-record-command-line" Is b"-fno-record-gcc-switches"}])} {not At Language Is b"assembler" Is b"assembler-with-cpp"}]
-    [(Clang) : {Given Any (part_1 DEBUG)} {Given Last ([Unknown {Is b"-grecord-command-line" Is b"-grecord-gcc-switches"}]) ([Unknown {Is b"-gno-record-command-line" Is b"-gno-record-gcc-switches"}])}]
+    [(Clang) : {Given Any (part_1 DEBUG)} {Given Last ([Unknown {Is b"-grecord-command-line" Is b"-grecord-gcc-switches"}]) ([Unknown {Is b"-gno-record-command-line" Is b"-gno-record-gcc-switches"}])} {not At Language Is b"assembler" Is b"assembler-with-cpp"}]
 };
 
 #[tactic(auto, unfolding(crate::specs::Part1::command_recorded_entry))]

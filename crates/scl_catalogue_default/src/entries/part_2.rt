@@ -121,7 +121,7 @@ static ENTRY_SEVERAL_DEVICE_OUTPUTS: Entry<'static> = entry! {
     b"The compilation has outputs for devices, which are named or marked otherwise."
     [(Clang) : {Given Any ([Unknown {Begins b"-fopenmp-targets="}])}]
     [(Clang) : {At Language Is b"cuda" Is b"hip"} {Given Any ([Unknown {Begins b"--cuda-device-only" Begins b"--offload-device-only" Begins b"-cuid=" Begins b"-fuse-cuid="}])}]
-    [(Clang) : {Given Any ([Unknown {Begins b"--cuda-gpu-arch=" Begins b"--offload-arch="}])} {not At Language Is b"cuda" Is b"hip"}]
+    [(Clang) : {Given Any ([Unknown {Begins b"--cuda-gpu-arch=" Begins b"--offload-arch="}])} {not At Language Is b"cuda" Is b"hip"} {Given Any ([Unknown {Begins b"-fopenmp" Begins b"-fsycl"}])}]
     [(Clang) : {At Language Is b"cuda" Is b"hip"} {Given Last ([Unknown {Is b"-fcuda-rdc" Is b"-fgpu-rdc"}]) ([Unknown {Is b"-fno-cuda-rdc" Is b"-fno-gpu-rdc"}])}]
 };
 
@@ -207,7 +207,10 @@ fn driver_mode_entry() -> Entry<'static>
 static ENTRY_OBJECTIVE_C_FLAG: Entry<'static> = entry! {
     Hazard Object b"objective-c-flag"
     b"The language that the built command states wins over the flag."
-    [(Clang) : {Given Any ([Unknown {Is b"-ObjC" Is b"-ObjC++"}])} {not Given Before (part_1 LANGUAGE) (part_1 INPUT)}]
+    [(Clang) : {Given Any ([Unknown {Is b"-ObjC"}])} {not Given Before (part_1 LANGUAGE) (part_1 INPUT)} {not At Language Is b"objective-c"}]
+    [(Clang) : {Given Any ([Unknown {Is b"-ObjC++"}])} {not Given Before (part_1 LANGUAGE) (part_1 INPUT)} {not At Language Is b"objective-c++"}]
+    [(Clang) : {Given Any (part_2 OBJC_FLAG)} {not Given Before (part_1 LANGUAGE) (part_1 INPUT)} {Given Last (part_3 UNUSED_FATAL) (part_3 UNUSED_NOT_FATAL)} {not Given Any (part_3 SILENT_UNUSED)} {not Given Last (part_4 UNUSED_OFF) (part_4 UNUSED_ON)}]
+    [(Clang) : {Given Any (part_2 OBJC_FLAG)} {not Given Before (part_1 LANGUAGE) (part_1 INPUT)} {Given Last (part_3 FATAL) (part_3 NOT_FATAL)} {not Given Any (part_3 SILENT_UNUSED)} {not Given Last (part_4 UNUSED_OFF) (part_4 UNUSED_ON)} {not Given Any (part_3 UNUSED_FATAL)} {not Given Any (part_3 UNUSED_NOT_FATAL)}]
 };
 
 #[tactic(auto, unfolding(crate::specs::Part2::objective_c_flag_entry))]

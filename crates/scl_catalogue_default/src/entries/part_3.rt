@@ -161,8 +161,8 @@ static ENTRY_QUOTED_TARGET: Entry<'static> = entry! {
     Hazard SideFile b"quoted-target"
     b"The target in the dependency file is not quoted."
     [(Gcc) (Clang) : {Is Preprocessed} {Given Any (part_2 NEED)} {Given Any (part_2 DEPENDENCY_RULES)} {At Object Holds b" " Holds b"\x09" Holds b"$" Holds b"#"} {not Given Any (part_2 TARGET)}]
-    [(Gcc) (Clang) : {Is Preprocessed} {Given Any (part_2 NEED)} {Given Any (part_2 OTHER_DEPENDENCIES)} {At Object Holds b" " Holds b"\x09" Holds b"$" Holds b"#"} {not Given Any (part_2 TARGET)}]
-    [(Gcc) (Clang) : {Is Preprocessed} {Given Any (part_2 NEED)} {Inner Any (part_2 INNER_DEPENDENCIES)} {At Object Holds b" " Holds b"\x09" Holds b"$" Holds b"#"} {not Given Any (part_2 TARGET)}]
+    [(Gcc) (Clang) : {Is Preprocessed} {Given Any (part_2 NEED)} {Given Any (part_3 OTHER_DEPENDENCIES)} {At Object Holds b" " Holds b"\x09" Holds b"$" Holds b"#"} {not Given Any (part_2 TARGET)}]
+    [(Gcc) (Clang) : {Is Preprocessed} {Given Any (part_2 NEED)} {Inner Any (part_3 INNER_DEPENDENCIES)} {At Object Holds b" " Holds b"\x09" Holds b"$" Holds b"#"} {not Given Any (part_2 TARGET)}]
 };
 
 #[tactic(auto, unfolding(crate::specs::Part3::quoted_target_entry))]
@@ -178,12 +178,12 @@ static ENTRY_TARGET_UNASKED: Entry<'static> = entry! {
     [(Gcc) : {Is Preprocessed} {Given Any (part_2 TARGET)} {not Given Any (part_2 NEED)} {Is OtherTarget}]
     [(Gcc) : {Is Preprocessed} {Given Any (part_2 TARGET)} {not Given Any (part_2 NEED)} {not Given Any (part_2 ASKED_DEPENDENCIES)}]
     [(Gcc) : {Is Preprocessed} {Given Any (part_2 TARGET)} {not Given Any (part_2 NEED)} {Given Any (part_2 HANDED_RULES)} {Is RenamedObject}]
-    [(Clang) : {Is Preprocessed} {Given Any (part_2 TARGET)} {Given Any (part_2 OTHER_DEPENDENCIES)} {not Given Any (part_2 NEED)} {Is OtherTarget}]
-    [(Gcc) (Clang) : {Is Preprocessed} {Given Any (part_2 TARGET)} {Given Any (part_2 OTHER_DEPENDENCIES)} {not Given Any (part_2 NEED)} {Given Two (part_2 TARGETS)}]
-    [(Gcc) (Clang) : {Is Preprocessed} {Given Any (part_2 TARGET)} {Given Any (part_2 OTHER_DEPENDENCIES)} {not Given Any (part_2 NEED)} {At Object Holds b" " Holds b"\x09" Holds b"$" Holds b"#"}]
-    [(Clang) : {Is Preprocessed} {Given Any (part_2 TARGET)} {Inner Any (part_2 INNER_DEPENDENCIES)} {not Given Any (part_2 NEED)}]
-    [(Clang) : {Given Any (part_2 TARGET)} {Given Last (part_3 UNUSED_FATAL) (part_3 UNUSED_NOT_FATAL)} {not Given Any (part_2 NEED)} {not Given Any (part_3 SILENT_UNUSED)} {not Given Last (part_3 UNUSED_OFF) (part_3 UNUSED_ON)}]
-    [(Clang) : {Given Any (part_2 TARGET)} {Given Last (part_3 FATAL) (part_3 NOT_FATAL)} {not Given Any (part_2 NEED)} {not Given Any (part_3 SILENT_UNUSED)} {not Given Last (part_3 UNUSED_OFF) (part_3 UNUSED_ON)} {not Given Any (part_3 UNUSED_FATAL)} {not Given Any (part_3 UNUSED_NOT_FATAL)}]
+    [(Clang) : {Is Preprocessed} {Given Any (part_2 TARGET)} {Given Any (part_3 OTHER_DEPENDENCIES)} {not Given Any (part_2 NEED)} {Is OtherTarget}]
+    [(Gcc) (Clang) : {Is Preprocessed} {Given Any (part_2 TARGET)} {Given Any (part_3 OTHER_DEPENDENCIES)} {not Given Any (part_2 NEED)} {Given Two (part_2 TARGETS)}]
+    [(Gcc) (Clang) : {Is Preprocessed} {Given Any (part_2 TARGET)} {Given Any (part_3 OTHER_DEPENDENCIES)} {not Given Any (part_2 NEED)} {At Object Holds b" " Holds b"\x09" Holds b"$" Holds b"#"}]
+    [(Clang) : {Is Preprocessed} {Given Any (part_2 TARGET)} {Inner Any (part_3 INNER_DEPENDENCIES)} {not Given Any (part_2 NEED)}]
+    [(Clang) : {Given Any (part_2 TARGET)} {Given Last (part_3 UNUSED_FATAL) (part_3 UNUSED_NOT_FATAL)} {not Given Any (part_2 NEED)} {not Given Any (part_3 SILENT_UNUSED)} {not Given Last (part_4 UNUSED_OFF) (part_4 UNUSED_ON)}]
+    [(Clang) : {Given Any (part_2 TARGET)} {Given Last (part_3 FATAL) (part_3 NOT_FATAL)} {not Given Any (part_2 NEED)} {not Given Any (part_3 SILENT_UNUSED)} {not Given Last (part_4 UNUSED_OFF) (part_4 UNUSED_ON)} {not Given Any (part_3 UNUSED_FATAL)} {not Given Any (part_3 UNUSED_NOT_FATAL)}]
 };
 
 #[tactic(auto, unfolding(crate::specs::Part3::target_unasked_entry))]
@@ -237,7 +237,8 @@ fn joined_dependency_file_entry() -> Entry<'static>
 static ENTRY_DEPENDENCY_FILE_HANDED_ON: Entry<'static> = entry! {
     Hazard SideFile b"dependency-file-handed-on"
     b"Another dependency file is written than the one that is passed on to the preprocessor."
-    [(Clang) : {Is Preprocessed} {Given Any ([Kind {Is b"need-dep-target" Is b"dep-argument-path"}])} {Given Any ([Flag {Is b"-Wp" Is b"-Xpreprocessor"} {Part Is b"-MD" Is b"-MMD" Is b"-MF"}])}]
+    [(Clang) : {Is Preprocessed} {Given Any (part_2 HANDED_FILE)} {Given Any (part_2 NEED)} {not Given Any (part_2 DEPENDENCY_FILE)}]
+    [(Clang) : {Is Preprocessed} {Given Last (part_2 HANDED_FILE) (part_2 DEPENDENCY_FILE)} {Given Any (part_2 DEPENDENCY_FILE)}]
 };
 
 #[tactic(auto, unfolding(crate::specs::Part3::dependency_file_handed_on_entry))]

@@ -35,8 +35,8 @@ fn color_value_unknown_entry() -> Entry<'static>
 static ENTRY_UNUSED_WORDS_FOR_ASSEMBLER: Entry<'static> = entry! {
     Hazard Failure b"unused-words-for-assembler"
     b"Clang stops at the added words, which it does not use for assembler."
-    [(Clang) : {At Language Is b"assembler"} {Given Last (part_3 UNUSED_FATAL) (part_3 UNUSED_NOT_FATAL)} {not Given Any (part_3 SILENT_UNUSED)} {not Given Last (part_3 UNUSED_OFF) (part_3 UNUSED_ON)}]
-    [(Clang) : {At Language Is b"assembler"} {Given Last (part_3 FATAL) (part_3 NOT_FATAL)} {not Given Any (part_3 SILENT_UNUSED)} {not Given Last (part_3 UNUSED_OFF) (part_3 UNUSED_ON)} {not Given Any (part_3 UNUSED_FATAL)} {not Given Any (part_3 UNUSED_NOT_FATAL)}]
+    [(Clang) : {At Language Is b"assembler"} {Given Last (part_3 UNUSED_FATAL) (part_3 UNUSED_NOT_FATAL)} {not Given Any (part_3 SILENT_UNUSED)} {not Given Last (part_4 UNUSED_OFF) (part_4 UNUSED_ON)}]
+    [(Clang) : {At Language Is b"assembler"} {Given Last (part_3 FATAL) (part_3 NOT_FATAL)} {not Given Any (part_3 SILENT_UNUSED)} {not Given Last (part_4 UNUSED_OFF) (part_4 UNUSED_ON)} {not Given Any (part_3 UNUSED_FATAL)} {not Given Any (part_3 UNUSED_NOT_FATAL)}]
 };
 
 #[tactic(auto, unfolding(crate::specs::Part4::unused_words_for_assembler_entry))]
@@ -49,8 +49,8 @@ fn unused_words_for_assembler_entry() -> Entry<'static>
 static ENTRY_UNUSED_DEPENDENCY_WORDS: Entry<'static> = entry! {
     Hazard Failure b"unused-dependency-words"
     b"Clang stops at the added words about dependencies, since no dependency file is asked for."
-    [(Clang) : {Is Preprocessed} {Given Any (part_2 NEED)} {Given Last (part_3 UNUSED_FATAL) (part_3 UNUSED_NOT_FATAL)} {not Given Any (part_2 DEPENDENCY_RULES)} {not Given Any (part_3 SILENT_UNUSED)} {not Given Last (part_3 UNUSED_OFF) (part_3 UNUSED_ON)}]
-    [(Clang) : {Is Preprocessed} {Given Any (part_2 NEED)} {Given Last (part_3 FATAL) (part_3 NOT_FATAL)} {not Given Any (part_2 DEPENDENCY_RULES)} {not Given Any (part_3 SILENT_UNUSED)} {not Given Last (part_3 UNUSED_OFF) (part_3 UNUSED_ON)} {not Given Any (part_3 UNUSED_FATAL)} {not Given Any (part_3 UNUSED_NOT_FATAL)}]
+    [(Clang) : {Is Preprocessed} {Given Any (part_2 NEED)} {Given Last (part_3 UNUSED_FATAL) (part_3 UNUSED_NOT_FATAL)} {not Given Any (part_2 DEPENDENCY_RULES)} {not Given Any (part_3 SILENT_UNUSED)} {not Given Last (part_4 UNUSED_OFF) (part_4 UNUSED_ON)}]
+    [(Clang) : {Is Preprocessed} {Given Any (part_2 NEED)} {Given Last (part_3 FATAL) (part_3 NOT_FATAL)} {not Given Any (part_2 DEPENDENCY_RULES)} {not Given Any (part_3 SILENT_UNUSED)} {not Given Last (part_4 UNUSED_OFF) (part_4 UNUSED_ON)} {not Given Any (part_3 UNUSED_FATAL)} {not Given Any (part_3 UNUSED_NOT_FATAL)}]
 };
 
 #[tactic(auto, unfolding(crate::specs::Part4::unused_dependency_words_entry))]
@@ -63,8 +63,8 @@ fn unused_dependency_words_entry() -> Entry<'static>
 static ENTRY_UNUSED_WORDS_BLOCK: Entry<'static> = entry! {
     Hazard Failure b"unused-words-block"
     b"Words leave or enter the block in which clang lets unused words pass."
-    [(Clang) : {Given Any (part_4 UNUSED_BLOCK)} {Given Last (part_3 UNUSED_FATAL) (part_3 UNUSED_NOT_FATAL)} {not Given Any (part_3 SILENT_UNUSED)} {not Given Last (part_3 UNUSED_OFF) (part_3 UNUSED_ON)}]
-    [(Clang) : {Given Any (part_4 UNUSED_BLOCK)} {Given Last (part_3 FATAL) (part_3 NOT_FATAL)} {not Given Any (part_3 SILENT_UNUSED)} {not Given Last (part_3 UNUSED_OFF) (part_3 UNUSED_ON)} {not Given Any (part_3 UNUSED_FATAL)} {not Given Any (part_3 UNUSED_NOT_FATAL)}]
+    [(Clang) : {Given Any (part_4 UNUSED_BLOCK)} {Given Last (part_3 UNUSED_FATAL) (part_3 UNUSED_NOT_FATAL)} {not Given Any (part_3 SILENT_UNUSED)} {not Given Last (part_4 UNUSED_OFF) (part_4 UNUSED_ON)}]
+    [(Clang) : {Given Any (part_4 UNUSED_BLOCK)} {Given Last (part_3 FATAL) (part_3 NOT_FATAL)} {not Given Any (part_3 SILENT_UNUSED)} {not Given Last (part_4 UNUSED_OFF) (part_4 UNUSED_ON)} {not Given Any (part_3 UNUSED_FATAL)} {not Given Any (part_3 UNUSED_NOT_FATAL)}]
 };
 
 #[tactic(auto, unfolding(crate::specs::Part4::unused_words_block_entry))]
@@ -81,6 +81,7 @@ static ENTRY_DIAGNOSTICS_FILE: Entry<'static> = entry! {
     [(Clang) : {Given Any (part_3 DIAGNOSTICS_FILE)} {Is Plusplus} {At Extension Is b"c"} {not Given Any (part_1 LANGUAGE)}]
     [(Clang) : {Given Any (part_3 DIAGNOSTICS_FILE)} {Given Any (part_2 NEED)} {not Given Any (part_2 DEPENDENCY_RULES)}]
     [(Clang) : {Given Any (part_3 DIAGNOSTICS_FILE)} {Given Any (part_2 TARGET)} {not Given Any (part_2 NEED)}]
+    [(Clang) : {Given Any (part_3 DIAGNOSTICS_FILE)} {Given Any (part_2 OBJC_FLAG)} {not Given Before (part_1 LANGUAGE) (part_1 INPUT)}]
     [(Clang) : {Given Any (part_3 DIAGNOSTICS_FILE)} {Given Before ([Unknown {Begins b""}] [Kind {Is b"pass-through" Is b"pass-through-path"}]) ([Flag {Is b"-imultilib" Is b"-stdlib"}])}]
     [(Clang) : {Given Any (part_3 DIAGNOSTICS_FILE)} {Given Before (part_3 UNUSED) ([Flag {Is b"-fno-working-directory" Is b"-remap"}])}]
     [(Clang) : {Given Any (part_3 DIAGNOSTICS_FILE)} {Given Before (part_3 UNUSED) (part_2 DEPENDENCY_FILE)} {not Given Any (part_2 DEPENDENCY_RULES)}]
@@ -150,12 +151,13 @@ fn c_as_cxx_unsaid_entry() -> Entry<'static>
 static ENTRY_UNUSED_WORDS_SAID: Entry<'static> = entry! {
     Hazard Messages b"unused-words-said"
     b"Clang warns of other words as unused."
-    [(Clang) : {At Language Is b"assembler"} {not Given Any (part_2 COLOR)} {not Given Any (part_3 SILENT_UNUSED)} {not Given Last (part_3 UNUSED_OFF) (part_3 UNUSED_ON)}]
-    [(Clang) : {At Language Is b"assembler"} {Given Two (part_2 COLOR)} {not Given Any (part_3 SILENT_UNUSED)} {not Given Last (part_3 UNUSED_OFF) (part_3 UNUSED_ON)}]
-    [(Clang) : {At Language Is b"assembler"} {Given Any ([Kind {Is b"diagnostics-color"} {Value Begins b"" ; Is b"always"}] [Kind {Is b"diagnostics-color-flag"}])} {not Given Any (part_3 SILENT_UNUSED)} {not Given Last (part_3 UNUSED_OFF) (part_3 UNUSED_ON)}]
-    [(Clang) : {At Language Is b"assembler"} {Given Any (part_1 SPLIT)} {not Given Any (part_3 SILENT_UNUSED)} {not Given Last (part_3 UNUSED_OFF) (part_3 UNUSED_ON)}]
-    [(Clang) : {Is Preprocessed} {Given Any (part_2 NEED)} {not Given Any (part_2 USING_TARGET)} {not Given Any (part_3 SILENT_UNUSED)} {not Given Last (part_3 UNUSED_OFF) (part_3 UNUSED_ON)}]
-    [(Clang) : {Given Any (part_2 TARGET)} {not Given Any (part_2 NEED)} {not Given Any (part_2 USING_TARGET)} {not Given Any (part_3 SILENT_UNUSED)} {not Given Last (part_3 UNUSED_OFF) (part_3 UNUSED_ON)}]
+    [(Clang) : {At Language Is b"assembler"} {not Given Any (part_2 COLOR)} {not Given Any (part_3 SILENT_UNUSED)} {not Given Last (part_4 UNUSED_OFF) (part_4 UNUSED_ON)}]
+    [(Clang) : {At Language Is b"assembler"} {Given Two (part_2 COLOR)} {not Given Any (part_3 SILENT_UNUSED)} {not Given Last (part_4 UNUSED_OFF) (part_4 UNUSED_ON)}]
+    [(Clang) : {At Language Is b"assembler"} {Given Any ([Kind {Is b"diagnostics-color"} {Value Begins b"" ; Is b"always"}] [Kind {Is b"diagnostics-color-flag"}])} {not Given Any (part_3 SILENT_UNUSED)} {not Given Last (part_4 UNUSED_OFF) (part_4 UNUSED_ON)}]
+    [(Clang) : {At Language Is b"assembler"} {Given Any (part_1 SPLIT)} {not Given Any (part_3 SILENT_UNUSED)} {not Given Last (part_4 UNUSED_OFF) (part_4 UNUSED_ON)}]
+    [(Clang) : {Is Preprocessed} {Given Any (part_2 NEED)} {not Given Any (part_2 USING_TARGET)} {not Given Any (part_3 SILENT_UNUSED)} {not Given Last (part_4 UNUSED_OFF) (part_4 UNUSED_ON)}]
+    [(Clang) : {Given Any (part_2 TARGET)} {not Given Any (part_2 NEED)} {not Given Any (part_2 USING_TARGET)} {not Given Any (part_3 SILENT_UNUSED)} {not Given Last (part_4 UNUSED_OFF) (part_4 UNUSED_ON)}]
+    [(Clang) : {Given Any (part_2 OBJC_FLAG)} {not Given Before (part_1 LANGUAGE) (part_1 INPUT)} {not Given Any (part_3 SILENT_UNUSED)} {not Given Last (part_4 UNUSED_OFF) (part_4 UNUSED_ON)}]
 };
 
 #[tactic(auto, unfolding(crate::specs::Part4::unused_words_said_entry))]

@@ -78,8 +78,8 @@ static ENTRY_UNUSED_WORDS_DROPPED: Entry<'static> = entry! {
     b"Clang-cl stops at words that the built command lacks."
     [(ClangCl) : {Given Any ([Flag {Is b"/deps"}])}]
     [(ClangCl) : {Given Any (part_4 CL_FATAL)} {Given Any ([Flag {Is b"-deps"}])}]
-    [(ClangCl) : {Given Any (part_4 CL_DROPPED)} {Given Last (part_3 UNUSED_FATAL) (part_3 UNUSED_NOT_FATAL)} {not Given Any (part_4 CL_SILENT)} {not Given Last (part_3 UNUSED_OFF) (part_3 UNUSED_ON)}]
-    [(ClangCl) : {Given Any (part_4 CL_DROPPED)} {Given Last ([Flag {Is b"-WX" Is b"/WX"}] [Unknown {Is b"-Werror"}]) ([Flag {Is b"-WX-" Is b"/WX-"}] [Unknown {Is b"-Wno-error"}])} {not Given Any (part_4 CL_SILENT)} {not Given Last (part_3 UNUSED_OFF) (part_3 UNUSED_ON)} {not Given Any (part_3 UNUSED_FATAL)} {not Given Any (part_3 UNUSED_NOT_FATAL)}]
+    [(ClangCl) : {Given Any (part_4 CL_DROPPED)} {Given Last (part_3 UNUSED_FATAL) (part_3 UNUSED_NOT_FATAL)} {not Given Any (part_4 CL_SILENT)} {not Given Last (part_4 UNUSED_OFF) (part_4 UNUSED_ON)}]
+    [(ClangCl) : {Given Any (part_4 CL_DROPPED)} {Given Last ([Flag {Is b"-WX" Is b"/WX"}] [Unknown {Is b"-Werror"}]) ([Flag {Is b"-WX-" Is b"/WX-"}] [Unknown {Is b"-Wno-error"}])} {not Given Any (part_4 CL_SILENT)} {not Given Last (part_4 UNUSED_OFF) (part_4 UNUSED_ON)} {not Given Any (part_3 UNUSED_FATAL)} {not Given Any (part_3 UNUSED_NOT_FATAL)}]
 };
 
 #[tactic(auto, unfolding(crate::specs::Part5::unused_words_dropped_entry))]

@@ -74,7 +74,7 @@ fn header_compiled_before_entry() -> Entry<'static>
 static ENTRY_FILE_OF_MAPPED_NAME: Entry<'static> = entry! {
     Effect Reads b"*" b"file-of-mapped-name"
     b"The checksum in notes of coverage is that of a file of the mapped name, if there is one."
-    [(Clang) : {Given Any ([Unknown {Begins b"-fdebug-prefix-map=" Begins b"-ffile-prefix-map="}])} {Given Any (part_4 NOTES)}]
+    [(Clang) : {Given Any ([Unknown {Begins b"-fdebug-prefix-map=" Begins b"-ffile-prefix-map="}])} {Given Any (part_5 NOTES)}]
 };
 
 #[tactic(auto, unfolding(crate::specs::Part6::file_of_mapped_name_entry))]
@@ -196,7 +196,7 @@ fn optimization_remarks_entry() -> Entry<'static>
 static ENTRY_COUNTS_REMOVED: Entry<'static> = entry! {
     Effect Writes b"{object-stem}.gcda*" b"counts-removed"
     b"With a seed that a word names, the counts of earlier runs beside the object are removed."
-    [(Gcc) : {Given Any (part_4 NOTES)} {Given Any ([Unknown {Begins b"-frandom-seed="}])}]
+    [(Gcc) : {Given Any (part_5 NOTES)} {Given Any ([Unknown {Begins b"-frandom-seed="}])}]
 };
 
 #[tactic(auto, unfolding(crate::specs::Part6::counts_removed_entry))]

@@ -157,9 +157,9 @@ fn folder_in_debug_information_entry() -> Entry<'static>
 static ENTRY_FOLDER_OF_COUNTS: Entry<'static> = entry! {
     Effect Asks b"directory" b"folder-of-counts"
     b"The object or its notes hold the folder where the compiler runs."
-    [(Gcc) (Clang) : {Given Any (part_4 COUNTING)}]
+    [(Gcc) (Clang) : {Given Any (part_5 COUNTING)}]
     [(ClangCl) : {Given Any ([Unknown {Is b"-coverage" Is b"--coverage" Begins b"-fprofile-generate" Begins b"-fprofile-instr-generate" Begins b"-fcs-profile-generate"}])}]
-    [(ClangCl) : {Inner Any (part_4 COUNTING)}]
+    [(ClangCl) : {Inner Any (part_5 COUNTING)}]
 };
 
 #[tactic(auto, unfolding(crate::specs::Part8::folder_of_counts_entry))]

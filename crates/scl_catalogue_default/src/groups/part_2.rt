@@ -62,6 +62,16 @@ pub(crate) const HANDED_RULES: Group<'static> = group! {
     [Flag {Is b"-Wp" Is b"-Xpreprocessor"} {Part Is b"-MD" Is b"-MMD"}]
 };
 
+pub(crate) const OBJC_FLAG: Group<'static> = group! {
+    b"OBJC_FLAG"
+    [Unknown {Is b"-ObjC" Is b"-ObjC++"}]
+};
+
+pub(crate) const HANDED_FILE: Group<'static> = group! {
+    b"HANDED_FILE"
+    [Flag {Is b"-Wp" Is b"-Xpreprocessor"} {Part Is b"-MD" Is b"-MMD" Is b"-MF"}]
+};
+
 pub(crate) const HANDED_TARGET: Group<'static> = group! {
     b"HANDED_TARGET"
     [Flag {Is b"-Wp" Is b"-Xpreprocessor"} {Part Is b"-MT" Is b"-MQ"}]
@@ -88,15 +98,4 @@ pub(crate) const USING_TARGET: Group<'static> = group! {
     [Unknown {Begins b"--write-" Begins b"--dependencies" Begins b"--user-dependencies"}]
     [Flag {Is b"-MD" Is b"-MMD"}]
     [Flag {Is b"-Wp"} {Part Is b"-M" Is b"-MM" Is b"-MD" Is b"-MMD"}]
-};
-
-pub(crate) const OTHER_DEPENDENCIES: Group<'static> = group! {
-    b"OTHER_DEPENDENCIES"
-    [Unknown {Begins b"--write-" Begins b"--dependencies" Begins b"--user-dependencies"}]
-    [Flag {Is b"-Wp" Is b"-Xpreprocessor"} {Part Begins b"-M"}]
-};
-
-pub(crate) const INNER_DEPENDENCIES: Group<'static> = group! {
-    b"INNER_DEPENDENCIES"
-    [Kind {Is b"need-dep-target" Is b"dep-argument-path"}]
 };

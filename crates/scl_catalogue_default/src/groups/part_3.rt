@@ -1,6 +1,17 @@
 //! Groups of the catalogue that is built in; `catalogue/build` writes them.
 use scl_catalogue::Group;
 
+pub(crate) const OTHER_DEPENDENCIES: Group<'static> = group! {
+    b"OTHER_DEPENDENCIES"
+    [Unknown {Begins b"--write-" Begins b"--dependencies" Begins b"--user-dependencies"}]
+    [Flag {Is b"-Wp" Is b"-Xpreprocessor"} {Part Begins b"-M"}]
+};
+
+pub(crate) const INNER_DEPENDENCIES: Group<'static> = group! {
+    b"INNER_DEPENDENCIES"
+    [Kind {Is b"need-dep-target" Is b"dep-argument-path"}]
+};
+
 pub(crate) const DIAGNOSTICS_FILE: Group<'static> = group! {
     b"DIAGNOSTICS_FILE"
     [Flag {Is b"--serialize-diagnostics"}]
@@ -80,14 +91,4 @@ pub(crate) const UNUSED_FATAL: Group<'static> = group! {
 pub(crate) const UNUSED_NOT_FATAL: Group<'static> = group! {
     b"UNUSED_NOT_FATAL"
     [Unknown {Is b"-Wno-error=unused-command-line-argument"}]
-};
-
-pub(crate) const UNUSED_OFF: Group<'static> = group! {
-    b"UNUSED_OFF"
-    [Unknown {Is b"-Wno-unused-command-line-argument" Is b"-Wno-everything"}]
-};
-
-pub(crate) const UNUSED_ON: Group<'static> = group! {
-    b"UNUSED_ON"
-    [Unknown {Is b"-Wunused-command-line-argument" Is b"-Weverything" Is b"-Werror=unused-command-line-argument"}]
 };

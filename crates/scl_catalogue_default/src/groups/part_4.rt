@@ -1,6 +1,16 @@
 //! Groups of the catalogue that is built in; `catalogue/build` writes them.
 use scl_catalogue::Group;
 
+pub(crate) const UNUSED_OFF: Group<'static> = group! {
+    b"UNUSED_OFF"
+    [Unknown {Is b"-Wno-unused-command-line-argument" Is b"-Wno-everything"}]
+};
+
+pub(crate) const UNUSED_ON: Group<'static> = group! {
+    b"UNUSED_ON"
+    [Unknown {Is b"-Wunused-command-line-argument" Is b"-Weverything" Is b"-Werror=unused-command-line-argument"}]
+};
+
 pub(crate) const UNUSED_BLOCK: Group<'static> = group! {
     b"UNUSED_BLOCK"
     [Unknown {Is b"--start-no-unused-arguments" Is b"--end-no-unused-arguments"}]
@@ -85,16 +95,4 @@ pub(crate) const DEBUGGING: Group<'static> = group! {
 pub(crate) const NOT_DEBUGGING: Group<'static> = group! {
     b"NOT_DEBUGGING"
     [Unknown {Is b"-g0" Is b"-ggdb0" Is b"-gstabs0" Is b"-gxcoff0" Is b"-gvms0" Is b"--debug=0"}]
-};
-
-pub(crate) const COUNTING: Group<'static> = group! {
-    b"COUNTING"
-    [Kind {Is b"coverage" Is b"test-coverage" Is b"profile-generate"}]
-    [Unknown {Is b"-coverage" Begins b"-fprofile-generate=" Begins b"-fprofile-instr-generate=" Is b"-fcs-profile-generate" Begins b"-fcs-profile-generate=" Is b"-fcoverage-mapping"}]
-};
-
-pub(crate) const NOTES: Group<'static> = group! {
-    b"NOTES"
-    [Kind {Is b"coverage" Is b"test-coverage"}]
-    [Unknown {Is b"-coverage"}]
 };
