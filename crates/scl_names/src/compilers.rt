@@ -1,8 +1,8 @@
 //! The names of compilers.
 ghost use Rattle.std.specs.Prelude.{◌≡◌, IfOk, map};
-ghost use Rattle.scl_names.specs.Names.{entry_of, names, is_open, stands, fits, compiler_named, compiler_of};
+ghost use Rattle.scl_names.specs.Names.{entry_of, names, is_open, before_number, stands, fits, compiler_named, compiler_of};
 
-use crate::file_name::stem_of;
+use crate::file_name::{stem_of, without_number};
 use scl_reader::{Compiler, Mem};
 use std::alloc::Global;
 
@@ -13,6 +13,8 @@ pub(crate) enum Standing {
     Alone,
     /// By itself, or after a prefix that ends in `-`, such as `x86_64-linux-gnu-gcc`.
     Prefixed,
+    /// The same, and digits may follow it, such as FreeBSD's `gcc12`.
+    Numbered,
 }
 
 /// A name, and its compiler.
@@ -30,11 +32,13 @@ macro_rules! names {
 
 /// The known names. No program matches two of them.
 static NAMES: &[Name] = &names![
-    "clang-cl" Prefixed ClangCl,
-    "clang++" Prefixed Clangxx,
-    "clang" Prefixed Clang,
-    "g++" Prefixed Gxx,
-    "gcc" Prefixed Gcc,
+    "clang-cl" Numbered ClangCl,
+    "clang++" Numbered Clangxx,
+    "clang" Numbered Clang,
+    "amdclang++" Prefixed Clangxx,
+    "amdclang" Prefixed Clang,
+    "g++" Numbered Gxx,
+    "gcc" Numbered Gcc,
     "c++" Prefixed Gxx,
     "cc" Prefixed Gcc,
     "cl" Alone Cl,
@@ -56,21 +60,32 @@ fn is_open(before: &[u8]) -> bool
 }
 
 impl Standing {
+    /// What a name that is used so ends: the whole, or what stands before its digits.
+    fn numbered_part(self, stem: &[u8]) -> &[u8]
+        ensures { result.now ≡ before_number self stem.now }
+    {
+        match self {
+            Standing::Alone | Standing::Prefixed => stem,
+            Standing::Numbered => without_number(stem),
+        }
+    }
+
     /// Whether a name that is used so may follow this.
     fn is_behind(self, before: &[u8]) -> bool
         ensures { result ≡ stands self before.now }
     {
         match self {
             Standing::Alone => before.is_empty(),
-            Standing::Prefixed => is_open(before),
+            Standing::Prefixed | Standing::Numbered => is_open(before),
         }
     }
 }
 
+#[tactic(auto, unfolding(crate::specs::Names::fits))]
 fn fits(name: &Name, stem: &[u8]) -> bool
     ensures { result ≡ fits stem.now (entry_of name.now) }
 {
-    match stem.strip_suffix(name.text.as_bytes()) {
+    match name.standing.numbered_part(stem).strip_suffix(name.text.as_bytes()) {
         Some(before) => name.standing.is_behind(before),
         None => false,
     }
@@ -89,9 +104,11 @@ fn compiler_named(stem: &[u8]) -> Option<Compiler>
 }
 
 /// The compiler of a program, by its path, if the name is known. The name is what follows the last `/` or `\`, without `.exe`
-/// (in any case; the name is then compared in lower case) and without a version such as `-18` or `-4.9.2`. The names:
+/// (in any case; the name is then compared in lower case), without a version such as `-18` or `-4.9.2`, and without a variant:
+/// `-posix`, `-win32`, `-mp`. The names:
 ///
-/// - by themselves or after a prefix that ends in `-`: `clang-cl`, `clang++`, `clang`, `g++`, `gcc`, `c++` (g++), `cc` (gcc);
+/// - by themselves or after a prefix that ends in `-`, and before digits: `clang-cl`, `clang++`, `clang`, `g++`, `gcc`;
+/// - by themselves or after such a prefix: `amdclang++`, `amdclang`, `c++` (g++), `cc` (gcc);
 /// - only by themselves: `cl`, `dcc` (Diab), `cctc` (TaskingVX).
 pub fn compiler_of(alloc: Global, program: &[u8]) -> Mem<Option<Compiler>>
     ensures { IfOk result (λ compiler. compiler ≡ compiler_of program.now) }

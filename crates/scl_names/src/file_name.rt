@@ -1,7 +1,7 @@
 //! The name of a program, from its path.
 ghost use Rattle.std.specs.Prelude.{◌≡◌, ◌+◌, ◌||◌, ◌==◌, IfOk, length, not, nat_eq, codes};
 ghost use Rattle.std.specs.List.{suffix_len, list_all, list_any, ends_with};
-ghost use Rattle.scl_names.specs.FileNames.{is_at, is_digit, is_version, file_name_of, without_exe, without_version, stem_of};
+ghost use Rattle.scl_names.specs.FileNames.{is_at, is_digit, is_version, file_name_of, without_exe, without_number, is_variant, is_ending, without_ending, stem_of};
 
 use scl_reader::Mem;
 use std::alloc::Global;
@@ -11,8 +11,10 @@ use std::alloc::Global;
 pub(crate) enum Mark {
     /// `/` and `\`, between the folders of a path.
     Separator,
-    /// `-`, before a version.
+    /// `-`, before a version or a variant.
     Dash,
+    /// All but digits.
+    NoDigit,
 }
 
 impl Mark {
@@ -22,6 +24,7 @@ impl Mark {
         match self {
             Mark::Separator => byte == b'/' || byte == b'\\',
             Mark::Dash => byte == b'-',
+            Mark::NoDigit => !is_digit(byte),
         }
     }
 }
@@ -67,11 +70,31 @@ fn is_version(text: &[u8]) -> bool
     has_digit(text) && has_digits_and_dots_alone(text)
 }
 
-fn without_version(name: &[u8]) -> &[u8]
-    ensures { result.now ≡ without_version name.now }
+/// A name without the digits at its end.
+pub(crate) fn without_number(name: &[u8]) -> &[u8]
+    ensures { result.now ≡ without_number name.now }
+{
+    &name[..behind_last(Mark::NoDigit, name)]
+}
+
+/// Whether it says how a compiler was built: the threads of MinGW, or by MacPorts.
+fn is_variant(text: &[u8]) -> bool
+    ensures { result ≡ is_variant text.now }
+{
+    text == b"posix".as_slice() || text == b"win32".as_slice() || text == b"mp".as_slice()
+}
+
+fn is_ending(text: &[u8]) -> bool
+    ensures { result ≡ is_ending text.now }
+{
+    is_version(text) || is_variant(text)
+}
+
+fn without_ending(name: &[u8]) -> &[u8]
+    ensures { result.now ≡ without_ending name.now }
 {
     let at = behind_last(Mark::Dash, name);
-    if at > 0 && is_version(&name[at..]) {
+    if at > 0 && is_ending(&name[at..]) {
         &name[..at - 1]
     } else {
         name
@@ -96,13 +119,20 @@ fn without_exe(alloc: Global, name: &[u8]) -> Mem<Vec<u8>>
     }
 }
 
-/// The name of a program, by its path: without folders, without `.exe` (in any case; then in lower case), and without a
-/// version.
+/// A name without its version or variant, if it has one.
+fn cut_ending(mut name: Vec<u8>) -> Vec<u8>
+    ensures { result.items ≡ without_ending name.items }
+{
+    let length = without_ending(&name).len();
+    name.truncate(length);
+    name
+}
+
+/// The name of a program, by its path: without folders, without `.exe` (in any case; then in lower case), and without version
+/// and variant.
 pub(crate) fn stem_of(alloc: Global, program: &[u8]) -> Mem<Vec<u8>>
     ensures { IfOk result (λ stem. stem.items ≡ stem_of program.now) }
 {
-    let mut name = without_exe(alloc, file_name_of(program))?;
-    let length = without_version(&name).len();
-    name.truncate(length);
-    Ok(name)
+    let name = without_exe(alloc, file_name_of(program))?;
+    Ok(cut_ending(cut_ending(name)))
 }

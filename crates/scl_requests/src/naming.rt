@@ -13,7 +13,6 @@ use scl_names::{compiler_of, program_at};
 use std::alloc::Global;
 
 /// The compiler that the word at an index names.
-#[tactic(auto, using(crate::proofs::NamingLaws::word_at))]
 fn compiler_at(alloc: Global, words: &[Vec<u8>], at: Option<usize>) -> Mem<Option<Compiler>>
     ensures { IfOk result (λ compiler. compiler ≡ compiler_at (words_of words.now) at) }
 {
