@@ -85,7 +85,11 @@ impl Standing {
 fn fits(name: &Name, stem: &[u8]) -> bool
     ensures { result ≡ fits stem.now (entry_of name.now) }
 {
-    match name.standing.numbered_part(stem).strip_suffix(name.text.as_bytes()) {
+    match name
+        .standing
+        .numbered_part(stem)
+        .strip_suffix(name.text.as_bytes())
+    {
         Some(before) => name.standing.is_behind(before),
         None => false,
     }
