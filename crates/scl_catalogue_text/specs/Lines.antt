@@ -24,14 +24,14 @@ pub data Said : Type 0 where
 unfoldable pub hazard_read : List (List ℕ) → Result Said Mistake
 hazard_read [] = Err mistake.WrongEntry
 hazard_read (name ∷ []) = Err mistake.WrongEntry
-hazard_read (name ∷ danger ∷ []) = after (or_mistake mistake.WrongEntry (danger_named danger)) (λ d. Ok (NewEntry (Hazard d) name))
+hazard_read (name ∷ danger ∷ []) = after (or_mistake mistake.UnknownDanger (danger_named danger)) (λ d. Ok (NewEntry (Hazard d) name))
 hazard_read (name ∷ danger ∷ other ∷ more) = Err mistake.WrongEntry
 
 unfoldable pub effect_read : List (List ℕ) → Result Said Mistake
 effect_read [] = Err mistake.WrongEntry
 effect_read (name ∷ []) = Err mistake.WrongEntry
 effect_read (name ∷ verb ∷ []) = Err mistake.WrongEntry
-effect_read (name ∷ verb ∷ file ∷ []) = after (or_mistake mistake.WrongEntry (verb_named verb)) (λ v. after (file_read file) (λ _. Ok (NewEntry (Effect v file) name)))
+effect_read (name ∷ verb ∷ file ∷ []) = after (or_mistake mistake.UnknownVerb (verb_named verb)) (λ v. after (file_read file) (λ _. Ok (NewEntry (Effect v file) name)))
 effect_read (name ∷ verb ∷ file ∷ other ∷ more) = Err mistake.WrongEntry
 
 -- only a name, of an entry that states this

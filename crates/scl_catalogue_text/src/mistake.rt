@@ -20,6 +20,12 @@ pub enum Mistake {
     /// An entry's line has other words.
     #[error("an entry is `hazard NAME DANGER`, `effect NAME VERB FILE`, `reason NAME` or `plain NAME`")]
     WrongEntry,
+    /// The danger is none of those that are known.
+    #[error("a danger is `object`, `failure`, `side-file`, `messages` or `run`")]
+    UnknownDanger,
+    /// The verb is none of those that are known.
+    #[error("a verb is `reads`, `writes`, `asks` or `loads`")]
+    UnknownVerb,
     /// A group's line has other words before its colon.
     #[error("a group is `group NAME: TESTS`")]
     WrongGroup,

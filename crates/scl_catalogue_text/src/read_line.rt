@@ -32,7 +32,7 @@ fn hazard<'a>(words: &[&'a [u8]]) -> Part<Said<'a>>
     };
     match danger_named(danger) {
         Some(danger) => Ok(Said::Entry(Tells::Hazard(danger), name)),
-        None => Err(Stop::Mistake(Mistake::WrongEntry)),
+        None => Err(Stop::Mistake(Mistake::UnknownDanger)),
     }
 }
 
@@ -44,7 +44,7 @@ fn effect<'a>(room: Room<'a>, words: &[&'a [u8]]) -> Part<Said<'a>>
         return Err(Stop::Mistake(Mistake::WrongEntry));
     };
     let Some(verb) = verb_named(verb) else {
-        return Err(Stop::Mistake(Mistake::WrongEntry));
+        return Err(Stop::Mistake(Mistake::UnknownVerb));
     };
     check_file(room.alloc, file)?;
     Ok(Said::Entry(Tells::Effect(verb, file), name))
