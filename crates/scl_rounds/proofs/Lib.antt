@@ -1,3 +1,5 @@
 pub mod CodeLemmas
+pub mod FileLemmas
+pub mod OnceLemmas
 pub mod RoundLaws
 pub mod StepLemmas

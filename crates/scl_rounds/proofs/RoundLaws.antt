@@ -1,7 +1,7 @@
 -- Each round, and the rows, depend on nothing but what was asked.
 use Rattle.std.proofs.Common.{◌≡◌, ◌&&◌, ◌||◌, is_none, Bool, true, false, cond, ℕ, List, [], ◌∷◌, ◌++◌, map, filter, Option, None, Some, refl, sym, ap, subst, ◌∙◌}
 use Rattle.std.proofs.lemmas.Bool.{and_parts}
-use Rattle.std.specs.List.{flat_map, list_any}
+use Rattle.std.specs.List.{cons_option, filter_map, flat_map, list_any}
 use Rattle.std.specs.Option.{option_and_then, option_map, option_zip, unwrap_or}
 use Rattle.std.specs.Str.{bytes_eq}
 use Rattle.scl_files.specs.Paths.{begins_with_slash}
@@ -10,7 +10,7 @@ use Rattle.scl_key.specs.declared.part.Ask.TheVariants as asks
 use Rattle.scl_key.specs.Parts.{Part, is, output, directory, compiler, plan, asked, run, run_else, pch, sources, times}
 use Rattle.scl_lookup.specs.Keys.{Row, said, all_there, ran_on, unfailed}
 use Rattle.scl_lookup.specs.Lists.{Agree}
-use Rattle.scl_lookup.specs.Questions.{Question, file, real, Machine}
+use Rattle.scl_lookup.specs.Questions.{Question, file, real, times as stamp_of, run as run_asked, Standing, regular, folder, special, missing, Written, Machine}
 use Rattle.scl_questions.specs.Rounds.{joined, was_asked, with_one}
 use Rattle.scl_questions.specs.Same.{same}
 use Rattle.scl_questions.specs.Talks.{AreDecided, ends}
@@ -18,9 +18,12 @@ use Rattle.scl_questions.specs.Told.{value_told, unset_told, file_told, maybe_to
 use Rattle.scl_questions.proofs.SameLaws.{same_one}
 use Rattle.scl_questions.proofs.TalkLaws.{talks_end}
 use Rattle.scl_rounds.specs.Answers.{answer_asked, answer_on, directory_by, directory_on, row_by, row_on, rows_on, said_directory}
+use Rattle.scl_rounds.specs.declared.question.Phase.TheVariants as phases
+use Rattle.scl_rounds.specs.Files.{file_row, files_told, in_one, is_regular, times_by, times_row, times_told}
 use Rattle.scl_rounds.specs.Keys.{Key, asks_early, is_answered, is_early, is_made}
-use Rattle.scl_rounds.specs.Rounds.{asked_run, behind_said, first, first_asked, forbids, is_forbidden, rounds, second, third, RoundsGiveRows}
-use Rattle.scl_rounds.specs.Runs.{fails, has_failed, may_fail, no_text, run_told}
+use Rattle.scl_rounds.specs.Rounds.{asked_run, behind_said, fifth, first, first_asked, forbids, fourth, is_forbidden, loaded_by, needed, rounds, second, stage, third, timed, RoundsGiveRows}
+use Rattle.scl_rounds.specs.Runs.{fails, has_failed, loaded_in, may_fail, names_sources, no_text, outputs_told, run_told}
+use Rattle.scl_rounds.specs.Shown.{all_sources, each_once, input_of, marked, marked_in, shown, shown_by, text_on}
 
 -- ---- what both answer alike
 
@@ -68,12 +71,12 @@ any_one w m asks one other (part ∷ parts) each h =
     let it = agree_both w m (asks part) (flat_map asks parts) h in
     ap (λ b. b || list_any one parts) (each part it.0) ∙ ap (λ b. other part || b) (any_one w m asks one other parts each it.1)
 
-all_one : (w m : Machine) (asks one other : Part → List Question) (parts : List Part) → ((part : Part) → Agree w m (asks part) → one part ≡ other part)
-    → Agree w m (flat_map asks parts) → flat_map one parts ≡ flat_map other parts
+all_one : {A B : Type 0} (w m : Machine) (asks : A → List Question) (one other : A → List B) (list : List A) → ((each : A) → Agree w m (asks each) → one each ≡ other each)
+    → Agree w m (flat_map asks list) → flat_map one list ≡ flat_map other list
 all_one w m asks one other [] each h = refl
-all_one w m asks one other (part ∷ parts) each h =
-    let it = agree_both w m (asks part) (flat_map asks parts) h in
-    ap (λ qs. qs ++ flat_map one parts) (each part it.0) ∙ ap (λ qs. other part ++ qs) (all_one w m asks one other parts each it.1)
+all_one w m asks one other (first ∷ list) each h =
+    let it = agree_both w m (asks first) (flat_map asks list) h in
+    ap (λ qs. qs ++ flat_map one list) (each first it.0) ∙ ap (λ qs. other first ++ qs) (all_one w m asks one other list each it.1)
 
 each_one : (one other : Part → List Question) (parts : List Part) → ((part : Part) → one part ≡ other part) → flat_map one parts ≡ flat_map other parts
 each_one one other [] each = refl
@@ -148,27 +151,138 @@ third_one key w m e (pch searched) = refl
 third_one key w m e sources = refl
 third_one key w m e times = refl
 
+-- ---- what the runs show
+
+else_shown : (w m : Machine) (words : List (List ℕ)) (b : Bool) → Agree w m (cond b (asked_run words) []) → cond b (text_on w words) None ≡ cond b (text_on m words) None
+else_shown w m words true h = ap (λ it. option_map (λ it. it.output) (unfailed it)) h.0
+else_shown w m words false h = refl
+
+shown_by_one : (key : Key) (w m : Machine) → has_failed key w ≡ has_failed key m → (part : Part) → Agree w m (second key m part) → Agree w m (third key m part)
+    → shown_by key w part ≡ shown_by key m part
+shown_by_one key w m e (is row) k l = refl
+shown_by_one key w m e (output made) k l = refl
+shown_by_one key w m e directory k l = refl
+shown_by_one key w m e compiler k l = refl
+shown_by_one key w m e (plan words) k l = refl
+shown_by_one key w m e (asked ask name) k l = refl
+shown_by_one key w m e (run words) k l = ap (λ it. option_map (λ it. it.output) (unfailed it)) k.0
+shown_by_one key w m e (run_else words) k l = ap (λ b. cond b (text_on w words) None) e ∙ else_shown w m words (has_failed key m) l
+shown_by_one key w m e (pch searched) k l = refl
+shown_by_one key w m e sources k l = refl
+shown_by_one key w m e times k l = refl
+
+shown_one : (key : Key) (w m : Machine) (parts : List Part) → has_failed key w ≡ has_failed key m → Agree w m (flat_map (second key m) parts) → Agree w m (flat_map (third key m) parts)
+    → filter_map (shown_by key w) parts ≡ filter_map (shown_by key m) parts
+shown_one key w m [] e k l = refl
+shown_one key w m (part ∷ parts) e k l =
+    let two = agree_both w m (second key m part) (flat_map (second key m) parts) k in
+    let three = agree_both w m (third key m part) (flat_map (third key m) parts) l in
+    ap (λ it. cons_option it (filter_map (shown_by key w) parts)) (shown_by_one key w m e part two.0 three.0)
+    ∙ ap (cons_option (shown_by key m part)) (shown_one key w m parts e two.1 three.1)
+
+-- ---- what the runs name
+
+needed_one : (key : Key) (w m : Machine) → shown key w ≡ shown key m → (part : Part) → shown_by key w part ≡ shown_by key m part → needed key w part ≡ needed key m part
+needed_one key w m e (is row) own = refl
+needed_one key w m e (output made) own = refl
+needed_one key w m e directory own = refl
+needed_one key w m e compiler own = refl
+needed_one key w m e (plan words) own = refl
+needed_one key w m e (asked ask name) own = refl
+needed_one key w m e (run words) own = ap loaded_by own
+needed_one key w m e (run_else words) own = ap loaded_by own
+needed_one key w m e (pch searched) own = refl
+needed_one key w m e sources own = ap (λ texts. each_once (flat_map marked_in texts ++ filter_map input_of key.parts)) e
+needed_one key w m e times own = ap (λ texts. each_once (flat_map marked_in texts)) e
+
+fourth_one : (key : Key) (w m : Machine) (parts : List Part) → has_failed key w ≡ has_failed key m → shown key w ≡ shown key m
+    → Agree w m (flat_map (second key m) parts) → Agree w m (flat_map (third key m) parts) → flat_map (fourth key w) parts ≡ flat_map (fourth key m) parts
+fourth_one key w m [] e texts k l = refl
+fourth_one key w m (part ∷ parts) e texts k l =
+    let two = agree_both w m (second key m part) (flat_map (second key m) parts) k in
+    let three = agree_both w m (third key m part) (flat_map (third key m) parts) l in
+    ap (λ names. map file names ++ flat_map (fourth key w) parts) (needed_one key w m texts part (shown_by_one key w m e part two.0 three.0))
+    ∙ ap (λ qs. fourth key m part ++ qs) (fourth_one key w m parts e texts two.1 three.1)
+
+-- ---- what is asked of files that are there
+
+timed_one : (w m : Machine) (names : List (List ℕ)) → Agree w m (map file names) → flat_map (timed w) names ≡ flat_map (timed m) names
+timed_one w m [] h = refl
+timed_one w m (name ∷ names) h =
+    ap (λ it. cond (is_regular it) (stamp_of name ∷ []) [] ++ flat_map (timed w) names) h.0 ∙ ap (λ qs. timed m name ++ qs) (timed_one w m names h.1)
+
+fifth_one : (key : Key) (w m : Machine) → shown key w ≡ shown key m → (part : Part) → Agree w m (fourth key m part) → fifth key w part ≡ fifth key m part
+fifth_one key w m e (is row) h = refl
+fifth_one key w m e (output made) h = refl
+fifth_one key w m e directory h = refl
+fifth_one key w m e compiler h = refl
+fifth_one key w m e (plan words) h = refl
+fifth_one key w m e (asked ask name) h = refl
+fifth_one key w m e (run words) h = refl
+fifth_one key w m e (run_else words) h = refl
+fifth_one key w m e (pch searched) h = refl
+fifth_one key w m e sources h = refl
+fifth_one key w m e times h = ap (λ texts. flat_map (timed w) (each_once (flat_map marked_in texts))) e ∙ timed_one w m (marked key m) h
+
 -- ---- answers
 
-else_one : (w m : Machine) (words : List (List ℕ)) (b : Bool) → Agree w m (cond b (asked_run words) [])
-    → cond b (run_told false (ran_on w words)) (Some no_text) ≡ cond b (run_told false (ran_on m words)) (Some no_text)
-else_one w m words true h = ap (λ it. run_told false (unfailed it)) h.0
-else_one w m words false h = refl
+files_one : (w m : Machine) (names : List (List ℕ)) → Agree w m (map file names) → all_there (map (file_row w) names) ≡ all_there (map (file_row m) names)
+files_one w m [] h = refl
+files_one w m (name ∷ names) h =
+    ap (λ it. option_map (λ values. values.0 ∷ values.1) (option_zip (option_map (λ answer. said name ∷ answer) (maybe_told it)) (all_there (map (file_row w) names)))) h.0
+    ∙ ap (λ rows. option_map (λ values. values.0 ∷ values.1) (option_zip (file_row m name) rows)) (files_one w m names h.1)
 
-answer_one : (key : Key) (w m : Machine) → has_failed key w ≡ has_failed key m → (part : Part) → Agree w m (first key part) → Agree w m (second key m part) → Agree w m (third key m part)
-    → answer_on key w part ≡ answer_on key m part
-answer_one key w m e (is row) h k l = refl
-answer_one key w m e (output made) h k l = refl
-answer_one key w m e directory h k l = ap (λ it. Some (said it ∷ [])) (directory_one w m key.place h.0 k)
-answer_one key w m e compiler h k l = ap program_told h.0
-answer_one key w m e (plan words) h k l = refl
-answer_one key w m e (asked ask name) h k l = asked_one key w m ask name h
-answer_one key w m e (run words) h k l = ap (λ it. run_told (may_fail key) (unfailed it)) k.0
-answer_one key w m e (run_else words) h k l =
-    ap (λ b. cond b (run_told false (ran_on w words)) (Some no_text)) e ∙ else_one w m words (has_failed key m) l
-answer_one key w m e (pch searched) h k l = refl
-answer_one key w m e sources h k l = refl
-answer_one key w m e times h k l = refl
+times_by_one : (w m : Machine) (name : List ℕ) (it : Standing) → Agree w m (cond (is_regular it) (stamp_of name ∷ []) []) → times_by w name it ≡ times_by m name it
+times_by_one w m name (regular sum) h = ap (λ stamp. Some (said name ∷ said stamp ∷ [])) h.0
+times_by_one w m name folder h = refl
+times_by_one w m name special h = refl
+times_by_one w m name missing h = refl
+
+times_one : (w m : Machine) (names : List (List ℕ)) → Agree w m (map file names) → Agree w m (flat_map (timed m) names) → all_there (map (times_row w) names) ≡ all_there (map (times_row m) names)
+times_one w m [] h k = refl
+times_one w m (name ∷ names) h k =
+    let it = agree_both w m (timed m name) (flat_map (timed m) names) k in
+    ap (λ row. option_map (λ values. values.0 ∷ values.1) (option_zip row (all_there (map (times_row w) names)))) (ap (times_by w name) h.0 ∙ times_by_one w m name (m (file name)) it.0)
+    ∙ ap (λ rows. option_map (λ values. values.0 ∷ values.1) (option_zip (times_row m name) rows)) (times_one w m names h.1 it.1)
+
+loads_one : (w m : Machine) (may : Bool) (it : Option Written) → Agree w m (map file (loaded_by (option_map (λ it. it.output) it))) → run_told w may it ≡ run_told m may it
+loads_one w m may None h = refl
+loads_one w m may (Some it) h =
+    ap (λ rows. cond (names_sources it.output) (option_map (λ headers. outputs_told it ++ headers) (option_map in_one rows)) None) (files_one w m (loaded_in it.output) h)
+
+run_one : (w m : Machine) (words : List (List ℕ)) (may : Bool) → w (run_asked [] words) ≡ m (run_asked [] words) → Agree w m (map file (loaded_by (text_on m words)))
+    → run_told w may (ran_on w words) ≡ run_told m may (ran_on m words)
+run_one w m words may h k = ap (λ it. run_told w may (unfailed it)) h ∙ loads_one w m may (ran_on m words) k
+
+else_one : (w m : Machine) (words : List (List ℕ)) (b : Bool) → Agree w m (cond b (asked_run words) []) → Agree w m (map file (loaded_by (cond b (text_on m words) None)))
+    → cond b (run_told w false (ran_on w words)) (Some no_text) ≡ cond b (run_told m false (ran_on m words)) (Some no_text)
+else_one w m words true h k = run_one w m words false h.0 k
+else_one w m words false h k = refl
+
+-- both answer alike what each round asks for these parts
+record AreAlike (key : Key) (w m : Machine) (parts : List Part) : Type 0 where
+  one : Agree w m (flat_map (first key) parts)
+  two : Agree w m (flat_map (second key m) parts)
+  three : Agree w m (flat_map (third key m) parts)
+  four : Agree w m (flat_map (fourth key m) parts)
+  five : Agree w m (flat_map (fifth key m) parts)
+
+answer_one : (key : Key) (w m : Machine) → has_failed key w ≡ has_failed key m → shown key w ≡ shown key m → (part : Part) → Agree w m (first key part) → Agree w m (second key m part)
+    → Agree w m (third key m part) → Agree w m (fourth key m part) → Agree w m (fifth key m part) → answer_on key w part ≡ answer_on key m part
+answer_one key w m e t (is row) h k l n o = refl
+answer_one key w m e t (output made) h k l n o = refl
+answer_one key w m e t directory h k l n o = ap (λ it. Some (said it ∷ [])) (directory_one w m key.place h.0 k)
+answer_one key w m e t compiler h k l n o = ap program_told h.0
+answer_one key w m e t (plan words) h k l n o = refl
+answer_one key w m e t (asked ask name) h k l n o = asked_one key w m ask name h
+answer_one key w m e t (run words) h k l n o = run_one w m words (may_fail key) k.0 n
+answer_one key w m e t (run_else words) h k l n o =
+    ap (λ b. cond b (run_told w false (ran_on w words)) (Some no_text)) e ∙ else_one w m words (has_failed key m) l n
+answer_one key w m e t (pch searched) h k l n o = refl
+answer_one key w m e t sources h k l n o =
+    ap (λ texts. files_told w (each_once (flat_map marked_in texts ++ filter_map input_of key.parts))) t ∙ ap (option_map in_one) (files_one w m (all_sources key m) n)
+answer_one key w m e t times h k l n o =
+    ap (λ texts. times_told w (each_once (flat_map marked_in texts))) t ∙ ap (option_map in_one) (times_one w m (marked key m) n o)
 
 -- ---- rows
 
@@ -179,15 +293,17 @@ rows_by key w m part parts true e rest =
     ∙ ap (λ rows. option_map (λ values. values.0 ∷ values.1) (option_zip (row_on key m part) rows)) rest
 rows_by key w m part parts false e rest = rest
 
-rows_one : (key : Key) (w m : Machine) (parts : List Part) → has_failed key w ≡ has_failed key m
-    → Agree w m (flat_map (first key) parts) → Agree w m (flat_map (second key m) parts) → Agree w m (flat_map (third key m) parts)
+rows_one : (key : Key) (w m : Machine) (parts : List Part) → has_failed key w ≡ has_failed key m → shown key w ≡ shown key m → AreAlike key w m parts
     → all_there (map (row_on key w) (filter is_answered parts)) ≡ all_there (map (row_on key m) (filter is_answered parts))
-rows_one key w m [] e h k l = refl
-rows_one key w m (part ∷ parts) e h k l =
-    let one = agree_both w m (first key part) (flat_map (first key) parts) h in
-    let two = agree_both w m (second key m part) (flat_map (second key m) parts) k in
-    let three = agree_both w m (third key m part) (flat_map (third key m) parts) l in
-    rows_by key w m part (filter is_answered parts) (is_answered part) (ap (option_map (row_by part)) (answer_one key w m e part one.0 two.0 three.0)) (rows_one key w m parts e one.1 two.1 three.1)
+rows_one key w m [] e t alike = refl
+rows_one key w m (part ∷ parts) e t alike =
+    let one = agree_both w m (first key part) (flat_map (first key) parts) alike.one in
+    let two = agree_both w m (second key m part) (flat_map (second key m) parts) alike.two in
+    let three = agree_both w m (third key m part) (flat_map (third key m) parts) alike.three in
+    let four = agree_both w m (fourth key m part) (flat_map (fourth key m) parts) alike.four in
+    let five = agree_both w m (fifth key m part) (flat_map (fifth key m) parts) alike.five in
+    let rest : AreAlike key w m parts = record { one = one.1; two = two.1; three = three.1; four = four.1; five = five.1 } in
+    rows_by key w m part (filter is_answered parts) (is_answered part) (ap (option_map (row_by part)) (answer_one key w m e t part one.0 two.0 three.0 four.0 five.0)) (rows_one key w m parts e t rest)
 
 -- ---- keys
 
@@ -208,6 +324,36 @@ is_forbidden_one key w m h = any_one w m (first key) (forbids key w) (forbids ke
 has_failed_one : (key : Key) (w m : Machine) → Agree w m (flat_map (second key m) key.parts) → has_failed key w ≡ has_failed key m
 has_failed_one key w m h = any_one w m (second key m) (fails w) (fails m) key.parts (fails_one key w m) h
 
+-- where all that three rounds asked is answered alike, so do the runs
+has_shown_one : (key : Key) (w m : Machine) → Agree w m (flat_map (second key m) key.parts) → Agree w m (flat_map (third key m) key.parts) → shown key w ≡ shown key m
+has_shown_one key w m k l = shown_one key w m key.parts (has_failed_one key w m k) k l
+
+-- the rounds of files, and the rows
+decided_behind : (key : Key) (m : Machine) (ones twos threes : List Question) → flat_map (first key) key.parts ≡ ones → flat_map (second key m) key.parts ≡ twos → flat_map (third key m) key.parts ≡ threes
+    → AreDecided m (rows_on key) (stage key phases.Files ∷ stage key phases.Details ∷ []) (joined (joined (joined [] ones) twos) threes)
+decided_behind key m ones twos threes one two three = (
+  λ w agree.
+      let l = agree_round w m (joined (joined [] ones) twos) (flat_map (third key m) key.parts) threes three agree in
+      let k = agree_round w m (joined [] ones) (flat_map (second key m) key.parts) twos two l.0 in
+      ap Some (fourth_one key w m key.parts (has_failed_one key w m k.1) (has_shown_one key w m k.1 l.1) k.1 l.1),
+  λ fours is_fourth.
+      let four : flat_map (fourth key m) key.parts ≡ fours = same_some (flat_map (fourth key m) key.parts) fours is_fourth in (
+        λ w agree.
+            let n = agree_round w m (joined (joined (joined [] ones) twos) threes) (flat_map (fourth key m) key.parts) fours four agree in
+            let l = agree_round w m (joined (joined [] ones) twos) (flat_map (third key m) key.parts) threes three n.0 in
+            let k = agree_round w m (joined [] ones) (flat_map (second key m) key.parts) twos two l.0 in
+            ap Some (all_one w m (fourth key m) (fifth key w) (fifth key m) key.parts (fifth_one key w m (has_shown_one key w m k.1 l.1)) n.1),
+        λ fives is_fifth w agree.
+            let five : flat_map (fifth key m) key.parts ≡ fives = same_some (flat_map (fifth key m) key.parts) fives is_fifth in
+            let o = agree_round w m (joined (joined (joined (joined [] ones) twos) threes) fours) (flat_map (fifth key m) key.parts) fives five agree in
+            let n = agree_round w m (joined (joined (joined [] ones) twos) threes) (flat_map (fourth key m) key.parts) fours four o.0 in
+            let l = agree_round w m (joined (joined [] ones) twos) (flat_map (third key m) key.parts) threes three n.0 in
+            let k = agree_round w m (joined [] ones) (flat_map (second key m) key.parts) twos two l.0 in
+            let h = agree_round w m [] (flat_map (first key) key.parts) ones one k.0 in
+            rows_one key w m key.parts (has_failed_one key w m k.1) (has_shown_one key w m k.1 l.1) (record { one = h.1; two = k.1; three = l.1; four = n.1; five = o.1 }),
+      ),
+)
+
 decided : (key : Key) (m : Machine) → AreDecided m (rows_on key) (rounds key) []
 decided key m = (
   λ w agree. refl,
@@ -222,13 +368,7 @@ decided key m = (
               λ w agree.
                   let k = agree_round w m (joined [] ones) (flat_map (second key m) key.parts) twos two agree in
                   ap Some (each_one (third key w) (third key m) key.parts (third_one key w m (has_failed_one key w m k.1))),
-              λ threes is_third.
-                  let three : flat_map (third key m) key.parts ≡ threes = same_some (flat_map (third key m) key.parts) threes is_third in
-                  λ w agree.
-                  let l = agree_round w m (joined (joined [] ones) twos) (flat_map (third key m) key.parts) threes three agree in
-                  let k = agree_round w m (joined [] ones) (flat_map (second key m) key.parts) twos two l.0 in
-                  let h = agree_round w m [] (flat_map (first key) key.parts) ones one k.0 in
-                  rows_one key w m key.parts (has_failed_one key w m k.1) h.1 k.1 l.1,
+              λ threes is_third. decided_behind key m ones twos threes one two (same_some (flat_map (third key m) key.parts) threes is_third),
             ),
       ),
 )
@@ -245,8 +385,8 @@ is_early_answered (asked ask name) e = e
 is_early_answered (run words) e = refl
 is_early_answered (run_else words) e = refl
 is_early_answered (pch searched) e = e
-is_early_answered sources e = e
-is_early_answered times e = e
+is_early_answered sources e = refl
+is_early_answered times e = refl
 
 no_row : {A B : Type 0} (f : A → B) (o : Option A) → is_none o ≡ true → option_map f o ≡ None
 no_row f None e = refl

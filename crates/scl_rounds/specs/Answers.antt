@@ -5,12 +5,14 @@ use Rattle.std.specs.Str.{bytes_eq}
 use Rattle.scl_files.specs.Paths.{begins_with_slash}
 use Rattle.scl_key.specs.declared.part.Ask.{Ask}
 use Rattle.scl_key.specs.declared.part.Ask.TheVariants as asks
-use Rattle.scl_key.specs.Parts.{Part, is, output, directory, compiler, asked, run, run_else, hashed}
+use Rattle.scl_key.specs.Parts.{Part, is, output, directory, compiler, asked, run, run_else, sources, times, hashed}
 use Rattle.scl_lookup.specs.Keys.{Field, said, Row, all_there, ran_on}
 use Rattle.scl_lookup.specs.Questions.{Question, env, program, file, real, Machine}
 use Rattle.scl_questions.specs.Told.{value_told, unset_told, file_told, maybe_told, regular_told, program_told}
+use Rattle.scl_rounds.specs.Files.{files_told, times_told}
 use Rattle.scl_rounds.specs.Keys.{Key, is_answered, is_made}
 use Rattle.scl_rounds.specs.Runs.{has_failed, may_fail, no_text, run_told}
+use Rattle.scl_rounds.specs.Shown.{all_sources, marked}
 
 -- ---- the directory
 
@@ -42,8 +44,10 @@ answer_on key m (output made) = Some []
 answer_on key m directory = Some (said (directory_on key.place m) ∷ [])
 answer_on key m compiler = program_told (m (program []))
 answer_on key m (asked ask name) = answer_asked key m ask name
-answer_on key m (run words) = run_told (may_fail key) (ran_on m words)
-answer_on key m (run_else words) = cond (has_failed key m) (run_told false (ran_on m words)) (Some no_text)
+answer_on key m (run words) = run_told m (may_fail key) (ran_on m words)
+answer_on key m (run_else words) = cond (has_failed key m) (run_told m false (ran_on m words)) (Some no_text)
+answer_on key m sources = files_told m (all_sources key m)
+answer_on key m times = times_told m (marked key m)
 answer_on key m other = None
 
 -- ---- rows

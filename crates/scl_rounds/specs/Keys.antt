@@ -4,7 +4,7 @@ use Rattle.std.specs.List.{list_any}
 use Rattle.scl_files.specs.Paths.{join, same_path}
 use Rattle.scl_key.specs.declared.part.Ask.{Ask}
 use Rattle.scl_key.specs.declared.part.Ask.TheVariants as asks
-use Rattle.scl_key.specs.Parts.{Part, is, output, directory, compiler, asked, run, run_else}
+use Rattle.scl_key.specs.Parts.{Part, is, output, directory, compiler, asked, run, run_else, sources, times}
 
 -- the parts of a key, and the directory of the compiler
 pub record Key : Type 0 where
@@ -33,6 +33,8 @@ is_answered compiler = true
 is_answered (asked ask name) = asks_early ask
 is_answered (run words) = true
 is_answered (run_else words) = true
+is_answered sources = true
+is_answered times = true
 is_answered other = false
 
 -- ---- outputs

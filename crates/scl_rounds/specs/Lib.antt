@@ -1,5 +1,7 @@
 pub mod Answers
+pub mod Files
 pub mod Keys
 pub mod Rounds
 pub mod Runs
+pub mod Shown
 pub mod Views

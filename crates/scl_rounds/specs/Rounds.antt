@@ -4,14 +4,16 @@ use Rattle.std.specs.List.{flat_map, list_any}
 use Rattle.scl_files.specs.Paths.{begins_with_slash}
 use Rattle.scl_key.specs.declared.part.Ask.{Ask}
 use Rattle.scl_key.specs.declared.part.Ask.TheVariants as asks
-use Rattle.scl_key.specs.Parts.{Part, directory, compiler, asked, run as run_part, run_else}
-use Rattle.scl_lookup.specs.Questions.{Question, env, program, file, real, run, Machine}
+use Rattle.scl_key.specs.Parts.{Part, directory, compiler, asked, run as run_part, run_else, sources, times as times_part}
+use Rattle.scl_lookup.specs.Questions.{Question, env, program, file, real, times, run, Machine}
 use Rattle.scl_questions.specs.Talks.{Stage, ends, talk}
 use Rattle.scl_rounds.specs.declared.question.Phase.{Phase}
 use Rattle.scl_rounds.specs.declared.question.Phase.TheVariants as phases
 use Rattle.scl_rounds.specs.Answers.{answer_on, rows_on, said_directory}
+use Rattle.scl_rounds.specs.Files.{is_regular}
 use Rattle.scl_rounds.specs.Keys.{Key, is_early, is_made}
-use Rattle.scl_rounds.specs.Runs.{has_failed}
+use Rattle.scl_rounds.specs.Runs.{has_failed, loaded_in}
+use Rattle.scl_rounds.specs.Shown.{all_sources, marked, shown_by}
 
 -- ---- what each round asks for a part
 
@@ -47,12 +49,38 @@ abbrev pub third : Key → Machine → Part → List Question
 third key m (run_else words) = cond (has_failed key m) (asked_run words) []
 third key m other = []
 
+-- the headers that the text of a run loads, if there is a text
+abbrev pub loaded_by : (text : Option (List ℕ)) → List (List ℕ)
+loaded_by None = []
+loaded_by (Some text) = loaded_in text
+
+-- the files that a part needs, by what the runs write
+abbrev pub needed : Key → Machine → Part → List (List ℕ)
+needed key m (run_part words) = loaded_by (shown_by key m (run_part words))
+needed key m (run_else words) = loaded_by (shown_by key m (run_else words))
+needed key m sources = all_sources key m
+needed key m times_part = marked key m
+needed key m other = []
+
+abbrev pub fourth : Key → Machine → Part → List Question
+fourth key m part = map file (needed key m part)
+
+-- size and time, if there is a file
+abbrev pub timed : Machine → List ℕ → List Question
+timed m name = cond (is_regular (m (file name))) (times name ∷ []) []
+
+abbrev pub fifth : Key → Machine → Part → List Question
+fifth key m times_part = flat_map (timed m) (marked key m)
+fifth key m other = []
+
 -- ---- rounds
 
 abbrev pub asked_in : Key → Phase → Machine → Part → List Question
 asked_in key phases.First m part = first key part
 asked_in key phases.Runs m part = second key m part
 asked_in key phases.RunsElse m part = third key m part
+asked_in key phases.Files m part = fourth key m part
+asked_in key phases.Details m part = fifth key m part
 
 -- nothing may be kept, by what the first round answers
 abbrev pub forbids : Key → Machine → Part → Bool
@@ -66,12 +94,14 @@ abbrev pub is_vain : Key → Phase → Machine → Bool
 is_vain key phases.First m = false
 is_vain key phases.Runs m = is_forbidden key m
 is_vain key phases.RunsElse m = false
+is_vain key phases.Files m = false
+is_vain key phases.Details m = false
 
 abbrev pub stage : Key → Phase → Stage
 stage key phase m = cond (is_vain key phase m) None (Some (flat_map (asked_in key phase m) key.parts))
 
 abbrev pub all_phases : List Phase
-all_phases = phases.First ∷ phases.Runs ∷ phases.RunsElse ∷ []
+all_phases = phases.First ∷ phases.Runs ∷ phases.RunsElse ∷ phases.Files ∷ phases.Details ∷ []
 
 abbrev pub rounds : Key → List Stage
 rounds key = map (stage key) all_phases

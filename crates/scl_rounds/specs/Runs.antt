@@ -1,11 +1,14 @@
 -- What the runs of a key write.
-use Rattle.std.specs.Prelude.{ℕ, ◌==◌, ◌||◌, is_none, is_some, Bool, true, false, cond, List, [], ◌∷◌, length, codes, Option, None, Some}
+use Rattle.std.specs.Prelude.{ℕ, ◌==◌, ◌||◌, is_none, is_some, Bool, true, false, cond, List, [], ◌∷◌, ◌++◌, length, codes, Option, None, Some}
 use Rattle.std.specs.List.{list_any}
 use Rattle.scl_key.specs.Parts.{Part, run, run_else}
+use Rattle.std.specs.Option.{option_map}
 use Rattle.scl_lookup.specs.Keys.{Field, said, ran_on}
 use Rattle.scl_lookup.specs.Questions.{Written, Machine}
 use Rattle.scl_readings.specs.Lines.{lines_after}
-use Rattle.scl_readings.specs.Markers.{marker_of}
+use Rattle.scl_readings.specs.Markers.{files_in, marker_of}
+use Rattle.scl_readings.specs.declared.files.Named.TheVariants.{Loaded}
+use Rattle.scl_rounds.specs.Files.{files_told}
 use Rattle.scl_rounds.specs.Keys.{Key}
 
 -- ---- runs that fail
@@ -35,15 +38,23 @@ has_marker text = list_any (λ directive. is_some (marker_of directive)) (lines_
 abbrev pub names_sources : List ℕ → Bool
 names_sources text = length text == 0 || has_marker text
 
--- both outputs and the bytes of its own file; nothing may be kept if its text hides the sources
-abbrev pub written_told : Written → Option (List Field)
-written_told it = cond (names_sources it.output) (Some (said it.output ∷ said it.messages ∷ said it.own ∷ [])) None
+-- the precompiled headers that the compiler loads in place of texts
+abbrev pub loaded_in : List ℕ → List (List ℕ)
+loaded_in text = files_in Loaded (lines_after 0x23 text)
+
+-- both outputs and the bytes of its own file
+abbrev pub outputs_told : Written → List Field
+outputs_told it = said it.output ∷ said it.messages ∷ said it.own ∷ []
+
+-- its outputs, and the headers that its text loads; nothing may be kept if the text hides the sources, or a header is no file
+abbrev pub written_told : Machine → Written → Option (List Field)
+written_told m it = cond (names_sources it.output) (option_map (λ headers. outputs_told it ++ headers) (files_told m (loaded_in it.output))) None
 
 -- that there is no text
 abbrev pub no_text : List Field
 no_text = said (codes "-") ∷ []
 
 -- what a run wrote, or that it failed, if it may fail
-abbrev pub run_told : (may_fail : Bool) → Option Written → Option (List Field)
-run_told may_fail None = cond may_fail (Some no_text) None
-run_told may_fail (Some it) = written_told it
+abbrev pub run_told : Machine → (may_fail : Bool) → Option Written → Option (List Field)
+run_told m may_fail None = cond may_fail (Some no_text) None
+run_told m may_fail (Some it) = written_told m it

@@ -12,8 +12,10 @@ ghost use Rattle.scl_rounds.specs.Answers.{answer_asked, answer_on, directory_on
 ghost use Rattle.scl_rounds.specs.Runs.{has_failed, may_fail, no_text, run_told};
 ghost use Rattle.scl_rounds.specs.Views.{key_of, machine_of};
 
+use crate::file::{files_told, times_told};
 use crate::key::{Key, is_made};
 use crate::run::{has_failed, may_fail, no_text, ran, run_told};
+use crate::shown::{all_sources, marked};
 use scl_key::{Ask, Part};
 use scl_questions::{
     Answer, Field, Question, file_told, maybe_told, program, program_told, real, regular_told,
@@ -133,9 +135,9 @@ fn run_answer(
     key: &Key<'_>,
     words: &[Vec<u8>],
 ) -> Mem<Option<Vec<Field>>>
-    ensures { IfOk result (λ answer. option_map (λ answer. row_of answer.items) answer ≡ run_told (may_fail (key_of key.now)) (ran_on (machine_of told.now) (words_of words.now))) }
+    ensures { IfOk result (λ answer. option_map (λ answer. row_of answer.items) answer ≡ run_told (machine_of told.now) (may_fail (key_of key.now)) (ran_on (machine_of told.now) (words_of words.now))) }
 {
-    run_told(alloc, ran(alloc, told, words)?, may_fail(key))
+    run_told(alloc, told, ran(alloc, told, words)?, may_fail(key))
 }
 
 fn run_else_answer(
@@ -144,10 +146,10 @@ fn run_else_answer(
     key: &Key<'_>,
     words: &[Vec<u8>],
 ) -> Mem<Option<Vec<Field>>>
-    ensures { IfOk result (λ answer. option_map (λ answer. row_of answer.items) answer ≡ cond (has_failed (key_of key.now) (machine_of told.now)) (run_told false (ran_on (machine_of told.now) (words_of words.now))) (Some no_text)) }
+    ensures { IfOk result (λ answer. option_map (λ answer. row_of answer.items) answer ≡ cond (has_failed (key_of key.now) (machine_of told.now)) (run_told (machine_of told.now) false (ran_on (machine_of told.now) (words_of words.now))) (Some no_text)) }
 {
     if has_failed(alloc, told, key)? {
-        run_told(alloc, ran(alloc, told, words)?, false)
+        run_told(alloc, told, ran(alloc, told, words)?, false)
     } else {
         Ok(Some(no_text(alloc)?))
     }
@@ -169,6 +171,8 @@ pub(crate) fn answer(
         Part::Asked(ask, name) => asked_answer(alloc, told, key, *ask, name),
         Part::Run(words) => run_answer(alloc, told, key, words),
         Part::RunElse(words) => run_else_answer(alloc, told, key, words),
-        Part::Plan(_) | Part::Pch(_) | Part::Sources | Part::Times => Ok(None),
+        Part::Sources => files_told(alloc, told, &all_sources(alloc, told, key)?),
+        Part::Times => times_told(alloc, told, &marked(alloc, told, key)?),
+        Part::Plan(_) | Part::Pch(_) => Ok(None),
     }
 }

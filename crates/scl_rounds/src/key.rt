@@ -54,9 +54,11 @@ pub(crate) fn is_answered(part: &Part) -> bool
         | Part::Directory
         | Part::Compiler
         | Part::Run(_)
-        | Part::RunElse(_) => true,
+        | Part::RunElse(_)
+        | Part::Sources
+        | Part::Times => true,
         Part::Asked(ask, _) => asks_early(*ask),
-        Part::Plan(_) | Part::Pch(_) | Part::Sources | Part::Times => false,
+        Part::Plan(_) | Part::Pch(_) => false,
     }
 }
 

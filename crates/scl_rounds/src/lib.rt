@@ -2,12 +2,14 @@
 #![tactic(auto)]
 
 mod answer;
+mod file;
 mod key;
 pub mod laws;
 mod next;
 mod question;
 mod row;
 mod run;
+mod shown;
 
 pub use key::Key;
 pub use next::{Next, look_up};

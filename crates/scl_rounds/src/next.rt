@@ -85,7 +85,13 @@ pub fn look_up(alloc: Global, key: &Key<'_>, answers: &[Answer]) -> Mem<Next>
     ensures { IfOk result (λ next. next_of next ≡ said (rows_on (key_of key.now)) (rounds (key_of key.now)) [] (replies_of answers.now)) }
 {
     let mut asked = Vec::new(alloc);
-    for phase in [Phase::First, Phase::Runs, Phase::RunsElse] {
+    for phase in [
+        Phase::First,
+        Phase::Runs,
+        Phase::RunsElse,
+        Phase::Files,
+        Phase::Details,
+    ] {
         if let Some(next) = ask_round(alloc, key, phase, &mut asked, answers)? {
             return Ok(next);
         }

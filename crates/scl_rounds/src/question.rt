@@ -1,17 +1,20 @@
 //! What a key asks of a machine, round by round.
-ghost use Rattle.std.specs.Prelude.{◌≡◌, ◌++◌, ◌∷◌, [], IfOk, OnOk};
+ghost use Rattle.std.specs.Prelude.{◌≡◌, ◌++◌, ◌∷◌, [], map, IfOk, OnOk};
+ghost use Rattle.std.specs.List.{flat_map};
 ghost use Rattle.std.specs.Option.{option_copied, option_map};
 ghost use Rattle.scl_values.specs.Words.{words_of};
 ghost use Rattle.scl_key.specs.declared.part.Ask.TheVariants as asks;
 ghost use Rattle.scl_key.specs.Views.{part_of};
 ghost use Rattle.scl_lookup.specs.Questions.{env, file, program};
 ghost use Rattle.scl_questions.specs.Views.{questions_of};
-ghost use Rattle.scl_rounds.specs.Rounds.{asked_in, asked_run, behind_said, first, first_asked, forbids, is_forbidden, is_vain, second, stage, third};
+ghost use Rattle.scl_rounds.specs.Rounds.{asked_in, asked_run, behind_said, fifth, first, first_asked, forbids, fourth, is_forbidden, is_vain, loaded_by, needed, second, stage, third, timed};
 ghost use Rattle.scl_rounds.specs.Views.{key_of, machine_of};
 
 use crate::answer::{Told, answer, said_directory};
+use crate::file::is_regular;
 use crate::key::{Key, is_early, is_made};
-use crate::run::has_failed;
+use crate::run::{has_failed, loaded_in};
+use crate::shown::{all_sources, marked, shown_by};
 use scl_key::{Ask, Part};
 use scl_questions::{Language, Question};
 use scl_text::command::copy_words;
@@ -27,6 +30,10 @@ pub(crate) enum Phase {
     Runs,
     /// The runs in place of those that failed.
     RunsElse,
+    /// The files that the runs name.
+    Files,
+    /// What is asked of those that are there.
+    Details,
 }
 
 fn push_env(alloc: Global, questions: &mut Vec<Question>, name: &[u8]) -> Mem<()>
@@ -169,6 +176,107 @@ fn push_third(
     Ok(())
 }
 
+/// The headers that the text of a run loads, if there is a text.
+fn loaded_by(alloc: Global, text: Option<&[u8]>) -> Mem<Vec<Vec<u8>>>
+    ensures { IfOk result (λ names. words_of names.items ≡ loaded_by (option_copied text.entry)) }
+{
+    match text {
+        Some(text) => loaded_in(alloc, text),
+        None => Ok(Vec::new(alloc)),
+    }
+}
+
+/// The files that a part needs, by what the runs wrote.
+fn needed(alloc: Global, told: &Told<'_>, key: &Key<'_>, part: &Part) -> Mem<Vec<Vec<u8>>>
+    ensures { IfOk result (λ names. words_of names.items ≡ needed (key_of key.now) (machine_of told.now) (part_of part.now)) }
+{
+    match part {
+        Part::Run(_) | Part::RunElse(_) => loaded_by(alloc, shown_by(alloc, told, key, part)?),
+        Part::Sources => all_sources(alloc, told, key),
+        Part::Times => marked(alloc, told, key),
+        Part::Is(_)
+        | Part::Output(_)
+        | Part::Directory
+        | Part::Compiler
+        | Part::Plan(_)
+        | Part::Asked(_, _)
+        | Part::Pch(_) => Ok(Vec::new(alloc)),
+    }
+}
+
+/// Appends what stands at each of these paths.
+fn push_files(alloc: Global, questions: &mut Vec<Question>, paths: &[Vec<u8>]) -> Mem<()>
+    ensures { OnOk result (questions_of questions.new.items ≡ questions_of questions.old.items ++ map file (words_of paths.now)) }
+{
+    for path in paths {
+        push_file(alloc, questions, path)?;
+    }
+    Ok(())
+}
+
+/// Appends what the fourth round asks for a part.
+fn push_fourth(
+    alloc: Global,
+    questions: &mut Vec<Question>,
+    told: &Told<'_>,
+    key: &Key<'_>,
+    part: &Part,
+) -> Mem<()>
+    ensures { OnOk result (questions_of questions.new.items ≡ questions_of questions.old.items ++ fourth (key_of key.now) (machine_of told.now) (part_of part.now)) }
+{
+    push_files(alloc, questions, &needed(alloc, told, key, part)?)
+}
+
+/// Appends size and time, if there is a file.
+fn push_timed(alloc: Global, questions: &mut Vec<Question>, told: &Told<'_>, name: &[u8]) -> Mem<()>
+    ensures { OnOk result (questions_of questions.new.items ≡ questions_of questions.old.items ++ timed (machine_of told.now) name.now) }
+{
+    if is_regular(alloc, told, name)? {
+        questions.push(Question::Times(Vec::from_slice(alloc, name)?))?;
+    }
+    Ok(())
+}
+
+/// Appends the sizes and times of those of these that are files.
+fn push_all_timed(
+    alloc: Global,
+    questions: &mut Vec<Question>,
+    told: &Told<'_>,
+    names: &[Vec<u8>],
+) -> Mem<()>
+    ensures { OnOk result (questions_of questions.new.items ≡ questions_of questions.old.items ++ flat_map (timed (machine_of told.now)) (words_of names.now)) }
+{
+    for name in names {
+        push_timed(alloc, questions, told, name)?;
+    }
+    Ok(())
+}
+
+/// Appends what the fifth round asks for a part.
+fn push_fifth(
+    alloc: Global,
+    questions: &mut Vec<Question>,
+    told: &Told<'_>,
+    key: &Key<'_>,
+    part: &Part,
+) -> Mem<()>
+    ensures { OnOk result (questions_of questions.new.items ≡ questions_of questions.old.items ++ fifth (key_of key.now) (machine_of told.now) (part_of part.now)) }
+{
+    match part {
+        Part::Times => push_all_timed(alloc, questions, told, &marked(alloc, told, key)?),
+        Part::Is(_)
+        | Part::Output(_)
+        | Part::Directory
+        | Part::Compiler
+        | Part::Plan(_)
+        | Part::Asked(_, _)
+        | Part::Run(_)
+        | Part::RunElse(_)
+        | Part::Pch(_)
+        | Part::Sources => Ok(()),
+    }
+}
+
 /// Whether nothing may be kept, by what the first round answers to a part.
 fn forbids(alloc: Global, told: &Told<'_>, key: &Key<'_>, part: &Part) -> Mem<bool>
     ensures { IfOk result (λ it. it ≡ forbids (key_of key.now) (machine_of told.now) (part_of part.now)) }
@@ -193,7 +301,7 @@ fn is_vain(alloc: Global, told: &Told<'_>, key: &Key<'_>, phase: Phase) -> Mem<b
     ensures { IfOk result (λ it. it ≡ is_vain (key_of key.now) phase (machine_of told.now)) }
 {
     match phase {
-        Phase::First | Phase::RunsElse => Ok(false),
+        Phase::First | Phase::RunsElse | Phase::Files | Phase::Details => Ok(false),
         Phase::Runs => is_forbidden(alloc, told, key),
     }
 }
@@ -216,6 +324,8 @@ pub(crate) fn questions(
             Phase::First => push_first(alloc, &mut questions, key, part)?,
             Phase::Runs => push_second(alloc, &mut questions, told, key, part)?,
             Phase::RunsElse => push_third(alloc, &mut questions, told, key, part)?,
+            Phase::Files => push_fourth(alloc, &mut questions, told, key, part)?,
+            Phase::Details => push_fifth(alloc, &mut questions, told, key, part)?,
         }
     }
     Ok(Some(questions))

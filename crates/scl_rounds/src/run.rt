@@ -5,14 +5,15 @@ ghost use Rattle.scl_values.specs.Words.{words_of};
 ghost use Rattle.scl_key.specs.Views.{part_of};
 ghost use Rattle.scl_lookup.specs.Keys.{ran_on};
 ghost use Rattle.scl_questions.specs.Views.{row_of, written_of};
-ghost use Rattle.scl_rounds.specs.Runs.{fails, has_failed, has_marker, is_else, may_fail, names_sources, no_text, run_told, written_told};
+ghost use Rattle.scl_rounds.specs.Runs.{fails, has_failed, has_marker, is_else, loaded_in, may_fail, names_sources, no_text, outputs_told, run_told, written_told};
 ghost use Rattle.scl_rounds.specs.Views.{key_of, machine_of};
 
 use crate::answer::Told;
+use crate::file::files_told;
 use crate::key::Key;
 use scl_key::Part;
 use scl_questions::{Answer, Field, Language, Question, Written, answer_to};
-use scl_readings::{lines_after, marker_of};
+use scl_readings::{Named, files_in, lines_after, marker_of};
 use scl_text::command::copy_words;
 use scl_values::Mem;
 use std::alloc::Global;
@@ -91,17 +92,38 @@ fn names_sources(alloc: Global, text: &[u8]) -> Mem<bool>
     Ok(text.is_empty() || has_marker(alloc, text)?)
 }
 
-/// Both outputs of a run and the bytes of its own file; nothing may be kept if its text hides the sources.
-fn written_told(alloc: Global, written: &Written) -> Mem<Option<Vec<Field>>>
-    ensures { IfOk result (λ answer. option_map (λ answer. row_of answer.items) answer ≡ written_told (written_of written.now)) }
+/// The precompiled headers that the compiler loads in place of texts.
+pub(crate) fn loaded_in(alloc: Global, text: &[u8]) -> Mem<Vec<Vec<u8>>>
+    ensures { IfOk result (λ names. words_of names.items ≡ loaded_in text.now) }
 {
-    if !names_sources(alloc, &written.output)? {
-        return Ok(None);
-    }
+    files_in(alloc, Named::Loaded, &lines_after(alloc, b'#', text)?)
+}
+
+/// Both outputs of a run and the bytes of its own file.
+fn outputs_told(alloc: Global, written: &Written) -> Mem<Vec<Field>>
+    ensures { IfOk result (λ answer. row_of answer.items ≡ outputs_told (written_of written.now)) }
+{
     let mut answer = Vec::new(alloc);
     answer.push(Field::Said(Vec::from_slice(alloc, &written.output)?))?;
     answer.push(Field::Said(Vec::from_slice(alloc, &written.messages)?))?;
     answer.push(Field::Said(Vec::from_slice(alloc, &written.own)?))?;
+    Ok(answer)
+}
+
+/// The outputs of a run, and the headers that its text loads; nothing may be kept if the text hides the sources, or a header is
+/// no file.
+fn written_told(alloc: Global, told: &Told<'_>, written: &Written) -> Mem<Option<Vec<Field>>>
+    ensures { IfOk result (λ answer. option_map (λ answer. row_of answer.items) answer ≡ written_told (machine_of told.now) (written_of written.now)) }
+{
+    if !names_sources(alloc, &written.output)? {
+        return Ok(None);
+    }
+    let loaded = loaded_in(alloc, &written.output)?;
+    let Some(mut headers) = files_told(alloc, told, &loaded)? else {
+        return Ok(None);
+    };
+    let mut answer = outputs_told(alloc, written)?;
+    answer.append(&mut headers)?;
     Ok(Some(answer))
 }
 
@@ -117,13 +139,14 @@ pub(crate) fn no_text(alloc: Global) -> Mem<Vec<Field>>
 /// What a run wrote, or that it failed, if it may fail.
 pub(crate) fn run_told(
     alloc: Global,
+    told: &Told<'_>,
     ran: Option<&Written>,
     may_fail: bool,
 ) -> Mem<Option<Vec<Field>>>
-    ensures { IfOk result (λ answer. option_map (λ answer. row_of answer.items) answer ≡ run_told may_fail (option_map (λ it. written_of it.now) ran.entry)) }
+    ensures { IfOk result (λ answer. option_map (λ answer. row_of answer.items) answer ≡ run_told (machine_of told.now) may_fail (option_map (λ it. written_of it.now) ran.entry)) }
 {
     match ran {
-        Some(written) => written_told(alloc, written),
+        Some(written) => written_told(alloc, told, written),
         None if may_fail => Ok(Some(no_text(alloc)?)),
         None => Ok(None),
     }

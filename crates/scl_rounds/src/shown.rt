@@ -1,0 +1,168 @@
+//! The texts that the runs of a key write, and the files that these name.
+ghost use Rattle.std.specs.Prelude.{◌≡◌, ◌++◌, map, IfOk, OnOk};
+ghost use Rattle.std.specs.List.{filter_map, flat_map, list_any};
+ghost use Rattle.std.specs.Option.{option_copied};
+ghost use Rattle.std.specs.Str.{bytes_eq};
+ghost use Rattle.scl_values.specs.Words.{words_of};
+ghost use Rattle.scl_key.specs.Views.{part_of, parts_of};
+ghost use Rattle.scl_rounds.specs.Shown.{all_sources, each_once, input_in, input_of, marked, marked_in, shown, shown_by, text_on};
+ghost use Rattle.scl_rounds.specs.Views.{key_of, machine_of};
+
+use crate::answer::Told;
+use crate::key::Key;
+use crate::run::{has_failed, ran};
+use scl_key::Part;
+use scl_readings::{Named, files_in, lines_after};
+use scl_values::Mem;
+use std::alloc::Global;
+
+/// What a run wrote to standard output, if it did not fail.
+fn text<'a>(alloc: Global, told: &Told<'a>, words: &[Vec<u8>]) -> Mem<Option<&'a [u8]>>
+    ensures { IfOk result (λ text. option_copied text ≡ text_on (machine_of told.now) (words_of words.now)) }
+{
+    match ran(alloc, told, words)? {
+        Some(written) => Ok(Some(written.output.as_slice())),
+        None => Ok(None),
+    }
+}
+
+/// The text that a part shows.
+pub(crate) fn shown_by<'a>(
+    alloc: Global,
+    told: &Told<'a>,
+    key: &Key<'_>,
+    part: &Part,
+) -> Mem<Option<&'a [u8]>>
+    ensures { IfOk result (λ text. option_copied text ≡ shown_by (key_of key.now) (machine_of told.now) (part_of part.now)) }
+{
+    match part {
+        Part::Run(words) => text(alloc, told, words),
+        Part::RunElse(words) => {
+            if has_failed(alloc, told, key)? {
+                text(alloc, told, words)
+            } else {
+                Ok(None)
+            }
+        }
+        Part::Is(_)
+        | Part::Output(_)
+        | Part::Directory
+        | Part::Compiler
+        | Part::Plan(_)
+        | Part::Asked(_, _)
+        | Part::Pch(_)
+        | Part::Sources
+        | Part::Times => Ok(None),
+    }
+}
+
+/// The texts that the runs of a key wrote.
+pub(crate) fn shown<'a>(alloc: Global, told: &Told<'a>, key: &Key<'_>) -> Mem<Vec<&'a [u8]>>
+    ensures { IfOk result (λ texts. map (λ text. text.now) texts.items ≡ shown (key_of key.now) (machine_of told.now)) }
+{
+    let mut texts = Vec::new(alloc);
+    for part in key.parts {
+        if let Some(text) = shown_by(alloc, told, key, part)? {
+            texts.push(text)?;
+        }
+    }
+    Ok(texts)
+}
+
+fn marked_in(alloc: Global, text: &[u8]) -> Mem<Vec<Vec<u8>>>
+    ensures { IfOk result (λ names. words_of names.items ≡ marked_in text.now) }
+{
+    files_in(alloc, Named::Anywhere, &lines_after(alloc, b'#', text)?)
+}
+
+/// The files that the line markers of all texts name.
+fn all_marked(alloc: Global, texts: &[&[u8]]) -> Mem<Vec<Vec<u8>>>
+    ensures { IfOk result (λ names. words_of names.items ≡ flat_map marked_in (map (λ text. text.now) texts.now)) }
+{
+    let mut names = Vec::new(alloc);
+    for text in texts {
+        names.append(&mut marked_in(alloc, text)?)?;
+    }
+    Ok(names)
+}
+
+/// The input, if the fact names it.
+fn input_in(fact: &[Vec<u8>]) -> Option<&[u8]>
+    ensures { option_copied result ≡ input_in (words_of fact.now) }
+{
+    match fact {
+        [name, value, ..] if name.as_slice() == b"input".as_slice() => Some(value.as_slice()),
+        [_, _, ..] | [_] | [] => None,
+    }
+}
+
+fn input_of(part: &Part) -> Option<&[u8]>
+    ensures { option_copied result ≡ input_of (part_of part.now) }
+{
+    match part {
+        Part::Is(fact) => input_in(fact),
+        Part::Output(_)
+        | Part::Directory
+        | Part::Compiler
+        | Part::Plan(_)
+        | Part::Asked(_, _)
+        | Part::Run(_)
+        | Part::RunElse(_)
+        | Part::Pch(_)
+        | Part::Sources
+        | Part::Times => None,
+    }
+}
+
+/// Appends the input.
+fn push_inputs(alloc: Global, names: &mut Vec<Vec<u8>>, key: &Key<'_>) -> Mem<()>
+    ensures { OnOk result (words_of names.new.items ≡ words_of names.old.items ++ filter_map input_of (parts_of key.now.parts.now)) }
+{
+    for part in key.parts {
+        if let Some(name) = input_of(part) {
+            names.push(Vec::from_slice(alloc, name)?)?;
+        }
+    }
+    Ok(())
+}
+
+fn is_among(name: &[u8], names: &[Vec<u8>]) -> bool
+    ensures { result ≡ list_any (λ other. bytes_eq other name.now) (words_of names.now) }
+{
+    for other in names {
+        if other.as_slice() == name {
+            return true;
+        }
+    }
+    false
+}
+
+/// Names, each once.
+fn each_once(alloc: Global, names: Vec<Vec<u8>>) -> Mem<Vec<Vec<u8>>>
+    ensures { IfOk result (λ once. words_of once.items ≡ each_once (words_of names.items)) }
+{
+    let mut once = Vec::new(alloc);
+    for name in names {
+        if !is_among(&name, &once) {
+            once.push(name)?;
+        }
+    }
+    Ok(once)
+}
+
+/// The files that the runs name.
+pub(crate) fn marked(alloc: Global, told: &Told<'_>, key: &Key<'_>) -> Mem<Vec<Vec<u8>>>
+    ensures { IfOk result (λ names. words_of names.items ≡ marked (key_of key.now) (machine_of told.now)) }
+{
+    let names = all_marked(alloc, &shown(alloc, told, key)?)?;
+    each_once(alloc, names)
+}
+
+/// The files that the runs name, and the input.
+pub(crate) fn all_sources(alloc: Global, told: &Told<'_>, key: &Key<'_>) -> Mem<Vec<Vec<u8>>>
+    ensures { IfOk result (λ names. words_of names.items ≡ all_sources (key_of key.now) (machine_of told.now)) }
+{
+    let mut names = all_marked(alloc, &shown(alloc, told, key)?)?;
+    push_inputs(alloc, &mut names, key)?;
+    each_once(alloc, names)
+}
