@@ -17,11 +17,12 @@ use Rattle.scl_questions.specs.Talks.{AreDecided, ends}
 use Rattle.scl_questions.specs.Told.{value_told, unset_told, file_told, maybe_told, regular_told, program_told}
 use Rattle.scl_questions.proofs.SameLaws.{same_one}
 use Rattle.scl_questions.proofs.TalkLaws.{talks_end}
-use Rattle.scl_rounds.specs.Answers.{answer_asked, answer_on, directory_by, directory_on, row_by, row_on, rows_on, said_directory}
+use Rattle.scl_rounds.specs.Answers.{answer_asked, answer_on, directory_by, directory_on, row_by, row_on, rows_on, said_directory, told_if}
 use Rattle.scl_rounds.specs.declared.question.Phase.TheVariants as phases
 use Rattle.scl_rounds.specs.Files.{file_row, files_told, in_one, is_regular, times_by, times_row, times_told}
-use Rattle.scl_rounds.specs.Keys.{Key, asks_early, is_answered, is_early, is_made}
-use Rattle.scl_rounds.specs.Rounds.{asked_run, behind_said, fifth, first, first_asked, forbids, fourth, is_forbidden, loaded_by, needed, rounds, second, stage, third, timed, RoundsGiveRows}
+use Rattle.scl_rounds.specs.Keys.{Key, asks_answered, asks_early, is_answered, is_early, is_made}
+use Rattle.scl_rounds.specs.Patterns.{is_shown}
+use Rattle.scl_rounds.specs.Rounds.{asked_run, behind_said, fifth, first, first_asked, forbids, fourth, is_forbidden, loaded_by, needed, needed_asked, needed_if, rounds, second, stage, third, timed, RoundsGiveRows}
 use Rattle.scl_rounds.specs.Runs.{fails, has_failed, loaded_in, may_fail, names_sources, no_text, outputs_told, run_told}
 use Rattle.scl_rounds.specs.Shown.{all_sources, each_once, input_of, marked, marked_in, shown, shown_by, text_on}
 
@@ -88,14 +89,15 @@ maybe_one : (w m : Machine) (path : List ℕ) (b : Bool) → Agree w m (cond b [
 maybe_one w m path true h = refl
 maybe_one w m path false h = ap maybe_told h.0
 
-asked_one : (key : Key) (w m : Machine) (ask : Ask) (name : List ℕ) → Agree w m (first_asked key ask name) → answer_asked key w ask name ≡ answer_asked key m ask name
-asked_one key w m asks.Env name h = ap (λ it. Some (value_told it)) h.0
-asked_one key w m asks.Unset name h = ap unset_told h.0
-asked_one key w m asks.File name h = ap file_told h.0
-asked_one key w m asks.Maybe name h = maybe_one w m name (is_made key name) h
-asked_one key w m asks.Regular name h = ap regular_told h.0
-asked_one key w m asks.SourcesIfShown name h = refl
-asked_one key w m asks.RefuseIfShown name h = refl
+forbids_asked_one : (key : Key) (w m : Machine) (ask : Ask) (name : List ℕ) → Agree w m (first_asked key ask name)
+    → (asks_early ask && is_none (answer_asked key w ask name)) ≡ (asks_early ask && is_none (answer_asked key m ask name))
+forbids_asked_one key w m asks.Env name h = refl
+forbids_asked_one key w m asks.Unset name h = ap (λ it. is_none (unset_told it)) h.0
+forbids_asked_one key w m asks.File name h = ap (λ it. is_none (file_told it)) h.0
+forbids_asked_one key w m asks.Maybe name h = ap is_none (maybe_one w m name (is_made key name) h)
+forbids_asked_one key w m asks.Regular name h = ap (λ it. is_none (regular_told it)) h.0
+forbids_asked_one key w m asks.SourcesIfShown name h = refl
+forbids_asked_one key w m asks.RefuseIfShown name h = refl
 
 forbids_one : (key : Key) (w m : Machine) (part : Part) → Agree w m (first key part) → forbids key w part ≡ forbids key m part
 forbids_one key w m (is row) h = refl
@@ -103,7 +105,7 @@ forbids_one key w m (output made) h = refl
 forbids_one key w m directory h = refl
 forbids_one key w m compiler h = ap (λ it. is_none (program_told it)) h.0
 forbids_one key w m (plan words) h = refl
-forbids_one key w m (asked ask name) h = ap (λ it. asks_early ask && is_none it) (asked_one key w m ask name h)
+forbids_one key w m (asked ask name) h = forbids_asked_one key w m ask name h
 forbids_one key w m (run words) h = refl
 forbids_one key w m (run_else words) h = refl
 forbids_one key w m (pch searched) h = refl
@@ -182,13 +184,22 @@ shown_one key w m (part ∷ parts) e k l =
 
 -- ---- what the runs name
 
+needed_asked_one : (key : Key) (w m : Machine) → shown key w ≡ shown key m → (ask : Ask) (name : List ℕ) → needed_asked key w ask name ≡ needed_asked key m ask name
+needed_asked_one key w m e asks.Env name = refl
+needed_asked_one key w m e asks.Unset name = refl
+needed_asked_one key w m e asks.File name = refl
+needed_asked_one key w m e asks.Maybe name = refl
+needed_asked_one key w m e asks.Regular name = refl
+needed_asked_one key w m e asks.SourcesIfShown name = ap (λ texts. needed_if (is_shown name texts) (each_once (flat_map marked_in texts ++ filter_map input_of key.parts))) e
+needed_asked_one key w m e asks.RefuseIfShown name = refl
+
 needed_one : (key : Key) (w m : Machine) → shown key w ≡ shown key m → (part : Part) → shown_by key w part ≡ shown_by key m part → needed key w part ≡ needed key m part
 needed_one key w m e (is row) own = refl
 needed_one key w m e (output made) own = refl
 needed_one key w m e directory own = refl
 needed_one key w m e compiler own = refl
 needed_one key w m e (plan words) own = refl
-needed_one key w m e (asked ask name) own = refl
+needed_one key w m e (asked ask name) own = needed_asked_one key w m e ask name
 needed_one key w m e (run words) own = ap loaded_by own
 needed_one key w m e (run_else words) own = ap loaded_by own
 needed_one key w m e (pch searched) own = refl
@@ -259,6 +270,23 @@ else_one : (w m : Machine) (words : List (List ℕ)) (b : Bool) → Agree w m (c
 else_one w m words true h k = run_one w m words false h.0 k
 else_one w m words false h k = refl
 
+told_if_one : (w m : Machine) (names : List (List ℕ)) (is_there : Option Bool) → Agree w m (map file (needed_if is_there names)) → told_if w is_there names ≡ told_if m is_there names
+told_if_one w m names None h = refl
+told_if_one w m names (Some true) h = ap (option_map in_one) (files_one w m names h)
+told_if_one w m names (Some false) h = refl
+
+asked_one : (key : Key) (w m : Machine) → shown key w ≡ shown key m → (ask : Ask) (name : List ℕ) → Agree w m (first_asked key ask name) → Agree w m (map file (needed_asked key m ask name))
+    → answer_asked key w ask name ≡ answer_asked key m ask name
+asked_one key w m t asks.Env name h n = ap (λ it. Some (value_told it)) h.0
+asked_one key w m t asks.Unset name h n = ap unset_told h.0
+asked_one key w m t asks.File name h n = ap file_told h.0
+asked_one key w m t asks.Maybe name h n = maybe_one w m name (is_made key name) h
+asked_one key w m t asks.Regular name h n = ap regular_told h.0
+asked_one key w m t asks.SourcesIfShown name h n =
+    ap (λ texts. told_if w (is_shown name texts) (each_once (flat_map marked_in texts ++ filter_map input_of key.parts))) t
+    ∙ told_if_one w m (all_sources key m) (is_shown name (shown key m)) n
+asked_one key w m t asks.RefuseIfShown name h n = refl
+
 -- both answer alike what each round asks for these parts
 record AreAlike (key : Key) (w m : Machine) (parts : List Part) : Type 0 where
   one : Agree w m (flat_map (first key) parts)
@@ -274,7 +302,7 @@ answer_one key w m e t (output made) h k l n o = refl
 answer_one key w m e t directory h k l n o = ap (λ it. Some (said it ∷ [])) (directory_one w m key.place h.0 k)
 answer_one key w m e t compiler h k l n o = ap program_told h.0
 answer_one key w m e t (plan words) h k l n o = refl
-answer_one key w m e t (asked ask name) h k l n o = asked_one key w m ask name h
+answer_one key w m e t (asked ask name) h k l n o = asked_one key w m t ask name h n
 answer_one key w m e t (run words) h k l n o = run_one w m words (may_fail key) k.0 n
 answer_one key w m e t (run_else words) h k l n o =
     ap (λ b. cond b (run_told w false (ran_on w words)) (Some no_text)) e ∙ else_one w m words (has_failed key m) l n
@@ -375,13 +403,22 @@ decided key m = (
 
 -- ---- where the first round forbids to keep, there are no rows
 
+asks_early_answered : (ask : Ask) → asks_early ask ≡ true → asks_answered ask ≡ true
+asks_early_answered asks.Env e = refl
+asks_early_answered asks.Unset e = refl
+asks_early_answered asks.File e = refl
+asks_early_answered asks.Maybe e = refl
+asks_early_answered asks.Regular e = refl
+asks_early_answered asks.SourcesIfShown e = refl
+asks_early_answered asks.RefuseIfShown e = e
+
 is_early_answered : (part : Part) → is_early part ≡ true → is_answered part ≡ true
 is_early_answered (is row) e = refl
 is_early_answered (output made) e = refl
 is_early_answered directory e = refl
 is_early_answered compiler e = refl
 is_early_answered (plan words) e = e
-is_early_answered (asked ask name) e = e
+is_early_answered (asked ask name) e = asks_early_answered ask e
 is_early_answered (run words) e = refl
 is_early_answered (run_else words) e = refl
 is_early_answered (pch searched) e = e

@@ -1,5 +1,5 @@
 -- What the parts of a key say on a machine.
-use Rattle.std.specs.Prelude.{ℕ, ◌&&◌, false, cond, List, [], ◌∷◌, ◌++◌, map, filter, codes, Option, None, Some}
+use Rattle.std.specs.Prelude.{ℕ, ◌&&◌, Bool, false, cond, List, [], ◌∷◌, ◌++◌, map, filter, codes, Option, None, Some}
 use Rattle.std.specs.Option.{option_map}
 use Rattle.std.specs.Str.{bytes_eq}
 use Rattle.scl_files.specs.Paths.{begins_with_slash}
@@ -11,8 +11,9 @@ use Rattle.scl_lookup.specs.Questions.{Question, env, program, file, real, Machi
 use Rattle.scl_questions.specs.Told.{value_told, unset_told, file_told, maybe_told, regular_told, program_told}
 use Rattle.scl_rounds.specs.Files.{files_told, times_told}
 use Rattle.scl_rounds.specs.Keys.{Key, is_answered, is_made}
+use Rattle.scl_rounds.specs.Patterns.{is_shown}
 use Rattle.scl_rounds.specs.Runs.{has_failed, may_fail, no_text, run_told}
-use Rattle.scl_rounds.specs.Shown.{all_sources, marked}
+use Rattle.scl_rounds.specs.Shown.{all_sources, marked, shown}
 
 -- ---- the directory
 
@@ -29,13 +30,19 @@ directory_on place m = directory_by place m (m said_directory)
 
 -- ---- answers
 
+-- names and bytes, if a text has the pattern; nothing may be kept if it is not known
+abbrev pub told_if : Machine → (is_shown : Option Bool) → (names : List (List ℕ)) → Option (List Field)
+told_if m None names = None
+told_if m (Some is_shown) names = cond is_shown (files_told m names) (Some no_text)
+
 abbrev pub answer_asked : Key → Machine → Ask → List ℕ → Option (List Field)
 answer_asked key m asks.Env name = Some (value_told (m (env name)))
 answer_asked key m asks.Unset name = unset_told (m (env name))
 answer_asked key m asks.File path = file_told (m (file path))
 answer_asked key m asks.Maybe path = cond (is_made key path) (Some []) (maybe_told (m (file path)))
 answer_asked key m asks.Regular path = regular_told (m (file path))
-answer_asked key m other pattern = None
+answer_asked key m asks.SourcesIfShown pattern = told_if m (is_shown pattern (shown key m)) (all_sources key m)
+answer_asked key m asks.RefuseIfShown pattern = None
 
 -- what a machine answers to a part; none: nothing may be kept, or no round answers it
 abbrev pub answer_on : Key → Machine → Part → Option (List Field)

@@ -1,6 +1,7 @@
 pub mod Answers
 pub mod Files
 pub mod Keys
+pub mod Patterns
 pub mod Rounds
 pub mod Runs
 pub mod Shown

@@ -12,8 +12,9 @@ use Rattle.scl_rounds.specs.declared.question.Phase.TheVariants as phases
 use Rattle.scl_rounds.specs.Answers.{answer_on, rows_on, said_directory}
 use Rattle.scl_rounds.specs.Files.{is_regular}
 use Rattle.scl_rounds.specs.Keys.{Key, is_early, is_made}
+use Rattle.scl_rounds.specs.Patterns.{is_shown}
 use Rattle.scl_rounds.specs.Runs.{has_failed, loaded_in}
-use Rattle.scl_rounds.specs.Shown.{all_sources, marked, shown_by}
+use Rattle.scl_rounds.specs.Shown.{all_sources, marked, shown, shown_by}
 
 -- ---- what each round asks for a part
 
@@ -54,10 +55,20 @@ abbrev pub loaded_by : (text : Option (List ℕ)) → List (List ℕ)
 loaded_by None = []
 loaded_by (Some text) = loaded_in text
 
+-- the names, if a text has the pattern
+abbrev pub needed_if : (is_shown : Option Bool) → (names : List (List ℕ)) → List (List ℕ)
+needed_if None names = []
+needed_if (Some is_shown) names = cond is_shown names []
+
+abbrev pub needed_asked : Key → Machine → Ask → List ℕ → List (List ℕ)
+needed_asked key m asks.SourcesIfShown pattern = needed_if (is_shown pattern (shown key m)) (all_sources key m)
+needed_asked key m other name = []
+
 -- the files that a part needs, by what the runs write
 abbrev pub needed : Key → Machine → Part → List (List ℕ)
 needed key m (run_part words) = loaded_by (shown_by key m (run_part words))
 needed key m (run_else words) = loaded_by (shown_by key m (run_else words))
+needed key m (asked ask name) = needed_asked key m ask name
 needed key m sources = all_sources key m
 needed key m times_part = marked key m
 needed key m other = []

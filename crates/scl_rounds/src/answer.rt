@@ -3,6 +3,7 @@ ghost use Rattle.std.specs.Prelude.{◌≡◌, ◌∷◌, [], cond, false, Some,
 ghost use Rattle.std.specs.Option.{option_copied, option_map};
 ghost use Rattle.std.specs.Str.{bytes_eq};
 ghost use Rattle.scl_values.specs.Words.{words_of};
+ghost use Rattle.scl_key.specs.declared.part.Ask.TheVariants as asks;
 ghost use Rattle.scl_key.specs.Views.{part_of};
 ghost use Rattle.scl_lookup.specs.Keys.{ran_on, said};
 ghost use Rattle.scl_lookup.specs.Questions.{env, file, program, real};
@@ -14,8 +15,9 @@ ghost use Rattle.scl_rounds.specs.Views.{key_of, machine_of};
 
 use crate::file::{files_told, times_told};
 use crate::key::{Key, is_made};
+use crate::pattern::is_shown;
 use crate::run::{has_failed, may_fail, no_text, ran, run_told};
-use crate::shown::{all_sources, marked};
+use crate::shown::{all_sources, marked, shown};
 use scl_key::{Ask, Part};
 use scl_questions::{
     Answer, Field, Question, file_told, maybe_told, program, program_told, real, regular_told,
@@ -104,6 +106,22 @@ fn regular_answer(alloc: Global, told: &Told<'_>, path: &[u8]) -> Mem<Option<Vec
     Ok(regular_told(alloc, standing(alloc, path, told.asked, told.answers)?))
 }
 
+/// The sources, if a text has the pattern; nothing may be kept if it is not known.
+fn sources_if_shown(
+    alloc: Global,
+    told: &Told<'_>,
+    key: &Key<'_>,
+    pattern: &[u8],
+) -> Mem<Option<Vec<Field>>>
+    ensures { IfOk result (λ answer. option_map (λ answer. row_of answer.items) answer ≡ answer_asked (key_of key.now) (machine_of told.now) asks.SourcesIfShown pattern.now) }
+{
+    match is_shown(alloc, pattern, &shown(alloc, told, key)?)? {
+        Some(true) => files_told(alloc, told, &all_sources(alloc, told, key)?),
+        Some(false) => Ok(Some(no_text(alloc)?)),
+        None => Ok(None),
+    }
+}
+
 /// The answer to what is asked of a name.
 fn asked_answer(
     alloc: Global,
@@ -125,7 +143,8 @@ fn asked_answer(
             maybe_answer(alloc, told, name)
         }
         Ask::Regular => regular_answer(alloc, told, name),
-        Ask::SourcesIfShown | Ask::RefuseIfShown => Ok(None),
+        Ask::SourcesIfShown => sources_if_shown(alloc, told, key, name),
+        Ask::RefuseIfShown => Ok(None),
     }
 }
 

@@ -6,6 +6,7 @@ mod file;
 mod key;
 pub mod laws;
 mod next;
+mod pattern;
 mod question;
 mod row;
 mod run;

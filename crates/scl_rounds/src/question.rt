@@ -7,14 +7,15 @@ ghost use Rattle.scl_key.specs.declared.part.Ask.TheVariants as asks;
 ghost use Rattle.scl_key.specs.Views.{part_of};
 ghost use Rattle.scl_lookup.specs.Questions.{env, file, program};
 ghost use Rattle.scl_questions.specs.Views.{questions_of};
-ghost use Rattle.scl_rounds.specs.Rounds.{asked_in, asked_run, behind_said, fifth, first, first_asked, forbids, fourth, is_forbidden, is_vain, loaded_by, needed, second, stage, third, timed};
+ghost use Rattle.scl_rounds.specs.Rounds.{asked_in, asked_run, behind_said, fifth, first, first_asked, forbids, fourth, is_forbidden, is_vain, loaded_by, needed, needed_asked, second, stage, third, timed};
 ghost use Rattle.scl_rounds.specs.Views.{key_of, machine_of};
 
 use crate::answer::{Told, answer, said_directory};
 use crate::file::is_regular;
 use crate::key::{Key, is_early, is_made};
+use crate::pattern::is_shown;
 use crate::run::{has_failed, loaded_in};
-use crate::shown::{all_sources, marked, shown_by};
+use crate::shown::{all_sources, marked, shown, shown_by};
 use scl_key::{Ask, Part};
 use scl_questions::{Language, Question};
 use scl_text::command::copy_words;
@@ -186,12 +187,46 @@ fn loaded_by(alloc: Global, text: Option<&[u8]>) -> Mem<Vec<Vec<u8>>>
     }
 }
 
+/// The sources, if a text has the pattern.
+fn needed_if_shown(
+    alloc: Global,
+    told: &Told<'_>,
+    key: &Key<'_>,
+    pattern: &[u8],
+) -> Mem<Vec<Vec<u8>>>
+    ensures { IfOk result (λ names. words_of names.items ≡ needed_asked (key_of key.now) (machine_of told.now) asks.SourcesIfShown pattern.now) }
+{
+    match is_shown(alloc, pattern, &shown(alloc, told, key)?)? {
+        Some(true) => all_sources(alloc, told, key),
+        Some(false) | None => Ok(Vec::new(alloc)),
+    }
+}
+
+/// The files that are needed by what is asked of a name.
+fn needed_asked(
+    alloc: Global,
+    told: &Told<'_>,
+    key: &Key<'_>,
+    ask: Ask,
+    name: &[u8],
+) -> Mem<Vec<Vec<u8>>>
+    ensures { IfOk result (λ names. words_of names.items ≡ needed_asked (key_of key.now) (machine_of told.now) ask name.now) }
+{
+    match ask {
+        Ask::SourcesIfShown => needed_if_shown(alloc, told, key, name),
+        Ask::Env | Ask::Unset | Ask::File | Ask::Maybe | Ask::Regular | Ask::RefuseIfShown => {
+            Ok(Vec::new(alloc))
+        }
+    }
+}
+
 /// The files that a part needs, by what the runs wrote.
 fn needed(alloc: Global, told: &Told<'_>, key: &Key<'_>, part: &Part) -> Mem<Vec<Vec<u8>>>
     ensures { IfOk result (λ names. words_of names.items ≡ needed (key_of key.now) (machine_of told.now) (part_of part.now)) }
 {
     match part {
         Part::Run(_) | Part::RunElse(_) => loaded_by(alloc, shown_by(alloc, told, key, part)?),
+        Part::Asked(ask, name) => needed_asked(alloc, told, key, *ask, name),
         Part::Sources => all_sources(alloc, told, key),
         Part::Times => marked(alloc, told, key),
         Part::Is(_)
@@ -199,7 +234,6 @@ fn needed(alloc: Global, told: &Told<'_>, key: &Key<'_>, part: &Part) -> Mem<Vec
         | Part::Directory
         | Part::Compiler
         | Part::Plan(_)
-        | Part::Asked(_, _)
         | Part::Pch(_) => Ok(Vec::new(alloc)),
     }
 }
