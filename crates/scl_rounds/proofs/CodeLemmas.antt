@@ -1,7 +1,10 @@
 -- Lists of questions and of rows, one by one.
-use Rattle.std.proofs.Common.{◌≡◌, ◌≤◌, ℕ, zero, suc, drop, Bool, true, false, cond, List, [], ◌∷◌, ◌++◌, length, map, filter, Option, None, Some, Vec, refl, sym, ap, ◌∙◌, arith}
+use Rattle.std.proofs.Common.{◌≡◌, ◌≤◌, ℕ, zero, suc, drop, Bool, true, false, cond, List, [], ◌∷◌, ◌++◌, length, map, filter, Option, None, Some, Vec, refl, sym, ap, append_assoc, ◌∙◌, arith}
 use Rattle.std.specs.declared.alloc.Global.{Global}
 use Rattle.std.specs.Option.{option_map, option_zip}
+use Rattle.std.proofs.lemmas.List.{append-nil}
+use Rattle.std.specs.List.{flat_map}
+use Rattle.scl_values.specs.Words.{words_of}
 use Rattle.scl_key.specs.Parts.{Part}
 use Rattle.scl_lookup.specs.Keys.{Row, all_there}
 use Rattle.scl_lookup.specs.Questions.{Question, Machine}
@@ -70,3 +73,9 @@ row_there key m rows row part parts answered there =
     rows_behind rows row (all_there (map (row_on key m) (filter is_answered parts)))
     ∙ ap (λ it. option_map (λ rest. rows_of rows ++ rest) (option_map (λ values. values.0 ∷ values.1) (option_zip it (all_there (map (row_on key m) (filter is_answered parts)))))) there
     ∙ ap (λ b. option_map (λ rest. rows_of rows ++ rest) (all_there (map (row_on key m) (cond b (part ∷ filter is_answered parts) (filter is_answered parts))))) (sym answered)
+
+-- ---- words
+
+pub flat_more : (f : List ℕ → List (List ℕ)) (words : List (Vec ℕ Global)) (word : Vec ℕ Global) → flat_map f (words_of (words ++ word ∷ [])) ≡ flat_map f (words_of words) ++ f word.items
+flat_more f [] word = append-nil (f word.items)
+flat_more f (first ∷ words) word = ap (λ them. f first.items ++ them) (flat_more f words word) ∙ sym (append_assoc (f first.items) (flat_map f (words_of words)) (f word.items))

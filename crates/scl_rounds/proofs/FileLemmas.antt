@@ -6,6 +6,7 @@ use Rattle.scl_lookup.specs.Questions.{Machine}
 use Rattle.scl_questions.specs.Views.{field_of, row_of}
 use Rattle.scl_questions.specs.declared.row.Field as declared_field
 use Rattle.scl_rounds.specs.Files.{file_row, files_told, in_one, times_row, times_told}
+use Rattle.scl_rounds.specs.Plans.{there_row, there_told}
 
 row_behind : (answer row : List declared_field.Field) (rest : Row) → row_of (answer ++ row) ++ rest ≡ row_of answer ++ (row_of row ++ rest)
 row_behind [] row rest = refl
@@ -31,3 +32,7 @@ file_there m = there (file_row m)
 pub times_there : (m : Machine) (name : List ℕ) (names : List (List ℕ)) (answer row : List declared_field.Field) → Some (row_of row) ≡ times_row m name
     → option_map (λ rest. row_of (answer ++ row) ++ rest) (times_told m names) ≡ option_map (λ rest. row_of answer ++ rest) (times_told m (name ∷ names))
 times_there m = there (times_row m)
+
+pub there_there : (m : Machine) (name : List ℕ) (names : List (List ℕ)) (answer row : List declared_field.Field) → Some (row_of row) ≡ there_row m name
+    → option_map (λ rest. row_of (answer ++ row) ++ rest) (there_told m names) ≡ option_map (λ rest. row_of answer ++ rest) (there_told m (name ∷ names))
+there_there m = there (there_row m)

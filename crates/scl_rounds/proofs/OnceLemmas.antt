@@ -6,7 +6,7 @@ use Rattle.std.specs.declared.alloc.Global.{Global}
 use Rattle.std.proofs.lemmas.List.{append-nil}
 use Rattle.std.proofs.lemmas.Slice.Eq.{bytes_eq-Decides}
 use Rattle.scl_values.specs.Words.{words_of}
-use Rattle.scl_rounds.specs.Shown.{each_once}
+use Rattle.scl_rounds.specs.Shown.{each_once, with_name}
 
 abbrev is_among : List ℕ → List (List ℕ) → Bool
 is_among name names = list_any (λ other. bytes_eq other name) names
@@ -66,19 +66,13 @@ words_more : (names : List (Vec ℕ Global)) (name : Vec ℕ Global) → words_o
 words_more [] name = refl
 words_more (n ∷ names) name = ap (λ l. n.items ∷ l) (words_more names name)
 
-once_with : (names : List (Vec ℕ Global)) (name : Vec ℕ Global) (once : List (List ℕ)) (b : Bool) → once ≡ each_once (words_of names) → is_among name.items once ≡ b
-    → each_once (words_of (names ++ name ∷ [])) ≡ once ++ if_new b name.items
-once_with names name once b e among =
-    let known : is_among name.items (words_of names) ≡ b = sym (among_once name.items (words_of names)) ∙ ap (is_among name.items) (sym e) ∙ among in
-    ap each_once (words_more names name)
-    ∙ once_more (words_of names) name.items
-    ∙ ap (λ b. each_once (words_of names) ++ if_new b name.items) known
-    ∙ ap (λ l. l ++ if_new b name.items) (sym e)
+with_by : (names : List (List ℕ)) (name : List ℕ) (among : Bool) → cond among names (names ++ name ∷ []) ≡ names ++ if_new among name
+with_by names name true = sym (append-nil names)
+with_by names name false = refl
 
-pub once_known : (names once : List (Vec ℕ Global)) (name : Vec ℕ Global) → words_of once ≡ each_once (words_of names) → is_among name.items (words_of once) ≡ true
-    → words_of once ≡ each_once (words_of (names ++ name ∷ []))
-once_known names once name e among = sym (append-nil (words_of once)) ∙ sym (once_with names name (words_of once) true e among)
-
-pub once_new : (names once : List (Vec ℕ Global)) (name : Vec ℕ Global) → words_of once ≡ each_once (words_of names) → is_among name.items (words_of once) ≡ false
-    → words_of (once ++ name ∷ []) ≡ each_once (words_of (names ++ name ∷ []))
-once_new names once name e among = words_more once name ∙ sym (once_with names name (words_of once) false e among)
+pub once_with_name : (names : List (Vec ℕ Global)) (name : Vec ℕ Global) → with_name (each_once (words_of names)) name.items ≡ each_once (words_of (names ++ name ∷ []))
+once_with_name names name =
+    with_by (each_once (words_of names)) name.items (is_among name.items (each_once (words_of names)))
+    ∙ ap (λ among. each_once (words_of names) ++ if_new among name.items) (among_once name.items (words_of names))
+    ∙ sym (once_more (words_of names) name.items)
+    ∙ ap each_once (sym (words_more names name))

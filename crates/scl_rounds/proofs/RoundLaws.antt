@@ -10,7 +10,7 @@ use Rattle.scl_key.specs.declared.part.Ask.TheVariants as asks
 use Rattle.scl_key.specs.Parts.{Part, is, output, directory, compiler, plan, asked, run, run_else, pch, sources, times}
 use Rattle.scl_lookup.specs.Keys.{Row, said, all_there, ran_on, unfailed}
 use Rattle.scl_lookup.specs.Lists.{Agree}
-use Rattle.scl_lookup.specs.Questions.{Question, file, real, times as stamp_of, run as run_asked, Standing, regular, folder, special, missing, Written, Machine}
+use Rattle.scl_lookup.specs.Questions.{Question, program, file, real, times as stamp_of, run as run_asked, Standing, regular, folder, special, missing, Written, Machine}
 use Rattle.scl_questions.specs.Rounds.{joined, was_asked, with_one}
 use Rattle.scl_questions.specs.Same.{same}
 use Rattle.scl_questions.specs.Talks.{AreDecided, ends}
@@ -22,7 +22,8 @@ use Rattle.scl_rounds.specs.declared.question.Phase.TheVariants as phases
 use Rattle.scl_rounds.specs.Files.{file_row, files_told, in_one, is_regular, times_by, times_row, times_told}
 use Rattle.scl_rounds.specs.Keys.{Key, asks_answered, asks_early, is_answered, is_early, is_made}
 use Rattle.scl_rounds.specs.Patterns.{is_shown}
-use Rattle.scl_rounds.specs.Rounds.{asked_run, behind_said, fifth, first, first_asked, forbids, fourth, is_forbidden, loaded_by, needed, needed_asked, needed_if, rounds, second, stage, third, timed, RoundsGiveRows}
+use Rattle.scl_rounds.specs.Plans.{asked_plan, called_in, cleaned, files_in_plan, plan_told, planned_on, program_row, programs_told, there_by, there_row, there_told}
+use Rattle.scl_rounds.specs.Rounds.{asked_run, behind_said, called, called_by_plan, fifth, first, first_asked, forbids, fourth, is_forbidden, loaded_by, needed, needed_asked, needed_by, needed_if, rounds, second, stage, third, timed, RoundsGiveRows}
 use Rattle.scl_rounds.specs.Runs.{fails, has_failed, loaded_in, may_fail, names_sources, no_text, outputs_told, run_told}
 use Rattle.scl_rounds.specs.Shown.{all_sources, each_once, input_of, marked, marked_in, shown, shown_by, text_on}
 
@@ -193,18 +194,31 @@ needed_asked_one key w m e asks.Regular name = refl
 needed_asked_one key w m e asks.SourcesIfShown name = ap (λ texts. needed_if (is_shown name texts) (each_once (flat_map marked_in texts ++ filter_map input_of key.parts))) e
 needed_asked_one key w m e asks.RefuseIfShown name = refl
 
-needed_one : (key : Key) (w m : Machine) → shown key w ≡ shown key m → (part : Part) → shown_by key w part ≡ shown_by key m part → needed key w part ≡ needed key m part
-needed_one key w m e (is row) own = refl
-needed_one key w m e (output made) own = refl
-needed_one key w m e directory own = refl
-needed_one key w m e compiler own = refl
-needed_one key w m e (plan words) own = refl
-needed_one key w m e (asked ask name) own = needed_asked_one key w m e ask name
-needed_one key w m e (run words) own = ap loaded_by own
-needed_one key w m e (run_else words) own = ap loaded_by own
-needed_one key w m e (pch searched) own = refl
-needed_one key w m e sources own = ap (λ texts. each_once (flat_map marked_in texts ++ filter_map input_of key.parts)) e
-needed_one key w m e times own = ap (λ texts. each_once (flat_map marked_in texts)) e
+needed_one : (key : Key) (w m : Machine) → shown key w ≡ shown key m → (part : Part) → shown_by key w part ≡ shown_by key m part → Agree w m (second key m part) → needed key w part ≡ needed key m part
+needed_one key w m e (is row) own k = refl
+needed_one key w m e (output made) own k = refl
+needed_one key w m e directory own k = refl
+needed_one key w m e compiler own k = refl
+needed_one key w m e (plan words) own k = ap (λ it. needed_by key (unfailed it)) k.0
+needed_one key w m e (asked ask name) own k = needed_asked_one key w m e ask name
+needed_one key w m e (run words) own k = ap loaded_by own
+needed_one key w m e (run_else words) own k = ap loaded_by own
+needed_one key w m e (pch searched) own k = refl
+needed_one key w m e sources own k = ap (λ texts. each_once (flat_map marked_in texts ++ filter_map input_of key.parts)) e
+needed_one key w m e times own k = ap (λ texts. each_once (flat_map marked_in texts)) e
+
+called_one : (key : Key) (w m : Machine) (part : Part) → Agree w m (second key m part) → called w part ≡ called m part
+called_one key w m (is row) k = refl
+called_one key w m (output made) k = refl
+called_one key w m directory k = refl
+called_one key w m compiler k = refl
+called_one key w m (plan words) k = ap (λ it. called_by_plan (unfailed it)) k.0
+called_one key w m (asked ask name) k = refl
+called_one key w m (run words) k = refl
+called_one key w m (run_else words) k = refl
+called_one key w m (pch searched) k = refl
+called_one key w m sources k = refl
+called_one key w m times k = refl
 
 fourth_one : (key : Key) (w m : Machine) (parts : List Part) → has_failed key w ≡ has_failed key m → shown key w ≡ shown key m
     → Agree w m (flat_map (second key m) parts) → Agree w m (flat_map (third key m) parts) → flat_map (fourth key w) parts ≡ flat_map (fourth key m) parts
@@ -212,7 +226,8 @@ fourth_one key w m [] e texts k l = refl
 fourth_one key w m (part ∷ parts) e texts k l =
     let two = agree_both w m (second key m part) (flat_map (second key m) parts) k in
     let three = agree_both w m (third key m part) (flat_map (third key m) parts) l in
-    ap (λ names. map file names ++ flat_map (fourth key w) parts) (needed_one key w m texts part (shown_by_one key w m e part two.0 three.0))
+    ap (λ names. (map program names ++ map file (needed key w part)) ++ flat_map (fourth key w) parts) (called_one key w m part two.0)
+    ∙ ap (λ names. (map program (called m part) ++ map file names) ++ flat_map (fourth key w) parts) (needed_one key w m texts part (shown_by_one key w m e part two.0 three.0) two.0)
     ∙ ap (λ qs. fourth key m part ++ qs) (fourth_one key w m parts e texts two.1 three.1)
 
 -- ---- what is asked of files that are there
@@ -270,6 +285,27 @@ else_one : (w m : Machine) (words : List (List ℕ)) (b : Bool) → Agree w m (c
 else_one w m words true h k = run_one w m words false h.0 k
 else_one w m words false h k = refl
 
+there_one : (w m : Machine) (names : List (List ℕ)) → Agree w m (map file names) → all_there (map (there_row w) names) ≡ all_there (map (there_row m) names)
+there_one w m [] h = refl
+there_one w m (name ∷ names) h =
+    ap (λ it. option_map (λ values. values.0 ∷ values.1) (option_zip (there_by name it) (all_there (map (there_row w) names)))) h.0
+    ∙ ap (λ rows. option_map (λ values. values.0 ∷ values.1) (option_zip (there_row m name) rows)) (there_one w m names h.1)
+
+programs_one : (w m : Machine) (names : List (List ℕ)) → Agree w m (map program names) → programs_told w names ≡ programs_told m names
+programs_one w m [] h = refl
+programs_one w m (name ∷ names) h = ap (λ it. program_row name it ++ programs_told w names) h.0 ∙ ap (λ row. program_row name (m (program name)) ++ row) (programs_one w m names h.1)
+
+plan_told_one : (key : Key) (w m : Machine) (it : Option Written) → Agree w m (map program (called_by_plan it) ++ map file (needed_by key it))
+    → option_and_then (λ it. plan_told key w it.messages) it ≡ option_and_then (λ it. plan_told key m it.messages) it
+plan_told_one key w m None n = refl
+plan_told_one key w m (Some it) n =
+    let both = agree_both w m (map program (called_in it.messages)) (map file (files_in_plan key it.messages)) n in
+    ap (λ rows. option_map (λ files. said (cleaned it.messages) ∷ files ++ programs_told w (called_in it.messages)) (option_map in_one rows)) (there_one w m (files_in_plan key it.messages) both.1)
+    ∙ ap (λ programs. option_map (λ files. said (cleaned it.messages) ∷ files ++ programs) (there_told m (files_in_plan key it.messages))) (programs_one w m (called_in it.messages) both.0)
+
+plan_one : (key : Key) (w m : Machine) (words : List (List ℕ)) → w (asked_plan words) ≡ m (asked_plan words) → Agree w m (fourth key m (plan words)) → answer_on key w (plan words) ≡ answer_on key m (plan words)
+plan_one key w m words k n = ap (λ it. option_and_then (λ it. plan_told key w it.messages) (unfailed it)) k ∙ plan_told_one key w m (planned_on m words) n
+
 told_if_one : (w m : Machine) (names : List (List ℕ)) (is_there : Option Bool) → Agree w m (map file (needed_if is_there names)) → told_if w is_there names ≡ told_if m is_there names
 told_if_one w m names None h = refl
 told_if_one w m names (Some true) h = ap (option_map in_one) (files_one w m names h)
@@ -301,7 +337,7 @@ answer_one key w m e t (is row) h k l n o = refl
 answer_one key w m e t (output made) h k l n o = refl
 answer_one key w m e t directory h k l n o = ap (λ it. Some (said it ∷ [])) (directory_one w m key.place h.0 k)
 answer_one key w m e t compiler h k l n o = ap program_told h.0
-answer_one key w m e t (plan words) h k l n o = refl
+answer_one key w m e t (plan words) h k l n o = plan_one key w m words k.0 n
 answer_one key w m e t (asked ask name) h k l n o = asked_one key w m t ask name h n
 answer_one key w m e t (run words) h k l n o = run_one w m words (may_fail key) k.0 n
 answer_one key w m e t (run_else words) h k l n o =
@@ -417,7 +453,7 @@ is_early_answered (is row) e = refl
 is_early_answered (output made) e = refl
 is_early_answered directory e = refl
 is_early_answered compiler e = refl
-is_early_answered (plan words) e = e
+is_early_answered (plan words) e = refl
 is_early_answered (asked ask name) e = asks_early_answered ask e
 is_early_answered (run words) e = refl
 is_early_answered (run_else words) e = refl

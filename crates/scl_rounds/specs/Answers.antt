@@ -1,17 +1,18 @@
 -- What the parts of a key say on a machine.
 use Rattle.std.specs.Prelude.{ℕ, ◌&&◌, Bool, false, cond, List, [], ◌∷◌, ◌++◌, map, filter, codes, Option, None, Some}
-use Rattle.std.specs.Option.{option_map}
+use Rattle.std.specs.Option.{option_and_then, option_map}
 use Rattle.std.specs.Str.{bytes_eq}
 use Rattle.scl_files.specs.Paths.{begins_with_slash}
 use Rattle.scl_key.specs.declared.part.Ask.{Ask}
 use Rattle.scl_key.specs.declared.part.Ask.TheVariants as asks
-use Rattle.scl_key.specs.Parts.{Part, is, output, directory, compiler, asked, run, run_else, sources, times, hashed}
+use Rattle.scl_key.specs.Parts.{Part, is, output, directory, compiler, plan, asked, run, run_else, sources, times, hashed}
 use Rattle.scl_lookup.specs.Keys.{Field, said, Row, all_there, ran_on}
 use Rattle.scl_lookup.specs.Questions.{Question, env, program, file, real, Machine}
 use Rattle.scl_questions.specs.Told.{value_told, unset_told, file_told, maybe_told, regular_told, program_told}
 use Rattle.scl_rounds.specs.Files.{files_told, times_told}
 use Rattle.scl_rounds.specs.Keys.{Key, is_answered, is_made}
 use Rattle.scl_rounds.specs.Patterns.{is_shown}
+use Rattle.scl_rounds.specs.Plans.{plan_told, planned_on}
 use Rattle.scl_rounds.specs.Runs.{has_failed, may_fail, no_text, run_told}
 use Rattle.scl_rounds.specs.Shown.{all_sources, marked, shown}
 
@@ -50,6 +51,7 @@ answer_on key m (is row) = Some []
 answer_on key m (output made) = Some []
 answer_on key m directory = Some (said (directory_on key.place m) ∷ [])
 answer_on key m compiler = program_told (m (program []))
+answer_on key m (plan words) = option_and_then (λ it. plan_told key m it.messages) (planned_on m words)
 answer_on key m (asked ask name) = answer_asked key m ask name
 answer_on key m (run words) = run_told m (may_fail key) (ran_on m words)
 answer_on key m (run_else words) = cond (has_failed key m) (run_told m false (ran_on m words)) (Some no_text)

@@ -4,7 +4,7 @@ use Rattle.std.specs.List.{list_any}
 use Rattle.scl_files.specs.Paths.{join, same_path}
 use Rattle.scl_key.specs.declared.part.Ask.{Ask}
 use Rattle.scl_key.specs.declared.part.Ask.TheVariants as asks
-use Rattle.scl_key.specs.Parts.{Part, is, output, directory, compiler, asked, run, run_else, sources, times}
+use Rattle.scl_key.specs.Parts.{Part, is, output, directory, compiler, plan, asked, run, run_else, sources, times}
 
 -- the parts of a key, and the directory of the compiler
 pub record Key : Type 0 where
@@ -34,6 +34,7 @@ is_answered (is row) = true
 is_answered (output made) = true
 is_answered directory = true
 is_answered compiler = true
+is_answered (plan words) = true
 is_answered (asked ask name) = asks_answered ask
 is_answered (run words) = true
 is_answered (run_else words) = true

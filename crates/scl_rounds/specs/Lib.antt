@@ -2,6 +2,7 @@ pub mod Answers
 pub mod Files
 pub mod Keys
 pub mod Patterns
+pub mod Plans
 pub mod Rounds
 pub mod Runs
 pub mod Shown

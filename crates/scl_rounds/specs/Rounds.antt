@@ -1,11 +1,11 @@
 -- What a key asks of a machine, round by round.
-use Rattle.std.specs.Prelude.{◌≡◌, ◌&&◌, ℕ, is_none, Bool, false, cond, List, [], ◌∷◌, length, map, Option, None, Some}
+use Rattle.std.specs.Prelude.{◌≡◌, ◌&&◌, ℕ, is_none, Bool, false, cond, List, [], ◌∷◌, ◌++◌, length, map, Option, None, Some}
 use Rattle.std.specs.List.{flat_map, list_any}
 use Rattle.scl_files.specs.Paths.{begins_with_slash}
 use Rattle.scl_key.specs.declared.part.Ask.{Ask}
 use Rattle.scl_key.specs.declared.part.Ask.TheVariants as asks
-use Rattle.scl_key.specs.Parts.{Part, directory, compiler, asked, run as run_part, run_else, sources, times as times_part}
-use Rattle.scl_lookup.specs.Questions.{Question, env, program, file, real, times, run, Machine}
+use Rattle.scl_key.specs.Parts.{Part, directory, compiler, plan, asked, run as run_part, run_else, sources, times as times_part}
+use Rattle.scl_lookup.specs.Questions.{Question, env, program, file, real, times, run, Written, Machine}
 use Rattle.scl_questions.specs.Talks.{Stage, ends, talk}
 use Rattle.scl_rounds.specs.declared.question.Phase.{Phase}
 use Rattle.scl_rounds.specs.declared.question.Phase.TheVariants as phases
@@ -13,6 +13,7 @@ use Rattle.scl_rounds.specs.Answers.{answer_on, rows_on, said_directory}
 use Rattle.scl_rounds.specs.Files.{is_regular}
 use Rattle.scl_rounds.specs.Keys.{Key, is_early, is_made}
 use Rattle.scl_rounds.specs.Patterns.{is_shown}
+use Rattle.scl_rounds.specs.Plans.{asked_plan, called_in, files_in_plan, planned_on}
 use Rattle.scl_rounds.specs.Runs.{has_failed, loaded_in}
 use Rattle.scl_rounds.specs.Shown.{all_sources, marked, shown, shown_by}
 
@@ -43,6 +44,7 @@ asked_run words = run [] words ∷ []
 
 abbrev pub second : Key → Machine → Part → List Question
 second key m directory = behind_said key.place (m said_directory)
+second key m (plan words) = asked_plan words ∷ []
 second key m (run_part words) = asked_run words
 second key m other = []
 
@@ -54,6 +56,20 @@ third key m other = []
 abbrev pub loaded_by : (text : Option (List ℕ)) → List (List ℕ)
 loaded_by None = []
 loaded_by (Some text) = loaded_in text
+
+-- the files that a plan names, if there is a plan
+abbrev pub needed_by : Key → Option Written → List (List ℕ)
+needed_by key None = []
+needed_by key (Some it) = files_in_plan key it.messages
+
+-- the programs that it calls
+abbrev pub called_by_plan : Option Written → List (List ℕ)
+called_by_plan None = []
+called_by_plan (Some it) = called_in it.messages
+
+abbrev pub called : Machine → Part → List (List ℕ)
+called m (plan words) = called_by_plan (planned_on m words)
+called m other = []
 
 -- the names, if a text has the pattern
 abbrev pub needed_if : (is_shown : Option Bool) → (names : List (List ℕ)) → List (List ℕ)
@@ -68,13 +84,14 @@ needed_asked key m other name = []
 abbrev pub needed : Key → Machine → Part → List (List ℕ)
 needed key m (run_part words) = loaded_by (shown_by key m (run_part words))
 needed key m (run_else words) = loaded_by (shown_by key m (run_else words))
+needed key m (plan words) = needed_by key (planned_on m words)
 needed key m (asked ask name) = needed_asked key m ask name
 needed key m sources = all_sources key m
 needed key m times_part = marked key m
 needed key m other = []
 
 abbrev pub fourth : Key → Machine → Part → List Question
-fourth key m part = map file (needed key m part)
+fourth key m part = map program (called m part) ++ map file (needed key m part)
 
 -- size and time, if there is a file
 abbrev pub timed : Machine → List ℕ → List Question

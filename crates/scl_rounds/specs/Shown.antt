@@ -1,6 +1,6 @@
 -- The texts that the runs of a key write, and the files that these name.
 use Rattle.std.specs.Prelude.{ℕ, not, cond, List, [], ◌∷◌, ◌++◌, filter, codes, Option, None, Some, if◌then◌else◌}
-use Rattle.std.specs.List.{filter_map, flat_map}
+use Rattle.std.specs.List.{filter_map, flat_map, list_any}
 use Rattle.std.specs.Option.{option_map}
 use Rattle.std.specs.Str.{bytes_eq}
 use Rattle.scl_key.specs.Parts.{Part, is, run, run_else}
@@ -27,6 +27,10 @@ abbrev pub shown : Key → Machine → List (List ℕ)
 shown key m = filter_map (shown_by key m) key.parts
 
 -- ---- names
+
+-- with one more name, unless it is there
+abbrev pub with_name : List (List ℕ) → List ℕ → List (List ℕ)
+with_name names name = cond (list_any (λ other. bytes_eq other name) names) names (names ++ name ∷ [])
 
 -- each once, where it first stands
 abbrev pub each_once : List (List ℕ) → List (List ℕ)

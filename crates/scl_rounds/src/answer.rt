@@ -1,6 +1,6 @@
 //! What a machine answers to the parts of a key.
 ghost use Rattle.std.specs.Prelude.{◌≡◌, ◌∷◌, [], cond, false, Some, IfOk};
-ghost use Rattle.std.specs.Option.{option_copied, option_map};
+ghost use Rattle.std.specs.Option.{option_and_then, option_copied, option_map};
 ghost use Rattle.std.specs.Str.{bytes_eq};
 ghost use Rattle.scl_values.specs.Words.{words_of};
 ghost use Rattle.scl_key.specs.declared.part.Ask.TheVariants as asks;
@@ -10,12 +10,14 @@ ghost use Rattle.scl_lookup.specs.Questions.{env, file, program, real};
 ghost use Rattle.scl_questions.specs.Told.{file_told, maybe_told, program_told, regular_told, unset_told, value_told};
 ghost use Rattle.scl_questions.specs.Views.{row_of};
 ghost use Rattle.scl_rounds.specs.Answers.{answer_asked, answer_on, directory_on, said_directory};
+ghost use Rattle.scl_rounds.specs.Plans.{plan_told, planned_on};
 ghost use Rattle.scl_rounds.specs.Runs.{has_failed, may_fail, no_text, run_told};
 ghost use Rattle.scl_rounds.specs.Views.{key_of, machine_of};
 
 use crate::file::{files_told, times_told};
 use crate::key::{Key, is_made};
 use crate::pattern::is_shown;
+use crate::plan::{plan_told, planned};
 use crate::run::{has_failed, may_fail, no_text, ran, run_told};
 use crate::shown::{all_sources, marked, shown};
 use scl_key::{Ask, Part};
@@ -106,6 +108,20 @@ fn regular_answer(alloc: Global, told: &Told<'_>, path: &[u8]) -> Mem<Option<Vec
     Ok(regular_told(alloc, standing(alloc, path, told.asked, told.answers)?))
 }
 
+fn plan_answer(
+    alloc: Global,
+    told: &Told<'_>,
+    key: &Key<'_>,
+    words: &[Vec<u8>],
+) -> Mem<Option<Vec<Field>>>
+    ensures { IfOk result (λ answer. option_map (λ answer. row_of answer.items) answer ≡ option_and_then (λ it. plan_told (key_of key.now) (machine_of told.now) it.messages) (planned_on (machine_of told.now) (words_of words.now))) }
+{
+    match planned(alloc, told, words)? {
+        Some(written) => plan_told(alloc, told, key, &written.messages),
+        None => Ok(None),
+    }
+}
+
 /// The sources, if a text has the pattern; nothing may be kept if it is not known.
 fn sources_if_shown(
     alloc: Global,
@@ -192,6 +208,7 @@ pub(crate) fn answer(
         Part::RunElse(words) => run_else_answer(alloc, told, key, words),
         Part::Sources => files_told(alloc, told, &all_sources(alloc, told, key)?),
         Part::Times => times_told(alloc, told, &marked(alloc, told, key)?),
-        Part::Plan(_) | Part::Pch(_) => Ok(None),
+        Part::Plan(words) => plan_answer(alloc, told, key, words),
+        Part::Pch(_) => Ok(None),
     }
 }

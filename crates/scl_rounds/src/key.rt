@@ -62,12 +62,13 @@ pub(crate) fn is_answered(part: &Part) -> bool
         | Part::Output(_)
         | Part::Directory
         | Part::Compiler
+        | Part::Plan(_)
         | Part::Run(_)
         | Part::RunElse(_)
         | Part::Sources
         | Part::Times => true,
         Part::Asked(ask, _) => asks_answered(*ask),
-        Part::Plan(_) | Part::Pch(_) => false,
+        Part::Pch(_) => false,
     }
 }
 

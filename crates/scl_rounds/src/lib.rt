@@ -7,6 +7,7 @@ mod key;
 pub mod laws;
 mod next;
 mod pattern;
+mod plan;
 mod question;
 mod row;
 mod run;

@@ -7,13 +7,15 @@ ghost use Rattle.scl_key.specs.declared.part.Ask.TheVariants as asks;
 ghost use Rattle.scl_key.specs.Views.{part_of};
 ghost use Rattle.scl_lookup.specs.Questions.{env, file, program};
 ghost use Rattle.scl_questions.specs.Views.{questions_of};
-ghost use Rattle.scl_rounds.specs.Rounds.{asked_in, asked_run, behind_said, fifth, first, first_asked, forbids, fourth, is_forbidden, is_vain, loaded_by, needed, needed_asked, second, stage, third, timed};
+ghost use Rattle.scl_rounds.specs.Plans.{asked_plan, planned_on};
+ghost use Rattle.scl_rounds.specs.Rounds.{asked_in, asked_run, behind_said, called, called_by_plan, fifth, first, first_asked, forbids, fourth, is_forbidden, is_vain, loaded_by, needed, needed_asked, needed_by, second, stage, third, timed};
 ghost use Rattle.scl_rounds.specs.Views.{key_of, machine_of};
 
 use crate::answer::{Told, answer, said_directory};
 use crate::file::is_regular;
 use crate::key::{Key, is_early, is_made};
 use crate::pattern::is_shown;
+use crate::plan::{called_in, files_in_plan, plan_question, planned};
 use crate::run::{has_failed, loaded_in};
 use crate::shown::{all_sources, marked, shown, shown_by};
 use scl_key::{Ask, Part};
@@ -48,6 +50,13 @@ fn push_file(alloc: Global, questions: &mut Vec<Question>, path: &[u8]) -> Mem<(
     ensures { OnOk result (questions_of questions.new.items ≡ questions_of questions.old.items ++ file path.now ∷ []) }
 {
     questions.push(Question::File(Vec::from_slice(alloc, path)?))?;
+    Ok(())
+}
+
+fn push_program(alloc: Global, questions: &mut Vec<Question>, name: &[u8]) -> Mem<()>
+    ensures { OnOk result (questions_of questions.new.items ≡ questions_of questions.old.items ++ program name.now ∷ []) }
+{
+    questions.push(Question::Program(Vec::from_slice(alloc, name)?))?;
     Ok(())
 }
 
@@ -131,6 +140,14 @@ fn push_real(
     Ok(())
 }
 
+/// Appends a plan.
+fn push_plan(alloc: Global, questions: &mut Vec<Question>, words: &[Vec<u8>]) -> Mem<()>
+    ensures { OnOk result (questions_of questions.new.items ≡ questions_of questions.old.items ++ asked_plan (words_of words.now) ∷ []) }
+{
+    questions.push(plan_question(alloc, words)?)?;
+    Ok(())
+}
+
 /// Appends what the second round asks for a part.
 fn push_second(
     alloc: Global,
@@ -146,11 +163,11 @@ fn push_second(
             let name = said_directory(alloc, told)?;
             push_real(alloc, questions, key.place, name)
         }
+        Part::Plan(words) => push_plan(alloc, questions, words),
         Part::Run(words) => push_run(alloc, questions, words),
         Part::Is(_)
         | Part::Output(_)
         | Part::Compiler
-        | Part::Plan(_)
         | Part::Asked(_, _)
         | Part::RunElse(_)
         | Part::Pch(_)
@@ -184,6 +201,50 @@ fn loaded_by(alloc: Global, text: Option<&[u8]>) -> Mem<Vec<Vec<u8>>>
     match text {
         Some(text) => loaded_in(alloc, text),
         None => Ok(Vec::new(alloc)),
+    }
+}
+
+/// The files that a plan names.
+fn needed_by_plan(
+    alloc: Global,
+    told: &Told<'_>,
+    key: &Key<'_>,
+    words: &[Vec<u8>],
+) -> Mem<Vec<Vec<u8>>>
+    ensures { IfOk result (λ names. words_of names.items ≡ needed_by (key_of key.now) (planned_on (machine_of told.now) (words_of words.now))) }
+{
+    match planned(alloc, told, words)? {
+        Some(written) => files_in_plan(alloc, key, &written.messages),
+        None => Ok(Vec::new(alloc)),
+    }
+}
+
+/// The programs that a plan calls.
+fn called_by_plan(alloc: Global, told: &Told<'_>, words: &[Vec<u8>]) -> Mem<Vec<Vec<u8>>>
+    ensures { IfOk result (λ names. words_of names.items ≡ called_by_plan (planned_on (machine_of told.now) (words_of words.now))) }
+{
+    match planned(alloc, told, words)? {
+        Some(written) => called_in(alloc, &written.messages),
+        None => Ok(Vec::new(alloc)),
+    }
+}
+
+/// The programs that a part calls.
+fn called(alloc: Global, told: &Told<'_>, part: &Part) -> Mem<Vec<Vec<u8>>>
+    ensures { IfOk result (λ names. words_of names.items ≡ called (machine_of told.now) (part_of part.now)) }
+{
+    match part {
+        Part::Plan(words) => called_by_plan(alloc, told, words),
+        Part::Is(_)
+        | Part::Output(_)
+        | Part::Directory
+        | Part::Compiler
+        | Part::Asked(_, _)
+        | Part::Run(_)
+        | Part::RunElse(_)
+        | Part::Pch(_)
+        | Part::Sources
+        | Part::Times => Ok(Vec::new(alloc)),
     }
 }
 
@@ -226,15 +287,13 @@ fn needed(alloc: Global, told: &Told<'_>, key: &Key<'_>, part: &Part) -> Mem<Vec
 {
     match part {
         Part::Run(_) | Part::RunElse(_) => loaded_by(alloc, shown_by(alloc, told, key, part)?),
+        Part::Plan(words) => needed_by_plan(alloc, told, key, words),
         Part::Asked(ask, name) => needed_asked(alloc, told, key, *ask, name),
         Part::Sources => all_sources(alloc, told, key),
         Part::Times => marked(alloc, told, key),
-        Part::Is(_)
-        | Part::Output(_)
-        | Part::Directory
-        | Part::Compiler
-        | Part::Plan(_)
-        | Part::Pch(_) => Ok(Vec::new(alloc)),
+        Part::Is(_) | Part::Output(_) | Part::Directory | Part::Compiler | Part::Pch(_) => Ok(
+            Vec::new(alloc),
+        ),
     }
 }
 
@@ -244,6 +303,16 @@ fn push_files(alloc: Global, questions: &mut Vec<Question>, paths: &[Vec<u8>]) -
 {
     for path in paths {
         push_file(alloc, questions, path)?;
+    }
+    Ok(())
+}
+
+/// Appends each of these programs.
+fn push_programs(alloc: Global, questions: &mut Vec<Question>, names: &[Vec<u8>]) -> Mem<()>
+    ensures { OnOk result (questions_of questions.new.items ≡ questions_of questions.old.items ++ map program (words_of names.now)) }
+{
+    for name in names {
+        push_program(alloc, questions, name)?;
     }
     Ok(())
 }
@@ -258,6 +327,7 @@ fn push_fourth(
 ) -> Mem<()>
     ensures { OnOk result (questions_of questions.new.items ≡ questions_of questions.old.items ++ fourth (key_of key.now) (machine_of told.now) (part_of part.now)) }
 {
+    push_programs(alloc, questions, &called(alloc, told, part)?)?;
     push_files(alloc, questions, &needed(alloc, told, key, part)?)
 }
 

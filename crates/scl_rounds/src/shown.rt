@@ -5,7 +5,7 @@ ghost use Rattle.std.specs.Option.{option_copied};
 ghost use Rattle.std.specs.Str.{bytes_eq};
 ghost use Rattle.scl_values.specs.Words.{words_of};
 ghost use Rattle.scl_key.specs.Views.{part_of, parts_of};
-ghost use Rattle.scl_rounds.specs.Shown.{all_sources, each_once, input_in, input_of, marked, marked_in, shown, shown_by, text_on};
+ghost use Rattle.scl_rounds.specs.Shown.{all_sources, each_once, input_in, input_of, marked, marked_in, shown, shown_by, text_on, with_name};
 ghost use Rattle.scl_rounds.specs.Views.{key_of, machine_of};
 
 use crate::answer::Told;
@@ -96,7 +96,7 @@ fn input_in(fact: &[Vec<u8>]) -> Option<&[u8]>
     }
 }
 
-fn input_of(part: &Part) -> Option<&[u8]>
+pub(crate) fn input_of(part: &Part) -> Option<&[u8]>
     ensures { option_copied result ≡ input_of (part_of part.now) }
 {
     match part {
@@ -137,15 +137,24 @@ fn is_among(name: &[u8], names: &[Vec<u8>]) -> bool
     false
 }
 
+/// Appends a name, unless it is there.
+fn push_new(names: &mut Vec<Vec<u8>>, name: Vec<u8>) -> Mem<()>
+    ensures { OnOk result (words_of names.new.items ≡ with_name (words_of names.old.items) name.items) }
+{
+    if !is_among(&name, names) {
+        names.push(name)?;
+    }
+    Ok(())
+}
+
 /// Names, each once.
-fn each_once(alloc: Global, names: Vec<Vec<u8>>) -> Mem<Vec<Vec<u8>>>
+#[tactic(auto, using(crate::proofs::OnceLemmas::once_with_name))]
+pub(crate) fn each_once(alloc: Global, names: Vec<Vec<u8>>) -> Mem<Vec<Vec<u8>>>
     ensures { IfOk result (λ once. words_of once.items ≡ each_once (words_of names.items)) }
 {
     let mut once = Vec::new(alloc);
     for name in names {
-        if !is_among(&name, &once) {
-            once.push(name)?;
-        }
+        push_new(&mut once, name)?;
     }
     Ok(once)
 }
