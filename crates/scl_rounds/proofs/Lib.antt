@@ -1,3 +1,4 @@
+pub mod AssembledLemmas
 pub mod CodeLemmas
 pub mod FileLemmas
 pub mod OnceLemmas

@@ -1,5 +1,5 @@
 -- Each round, and the rows, depend on nothing but what was asked.
-use Rattle.std.proofs.Common.{◌≡◌, ◌&&◌, ◌||◌, is_none, Bool, true, false, cond, ℕ, List, [], ◌∷◌, ◌++◌, map, filter, Option, None, Some, refl, sym, ap, subst, ◌∙◌}
+use Rattle.std.proofs.Common.{◌≡◌, ◌==◌, length, if◌then◌else◌, ◌&&◌, ◌||◌, is_none, Bool, true, false, cond, ℕ, List, [], ◌∷◌, ◌++◌, map, filter, Option, None, Some, refl, sym, ap, subst, ◌∙◌}
 use Rattle.std.proofs.lemmas.Bool.{and_parts}
 use Rattle.std.specs.List.{cons_option, filter_map, flat_map, list_any}
 use Rattle.std.specs.Option.{option_and_then, option_map, option_zip, unwrap_or}
@@ -10,22 +10,23 @@ use Rattle.scl_key.specs.declared.part.Ask.TheVariants as asks
 use Rattle.scl_key.specs.Parts.{Part, is, output, directory, compiler, plan, asked, run, run_else, pch, sources, times}
 use Rattle.scl_lookup.specs.Keys.{Row, said, all_there, ran_on, unfailed}
 use Rattle.scl_lookup.specs.Lists.{Agree}
-use Rattle.scl_lookup.specs.Questions.{Question, program, file, real, times as stamp_of, run as run_asked, Standing, regular, folder, special, missing, Written, Machine}
+use Rattle.scl_lookup.specs.Questions.{Question, program, file, bytes, real, times as stamp_of, run as run_asked, Standing, regular, folder, special, missing, Written, Machine}
 use Rattle.scl_questions.specs.Rounds.{joined, was_asked, with_one}
 use Rattle.scl_questions.specs.Same.{same}
 use Rattle.scl_questions.specs.Talks.{AreDecided, ends}
 use Rattle.scl_questions.specs.Told.{value_told, unset_told, file_told, maybe_told, regular_told, program_told}
 use Rattle.scl_questions.proofs.SameLaws.{same_one}
 use Rattle.scl_questions.proofs.TalkLaws.{talks_end}
-use Rattle.scl_rounds.specs.Answers.{answer_asked, answer_on, directory_by, directory_on, row_by, row_on, rows_on, said_directory, told_if}
+use Rattle.scl_rounds.specs.Answers.{answer_asked, answer_on, directory_by, directory_on, row_by, refused_told, row_on, rows_on, said_directory, told_if}
 use Rattle.scl_rounds.specs.declared.question.Phase.TheVariants as phases
 use Rattle.scl_rounds.specs.Files.{file_row, files_told, in_one, is_regular, times_by, times_row, times_told}
-use Rattle.scl_rounds.specs.Keys.{Key, asks_answered, asks_early, is_answered, is_early, is_made}
+use Rattle.scl_rounds.specs.Keys.{Key, asks_early, is_answered, is_early, is_made}
 use Rattle.scl_rounds.specs.Patterns.{is_shown}
 use Rattle.scl_rounds.specs.Plans.{asked_plan, called_in, cleaned, files_in_plan, plan_told, planned_on, program_row, programs_told, there_by, there_row, there_told}
-use Rattle.scl_rounds.specs.Rounds.{asked_run, behind_said, called, called_by_plan, fifth, first, first_asked, forbids, fourth, is_forbidden, loaded_by, needed, needed_asked, needed_by, needed_if, rounds, second, stage, third, timed, RoundsGiveRows}
+use Rattle.scl_rounds.specs.Refusals.{is_refused}
+use Rattle.scl_rounds.specs.Rounds.{asked_run, behind_said, called, called_by_plan, content_asked, fifth, fifth_asked, first, first_asked, forbids, fourth, is_forbidden, loaded_by, needed, needed_asked, needed_by, needed_if, rounds, second, stage, third, timed, RoundsGiveRows}
 use Rattle.scl_rounds.specs.Runs.{fails, has_failed, loaded_in, may_fail, names_sources, no_text, outputs_told, run_told}
-use Rattle.scl_rounds.specs.Shown.{all_sources, each_once, input_of, marked, marked_in, shown, shown_by, text_on}
+use Rattle.scl_rounds.specs.Shown.{all_sources, content_at, each_once, input_of, marked, marked_in, searched, shown, shown_by, text_on, unmarked}
 
 -- ---- what both answer alike
 
@@ -192,7 +193,7 @@ needed_asked_one key w m e asks.File name = refl
 needed_asked_one key w m e asks.Maybe name = refl
 needed_asked_one key w m e asks.Regular name = refl
 needed_asked_one key w m e asks.SourcesIfShown name = ap (λ texts. needed_if (is_shown name texts) (each_once (flat_map marked_in texts ++ filter_map input_of key.parts))) e
-needed_asked_one key w m e asks.RefuseIfShown name = refl
+needed_asked_one key w m e asks.RefuseIfShown name = ap (λ texts. if length (each_once (flat_map marked_in texts)) == 0 then filter_map input_of key.parts else []) e
 
 needed_one : (key : Key) (w m : Machine) → shown key w ≡ shown key m → (part : Part) → shown_by key w part ≡ shown_by key m part → Agree w m (second key m part) → needed key w part ≡ needed key m part
 needed_one key w m e (is row) own k = refl
@@ -237,13 +238,29 @@ timed_one w m [] h = refl
 timed_one w m (name ∷ names) h =
     ap (λ it. cond (is_regular it) (stamp_of name ∷ []) [] ++ flat_map (timed w) names) h.0 ∙ ap (λ qs. timed m name ++ qs) (timed_one w m names h.1)
 
+contents_asked_one : (w m : Machine) (names : List (List ℕ)) → Agree w m (map file names) → flat_map (content_asked w) names ≡ flat_map (content_asked m) names
+contents_asked_one w m [] h = refl
+contents_asked_one w m (name ∷ names) h =
+    ap (λ it. cond (is_regular it) (bytes name ∷ []) [] ++ flat_map (content_asked w) names) h.0 ∙ ap (λ qs. content_asked m name ++ qs) (contents_asked_one w m names h.1)
+
+fifth_asked_one : (key : Key) (w m : Machine) → shown key w ≡ shown key m → (ask : Ask) (name : List ℕ) → Agree w m (map file (needed_asked key m ask name)) → fifth_asked key w ask ≡ fifth_asked key m ask
+fifth_asked_one key w m e asks.Env name h = refl
+fifth_asked_one key w m e asks.Unset name h = refl
+fifth_asked_one key w m e asks.File name h = refl
+fifth_asked_one key w m e asks.Maybe name h = refl
+fifth_asked_one key w m e asks.Regular name h = refl
+fifth_asked_one key w m e asks.SourcesIfShown name h = refl
+fifth_asked_one key w m e asks.RefuseIfShown name h =
+    ap (λ texts. flat_map (content_asked w) (if length (each_once (flat_map marked_in texts)) == 0 then filter_map input_of key.parts else [])) e
+    ∙ contents_asked_one w m (unmarked key m) h
+
 fifth_one : (key : Key) (w m : Machine) → shown key w ≡ shown key m → (part : Part) → Agree w m (fourth key m part) → fifth key w part ≡ fifth key m part
 fifth_one key w m e (is row) h = refl
 fifth_one key w m e (output made) h = refl
 fifth_one key w m e directory h = refl
 fifth_one key w m e compiler h = refl
 fifth_one key w m e (plan words) h = refl
-fifth_one key w m e (asked ask name) h = refl
+fifth_one key w m e (asked ask name) h = fifth_asked_one key w m e ask name h
 fifth_one key w m e (run words) h = refl
 fifth_one key w m e (run_else words) h = refl
 fifth_one key w m e (pch searched) h = refl
@@ -311,17 +328,35 @@ told_if_one w m names None h = refl
 told_if_one w m names (Some true) h = ap (option_map in_one) (files_one w m names h)
 told_if_one w m names (Some false) h = refl
 
+content_by_one : (w m : Machine) (name : List ℕ) (it : Standing) → Agree w m (cond (is_regular it) (bytes name ∷ []) []) → cond (is_regular it) (w (bytes name)) None ≡ cond (is_regular it) (m (bytes name)) None
+content_by_one w m name (regular sum) h = h.0
+content_by_one w m name folder h = refl
+content_by_one w m name special h = refl
+content_by_one w m name missing h = refl
+
+contents_one : (w m : Machine) (names : List (List ℕ)) → Agree w m (map file names) → Agree w m (flat_map (content_asked m) names) → filter_map (content_at w) names ≡ filter_map (content_at m) names
+contents_one w m [] h k = refl
+contents_one w m (name ∷ names) h k =
+    let it = agree_both w m (content_asked m name) (flat_map (content_asked m) names) k in
+    ap (λ text. cons_option text (filter_map (content_at w) names)) (ap (λ it. cond (is_regular it) (w (bytes name)) None) h.0 ∙ content_by_one w m name (m (file name)) it.0)
+    ∙ ap (cons_option (content_at m name)) (contents_one w m names h.1 it.1)
+
+searched_one : (key : Key) (w m : Machine) → shown key w ≡ shown key m → Agree w m (map file (unmarked key m)) → Agree w m (flat_map (content_asked m) (unmarked key m)) → searched key w ≡ searched key m
+searched_one key w m t n o =
+    ap (λ texts. texts ++ filter_map (content_at w) (if length (each_once (flat_map marked_in texts)) == 0 then filter_map input_of key.parts else [])) t
+    ∙ ap (λ more. shown key m ++ more) (contents_one w m (unmarked key m) n o)
+
 asked_one : (key : Key) (w m : Machine) → shown key w ≡ shown key m → (ask : Ask) (name : List ℕ) → Agree w m (first_asked key ask name) → Agree w m (map file (needed_asked key m ask name))
-    → answer_asked key w ask name ≡ answer_asked key m ask name
-asked_one key w m t asks.Env name h n = ap (λ it. Some (value_told it)) h.0
-asked_one key w m t asks.Unset name h n = ap unset_told h.0
-asked_one key w m t asks.File name h n = ap file_told h.0
-asked_one key w m t asks.Maybe name h n = maybe_one w m name (is_made key name) h
-asked_one key w m t asks.Regular name h n = ap regular_told h.0
-asked_one key w m t asks.SourcesIfShown name h n =
+    → Agree w m (fifth_asked key m ask) → answer_asked key w ask name ≡ answer_asked key m ask name
+asked_one key w m t asks.Env name h n o = ap (λ it. Some (value_told it)) h.0
+asked_one key w m t asks.Unset name h n o = ap unset_told h.0
+asked_one key w m t asks.File name h n o = ap file_told h.0
+asked_one key w m t asks.Maybe name h n o = maybe_one w m name (is_made key name) h
+asked_one key w m t asks.Regular name h n o = ap regular_told h.0
+asked_one key w m t asks.SourcesIfShown name h n o =
     ap (λ texts. told_if w (is_shown name texts) (each_once (flat_map marked_in texts ++ filter_map input_of key.parts))) t
     ∙ told_if_one w m (all_sources key m) (is_shown name (shown key m)) n
-asked_one key w m t asks.RefuseIfShown name h n = refl
+asked_one key w m t asks.RefuseIfShown name h n o = ap (λ texts. refused_told (is_refused name texts)) (searched_one key w m t n o)
 
 -- both answer alike what each round asks for these parts
 record AreAlike (key : Key) (w m : Machine) (parts : List Part) : Type 0 where
@@ -338,7 +373,7 @@ answer_one key w m e t (output made) h k l n o = refl
 answer_one key w m e t directory h k l n o = ap (λ it. Some (said it ∷ [])) (directory_one w m key.place h.0 k)
 answer_one key w m e t compiler h k l n o = ap program_told h.0
 answer_one key w m e t (plan words) h k l n o = plan_one key w m words k.0 n
-answer_one key w m e t (asked ask name) h k l n o = asked_one key w m t ask name h n
+answer_one key w m e t (asked ask name) h k l n o = asked_one key w m t ask name h n o
 answer_one key w m e t (run words) h k l n o = run_one w m words (may_fail key) k.0 n
 answer_one key w m e t (run_else words) h k l n o =
     ap (λ b. cond b (run_told w false (ran_on w words)) (Some no_text)) e ∙ else_one w m words (has_failed key m) l n
@@ -439,22 +474,13 @@ decided key m = (
 
 -- ---- where the first round forbids to keep, there are no rows
 
-asks_early_answered : (ask : Ask) → asks_early ask ≡ true → asks_answered ask ≡ true
-asks_early_answered asks.Env e = refl
-asks_early_answered asks.Unset e = refl
-asks_early_answered asks.File e = refl
-asks_early_answered asks.Maybe e = refl
-asks_early_answered asks.Regular e = refl
-asks_early_answered asks.SourcesIfShown e = refl
-asks_early_answered asks.RefuseIfShown e = e
-
 is_early_answered : (part : Part) → is_early part ≡ true → is_answered part ≡ true
 is_early_answered (is row) e = refl
 is_early_answered (output made) e = refl
 is_early_answered directory e = refl
 is_early_answered compiler e = refl
 is_early_answered (plan words) e = refl
-is_early_answered (asked ask name) e = asks_early_answered ask e
+is_early_answered (asked ask name) e = refl
 is_early_answered (run words) e = refl
 is_early_answered (run_else words) e = refl
 is_early_answered (pch searched) e = e

@@ -13,8 +13,9 @@ use Rattle.scl_rounds.specs.Files.{files_told, times_told}
 use Rattle.scl_rounds.specs.Keys.{Key, is_answered, is_made}
 use Rattle.scl_rounds.specs.Patterns.{is_shown}
 use Rattle.scl_rounds.specs.Plans.{plan_told, planned_on}
+use Rattle.scl_rounds.specs.Refusals.{is_refused}
 use Rattle.scl_rounds.specs.Runs.{has_failed, may_fail, no_text, run_told}
-use Rattle.scl_rounds.specs.Shown.{all_sources, marked, shown}
+use Rattle.scl_rounds.specs.Shown.{all_sources, marked, searched, shown}
 
 -- ---- the directory
 
@@ -36,6 +37,11 @@ abbrev pub told_if : Machine → (is_shown : Option Bool) → (names : List (Lis
 told_if m None names = None
 told_if m (Some is_shown) names = cond is_shown (files_told m names) (Some no_text)
 
+-- nothing may be kept if a text has the pattern, or if it is not known
+abbrev pub refused_told : (is_refused : Option Bool) → Option (List Field)
+refused_told None = None
+refused_told (Some is_refused) = cond is_refused None (Some [])
+
 abbrev pub answer_asked : Key → Machine → Ask → List ℕ → Option (List Field)
 answer_asked key m asks.Env name = Some (value_told (m (env name)))
 answer_asked key m asks.Unset name = unset_told (m (env name))
@@ -43,7 +49,7 @@ answer_asked key m asks.File path = file_told (m (file path))
 answer_asked key m asks.Maybe path = cond (is_made key path) (Some []) (maybe_told (m (file path)))
 answer_asked key m asks.Regular path = regular_told (m (file path))
 answer_asked key m asks.SourcesIfShown pattern = told_if m (is_shown pattern (shown key m)) (all_sources key m)
-answer_asked key m asks.RefuseIfShown pattern = None
+answer_asked key m asks.RefuseIfShown pattern = refused_told (is_refused pattern (searched key m))
 
 -- what a machine answers to a part; none: nothing may be kept, or no round answers it
 abbrev pub answer_on : Key → Machine → Part → Option (List Field)

@@ -16,10 +16,6 @@ asks_early asks.SourcesIfShown = false
 asks_early asks.RefuseIfShown = false
 asks_early other = true
 
-abbrev pub asks_answered : Ask → Bool
-asks_answered asks.RefuseIfShown = false
-asks_answered other = true
-
 -- the first round answers it
 abbrev pub is_early : Part → Bool
 is_early (is row) = true
@@ -35,7 +31,7 @@ is_answered (output made) = true
 is_answered directory = true
 is_answered compiler = true
 is_answered (plan words) = true
-is_answered (asked ask name) = asks_answered ask
+is_answered (asked ask name) = true
 is_answered (run words) = true
 is_answered (run_else words) = true
 is_answered sources = true

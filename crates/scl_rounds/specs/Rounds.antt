@@ -5,7 +5,7 @@ use Rattle.scl_files.specs.Paths.{begins_with_slash}
 use Rattle.scl_key.specs.declared.part.Ask.{Ask}
 use Rattle.scl_key.specs.declared.part.Ask.TheVariants as asks
 use Rattle.scl_key.specs.Parts.{Part, directory, compiler, plan, asked, run as run_part, run_else, sources, times as times_part}
-use Rattle.scl_lookup.specs.Questions.{Question, env, program, file, real, times, run, Written, Machine}
+use Rattle.scl_lookup.specs.Questions.{Question, env, program, file, bytes, real, times, run, Written, Machine}
 use Rattle.scl_questions.specs.Talks.{Stage, ends, talk}
 use Rattle.scl_rounds.specs.declared.question.Phase.{Phase}
 use Rattle.scl_rounds.specs.declared.question.Phase.TheVariants as phases
@@ -15,7 +15,7 @@ use Rattle.scl_rounds.specs.Keys.{Key, is_early, is_made}
 use Rattle.scl_rounds.specs.Patterns.{is_shown}
 use Rattle.scl_rounds.specs.Plans.{asked_plan, called_in, files_in_plan, planned_on}
 use Rattle.scl_rounds.specs.Runs.{has_failed, loaded_in}
-use Rattle.scl_rounds.specs.Shown.{all_sources, marked, shown, shown_by}
+use Rattle.scl_rounds.specs.Shown.{all_sources, marked, shown, shown_by, unmarked}
 
 -- ---- what each round asks for a part
 
@@ -78,6 +78,7 @@ needed_if (Some is_shown) names = cond is_shown names []
 
 abbrev pub needed_asked : Key → Machine → Ask → List ℕ → List (List ℕ)
 needed_asked key m asks.SourcesIfShown pattern = needed_if (is_shown pattern (shown key m)) (all_sources key m)
+needed_asked key m asks.RefuseIfShown pattern = unmarked key m
 needed_asked key m other name = []
 
 -- the files that a part needs, by what the runs write
@@ -97,7 +98,16 @@ fourth key m part = map program (called m part) ++ map file (needed key m part)
 abbrev pub timed : Machine → List ℕ → List Question
 timed m name = cond (is_regular (m (file name))) (times name ∷ []) []
 
+-- its bytes, if there is a file
+abbrev pub content_asked : Machine → List ℕ → List Question
+content_asked m name = cond (is_regular (m (file name))) (bytes name ∷ []) []
+
+abbrev pub fifth_asked : Key → Machine → Ask → List Question
+fifth_asked key m asks.RefuseIfShown = flat_map (content_asked m) (unmarked key m)
+fifth_asked key m other = []
+
 abbrev pub fifth : Key → Machine → Part → List Question
+fifth key m (asked ask name) = fifth_asked key m ask
 fifth key m times_part = flat_map (timed m) (marked key m)
 fifth key m other = []
 

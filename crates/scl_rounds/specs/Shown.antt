@@ -1,14 +1,15 @@
 -- The texts that the runs of a key write, and the files that these name.
-use Rattle.std.specs.Prelude.{ℕ, not, cond, List, [], ◌∷◌, ◌++◌, filter, codes, Option, None, Some, if◌then◌else◌}
+use Rattle.std.specs.Prelude.{ℕ, ◌==◌, length, not, cond, List, [], ◌∷◌, ◌++◌, filter, codes, Option, None, Some, if◌then◌else◌}
 use Rattle.std.specs.List.{filter_map, flat_map, list_any}
 use Rattle.std.specs.Option.{option_map}
 use Rattle.std.specs.Str.{bytes_eq}
 use Rattle.scl_key.specs.Parts.{Part, is, run, run_else}
 use Rattle.scl_lookup.specs.Keys.{ran_on}
-use Rattle.scl_lookup.specs.Questions.{Machine}
+use Rattle.scl_lookup.specs.Questions.{file, bytes, Machine}
 use Rattle.scl_readings.specs.Lines.{lines_after}
 use Rattle.scl_readings.specs.Markers.{files_in}
 use Rattle.scl_readings.specs.declared.files.Named.TheVariants.{Anywhere}
+use Rattle.scl_rounds.specs.Files.{is_regular}
 use Rattle.scl_rounds.specs.Keys.{Key}
 use Rattle.scl_rounds.specs.Runs.{has_failed}
 
@@ -57,3 +58,16 @@ marked key m = each_once (flat_map marked_in (shown key m))
 -- the files that the runs name, and the input
 abbrev pub all_sources : Key → Machine → List (List ℕ)
 all_sources key m = each_once (flat_map marked_in (shown key m) ++ filter_map input_of key.parts)
+
+-- ---- what is searched
+
+-- the input, where the runs name no file
+abbrev pub unmarked : Key → Machine → List (List ℕ)
+unmarked key m = if length (marked key m) == 0 then filter_map input_of key.parts else []
+
+abbrev pub content_at : Machine → List ℕ → Option (List ℕ)
+content_at m name = cond (is_regular (m (file name))) (m (bytes name)) None
+
+-- the texts of the runs, and the input if they name no file
+abbrev pub searched : Key → Machine → List (List ℕ)
+searched key m = shown key m ++ filter_map (content_at m) (unmarked key m)

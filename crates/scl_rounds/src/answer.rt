@@ -18,8 +18,9 @@ use crate::file::{files_told, times_told};
 use crate::key::{Key, is_made};
 use crate::pattern::is_shown;
 use crate::plan::{plan_told, planned};
+use crate::refusal::is_refused;
 use crate::run::{has_failed, may_fail, no_text, ran, run_told};
-use crate::shown::{all_sources, marked, shown};
+use crate::shown::{all_sources, marked, searched, shown};
 use scl_key::{Ask, Part};
 use scl_questions::{
     Answer, Field, Question, file_told, maybe_told, program, program_told, real, regular_told,
@@ -138,6 +139,21 @@ fn sources_if_shown(
     }
 }
 
+/// That no text has a pattern; nothing may be kept if one has it, or if it is not known.
+fn refuse_if_shown(
+    alloc: Global,
+    told: &Told<'_>,
+    key: &Key<'_>,
+    pattern: &[u8],
+) -> Mem<Option<Vec<Field>>>
+    ensures { IfOk result (λ answer. option_map (λ answer. row_of answer.items) answer ≡ answer_asked (key_of key.now) (machine_of told.now) asks.RefuseIfShown pattern.now) }
+{
+    match is_refused(alloc, pattern, &searched(alloc, told, key)?)? {
+        Some(false) => Ok(Some(Vec::new(alloc))),
+        Some(true) | None => Ok(None),
+    }
+}
+
 /// The answer to what is asked of a name.
 fn asked_answer(
     alloc: Global,
@@ -160,7 +176,7 @@ fn asked_answer(
         }
         Ask::Regular => regular_answer(alloc, told, name),
         Ask::SourcesIfShown => sources_if_shown(alloc, told, key, name),
-        Ask::RefuseIfShown => Ok(None),
+        Ask::RefuseIfShown => refuse_if_shown(alloc, told, key, name),
     }
 }
 

@@ -1,7 +1,7 @@
 //! A key, and which of its parts are answered.
 ghost use Rattle.std.specs.Prelude.{◌≡◌, IfOk};
 ghost use Rattle.scl_key.specs.Views.{part_of};
-ghost use Rattle.scl_rounds.specs.Keys.{asks_answered, asks_early, is_answered, is_early, is_made, is_output_at};
+ghost use Rattle.scl_rounds.specs.Keys.{asks_early, is_answered, is_early, is_made, is_output_at};
 ghost use Rattle.scl_rounds.specs.Views.{key_of};
 
 use scl_files::path::{join, same_path};
@@ -24,15 +24,6 @@ fn asks_early(ask: Ask) -> bool
     match ask {
         Ask::Env | Ask::Unset | Ask::File | Ask::Maybe | Ask::Regular => true,
         Ask::SourcesIfShown | Ask::RefuseIfShown => false,
-    }
-}
-
-fn asks_answered(ask: Ask) -> bool
-    ensures { result ≡ asks_answered ask }
-{
-    match ask {
-        Ask::Env | Ask::Unset | Ask::File | Ask::Maybe | Ask::Regular | Ask::SourcesIfShown => true,
-        Ask::RefuseIfShown => false,
     }
 }
 
@@ -63,11 +54,11 @@ pub(crate) fn is_answered(part: &Part) -> bool
         | Part::Directory
         | Part::Compiler
         | Part::Plan(_)
+        | Part::Asked(_, _)
         | Part::Run(_)
         | Part::RunElse(_)
         | Part::Sources
         | Part::Times => true,
-        Part::Asked(ask, _) => asks_answered(*ask),
         Part::Pch(_) => false,
     }
 }

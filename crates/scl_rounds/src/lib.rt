@@ -2,6 +2,7 @@
 #![tactic(auto)]
 
 mod answer;
+mod assembled;
 mod file;
 mod key;
 pub mod laws;
@@ -9,6 +10,7 @@ mod next;
 mod pattern;
 mod plan;
 mod question;
+mod refusal;
 mod row;
 mod run;
 mod shown;

@@ -32,7 +32,7 @@ fn clang_telling() -> &'static str
     CLANG_TELLING
 }
 
-fn has_word(word: &[u8], text: &[u8]) -> bool
+pub(crate) fn has_word(word: &[u8], text: &[u8]) -> bool
     ensures { result ≡ has_word word.now text.now }
 {
     first_place(word, text).is_some()
@@ -40,7 +40,7 @@ fn has_word(word: &[u8], text: &[u8]) -> bool
 
 /// What follows each place of a word.
 #[tactic(auto, using(crate::proofs::PlaceLemmas::all_stand))]
-fn behind<'a>(alloc: Global, word: &[u8], text: &'a [u8]) -> Mem<Vec<&'a [u8]>>
+pub(crate) fn behind<'a>(alloc: Global, word: &[u8], text: &'a [u8]) -> Mem<Vec<&'a [u8]>>
     ensures { IfOk result (λ found. map (λ rest. rest.now) found.items ≡ behind word.now text.now) }
 {
     let mut found = Vec::new(alloc);
@@ -61,7 +61,7 @@ fn blank_count(text: &[u8]) -> usize
     count
 }
 
-fn skip_blanks(text: &[u8]) -> &[u8]
+pub(crate) fn skip_blanks(text: &[u8]) -> &[u8]
     ensures { result.now ≡ skip is_blank text.now }
 {
     &text[blank_count(text)..]
@@ -79,7 +79,7 @@ fn after_blanks(text: &[u8]) -> Option<&[u8]>
     }
 }
 
-fn after<'a>(word: &[u8], text: &'a [u8]) -> Option<&'a [u8]>
+pub(crate) fn after<'a>(word: &[u8], text: &'a [u8]) -> Option<&'a [u8]>
     ensures { option_copied result ≡ after word.now text.now }
 {
     if text.starts_with(word) {
@@ -112,7 +112,7 @@ fn has_error(alloc: Global, text: &[u8]) -> Mem<bool>
 }
 
 /// After `#`: whether the bytes of a file are put there.
-fn embeds(rest: &[u8]) -> bool
+pub(crate) fn embeds(rest: &[u8]) -> bool
     ensures { result ≡ embeds rest.now }
 {
     skip_blanks(rest).starts_with(b"embed")
@@ -154,7 +154,7 @@ fn tells(alloc: Global, text: &[u8]) -> Mem<bool>
     Ok(has_words(text) || has_error(alloc, text)? || has_embed(alloc, text)?)
 }
 
-fn is_among(byte: u8, known: &[u8]) -> bool
+pub(crate) fn is_among(byte: u8, known: &[u8]) -> bool
     ensures { result ≡ list_any (λ it. it == byte) known.now }
 {
     for it in known {

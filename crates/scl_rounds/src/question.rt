@@ -8,7 +8,7 @@ ghost use Rattle.scl_key.specs.Views.{part_of};
 ghost use Rattle.scl_lookup.specs.Questions.{env, file, program};
 ghost use Rattle.scl_questions.specs.Views.{questions_of};
 ghost use Rattle.scl_rounds.specs.Plans.{asked_plan, planned_on};
-ghost use Rattle.scl_rounds.specs.Rounds.{asked_in, asked_run, behind_said, called, called_by_plan, fifth, first, first_asked, forbids, fourth, is_forbidden, is_vain, loaded_by, needed, needed_asked, needed_by, second, stage, third, timed};
+ghost use Rattle.scl_rounds.specs.Rounds.{asked_in, asked_run, behind_said, called, called_by_plan, content_asked, fifth, fifth_asked, first, first_asked, forbids, fourth, is_forbidden, is_vain, loaded_by, needed, needed_asked, needed_by, second, stage, third, timed};
 ghost use Rattle.scl_rounds.specs.Views.{key_of, machine_of};
 
 use crate::answer::{Told, answer, said_directory};
@@ -17,7 +17,7 @@ use crate::key::{Key, is_early, is_made};
 use crate::pattern::is_shown;
 use crate::plan::{called_in, files_in_plan, plan_question, planned};
 use crate::run::{has_failed, loaded_in};
-use crate::shown::{all_sources, marked, shown, shown_by};
+use crate::shown::{all_sources, marked, shown, shown_by, unmarked};
 use scl_key::{Ask, Part};
 use scl_questions::{Language, Question};
 use scl_text::command::copy_words;
@@ -275,9 +275,8 @@ fn needed_asked(
 {
     match ask {
         Ask::SourcesIfShown => needed_if_shown(alloc, told, key, name),
-        Ask::Env | Ask::Unset | Ask::File | Ask::Maybe | Ask::Regular | Ask::RefuseIfShown => {
-            Ok(Vec::new(alloc))
-        }
+        Ask::RefuseIfShown => unmarked(alloc, told, key),
+        Ask::Env | Ask::Unset | Ask::File | Ask::Maybe | Ask::Regular => { Ok(Vec::new(alloc)) }
     }
 }
 
@@ -356,6 +355,54 @@ fn push_all_timed(
     Ok(())
 }
 
+/// Appends the bytes, if there is a file.
+fn push_content(
+    alloc: Global,
+    questions: &mut Vec<Question>,
+    told: &Told<'_>,
+    name: &[u8],
+) -> Mem<()>
+    ensures { OnOk result (questions_of questions.new.items ≡ questions_of questions.old.items ++ content_asked (machine_of told.now) name.now) }
+{
+    if is_regular(alloc, told, name)? {
+        questions.push(Question::Bytes(Vec::from_slice(alloc, name)?))?;
+    }
+    Ok(())
+}
+
+/// Appends the bytes of those of these that are files.
+fn push_contents(
+    alloc: Global,
+    questions: &mut Vec<Question>,
+    told: &Told<'_>,
+    names: &[Vec<u8>],
+) -> Mem<()>
+    ensures { OnOk result (questions_of questions.new.items ≡ questions_of questions.old.items ++ flat_map (content_asked (machine_of told.now)) (words_of names.now)) }
+{
+    for name in names {
+        push_content(alloc, questions, told, name)?;
+    }
+    Ok(())
+}
+
+/// Appends what the fifth round asks for what is asked of a name.
+fn push_fifth_asked(
+    alloc: Global,
+    questions: &mut Vec<Question>,
+    told: &Told<'_>,
+    key: &Key<'_>,
+    ask: Ask,
+) -> Mem<()>
+    ensures { OnOk result (questions_of questions.new.items ≡ questions_of questions.old.items ++ fifth_asked (key_of key.now) (machine_of told.now) ask) }
+{
+    match ask {
+        Ask::RefuseIfShown => push_contents(alloc, questions, told, &unmarked(alloc, told, key)?),
+        Ask::Env | Ask::Unset | Ask::File | Ask::Maybe | Ask::Regular | Ask::SourcesIfShown => Ok(
+            (),
+        ),
+    }
+}
+
 /// Appends what the fifth round asks for a part.
 fn push_fifth(
     alloc: Global,
@@ -367,13 +414,13 @@ fn push_fifth(
     ensures { OnOk result (questions_of questions.new.items ≡ questions_of questions.old.items ++ fifth (key_of key.now) (machine_of told.now) (part_of part.now)) }
 {
     match part {
+        Part::Asked(ask, _) => push_fifth_asked(alloc, questions, told, key, *ask),
         Part::Times => push_all_timed(alloc, questions, told, &marked(alloc, told, key)?),
         Part::Is(_)
         | Part::Output(_)
         | Part::Directory
         | Part::Compiler
         | Part::Plan(_)
-        | Part::Asked(_, _)
         | Part::Run(_)
         | Part::RunElse(_)
         | Part::Pch(_)

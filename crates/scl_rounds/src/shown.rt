@@ -5,13 +5,16 @@ ghost use Rattle.std.specs.Option.{option_copied};
 ghost use Rattle.std.specs.Str.{bytes_eq};
 ghost use Rattle.scl_values.specs.Words.{words_of};
 ghost use Rattle.scl_key.specs.Views.{part_of, parts_of};
-ghost use Rattle.scl_rounds.specs.Shown.{all_sources, each_once, input_in, input_of, marked, marked_in, shown, shown_by, text_on, with_name};
+ghost use Rattle.scl_lookup.specs.Questions.{bytes};
+ghost use Rattle.scl_rounds.specs.Shown.{all_sources, content_at, each_once, input_in, input_of, marked, marked_in, searched, shown, shown_by, text_on, unmarked, with_name};
 ghost use Rattle.scl_rounds.specs.Views.{key_of, machine_of};
 
 use crate::answer::Told;
+use crate::file::is_regular;
 use crate::key::Key;
 use crate::run::{has_failed, ran};
 use scl_key::Part;
+use scl_questions::{Answer, Question, answer_to};
 use scl_readings::{Named, files_in, lines_after};
 use scl_values::Mem;
 use std::alloc::Global;
@@ -174,4 +177,64 @@ pub(crate) fn all_sources(alloc: Global, told: &Told<'_>, key: &Key<'_>) -> Mem<
     let mut names = all_marked(alloc, &shown(alloc, told, key)?)?;
     push_inputs(alloc, &mut names, key)?;
     each_once(alloc, names)
+}
+
+/// The input, if the runs name no file.
+pub(crate) fn unmarked(alloc: Global, told: &Told<'_>, key: &Key<'_>) -> Mem<Vec<Vec<u8>>>
+    ensures { IfOk result (λ names. words_of names.items ≡ unmarked (key_of key.now) (machine_of told.now)) }
+{
+    let names = marked(alloc, told, key)?;
+    let mut inputs = Vec::new(alloc);
+    if names.is_empty() {
+        push_inputs(alloc, &mut inputs, key)?;
+    }
+    Ok(inputs)
+}
+
+/// The bytes of a file, as they were answered.
+fn content<'a>(alloc: Global, told: &Told<'a>, name: &[u8]) -> Mem<Option<&'a [u8]>>
+    ensures { IfOk result (λ text. option_copied text ≡ machine_of told.now (bytes name.now)) }
+{
+    let question = Question::Bytes(Vec::from_slice(alloc, name)?);
+    if let Some(Answer::Bytes(Some(text))) = answer_to(&question, told.asked, told.answers) {
+        return Ok(Some(text.as_slice()));
+    }
+    Ok(None)
+}
+
+/// The bytes of what is a file.
+fn content_at<'a>(alloc: Global, told: &Told<'a>, name: &[u8]) -> Mem<Option<&'a [u8]>>
+    ensures { IfOk result (λ text. option_copied text ≡ content_at (machine_of told.now) name.now) }
+{
+    if !is_regular(alloc, told, name)? {
+        return Ok(None);
+    }
+    content(alloc, told, name)
+}
+
+/// Appends the bytes of what are files.
+fn push_contents<'a>(
+    alloc: Global,
+    texts: &mut Vec<&'a [u8]>,
+    told: &Told<'a>,
+    names: &[Vec<u8>],
+) -> Mem<()>
+    ensures { OnOk result (map (λ text. text.now) texts.new.items ≡ map (λ text. text.now) texts.old.items ++ filter_map (content_at (machine_of told.now)) (words_of names.now)) }
+{
+    for name in names {
+        if let Some(text) = content_at(alloc, told, name)? {
+            texts.push(text)?;
+        }
+    }
+    Ok(())
+}
+
+/// The texts of the runs, and the input if they name no file.
+pub(crate) fn searched<'a>(alloc: Global, told: &Told<'a>, key: &Key<'_>) -> Mem<Vec<&'a [u8]>>
+    ensures { IfOk result (λ texts. map (λ text. text.now) texts.items ≡ searched (key_of key.now) (machine_of told.now)) }
+{
+    let names = unmarked(alloc, told, key)?;
+    let mut texts = shown(alloc, told, key)?;
+    push_contents(alloc, &mut texts, told, &names)?;
+    Ok(texts)
 }
