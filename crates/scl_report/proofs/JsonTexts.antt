@@ -1,6 +1,6 @@
 -- JSON is UTF-8.
-use Rattle.std.proofs.Common.{◌≡◌, ◌<◌, ◌||◌, ◌&&◌, ℕ, zero, suc, Bool, true, false, codes, List, [], ◌∷◌, ◌++◌, refl, sym, subst, arith, append-nil}
-use Rattle.std.proofs.lemmas.Str.{IsUtf8-append, IsUtf8-encode, IsUtf8-from_ascii, IsUtf8-nil}
+use Rattle.std.proofs.Common.{◌≡◌, ◌<◌, ℕ, zero, suc, Bool, true, codes, List, [], ◌∷◌, ◌++◌, refl, sym, subst, arith, append-nil}
+use Rattle.std.proofs.lemmas.Str.{IsUtf8-append, IsUtf8-from_ascii, IsUtf8-nil}
 use Rattle.std.specs.Prelude.{nat_lt}
 use Rattle.std.specs.Char.{encode_utf8}
 use Rattle.std.specs.List.{flat_map, list_all}
@@ -10,7 +10,7 @@ use Rattle.scl_description.specs.Rows.{Entry}
 use Rattle.scl_json.specs.Json.{is_hex, IsInside, nothing, character, mark, unit, IsString, string, Kind, value, values, members, Are, null, yes, no, number, text, list, record_of, no_values, more_values, no_members, more_members, IsJson}
 use Rattle.scl_json.specs.Laws.{WhatIsWrittenIsJson}
 use Rattle.scl_json.specs.Objects.{is_digit, is_number, json_of}
-use Rattle.scl_json.specs.Texts.{array, behind_comma, is_mark, joined, object}
+use Rattle.scl_json.specs.Texts.{behind_comma, is_mark, joined}
 
 one-ascii : (c : ℕ) → c < 128 → IsAscii (c ∷ [])
 one-ascii c h zero = h

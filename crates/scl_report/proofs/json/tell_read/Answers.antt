@@ -1,4 +1,4 @@
-use Rattle.std.proofs.Common.{◌∷◌, [], codes, List}
+use Rattle.std.proofs.Common.{◌∷◌, [], codes}
 use Rattle.std.proofs.lemmas.Result.{on_ok_weaker}
 use Rattle.scl_values.specs.Words.{words_of}
 use Rattle.scl_description.specs.Rows.{Entry, entry_rows, rows_of, words_entry}
