@@ -21,9 +21,9 @@ use Rattle.scl_rounds.specs.Answers.{answer_asked, answer_on, directory_by, dire
 use Rattle.scl_rounds.specs.declared.question.Phase.TheVariants as phases
 use Rattle.scl_rounds.specs.Files.{file_row, files_told, in_one, is_regular, times_by, times_row, times_told}
 use Rattle.scl_rounds.specs.Keys.{Key, asks_early, is_answered, is_early, is_made}
-use Rattle.scl_rounds.specs.Patterns.{is_shown}
+use Rattle.scl_patterns.specs.Patterns.{is_shown}
 use Rattle.scl_rounds.specs.Plans.{asked_plan, called_in, cleaned, files_in_plan, plan_told, planned_on, program_row, programs_told, there_by, there_row, there_told}
-use Rattle.scl_rounds.specs.Refusals.{is_refused}
+use Rattle.scl_patterns.specs.Refusals.{is_refused}
 use Rattle.scl_rounds.specs.Rounds.{asked_run, behind_said, called, called_by_plan, content_asked, fifth, fifth_asked, first, first_asked, forbids, fourth, is_forbidden, loaded_by, needed, needed_asked, needed_by, needed_if, rounds, second, stage, third, timed, RoundsGiveRows}
 use Rattle.scl_rounds.specs.Runs.{fails, has_failed, loaded_in, may_fail, names_sources, no_text, outputs_told, run_told}
 use Rattle.scl_rounds.specs.Shown.{all_sources, content_at, each_once, input_of, marked, marked_in, searched, shown, shown_by, text_on, unmarked}

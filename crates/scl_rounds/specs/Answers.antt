@@ -11,9 +11,9 @@ use Rattle.scl_lookup.specs.Questions.{Question, env, program, file, real, Machi
 use Rattle.scl_questions.specs.Told.{value_told, unset_told, file_told, maybe_told, regular_told, program_told}
 use Rattle.scl_rounds.specs.Files.{files_told, times_told}
 use Rattle.scl_rounds.specs.Keys.{Key, is_answered, is_made}
-use Rattle.scl_rounds.specs.Patterns.{is_shown}
+use Rattle.scl_patterns.specs.Patterns.{is_shown}
 use Rattle.scl_rounds.specs.Plans.{plan_told, planned_on}
-use Rattle.scl_rounds.specs.Refusals.{is_refused}
+use Rattle.scl_patterns.specs.Refusals.{is_refused}
 use Rattle.scl_rounds.specs.Runs.{has_failed, may_fail, no_text, run_told}
 use Rattle.scl_rounds.specs.Shown.{all_sources, marked, searched, shown}
 

@@ -1,10 +1,7 @@
 pub mod Answers
-pub mod Assembled
 pub mod Files
 pub mod Keys
-pub mod Patterns
 pub mod Plans
-pub mod Refusals
 pub mod Rounds
 pub mod Runs
 pub mod Shown

@@ -12,7 +12,7 @@ use Rattle.scl_rounds.specs.declared.question.Phase.TheVariants as phases
 use Rattle.scl_rounds.specs.Answers.{answer_on, rows_on, said_directory}
 use Rattle.scl_rounds.specs.Files.{is_regular}
 use Rattle.scl_rounds.specs.Keys.{Key, is_early, is_made}
-use Rattle.scl_rounds.specs.Patterns.{is_shown}
+use Rattle.scl_patterns.specs.Patterns.{is_shown}
 use Rattle.scl_rounds.specs.Plans.{asked_plan, called_in, files_in_plan, planned_on}
 use Rattle.scl_rounds.specs.Runs.{has_failed, loaded_in}
 use Rattle.scl_rounds.specs.Shown.{all_sources, marked, shown, shown_by, unmarked}

@@ -16,12 +16,11 @@ ghost use Rattle.scl_rounds.specs.Views.{key_of, machine_of};
 
 use crate::file::{files_told, times_told};
 use crate::key::{Key, is_made};
-use crate::pattern::is_shown;
 use crate::plan::{plan_told, planned};
-use crate::refusal::is_refused;
 use crate::run::{has_failed, may_fail, no_text, ran, run_told};
 use crate::shown::{all_sources, marked, searched, shown};
 use scl_key::{Ask, Part};
+use scl_patterns::{is_refused, is_shown};
 use scl_questions::{
     Answer, Field, Question, file_told, maybe_told, program, program_told, real, regular_told,
     standing, unset_told, value, value_told,

@@ -2,15 +2,12 @@
 #![tactic(auto)]
 
 mod answer;
-mod assembled;
 mod file;
 mod key;
 pub mod laws;
 mod next;
-mod pattern;
 mod plan;
 mod question;
-mod refusal;
 mod row;
 mod run;
 mod shown;

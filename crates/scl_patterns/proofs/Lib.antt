@@ -1,0 +1,2 @@
+pub mod AssembledLemmas
+pub mod PlaceLemmas

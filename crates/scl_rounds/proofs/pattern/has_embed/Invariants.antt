@@ -1,7 +1,0 @@
-use Rattle.std.proofs.Common.{◌≡◌, drop, map}
-use Rattle.std.specs.List.{list_any}
-use Rattle.scl_rounds.specs.Patterns.{has_embed, embeds}
-use Rattle.scl_rounds.proofs.pattern.has_embed.Given as goal
-
-abbrev pub invariant-loop-rest : goal.invariant-loop-rest
-invariant-loop-rest l = list_any embeds (map (λ rest. rest.now) (drop l.rest-index l.rest-items)) ≡ has_embed l.fn.text

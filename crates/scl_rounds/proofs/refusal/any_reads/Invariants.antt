@@ -1,7 +1,0 @@
-use Rattle.std.proofs.Common.{◌≡◌, drop, map}
-use Rattle.std.specs.List.{list_any}
-use Rattle.scl_rounds.specs.Refusals.{reads}
-use Rattle.scl_rounds.proofs.refusal.any_reads.Given as goal
-
-abbrev pub invariant-loop-text : goal.invariant-loop-text
-invariant-loop-text l = list_any reads (map (λ text. text.now) (drop l.text-index l.texts)) ≡ list_any reads (map (λ text. text.now) l.texts)
