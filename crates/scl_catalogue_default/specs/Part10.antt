@@ -5,6 +5,12 @@ use Rattle.scl_catalogue_default.specs.Words.{is, begins, holds, text, test, unn
 use Rattle.scl_catalogue.specs.declared.case.Compiler.TheVariants as compiler
 use Rattle.scl_catalogue.specs.declared.test.Class.TheVariants as class
 
+unfoldable pub crash_entry : Entry
+crash_entry = entry Plain (codes "crash")
+    (codes "It is written only if the compiler crashes.") (
+    case (meant compiler.Clang None None ∷ meant compiler.ClangCl None None ∷ []) (asked (Given (Any (unnamed (test class.Unknown (text (begins (codes "-fcrash-diagnostics-dir=") ∷ []) []) [] ∷ [])))) ∷ []) ∷
+    [])
+
 unfoldable pub remarks_entry : Entry
 remarks_entry = entry Plain (codes "remarks")
     (codes "Messages say what the optimizers did.") (
@@ -37,4 +43,4 @@ options_of_others_entry = entry Plain (codes "options-of-others")
     [])
 
 unfoldable pub part_10 : List Entry
-part_10 = remarks_entry ∷ option_of_cl_entry ∷ inner_words_entry ∷ option_of_microsoft_entry ∷ options_of_others_entry ∷ []
+part_10 = crash_entry ∷ remarks_entry ∷ option_of_cl_entry ∷ inner_words_entry ∷ option_of_microsoft_entry ∷ options_of_others_entry ∷ []

@@ -1,7 +1,7 @@
 -- Entries of the catalogue that is built in; `catalogue/build` writes it.
-use Rattle.std.specs.Prelude.{List, [], ◌∷◌, codes, None}
+use Rattle.std.specs.Prelude.{List, [], ◌∷◌, codes, None, Some}
 use Rattle.scl_catalogue.specs.Form.{Entry, Value, Any, Given, Inner, Plain}
-use Rattle.scl_catalogue_default.specs.Words.{is, begins, holds, text, test, unnamed, asked, meant, case, entry}
+use Rattle.scl_catalogue_default.specs.Words.{is, begins, holds, text, test, unnamed, asked, version, meant, case, entry}
 use Rattle.scl_catalogue_default.specs.Groups.{debugging_group, not_debugging_group}
 use Rattle.scl_catalogue.specs.declared.case.Compiler.TheVariants as compiler
 use Rattle.scl_catalogue.specs.declared.test.Class.TheVariants as class
@@ -74,9 +74,17 @@ handed_to_assembler_entry = entry Plain (codes "handed-to-assembler")
 unfoldable pub handed_to_llvm_entry : Entry
 handed_to_llvm_entry = entry Plain (codes "handed-to-llvm")
     (codes "It changes the code that is made, and no file.") (
-    case (meant compiler.Clang None None ∷ []) (asked (Given (Any (unnamed (test class.Flag (text (is (codes "-mllvm") ∷ []) []) (Value (text (begins (codes "-aarch64-") ∷ begins (codes "-addr-") ∷ begins (codes "-align-") ∷ begins (codes "-amdgpu-") ∷ begins (codes "-arm-") ∷ begins (codes "-asan-") ∷ begins (codes "-branch-") ∷ begins (codes "-cold-") ∷ begins (codes "-disable-") ∷ begins (codes "-dse-") ∷ begins (codes "-dwarf-") ∷ begins (codes "-early-") ∷ begins (codes "-emulated-") ∷ begins (codes "-enable-") ∷ begins (codes "-expand-") ∷ begins (codes "-force-") ∷ begins (codes "-generate-") ∷ begins (codes "-global-") ∷ begins (codes "-gvn-") ∷ begins (codes "-hexagon-") ∷ begins (codes "-hot-") ∷ begins (codes "-hwasan-") ∷ begins (codes "-import-instr-") ∷ begins (codes "-inline-") ∷ begins (codes "-inlinecold-") ∷ begins (codes "-inlinehint-") ∷ begins (codes "-insert-") ∷ begins (codes "-instcombine-") ∷ begins (codes "-instrprof-") ∷ begins (codes "-interleave-") ∷ begins (codes "-jump-") ∷ begins (codes "-licm-") ∷ begins (codes "-loop-") ∷ begins (codes "-lsr-") ∷ begins (codes "-max-") ∷ begins (codes "-min-") ∷ begins (codes "-mips-") ∷ begins (codes "-misched") ∷ begins (codes "-msan-") ∷ begins (codes "-nvptx-") ∷ begins (codes "-no-") ∷ begins (codes "-partial-") ∷ begins (codes "-phi-") ∷ begins (codes "-ppc-") ∷ begins (codes "-prefer-") ∷ begins (codes "-regalloc") ∷ begins (codes "-riscv-") ∷ begins (codes "-rotation-") ∷ begins (codes "-runtime-") ∷ begins (codes "-sanitizer-coverage-") ∷ begins (codes "-scalar-") ∷ begins (codes "-sched-") ∷ begins (codes "-simple-") ∷ begins (codes "-simplifycfg-") ∷ begins (codes "-slp-") ∷ begins (codes "-split-") ∷ begins (codes "-switch-") ∷ begins (codes "-tail-") ∷ begins (codes "-tsan-") ∷ begins (codes "-two-") ∷ begins (codes "-unroll-") ∷ begins (codes "-unswitch-") ∷ begins (codes "-use-") ∷ begins (codes "-vector-") ∷ begins (codes "-vectorize-") ∷ begins (codes "-wasm-") ∷ begins (codes "-x86-") ∷ is (codes "-polly") ∷ begins (codes "-pass-remarks=") ∷ begins (codes "-pass-remarks-missed=") ∷ begins (codes "-pass-remarks-analysis=") ∷ begins (codes "-inline-threshold=") ∷ begins (codes "-fast-isel") ∷ begins (codes "-treat-scalable-fixed-error-as-warning") ∷ begins (codes "-emit-gnuas-syntax-on-zos") ∷ begins (codes "-rng-seed=") ∷ begins (codes "-crash-diagnostics-dir=") ∷ begins (codes "-stackcoloring") ∷ begins (codes "-mergefunc") ∷ begins (codes "-hot-cold-split") ∷ begins (codes "-attributor-enable=") ∷ is (codes "-import-all-index") ∷ begins (codes "-import-hot-") ∷ begins (codes "-import-cold-") ∷ begins (codes "-import-critical-") ∷ begins (codes "-wholeprogramdevirt-branch") ∷ begins (codes "-experimental-") ∷ is (codes "-extra-vectorizer-passes") ∷ []) (holds (codes "dot") ∷ holds (codes "dump") ∷ holds (codes "print") ∷ holds (codes "stats") ∷ holds (codes "-file=") ∷ holds (codes "interactive-channel") ∷ holds (codes "training-log") ∷ holds (codes "log-dir") ∷ begins (codes "-regalloc-model") ∷ begins (codes "-regalloc-priority-model") ∷ begins (codes "-x86-lvi-load-opt-plugin") ∷ [])) ∷ []) ∷ [])))) ∷ []) ∷
-    case (meant compiler.ClangCl None None ∷ []) (asked (Given (Any (unnamed (test class.Unknown (text (is (codes "-mllvm") ∷ begins (codes "-aarch64-") ∷ begins (codes "-addr-") ∷ begins (codes "-align-") ∷ begins (codes "-amdgpu-") ∷ begins (codes "-arm-") ∷ begins (codes "-asan-") ∷ begins (codes "-branch-") ∷ begins (codes "-cold-") ∷ begins (codes "-disable-") ∷ begins (codes "-dse-") ∷ begins (codes "-dwarf-") ∷ begins (codes "-early-") ∷ begins (codes "-emulated-") ∷ begins (codes "-enable-") ∷ begins (codes "-expand-") ∷ begins (codes "-force-") ∷ begins (codes "-generate-") ∷ begins (codes "-global-") ∷ begins (codes "-gvn-") ∷ begins (codes "-hexagon-") ∷ begins (codes "-hot-") ∷ begins (codes "-hwasan-") ∷ begins (codes "-import-instr-") ∷ begins (codes "-inline-") ∷ begins (codes "-inlinecold-") ∷ begins (codes "-inlinehint-") ∷ begins (codes "-insert-") ∷ begins (codes "-instcombine-") ∷ begins (codes "-instrprof-") ∷ begins (codes "-interleave-") ∷ begins (codes "-jump-") ∷ begins (codes "-licm-") ∷ begins (codes "-loop-") ∷ begins (codes "-lsr-") ∷ begins (codes "-max-") ∷ begins (codes "-min-") ∷ begins (codes "-mips-") ∷ begins (codes "-misched") ∷ begins (codes "-msan-") ∷ begins (codes "-nvptx-") ∷ begins (codes "-no-") ∷ begins (codes "-partial-") ∷ begins (codes "-phi-") ∷ begins (codes "-ppc-") ∷ begins (codes "-prefer-") ∷ begins (codes "-regalloc") ∷ begins (codes "-riscv-") ∷ begins (codes "-rotation-") ∷ begins (codes "-runtime-") ∷ begins (codes "-sanitizer-coverage-") ∷ begins (codes "-scalar-") ∷ begins (codes "-sched-") ∷ begins (codes "-simple-") ∷ begins (codes "-simplifycfg-") ∷ begins (codes "-slp-") ∷ begins (codes "-split-") ∷ begins (codes "-switch-") ∷ begins (codes "-tail-") ∷ begins (codes "-tsan-") ∷ begins (codes "-two-") ∷ begins (codes "-unroll-") ∷ begins (codes "-unswitch-") ∷ begins (codes "-use-") ∷ begins (codes "-vector-") ∷ begins (codes "-vectorize-") ∷ begins (codes "-wasm-") ∷ begins (codes "-x86-") ∷ is (codes "-polly") ∷ begins (codes "-pass-remarks=") ∷ begins (codes "-pass-remarks-missed=") ∷ begins (codes "-pass-remarks-analysis=") ∷ begins (codes "-inline-threshold=") ∷ begins (codes "-fast-isel") ∷ begins (codes "-treat-scalable-fixed-error-as-warning") ∷ begins (codes "-emit-gnuas-syntax-on-zos") ∷ begins (codes "-rng-seed=") ∷ begins (codes "-crash-diagnostics-dir=") ∷ begins (codes "-stackcoloring") ∷ begins (codes "-mergefunc") ∷ begins (codes "-hot-cold-split") ∷ begins (codes "-attributor-enable=") ∷ is (codes "-import-all-index") ∷ begins (codes "-import-hot-") ∷ begins (codes "-import-cold-") ∷ begins (codes "-import-critical-") ∷ begins (codes "-wholeprogramdevirt-branch") ∷ begins (codes "-experimental-") ∷ is (codes "-extra-vectorizer-passes") ∷ []) (holds (codes "dot") ∷ holds (codes "dump") ∷ holds (codes "print") ∷ holds (codes "stats") ∷ holds (codes "-file=") ∷ holds (codes "interactive-channel") ∷ holds (codes "training-log") ∷ holds (codes "log-dir") ∷ begins (codes "-regalloc-model") ∷ begins (codes "-regalloc-priority-model") ∷ begins (codes "-x86-lvi-load-opt-plugin") ∷ [])) [] ∷ [])))) ∷ []) ∷
-    case (meant compiler.Clang None None ∷ meant compiler.ClangCl None None ∷ []) (asked (Inner (Any (unnamed (test class.Flag (text (is (codes "-mllvm") ∷ []) []) (Value (text (begins (codes "-aarch64-") ∷ begins (codes "-addr-") ∷ begins (codes "-align-") ∷ begins (codes "-amdgpu-") ∷ begins (codes "-arm-") ∷ begins (codes "-asan-") ∷ begins (codes "-branch-") ∷ begins (codes "-cold-") ∷ begins (codes "-disable-") ∷ begins (codes "-dse-") ∷ begins (codes "-dwarf-") ∷ begins (codes "-early-") ∷ begins (codes "-emulated-") ∷ begins (codes "-enable-") ∷ begins (codes "-expand-") ∷ begins (codes "-force-") ∷ begins (codes "-generate-") ∷ begins (codes "-global-") ∷ begins (codes "-gvn-") ∷ begins (codes "-hexagon-") ∷ begins (codes "-hot-") ∷ begins (codes "-hwasan-") ∷ begins (codes "-import-instr-") ∷ begins (codes "-inline-") ∷ begins (codes "-inlinecold-") ∷ begins (codes "-inlinehint-") ∷ begins (codes "-insert-") ∷ begins (codes "-instcombine-") ∷ begins (codes "-instrprof-") ∷ begins (codes "-interleave-") ∷ begins (codes "-jump-") ∷ begins (codes "-licm-") ∷ begins (codes "-loop-") ∷ begins (codes "-lsr-") ∷ begins (codes "-max-") ∷ begins (codes "-min-") ∷ begins (codes "-mips-") ∷ begins (codes "-misched") ∷ begins (codes "-msan-") ∷ begins (codes "-nvptx-") ∷ begins (codes "-no-") ∷ begins (codes "-partial-") ∷ begins (codes "-phi-") ∷ begins (codes "-ppc-") ∷ begins (codes "-prefer-") ∷ begins (codes "-regalloc") ∷ begins (codes "-riscv-") ∷ begins (codes "-rotation-") ∷ begins (codes "-runtime-") ∷ begins (codes "-sanitizer-coverage-") ∷ begins (codes "-scalar-") ∷ begins (codes "-sched-") ∷ begins (codes "-simple-") ∷ begins (codes "-simplifycfg-") ∷ begins (codes "-slp-") ∷ begins (codes "-split-") ∷ begins (codes "-switch-") ∷ begins (codes "-tail-") ∷ begins (codes "-tsan-") ∷ begins (codes "-two-") ∷ begins (codes "-unroll-") ∷ begins (codes "-unswitch-") ∷ begins (codes "-use-") ∷ begins (codes "-vector-") ∷ begins (codes "-vectorize-") ∷ begins (codes "-wasm-") ∷ begins (codes "-x86-") ∷ is (codes "-polly") ∷ begins (codes "-pass-remarks=") ∷ begins (codes "-pass-remarks-missed=") ∷ begins (codes "-pass-remarks-analysis=") ∷ begins (codes "-inline-threshold=") ∷ begins (codes "-fast-isel") ∷ begins (codes "-treat-scalable-fixed-error-as-warning") ∷ begins (codes "-emit-gnuas-syntax-on-zos") ∷ begins (codes "-rng-seed=") ∷ begins (codes "-crash-diagnostics-dir=") ∷ begins (codes "-stackcoloring") ∷ begins (codes "-mergefunc") ∷ begins (codes "-hot-cold-split") ∷ begins (codes "-attributor-enable=") ∷ is (codes "-import-all-index") ∷ begins (codes "-import-hot-") ∷ begins (codes "-import-cold-") ∷ begins (codes "-import-critical-") ∷ begins (codes "-wholeprogramdevirt-branch") ∷ begins (codes "-experimental-") ∷ is (codes "-extra-vectorizer-passes") ∷ []) (holds (codes "dot") ∷ holds (codes "dump") ∷ holds (codes "print") ∷ holds (codes "stats") ∷ holds (codes "-file=") ∷ holds (codes "interactive-channel") ∷ holds (codes "training-log") ∷ holds (codes "log-dir") ∷ begins (codes "-regalloc-model") ∷ begins (codes "-regalloc-priority-model") ∷ begins (codes "-x86-lvi-load-opt-plugin") ∷ [])) ∷ []) ∷ [])))) ∷ []) ∷
+    case (meant compiler.Clang None None ∷ []) (asked (Given (Any (unnamed (test class.Flag (text (is (codes "-mllvm") ∷ []) []) (Value (text (begins (codes "-align-all-functions=") ∷ begins (codes "-align-all-nofallthru-blocks=") ∷ begins (codes "-align-loops=") ∷ begins (codes "-amdgpu-early-inline-all=") ∷ begins (codes "-amdgpu-function-calls=") ∷ is (codes "-asan-force-dynamic-shadow") ∷ begins (codes "-asan-globals=") ∷ begins (codes "-asan-instrumentation-with-call-threshold=") ∷ begins (codes "-asan-mapping-offset=") ∷ begins (codes "-asan-stack=") ∷ begins (codes "-asan-use-private-alias=") ∷ begins (codes "-attributor-enable=") ∷ is (codes "-disable-binop-extract-shuffle") ∷ is (codes "-disable-lsr") ∷ is (codes "-emulated-tls") ∷ is (codes "-enable-dfa-jump-thread") ∷ is (codes "-enable-epilogue-vectorization") ∷ is (codes "-enable-gvn-hoist") ∷ is (codes "-enable-gvn-sink") ∷ is (codes "-enable-loop-distribute") ∷ is (codes "-enable-loop-flatten") ∷ is (codes "-enable-loopinterchange") ∷ begins (codes "-enable-machine-outliner=") ∷ is (codes "-enable-matrix") ∷ is (codes "-enable-misched") ∷ is (codes "-enable-newgvn") ∷ begins (codes "-enable-shrink-wrap=") ∷ is (codes "-enable-split-machine-functions") ∷ begins (codes "-enable-tail-merge=") ∷ is (codes "-enable-unroll-and-jam") ∷ is (codes "-fast-isel") ∷ begins (codes "-fast-isel-abort=") ∷ begins (codes "-force-vector-interleave=") ∷ begins (codes "-force-vector-width=") ∷ is (codes "-generate-arange-section") ∷ begins (codes "-hot-cold-split=") ∷ is (codes "-hwasan-inline-all-checks") ∷ begins (codes "-hwasan-inline-all-checks=") ∷ begins (codes "-hwasan-instrument-stack=") ∷ begins (codes "-hwasan-use-short-granules=") ∷ begins (codes "-import-instr-limit=") ∷ begins (codes "-inline-savings-multiplier=") ∷ begins (codes "-inline-threshold=") ∷ begins (codes "-inlinecold-threshold=") ∷ begins (codes "-inlinehint-threshold=") ∷ begins (codes "-instcombine-lower-dbg-declare=") ∷ begins (codes "-jump-threading-threshold=") ∷ is (codes "-mergefunc-use-aliases") ∷ begins (codes "-min-jump-table-entries=") ∷ begins (codes "-misched=") ∷ begins (codes "-msan-track-origins=") ∷ begins (codes "-pass-remarks-analysis=") ∷ begins (codes "-pass-remarks-missed=") ∷ begins (codes "-pass-remarks=") ∷ begins (codes "-phi-node-folding-threshold=") ∷ is (codes "-polly") ∷ begins (codes "-regalloc=") ∷ begins (codes "-riscv-v-vector-bits-min=") ∷ begins (codes "-rng-seed=") ∷ is (codes "-sanitizer-coverage-trace-pc") ∷ begins (codes "-slp-threshold=") ∷ begins (codes "-tail-dup-size=") ∷ is (codes "-tsan-instrument-atomics") ∷ is (codes "-unroll-allow-partial") ∷ begins (codes "-unroll-count=") ∷ begins (codes "-unroll-max-count=") ∷ is (codes "-unroll-runtime") ∷ begins (codes "-unroll-runtime=") ∷ begins (codes "-unroll-threshold=") ∷ is (codes "-vectorize-loops") ∷ is (codes "-vectorize-slp") ∷ is (codes "-wasm-enable-eh") ∷ is (codes "-wasm-enable-sjlj") ∷ begins (codes "-x86-align-branch-boundary=") ∷ begins (codes "-x86-align-branch=") ∷ begins (codes "-x86-asm-syntax=") ∷ is (codes "-x86-branches-within-32B-boundaries") ∷ []) []) ∷ []) ∷ [])))) ∷ []) ∷
+    case (meant compiler.ClangCl None None ∷ []) (asked (Given (Any (unnamed (test class.Unknown (text (is (codes "-mllvm") ∷ begins (codes "-align-all-functions=") ∷ begins (codes "-align-all-nofallthru-blocks=") ∷ begins (codes "-align-loops=") ∷ begins (codes "-amdgpu-early-inline-all=") ∷ begins (codes "-amdgpu-function-calls=") ∷ is (codes "-asan-force-dynamic-shadow") ∷ begins (codes "-asan-globals=") ∷ begins (codes "-asan-instrumentation-with-call-threshold=") ∷ begins (codes "-asan-mapping-offset=") ∷ begins (codes "-asan-stack=") ∷ begins (codes "-asan-use-private-alias=") ∷ begins (codes "-attributor-enable=") ∷ is (codes "-disable-binop-extract-shuffle") ∷ is (codes "-disable-lsr") ∷ is (codes "-emulated-tls") ∷ is (codes "-enable-dfa-jump-thread") ∷ is (codes "-enable-epilogue-vectorization") ∷ is (codes "-enable-gvn-hoist") ∷ is (codes "-enable-gvn-sink") ∷ is (codes "-enable-loop-distribute") ∷ is (codes "-enable-loop-flatten") ∷ is (codes "-enable-loopinterchange") ∷ begins (codes "-enable-machine-outliner=") ∷ is (codes "-enable-matrix") ∷ is (codes "-enable-misched") ∷ is (codes "-enable-newgvn") ∷ begins (codes "-enable-shrink-wrap=") ∷ is (codes "-enable-split-machine-functions") ∷ begins (codes "-enable-tail-merge=") ∷ is (codes "-enable-unroll-and-jam") ∷ is (codes "-fast-isel") ∷ begins (codes "-fast-isel-abort=") ∷ begins (codes "-force-vector-interleave=") ∷ begins (codes "-force-vector-width=") ∷ is (codes "-generate-arange-section") ∷ begins (codes "-hot-cold-split=") ∷ is (codes "-hwasan-inline-all-checks") ∷ begins (codes "-hwasan-inline-all-checks=") ∷ begins (codes "-hwasan-instrument-stack=") ∷ begins (codes "-hwasan-use-short-granules=") ∷ begins (codes "-import-instr-limit=") ∷ begins (codes "-inline-savings-multiplier=") ∷ begins (codes "-inline-threshold=") ∷ begins (codes "-inlinecold-threshold=") ∷ begins (codes "-inlinehint-threshold=") ∷ begins (codes "-instcombine-lower-dbg-declare=") ∷ begins (codes "-jump-threading-threshold=") ∷ is (codes "-mergefunc-use-aliases") ∷ begins (codes "-min-jump-table-entries=") ∷ begins (codes "-misched=") ∷ begins (codes "-msan-track-origins=") ∷ begins (codes "-pass-remarks-analysis=") ∷ begins (codes "-pass-remarks-missed=") ∷ begins (codes "-pass-remarks=") ∷ begins (codes "-phi-node-folding-threshold=") ∷ is (codes "-polly") ∷ begins (codes "-regalloc=") ∷ begins (codes "-riscv-v-vector-bits-min=") ∷ begins (codes "-rng-seed=") ∷ is (codes "-sanitizer-coverage-trace-pc") ∷ begins (codes "-slp-threshold=") ∷ begins (codes "-tail-dup-size=") ∷ is (codes "-tsan-instrument-atomics") ∷ is (codes "-unroll-allow-partial") ∷ begins (codes "-unroll-count=") ∷ begins (codes "-unroll-max-count=") ∷ is (codes "-unroll-runtime") ∷ begins (codes "-unroll-runtime=") ∷ begins (codes "-unroll-threshold=") ∷ is (codes "-vectorize-loops") ∷ is (codes "-vectorize-slp") ∷ is (codes "-wasm-enable-eh") ∷ is (codes "-wasm-enable-sjlj") ∷ begins (codes "-x86-align-branch-boundary=") ∷ begins (codes "-x86-align-branch=") ∷ begins (codes "-x86-asm-syntax=") ∷ is (codes "-x86-branches-within-32B-boundaries") ∷ []) []) [] ∷ [])))) ∷ []) ∷
+    case (meant compiler.Clang None None ∷ meant compiler.ClangCl None None ∷ []) (asked (Inner (Any (unnamed (test class.Flag (text (is (codes "-mllvm") ∷ []) []) (Value (text (begins (codes "-align-all-functions=") ∷ begins (codes "-align-all-nofallthru-blocks=") ∷ begins (codes "-align-loops=") ∷ begins (codes "-amdgpu-early-inline-all=") ∷ begins (codes "-amdgpu-function-calls=") ∷ is (codes "-asan-force-dynamic-shadow") ∷ begins (codes "-asan-globals=") ∷ begins (codes "-asan-instrumentation-with-call-threshold=") ∷ begins (codes "-asan-mapping-offset=") ∷ begins (codes "-asan-stack=") ∷ begins (codes "-asan-use-private-alias=") ∷ begins (codes "-attributor-enable=") ∷ is (codes "-disable-binop-extract-shuffle") ∷ is (codes "-disable-lsr") ∷ is (codes "-emulated-tls") ∷ is (codes "-enable-dfa-jump-thread") ∷ is (codes "-enable-epilogue-vectorization") ∷ is (codes "-enable-gvn-hoist") ∷ is (codes "-enable-gvn-sink") ∷ is (codes "-enable-loop-distribute") ∷ is (codes "-enable-loop-flatten") ∷ is (codes "-enable-loopinterchange") ∷ begins (codes "-enable-machine-outliner=") ∷ is (codes "-enable-matrix") ∷ is (codes "-enable-misched") ∷ is (codes "-enable-newgvn") ∷ begins (codes "-enable-shrink-wrap=") ∷ is (codes "-enable-split-machine-functions") ∷ begins (codes "-enable-tail-merge=") ∷ is (codes "-enable-unroll-and-jam") ∷ is (codes "-fast-isel") ∷ begins (codes "-fast-isel-abort=") ∷ begins (codes "-force-vector-interleave=") ∷ begins (codes "-force-vector-width=") ∷ is (codes "-generate-arange-section") ∷ begins (codes "-hot-cold-split=") ∷ is (codes "-hwasan-inline-all-checks") ∷ begins (codes "-hwasan-inline-all-checks=") ∷ begins (codes "-hwasan-instrument-stack=") ∷ begins (codes "-hwasan-use-short-granules=") ∷ begins (codes "-import-instr-limit=") ∷ begins (codes "-inline-savings-multiplier=") ∷ begins (codes "-inline-threshold=") ∷ begins (codes "-inlinecold-threshold=") ∷ begins (codes "-inlinehint-threshold=") ∷ begins (codes "-instcombine-lower-dbg-declare=") ∷ begins (codes "-jump-threading-threshold=") ∷ is (codes "-mergefunc-use-aliases") ∷ begins (codes "-min-jump-table-entries=") ∷ begins (codes "-misched=") ∷ begins (codes "-msan-track-origins=") ∷ begins (codes "-pass-remarks-analysis=") ∷ begins (codes "-pass-remarks-missed=") ∷ begins (codes "-pass-remarks=") ∷ begins (codes "-phi-node-folding-threshold=") ∷ is (codes "-polly") ∷ begins (codes "-regalloc=") ∷ begins (codes "-riscv-v-vector-bits-min=") ∷ begins (codes "-rng-seed=") ∷ is (codes "-sanitizer-coverage-trace-pc") ∷ begins (codes "-slp-threshold=") ∷ begins (codes "-tail-dup-size=") ∷ is (codes "-tsan-instrument-atomics") ∷ is (codes "-unroll-allow-partial") ∷ begins (codes "-unroll-count=") ∷ begins (codes "-unroll-max-count=") ∷ is (codes "-unroll-runtime") ∷ begins (codes "-unroll-runtime=") ∷ begins (codes "-unroll-threshold=") ∷ is (codes "-vectorize-loops") ∷ is (codes "-vectorize-slp") ∷ is (codes "-wasm-enable-eh") ∷ is (codes "-wasm-enable-sjlj") ∷ begins (codes "-x86-align-branch-boundary=") ∷ begins (codes "-x86-align-branch=") ∷ begins (codes "-x86-asm-syntax=") ∷ is (codes "-x86-branches-within-32B-boundaries") ∷ []) []) ∷ []) ∷ [])))) ∷ []) ∷
+    [])
+
+unfoldable pub handed_to_llvm_14_entry : Entry
+handed_to_llvm_14_entry = entry Plain (codes "handed-to-llvm-14")
+    (codes "It changes the code that is made, and no file.") (
+    case (meant compiler.Clang None (Some (version 15 0)) ∷ []) (asked (Given (Any (unnamed (test class.Flag (text (is (codes "-mllvm") ∷ []) []) (Value (text (begins (codes "-aarch64-") ∷ begins (codes "-addr-") ∷ begins (codes "-align-") ∷ begins (codes "-amdgpu-") ∷ begins (codes "-arm-") ∷ begins (codes "-asan-") ∷ begins (codes "-branch-") ∷ begins (codes "-cold-") ∷ begins (codes "-disable-") ∷ begins (codes "-dse-") ∷ begins (codes "-dwarf-") ∷ begins (codes "-early-") ∷ begins (codes "-emulated-") ∷ begins (codes "-enable-") ∷ begins (codes "-expand-") ∷ begins (codes "-force-") ∷ begins (codes "-generate-") ∷ begins (codes "-global-") ∷ begins (codes "-gvn-") ∷ begins (codes "-hexagon-") ∷ begins (codes "-hot-") ∷ begins (codes "-hwasan-") ∷ begins (codes "-import-instr-") ∷ begins (codes "-inline-") ∷ begins (codes "-inlinecold-") ∷ begins (codes "-inlinehint-") ∷ begins (codes "-insert-") ∷ begins (codes "-instcombine-") ∷ begins (codes "-instrprof-") ∷ begins (codes "-interleave-") ∷ begins (codes "-jump-") ∷ begins (codes "-licm-") ∷ begins (codes "-loop-") ∷ begins (codes "-lsr-") ∷ begins (codes "-max-") ∷ begins (codes "-min-") ∷ begins (codes "-mips-") ∷ begins (codes "-misched") ∷ begins (codes "-msan-") ∷ begins (codes "-nvptx-") ∷ begins (codes "-no-") ∷ begins (codes "-partial-") ∷ begins (codes "-phi-") ∷ begins (codes "-ppc-") ∷ begins (codes "-prefer-") ∷ begins (codes "-regalloc") ∷ begins (codes "-riscv-") ∷ begins (codes "-rotation-") ∷ begins (codes "-runtime-") ∷ begins (codes "-sanitizer-coverage-") ∷ begins (codes "-scalar-") ∷ begins (codes "-sched-") ∷ begins (codes "-simple-") ∷ begins (codes "-simplifycfg-") ∷ begins (codes "-slp-") ∷ begins (codes "-split-") ∷ begins (codes "-switch-") ∷ begins (codes "-tail-") ∷ begins (codes "-tsan-") ∷ begins (codes "-two-") ∷ begins (codes "-unroll-") ∷ begins (codes "-unswitch-") ∷ begins (codes "-use-") ∷ begins (codes "-vector-") ∷ begins (codes "-vectorize-") ∷ begins (codes "-wasm-") ∷ begins (codes "-x86-") ∷ is (codes "-polly") ∷ begins (codes "-pass-remarks=") ∷ begins (codes "-pass-remarks-missed=") ∷ begins (codes "-pass-remarks-analysis=") ∷ begins (codes "-inline-threshold=") ∷ begins (codes "-fast-isel") ∷ begins (codes "-treat-scalable-fixed-error-as-warning") ∷ begins (codes "-emit-gnuas-syntax-on-zos") ∷ begins (codes "-rng-seed=") ∷ begins (codes "-crash-diagnostics-dir=") ∷ begins (codes "-stackcoloring") ∷ begins (codes "-mergefunc") ∷ begins (codes "-hot-cold-split") ∷ begins (codes "-attributor-enable=") ∷ is (codes "-import-all-index") ∷ begins (codes "-import-hot-") ∷ begins (codes "-import-cold-") ∷ begins (codes "-import-critical-") ∷ begins (codes "-wholeprogramdevirt-branch") ∷ begins (codes "-experimental-") ∷ is (codes "-extra-vectorizer-passes") ∷ []) (holds (codes "dot") ∷ holds (codes "dump") ∷ holds (codes "print") ∷ holds (codes "stats") ∷ holds (codes "-file=") ∷ holds (codes "interactive-channel") ∷ holds (codes "training-log") ∷ holds (codes "log-dir") ∷ begins (codes "-regalloc-model") ∷ begins (codes "-regalloc-priority-model") ∷ begins (codes "-x86-lvi-load-opt-plugin") ∷ [])) ∷ []) ∷ [])))) ∷ []) ∷
+    case (meant compiler.ClangCl None (Some (version 15 0)) ∷ []) (asked (Given (Any (unnamed (test class.Unknown (text (is (codes "-mllvm") ∷ begins (codes "-aarch64-") ∷ begins (codes "-addr-") ∷ begins (codes "-align-") ∷ begins (codes "-amdgpu-") ∷ begins (codes "-arm-") ∷ begins (codes "-asan-") ∷ begins (codes "-branch-") ∷ begins (codes "-cold-") ∷ begins (codes "-disable-") ∷ begins (codes "-dse-") ∷ begins (codes "-dwarf-") ∷ begins (codes "-early-") ∷ begins (codes "-emulated-") ∷ begins (codes "-enable-") ∷ begins (codes "-expand-") ∷ begins (codes "-force-") ∷ begins (codes "-generate-") ∷ begins (codes "-global-") ∷ begins (codes "-gvn-") ∷ begins (codes "-hexagon-") ∷ begins (codes "-hot-") ∷ begins (codes "-hwasan-") ∷ begins (codes "-import-instr-") ∷ begins (codes "-inline-") ∷ begins (codes "-inlinecold-") ∷ begins (codes "-inlinehint-") ∷ begins (codes "-insert-") ∷ begins (codes "-instcombine-") ∷ begins (codes "-instrprof-") ∷ begins (codes "-interleave-") ∷ begins (codes "-jump-") ∷ begins (codes "-licm-") ∷ begins (codes "-loop-") ∷ begins (codes "-lsr-") ∷ begins (codes "-max-") ∷ begins (codes "-min-") ∷ begins (codes "-mips-") ∷ begins (codes "-misched") ∷ begins (codes "-msan-") ∷ begins (codes "-nvptx-") ∷ begins (codes "-no-") ∷ begins (codes "-partial-") ∷ begins (codes "-phi-") ∷ begins (codes "-ppc-") ∷ begins (codes "-prefer-") ∷ begins (codes "-regalloc") ∷ begins (codes "-riscv-") ∷ begins (codes "-rotation-") ∷ begins (codes "-runtime-") ∷ begins (codes "-sanitizer-coverage-") ∷ begins (codes "-scalar-") ∷ begins (codes "-sched-") ∷ begins (codes "-simple-") ∷ begins (codes "-simplifycfg-") ∷ begins (codes "-slp-") ∷ begins (codes "-split-") ∷ begins (codes "-switch-") ∷ begins (codes "-tail-") ∷ begins (codes "-tsan-") ∷ begins (codes "-two-") ∷ begins (codes "-unroll-") ∷ begins (codes "-unswitch-") ∷ begins (codes "-use-") ∷ begins (codes "-vector-") ∷ begins (codes "-vectorize-") ∷ begins (codes "-wasm-") ∷ begins (codes "-x86-") ∷ is (codes "-polly") ∷ begins (codes "-pass-remarks=") ∷ begins (codes "-pass-remarks-missed=") ∷ begins (codes "-pass-remarks-analysis=") ∷ begins (codes "-inline-threshold=") ∷ begins (codes "-fast-isel") ∷ begins (codes "-treat-scalable-fixed-error-as-warning") ∷ begins (codes "-emit-gnuas-syntax-on-zos") ∷ begins (codes "-rng-seed=") ∷ begins (codes "-crash-diagnostics-dir=") ∷ begins (codes "-stackcoloring") ∷ begins (codes "-mergefunc") ∷ begins (codes "-hot-cold-split") ∷ begins (codes "-attributor-enable=") ∷ is (codes "-import-all-index") ∷ begins (codes "-import-hot-") ∷ begins (codes "-import-cold-") ∷ begins (codes "-import-critical-") ∷ begins (codes "-wholeprogramdevirt-branch") ∷ begins (codes "-experimental-") ∷ is (codes "-extra-vectorizer-passes") ∷ []) (holds (codes "dot") ∷ holds (codes "dump") ∷ holds (codes "print") ∷ holds (codes "stats") ∷ holds (codes "-file=") ∷ holds (codes "interactive-channel") ∷ holds (codes "training-log") ∷ holds (codes "log-dir") ∷ begins (codes "-regalloc-model") ∷ begins (codes "-regalloc-priority-model") ∷ begins (codes "-x86-lvi-load-opt-plugin") ∷ [])) [] ∷ [])))) ∷ []) ∷
+    case (meant compiler.Clang None (Some (version 15 0)) ∷ meant compiler.ClangCl None (Some (version 15 0)) ∷ []) (asked (Inner (Any (unnamed (test class.Flag (text (is (codes "-mllvm") ∷ []) []) (Value (text (begins (codes "-aarch64-") ∷ begins (codes "-addr-") ∷ begins (codes "-align-") ∷ begins (codes "-amdgpu-") ∷ begins (codes "-arm-") ∷ begins (codes "-asan-") ∷ begins (codes "-branch-") ∷ begins (codes "-cold-") ∷ begins (codes "-disable-") ∷ begins (codes "-dse-") ∷ begins (codes "-dwarf-") ∷ begins (codes "-early-") ∷ begins (codes "-emulated-") ∷ begins (codes "-enable-") ∷ begins (codes "-expand-") ∷ begins (codes "-force-") ∷ begins (codes "-generate-") ∷ begins (codes "-global-") ∷ begins (codes "-gvn-") ∷ begins (codes "-hexagon-") ∷ begins (codes "-hot-") ∷ begins (codes "-hwasan-") ∷ begins (codes "-import-instr-") ∷ begins (codes "-inline-") ∷ begins (codes "-inlinecold-") ∷ begins (codes "-inlinehint-") ∷ begins (codes "-insert-") ∷ begins (codes "-instcombine-") ∷ begins (codes "-instrprof-") ∷ begins (codes "-interleave-") ∷ begins (codes "-jump-") ∷ begins (codes "-licm-") ∷ begins (codes "-loop-") ∷ begins (codes "-lsr-") ∷ begins (codes "-max-") ∷ begins (codes "-min-") ∷ begins (codes "-mips-") ∷ begins (codes "-misched") ∷ begins (codes "-msan-") ∷ begins (codes "-nvptx-") ∷ begins (codes "-no-") ∷ begins (codes "-partial-") ∷ begins (codes "-phi-") ∷ begins (codes "-ppc-") ∷ begins (codes "-prefer-") ∷ begins (codes "-regalloc") ∷ begins (codes "-riscv-") ∷ begins (codes "-rotation-") ∷ begins (codes "-runtime-") ∷ begins (codes "-sanitizer-coverage-") ∷ begins (codes "-scalar-") ∷ begins (codes "-sched-") ∷ begins (codes "-simple-") ∷ begins (codes "-simplifycfg-") ∷ begins (codes "-slp-") ∷ begins (codes "-split-") ∷ begins (codes "-switch-") ∷ begins (codes "-tail-") ∷ begins (codes "-tsan-") ∷ begins (codes "-two-") ∷ begins (codes "-unroll-") ∷ begins (codes "-unswitch-") ∷ begins (codes "-use-") ∷ begins (codes "-vector-") ∷ begins (codes "-vectorize-") ∷ begins (codes "-wasm-") ∷ begins (codes "-x86-") ∷ is (codes "-polly") ∷ begins (codes "-pass-remarks=") ∷ begins (codes "-pass-remarks-missed=") ∷ begins (codes "-pass-remarks-analysis=") ∷ begins (codes "-inline-threshold=") ∷ begins (codes "-fast-isel") ∷ begins (codes "-treat-scalable-fixed-error-as-warning") ∷ begins (codes "-emit-gnuas-syntax-on-zos") ∷ begins (codes "-rng-seed=") ∷ begins (codes "-crash-diagnostics-dir=") ∷ begins (codes "-stackcoloring") ∷ begins (codes "-mergefunc") ∷ begins (codes "-hot-cold-split") ∷ begins (codes "-attributor-enable=") ∷ is (codes "-import-all-index") ∷ begins (codes "-import-hot-") ∷ begins (codes "-import-cold-") ∷ begins (codes "-import-critical-") ∷ begins (codes "-wholeprogramdevirt-branch") ∷ begins (codes "-experimental-") ∷ is (codes "-extra-vectorizer-passes") ∷ []) (holds (codes "dot") ∷ holds (codes "dump") ∷ holds (codes "print") ∷ holds (codes "stats") ∷ holds (codes "-file=") ∷ holds (codes "interactive-channel") ∷ holds (codes "training-log") ∷ holds (codes "log-dir") ∷ begins (codes "-regalloc-model") ∷ begins (codes "-regalloc-priority-model") ∷ begins (codes "-x86-lvi-load-opt-plugin") ∷ [])) ∷ []) ∷ [])))) ∷ []) ∷
     [])
 
 unfoldable pub maps_of_paths_entry : Entry
@@ -130,11 +138,5 @@ folder_of_notes_entry = entry Plain (codes "folder-of-notes")
     case (meant compiler.ClangCl None None ∷ []) (asked (Given (Any (unnamed (test class.Unknown (text (begins (codes "-fprofile-generate=") ∷ begins (codes "-fprofile-instr-generate=") ∷ begins (codes "-fcs-profile-generate=") ∷ []) []) [] ∷ [])))) ∷ []) ∷
     [])
 
-unfoldable pub crash_entry : Entry
-crash_entry = entry Plain (codes "crash")
-    (codes "It is written only if the compiler crashes.") (
-    case (meant compiler.Clang None None ∷ meant compiler.ClangCl None None ∷ []) (asked (Given (Any (unnamed (test class.Unknown (text (begins (codes "-fcrash-diagnostics-dir=") ∷ []) []) [] ∷ [])))) ∷ []) ∷
-    [])
-
 unfoldable pub part_9 : List Entry
-part_9 = machine_entry ∷ optimization_entry ∷ warnings_entry ∷ standard_of_language_entry ∷ link_entry ∷ switched_off_entry ∷ debug_information_entry ∷ handed_to_assembler_entry ∷ handed_to_llvm_entry ∷ maps_of_paths_entry ∷ values_of_gcc_and_clang_entry ∷ values_of_gcc_entry ∷ values_of_clang_entry ∷ inner_values_of_both_entry ∷ inner_values_of_clang_entry ∷ values_of_clang_cl_entry ∷ folder_of_notes_entry ∷ crash_entry ∷ []
+part_9 = machine_entry ∷ optimization_entry ∷ warnings_entry ∷ standard_of_language_entry ∷ link_entry ∷ switched_off_entry ∷ debug_information_entry ∷ handed_to_assembler_entry ∷ handed_to_llvm_entry ∷ handed_to_llvm_14_entry ∷ maps_of_paths_entry ∷ values_of_gcc_and_clang_entry ∷ values_of_gcc_entry ∷ values_of_clang_entry ∷ inner_values_of_both_entry ∷ inner_values_of_clang_entry ∷ values_of_clang_cl_entry ∷ folder_of_notes_entry ∷ []

@@ -45,7 +45,7 @@ fn entries_from_1(alloc: Global) -> Mem<Vec<Entry<'static>>>
 fn entries_from_6(alloc: Global) -> Mem<Vec<Entry<'static>>>
     ensures { IfOk result (λ entries. map entry_of entries.items ≡ part_6 ++ part_7 ++ part_8 ++ part_9 ++ part_10) }
 {
-    let mut entries = Vec::with_capacity(alloc, 77)?;
+    let mut entries = Vec::with_capacity(alloc, 78)?;
     entries.extend_from_slice(&part_6::part())?;
     entries.extend_from_slice(&part_7::part())?;
     entries.extend_from_slice(&part_8::part())?;

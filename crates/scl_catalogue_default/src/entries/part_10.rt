@@ -1,9 +1,22 @@
 //! Entries of the catalogue that is built in; `catalogue/build` writes them.
 ghost use Rattle.std.specs.Prelude.{◌≡◌, map};
 ghost use Rattle.scl_catalogue.specs.Views.{entry_of};
-ghost use Rattle.scl_catalogue_default.specs.Part10.{remarks_entry, option_of_cl_entry, inner_words_entry, option_of_microsoft_entry, options_of_others_entry, part_10};
+ghost use Rattle.scl_catalogue_default.specs.Part10.{crash_entry, remarks_entry, option_of_cl_entry, inner_words_entry, option_of_microsoft_entry, options_of_others_entry, part_10};
 
 use scl_catalogue::Entry;
+
+static ENTRY_CRASH: Entry<'static> = entry! {
+    Plain b"crash"
+    b"It is written only if the compiler crashes."
+    [(Clang) (ClangCl) : {Given Any ([Unknown {Begins b"-fcrash-diagnostics-dir="}])}]
+};
+
+#[tactic(auto, unfolding(crate::specs::Part10::crash_entry))]
+fn crash_entry() -> Entry<'static>
+    ensures { entry_of result ≡ crash_entry }
+{
+    ENTRY_CRASH
+}
 
 static ENTRY_REMARKS: Entry<'static> = entry! {
     Plain b"remarks"
@@ -72,10 +85,11 @@ fn options_of_others_entry() -> Entry<'static>
 }
 
 #[tactic(auto, unfolding(crate::specs::Part10::part_10))]
-pub(crate) fn part() -> [Entry<'static>; 5]
+pub(crate) fn part() -> [Entry<'static>; 6]
     ensures { map entry_of result ≡ part_10 }
 {
     [
+        crash_entry(),
         remarks_entry(),
         option_of_cl_entry(),
         inner_words_entry(),
