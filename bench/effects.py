@@ -9,6 +9,11 @@ HEADINGS = {
     "writes": ("What is written", "A file beside the outputs that the record names."),
     "asks": ("What is asked of the machine", "The object depends on it."),
 }
+OF_WORDS = {
+    "key": ("What a key answers for", "The first row that fits a word decides. A word that none fits is `exact`: the outcome may have what the preprocessed text does not show."),
+    "run": ("What a run of the preprocessor reads", "This is asked of words that are not `plain` above. A word that no row fits is `exact`: a run may read more because of it."),
+    "names": ("What the object names", "The first row that fits a word decides. A word that none fits may make the object name anything of the place where it is made."),
+}
 INTRODUCTION = """# Effects
 
 A compiler may read, write and ask more than its input, its headers and its object. Some options make it read a profile, write a listing, load a plugin, or look at the processor. A cache that does not
@@ -30,7 +35,7 @@ Of 16,163 lines of the three compilers 5,865 compile and may be kept. Each file 
 
 
 class Entry:
-    """An entry of the text: its verb, name, file, sentence and cases."""
+    """An entry of the text: its verb or kind, its name, its file or what it says of words, its sentence and cases."""
 
     def __init__(self, verb, name, file):
         self.verb, self.name, self.file, self.says, self.cases = verb, name, file, "", []
@@ -50,6 +55,8 @@ def read(path):
                 entries.append(Entry(verb, name, file))
             elif word == "plain":
                 entries.append(Entry("plain", rest, ""))
+            elif word in OF_WORDS:
+                entries.append(Entry(word, *rest.split(" ")))
             elif word == "says":
                 entries[-1].says = rest
             elif word and word != "#":
@@ -105,13 +112,13 @@ def case_said(groups, text):
     return f"{served}: {', '.join([first, *others])}"
 
 
-def table(groups, entries, has_file):
-    """A table of entries."""
-    yield "| Name | File | Options | Why |" if has_file else "| Name | Options | Why |"
-    yield "|---|---|---|---|" if has_file else "|---|---|---|"
+def table(groups, entries, column):
+    """A table of entries; the column has the file, or what is said of words."""
+    yield f"| Name | {column} | Options | Why |" if column else "| Name | Options | Why |"
+    yield "|---|---|---|---|" if column else "|---|---|---|"
     for it in entries:
         options = "<br>".join(case_said(groups, case) for case in it.cases)
-        file = f" | `{it.file}`" if has_file else ""
+        file = f" | `{it.file}`" if column else ""
         yield f"| {it.name}{file} | {options} | {it.says} |"
 
 
@@ -132,9 +139,12 @@ def page(_):
     yield INTRODUCTION
     for verb, (heading, sentence) in HEADINGS.items():
         yield f"\n## {heading}\n\n{sentence}\n"
-        yield from table(groups, [it for it in entries if it.verb == verb], verb != "asks")
+        yield from table(groups, [it for it in entries if it.verb == verb], "" if verb == "asks" else "File")
     yield "\n## What does nothing of the kind\n\nWhat such an option gives or makes is in the record or in the key already, or it is no file at all.\n"
-    yield from table(groups, [it for it in entries if it.verb == "plain"], False)
+    yield from table(groups, [it for it in entries if it.verb == "plain"], "")
     yield "\n## Names that do nothing of the kind\n\n`catalogue/plain.txt` has further options, each by its whole name.\n\n| Compilers | Names |\n|---|---|"
     for served, count in names().items():
         yield f"| {served} | {count} |"
+    for kind, (heading, sentence) in OF_WORDS.items():
+        yield f"\n## {heading}\n\n{sentence}\n"
+        yield from table(groups, [it for it in entries if it.verb == kind], "What")

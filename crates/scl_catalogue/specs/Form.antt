@@ -4,6 +4,8 @@ use Rattle.scl_catalogue.specs.declared.case.Served.{Served}
 use Rattle.scl_catalogue.specs.declared.condition.Fact.{Fact}
 use Rattle.scl_catalogue.specs.declared.condition.Place.{Place}
 use Rattle.scl_catalogue.specs.declared.entry.Danger.{Danger}
+use Rattle.scl_catalogue.specs.declared.entry.Doing.{Doing}
+use Rattle.scl_catalogue.specs.declared.entry.Naming.{Naming}
 use Rattle.scl_catalogue.specs.declared.entry.Verb.{Verb}
 use Rattle.scl_catalogue.specs.declared.seen.Mark.{Mark}
 use Rattle.scl_catalogue.specs.declared.test.Class.{Class}
@@ -61,13 +63,16 @@ pub record Case : Type 0 where
   pub served : List Served
   pub conditions : List Condition
 
--- what an entry states: a hazard and what becomes of it, something that is read, written, asked or loaded, a reason, or that
--- nothing of the kind is done
+-- what an entry states: a hazard and what becomes of it; something that is read, written, asked or loaded; a reason; that nothing
+-- of the kind is done; what a key has to answer for, in a compilation or in a run of the preprocessor; or what the object names
 pub data Tells : Type 0 where
   Hazard : Danger → Tells
   Effect : Verb → List ℕ → Tells
   Reason : Tells
   Plain : Tells
+  Key : Doing → Tells
+  Run : Doing → Tells
+  Names : Naming → Tells
 
 pub record Entry : Type 0 where
   pub tells : Tells

@@ -3,3 +3,4 @@ pub mod Found
 pub mod Keyed
 pub mod Speaking
 pub mod Views
+pub mod Lookup

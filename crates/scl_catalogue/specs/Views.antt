@@ -13,6 +13,8 @@ use Rattle.scl_catalogue.specs.declared.entry.Entry.{Entry}
 use Rattle.scl_catalogue.specs.declared.entry.Tells.{Tells}
 use Rattle.scl_catalogue.specs.declared.entry.Tells.TheVariants as tells
 use Rattle.scl_catalogue.specs.declared.line.Line.{Line}
+use Rattle.scl_catalogue.specs.declared.lookup.Lexicon as declared
+use Rattle.scl_catalogue.specs.Lookup.{Lexicon}
 use Rattle.scl_catalogue.specs.declared.relation.Relation.{Relation}
 use Rattle.scl_catalogue.specs.declared.relation.Relation.TheVariants as relation
 use Rattle.scl_catalogue.specs.declared.seen.Seen.{Seen}
@@ -64,12 +66,18 @@ tells_of (tells.Hazard d) = form.Hazard d
 tells_of (tells.Effect v file) = form.Effect v file.now
 tells_of tells.Reason = form.Reason
 tells_of tells.Plain = form.Plain
+tells_of (tells.Key d) = form.Key d
+tells_of (tells.Run d) = form.Run d
+tells_of (tells.Names n) = form.Names n
 
 abbrev pub entry_of : Entry → form.Entry
 entry_of e = record { tells = tells_of e.tells; name = e.name.now; says = e.says.now; cases = map case_of e.cases.now }
 
 abbrev pub catalogue_of : Catalogue → form.Catalogue
 catalogue_of c = record { groups = map group_of c.groups.now; entries = map entry_of c.entries.now }
+
+abbrev pub lexicon_of : declared.Lexicon → Lexicon
+lexicon_of l = record { catalogue = catalogue_of l.catalogue; compiler = l.compiler; version = l.version }
 
 abbrev pub seen_of : Seen → OptionSeen
 seen_of o = record { standing = o.standing; name = o.name.now; kind = o.kind.now; value = o.value.now; marks = o.marks }

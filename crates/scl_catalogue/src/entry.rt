@@ -37,6 +37,42 @@ pub enum Verb {
     Loads,
 }
 
+/// What an option does beside compiling, as far as a key has to answer for it (docs/RULES.md, Keys).
+#[derive(Clone, Copy, Debug, PartialEq, Eq)]
+pub enum Doing {
+    /// The outcome has nothing of the sources that is missing from their preprocessed text.
+    Plain,
+    /// The outcome may have what the text does not, as columns and comments.
+    Exact,
+    /// The outcome has macros.
+    Macros,
+    /// A file is written that no row names.
+    WritesUnnamed,
+    /// The text may not be that of what is compiled.
+    TextHides,
+    /// The counts of a profile are read that stand beside the object.
+    ReadsCounts,
+    /// The samples of a profile are read from a file of a fixed name.
+    ReadsSamples,
+}
+
+/// What an option makes the object name of the place where it is made (docs/RULES.md, One key in every checkout).
+#[derive(Clone, Copy, Debug, PartialEq, Eq)]
+pub enum Naming {
+    /// Nothing.
+    Nothing,
+    /// Directory and sources, in debug information.
+    DebugInfo,
+    /// It maps names, in debug information and macros.
+    FileMap,
+    /// It maps names in debug information.
+    DebugMap,
+    /// It maps names in macros.
+    MacroMap,
+    /// Whatever it may be.
+    Anything,
+}
+
 /// What an entry states.
 #[derive(Clone, Copy, Debug)]
 pub enum Tells<'a> {
@@ -48,6 +84,12 @@ pub enum Tells<'a> {
     Reason,
     /// The options of its groups read, write and ask nothing except what other entries state.
     Plain,
+    /// What its options do that a key has to answer for.
+    Key(Doing),
+    /// What its options do in a run of the preprocessor.
+    Run(Doing),
+    /// What its options make the object name.
+    Names(Naming),
 }
 
 /// An entry of a catalogue.

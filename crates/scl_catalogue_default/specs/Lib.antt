@@ -10,4 +10,5 @@ pub mod Part7
 pub mod Part8
 pub mod Part9
 pub mod Part10
+pub mod Part11
 pub mod BuiltIn

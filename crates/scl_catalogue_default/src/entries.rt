@@ -12,9 +12,11 @@ ghost use Rattle.scl_catalogue_default.specs.Part7.{part_7};
 ghost use Rattle.scl_catalogue_default.specs.Part8.{part_8};
 ghost use Rattle.scl_catalogue_default.specs.Part9.{part_9};
 ghost use Rattle.scl_catalogue_default.specs.Part10.{part_10};
+ghost use Rattle.scl_catalogue_default.specs.Part11.{part_11};
 
 mod part_1;
 mod part_10;
+mod part_11;
 mod part_2;
 mod part_3;
 mod part_4;
@@ -45,12 +47,21 @@ fn entries_from_1(alloc: Global) -> Mem<Vec<Entry<'static>>>
 fn entries_from_6(alloc: Global) -> Mem<Vec<Entry<'static>>>
     ensures { IfOk result (λ entries. map entry_of entries.items ≡ part_6 ++ part_7 ++ part_8 ++ part_9 ++ part_10) }
 {
-    let mut entries = Vec::with_capacity(alloc, 78)?;
+    let mut entries = Vec::with_capacity(alloc, 90)?;
     entries.extend_from_slice(&part_6::part())?;
     entries.extend_from_slice(&part_7::part())?;
     entries.extend_from_slice(&part_8::part())?;
     entries.extend_from_slice(&part_9::part())?;
     entries.extend_from_slice(&part_10::part())?;
+    Ok(entries)
+}
+
+/// The entries of the parts from 11 to 11, in their order.
+fn entries_from_11(alloc: Global) -> Mem<Vec<Entry<'static>>>
+    ensures { IfOk result (λ entries. map entry_of entries.items ≡ part_11) }
+{
+    let mut entries = Vec::with_capacity(alloc, 1)?;
+    entries.extend_from_slice(&part_11::part())?;
     Ok(entries)
 }
 
@@ -61,5 +72,6 @@ pub fn built_in_entries(alloc: Global) -> Mem<Vec<Entry<'static>>>
 {
     let mut entries = entries_from_1(alloc)?;
     entries.extend_from_slice(&entries_from_6(alloc)?)?;
+    entries.extend_from_slice(&entries_from_11(alloc)?)?;
     Ok(entries)
 }

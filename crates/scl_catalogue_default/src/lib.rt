@@ -98,6 +98,30 @@ macro_rules! entry {
             cases: &[$(case!($($case)*)),*],
         }
     };
+    (Key $doing:ident $name:literal $says:literal $([$($case:tt)*])*) => {
+        scl_catalogue::Entry {
+            tells: scl_catalogue::Tells::Key(scl_catalogue::Doing::$doing),
+            name: $name,
+            says: $says,
+            cases: &[$(case!($($case)*)),*],
+        }
+    };
+    (Run $doing:ident $name:literal $says:literal $([$($case:tt)*])*) => {
+        scl_catalogue::Entry {
+            tells: scl_catalogue::Tells::Run(scl_catalogue::Doing::$doing),
+            name: $name,
+            says: $says,
+            cases: &[$(case!($($case)*)),*],
+        }
+    };
+    (Names $naming:ident $name:literal $says:literal $([$($case:tt)*])*) => {
+        scl_catalogue::Entry {
+            tells: scl_catalogue::Tells::Names(scl_catalogue::Naming::$naming),
+            name: $name,
+            says: $says,
+            cases: &[$(case!($($case)*)),*],
+        }
+    };
     ($tells:ident $name:literal $says:literal $([$($case:tt)*])*) => {
         scl_catalogue::Entry {
             tells: scl_catalogue::Tells::$tells,

@@ -5,17 +5,21 @@ use Rattle.std.proofs.lemmas.List.{append-nil}
 use Rattle.std.specs.Char.{is_ascii_control}
 use Rattle.std.specs.List.{list_all, list_any}
 use Rattle.std.specs.Str.{bytes_eq}
-use Rattle.scl_catalogue.specs.Form.{Group, Case, Test, Tells, Hazard, Effect, Reason, Plain, Entry, Catalogue}
+use Rattle.scl_catalogue.specs.Form.{Group, Case, Test, Tells, Hazard, Effect, Reason, Plain, Key, Run, Names, Entry, Catalogue}
 use Rattle.scl_catalogue.specs.declared.case.Compiler.{Compiler}
 use Rattle.scl_catalogue.specs.declared.case.Compiler.TheVariants as compiler
 use Rattle.scl_catalogue.specs.declared.entry.Danger.{Danger}
 use Rattle.scl_catalogue.specs.declared.entry.Danger.TheVariants as danger
+use Rattle.scl_catalogue.specs.declared.entry.Doing.{Doing}
+use Rattle.scl_catalogue.specs.declared.entry.Doing.TheVariants as doing
+use Rattle.scl_catalogue.specs.declared.entry.Naming.{Naming}
+use Rattle.scl_catalogue.specs.declared.entry.Naming.TheVariants as naming
 use Rattle.scl_catalogue.specs.declared.entry.Verb.{Verb}
 use Rattle.scl_catalogue.specs.declared.entry.Verb.TheVariants as verb
 use Rattle.scl_catalogue_text.specs.Cutting.{first_word, from_mark, other_words, parts, until_mark, words}
 use Rattle.scl_catalogue_text.specs.Files.{has_its_options}
-use Rattle.scl_catalogue_text.specs.Lines.{NewCase, NewEntry, NewGroup, Nothing, Says, SoFar, added, effect_read, group_line_by, group_line_read, hazard_read, line_by, line_read, lines_read, name_read, read, with_last, with_line}
-use Rattle.scl_catalogue_text.specs.Names.{compiler_name, danger_name, danger_named, verb_name, verb_named}
+use Rattle.scl_catalogue_text.specs.Lines.{NewCase, NewEntry, NewGroup, Nothing, Says, SoFar, added, effect_read, group_line_by, group_line_read, hazard_read, key_read, line_by, line_read, lines_read, name_read, naming_read, read, run_read, with_last, with_line, word_line_by}
+use Rattle.scl_catalogue_text.specs.Names.{compiler_name, danger_name, danger_named, doing_name, doing_named, naming_name, naming_named, verb_name, verb_named}
 use Rattle.scl_catalogue_text.specs.Outcome.{after}
 use Rattle.scl_catalogue_text.specs.Reading.{case_read, group_named, tests_read}
 use Rattle.scl_catalogue_text.specs.Writable.{AreCases, AreEntries, AreGroups, CanBeWritten, IsCase, IsEntry, are_tests, has_one, HasWords, is_group_name, is_plain_word, is_served}
@@ -98,6 +102,33 @@ verb-name verb.Writes = record { read = refl; unbroken = refl; bytes = refl }
 verb-name verb.Asks = record { read = refl; unbroken = refl; bytes = refl }
 verb-name verb.Loads = record { read = refl; unbroken = refl; bytes = refl }
 
+record IsDoing (d : Doing) : Type 0 where
+  read : doing_named (doing_name d) ≡ Some d
+  unbroken : is_unbroken (doing_name d) ≡ true
+  bytes : list_all is_of_line (doing_name d) ≡ true
+
+doing-name : (d : Doing) → IsDoing d
+doing-name doing.Plain = record { read = refl; unbroken = refl; bytes = refl }
+doing-name doing.Exact = record { read = refl; unbroken = refl; bytes = refl }
+doing-name doing.Macros = record { read = refl; unbroken = refl; bytes = refl }
+doing-name doing.WritesUnnamed = record { read = refl; unbroken = refl; bytes = refl }
+doing-name doing.TextHides = record { read = refl; unbroken = refl; bytes = refl }
+doing-name doing.ReadsCounts = record { read = refl; unbroken = refl; bytes = refl }
+doing-name doing.ReadsSamples = record { read = refl; unbroken = refl; bytes = refl }
+
+record IsNaming (n : Naming) : Type 0 where
+  read : naming_named (naming_name n) ≡ Some n
+  unbroken : is_unbroken (naming_name n) ≡ true
+  bytes : list_all is_of_line (naming_name n) ≡ true
+
+naming-name : (n : Naming) → IsNaming n
+naming-name naming.Nothing = record { read = refl; unbroken = refl; bytes = refl }
+naming-name naming.DebugInfo = record { read = refl; unbroken = refl; bytes = refl }
+naming-name naming.FileMap = record { read = refl; unbroken = refl; bytes = refl }
+naming-name naming.DebugMap = record { read = refl; unbroken = refl; bytes = refl }
+naming-name naming.MacroMap = record { read = refl; unbroken = refl; bytes = refl }
+naming-name naming.Anything = record { read = refl; unbroken = refl; bytes = refl }
+
 hazard-head : (gs : List Group) (xs : List ℕ) → line_read gs (codes "hazard" ++ 32 ∷ xs) ≡ hazard_read (words (32 ∷ xs))
 unfolding line_read line_by first_word other_words
 hazard-head gs xs = refl
@@ -114,6 +145,18 @@ plain-head : (gs : List Group) (xs : List ℕ) → line_read gs (codes "plain" +
 unfolding line_read line_by first_word other_words
 plain-head gs xs = refl
 
+key-head : (gs : List Group) (xs : List ℕ) → line_read gs (codes "key" ++ 32 ∷ xs) ≡ key_read (words (32 ∷ xs))
+unfolding line_read line_by word_line_by first_word other_words
+key-head gs xs = refl
+
+run-head : (gs : List Group) (xs : List ℕ) → line_read gs (codes "run" ++ 32 ∷ xs) ≡ run_read (words (32 ∷ xs))
+unfolding line_read line_by word_line_by first_word other_words
+run-head gs xs = refl
+
+naming-head : (gs : List Group) (xs : List ℕ) → line_read gs (codes "names" ++ 32 ∷ xs) ≡ naming_read (words (32 ∷ xs))
+unfolding line_read line_by word_line_by first_word other_words
+naming-head gs xs = refl
+
 name-read : (tells : Tells) (name : List ℕ) → is_plain_word name ≡ true → name_read tells (words (spaced (name ∷ []))) ≡ Ok (NewEntry tells name)
 unfolding name_read
 name-read tells name h =
@@ -121,7 +164,7 @@ name-read tells name h =
     ap (name_read tells) cut
 
 head-written : (gs : List Group) (tells : Tells) (name : List ℕ) → is_plain_word name ≡ true → HasWords tells → line_read gs (head_text tells name) ≡ Ok (NewEntry tells name)
-unfolding hazard_read effect_read
+unfolding hazard_read effect_read key_read run_read naming_read
 head-written gs (Hazard d) name h k =
     let cut : words (spaced (name ∷ danger_name d ∷ [])) ≡ name ∷ danger_name d ∷ [] = words-spaced (name ∷ danger_name d ∷ []) (both (plain-unbroken name h) (both (danger-name d).unbroken refl)) in
     hazard-head gs (name ++ spaced (danger_name d ∷ [])) ∙ (ap hazard_read cut ∙ rw (danger-name d).read refl)
@@ -130,13 +173,22 @@ head-written gs (Effect v file) name h k =
     effect-head gs (name ++ spaced (verb_name v ∷ file ∷ [])) ∙ (ap effect_read cut ∙ rw ((verb-name v).read, k.1) refl)
 head-written gs Reason name h k = reason-head gs (name ++ []) ∙ name-read Reason name h
 head-written gs Plain name h k = plain-head gs (name ++ []) ∙ name-read Plain name h
+head-written gs (Key d) name h k =
+    let cut : words (spaced (name ∷ doing_name d ∷ [])) ≡ name ∷ doing_name d ∷ [] = words-spaced (name ∷ doing_name d ∷ []) (both (plain-unbroken name h) (both (doing-name d).unbroken refl)) in
+    key-head gs (name ++ spaced (doing_name d ∷ [])) ∙ (ap key_read cut ∙ rw (doing-name d).read refl)
+head-written gs (Run d) name h k =
+    let cut : words (spaced (name ∷ doing_name d ∷ [])) ≡ name ∷ doing_name d ∷ [] = words-spaced (name ∷ doing_name d ∷ []) (both (plain-unbroken name h) (both (doing-name d).unbroken refl)) in
+    run-head gs (name ++ spaced (doing_name d ∷ [])) ∙ (ap run_read cut ∙ rw (doing-name d).read refl)
+head-written gs (Names n) name h k =
+    let cut : words (spaced (name ∷ naming_name n ∷ [])) ≡ name ∷ naming_name n ∷ [] = words-spaced (name ∷ naming_name n ∷ []) (both (plain-unbroken name h) (both (naming-name n).unbroken refl)) in
+    naming-head gs (name ++ spaced (naming_name n ∷ [])) ∙ (ap naming_read cut ∙ rw (naming-name n).read refl)
 
 says-written : (gs : List Group) (says : List ℕ) → line_read gs (codes "  says " ++ says) ≡ Ok (Says says)
 unfolding line_read line_by first_word other_words
 says-written gs says = refl
 
 case-head : (gs : List Group) (c : Compiler) (xs : List ℕ) → line_read gs (32 ∷ 32 ∷ (compiler_name c ++ xs)) ≡ after (case_read gs (32 ∷ 32 ∷ (compiler_name c ++ xs))) (λ case. Ok (NewCase case))
-unfolding line_read line_by first_word other_words
+unfolding line_read line_by word_line_by first_word other_words
 case-head gs compiler.Gcc xs = refl
 case-head gs compiler.Clang xs = refl
 case-head gs compiler.ClangCl xs = refl
@@ -164,6 +216,9 @@ head-bytes (Hazard d) name h k = spaced-bytes is_of_line refl (name ∷ danger_n
 head-bytes (Effect v file) name h k = spaced-bytes is_of_line refl (name ∷ verb_name v ∷ file ∷ []) (both (plain-line name h) (both (verb-name v).bytes (both (plain-line file k.0) refl)))
 head-bytes Reason name h k = spaced-bytes is_of_line refl (name ∷ []) (both (plain-line name h) refl)
 head-bytes Plain name h k = spaced-bytes is_of_line refl (name ∷ []) (both (plain-line name h) refl)
+head-bytes (Key d) name h k = spaced-bytes is_of_line refl (name ∷ doing_name d ∷ []) (both (plain-line name h) (both (doing-name d).bytes refl))
+head-bytes (Run d) name h k = spaced-bytes is_of_line refl (name ∷ doing_name d ∷ []) (both (plain-line name h) (both (doing-name d).bytes refl))
+head-bytes (Names n) name h k = spaced-bytes is_of_line refl (name ∷ naming_name n ∷ []) (both (plain-line name h) (both (naming-name n).bytes refl))
 
 without-control : (bs : List ℕ) → list_all is_of_line bs ≡ true → list_any is_ascii_control bs ≡ false
 without-control [] h = refl

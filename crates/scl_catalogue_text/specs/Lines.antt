@@ -3,10 +3,10 @@ use Rattle.std.specs.Prelude.{ℕ, ◌+◌, ◌==◌, Bool, false, cond, not, �
 use Rattle.std.specs.Char.{is_ascii_control}
 use Rattle.std.specs.List.{list_any}
 use Rattle.std.specs.Str.{bytes_eq}
-use Rattle.scl_catalogue.specs.Form.{Group, Case, Tells, Hazard, Effect, Reason, Plain, Entry, Catalogue}
+use Rattle.scl_catalogue.specs.Form.{Group, Case, Tells, Hazard, Effect, Reason, Plain, Key, Run, Names, Entry, Catalogue}
 use Rattle.scl_catalogue_text.specs.Cutting.{first_word, from_mark, is_word, other_words, parts, until_mark, words}
 use Rattle.scl_catalogue_text.specs.Files.{file_read, has_its_options}
-use Rattle.scl_catalogue_text.specs.Names.{danger_named, verb_named}
+use Rattle.scl_catalogue_text.specs.Names.{danger_named, doing_named, naming_named, verb_named}
 use Rattle.scl_catalogue_text.specs.Outcome.{after, after_line, at_end, at_line, or_mistake}
 use Rattle.scl_catalogue_text.specs.Reading.{case_read, group_named, tests_read}
 use Rattle.scl_catalogue_text.specs.declared.mistake.BadLine.{BadLine}
@@ -34,6 +34,24 @@ effect_read (name ∷ verb ∷ []) = Err mistake.WrongEntry
 effect_read (name ∷ verb ∷ file ∷ []) = after (or_mistake mistake.UnknownVerb (verb_named verb)) (λ v. after (file_read file) (λ _. Ok (NewEntry (Effect v file) name)))
 effect_read (name ∷ verb ∷ file ∷ other ∷ more) = Err mistake.WrongEntry
 
+unfoldable pub key_read : List (List ℕ) → Result Said Mistake
+key_read [] = Err mistake.WrongEntry
+key_read (name ∷ []) = Err mistake.WrongEntry
+key_read (name ∷ doing ∷ []) = after (or_mistake mistake.UnknownDoing (doing_named doing)) (λ d. Ok (NewEntry (Key d) name))
+key_read (name ∷ doing ∷ other ∷ more) = Err mistake.WrongEntry
+
+unfoldable pub run_read : List (List ℕ) → Result Said Mistake
+run_read [] = Err mistake.WrongEntry
+run_read (name ∷ []) = Err mistake.WrongEntry
+run_read (name ∷ doing ∷ []) = after (or_mistake mistake.UnknownDoing (doing_named doing)) (λ d. Ok (NewEntry (Run d) name))
+run_read (name ∷ doing ∷ other ∷ more) = Err mistake.WrongEntry
+
+unfoldable pub naming_read : List (List ℕ) → Result Said Mistake
+naming_read [] = Err mistake.WrongEntry
+naming_read (name ∷ []) = Err mistake.WrongEntry
+naming_read (name ∷ naming ∷ []) = after (or_mistake mistake.UnknownNaming (naming_named naming)) (λ n. Ok (NewEntry (Names n) name))
+naming_read (name ∷ naming ∷ other ∷ more) = Err mistake.WrongEntry
+
 -- only a name, of an entry that states this
 unfoldable pub name_read : Tells → List (List ℕ) → Result Said Mistake
 name_read tells [] = Err mistake.WrongEntry
@@ -60,6 +78,13 @@ abbrev pub is_comment : List ℕ → Bool
 is_comment [] = false
 is_comment (b ∷ bs) = b == 35
 
+-- an entry that says something of words, or a case
+unfoldable pub word_line_by : List Group → List ℕ → List ℕ → List ℕ → Result Said Mistake
+word_line_by gs word others line = cond (bytes_eq word (codes "key")) (key_read (words others))
+    (cond (bytes_eq word (codes "run")) (run_read (words others))
+    (cond (bytes_eq word (codes "names")) (naming_read (words others))
+    (after (case_read gs line) (λ c. Ok (NewCase c)))))
+
 unfoldable pub line_by : List Group → List ℕ → List ℕ → List ℕ → Result Said Mistake
 line_by gs word others line = cond (bytes_eq word (codes "says")) (Ok (Says (without_first others)))
     (cond (bytes_eq word (codes "group")) (group_line_read gs others)
@@ -67,7 +92,7 @@ line_by gs word others line = cond (bytes_eq word (codes "says")) (Ok (Says (wit
     (cond (bytes_eq word (codes "effect")) (effect_read (words others))
     (cond (bytes_eq word (codes "reason")) (name_read Reason (words others))
     (cond (bytes_eq word (codes "plain")) (name_read Plain (words others))
-    (after (case_read gs line) (λ c. Ok (NewCase c))))))))
+    (word_line_by gs word others line))))))
 
 unfoldable pub line_read : List Group → List ℕ → Result Said Mistake
 line_read gs line = cond (not (is_word (first_word line)) || is_comment line) (Ok Nothing) (line_by gs (first_word line) (other_words line) line)

@@ -9,6 +9,10 @@ use Rattle.scl_catalogue.specs.declared.condition.Place.{Place}
 use Rattle.scl_catalogue.specs.declared.condition.Place.TheVariants as place
 use Rattle.scl_catalogue.specs.declared.entry.Danger.{Danger}
 use Rattle.scl_catalogue.specs.declared.entry.Danger.TheVariants as danger
+use Rattle.scl_catalogue.specs.declared.entry.Doing.{Doing}
+use Rattle.scl_catalogue.specs.declared.entry.Doing.TheVariants as doing
+use Rattle.scl_catalogue.specs.declared.entry.Naming.{Naming}
+use Rattle.scl_catalogue.specs.declared.entry.Naming.TheVariants as naming
 use Rattle.scl_catalogue.specs.declared.entry.Verb.{Verb}
 use Rattle.scl_catalogue.specs.declared.entry.Verb.TheVariants as verb
 use Rattle.scl_catalogue.specs.declared.seen.Mark.{Mark}
@@ -136,3 +140,39 @@ verb_named word =
     cond (bytes_eq word (verb_name verb.Writes)) (Some verb.Writes) (
     cond (bytes_eq word (verb_name verb.Asks)) (Some verb.Asks) (
     cond (bytes_eq word (verb_name verb.Loads)) (Some verb.Loads) (None))))
+
+abbrev pub doing_name : Doing → List ℕ
+doing_name doing.Plain = codes "plain"
+doing_name doing.Exact = codes "exact"
+doing_name doing.Macros = codes "macros"
+doing_name doing.WritesUnnamed = codes "writes-unnamed"
+doing_name doing.TextHides = codes "hides-text"
+doing_name doing.ReadsCounts = codes "reads-counts"
+doing_name doing.ReadsSamples = codes "reads-samples"
+
+abbrev pub doing_named : List ℕ → Option Doing
+doing_named word =
+    cond (bytes_eq word (doing_name doing.Plain)) (Some doing.Plain) (
+    cond (bytes_eq word (doing_name doing.Exact)) (Some doing.Exact) (
+    cond (bytes_eq word (doing_name doing.Macros)) (Some doing.Macros) (
+    cond (bytes_eq word (doing_name doing.WritesUnnamed)) (Some doing.WritesUnnamed) (
+    cond (bytes_eq word (doing_name doing.TextHides)) (Some doing.TextHides) (
+    cond (bytes_eq word (doing_name doing.ReadsCounts)) (Some doing.ReadsCounts) (
+    cond (bytes_eq word (doing_name doing.ReadsSamples)) (Some doing.ReadsSamples) (None)))))))
+
+abbrev pub naming_name : Naming → List ℕ
+naming_name naming.Nothing = codes "nothing"
+naming_name naming.DebugInfo = codes "debug-info"
+naming_name naming.FileMap = codes "maps-files"
+naming_name naming.DebugMap = codes "maps-debug-info"
+naming_name naming.MacroMap = codes "maps-macros"
+naming_name naming.Anything = codes "anything"
+
+abbrev pub naming_named : List ℕ → Option Naming
+naming_named word =
+    cond (bytes_eq word (naming_name naming.Nothing)) (Some naming.Nothing) (
+    cond (bytes_eq word (naming_name naming.DebugInfo)) (Some naming.DebugInfo) (
+    cond (bytes_eq word (naming_name naming.FileMap)) (Some naming.FileMap) (
+    cond (bytes_eq word (naming_name naming.DebugMap)) (Some naming.DebugMap) (
+    cond (bytes_eq word (naming_name naming.MacroMap)) (Some naming.MacroMap) (
+    cond (bytes_eq word (naming_name naming.Anything)) (Some naming.Anything) (None))))))

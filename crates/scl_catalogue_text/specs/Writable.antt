@@ -3,7 +3,7 @@ use Rattle.std.specs.Prelude.{◌≡◌, ℕ, nat_lt, ◌==◌, Bool, true, fals
 use Rattle.std.specs.Char.{is_ascii_control}
 use Rattle.std.specs.List.{list_all, list_any}
 use Rattle.std.specs.Str.{bytes_eq}
-use Rattle.scl_catalogue.specs.Form.{Pattern, Text, Demand, Marked, Value, Part, Test, Group, Relation, Any, Two, Before, Unfollowed, Last, Question, Is, At, Given, Inner, Condition, Case, Tells, Hazard, Effect, Reason, Plain, Entry, Catalogue}
+use Rattle.scl_catalogue.specs.Form.{Pattern, Text, Demand, Marked, Value, Part, Test, Group, Relation, Any, Two, Before, Unfollowed, Last, Question, Is, At, Given, Inner, Condition, Case, Tells, Hazard, Effect, Reason, Plain, Key, Run, Names, Entry, Catalogue}
 use Rattle.scl_catalogue.specs.declared.case.Served.{Served}
 use Rattle.scl_catalogue.specs.declared.case.Version.{Version}
 use Rattle.scl_catalogue_text.specs.Files.{file_read, has_its_options}
@@ -92,6 +92,9 @@ HasWords (Hazard d) = Unit {0}
 HasWords (Effect v file) = (is_plain_word file ≡ true) × (file_read file ≡ Ok tt)
 HasWords Reason = Unit {0}
 HasWords Plain = Unit {0}
+HasWords (Key d) = Unit {0}
+HasWords (Run d) = Unit {0}
+HasWords (Names n) = Unit {0}
 
 pub record IsEntry (gs : List Group) (e : Entry) : Type 0 where
   pub name : is_plain_word e.name ≡ true

@@ -2,8 +2,8 @@
 use Rattle.std.specs.Prelude.{ℕ, ◌+◌, ◌/◌, ◌%◌, nat_lt, ◌==◌, Bool, cond, not, ◌&&◌, List, [], ◌∷◌, ◌++◌, map, codes, Option, None, Some}
 use Rattle.std.specs.Fmt.{decimal}
 use Rattle.std.specs.List.{list_any}
-use Rattle.scl_catalogue.specs.Form.{Pattern, Text, Demand, Marked, Value, Part, Test, Group, Relation, Any, Two, Before, Unfollowed, Last, Question, Is, At, Given, Inner, Condition, Case, Tells, Hazard, Effect, Reason, Plain, Entry, Catalogue}
-use Rattle.scl_catalogue_text.specs.Names.{class_name, mark_name, fact_name, place_name, compiler_name, danger_name, verb_name}
+use Rattle.scl_catalogue.specs.Form.{Pattern, Text, Demand, Marked, Value, Part, Test, Group, Relation, Any, Two, Before, Unfollowed, Last, Question, Is, At, Given, Inner, Condition, Case, Tells, Hazard, Effect, Reason, Plain, Key, Run, Names, Entry, Catalogue}
+use Rattle.scl_catalogue_text.specs.Names.{class_name, mark_name, fact_name, place_name, compiler_name, danger_name, doing_name, naming_name, verb_name}
 use Rattle.scl_catalogue.specs.declared.case.Served.{Served}
 use Rattle.scl_catalogue.specs.declared.case.Version.{Version}
 use Rattle.scl_catalogue.specs.declared.text.How.{How}
@@ -118,6 +118,9 @@ head_text (Hazard d) name = codes "hazard" ++ spaced (name ∷ danger_name d ∷
 head_text (Effect v file) name = codes "effect" ++ spaced (name ∷ verb_name v ∷ file ∷ [])
 head_text Reason name = codes "reason" ++ spaced (name ∷ [])
 head_text Plain name = codes "plain" ++ spaced (name ∷ [])
+head_text (Key d) name = codes "key" ++ spaced (name ∷ doing_name d ∷ [])
+head_text (Run d) name = codes "run" ++ spaced (name ∷ doing_name d ∷ [])
+head_text (Names n) name = codes "names" ++ spaced (name ∷ naming_name n ∷ [])
 
 abbrev pub entry_lines : Entry → List (List ℕ)
 entry_lines e = head_text e.tells e.name ∷ (codes "  says " ++ e.says) ∷ map case_text e.cases

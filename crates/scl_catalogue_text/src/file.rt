@@ -85,7 +85,12 @@ fn has_value(tells: &Tells<'_>) -> bool
 {
     match tells {
         Tells::Effect(_, file) => holds(file, b"{value}"),
-        Tells::Hazard(_) | Tells::Reason | Tells::Plain => false,
+        Tells::Hazard(_)
+        | Tells::Reason
+        | Tells::Plain
+        | Tells::Key(_)
+        | Tells::Run(_)
+        | Tells::Names(_) => false,
     }
 }
 

@@ -18,7 +18,7 @@ pub enum Mistake {
     #[error("a colon lacks")]
     NoColon,
     /// An entry's line has other words.
-    #[error("an entry is `hazard NAME DANGER`, `effect NAME VERB FILE`, `reason NAME` or `plain NAME`")]
+    #[error("an entry is `hazard NAME DANGER`, `effect NAME VERB FILE`, `reason NAME`, `plain NAME`, `key NAME DOES`, `run NAME DOES` or `names NAME WHAT`")]
     WrongEntry,
     /// The danger is none of those that are known.
     #[error("a danger is `object`, `failure`, `side-file`, `messages` or `run`")]
@@ -26,6 +26,12 @@ pub enum Mistake {
     /// The verb is none of those that are known.
     #[error("a verb is `reads`, `writes`, `asks` or `loads`")]
     UnknownVerb,
+    /// What a word does is none of what is known.
+    #[error("a word does `plain`, `exact`, `macros`, `writes-unnamed`, `hides-text`, `reads-counts` or `reads-samples`")]
+    UnknownDoing,
+    /// What an object names is none of what is known.
+    #[error("an object names `nothing`, `debug-info`, `maps-files`, `maps-debug-info`, `maps-macros` or `anything`")]
+    UnknownNaming,
     /// A group's line has other words before its colon.
     #[error("a group is `group NAME: TESTS`")]
     WrongGroup,

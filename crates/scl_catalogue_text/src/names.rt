@@ -1,9 +1,9 @@
 //! The words by which a catalogue's text names things.
 ghost use Rattle.std.specs.Prelude.{◌≡◌};
 ghost use Rattle.std.specs.Str.{bytes_eq};
-ghost use Rattle.scl_catalogue_text.specs.Names.{class_named, compiler_named, danger_named, fact_named, mark_named, place_named, verb_named};
+ghost use Rattle.scl_catalogue_text.specs.Names.{class_named, compiler_named, danger_named, doing_named, fact_named, mark_named, naming_named, place_named, verb_named};
 
-use scl_catalogue::{Class, Compiler, Danger, Fact, Mark, Place, Verb};
+use scl_catalogue::{Class, Compiler, Danger, Doing, Fact, Mark, Naming, Place, Verb};
 
 /// Whether the word is this name.
 pub(crate) fn is(word: &[u8], name: &str) -> bool
@@ -149,6 +149,48 @@ pub(crate) fn verb_named(word: &[u8]) -> Option<Verb>
         Some(Verb::Asks)
     } else if is(word, "loads") {
         Some(Verb::Loads)
+    } else {
+        None
+    }
+}
+
+pub(crate) fn doing_named(word: &[u8]) -> Option<Doing>
+    ensures { result ≡ doing_named word.now }
+{
+    if is(word, "plain") {
+        Some(Doing::Plain)
+    } else if is(word, "exact") {
+        Some(Doing::Exact)
+    } else if is(word, "macros") {
+        Some(Doing::Macros)
+    } else if is(word, "writes-unnamed") {
+        Some(Doing::WritesUnnamed)
+    } else if is(word, "hides-text") {
+        Some(Doing::TextHides)
+    } else if is(word, "reads-counts") {
+        Some(Doing::ReadsCounts)
+    } else if is(word, "reads-samples") {
+        Some(Doing::ReadsSamples)
+    } else {
+        None
+    }
+}
+
+pub(crate) fn naming_named(word: &[u8]) -> Option<Naming>
+    ensures { result ≡ naming_named word.now }
+{
+    if is(word, "nothing") {
+        Some(Naming::Nothing)
+    } else if is(word, "debug-info") {
+        Some(Naming::DebugInfo)
+    } else if is(word, "maps-files") {
+        Some(Naming::FileMap)
+    } else if is(word, "maps-debug-info") {
+        Some(Naming::DebugMap)
+    } else if is(word, "maps-macros") {
+        Some(Naming::MacroMap)
+    } else if is(word, "anything") {
+        Some(Naming::Anything)
     } else {
         None
     }

@@ -1,14 +1,14 @@
 //! Reads a line of a catalogue.
 ghost use Rattle.std.specs.Prelude.{◌≡◌, map};
 ghost use Rattle.scl_catalogue.specs.Views.{group_of, tells_of};
-ghost use Rattle.scl_catalogue_text.specs.Lines.{effect_read, group_line_by, group_line_read, hazard_read, is_comment, line_by, line_read, name_read, without_first};
+ghost use Rattle.scl_catalogue_text.specs.Lines.{effect_read, group_line_by, group_line_read, hazard_read, is_comment, key_read, line_by, line_read, name_read, naming_read, run_read, without_first, word_line_by};
 ghost use Rattle.scl_catalogue_text.specs.Outcome.{Reads};
 ghost use Rattle.scl_catalogue_text.specs.SaidViews.{said_of};
 
 use crate::cut::{cut_at, first_word, has_word, words};
 use crate::file::check_file;
 use crate::mistake::{Mistake, Part, Stop};
-use crate::names::{danger_named, is, verb_named};
+use crate::names::{danger_named, doing_named, is, naming_named, verb_named};
 use crate::read_case::case;
 use crate::read_test::{group_named, tests};
 use crate::read_text::Room;
@@ -48,6 +48,45 @@ fn effect<'a>(room: Room<'a>, words: &[&'a [u8]]) -> Part<Said<'a>>
     };
     check_file(room.alloc, file)?;
     Ok(Said::Entry(Tells::Effect(verb, file), name))
+}
+
+#[tactic(auto, unfolding(crate::specs::Lines::key_read))]
+fn key<'a>(words: &[&'a [u8]]) -> Part<Said<'a>>
+    ensures { Reads said_of result (key_read (map (λ word. word.now) words.now)) }
+{
+    let [name, doing] = words else {
+        return Err(Stop::Mistake(Mistake::WrongEntry));
+    };
+    match doing_named(doing) {
+        Some(doing) => Ok(Said::Entry(Tells::Key(doing), name)),
+        None => Err(Stop::Mistake(Mistake::UnknownDoing)),
+    }
+}
+
+#[tactic(auto, unfolding(crate::specs::Lines::run_read))]
+fn run<'a>(words: &[&'a [u8]]) -> Part<Said<'a>>
+    ensures { Reads said_of result (run_read (map (λ word. word.now) words.now)) }
+{
+    let [name, doing] = words else {
+        return Err(Stop::Mistake(Mistake::WrongEntry));
+    };
+    match doing_named(doing) {
+        Some(doing) => Ok(Said::Entry(Tells::Run(doing), name)),
+        None => Err(Stop::Mistake(Mistake::UnknownDoing)),
+    }
+}
+
+#[tactic(auto, unfolding(crate::specs::Lines::naming_read))]
+fn naming<'a>(words: &[&'a [u8]]) -> Part<Said<'a>>
+    ensures { Reads said_of result (naming_read (map (λ word. word.now) words.now)) }
+{
+    let [name, naming] = words else {
+        return Err(Stop::Mistake(Mistake::WrongEntry));
+    };
+    match naming_named(naming) {
+        Some(naming) => Ok(Said::Entry(Tells::Names(naming), name)),
+        None => Err(Stop::Mistake(Mistake::UnknownNaming)),
+    }
 }
 
 /// Only a name, of an entry that states this.
@@ -106,6 +145,33 @@ fn without_first(bytes: &[u8]) -> &[u8]
     }
 }
 
+/// An entry that says something of words, or a case; the line begins with this word, and goes on with the others.
+#[tactic(auto, unfolding(crate::specs::Lines::word_line_by))]
+fn word_line_named<'a>(
+    room: Room<'a>,
+    groups: &[Group<'a>],
+    word: &[u8],
+    others: &'a [u8],
+    line: &'a [u8],
+) -> Part<Said<'a>>
+    ensures { Reads said_of result (word_line_by (map group_of groups.now) word.now others.now line.now) }
+{
+    if is(word, "key") {
+        let words = words(room.alloc, others)?;
+        return key(&words);
+    }
+    if is(word, "run") {
+        let words = words(room.alloc, others)?;
+        return run(&words);
+    }
+    if is(word, "names") {
+        let words = words(room.alloc, others)?;
+        return naming(&words);
+    }
+    let case = case(room, groups, line)?;
+    Ok(Said::Case(case))
+}
+
 /// A line that begins with this word, and goes on with the others.
 #[tactic(auto, unfolding(crate::specs::Lines::line_by))]
 fn line_named<'a>(
@@ -139,8 +205,7 @@ fn line_named<'a>(
         let words = words(room.alloc, others)?;
         return named(Tells::Plain, &words);
     }
-    let case = case(room, groups, line)?;
-    Ok(Said::Case(case))
+    word_line_named(room, groups, word, others, line)
 }
 
 fn is_comment(line: &[u8]) -> bool

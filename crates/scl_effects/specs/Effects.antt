@@ -53,6 +53,9 @@ effects_told l e (form.Hazard danger) = []
 effects_told l e (form.Effect verb file) = map (effect_of l verb file) (values_filled l e file)
 effects_told l e form.Reason = []
 effects_told l e form.Plain = []
+effects_told l e (form.Key doing) = []
+effects_told l e (form.Run doing) = []
+effects_told l e (form.Names naming) = []
 
 -- the effects that entries state of a line, in their order
 abbrev pub effects_among : LineSeen → List Entry → List Effect

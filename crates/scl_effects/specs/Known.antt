@@ -18,6 +18,9 @@ is_of_effects (form.Hazard danger) = false
 is_of_effects (form.Effect verb file) = true
 is_of_effects form.Reason = false
 is_of_effects form.Plain = true
+is_of_effects (form.Key doing) = false
+is_of_effects (form.Run doing) = false
+is_of_effects (form.Names naming) = false
 
 abbrev pub knows : LineSeen → Level → OptionSeen → Entry → Bool
 knows l level o e = is_of_effects e.tells && speaks_of l.compiler l.version level o e

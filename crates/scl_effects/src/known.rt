@@ -15,7 +15,7 @@ fn is_of_effects(tells: &Tells<'_>) -> bool
 {
     match tells {
         Tells::Effect(_, _) | Tells::Plain => true,
-        Tells::Hazard(_) | Tells::Reason => false,
+        Tells::Hazard(_) | Tells::Reason | Tells::Key(_) | Tells::Run(_) | Tells::Names(_) => false,
     }
 }
 

@@ -39,6 +39,9 @@ told_as (form.Hazard danger) name consequence = Some (record { danger = danger; 
 told_as (form.Effect verb file) name consequence = None
 told_as form.Reason name consequence = None
 told_as form.Plain name consequence = None
+told_as (form.Key doing) name consequence = None
+told_as (form.Run doing) name consequence = None
+told_as (form.Names naming) name consequence = None
 
 -- the hazard that an entry states, if it states one
 abbrev pub hazard_told : Entry → Option Hazard

@@ -57,7 +57,12 @@ pub fn hazard_of<'a>(entry: &Entry<'a>) -> Option<Hazard<'a>>
             name: entry.name,
             consequence: entry.says,
         }),
-        Tells::Effect(_, _) | Tells::Reason | Tells::Plain => None,
+        Tells::Effect(_, _)
+        | Tells::Reason
+        | Tells::Plain
+        | Tells::Key(_)
+        | Tells::Run(_)
+        | Tells::Names(_) => None,
     }
 }
 
