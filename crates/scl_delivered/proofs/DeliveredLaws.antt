@@ -7,6 +7,7 @@ use Rattle.std.specs.Cmp.Lexicographic.{pointwise}
 use Rattle.std.specs.List.{flat_map, list_all}
 use Rattle.std.specs.Str.{bytes_eq}
 use Rattle.scl_values.specs.Each.{Each}
+use Rattle.scl_catalogue.specs.Lookup.{Lexicon}
 use Rattle.scl_text.specs.Records.{Parsed}
 use Rattle.scl_base_dirs.specs.Unmapped.{unmapped}
 use Rattle.scl_reader.specs.declared.compiler.Compiler.{Compiler}
@@ -43,9 +44,9 @@ stands_if true told dirs said d h = record { parts_are = refl; direct_is = refl;
 stands_if false told dirs said d h = stands_by told dirs said d h
 
 pub named_keys_stand : NamedKeysStand
-named_keys_stand = λ c p dirs keeps key h.
-    let said = verdict dirs (object_by c p key) in
-    stands_if (length dirs == 0) (names_none said.in_object) dirs said (with_macros (not keeps && leaves_macros_out c p key) key) (told_if_named said.in_object h)
+named_keys_stand = λ lexicon c p dirs keeps key h.
+    let said = verdict dirs (object_by lexicon c p key) in
+    stands_if (length dirs == 0) (names_none said.in_object) dirs said (with_macros (not keeps && leaves_macros_out lexicon c p key) key) (told_if_named said.in_object h)
 
 -- ---- kept macros stand
 
@@ -58,8 +59,8 @@ shown_if true told dirs said d h = h
 shown_if false told dirs said d h = shown_by told dirs said d h
 
 pub kept_macros_stand : KeptMacrosStand
-kept_macros_stand = λ c p dirs key.
-    let said = verdict dirs (object_by c p key) in
+kept_macros_stand = λ lexicon c p dirs key.
+    let said = verdict dirs (object_by lexicon c p key) in
     (shown_if (length dirs == 0) (names_none said.in_object) dirs said (with_macros false key) refl, refl)
 
 -- ---- macros stand in runs
@@ -111,14 +112,14 @@ defined_if true key h some =
     (each_defines macros runs (and_parts (not (length runs == 0)) (list_all (defines macros) runs) has.1).1)
 defined_if false key h some = absurd (some refl)
 
-pub leaving : (c : Compiler) (p : Parsed) (key : Key) (keeps : Bool) → (not keeps && leaves_macros_out c p key) ≡ true → are_defined (macros_in key.parts) (runs_in key.parts) ≡ true
-leaving c p key keeps h =
+pub leaving : (lexicon : Lexicon) (c : Compiler) (p : Parsed) (key : Key) (keeps : Bool) → (not keeps && leaves_macros_out lexicon c p key) ≡ true → are_defined (macros_in key.parts) (runs_in key.parts) ≡ true
+leaving lexicon c p key keeps h =
     let defined = are_defined (macros_in key.parts) (runs_in key.parts) in
-    let show = texts_show_macros c p key.parts (object_by c p key) in
+    let show = texts_show_macros c p key.parts (object_by lexicon c p key) in
     (and_parts show defined (and_parts (not keeps) (show && defined) h).1).1
 
 pub macros_stand_in_runs : MacrosStandInRuns
-macros_stand_in_runs = λ c p keeps key. defined_if (not keeps && leaves_macros_out c p key) key (leaving c p key keeps)
+macros_stand_in_runs = λ lexicon c p keeps key. defined_if (not keeps && leaves_macros_out lexicon c p key) key (leaving lexicon c p key keeps)
 
 -- ---- delivered keys decide
 
@@ -177,9 +178,9 @@ decided false true one other some more alike = absurd (more refl (sym alike.1))
 decided false false one other some more alike = record { parts_are = ap without_macros alike.0; macros_are = ap macros_in alike.0 }
 
 pub delivered_keys_decide : DeliveredKeysDecide
-delivered_keys_decide = λ c d p q dirs keeps also_keeps one other few same.
-    let last = not keeps && leaves_macros_out c p one in
-    let ends = not also_keeps && leaves_macros_out d q other in
+delivered_keys_decide = λ lexicon other_lexicon c d p q dirs keeps also_keeps one other few same.
+    let last = not keeps && leaves_macros_out lexicon c p one in
+    let ends = not also_keeps && leaves_macros_out other_lexicon d q other in
     decided last ends one other
-    (last_some last one (leaving c p one keeps)) (last_some ends other (leaving d q other also_keeps))
-    (alike_if (length dirs == 0) dirs (verdict dirs (object_by c p one)) (verdict dirs (object_by d q other)) (with_macros last one) (with_macros ends other) few same)
+    (last_some last one (leaving lexicon c p one keeps)) (last_some ends other (leaving other_lexicon d q other also_keeps))
+    (alike_if (length dirs == 0) dirs (verdict dirs (object_by lexicon c p one)) (verdict dirs (object_by other_lexicon d q other)) (with_macros last one) (with_macros ends other) few same)

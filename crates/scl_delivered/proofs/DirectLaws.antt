@@ -2,6 +2,7 @@
 use Rattle.std.proofs.Common.{◌≡◌, ℕ, ◌&&◌, not, Bool, true, false, cond, List, [], ◌∷◌, ◌++◌, codes, Option, None, refl, sym, ap, subst, ◌∙◌}
 use Rattle.std.specs.Str.{bytes_eq}
 use Rattle.scl_values.specs.Each.{Each}
+use Rattle.scl_catalogue.specs.Lookup.{Lexicon}
 use Rattle.scl_description.specs.Records.{first_field}
 use Rattle.scl_description.specs.Rows.{IsRow, row_text}
 use Rattle.scl_reader.specs.declared.compiler.Compiler.{Compiler}
@@ -103,10 +104,10 @@ nothing_said : (last : Bool) (key : Key) → (with_macros last key).verdict ≡ 
 nothing_said true key = refl
 nothing_said false key = refl
 
-pub without_verdict : (l : Line) → (key_of_line l).verdict ≡ None
-without_verdict l =
-    let key : Key = with_added l.added (whole_key l.compiler l.environment l.run_words l.parsed) in
-    nothing_said (not l.keeps_macros && leaves_macros_out l.compiler l.parsed key) key
+pub without_verdict : (lexicon : Compiler → Lexicon) (l : Line) → (key_of_line lexicon l).verdict ≡ None
+without_verdict lexicon l =
+    let key : Key = with_added l.added (whole_key (lexicon l.compiler) l.compiler l.environment l.run_words l.parsed) in
+    nothing_said (not l.keeps_macros && leaves_macros_out (lexicon l.compiler) l.compiler l.parsed key) key
 
 made : Option Verdict → List Part → List Direct → List (List ℕ) → Delivered
 made said parts direct shown = record { verdict = said; parts = parts; direct = direct; shown = shown }
@@ -122,23 +123,23 @@ one_key d g said parts direct shown =
 -- ---- direct hits
 
 pub delivered_direct_hits_are_right : DeliveredDirectHitsAreRight
-delivered_direct_hits_are_right = λ v w i j is_meant well decided l m may x y k n firsts.
+delivered_direct_hits_are_right = λ lexicon v w i j is_meant well decided l m may x y k n firsts.
     let a : Compiler = l.compiler in
     let b : Compiler = m.compiler in
-    let d : Delivered = key_of_line l in
-    let g : Delivered = key_of_line m in
+    let d : Delivered = key_of_line lexicon l in
+    let g : Delivered = key_of_line lexicon m in
     let keys : d ≡ g =
-    one_key d g (without_verdict l ∙ sym (without_verdict m))
+    one_key d g (without_verdict lexicon l ∙ sym (without_verdict lexicon m))
     (parts_decide v.world w.world a b d.parts g.parts k.0.0 n.0.0 firsts.early_are)
     (directs_decide v.world w.world a b d.direct g.direct k.0.1 n.0.1 firsts.values_are)
     (words_decide d.shown g.shown k.1 n.1 firsts.shown_are) in
-    let one : AreOneLine l m = lines_decide l m x.adds_no_fact y.adds_no_fact (ap (λ (key : Delivered). facts_in key.parts) keys) in
+    let one : AreOneLine lexicon l m = lines_decide lexicon l m x.adds_no_fact y.adds_no_fact (ap (λ (key : Delivered). facts_in key.parts) keys) in
     let here : FirstKeysAreOne v w i j a a d d =
     subst (λ (c : Compiler). FirstKeysAreOne v w i j a c d d) (sym one.compiler_is) (subst (λ (key : Delivered). FirstKeysAreOne v w i j a b d key) (sym keys) firsts) in
     let both : (answers v.world a d.parts ≡ answers w.world a d.parts) × (counting v a d ≡ counting w a d) = decided l x.meant may here in
-    let key_is : line_material v l ≡ line_material w m =
+    let key_is : line_material lexicon v l ≡ line_material lexicon w m =
     ap (λ texts. texts ++ shown_texts (counting v a d)) (same_material v.world w.world a d.parts both.0)
     ∙ ap (λ macros. material w.world a d.parts ++ shown_texts macros) both.1
     ∙ ap (λ (c : Compiler). delivered_material w c d) one.compiler_is
     ∙ ap (λ (key : Delivered). delivered_material w b key) keys in
-    record { key_is = key_is; outcome_is = delivered_hits_are_right v w is_meant well l m x y key_is }
+    record { key_is = key_is; outcome_is = delivered_hits_are_right lexicon v w is_meant well l m x y key_is }

@@ -4,6 +4,7 @@ use Rattle.std.proofs.lemmas.Bool.{false_from_ne_true, false≢true}
 use Rattle.std.specs.List.{flat_map}
 use Rattle.std.specs.Option.{option_map}
 use Rattle.scl_base_dirs.specs.Unmapped.{unmapped}
+use Rattle.scl_catalogue.specs.Lookup.{Lexicon}
 use Rattle.scl_description.specs.Rows.{lone, row_text}
 use Rattle.scl_reader.specs.declared.compiler.Compiler.{Compiler}
 use Rattle.scl_key.specs.declared.part.Ask.{Ask}
@@ -49,42 +50,42 @@ with_dirs false dirs said d none =
     let told = names_none said.in_object in
     subst (λ (b : Bool). IsTold dirs b (by told dirs said d) d) (sym (told_if told dirs said d)) (told_as told dirs said d)
 
-line_told : (dirs : List (List ℕ)) (l : Line) → IsTold dirs (is_told dirs l) (key_by dirs l) (key_of_line l)
-line_told dirs l =
-    let key : Key = with_added l.added (whole_key l.compiler l.environment l.run_words l.parsed) in
-    with_dirs (length dirs == 0) dirs (verdict dirs (object_by l.compiler l.parsed key)) (key_of_line l) (without_verdict l)
+line_told : (lexicon : Compiler → Lexicon) (dirs : List (List ℕ)) (l : Line) → IsTold dirs (is_told lexicon dirs l) (key_by lexicon dirs l) (key_of_line lexicon l)
+line_told lexicon dirs l =
+    let key : Key = with_added l.added (whole_key (lexicon l.compiler) l.compiler l.environment l.run_words l.parsed) in
+    with_dirs (length dirs == 0) dirs (verdict dirs (object_by (lexicon l.compiler) l.compiler l.parsed key)) (key_of_line lexicon l) (without_verdict lexicon l)
 
-parts_by : (dirs : List (List ℕ)) (l : Line) (told : Bool) → is_told dirs l ≡ told → (key_by dirs l).parts ≡ cond told (map (told_part dirs) (key_of_line l).parts) (key_of_line l).parts
-parts_by dirs l told e = (line_told dirs l).0 ∙ ap (λ b. cond b (map (told_part dirs) (key_of_line l).parts) (key_of_line l).parts) e
+parts_by : (lexicon : Compiler → Lexicon) (dirs : List (List ℕ)) (l : Line) (told : Bool) → is_told lexicon dirs l ≡ told → (key_by lexicon dirs l).parts ≡ cond told (map (told_part dirs) (key_of_line lexicon l).parts) (key_of_line lexicon l).parts
+parts_by lexicon dirs l told e = (line_told lexicon dirs l).0 ∙ ap (λ b. cond b (map (told_part dirs) (key_of_line lexicon l).parts) (key_of_line lexicon l).parts) e
 
-shown_by : (dirs : List (List ℕ)) (l : Line) (told : Bool) → is_told dirs l ≡ told → (key_by dirs l).shown ≡ cond told (told_row dirs (key_of_line l).shown) (key_of_line l).shown
-shown_by dirs l told e = (line_told dirs l).1 ∙ ap (λ b. cond b (told_row dirs (key_of_line l).shown) (key_of_line l).shown) e
+shown_by : (lexicon : Compiler → Lexicon) (dirs : List (List ℕ)) (l : Line) (told : Bool) → is_told lexicon dirs l ≡ told → (key_by lexicon dirs l).shown ≡ cond told (told_row dirs (key_of_line lexicon l).shown) (key_of_line lexicon l).shown
+shown_by lexicon dirs l told e = (line_told lexicon dirs l).1 ∙ ap (λ b. cond b (told_row dirs (key_of_line lexicon l).shown) (key_of_line lexicon l).shown) e
 
 -- ---- what is hashed with directories
 
-abbrev counting_if : Bool → List (List ℕ) → ToldWorld → Line → List (List ℕ)
-counting_if told dirs v l =
-    if told then filter (λ word. v.shown.counts l.compiler (key_of_line l) (unmapped dirs word)) (key_by dirs l).shown else counting v.shown l.compiler (key_of_line l)
+abbrev counting_if : (Compiler → Lexicon) → Bool → List (List ℕ) → ToldWorld → Line → List (List ℕ)
+counting_if lexicon told dirs v l =
+    if told then filter (λ word. v.shown.counts l.compiler (key_of_line lexicon l) (unmapped dirs word)) (key_by lexicon dirs l).shown else counting v.shown l.compiler (key_of_line lexicon l)
 
-abbrev material_if : Bool → List (List ℕ) → ToldWorld → Line → List (List ℕ)
-material_if told dirs v l =
-    (if told then told_material dirs v l.compiler (key_by dirs l) else material v.shown.world l.compiler (key_by dirs l).parts)
-    ++ shown_texts (counting_if told dirs v l)
+abbrev material_if : (Compiler → Lexicon) → Bool → List (List ℕ) → ToldWorld → Line → List (List ℕ)
+material_if lexicon told dirs v l =
+    (if told then told_material dirs v l.compiler (key_by lexicon dirs l) else material v.shown.world l.compiler (key_by lexicon dirs l).parts)
+    ++ shown_texts (counting_if lexicon told dirs v l)
 
-material_by : (dirs : List (List ℕ)) (v : ToldWorld) (l : Line) (told : Bool) → is_told dirs l ≡ told → line_material_by dirs v l ≡ material_if told dirs v l
-material_by dirs v l told e = ap (λ b. material_if b dirs v l) e
+material_by : (lexicon : Compiler → Lexicon) (dirs : List (List ℕ)) (v : ToldWorld) (l : Line) (told : Bool) → is_told lexicon dirs l ≡ told → line_material_by lexicon dirs v l ≡ material_if lexicon told dirs v l
+material_by lexicon dirs v l told e = ap (λ b. material_if lexicon b dirs v l) e
 
-counted_by : (dirs : List (List ℕ)) (v : ToldWorld) (l : Line) (told : Bool) → is_told dirs l ≡ told → counting_by dirs v l ≡ counting_if told dirs v l
-counted_by dirs v l told e = ap (λ b. counting_if b dirs v l) e
+counted_by : (lexicon : Compiler → Lexicon) (dirs : List (List ℕ)) (v : ToldWorld) (l : Line) (told : Bool) → is_told lexicon dirs l ≡ told → counting_by lexicon dirs v l ≡ counting_if lexicon told dirs v l
+counted_by lexicon dirs v l told e = ap (λ b. counting_if lexicon b dirs v l) e
 
 -- a key that is not told is hashed as it is without directories
-stands : (dirs : List (List ℕ)) (v : ToldWorld) (l : Line) → is_told dirs l ≡ false → line_material_by dirs v l ≡ line_material v.shown l
-stands dirs v l e =
-    material_by dirs v l false e
-    ∙ ap (λ (parts : List Part). material v.shown.world l.compiler parts ++ shown_texts (counting v.shown l.compiler (key_of_line l))) (parts_by dirs l false e)
+stands : (lexicon : Compiler → Lexicon) (dirs : List (List ℕ)) (v : ToldWorld) (l : Line) → is_told lexicon dirs l ≡ false → line_material_by lexicon dirs v l ≡ line_material lexicon v.shown l
+stands lexicon dirs v l e =
+    material_by lexicon dirs v l false e
+    ∙ ap (λ (parts : List Part). material v.shown.world l.compiler parts ++ shown_texts (counting v.shown l.compiler (key_of_line lexicon l))) (parts_by lexicon dirs l false e)
 
 pub nothing_is_told_without_directories : NothingIsToldWithoutDirectories
-nothing_is_told_without_directories = λ v l. stands [] v l (nothing_is_told (key_of_line l) (without_verdict l))
+nothing_is_told_without_directories = λ lexicon v l. stands lexicon [] v l (nothing_is_told (key_of_line lexicon l) (without_verdict lexicon l))
 
 -- ---- told keys stand apart
 
@@ -127,13 +128,13 @@ apart w c [] (word ∷ words) texts h = false≢true (sym (ap (λ (all : List (L
 apart w c (part ∷ parts) words texts h = no_part part (row_text (lone (codes "bases"))) refl (ap head_text h)
 
 -- the rows of a told key after the first
-abbrev behind_first : List (List ℕ) → ToldWorld → Line → List (List ℕ)
-behind_first dirs v l = material (told_there dirs v) l.compiler (key_by dirs l).parts ++ nevertheless_texts v l.compiler (key_by dirs l) ++ shown_texts (counting_if true dirs v l)
+abbrev behind_first : (Compiler → Lexicon) → List (List ℕ) → ToldWorld → Line → List (List ℕ)
+behind_first lexicon dirs v l = material (told_there dirs v) l.compiler (key_by lexicon dirs l).parts ++ nevertheless_texts v l.compiler (key_by lexicon dirs l) ++ shown_texts (counting_if lexicon true dirs v l)
 
 pub told_keys_stand_apart : ToldKeysStandApart
-told_keys_stand_apart = λ dirs others v w l m told stands_as_it_is h.
-    apart w.shown.world m.compiler (key_by others m).parts (counting_if false others w m) (behind_first dirs v l)
-    (sym (material_by dirs v l true told) ∙ h ∙ material_by others w m false stands_as_it_is)
+told_keys_stand_apart = λ lexicon dirs others v w l m told stands_as_it_is h.
+    apart w.shown.world m.compiler (key_by lexicon others m).parts (counting_if lexicon false others w m) (behind_first lexicon dirs v l)
+    (sym (material_by lexicon dirs v l true told) ∙ h ∙ material_by lexicon others w m false stands_as_it_is)
 
 -- ---- parts are read back from what is hashed of them
 
@@ -176,8 +177,8 @@ all_back dirs (part ∷ parts) few =
     ∙ ap (λ (rows : List (List (List ℕ))). hashed part ∷ rows) (all_back dirs parts few)
 
 -- the rows of a told key with the directories put back
-rows_back : (dirs : List (List ℕ)) (l : Line) → length dirs < 2 ^ 64 → is_told dirs l ≡ true → map (map (unmapped dirs)) (map hashed (key_by dirs l).parts) ≡ map hashed (key_of_line l).parts
-rows_back dirs l few told = ap (λ (parts : List Part). map (map (unmapped dirs)) (map hashed parts)) (parts_by dirs l true told) ∙ all_back dirs (key_of_line l).parts few
+rows_back : (lexicon : Compiler → Lexicon) (dirs : List (List ℕ)) (l : Line) → length dirs < 2 ^ 64 → is_told lexicon dirs l ≡ true → map (map (unmapped dirs)) (map hashed (key_by lexicon dirs l).parts) ≡ map hashed (key_of_line lexicon l).parts
+rows_back lexicon dirs l few told = ap (λ (parts : List Part). map (map (unmapped dirs)) (map hashed parts)) (parts_by lexicon dirs l true told) ∙ all_back dirs (key_of_line lexicon l).parts few
 
 -- ---- macros are read back
 
@@ -196,12 +197,12 @@ words_back dirs counts (word ∷ words) few =
     ∙ ap (λ (first : List ℕ). cond (counts first) (first ∷ map (unmapped dirs) rest) (map (unmapped dirs) rest)) (field_back dirs word few)
     ∙ ap (λ (left : List (List ℕ)). cond (counts word) (word ∷ left) left) (words_back dirs counts words few)
 
-counting_back : (dirs : List (List ℕ)) (v : ToldWorld) (l : Line) → length dirs < 2 ^ 64 → is_told dirs l ≡ true
-    → map (unmapped dirs) (counting_if true dirs v l) ≡ counting v.shown l.compiler (key_of_line l)
-counting_back dirs v l few told =
-    let counts = v.shown.counts l.compiler (key_of_line l) in
-    ap (λ (words : List (List ℕ)). map (unmapped dirs) (filter (λ word. counts (unmapped dirs word)) words)) (shown_by dirs l true told)
-    ∙ words_back dirs counts (key_of_line l).shown few
+counting_back : (lexicon : Compiler → Lexicon) (dirs : List (List ℕ)) (v : ToldWorld) (l : Line) → length dirs < 2 ^ 64 → is_told lexicon dirs l ≡ true
+    → map (unmapped dirs) (counting_if lexicon true dirs v l) ≡ counting v.shown l.compiler (key_of_line lexicon l)
+counting_back lexicon dirs v l few told =
+    let counts = v.shown.counts l.compiler (key_of_line lexicon l) in
+    ap (λ (words : List (List ℕ)). map (unmapped dirs) (filter (λ word. counts (unmapped dirs word)) words)) (shown_by lexicon dirs l true told)
+    ∙ words_back dirs counts (key_of_line lexicon l).shown few
 
 -- ---- the end of a told key
 
@@ -227,34 +228,34 @@ ending_decides (Some said) (Some other) answer replies words more told tells h =
 
 -- ---- hits
 
-hashed_stands : (dirs : List (List ℕ)) (is_meant : Line → Bool) (v : ToldWorld) (l : Line) → is_told dirs l ≡ false → IsHashedBy dirs is_meant v l → IsHashed is_meant v.shown l
-hashed_stands dirs is_meant v l e i = record {
+hashed_stands : (lexicon : Compiler → Lexicon) (dirs : List (List ℕ)) (is_meant : Line → Bool) (v : ToldWorld) (l : Line) → is_told lexicon dirs l ≡ false → IsHashedBy lexicon dirs is_meant v l → IsHashed lexicon is_meant v.shown l
+hashed_stands lexicon dirs is_meant v l e i = record {
   meant = i.meant;
   adds_no_fact = i.adds_no_fact;
-  are_rows = subst CanBeHashed (parts_by dirs l false e) i.are_rows;
-  are_shown_rows = subst CanBeShown (counted_by dirs v l false e) i.are_shown_rows;
+  are_rows = subst CanBeHashed (parts_by lexicon dirs l false e) i.are_rows;
+  are_shown_rows = subst CanBeShown (counted_by lexicon dirs v l false e) i.are_shown_rows;
 }
 
-told_hits : (dirs : List (List ℕ)) (v w : ToldWorld) (is_meant : Line → Bool)
-    → length dirs < 2 ^ 64 → MacrosCountAsShown is_meant v.shown w.shown → AnswersAreToldApart dirs is_meant v w
-    → (l m : Line) → IsHashedBy dirs is_meant v l → IsHashedBy dirs is_meant w m → is_told dirs l ≡ true → is_told dirs m ≡ true
-    → line_material_by dirs v l ≡ line_material_by dirs w m → outcome_of v.shown l ≡ outcome_of w.shown m
-told_hits dirs v w is_meant few well told_apart l m i j told tells h =
+told_hits : (lexicon : Compiler → Lexicon) (dirs : List (List ℕ)) (v w : ToldWorld) (is_meant : Line → Bool)
+    → length dirs < 2 ^ 64 → MacrosCountAsShown lexicon is_meant v.shown w.shown → AnswersAreToldApart lexicon dirs is_meant v w
+    → (l m : Line) → IsHashedBy lexicon dirs is_meant v l → IsHashedBy lexicon dirs is_meant w m → is_told lexicon dirs l ≡ true → is_told lexicon dirs m ≡ true
+    → line_material_by lexicon dirs v l ≡ line_material_by lexicon dirs w m → outcome_of v.shown l ≡ outcome_of w.shown m
+told_hits lexicon dirs v w is_meant few well told_apart l m i j told tells h =
     let a : Compiler = l.compiler in
     let b : Compiler = m.compiler in
-    let d : Delivered = key_by dirs l in
-    let g : Delivered = key_by dirs m in
-    let ms : List (List ℕ) = counting_if true dirs v l in
-    let ns : List (List ℕ) = counting_if true dirs w m in
-    let can : CanBeShown ms = subst CanBeShown (counted_by dirs v l true told) i.are_shown_rows in
-    let also : CanBeShown ns = subst CanBeShown (counted_by dirs w m true tells) j.are_shown_rows in
+    let d : Delivered = key_by lexicon dirs l in
+    let g : Delivered = key_by lexicon dirs m in
+    let ms : List (List ℕ) = counting_if lexicon true dirs v l in
+    let ns : List (List ℕ) = counting_if lexicon true dirs w m in
+    let can : CanBeShown ms = subst CanBeShown (counted_by lexicon dirs v l true told) i.are_shown_rows in
+    let also : CanBeShown ns = subst CanBeShown (counted_by lexicon dirs w m true tells) j.are_shown_rows in
     let xs : List (List ℕ) = material (told_there dirs v) a d.parts in
     let ys : List (List ℕ) = material (told_there dirs w) b g.parts in
     let t : List (List ℕ) = ending d.verdict (v.nevertheless a d) ms in
     let u : List (List ℕ) = ending g.verdict (w.nevertheless b g) ns in
     let one : xs ++ t ≡ ys ++ u =
     sym (append_assoc xs (nevertheless_texts v a d) (shown_texts ms))
-    ∙ ap tail_texts (sym (material_by dirs v l true told) ∙ h ∙ material_by dirs w m true tells)
+    ∙ ap tail_texts (sym (material_by lexicon dirs v l true told) ∙ h ∙ material_by lexicon dirs w m true tells)
     ∙ append_assoc ys (nevertheless_texts w b g) (shown_texts ns) in
     let all : AreDecided (told_there dirs v) (told_there dirs w) a b d.parts g.parts t u =
     decides (told_there dirs v) (told_there dirs w) a b d.parts g.parts t u i.are_rows j.are_rows
@@ -262,34 +263,34 @@ told_hits dirs v w is_meant few well told_apart l m i j told tells h =
     let macros : ms ≡ ns =
     words_decide ms ns can also (ending_decides d.verdict g.verdict (v.nevertheless a d) (w.nevertheless b g) ms ns told tells all.rest_is) in
     well l m i.meant j.meant
-    (alike v.shown w.shown l m i.adds_no_fact j.adds_no_fact
-    (sym (rows_back dirs l few told) ∙ ap (map (map (unmapped dirs))) all.rows_are ∙ rows_back dirs m few tells)
+    (alike lexicon v.shown w.shown l m i.adds_no_fact j.adds_no_fact
+    (sym (rows_back lexicon dirs l few told) ∙ ap (map (map (unmapped dirs))) all.rows_are ∙ rows_back lexicon dirs m few tells)
     (told_apart l m i.meant j.meant told tells all.rows_are all.answers_are)
-    (sym (counting_back dirs v l few told) ∙ ap (map (unmapped dirs)) macros ∙ counting_back dirs w m few tells))
+    (sym (counting_back lexicon dirs v l few told) ∙ ap (map (unmapped dirs)) macros ∙ counting_back lexicon dirs w m few tells))
 
-hits_if : (told tells : Bool) (dirs : List (List ℕ)) (v w : ToldWorld) (is_meant : Line → Bool)
-    → length dirs < 2 ^ 64 → MacrosCountAsShown is_meant v.shown w.shown → AnswersAreToldApart dirs is_meant v w
-    → (l m : Line) → IsHashedBy dirs is_meant v l → IsHashedBy dirs is_meant w m → is_told dirs l ≡ told → is_told dirs m ≡ tells
-    → line_material_by dirs v l ≡ line_material_by dirs w m → outcome_of v.shown l ≡ outcome_of w.shown m
-hits_if true true dirs v w is_meant few well told_apart l m i j e f h = told_hits dirs v w is_meant few well told_apart l m i j e f h
-hits_if true false dirs v w is_meant few well told_apart l m i j e f h = absurd (told_keys_stand_apart dirs dirs v w l m e f h)
-hits_if false true dirs v w is_meant few well told_apart l m i j e f h = absurd (told_keys_stand_apart dirs dirs w v m l f e (sym h))
-hits_if false false dirs v w is_meant few well told_apart l m i j e f h =
-    delivered_hits_are_right v.shown w.shown is_meant well l m (hashed_stands dirs is_meant v l e i) (hashed_stands dirs is_meant w m f j)
-    (sym (stands dirs v l e) ∙ h ∙ stands dirs w m f)
+hits_if : (lexicon : Compiler → Lexicon) (told tells : Bool) (dirs : List (List ℕ)) (v w : ToldWorld) (is_meant : Line → Bool)
+    → length dirs < 2 ^ 64 → MacrosCountAsShown lexicon is_meant v.shown w.shown → AnswersAreToldApart lexicon dirs is_meant v w
+    → (l m : Line) → IsHashedBy lexicon dirs is_meant v l → IsHashedBy lexicon dirs is_meant w m → is_told lexicon dirs l ≡ told → is_told lexicon dirs m ≡ tells
+    → line_material_by lexicon dirs v l ≡ line_material_by lexicon dirs w m → outcome_of v.shown l ≡ outcome_of w.shown m
+hits_if lexicon true true dirs v w is_meant few well told_apart l m i j e f h = told_hits lexicon dirs v w is_meant few well told_apart l m i j e f h
+hits_if lexicon true false dirs v w is_meant few well told_apart l m i j e f h = absurd (told_keys_stand_apart lexicon dirs dirs v w l m e f h)
+hits_if lexicon false true dirs v w is_meant few well told_apart l m i j e f h = absurd (told_keys_stand_apart lexicon dirs dirs w v m l f e (sym h))
+hits_if lexicon false false dirs v w is_meant few well told_apart l m i j e f h =
+    delivered_hits_are_right lexicon v.shown w.shown is_meant well l m (hashed_stands lexicon dirs is_meant v l e i) (hashed_stands lexicon dirs is_meant w m f j)
+    (sym (stands lexicon dirs v l e) ∙ h ∙ stands lexicon dirs w m f)
 
 pub hits_with_directories_are_right : HitsWithDirectoriesAreRight
-hits_with_directories_are_right = λ dirs v w is_meant few well told_apart l m i j h.
-    hits_if (is_told dirs l) (is_told dirs m) dirs v w is_meant few well told_apart l m i j refl refl h
+hits_with_directories_are_right = λ lexicon dirs v w is_meant few well told_apart l m i j h.
+    hits_if lexicon (is_told lexicon dirs l) (is_told lexicon dirs m) dirs v w is_meant few well told_apart l m i j refl refl h
 
 -- a key that has rows `direct` is not told
-stands_if_direct : (dirs : List (List ℕ)) (l : Line) → ((key_by dirs l).direct ≡ [] → ⊥) → is_told dirs l ≡ false
-stands_if_direct dirs l some = false_from_ne_true (is_told dirs l) (λ told. some ((line_told dirs l).2 ∙ ap (λ b. cond b [] (key_of_line l).direct) told))
+stands_if_direct : (lexicon : Compiler → Lexicon) (dirs : List (List ℕ)) (l : Line) → ((key_by lexicon dirs l).direct ≡ [] → ⊥) → is_told lexicon dirs l ≡ false
+stands_if_direct lexicon dirs l some = false_from_ne_true (is_told lexicon dirs l) (λ told. some ((line_told lexicon dirs l).2 ∙ ap (λ b. cond b [] (key_of_line lexicon l).direct) told))
 
 pub direct_hits_with_directories_are_right : DirectHitsWithDirectoriesAreRight
-direct_hits_with_directories_are_right = λ dirs v w i j is_meant well decided l m may some more x y k n firsts.
-    let e : is_told dirs l ≡ false = stands_if_direct dirs l some in
-    let f : is_told dirs m ≡ false = stands_if_direct dirs m more in
-    let right : IsRightLine v.shown w.shown l m =
-    delivered_direct_hits_are_right v.shown w.shown i j is_meant well decided l m may (hashed_stands dirs is_meant v l e x) (hashed_stands dirs is_meant w m f y) k n firsts in
-    (stands dirs v l e ∙ right.key_is ∙ sym (stands dirs w m f), right.outcome_is)
+direct_hits_with_directories_are_right = λ lexicon dirs v w i j is_meant well decided l m may some more x y k n firsts.
+    let e : is_told lexicon dirs l ≡ false = stands_if_direct lexicon dirs l some in
+    let f : is_told lexicon dirs m ≡ false = stands_if_direct lexicon dirs m more in
+    let right : IsRightLine lexicon v.shown w.shown l m =
+    delivered_direct_hits_are_right lexicon v.shown w.shown i j is_meant well decided l m may (hashed_stands lexicon dirs is_meant v l e x) (hashed_stands lexicon dirs is_meant w m f y) k n firsts in
+    (stands lexicon dirs v l e ∙ right.key_is ∙ sym (stands lexicon dirs w m f), right.outcome_is)

@@ -4,6 +4,7 @@ use Rattle.std.proofs.lemmas.Grind.{flat_map-append}
 use Rattle.std.proofs.lemmas.List.Elements.{filter-append}
 use Rattle.std.specs.List.{list_any}
 use Rattle.std.specs.Str.{bytes_eq}
+use Rattle.scl_catalogue.specs.Lookup.{Lexicon}
 use Rattle.scl_text.specs.Records.{Parsed}
 use Rattle.scl_description.specs.Records.{file_entries, output_entries, record_by, record_entries, source_entries, switch_entries}
 use Rattle.scl_description.specs.Rows.{Entry, entry, entry_rows, lone, rests_at, rows_of, words_entry}
@@ -170,8 +171,10 @@ facts_entries (e ∷ es) =
     ∙ ap (λ rows. rows ++ facts_in (told_entries es)) (facts_entry (entry_rows e))
     ∙ ap (λ rows. entry_rows e ++ rows) (facts_entries es)
 
-facts_told : (c : Compiler) (e : List (List ℕ × List ℕ)) (r : RunWords) (p : Parsed) → facts_in (told c e r p) ≡ rows_told c e r (shows c p) (key_record c p)
-facts_told c e r p = ap (λ rows. first_rows c e r (shows c p) ++ rows) (facts_entries (record_entries (key_record c p)))
+facts_told : (lexicon : Compiler → Lexicon) (c : Compiler) (e : List (List ℕ × List ℕ)) (r : RunWords) (p : Parsed)
+    → facts_in (told (lexicon c) c e r p) ≡ rows_told c e r (shows (lexicon c) c p) (key_record (lexicon c) c p)
+facts_told lexicon c e r p =
+    ap (λ rows. first_rows c e r (shows (lexicon c) c p) ++ rows) (facts_entries (record_entries (key_record (lexicon c) c p)))
 
 no_facts : (parts : List Part) → list_any is_fact parts ≡ false → facts_in parts ≡ []
 no_facts [] h = refl
@@ -187,14 +190,14 @@ no_facts (pch searched ∷ parts) h = no_facts parts h
 no_facts (sources ∷ parts) h = no_facts parts h
 no_facts (times ∷ parts) h = no_facts parts h
 
-facts_added : (c : Compiler) (e : List (List ℕ × List ℕ)) (r : RunWords) (p : Parsed) (added : List Part) → list_any is_fact added ≡ false
-    → facts_in (key_of c e r p ++ added) ≡ rows_told c e r (shows c p) (key_record c p)
-facts_added c e r p added none =
-    flat_map-append fact_of (key_of c e r p) added
-    ∙ ap (λ rows. facts_in (key_of c e r p) ++ rows) (no_facts added none)
-    ∙ append-nil (facts_in (key_of c e r p))
-    ∙ facts-of-key c e r p
-    ∙ facts_told c e r p
+facts_added : (lexicon : Compiler → Lexicon) (c : Compiler) (e : List (List ℕ × List ℕ)) (r : RunWords) (p : Parsed) (added : List Part) → list_any is_fact added ≡ false
+    → facts_in (key_of (lexicon c) c e r p ++ added) ≡ rows_told c e r (shows (lexicon c) c p) (key_record (lexicon c) c p)
+facts_added lexicon c e r p added none =
+    flat_map-append fact_of (key_of (lexicon c) c e r p) added
+    ∙ ap (λ rows. facts_in (key_of (lexicon c) c e r p) ++ rows) (no_facts added none)
+    ∙ append-nil (facts_in (key_of (lexicon c) c e r p))
+    ∙ facts-of-key lexicon c e r p
+    ∙ facts_told lexicon c e r p
 
 first_left : (c : Compiler) (e : List (List ℕ × List ℕ)) (r : RunWords) (is_shown : Bool) → filter is_left (first_rows c e r is_shown) ≡ first_rows c e r is_shown
 first_left c e r is_shown = rw (other_row (codes "run-words") (run_words_fields r) refl, other_row (codes "environment") (flat_pairs e) refl) refl
@@ -206,16 +209,16 @@ told_left c e r is_shown p =
     ∙ ap (λ rows. first_rows c e r is_shown ++ rows) (rows_left (record_entries p) ∙ ap rows_of (record_left p))
 
 -- the facts of a key whose macros stand at its end, or where they are
-pub facts_delivered : (last : Bool) (c : Compiler) (e : List (List ℕ × List ℕ)) (r : RunWords) (p : Parsed) (added : List Part) → list_any is_fact added ≡ false
-    → (last ≡ true → (length (macros_in (key_of c e r p ++ added)) == 0) ≡ false)
-    → facts_in (with_macros last (with_added added (whole_key c e r p))).parts
-    ≡ rows_told c e r (shows c p) (stated_by (with_macros last (with_added added (whole_key c e r p))) (key_record c p))
-facts_delivered true c e r p added none some =
-    facts_left (key_of c e r p ++ added)
-    ∙ ap (filter is_left) (facts_added c e r p added none)
-    ∙ told_left c e r (shows c p) (key_record c p)
-    ∙ ap (λ b. rows_told c e r (shows c p) (cond b (key_record c p) (without (key_record c p)))) (sym (some refl))
-facts_delivered false c e r p added none some = facts_added c e r p added none
+pub facts_delivered : (lexicon : Compiler → Lexicon) (last : Bool) (c : Compiler) (e : List (List ℕ × List ℕ)) (r : RunWords) (p : Parsed) (added : List Part) → list_any is_fact added ≡ false
+    → (last ≡ true → (length (macros_in (key_of (lexicon c) c e r p ++ added)) == 0) ≡ false)
+    → facts_in (with_macros last (with_added added (whole_key (lexicon c) c e r p))).parts
+    ≡ rows_told c e r (shows (lexicon c) c p) (stated_by (with_macros last (with_added added (whole_key (lexicon c) c e r p))) (key_record (lexicon c) c p))
+facts_delivered lexicon true c e r p added none some =
+    facts_left (key_of (lexicon c) c e r p ++ added)
+    ∙ ap (filter is_left) (facts_added lexicon c e r p added none)
+    ∙ told_left c e r (shows (lexicon c) c p) (key_record (lexicon c) c p)
+    ∙ ap (λ b. rows_told c e r (shows (lexicon c) c p) (cond b (key_record (lexicon c) c p) (without (key_record (lexicon c) c p)))) (sym (some refl))
+facts_delivered lexicon false c e r p added none some = facts_added lexicon c e r p added none
 
 -- ---- the facts decide
 

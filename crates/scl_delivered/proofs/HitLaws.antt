@@ -4,6 +4,7 @@ use Rattle.std.proofs.lemmas.Bool.{and_parts, not-true}
 use Rattle.std.specs.List.{flat_map, list_all, list_any}
 use Rattle.std.specs.Str.{bytes_eq}
 use Rattle.scl_values.specs.Each.{Each}
+use Rattle.scl_catalogue.specs.Lookup.{Lexicon}
 use Rattle.scl_text.specs.Records.{Parsed}
 use Rattle.scl_description.specs.Rows.{IsRow, row_text}
 use Rattle.scl_description.specs.Records.{first_field}
@@ -145,25 +146,25 @@ some_defined : (macros : List (List ℕ)) (runs : List (List (List ℕ))) → (n
 some_defined macros runs h = not-true (length macros == 0) (and_parts (not (length macros == 0)) (not (length runs == 0) && list_all (defines macros) runs) h).0
 
 -- the facts that the key of a line has
-abbrev told_of : Line → List (List (List ℕ))
-told_of l = rows_told l.compiler l.environment l.run_words (shows l.compiler l.parsed) (stated l)
+abbrev told_of : (Compiler → Lexicon) → Line → List (List (List ℕ))
+told_of lexicon l = rows_told l.compiler l.environment l.run_words (shows (lexicon l.compiler) l.compiler l.parsed) (stated lexicon l)
 
-pub facts_of_line : (l : Line) → list_any is_fact l.added ≡ false → facts_in (key_of_line l).parts ≡ told_of l
-facts_of_line l none =
-    let key : Key = with_added l.added (whole_key l.compiler l.environment l.run_words l.parsed) in
-    facts_delivered (not l.keeps_macros && leaves_macros_out l.compiler l.parsed key) l.compiler l.environment l.run_words l.parsed l.added none
-    (λ last. some_defined (macros_in key.parts) (runs_in key.parts) (leaving l.compiler l.parsed key l.keeps_macros last))
+pub facts_of_line : (lexicon : Compiler → Lexicon) (l : Line) → list_any is_fact l.added ≡ false → facts_in (key_of_line lexicon l).parts ≡ told_of lexicon l
+facts_of_line lexicon l none =
+    let key : Key = with_added l.added (whole_key (lexicon l.compiler) l.compiler l.environment l.run_words l.parsed) in
+    facts_delivered lexicon (not l.keeps_macros && leaves_macros_out (lexicon l.compiler) l.compiler l.parsed key) l.compiler l.environment l.run_words l.parsed l.added none
+    (λ last. some_defined (macros_in key.parts) (runs_in key.parts) (leaving (lexicon l.compiler) l.compiler l.parsed key l.keeps_macros last))
 
-abbrev pub AreOneLine : Line → Line → Type 0
-AreOneLine l m =
-    AreToldAlike l.compiler m.compiler l.environment m.environment l.run_words m.run_words (shows l.compiler l.parsed) (shows m.compiler m.parsed) (stated l) (stated m)
+abbrev pub AreOneLine : (Compiler → Lexicon) → Line → Line → Type 0
+AreOneLine lexicon l m =
+    AreToldAlike l.compiler m.compiler l.environment m.environment l.run_words m.run_words (shows (lexicon l.compiler) l.compiler l.parsed) (shows (lexicon m.compiler) m.compiler m.parsed) (stated lexicon l) (stated lexicon m)
 
 -- the facts of two keys decide their lines
-pub lines_decide : (l m : Line) → list_any is_fact l.added ≡ false → list_any is_fact m.added ≡ false → facts_in (key_of_line l).parts ≡ facts_in (key_of_line m).parts
-    → AreOneLine l m
-lines_decide l m none neither h =
-    rows_decide l.compiler m.compiler l.environment m.environment l.run_words m.run_words (shows l.compiler l.parsed) (shows m.compiler m.parsed) (stated l) (stated m)
-    (sym (facts_of_line l none) ∙ h ∙ facts_of_line m neither)
+pub lines_decide : (lexicon : Compiler → Lexicon) (l m : Line) → list_any is_fact l.added ≡ false → list_any is_fact m.added ≡ false → facts_in (key_of_line lexicon l).parts ≡ facts_in (key_of_line lexicon m).parts
+    → AreOneLine lexicon l m
+lines_decide lexicon l m none neither h =
+    rows_decide l.compiler m.compiler l.environment m.environment l.run_words m.run_words (shows (lexicon l.compiler) l.compiler l.parsed) (shows (lexicon m.compiler) m.compiler m.parsed) (stated lexicon l) (stated lexicon m)
+    (sym (facts_of_line lexicon l none) ∙ h ∙ facts_of_line lexicon m neither)
 
 -- ---- words of the preprocessor
 
@@ -174,42 +175,42 @@ words_by false p = refl
 words_unless : (x y : Bool) (ps qs : List (List ℕ)) → x ≡ false → x ≡ y → cond x [] ps ≡ cond y [] qs → ps ≡ qs
 words_unless x y ps qs off same h = sym (ap (λ b. cond b [] ps) off) ∙ h ∙ ap (λ b. cond b [] qs) (sym same ∙ off)
 
-preprocessor_words : (l : Line) → (stated l).preprocessor_args ≡ cond (shows l.compiler l.parsed) [] l.parsed.preprocessor_args
-preprocessor_words l = words_by (length (key_of_line l).shown == 0) (key_record l.compiler l.parsed)
+preprocessor_words : (lexicon : Compiler → Lexicon) (l : Line) → (stated lexicon l).preprocessor_args ≡ cond (shows (lexicon l.compiler) l.compiler l.parsed) [] l.parsed.preprocessor_args
+preprocessor_words lexicon l = words_by (length (key_of_line lexicon l).shown == 0) (key_record (lexicon l.compiler) l.compiler l.parsed)
 
 -- ---- hits
 
 -- lines are alike, if the rows, the answers and the macros are
-pub alike : (v w : ShownWorld) (l m : Line) → list_any is_fact l.added ≡ false → list_any is_fact m.added ≡ false
-    → map hashed (key_of_line l).parts ≡ map hashed (key_of_line m).parts
-    → answers v.world l.compiler (key_of_line l).parts ≡ answers w.world m.compiler (key_of_line m).parts
-    → counting v l.compiler (key_of_line l) ≡ counting w m.compiler (key_of_line m)
-    → AreAlikeLines v w l m
-alike v w l m none neither rows all macros =
-    let one : AreOneLine l m = lines_decide l m none neither (one_facts (key_of_line l).parts (key_of_line m).parts rows) in
+pub alike : (lexicon : Compiler → Lexicon) (v w : ShownWorld) (l m : Line) → list_any is_fact l.added ≡ false → list_any is_fact m.added ≡ false
+    → map hashed (key_of_line lexicon l).parts ≡ map hashed (key_of_line lexicon m).parts
+    → answers v.world l.compiler (key_of_line lexicon l).parts ≡ answers w.world m.compiler (key_of_line lexicon m).parts
+    → counting v l.compiler (key_of_line lexicon l) ≡ counting w m.compiler (key_of_line lexicon m)
+    → AreAlikeLines lexicon v w l m
+alike lexicon v w l m none neither rows all macros =
+    let one : AreOneLine lexicon l m = lines_decide lexicon l m none neither (one_facts (key_of_line lexicon l).parts (key_of_line lexicon m).parts rows) in
     record {
       compiler_is = one.compiler_is;
       environment_is = one.environment_is;
       run_words_are = one.run_words_are;
       record_is = one.record_is;
       words_are_unless_shown = λ off.
-          words_unless (shows l.compiler l.parsed) (shows m.compiler m.parsed) l.parsed.preprocessor_args m.parsed.preprocessor_args off one.shows_is
-          (sym (preprocessor_words l) ∙ ap (λ (p : Parsed). p.preprocessor_args) one.record_is ∙ preprocessor_words m);
+          words_unless (shows (lexicon l.compiler) l.compiler l.parsed) (shows (lexicon m.compiler) m.compiler m.parsed) l.parsed.preprocessor_args m.parsed.preprocessor_args off one.shows_is
+          (sym (preprocessor_words lexicon l) ∙ ap (λ (p : Parsed). p.preprocessor_args) one.record_is ∙ preprocessor_words lexicon m);
       rows_are = rows;
       answers_are = all;
       macros_are = macros;
     }
 
 pub delivered_hits_are_right : DeliveredHitsAreRight
-delivered_hits_are_right = λ v w is_meant well l m i j h.
+delivered_hits_are_right = λ lexicon v w is_meant well l m i j h.
     let a : Compiler = l.compiler in
     let b : Compiler = m.compiler in
-    let d : Delivered = key_of_line l in
-    let g : Delivered = key_of_line m in
+    let d : Delivered = key_of_line lexicon l in
+    let g : Delivered = key_of_line lexicon m in
     let ms : List (List ℕ) = counting v a d in
     let ns : List (List ℕ) = counting w b g in
     let all : AreDecided v.world w.world a b d.parts g.parts (shown_texts ms) (shown_texts ns) =
     decides v.world w.world a b d.parts g.parts (shown_texts ms) (shown_texts ns) i.are_rows j.are_rows
     (shown_rest ms i.are_shown_rows) (shown_rest ns j.are_shown_rows) h in
     well l m i.meant j.meant
-    (alike v w l m i.adds_no_fact j.adds_no_fact all.rows_are all.answers_are (words_decide ms ns i.are_shown_rows j.are_shown_rows all.rest_is))
+    (alike lexicon v w l m i.adds_no_fact j.adds_no_fact all.rows_are all.answers_are (words_decide ms ns i.are_shown_rows j.are_shown_rows all.rest_is))

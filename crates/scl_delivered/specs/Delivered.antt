@@ -3,6 +3,7 @@ use Rattle.std.specs.Prelude.{ℕ, Bool, true, false, ◌==◌, ◌&&◌, ◌||�
 use Rattle.std.specs.List.{list_all, list_any}
 use Rattle.std.specs.Option.{option_map}
 use Rattle.std.specs.Str.{bytes_eq}
+use Rattle.scl_catalogue.specs.Lookup.{Lexicon}
 use Rattle.scl_text.specs.Records.{Parsed, artifact}
 use Rattle.scl_text.specs.declared.language.Language.{Language}
 use Rattle.scl_text.specs.declared.language.Language.TheVariants as languages
@@ -43,13 +44,14 @@ abbrev pub is_told_output : Part → Bool
 is_told_output (output made) = bytes_eq made.name (codes "obj") || bytes_eq made.name (codes "d")
 is_told_output _ = true
 
--- the object of a record with this key
-abbrev pub object_by : Compiler → Parsed → Key → Object
-object_by c p key = record {
+-- the object of a record with this key, with what a catalogue says of the words of its command
+abbrev pub object_by : Lexicon → Compiler → Parsed → Key → Object
+object_by lexicon c p key = record {
   is_by_gcc = is_gcc c;
   is_of_c = is_c p.language;
   is_of_shown_text = key.is_shown && (bytes_eq p.compilation_flag (codes "-c") && (is_c p.language || is_cxx p.language));
   is_alone = list_all is_told_output key.parts;
+  lexicon = lexicon;
   words = p.common_args ++ p.arch_args ++ p.unhashed_args;
 }
 
@@ -69,8 +71,8 @@ abbrev pub texts_show_macros : Compiler → Parsed → List Part → Object → 
 texts_show_macros c p parts o = o.is_of_shown_text && ((is_gcc c || is_clang c) && not (may_name_anything o || has_path_like_macro p parts))
 
 -- the texts of runs show all that counts of the macros of the command
-abbrev pub leaves_macros_out : Compiler → Parsed → Key → Bool
-leaves_macros_out c p key = texts_show_macros c p key.parts (object_by c p key) && are_defined (macros_in key.parts) (runs_in key.parts)
+abbrev pub leaves_macros_out : Lexicon → Compiler → Parsed → Key → Bool
+leaves_macros_out lexicon c p key = texts_show_macros c p key.parts (object_by lexicon c p key) && are_defined (macros_in key.parts) (runs_in key.parts)
 
 -- a key whose macros stand at its end, or where they are
 abbrev pub with_macros : (last : Bool) → Key → Delivered
@@ -108,10 +110,10 @@ told_by dirs said d =
 -- ---- all of it
 
 -- The key of a record as it is delivered with these base directories; macros stand where they are if they are kept there.
-abbrev pub delivered : Compiler → Parsed → (dirs : List (List ℕ)) (keeps_macros : Bool) → Key → Delivered
-delivered c p dirs keeps_macros key =
-    let last = with_macros (not keeps_macros && leaves_macros_out c p key) key in
-    if length dirs == 0 then last else told_by dirs (verdict dirs (object_by c p key)) last
+abbrev pub delivered : Lexicon → Compiler → Parsed → (dirs : List (List ℕ)) (keeps_macros : Bool) → Key → Delivered
+delivered lexicon c p dirs keeps_macros key =
+    let last = with_macros (not keeps_macros && leaves_macros_out lexicon c p key) key in
+    if length dirs == 0 then last else told_by dirs (verdict dirs (object_by lexicon c p key)) last
 
 -- its parts are told by base directories
 abbrev pub is_told_by_bases : Delivered → Bool

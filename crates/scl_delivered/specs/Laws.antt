@@ -2,6 +2,7 @@
 use Rattle.std.specs.Prelude.{◌≡◌, ℕ, ◌^◌, ◌<◌, Bool, true, List, [], length, map, filter}
 use Rattle.std.specs.List.{list_all}
 use Rattle.scl_values.specs.Each.{Each}
+use Rattle.scl_catalogue.specs.Lookup.{Lexicon}
 use Rattle.scl_text.specs.Records.{Parsed, artifact}
 use Rattle.scl_base_dirs.specs.Unmapped.{unmapped}
 use Rattle.scl_reader.specs.declared.compiler.Compiler.{Compiler}
@@ -28,21 +29,21 @@ pub record HasTheRowsOf (one other : Delivered) : Type 0 where
 -- a key whose object may name a directory is as it is without directories
 abbrev pub NamedKeysStand : Type 0
 NamedKeysStand =
-    (c : Compiler) (p : Parsed) (dirs : List (List ℕ)) (keeps_macros : Bool) (key : Key)
-    → (verdict dirs (object_by c p key)).in_object ≡ Yes → HasTheRowsOf (delivered c p dirs keeps_macros key) (delivered c p [] keeps_macros key)
+    (lexicon : Lexicon) (c : Compiler) (p : Parsed) (dirs : List (List ℕ)) (keeps_macros : Bool) (key : Key)
+    → (verdict dirs (object_by lexicon c p key)).in_object ≡ Yes → HasTheRowsOf (delivered lexicon c p dirs keeps_macros key) (delivered lexicon c p [] keeps_macros key)
 
 -- no macro of a key that keeps its macros stands at its end, and without directories its parts are as they are
 abbrev pub KeptMacrosStand : Type 0
 KeptMacrosStand =
-    (c : Compiler) (p : Parsed) (dirs : List (List ℕ)) (key : Key)
-    → ((delivered c p dirs true key).shown ≡ []) × ((delivered c p [] true key).parts ≡ key.parts)
+    (lexicon : Lexicon) (c : Compiler) (p : Parsed) (dirs : List (List ℕ)) (key : Key)
+    → ((delivered lexicon c p dirs true key).shown ≡ []) × ((delivered lexicon c p [] true key).parts ≡ key.parts)
 
 -- each run has the macros that stand at the end, all of them and no other
 abbrev pub MacrosStandInRuns : Type 0
 MacrosStandInRuns =
-    (c : Compiler) (p : Parsed) (keeps_macros : Bool) (key : Key)
-    → ((delivered c p [] keeps_macros key).shown ≡ [] → ⊥)
-    → Each (λ words. filter is_macro words ≡ (delivered c p [] keeps_macros key).shown) (runs_in (delivered c p [] keeps_macros key).parts)
+    (lexicon : Lexicon) (c : Compiler) (p : Parsed) (keeps_macros : Bool) (key : Key)
+    → ((delivered lexicon c p [] keeps_macros key).shown ≡ [] → ⊥)
+    → Each (λ words. filter is_macro words ≡ (delivered lexicon c p [] keeps_macros key).shown) (runs_in (delivered lexicon c p [] keeps_macros key).parts)
 
 -- ---- what a delivered key decides
 
@@ -69,5 +70,5 @@ pub record AreOneButForPlaces (one other : Key) : Type 0 where
 -- Two keys that are delivered alike with the same directories differ at most in where macros stand among the common words and in plans.
 abbrev pub DeliveredKeysDecide : Type 0
 DeliveredKeysDecide =
-    (c d : Compiler) (p q : Parsed) (dirs : List (List ℕ)) (keeps also_keeps : Bool) (one other : Key)
-    → length dirs < 2 ^ 64 → delivered c p dirs keeps one ≡ delivered d q dirs also_keeps other → AreOneButForPlaces one other
+    (lexicon other_lexicon : Lexicon) (c d : Compiler) (p q : Parsed) (dirs : List (List ℕ)) (keeps also_keeps : Bool) (one other : Key)
+    → length dirs < 2 ^ 64 → delivered lexicon c p dirs keeps one ≡ delivered other_lexicon d q dirs also_keeps other → AreOneButForPlaces one other

@@ -1,6 +1,7 @@
 //! A key as it is delivered: macros that the runs show stand at its end, and its words are told by base directories.
 ghost use Rattle.std.specs.Prelude.{◌≡◌, IfOk};
 ghost use Rattle.scl_values.specs.Words.{words_of};
+ghost use Rattle.scl_catalogue.specs.Views.{lexicon_of};
 ghost use Rattle.scl_text.specs.Records.{parsed_of};
 ghost use Rattle.scl_key.specs.Views.{key_of as key_told};
 ghost use Rattle.scl_shared_key.specs.Views.{object_of, verdict_of};
@@ -10,6 +11,7 @@ ghost use Rattle.scl_delivered.specs.Views.{delivered_of};
 use crate::macros::{are_defined, macros_in, runs_in, without_macros};
 use crate::object::{object_by, texts_show_macros};
 use crate::told::{told_parts, told_words};
+use scl_catalogue::Lexicon;
 use scl_key::{Direct, Key, Part};
 use scl_reader::Compiler;
 use scl_shared_key::{InObject, Object, Verdict, verdict};
@@ -32,9 +34,11 @@ pub struct Delivered {
 
 /// How keys are delivered.
 #[derive(Debug, Clone, Copy)]
-pub struct Delivery<'a> {
+pub struct Delivery<'a, 'c> {
     /// The base directories, as `scl_base_dirs::base_dirs` gives them.
     pub dirs: &'a [Vec<u8>],
+    /// What a catalogue says of the words of the compiler's command.
+    pub lexicon: Lexicon<'c>,
     /// Whether macros stay where they are.
     pub keeps_macros: bool,
 }
@@ -66,11 +70,11 @@ fn leaves_macros_out(
     alloc: Global,
     compiler: Compiler,
     parsed: &ParsedArguments,
-    object: &Object<'_>,
+    object: &Object<'_, '_>,
     key: &Key,
 ) -> Mem<bool>
-    requires { object_of object.now ≡ object_by compiler (parsed_of parsed.now) (key_told key.now) }
-    ensures { IfOk result (λ leaves. leaves ≡ leaves_macros_out compiler (parsed_of parsed.now) (key_told key.now)) }
+    requires { object_of object.now ≡ object_by (lexicon_of object.now.lexicon) compiler (parsed_of parsed.now) (key_told key.now) }
+    ensures { IfOk result (λ leaves. leaves ≡ leaves_macros_out (lexicon_of object.now.lexicon) compiler (parsed_of parsed.now) (key_told key.now)) }
 {
     if !texts_show_macros(compiler, parsed, &key.parts, object) {
         return Ok(false);
@@ -126,12 +130,12 @@ pub fn deliver(
     alloc: Global,
     compiler: Compiler,
     parsed: &ParsedArguments,
-    by: &Delivery<'_>,
+    by: &Delivery<'_, '_>,
     key: Key,
 ) -> Mem<Delivered>
-    ensures { IfOk result (λ made. delivered_of made ≡ delivered compiler (parsed_of parsed.now) (words_of by.now.dirs.now) by.now.keeps_macros (key_told key)) }
+    ensures { IfOk result (λ made. delivered_of made ≡ delivered (lexicon_of by.now.lexicon) compiler (parsed_of parsed.now) (words_of by.now.dirs.now) by.now.keeps_macros (key_told key)) }
 {
-    let object = object_by(compiler, parsed, &key);
+    let object = object_by(by.lexicon, compiler, parsed, &key);
     let last = !by.keeps_macros && leaves_macros_out(alloc, compiler, parsed, &object, &key)?;
     let made = with_macros(alloc, last, key)?;
     if by.dirs.is_empty() {

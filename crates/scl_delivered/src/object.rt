@@ -1,11 +1,13 @@
 //! The object of a record with a key, and whether runs show what its macros do.
 ghost use Rattle.std.specs.Prelude.{◌≡◌, ◌||◌};
 ghost use Rattle.std.specs.List.{list_all};
+ghost use Rattle.scl_catalogue.specs.Views.{lexicon_of};
 ghost use Rattle.scl_text.specs.Records.{parsed_of};
 ghost use Rattle.scl_key.specs.Views.{key_of as key_told, part_of, parts_of};
 ghost use Rattle.scl_shared_key.specs.Views.{object_of};
 ghost use Rattle.scl_delivered.specs.Delivered.{has_path_like_macro, is_c, is_cxx, is_like_macro, is_told_output, object_by, texts_show_macros};
 
+use scl_catalogue::Lexicon;
 use scl_key::{Key, Part, is_clang, is_gcc};
 use scl_reader::Compiler;
 use scl_shared_key::{Object, is_macro};
@@ -52,12 +54,13 @@ fn is_alone(parts: &[Part]) -> bool
 }
 
 /// The object of a record with this key.
-pub(crate) fn object_by<'a>(
+pub(crate) fn object_by<'a, 'c>(
+    lexicon: Lexicon<'c>,
     compiler: Compiler,
     parsed: &'a ParsedArguments,
     key: &Key,
-) -> Object<'a>
-    ensures { object_of result ≡ object_by compiler (parsed_of parsed.now) (key_told key.now) }
+) -> Object<'a, 'c>
+    ensures { object_of result ≡ object_by (lexicon_of lexicon.entry) compiler (parsed_of parsed.now) (key_told key.now) }
 {
     Object {
         is_by_gcc: is_gcc(compiler),
@@ -66,6 +69,7 @@ pub(crate) fn object_by<'a>(
             && parsed.compilation_flag.as_slice() == b"-c".as_slice()
             && is_c_or_cxx(parsed.language),
         is_alone: is_alone(&key.parts),
+        lexicon,
         common: &parsed.common_args,
         arch: &parsed.arch_args,
         unhashed: &parsed.unhashed_args,
@@ -108,7 +112,7 @@ pub(crate) fn texts_show_macros(
     compiler: Compiler,
     parsed: &ParsedArguments,
     parts: &[Part],
-    object: &Object<'_>,
+    object: &Object<'_, '_>,
 ) -> bool
     ensures { result ≡ texts_show_macros compiler (parsed_of parsed.now) (parts_of parts.now) (object_of object.now) }
 {

@@ -2,6 +2,7 @@
 use Rattle.std.proofs.Common.{◌≡◌, ℕ, true, false, cond, List, [], ◌∷◌, ◌++◌, map, codes, Option, refl, ap, sym, subst, ◌∙◌, append-nil, append_assoc}
 use Rattle.std.specs.List.{flat_map}
 use Rattle.std.proofs.lemmas.Grind.{flat_map-append}
+use Rattle.scl_catalogue.specs.Lookup.{Lexicon}
 use Rattle.scl_values.specs.Each.{Each}
 use Rattle.scl_values.specs.Escaped.{escaped}
 use Rattle.scl_text.specs.Commands.{pairs_of}
@@ -20,6 +21,7 @@ use Rattle.scl_hazards.specs.Hazards.{Tables}
 use Rattle.scl_hazards.specs.Told.{Told, given as given_told}
 use Rattle.scl_rows.specs.Rows.{refused_at, told}
 use Rattle.scl_rows.specs.declared.row.Row.{Row}
+use Rattle.scl_describe.specs.Hazards.{lexicon_by}
 use Rattle.scl_describe.specs.declared.described.Description.{Description}
 use Rattle.scl_reader.specs.declared.compilation.Compilation.{Compilation}
 use Rattle.scl_describe.specs.OptionLines.{fields_given, option_fields, options_entry, options_given}
@@ -50,15 +52,15 @@ outcome-is s r runs kept (outcomes.Ok compilation) e parts are =
 outcome-is s r runs kept (outcomes.CannotCache reason text) e parts are = ap (λ a. outcome_entries s r kept a (reading_by r.compiler r)) e
 outcome-is s r runs kept outcomes.NotCompilation e parts are = ap (λ a. outcome_entries s r kept a (reading_by r.compiler r)) e
 
-pub kept-is : (s : Settings) (r : Request) (telling : Told) (answer : CompilerArguments Compilation) → answer_of answer ≡ answer_to r
+pub kept-is : (l : Lexicon) (s : Settings) (r : Request) (telling : Told) (answer : CompilerArguments Compilation) → answer_of answer ≡ answer_to r
     → HasParts (reading_by r.compiler r) [] (environment_by r.compiler r.environment) r.directory answer
-    → kept_given s r.compiler r.words telling answer ≡ kept_with s r telling (answer_to r) (reading_by r.compiler r)
-kept-is s r telling (outcomes.Ok compilation) e parts =
-    ap (λ env. kept_for s compilation.cacheable r.compiler (run_words_by r.words telling.hazards) telling env (parsed_of compilation.parsed)) parts.1.env_vars_are
-    ∙ ap (λ said. kept_with s r telling (answer_of (outcomes.Ok compilation)) said) (sym parts.0)
-    ∙ ap (λ a. kept_with s r telling a (reading_by r.compiler r)) e
-kept-is s r telling (outcomes.CannotCache reason text) e parts = ap (λ a. kept_with s r telling a (reading_by r.compiler r)) e
-kept-is s r telling outcomes.NotCompilation e parts = ap (λ a. kept_with s r telling a (reading_by r.compiler r)) e
+    → kept_given l s r.compiler r.words telling answer ≡ kept_with l s r telling (answer_to r) (reading_by r.compiler r)
+kept-is l s r telling (outcomes.Ok compilation) e parts =
+    ap (λ env. kept_for l s compilation.cacheable r.compiler (run_words_by r.words telling.hazards) telling env (parsed_of compilation.parsed)) parts.1.env_vars_are
+    ∙ ap (λ said. kept_with l s r telling (answer_of (outcomes.Ok compilation)) said) (sym parts.0)
+    ∙ ap (λ a. kept_with l s r telling a (reading_by r.compiler r)) e
+kept-is l s r telling (outcomes.CannotCache reason text) e parts = ap (λ a. kept_with l s r telling a (reading_by r.compiler r)) e
+kept-is l s r telling outcomes.NotCompilation e parts = ap (λ a. kept_with l s r telling a (reading_by r.compiler r)) e
 
 options-are : (rows : List Row) → map fields_given rows ≡ map option_fields (map told rows)
 options-are [] = refl
@@ -71,7 +73,7 @@ all_entries outcome options telling writes asks kept =
 entries-are : (tables : Tables) (s : Settings) (r : Request) (made : Description) → AreOf tables s r made → entries_given made ≡ entries_for tables s r
 entries-are tables s r made are =
     let runs : List (List (List ℕ)) = runs_of made.runs.items in
-    let kept : Kept = kept_with s r (told_for tables s r) (answer_to r) (reading_by r.compiler r) in
+    let kept : Kept = kept_with (lexicon_by tables s.version r.compiler) s r (told_for tables s r) (answer_to r) (reading_by r.compiler r) in
     let outcome : outcome_given made ≡ outcome_entries s r kept (answer_to r) (reading_by r.compiler r) =
     ap (λ k. outcome_rows runs k (refused_at (map told made.options.items)) made.answer) are.kept
     ∙ ap (λ rows. outcome_rows runs kept (refused_at rows) made.answer) are.options
@@ -126,7 +128,7 @@ pub descriptions-back : DescriptionsReadBack
 descriptions-back tables s r words kept p within compiles reads are =
     let environment : List (List ℕ × List ℕ) = environment_by r.compiler r.environment in
     let telling : Told = told_for tables s r in
-    let keeping : Kept = kept_with s r telling (answer_to r) (reading_by r.compiler r) in
+    let keeping : Kept = kept_with (lexicon_by tables s.version r.compiler) s r telling (answer_to r) (reading_by r.compiler r) in
     let after : List Entry = runs_entry (runs_for s r.compiler p) ∷ environment_entry environment ∷ kept_entries keeping in
     let last : List Entry = writes_entry (writes_for s r) ∷ question_entries (questions_for s r) ++ last_entries keeping in
     let asks : List Entry = options_entry (rows_for s r) ∷ told_entries telling ++ last in

@@ -14,6 +14,7 @@ use Rattle.scl_cl.specs.Requests.{request_in}
 use Rattle.scl_describe.specs.DependencyFiles.{writes_by}
 use Rattle.scl_describe.specs.Descriptions.{DescribesBytes, IsDescriptionOf, description, kept_with, too_many_entries}
 use Rattle.scl_describe.specs.DescriptionsGiven.{AreOf, IsDescribed, kept_given, runs_given, text_given}
+use Rattle.scl_describe.specs.Hazards.{lexicon_by}
 use Rattle.scl_describe.specs.Settings.{Settings, settings_in, request_lines}
 use Rattle.scl_describe.specs.declared.described.Description.{Description}
 use Rattle.scl_describe.proofs.DescriptionLaws.{is-description, kept-is, too-long}
@@ -28,9 +29,9 @@ described-of tables s request made h =
       parts = is.parts;
       runs = h.runs ∙ ap (λ c. runs_given s c (outcome_in (read_of request))) said.compiler ∙ ap (runs_given s request.compiler) said.outcome;
       kept =
-          h.kept ∙ ap (λ c. kept_given s c request.words (given_told made.told) made.answer) said.compiler
-          ∙ kept-is s request (given_told made.told) made.answer is.is is.parts
-          ∙ ap (λ telling. kept_with s request telling (answer_to request) (reading_by request.compiler request)) h.told;
+          h.kept ∙ ap (λ c. kept_given (lexicon_by tables s.version c) s c request.words (given_told made.told) made.answer) said.compiler
+          ∙ kept-is (lexicon_by tables s.version request.compiler) s request (given_told made.told) made.answer is.is is.parts
+          ∙ ap (λ telling. kept_with (lexicon_by tables s.version request.compiler) s request telling (answer_to request) (reading_by request.compiler request)) h.told;
       options = h.options;
       told = h.told;
       writes = h.writes ∙ ap (λ c. writes_by s c (outcome_in (read_of request))) said.compiler ∙ ap (writes_by s request.compiler) said.outcome;

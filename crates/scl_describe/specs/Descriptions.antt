@@ -1,5 +1,6 @@
 -- The description of the answer to a request: the answer's lines, and after them rows of what was read.
 use Rattle.std.specs.Prelude.{◌≡◌, ℕ, true, List, [], ◌∷◌, ◌++◌, map, codes, Option, Result, Ok, Err, unwrap_or, if◌then◌else◌}
+use Rattle.scl_catalogue.specs.Lookup.{Lexicon}
 use Rattle.scl_values.specs.Each.{Each}
 use Rattle.scl_text.specs.declared.records.Cacheable.{Cacheable}
 use Rattle.scl_text.specs.declared.records.Cacheable.TheVariants as cacheable
@@ -21,7 +22,7 @@ use Rattle.scl_describe.specs.DependencyFiles.{writes_by}
 use Rattle.scl_describe.specs.EffectRows.{effect_entries}
 use Rattle.scl_describe.specs.OptionLines.{index_entry, options_entry}
 use Rattle.scl_describe.specs.OptionRows.{rows_by}
-use Rattle.scl_describe.specs.Hazards.{known_by, told_by}
+use Rattle.scl_describe.specs.Hazards.{known_by, lexicon_by, told_by}
 use Rattle.scl_describe.specs.Keepings.{Kept, nothing, kept_entries, kept_for, last_entries, run_words_by}
 use Rattle.scl_reader.specs.Questions.{Questions, questions_of}
 use Rattle.scl_describe.specs.Settings.{Settings, settings_in, request_lines, wanted}
@@ -103,12 +104,12 @@ abbrev pub runs_for : Settings → Compiler → Parsed → List (List (List ℕ)
 runs_for s compiler p = if_wanted (wanted s).runs (runs_with s.version compiler s.runs.may_dist s.runs.rewrite_includes_only s.runs.cache_mode p)
 
 -- what is said of keeping the outcome of a command
-abbrev pub kept_with : Settings → Request → Told → Answer → Result Parsed Verdict → Kept
-kept_with s request told (compiled words may_be_kept) (Ok p) =
-    kept_for s may_be_kept request.compiler (run_words_by request.words told.hazards) told (environment_by request.compiler request.environment) p
-kept_with s request told (compiled words may_be_kept) (Err v) = nothing
-kept_with s request told (cannot_cache reason beside) r = nothing
-kept_with s request told not_compilation r = nothing
+abbrev pub kept_with : Lexicon → Settings → Request → Told → Answer → Result Parsed Verdict → Kept
+kept_with l s request told (compiled words may_be_kept) (Ok p) =
+    kept_for l s may_be_kept request.compiler (run_words_by request.words told.hazards) told (environment_by request.compiler request.environment) p
+kept_with l s request told (compiled words may_be_kept) (Err v) = nothing
+kept_with l s request told (cannot_cache reason beside) r = nothing
+kept_with l s request told not_compilation r = nothing
 
 -- the rows of a record that a request's line is read as, if this is said of keeping its outcome
 abbrev pub record_rows : Settings → Request → Kept → Parsed → List Entry
@@ -131,11 +132,11 @@ entries_kept s request told kept =
     ++ outcome_entries s request kept (answer_to request) (reading_by request.compiler request)
     ++ (options_entry (rows_for s request) ∷ told_entries told ++ (writes_entry (writes_for s request) ∷ question_entries (questions_for s request) ++ last_entries kept))
 
-abbrev pub entries_with : Settings → Request → Told → List Entry
-entries_with s request told = entries_kept s request told (kept_with s request told (answer_to request) (reading_by request.compiler request))
+abbrev pub entries_with : Lexicon → Settings → Request → Told → List Entry
+entries_with l s request told = entries_kept s request told (kept_with l s request told (answer_to request) (reading_by request.compiler request))
 
 abbrev pub entries_for : Tables → Settings → Request → List Entry
-entries_for tables s request = entries_with s request (told_for tables s request)
+entries_for tables s request = entries_with (lexicon_by tables s.version request.compiler) s request (told_for tables s request)
 
 -- where a command line has more words than the limit
 abbrev pub too_many_entries : List Entry

@@ -1,6 +1,7 @@
 -- What is described, as the code gives it, and its text.
 use Rattle.std.specs.Prelude.{◌≡◌, ℕ, List, [], ◌∷◌, ◌++◌, map, Option, Result, string_bytes}
 use Rattle.std.specs.Option.{option_map}
+use Rattle.scl_catalogue.specs.Lookup.{Lexicon}
 use Rattle.scl_rows.specs.Rows.{refused_at, told}
 use Rattle.scl_text.specs.Commands.{pairs_of}
 use Rattle.scl_text.specs.Records.{Parsed, Verdict, parsed_of, path_of}
@@ -22,7 +23,7 @@ use Rattle.scl_reader.specs.Definitions.{definitions_of}
 use Rattle.scl_reader.specs.Reads.{compiler_of, outcome_in, runs_for}
 use Rattle.scl_reader.specs.declared.reading.Reading.{Reading}
 use Rattle.scl_describe.specs.DependencyFiles.{writes_by}
-use Rattle.scl_describe.specs.Hazards.{known_by, told_in}
+use Rattle.scl_describe.specs.Hazards.{known_by, lexicon_by, told_in}
 use Rattle.scl_describe.specs.OptionLines.{options_given}
 use Rattle.scl_describe.specs.OptionRows.{rows_in}
 use Rattle.scl_reader.specs.Questions.{questions_in}
@@ -46,11 +47,11 @@ abbrev pub runs_given : Settings → Compiler → Result Parsed Verdict → List
 runs_given s compiler outcome = if_wanted (wanted s).runs (runs_for s.version compiler s.runs.may_dist s.runs.rewrite_includes_only s.runs.cache_mode outcome)
 
 -- what is said of keeping the outcome of an answer to a line of these words
-abbrev pub kept_given : Settings → Compiler → (words : List (List ℕ)) → Told → CompilerArguments Compilation → Kept
-kept_given s compiler words told (outcomes.Ok compilation) =
-    kept_for s compilation.cacheable compiler (run_words_by words told.hazards) told (pairs_of compilation.command.env_vars.items) (parsed_of compilation.parsed)
-kept_given s compiler words told (outcomes.CannotCache reason text) = nothing
-kept_given s compiler words told outcomes.NotCompilation = nothing
+abbrev pub kept_given : Lexicon → Settings → Compiler → (words : List (List ℕ)) → Told → CompilerArguments Compilation → Kept
+kept_given l s compiler words told (outcomes.Ok compilation) =
+    kept_for l s compilation.cacheable compiler (run_words_by words told.hazards) told (pairs_of compilation.command.env_vars.items) (parsed_of compilation.parsed)
+kept_given l s compiler words told (outcomes.CannotCache reason text) = nothing
+kept_given l s compiler words told outcomes.NotCompilation = nothing
 
 -- ---- its rows, and its text
 
@@ -86,7 +87,7 @@ text_given made = text_of (answer_of made.answer) ++ entries_text (entries_given
 pub record IsDescribed (tables : Tables) (s : Settings) (reading : Reading) (line : Given) (made : Description) : Type 0 where
   pub answer : AnswersReading (definitions_of (compiler_of reading)) [] (outcome_in reading) line.directory line.environment line.view made.answer
   pub runs : runs_of made.runs.items ≡ runs_given s (compiler_of reading) (outcome_in reading)
-  pub kept : kept_told made.kept ≡ kept_given s (compiler_of reading) line.words (given_told made.told) made.answer
+  pub kept : kept_told made.kept ≡ kept_given (lexicon_by tables s.version (compiler_of reading)) s (compiler_of reading) line.words (given_told made.told) made.answer
   pub options : map told made.options.items ≡ if_wanted (wanted s).options (rows_in reading)
   pub told : given_told made.told ≡ told_if (wanted s) (told_in (known_by tables s.version) line reading)
   pub writes : path_of made.writes ≡ writes_by s (compiler_of reading) (outcome_in reading)
@@ -97,7 +98,7 @@ pub record AreOf (tables : Tables) (s : Settings) (request : Request) (made : De
   pub answer : answer_of made.answer ≡ answer_to request
   pub parts : HasParts (reading_by request.compiler request) [] (environment_by request.compiler request.environment) request.directory made.answer
   pub runs : runs_of made.runs.items ≡ runs_given s request.compiler (reading_by request.compiler request)
-  pub kept : kept_told made.kept ≡ kept_with s request (told_for tables s request) (answer_to request) (reading_by request.compiler request)
+  pub kept : kept_told made.kept ≡ kept_with (lexicon_by tables s.version request.compiler) s request (told_for tables s request) (answer_to request) (reading_by request.compiler request)
   pub options : map told made.options.items ≡ rows_for s request
   pub told : given_told made.told ≡ told_for tables s request
   pub writes : path_of made.writes ≡ writes_for s request

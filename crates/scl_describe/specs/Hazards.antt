@@ -1,5 +1,8 @@
 -- What a catalogue says of a request's command line.
 use Rattle.std.specs.Prelude.{ℕ, Bool, List, ◌∷◌, ◌++◌, Option, None, Some}
+use Rattle.scl_catalogue.specs.Lookup.{Lexicon}
+use Rattle.scl_catalogue.specs.declared.case.Compiler.{Compiler as Catalogued}
+use Rattle.scl_catalogue.specs.declared.case.Compiler.TheVariants as catalogue
 use Rattle.scl_catalogue.specs.declared.case.Version.{Version}
 use Rattle.scl_catalogue_text.specs.Reading.{version_read}
 use Rattle.scl_description.specs.Lines.{cut_at}
@@ -12,6 +15,8 @@ use Rattle.scl_reader.specs.Apple.{is_apple}
 use Rattle.scl_reader.specs.CommandLines.{Given, Request, given_in}
 use Rattle.scl_reader.specs.PrecompiledHeaders.{has_precompiled_header}
 use Rattle.scl_reader.specs.Reads.{read_of}
+use Rattle.scl_reader.specs.declared.compiler.Compiler.{Compiler}
+use Rattle.scl_reader.specs.declared.compiler.Compiler.TheVariants as compilers
 use Rattle.scl_reader.specs.declared.reading.Reading.{Reading}
 use Rattle.scl_reader.specs.declared.reading.Reading.TheVariants.{Gnu, Msvc, Diab, Tasking}
 
@@ -35,6 +40,21 @@ version_told (Some text) = version_read (major_and_minor text)
 -- what tables know of a compiler whose version has this text, if it is known
 abbrev pub known_by : Tables → Option (List ℕ) → Known
 known_by tables version = record { catalogue = tables.catalogue; plain = tables.plain; version = version_told version; is_apple = is_apple version }
+
+-- the compiler by which a catalogue names this one
+abbrev pub catalogued : Compiler → Catalogued
+catalogued compilers.Gcc = catalogue.Gcc
+catalogued compilers.Gxx = catalogue.Gcc
+catalogued compilers.Clang = catalogue.Clang
+catalogued compilers.Clangxx = catalogue.Clang
+catalogued compilers.Cl = catalogue.Cl
+catalogued compilers.ClangCl = catalogue.ClangCl
+catalogued compilers.Diab = catalogue.Diab
+catalogued compilers.Tasking = catalogue.Tasking
+
+-- what tables say of the words of a compiler's command, if its version has this text
+abbrev pub lexicon_by : Tables → Option (List ℕ) → Compiler → Lexicon
+lexicon_by tables version compiler = record { catalogue = tables.catalogue; compiler = catalogued compiler; version = version_told version }
 
 -- what is reported of a reading in an environment of these pairs, by whether there is a precompiled header that matters
 abbrev pub told_with : Known → List (List ℕ × List ℕ) → (has_header : Bool) → Reading → Told

@@ -2,6 +2,7 @@
 use Rattle.std.specs.Prelude.{ℕ, Bool, true, false, nat_eq, List, [], ◌∷◌, ◌++◌, codes, find, map, Option, None, Some, if◌then◌else◌}
 use Rattle.std.specs.List.{list_any, starts_with}
 use Rattle.std.specs.Option.{option_map}
+use Rattle.scl_catalogue.specs.Lookup.{Lexicon}
 use Rattle.scl_catalogue.specs.declared.entry.Danger.{Danger}
 use Rattle.scl_catalogue.specs.declared.entry.Danger.TheVariants as dangers
 use Rattle.scl_text.specs.declared.records.Cacheable.{Cacheable}
@@ -59,8 +60,8 @@ pub data Kept : Type 0 where
   under_none : (why : List NoKey) → Kept
 
 -- a key of a record as settings request it
-abbrev pub delivered_by : Settings → Compiler → Parsed → Key → Delivered
-delivered_by s compiler p key = delivered compiler p s.bases s.keeps_shown key
+abbrev pub delivered_by : Lexicon → Settings → Compiler → Parsed → Key → Delivered
+delivered_by l s compiler p key = delivered l compiler p s.bases s.keeps_shown key
 
 -- a key, unless nothing is known of an option: no key can answer for what that does
 abbrev pub key_unless : Option (List ℕ) → Delivered → Kept
@@ -76,10 +77,10 @@ abbrev pub is_told : Settings → Cacheable → Bool
 is_told s cacheable.Yes = (wanted s).key
 is_told s cacheable.No = false
 
--- what is said of a record, by what is reported of its compiler
-abbrev pub kept_for : Settings → Cacheable → Compiler → RunWords → Told → (environment : List (List ℕ × List ℕ)) → Parsed → Kept
-kept_for s may_be_kept compiler words told environment p =
-    if is_told s may_be_kept then judged told.unknown (delivered_by s compiler p) (with_effects p told.effects (keeping_of compiler environment words p)) else nothing
+-- what is said of a record, by what is known of its words and reported of its compiler
+abbrev pub kept_for : Lexicon → Settings → Cacheable → Compiler → RunWords → Told → (environment : List (List ℕ × List ℕ)) → Parsed → Kept
+kept_for l s may_be_kept compiler words told environment p =
+    if is_told s may_be_kept then judged told.unknown (delivered_by l s compiler p) (with_effects p told.effects (keeping_of l compiler environment words p)) else nothing
 
 -- ---- its rows
 

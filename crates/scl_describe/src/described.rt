@@ -19,7 +19,8 @@ ghost use Rattle.scl_describe.specs.DescriptionsGiven.{IsDescribed, compilation_
 
 use crate::dependency_file::writes_wanted;
 use crate::found::{options_wanted, questions_wanted, runs_wanted, told_wanted};
-use crate::keeping::{Kept, kept_in, tell_kept, tell_last};
+use crate::keeping::{Driver, Kept, kept_in, tell_kept, tell_last};
+use crate::known::lexicon_of;
 use crate::option_lines::{tell_index, tell_options};
 use crate::settings::Settings;
 use scl_cl::answer_text;
@@ -256,6 +257,8 @@ impl<'a> Description<'a> {
         ensures { IfOk result (IsDescribed (tables_of tables.now) (settings_by settings.now) reading (given_by line.now)) }
     {
         let compiler = reading.compiler();
+        let lexicon = lexicon_of(tables, settings, compiler);
+        let driver = Driver { compiler, lexicon };
         let runs = runs_wanted(alloc, settings, &reading)?;
         let options = options_wanted(alloc, settings, &reading)?;
         let told = told_wanted(alloc, tables, settings, &reading, line)?;
@@ -271,7 +274,7 @@ impl<'a> Description<'a> {
             writes,
             questions,
         };
-        described.kept = kept_in(alloc, compiler, settings, line.words, &described)?;
+        described.kept = kept_in(alloc, &driver, settings, line.words, &described)?;
         Ok(described)
     }
 

@@ -3,6 +3,7 @@ ghost use Rattle.std.specs.Prelude.{◌≡◌, ◌∷◌, [], codes, IfOk, OnOk}
 ghost use Rattle.std.specs.List.{list_any};
 ghost use Rattle.std.specs.Option.{option_copied, option_map};
 ghost use Rattle.scl_values.specs.Words.{words_of};
+ghost use Rattle.scl_catalogue.specs.Views.{lexicon_of};
 ghost use Rattle.scl_text.specs.Commands.{pairs_of};
 ghost use Rattle.scl_text.specs.Records.{parsed_of};
 ghost use Rattle.scl_description.specs.Rows.{entry_rows, row_entry, rows_of};
@@ -18,10 +19,11 @@ ghost use Rattle.scl_describe.specs.SettingsRead.{settings_by};
 
 use crate::described::Description;
 use crate::settings::Settings;
+use scl_catalogue::Lexicon;
 use scl_delivered::{Delivered, Delivery, deliver};
 use scl_description::{TakesRows, tell_row, tell_word};
 use scl_hazards::{Danger, Effect, Hazard};
-use scl_key::{Keeping, Key, NoKey, RunWords, key_of, tell_no_rows, with_effects};
+use scl_key::{Keeping, Key, Line, NoKey, RunWords, key_of, tell_no_rows, with_effects};
 use scl_reader::{Compilation, Compiler};
 use scl_text::Mem;
 use scl_text::records::{Cacheable, CompilerArguments, ParsedArguments};
@@ -107,47 +109,61 @@ fn is_told(settings: &Settings, cacheable: Cacheable) -> bool
     }
 }
 
+/// The compiler that is run, and what is known of the words of its command.
+#[derive(Clone, Copy)]
+pub(crate) struct Driver<'a> {
+    pub(crate) compiler: Compiler,
+    pub(crate) lexicon: Lexicon<'a>,
+}
+
 /// What is said of the key of a compilation, of which these words run at a miss, by these effects of its compiler.
 fn keeping_by(
     alloc: Global,
-    compiler: Compiler,
+    driver: &Driver<'_>,
     words: RunWords<'_>,
     effects: &[Effect],
     compilation: &Compilation,
 ) -> Mem<Keeping>
-    ensures { IfOk result (λ keeping. keeping_told keeping ≡ with_effects (parsed_of compilation.now.parsed) effects.now (keeping_of compiler (pairs_of compilation.now.command.env_vars.items) (run_words_of words.entry) (parsed_of compilation.now.parsed))) }
+    ensures { IfOk result (λ keeping. keeping_told keeping ≡ with_effects (parsed_of compilation.now.parsed) effects.now (keeping_of (lexicon_of driver.now.lexicon) driver.now.compiler (pairs_of compilation.now.command.env_vars.items) (run_words_of words.entry) (parsed_of compilation.now.parsed))) }
 {
-    let environment = &compilation.command.env_vars;
-    let keeping = key_of(alloc, compiler, environment, words, &compilation.parsed)?;
+    let line = Line {
+        compiler: driver.compiler,
+        lexicon: driver.lexicon,
+        environment: &compilation.command.env_vars,
+        words,
+        parsed: &compilation.parsed,
+    };
+    let keeping = key_of(alloc, &line)?;
     with_effects(alloc, &compilation.parsed, effects, keeping)
 }
 
 /// A key of a record as settings request it.
 fn delivered_by(
     alloc: Global,
-    compiler: Compiler,
+    driver: &Driver<'_>,
     settings: &Settings,
     parsed: &ParsedArguments,
     key: Key,
 ) -> Mem<Delivered>
-    ensures { IfOk result (λ made. delivered_of made ≡ delivered_by (settings_by settings.now) compiler (parsed_of parsed.now) (key_told key)) }
+    ensures { IfOk result (λ made. delivered_of made ≡ delivered_by (lexicon_of driver.now.lexicon) (settings_by settings.now) driver.now.compiler (parsed_of parsed.now) (key_told key)) }
 {
     let by = Delivery {
         dirs: &settings.bases,
         keeps_macros: settings.keeps_shown,
+        lexicon: driver.lexicon,
     };
-    deliver(alloc, compiler, parsed, &by, key)
+    deliver(alloc, driver.compiler, parsed, &by, key)
 }
 
 /// What is said of keeping what a command line of these words makes, which this is described of, as settings request it.
 pub(crate) fn kept_in(
     alloc: Global,
-    compiler: Compiler,
+    driver: &Driver<'_>,
     settings: &Settings,
     words: &[Vec<u8>],
     described: &Description<'_>,
 ) -> Mem<Kept>
-    ensures { IfOk result (λ kept. kept_told kept ≡ kept_given (settings_by settings.now) compiler (words_of words.now) (given described.now.told) described.now.answer) }
+    ensures { IfOk result (λ kept. kept_told kept ≡ kept_given (lexicon_of driver.now.lexicon) (settings_by settings.now) driver.now.compiler (words_of words.now) (given described.now.told) described.now.answer) }
 {
     let compilation = match &described.answer {
         CompilerArguments::Ok(compilation) => compilation,
@@ -160,11 +176,11 @@ pub(crate) fn kept_in(
     }
     let told = &described.told;
     let words = run_words_by(words, &told.hazards);
-    let keeping = keeping_by(alloc, compiler, words, &told.effects, compilation)?;
+    let keeping = keeping_by(alloc, driver, words, &told.effects, compilation)?;
     match (keeping, told.unknown.as_deref()) {
         (Keeping::Under(_), Some(word)) => Ok(Kept::Unknown(Vec::from_slice(alloc, word)?)),
         (Keeping::Under(key), None) => {
-            let key = delivered_by(alloc, compiler, settings, &compilation.parsed, key)?;
+            let key = delivered_by(alloc, driver, settings, &compilation.parsed, key)?;
             Ok(Kept::Under(key))
         }
         (Keeping::Not(why), _) => Ok(Kept::Not(why)),

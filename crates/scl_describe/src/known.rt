@@ -1,15 +1,17 @@
 //! What is known of the compiler that is run.
 ghost use Rattle.std.specs.Prelude.{◌≡◌};
 ghost use Rattle.std.specs.Option.{option_copied};
+ghost use Rattle.scl_catalogue.specs.Views.{lexicon_of as lexicon_told};
 ghost use Rattle.scl_hazards.specs.Hazards.{tables_of};
-ghost use Rattle.scl_describe.specs.Hazards.{known_by, major_and_minor, version_told};
+ghost use Rattle.scl_describe.specs.Hazards.{catalogued, known_by, lexicon_by, major_and_minor, version_told};
 ghost use Rattle.scl_describe.specs.SettingsRead.{settings_by};
 
 use crate::settings::Settings;
+use scl_catalogue::{Compiler as Catalogued, Lexicon};
 use scl_catalogue_text::version;
 use scl_description::cut_at;
 use scl_hazards::{Known, Tables, Version};
-use scl_reader::is_apple;
+use scl_reader::{Compiler, is_apple};
 
 /// What of a version's text counts: what stands before its second dot.
 fn major_and_minor(text: &[u8]) -> &[u8]
@@ -31,6 +33,35 @@ fn version_told(text: Option<&str>) -> Option<Version>
     match text {
         Some(text) => version(major_and_minor(text.as_bytes())),
         None => None,
+    }
+}
+
+/// The compiler by which a catalogue names this one.
+fn catalogued(compiler: Compiler) -> Catalogued
+    ensures { result ≡ catalogued compiler }
+{
+    match compiler {
+        Compiler::Gcc | Compiler::Gxx => Catalogued::Gcc,
+        Compiler::Clang | Compiler::Clangxx => Catalogued::Clang,
+        Compiler::Cl => Catalogued::Cl,
+        Compiler::ClangCl => Catalogued::ClangCl,
+        Compiler::Diab => Catalogued::Diab,
+        Compiler::Tasking => Catalogued::Tasking,
+    }
+}
+
+/// What tables say of the words of a compiler's command, of the version that settings give, if they do.
+pub(crate) fn lexicon_of<'a>(
+    tables: &Tables<'a>,
+    settings: &Settings,
+    compiler: Compiler,
+) -> Lexicon<'a>
+    ensures { lexicon_told result ≡ lexicon_by (tables_of tables.now) (settings_by settings.now).version compiler }
+{
+    Lexicon {
+        catalogue: tables.catalogue,
+        compiler: catalogued(compiler),
+        version: version_told(settings.version.as_deref()),
     }
 }
 

@@ -94,24 +94,24 @@ same-material v w c (part ∷ key) h =
 -- ---- direct hits
 
 pub direct-hits-right : DirectHitsAreRight
-direct-hits-right v w l m well decided a b e f r s p q may i j k n first_is values_are list_is =
-    let keys : key_of a e r p ≡ key_of b f s q = early-decides v w a b (key_of a e r p) (key_of b f s q) k.0 n.0 first_is in
-    let rows : directs a p ≡ directs b q = rows-decide v w a b (directs a p) (directs b q) k.1 n.1 values_are in
-    let facts : facts_in (told a e r p) ≡ facts_in (told b f s q) = sym (facts-of-key a e r p) ∙ ap facts_in keys ∙ facts-of-key b f s q in
-    let one : AreOne a b e f r s p q = facts-decide a b e f r s p q facts in
+direct-hits-right g v w l m well decided a b e f r s p q may i j k n first_is values_are list_is =
+    let keys : key_of (g a) a e r p ≡ key_of (g b) b f s q = early-decides v w a b (key_of (g a) a e r p) (key_of (g b) b f s q) k.0 n.0 first_is in
+    let rows : directs (g a) a p ≡ directs (g b) b q = rows-decide v w a b (directs (g a) a p) (directs (g b) b q) k.1 n.1 values_are in
+    let facts : facts_in (told (g a) a e r p) ≡ facts_in (told (g b) b f s q) = sym (facts-of-key g a e r p) ∙ ap facts_in keys ∙ facts-of-key g b f s q in
+    let one : AreOne g a b e f r s p q = facts-decide g a b e f r s p q facts in
     let back : b ≡ a = sym one.compiler_is in
-    let key_back : key_of b f s q ≡ key_of a e r p = sym keys in
-    let rows_back : directs b q ≡ directs a p = sym rows in
-    let before : early v a (key_of a e r p) ≡ early w a (key_of a e r p) =
-    first_is ∙ ap (λ c. early w c (key_of b f s q)) back ∙ ap (λ key. early w a key) key_back in
-    let values : valued_rows v a (directs a p) ≡ valued_rows w a (directs a p) =
-    values_are ∙ ap (λ c. valued_rows w c (directs b q)) back ∙ ap (λ ds. valued_rows w a ds) rows_back in
-    let list : l a (key_of a e r p) (directs a p) ≡ m a (key_of a e r p) (directs a p) =
-    list_is ∙ ap (λ c. m c (key_of b f s q) (directs b q)) back ∙ ap (λ key. m a key (directs b q)) key_back ∙ ap (λ ds. m a (key_of a e r p) ds) rows_back in
-    let same : material v a (key_of a e r p) ≡ material w a (key_of a e r p) = same-material v w a (key_of a e r p) (decided a e r p may before values list) in
-    let hashed_are : material v a (key_of a e r p) ≡ material w b (key_of b f s q) =
-    same ∙ ap (λ key. material w a key) keys ∙ ap (λ c. material w c (key_of b f s q)) one.compiler_is in
+    let key_back : key_of (g b) b f s q ≡ key_of (g a) a e r p = sym keys in
+    let rows_back : directs (g b) b q ≡ directs (g a) a p = sym rows in
+    let before : early v a (key_of (g a) a e r p) ≡ early w a (key_of (g a) a e r p) =
+    first_is ∙ ap (λ c. early w c (key_of (g b) b f s q)) back ∙ ap (λ key. early w a key) key_back in
+    let values : valued_rows v a (directs (g a) a p) ≡ valued_rows w a (directs (g a) a p) =
+    values_are ∙ ap (λ c. valued_rows w c (directs (g b) b q)) back ∙ ap (λ ds. valued_rows w a ds) rows_back in
+    let list : l a (key_of (g a) a e r p) (directs (g a) a p) ≡ m a (key_of (g a) a e r p) (directs (g a) a p) =
+    list_is ∙ ap (λ c. m c (key_of (g b) b f s q) (directs (g b) b q)) back ∙ ap (λ key. m a key (directs (g b) b q)) key_back ∙ ap (λ ds. m a (key_of (g a) a e r p) ds) rows_back in
+    let same : material v a (key_of (g a) a e r p) ≡ material w a (key_of (g a) a e r p) = same-material v w a (key_of (g a) a e r p) (decided a e r p may before values list) in
+    let hashed_are : material v a (key_of (g a) a e r p) ≡ material w b (key_of (g b) b f s q) =
+    same ∙ ap (λ key. material w a key) keys ∙ ap (λ c. material w c (key_of (g b) b f s q)) one.compiler_is in
     record {
       key_is = hashed_are;
-      outcome_is = hits-right v w well a b e f r s p q i j hashed_are;
+      outcome_is = hits-right g v w well a b e f r s p q i j hashed_are;
     }

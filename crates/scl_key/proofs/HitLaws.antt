@@ -8,11 +8,12 @@ use Rattle.scl_description.specs.Rows.{IsRow, row_text, rows_in, behind, rests_a
 use Rattle.scl_description.proofs.RowLaws.{rows-back}
 use Rattle.scl_reader.specs.declared.compiler.Compiler.{Compiler}
 use Rattle.scl_reader.specs.Answers.{command_by}
+use Rattle.scl_catalogue.specs.Lookup.{Lexicon}
 use Rattle.scl_key.specs.declared.part.Ask.{Ask}
 use Rattle.scl_key.specs.declared.part.Ask.TheVariants as asks
 use Rattle.scl_key.specs.Keys.{key_of, asked_parts, asked_each, file_parts, text_parts, precompiled_parts, source_parts, refusals, response_files, searched, stamps_times, text_is_enough, telling_of}
 use Rattle.scl_key.specs.Families.{has_plan, is_gcc, unset_variables, variables}
-use Rattle.scl_key.specs.Given.{headers}
+use Rattle.scl_key.specs.Given.{has_macros, headers}
 use Rattle.scl_key.specs.Made.{made}
 use Rattle.scl_key.specs.Parts.{Part, is, output, directory, compiler, plan, asked, run, run_else, pch, sources, times, hashed, is_asked}
 use Rattle.scl_key.specs.Reads.{files_perhaps}
@@ -168,77 +169,77 @@ no-facts-else : (words : List (List (List ℕ))) → NoFacts (map run_else words
 no-facts-else [] = refl
 no-facts-else (one ∷ words) = no-facts-else words
 
-no-facts-run-parts : (c : Compiler) (p : Parsed) → NoFacts (run_parts c p)
-no-facts-run-parts c p = no-facts-both (map run (key_runs c p)) (map run_else (runs_else c p)) (no-facts-runs (key_runs c p)) (no-facts-else (runs_else c p))
+no-facts-run-parts : (macros : Bool) (c : Compiler) (p : Parsed) → NoFacts (run_parts macros c p)
+no-facts-run-parts macros c p = no-facts-both (map run (key_runs macros c p)) (map run_else (runs_else c p)) (no-facts-runs (key_runs macros c p)) (no-facts-else (runs_else c p))
 
 no-facts-precompiled : (c : Compiler) (p : Parsed) → NoFacts (precompiled_parts c p)
 no-facts-precompiled c p = no-facts-if (is_gcc c) (pch (searched p) ∷ []) [] refl refl
 
-no-facts-sources : (c : Compiler) (p : Parsed) → NoFacts (source_parts c p)
-no-facts-sources c p = no-facts-if (text_is_enough c p) (asked asks.SourcesIfShown (telling_of c) ∷ []) (sources ∷ []) refl refl
+no-facts-sources : (g : Compiler → Lexicon) (c : Compiler) (p : Parsed) → NoFacts (source_parts (g c) c p)
+no-facts-sources g c p = no-facts-if (text_is_enough (g c) c p) (asked asks.SourcesIfShown (telling_of c) ∷ []) (sources ∷ []) refl refl
 
-no-facts-texts : (c : Compiler) (p : Parsed) → NoFacts (text_parts c p)
-no-facts-texts c p =
+no-facts-texts : (g : Compiler → Lexicon) (c : Compiler) (p : Parsed) → NoFacts (text_parts (g c) c p)
+no-facts-texts g c p =
     let timed : List Part = cond (stamps_times c p) (times ∷ []) [] in
-    no-facts-both (run_parts c p ++ precompiled_parts c p ++ source_parts c p ++ timed) (refusals p)
-    (no-facts-both (run_parts c p ++ precompiled_parts c p ++ source_parts c p) timed
-    (no-facts-both (run_parts c p ++ precompiled_parts c p) (source_parts c p)
-    (no-facts-both (run_parts c p) (precompiled_parts c p) (no-facts-run-parts c p) (no-facts-precompiled c p))
-    (no-facts-sources c p))
+    no-facts-both (run_parts (has_macros (g c) p) c p ++ precompiled_parts c p ++ source_parts (g c) c p ++ timed) (refusals p)
+    (no-facts-both (run_parts (has_macros (g c) p) c p ++ precompiled_parts c p ++ source_parts (g c) c p) timed
+    (no-facts-both (run_parts (has_macros (g c) p) c p ++ precompiled_parts c p) (source_parts (g c) c p)
+    (no-facts-both (run_parts (has_macros (g c) p) c p) (precompiled_parts c p) (no-facts-run-parts (has_macros (g c) p) c p) (no-facts-precompiled c p))
+    (no-facts-sources g c p))
     (no-facts-if (stamps_times c p) (times ∷ []) [] refl refl))
     refl
 
-no-facts-files : (c : Compiler) (r : RunWords) (p : Parsed) → NoFacts (file_parts c r p)
-no-facts-files c r p =
+no-facts-files : (g : Compiler → Lexicon) (c : Compiler) (r : RunWords) (p : Parsed) → NoFacts (file_parts (g c) c r p)
+no-facts-files g c r p =
     let set : List Part = asked_each asks.Env (variables c) in
     let not_set : List Part = asked_each asks.Unset (unset_variables c) in
     let hashed_files : List Part = asked_each asks.File p.extra_hash_files in
     let read : List Part = asked_each asks.File (response_files r) in
-    let perhaps : List Part = asked_each asks.Maybe (files_perhaps c p) in
+    let perhaps : List Part = asked_each asks.Maybe (files_perhaps (g c) c p) in
     no-facts-both (set ++ not_set ++ hashed_files ++ read) perhaps
     (no-facts-both (set ++ not_set ++ hashed_files) read
     (no-facts-both (set ++ not_set) hashed_files
     (no-facts-both set not_set (no-facts-asked asks.Env (variables c)) (no-facts-asked asks.Unset (unset_variables c)))
     (no-facts-asked asks.File p.extra_hash_files))
     (no-facts-asked asks.File (response_files r)))
-    (no-facts-asked asks.Maybe (files_perhaps c p))
+    (no-facts-asked asks.Maybe (files_perhaps (g c) c p))
 
-no-facts-asking : (c : Compiler) (r : RunWords) (p : Parsed) → NoFacts (asked_parts c r p)
-no-facts-asking c r p =
+no-facts-asking : (g : Compiler → Lexicon) (c : Compiler) (r : RunWords) (p : Parsed) → NoFacts (asked_parts (g c) c r p)
+no-facts-asking g c r p =
     let first : List Part = directory ∷ compiler ∷ [] in
     let regular : List Part = asked_each asks.Regular (p.input ∷ headers p) in
-    no-facts-both (first ++ plans c p ++ file_parts c r p ++ regular) (text_parts c p)
-    (no-facts-both (first ++ plans c p ++ file_parts c r p) regular
-    (no-facts-both (first ++ plans c p) (file_parts c r p)
+    no-facts-both (first ++ plans c p ++ file_parts (g c) c r p ++ regular) (text_parts (g c) c p)
+    (no-facts-both (first ++ plans c p ++ file_parts (g c) c r p) regular
+    (no-facts-both (first ++ plans c p) (file_parts (g c) c r p)
     (no-facts-both first (plans c p) refl
     (no-facts-if (has_plan c) (map plan (option_to_list (command_by c (plan_record p)))) [] (no-facts-plans (option_to_list (command_by c (plan_record p)))) refl))
-    (no-facts-files c r p))
+    (no-facts-files g c r p))
     (no-facts-asked asks.Regular (p.input ∷ headers p)))
-    (no-facts-texts c p)
+    (no-facts-texts g c p)
 
-pub facts-of-key : (c : Compiler) (e : List (List ℕ × List ℕ)) (r : RunWords) (p : Parsed) → facts_in (key_of c e r p) ≡ facts_in (told c e r p)
-facts-of-key c e r p =
-    flat_map-append fact_of (told c e r p ++ map output (made p)) (asked_parts c r p)
-    ∙ ap (λ rows. facts_in (told c e r p ++ map output (made p)) ++ rows) (no-facts-asking c r p)
-    ∙ append-nil (facts_in (told c e r p ++ map output (made p)))
-    ∙ flat_map-append fact_of (told c e r p) (map output (made p))
-    ∙ ap (λ rows. facts_in (told c e r p) ++ rows) (no-facts-outputs p)
-    ∙ append-nil (facts_in (told c e r p))
+pub facts-of-key : (g : Compiler → Lexicon) (c : Compiler) (e : List (List ℕ × List ℕ)) (r : RunWords) (p : Parsed) → facts_in (key_of (g c) c e r p) ≡ facts_in (told (g c) c e r p)
+facts-of-key g c e r p =
+    flat_map-append fact_of (told (g c) c e r p ++ map output (made p)) (asked_parts (g c) c r p)
+    ∙ ap (λ rows. facts_in (told (g c) c e r p ++ map output (made p)) ++ rows) (no-facts-asking g c r p)
+    ∙ append-nil (facts_in (told (g c) c e r p ++ map output (made p)))
+    ∙ flat_map-append fact_of (told (g c) c e r p) (map output (made p))
+    ∙ ap (λ rows. facts_in (told (g c) c e r p) ++ rows) (no-facts-outputs p)
+    ∙ append-nil (facts_in (told (g c) c e r p))
 
 -- ---- hits
 
 pub hits-right : HitsAreRight
-hits-right v w well a b e f r s p q i j h =
-    let both : Both (map hashed (key_of a e r p)) (map hashed (key_of b f s q)) (answers v a (key_of a e r p)) (answers w b (key_of b f s q)) =
-    material-decides v w a b (key_of a e r p) (key_of b f s q) i j h in
-    let facts : facts_in (told a e r p) ≡ facts_in (told b f s q) =
-    sym (facts-of-key a e r p) ∙ sym (facts-behind (key_of a e r p)) ∙ ap (λ rows. rests_at rows (codes "is")) both.rows ∙ facts-behind (key_of b f s q) ∙ facts-of-key b f s q in
-    let one : AreOne a b e f r s p q = facts-decide a b e f r s p q facts in
+hits-right g v w well a b e f r s p q i j h =
+    let both : Both (map hashed (key_of (g a) a e r p)) (map hashed (key_of (g b) b f s q)) (answers v a (key_of (g a) a e r p)) (answers w b (key_of (g b) b f s q)) =
+    material-decides v w a b (key_of (g a) a e r p) (key_of (g b) b f s q) i j h in
+    let facts : facts_in (told (g a) a e r p) ≡ facts_in (told (g b) b f s q) =
+    sym (facts-of-key g a e r p) ∙ sym (facts-behind (key_of (g a) a e r p)) ∙ ap (λ rows. rests_at rows (codes "is")) both.rows ∙ facts-behind (key_of (g b) b f s q) ∙ facts-of-key g b f s q in
+    let one : AreOne g a b e f r s p q = facts-decide g a b e f r s p q facts in
     well a e f r s p q (record {
       environment_is = one.environment_is;
       run_words_are = one.run_words_are;
       record_is = one.record_is;
       words_are_unless_shown = one.words_are_unless_shown;
-      answers_are = both.others ∙ ap (λ c. answers w c (key_of c f s q)) (sym one.compiler_is);
+      answers_are = both.others ∙ ap (λ c. answers w c (key_of (g c) c f s q)) (sym one.compiler_is);
     })
     ∙ ap (λ c. w.outcome c (flat_pairs f) (ran c s q)) one.compiler_is

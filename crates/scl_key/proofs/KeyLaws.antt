@@ -12,6 +12,7 @@ use Rattle.scl_reader.specs.declared.compiler.Compiler.{Compiler}
 use Rattle.scl_reader.specs.declared.compiler.Compiler.TheVariants as compilers
 use Rattle.scl_reader.specs.Answers.{command_by}
 use Rattle.scl_reader.specs.Compilers.{name_of, compiler_named}
+use Rattle.scl_catalogue.specs.Lookup.{Lexicon}
 use Rattle.scl_key.specs.declared.part.Ask.{Ask}
 use Rattle.scl_key.specs.declared.part.Ask.TheVariants as asks
 use Rattle.scl_key.specs.Given.{shows}
@@ -122,11 +123,11 @@ environment_told rows = behind_first (head_of (tail_of (tail_of (tail_of (tail_o
 abbrev record_told : List (List (List ℕ)) → Parsed
 record_told rows = record_by (rests_at (tail_of (tail_of (tail_of (tail_of (tail_of rows))))))
 
-record-told : (c : Compiler) (e : List (List ℕ × List ℕ)) (r : RunWords) (p : Parsed) → record_told (facts_in (told c e r p)) ≡ key_record c p
-record-told c e r p =
-    ap (λ rows. record_by (rests_at rows)) (facts-entries (record_entries (key_record c p)))
-    ∙ ap record_by (λ i name. rests-found (record_entries (key_record c p)) name i)
-    ∙ record-found (key_record c p)
+record-told : (g : Compiler → Lexicon) (c : Compiler) (e : List (List ℕ × List ℕ)) (r : RunWords) (p : Parsed) → record_told (facts_in (told (g c) c e r p)) ≡ key_record (g c) c p
+record-told g c e r p =
+    ap (λ rows. record_by (rests_at rows)) (facts-entries (record_entries (key_record (g c) c p)))
+    ∙ ap record_by (λ i name. rests-found (record_entries (key_record (g c) c p)) name i)
+    ∙ record-found (key_record (g c) c p)
 
 -- ---- one command
 
@@ -153,8 +154,8 @@ said-back true = refl
 said-back false = refl
 
 -- the command of a record is that of what is stated of it, with the words of the preprocessor put back
-command-told : (c : Compiler) (p : Parsed) → command_by c (with_shown_of p (key_record c p)) ≡ command_by c p
-command-told c p = elim c as (λ d. command_by d (with_shown_of p (key_record c p)) ≡ command_by d p) [
+command-told : (g : Compiler → Lexicon) (c : Compiler) (p : Parsed) → command_by c (with_shown_of p (key_record (g c) c p)) ≡ command_by c p
+command-told g c p = elim c as (λ d. command_by d (with_shown_of p (key_record (g d) d p)) ≡ command_by d p) [
   | compilers.Gcc ↦ refl
   | compilers.Gxx ↦ refl
   | compilers.Clang ↦ refl
@@ -165,11 +166,11 @@ command-told c p = elim c as (λ d. command_by d (with_shown_of p (key_record c 
   | compilers.Tasking ↦ refl
 ]
 
-command-of-told : (c : Compiler) (p q : Parsed) → command_by c (with_shown_of p (key_record c q)) ≡ command_by c (with_shown_of p q)
-command-of-told c p q = command-told c (with_shown_of p q)
+command-of-told : (g : Compiler → Lexicon) (c : Compiler) (p q : Parsed) → command_by c (with_shown_of p (key_record (g c) c q)) ≡ command_by c (with_shown_of p q)
+command-of-told g c p q = command-told g c (with_shown_of p q)
 
-same-command : (c : Compiler) (p q : Parsed) → key_record c p ≡ key_record c q → command_by c p ≡ command_by c (with_shown_of p q)
-same-command c p q e = sym (command-told c p) ∙ ap (λ r. command_by c (with_shown_of p r)) e ∙ command-of-told c p q
+same-command : (g : Compiler → Lexicon) (c : Compiler) (p q : Parsed) → key_record (g c) c p ≡ key_record (g c) c q → command_by c p ≡ command_by c (with_shown_of p q)
+same-command g c p q e = sym (command-told g c p) ∙ ap (λ r. command_by c (with_shown_of p r)) e ∙ command-of-told g c p q
 
 words-unless : (b d : Bool) (x y : List (List ℕ)) → b ≡ false → d ≡ false → cond b [] x ≡ cond d [] y → x ≡ y
 words-unless b d x y n m h = sym (ap (λ t. cond t [] x) n) ∙ h ∙ ap (λ t. cond t [] y) m
@@ -186,11 +187,11 @@ ran-told (hazardous hazard) command = refl
 pub same-ran : (r s : RunWords) (a b : Option (List (List ℕ))) → run_words_fields r ≡ run_words_fields s → a ≡ b → ran_with r a ≡ ran_with s b
 same-ran r s a b e h = sym (ran-told r a) ∙ ap (λ fields. ran_told fields a) e ∙ ap (ran_told (run_words_fields s)) h ∙ ran-told s b
 
-pub facts-decide : (a b : Compiler) (e f : List (List ℕ × List ℕ)) (r s : RunWords) (p q : Parsed) → facts_in (told a e r p) ≡ facts_in (told b f s q) → AreOne a b e f r s p q
-facts-decide a b e f r s p q h =
+pub facts-decide : (g : Compiler → Lexicon) (a b : Compiler) (e f : List (List ℕ × List ℕ)) (r s : RunWords) (p q : Parsed) → facts_in (told (g a) a e r p) ≡ facts_in (told (g b) b f s q) → AreOne g a b e f r s p q
+facts-decide g a b e f r s p q h =
     let one : a ≡ b = one-compiler a b (ap compiler_told h) in
-    let same : key_record a p ≡ key_record a q = sym (record-told a e r p) ∙ ap record_told h ∙ record-told b f s q ∙ ap (λ c. key_record c q) (sym one) in
-    let shown : shows a p ≡ shows b q = sym (said-back (shows a p)) ∙ ap (λ rows. is_yes (shown_told rows)) h ∙ said-back (shows b q) in
+    let same : key_record (g a) a p ≡ key_record (g a) a q = sym (record-told g a e r p) ∙ ap record_told h ∙ record-told g b f s q ∙ ap (λ c. key_record (g c) c q) (sym one) in
+    let shown : shows (g a) a p ≡ shows (g b) b q = sym (said-back (shows (g a) a p)) ∙ ap (λ rows. is_yes (shown_told rows)) h ∙ said-back (shows (g b) b q) in
     record {
       compiler_is = one;
       environment_is = ap environment_told h;
@@ -199,10 +200,10 @@ facts-decide a b e f r s p q h =
       outputs_are = ap (λ r. r.outputs) same;
       hash_files_are = ap (λ r. r.extra_hash_files) same;
       shows_is = shown;
-      command_is = same-command a p q same;
-      what_runs_is = same-ran r s (command_by a p) (command_by a (with_shown_of p q)) (ap words_told h) (same-command a p q same);
-      words_are_unless_shown = λ n. words-unless (shows a p) (shows a q) p.preprocessor_args q.preprocessor_args n (ap (λ c. shows c q) one ∙ sym shown ∙ n) (ap (λ r. r.preprocessor_args) same);
+      command_is = same-command g a p q same;
+      what_runs_is = same-ran r s (command_by a p) (command_by a (with_shown_of p q)) (ap words_told h) (same-command g a p q same);
+      words_are_unless_shown = λ n. words-unless (shows (g a) a p) (shows (g a) a q) p.preprocessor_args q.preprocessor_args n (ap (λ c. shows (g c) c q) one ∙ sym shown ∙ n) (ap (λ r. r.preprocessor_args) same);
     }
 
 pub keys-decide : KeysDecideCommands
-keys-decide a b e f r s p q h = facts-decide a b e f r s p q (ap facts_in h)
+keys-decide g a b e f r s p q h = facts-decide g a b e f r s p q (ap facts_in h)

@@ -8,10 +8,10 @@ use Rattle.scl_text.specs.Records.{Parsed}
 use Rattle.scl_text.specs.declared.language.Language.{Language}
 use Rattle.scl_description.specs.Rows.{Entry, row_entry}
 use Rattle.scl_reader.specs.declared.compiler.Compiler.{Compiler}
-use Rattle.scl_key.specs.declared.effect.Effect.TheVariants.{Plain, Exact}
+use Rattle.scl_catalogue.specs.Lookup.{Lexicon, running_of}
 use Rattle.scl_key.specs.declared.given.Brings.{Brings}
 use Rattle.scl_key.specs.declared.given.Brings.TheVariants.{Folder, Header, MacroFile, Other, Dependencies, Unknown}
-use Rattle.scl_key.specs.Effects.{Judged, Row, front_effect, is_plain, judged_in, row}
+use Rattle.scl_key.specs.Effects.{Judged, is_plain, judged_in}
 use Rattle.scl_key.specs.Families.{is_gnu}
 use Rattle.scl_key.specs.Given.{awaited_by, awaited_next, flags, given_by, given_in, headers, is_known, is_text, macro_files}
 use Rattle.scl_key.specs.Reads.{is_path}
@@ -48,64 +48,25 @@ direct_entries ds = map direct_entry ds
 
 -- ---- where the mode may be used
 
--- Beginnings of words that are not plain, and what they do in a run of the preprocessor: it reads nothing more because of them
--- (Plain), or it may (Exact). The first with which a word begins says.
-unfoldable pub run_fronts : List Row
-run_fronts =
-    row "-g" Plain
-    ∷ row "-Wa," Plain
-    ∷ row "-Werror" Plain
-    ∷ row "-Wp,-MD," Plain
-    ∷ row "-Wp,-MMD," Plain
-    ∷ row "-fmodul" Exact
-    ∷ row "-fimplicit-modul" Exact
-    ∷ row "-fprebuilt-modul" Exact
-    ∷ row "-fbuiltin-modul" Exact
-    ∷ row "-fsystem-modul" Exact
-    ∷ row "-fplugin" Exact
-    ∷ row "-fpass-plugin" Exact
-    ∷ row "-fapinotes" Exact
-    ∷ row "-fpch" Exact
-    ∷ row "-fms-" Exact
-    ∷ row "-fembed-" Exact
-    ∷ row "-finclude" Exact
-    ∷ row "-f" Plain
-    ∷ row "-module" Exact
-    ∷ row "-m" Plain
-    ∷ row "--param" Plain
-    ∷ row "--target=" Plain
-    ∷ row "-target" Plain
-    ∷ row "--sysroot" Plain
-    ∷ row "-stdlib=" Plain
-    ∷ row "--gcc-toolchain=" Plain
-    ∷ row "-arch" Plain
-    ∷ row "-Xclang" Plain
-    ∷ row "-Xassembler" Plain
-    ∷ row "-pedantic-errors" Plain
-    ∷ row "-Qunused-arguments" Plain
-    ∷ row "-trigraphs" Plain
-    ∷ row "-undef" Plain
-    ∷ []
-
 -- a value of the word before it, and no name of a file of words
 abbrev pub is_value : List ℕ → Bool
 is_value word = is_path word && not (starts_with nat_eq word (codes "@"))
 
 -- a run reads nothing more because of the word
-abbrev pub is_quiet : Judged → Bool
-is_quiet j = is_plain j.effect || (is_value j.word || is_plain (unwrap_or (front_effect run_fronts j.word) Exact))
+abbrev pub is_quiet : Lexicon → Judged → Bool
+is_quiet l j = is_plain j.doing || (is_value j.word || is_plain (running_of l j.word))
 
 -- a run names each file of which it shows the text
 abbrev pub names_sources : Language → Bool
 names_sources language = is_text language || (is_assembler language && needs_c_preprocessing language)
 
 -- the files that its markers name, and those that stand where it searches, are all that a run reads
-abbrev pub may_direct : Compiler → Parsed → Bool
-may_direct compiler p =
+abbrev pub may_direct : Lexicon → Compiler → Parsed → Bool
+may_direct l compiler p =
     is_gnu compiler
     && (names_sources p.language
     && (not (list_any (λ word. bytes_eq word hides_header) p.common_args)
-    && (list_all (λ g. is_known g.brings) (given_in p.preprocessor_args) && list_all is_quiet (judged_in p.common_args))))
+    && (list_all (λ g. is_known g.brings) (given_in p.preprocessor_args) && list_all (is_quiet l) (judged_in l p.common_args))))
 
 -- ---- what is searched
 
@@ -187,5 +148,5 @@ directs_if may c p =
     else []
 
 -- what a cache needs in direct mode; nothing if the mode may not be used
-abbrev pub directs : Compiler → Parsed → List Direct
-directs c p = directs_if (may_direct c p) c p
+abbrev pub directs : Lexicon → Compiler → Parsed → List Direct
+directs l c p = directs_if (may_direct l c p) c p

@@ -9,6 +9,7 @@ use Rattle.scl_reader.specs.declared.compiler.Compiler.{Compiler}
 use Rattle.scl_text.specs.Records.{Parsed}
 use Rattle.scl_text.specs.declared.language.Language.{Language}
 use Rattle.scl_text.specs.declared.language.Language.TheVariants as languages
+use Rattle.scl_catalogue.specs.Lookup.{Lexicon}
 use Rattle.scl_key.specs.contracts.given.BringsPartialEq.TheImpl.{ghosts}
 use Rattle.scl_key.specs.declared.given.Brings.{Brings}
 use Rattle.scl_key.specs.declared.given.Brings.TheVariants.{Folder, Header, MacroFile, Other, Dependencies, Unknown}
@@ -150,13 +151,13 @@ is_text languages.Rust = false
 is_text languages.Hip = false
 
 -- macros come into the outcome
-abbrev pub has_macros : Parsed → Bool
-has_macros p = list_any (λ j. keeps_macros j.effect) (judged_in p.common_args)
+abbrev pub has_macros : Lexicon → Parsed → Bool
+has_macros l p = list_any (λ j. keeps_macros j.doing) (judged_in l p.common_args)
 
 -- the same of a language, whether macros come into the outcome, and what is brought in
 abbrev pub shows_by : Compiler → Language → (macros : Bool) → List Given → Bool
 shows_by compiler language macros gs = is_gnu compiler && (is_text language && (not macros && list_all (λ g. is_known g.brings) gs))
 
 -- Each run shows all that the words of the preprocessor bring in: so they are no part of the key.
-abbrev pub shows : Compiler → Parsed → Bool
-shows compiler p = shows_by compiler p.language (has_macros p) (given_in p.preprocessor_args)
+abbrev pub shows : Lexicon → Compiler → Parsed → Bool
+shows l compiler p = shows_by compiler p.language (has_macros l p) (given_in p.preprocessor_args)

@@ -7,16 +7,17 @@ use Rattle.scl_files.specs.Views.{Viewed, empty_view, is_among}
 use Rattle.scl_text.specs.Records.{Parsed}
 use Rattle.scl_description.specs.Rows.{Entry, row_entry}
 use Rattle.scl_reader.specs.declared.compiler.Compiler.{Compiler}
-use Rattle.scl_key.specs.declared.effect.Effect.{Effect}
-use Rattle.scl_key.specs.declared.effect.Effect.TheVariants as effects
+use Rattle.scl_catalogue.specs.Lookup.{Lexicon}
+use Rattle.scl_catalogue.specs.declared.entry.Doing.{Doing}
+use Rattle.scl_catalogue.specs.declared.entry.Doing.TheVariants as doings
 use Rattle.scl_key.specs.declared.no_key.Reason.{Reason}
 use Rattle.scl_key.specs.declared.no_key.Reason.TheVariants.{WritesUnnamed, TextHides, OutputIsNoFile, OnePathTwice, Hazard, Effect as EffectBars}
 use Rattle.scl_key.specs.declared.part.Ask.{Ask}
 use Rattle.scl_key.specs.declared.part.Ask.TheVariants as asks
 use Rattle.scl_key.specs.Directs.{Direct, directs}
-use Rattle.scl_key.specs.Effects.{Judged, assembler_effect, assembler_words, behind, is_plain, judged_in, suffixes, writes_unnamed}
+use Rattle.scl_key.specs.Effects.{Judged, assembler_words, behind, is_plain, judged_in, suffixes, writes_by_assembler}
 use Rattle.scl_key.specs.Families.{folder_variables, is_clang, is_gcc, notes_by_runs, unset_variables, variables}
-use Rattle.scl_key.specs.Given.{folders, headers, shows}
+use Rattle.scl_key.specs.Given.{folders, has_macros, headers, shows}
 use Rattle.scl_key.specs.Made.{dependency_files, handed_file, made}
 use Rattle.scl_key.specs.Parts.{Part, asked, directory, compiler, output, pch, sources, times}
 use Rattle.scl_key.specs.Reads.{files_perhaps}
@@ -52,8 +53,8 @@ precompiled_parts c p =
     if is_gcc c then pch (searched p) ∷ [] else []
 
 -- the outcome has nothing of the sources that is missing from the text of a run
-abbrev pub text_is_enough : Compiler → Parsed → Bool
-text_is_enough c p = shows c p && list_all (λ j. is_plain j.effect) (judged_in p.common_args)
+abbrev pub text_is_enough : Lexicon → Compiler → Parsed → Bool
+text_is_enough l c p = shows l c p && list_all (λ j. is_plain j.doing) (judged_in l p.common_args)
 
 -- what in a text says that a source has more than the text: its columns, names, lines, or whether a message is an error
 abbrev pub telling : List ℕ
@@ -66,8 +67,8 @@ clang_telling = codes "__builtin_(COLUMN|LINE|FILE|source_location|dump_struct)|
 abbrev pub telling_of : Compiler → List ℕ
 telling_of c = if is_clang c then clang_telling else telling
 
-abbrev pub source_parts : Compiler → Parsed → List Part
-source_parts c p = if text_is_enough c p then asked asks.SourcesIfShown (telling_of c) ∷ [] else sources ∷ []
+abbrev pub source_parts : Lexicon → Compiler → Parsed → List Part
+source_parts l c p = if text_is_enough l c p then asked asks.SourcesIfShown (telling_of c) ∷ [] else sources ∷ []
 
 abbrev pub stamps_times : Compiler → Parsed → Bool
 stamps_times c p = is_clang c && (is_header p.language && not (list_any (λ word. bytes_eq word (codes "-fno-pch-timestamp")) p.common_args))
@@ -83,26 +84,26 @@ abbrev pub refusals : Parsed → List Part
 refusals p = asked asks.RefuseIfShown (if is_assembler p.language then assembler_reading else reading) ∷ []
 
 -- what is asked of variables and files
-abbrev pub file_parts : Compiler → RunWords → Parsed → List Part
-file_parts c words p =
+abbrev pub file_parts : Lexicon → Compiler → RunWords → Parsed → List Part
+file_parts l c words p =
     asked_each asks.Env (variables c)
     ++ asked_each asks.Unset (unset_variables c)
     ++ asked_each asks.File p.extra_hash_files
     ++ asked_each asks.File (response_files words)
-    ++ asked_each asks.Maybe (files_perhaps c p)
+    ++ asked_each asks.Maybe (files_perhaps l c p)
 
 -- what is asked of texts: the runs, and after them what asks of what these write
-abbrev pub text_parts : Compiler → Parsed → List Part
-text_parts c p = run_parts c p ++ precompiled_parts c p ++ source_parts c p ++ (if stamps_times c p then times ∷ [] else []) ++ refusals p
+abbrev pub text_parts : Lexicon → Compiler → Parsed → List Part
+text_parts l c p = run_parts (has_macros l p) c p ++ precompiled_parts c p ++ source_parts l c p ++ (if stamps_times c p then times ∷ [] else []) ++ refusals p
 
 -- the parts that ask, in order
-abbrev pub asked_parts : Compiler → RunWords → Parsed → List Part
-asked_parts c words p = (directory ∷ compiler ∷ []) ++ plans c p ++ file_parts c words p ++ asked_each asks.Regular (p.input ∷ headers p) ++ text_parts c p
+abbrev pub asked_parts : Lexicon → Compiler → RunWords → Parsed → List Part
+asked_parts l c words p = (directory ∷ compiler ∷ []) ++ plans c p ++ file_parts l c words p ++ asked_each asks.Regular (p.input ∷ headers p) ++ text_parts l c p
 
 -- ---- all parts
 
-abbrev pub key_of : Compiler → (environment : List (List ℕ × List ℕ)) → RunWords → Parsed → List Part
-key_of c environment words p = told c environment words p ++ map output (made p) ++ asked_parts c words p
+abbrev pub key_of : Lexicon → Compiler → (environment : List (List ℕ × List ℕ)) → RunWords → Parsed → List Part
+key_of l c environment words p = told l c environment words p ++ map output (made p) ++ asked_parts l c words p
 
 -- ---- where no key can be right
 
@@ -123,17 +124,17 @@ reason_name Hazard = codes "hazard"
 reason_name EffectBars = codes "effect"
 
 -- why there is no key for what a word does
-abbrev pub reason_of : Effect → Option Reason
-reason_of effects.Plain = None
-reason_of effects.Exact = None
-reason_of effects.Macros = None
-reason_of effects.WritesUnnamed = Some WritesUnnamed
-reason_of effects.TextHides = Some TextHides
-reason_of effects.ReadsCounts = None
-reason_of effects.ReadsSamples = None
+abbrev pub reason_of : Doing → Option Reason
+reason_of doings.Plain = None
+reason_of doings.Exact = None
+reason_of doings.Macros = None
+reason_of doings.WritesUnnamed = Some WritesUnnamed
+reason_of doings.TextHides = Some TextHides
+reason_of doings.ReadsCounts = None
+reason_of doings.ReadsSamples = None
 
 abbrev pub no_key_by : Judged → List NoKey
-no_key_by j = map (λ reason. no_key reason j.word) (option_to_list (reason_of j.effect))
+no_key_by j = map (λ reason. no_key reason j.word) (option_to_list (reason_of j.doing))
 
 abbrev pub asks_for_rules : List ℕ → Bool
 asks_for_rules text = starts_with nat_eq text (codes "-M")
@@ -145,7 +146,7 @@ hides_file word = starts_with nat_eq word (codes "-Wp,") && (list_any asks_for_r
 -- words that write a file that no row names: of the assembler, and of the preprocessor
 abbrev pub unnamed_by : List (List ℕ) → List (List ℕ)
 unnamed_by words =
-    filter (λ word. writes_unnamed (assembler_effect word)) (assembler_words words)
+    filter writes_by_assembler (assembler_words words)
     ++ filter hides_file words
     ++ filter asks_for_rules (behind (codes "-Xpreprocessor") false words)
 
@@ -178,17 +179,17 @@ hazards (given words files) = []
 hazards (hazardous hazard) = no_key Hazard hazard ∷ []
 
 -- what the words of a record do
-abbrev pub no_keys_by_words : Parsed → List NoKey
-no_keys_by_words p =
-    flat_map no_key_by (judged_in p.preprocessor_args)
-    ++ flat_map no_key_by (judged_in p.common_args)
-    ++ flat_map no_key_by (judged_in p.unhashed_args)
-    ++ flat_map no_key_by (judged_in p.dependency_args)
+abbrev pub no_keys_by_words : Lexicon → Parsed → List NoKey
+no_keys_by_words l p =
+    flat_map no_key_by (judged_in l p.preprocessor_args)
+    ++ flat_map no_key_by (judged_in l p.common_args)
+    ++ flat_map no_key_by (judged_in l p.unhashed_args)
+    ++ flat_map no_key_by (judged_in l p.dependency_args)
 
-abbrev pub no_keys : Compiler → RunWords → Parsed → List NoKey
-no_keys c words p =
+abbrev pub no_keys : Lexicon → Compiler → RunWords → Parsed → List NoKey
+no_keys l c words p =
     hazards words
-    ++ no_keys_by_words p
+    ++ no_keys_by_words l p
     ++ map (no_key WritesUnnamed) (unnamed c p)
     ++ map (no_key OutputIsNoFile) (filter is_no_file (made_paths p))
     ++ map (no_key OnePathTwice) (repeated (made_paths p))
@@ -202,8 +203,8 @@ pub record Key : Type 0 where
   pub parts : List Part
   pub direct : List Direct
 
-abbrev pub whole_key : Compiler → (environment : List (List ℕ × List ℕ)) → RunWords → Parsed → Key
-whole_key c environment words p = record { is_shown = shows c p; parts = key_of c environment words p; direct = directs c p }
+abbrev pub whole_key : Lexicon → Compiler → (environment : List (List ℕ × List ℕ)) → RunWords → Parsed → Key
+whole_key l c environment words p = record { is_shown = shows l c p; parts = key_of l c environment words p; direct = directs l c p }
 
 pub data Keeping : Type 0 where
   under : (key : Key) → Keeping
@@ -214,8 +215,8 @@ keeping_by [] key = under key
 keeping_by (why ∷ others) key = not_kept (why ∷ others)
 
 -- its key, or why there is none
-abbrev pub keeping_of : Compiler → (environment : List (List ℕ × List ℕ)) → RunWords → Parsed → Keeping
-keeping_of c environment words p = keeping_by (no_keys c words p) (whole_key c environment words p)
+abbrev pub keeping_of : Lexicon → Compiler → (environment : List (List ℕ × List ℕ)) → RunWords → Parsed → Keeping
+keeping_of l c environment words p = keeping_by (no_keys l c words p) (whole_key l c environment words p)
 
 -- ---- rows
 

@@ -8,6 +8,7 @@ use Rattle.scl_description.specs.Rows.{IsRow, row_text, rows_in, rows_of, rests_
 use Rattle.scl_description.specs.Records.{first_field, output_back}
 use Rattle.scl_reader.specs.declared.compiler.Compiler.{Compiler}
 use Rattle.scl_reader.specs.Answers.{command_by}
+use Rattle.scl_catalogue.specs.Lookup.{Lexicon}
 use Rattle.scl_key.specs.declared.part.Ask.{Ask}
 use Rattle.scl_key.specs.declared.part.Ask.TheVariants as asks
 use Rattle.scl_key.specs.Directs.{Direct, env, search, first, named, refuse_if_read, direct_fields, directs, may_direct}
@@ -51,6 +52,8 @@ key_in text = map part_back (rests_at (rows_in text) (codes "key"))
 abbrev pub KeysReadBack : Type 0
 KeysReadBack = (key : List Part) → Each IsRow (rows_of (key_entries key)) → key_in (entries_text (key_entries key)) ≡ key
 
+-- Each compiler's words are judged by a lexicon, `g`. The laws hold for any.
+
 -- ---- keys decide commands
 
 -- a record with the words of the preprocessor of another
@@ -67,22 +70,22 @@ abbrev pub ran : Compiler → RunWords → Parsed → Option (List (List ℕ))
 ran c words p = ran_with words (command_by c p)
 
 -- two command lines, each of a compiler, with an environment and what is run of it, are one except for words that runs show
-pub record AreOne (a b : Compiler) (e f : List (List ℕ × List ℕ)) (r s : RunWords) (p q : Parsed) : Type 0 where
+pub record AreOne (g : Compiler → Lexicon) (a b : Compiler) (e f : List (List ℕ × List ℕ)) (r s : RunWords) (p q : Parsed) : Type 0 where
   pub compiler_is : a ≡ b
   pub environment_is : flat_pairs e ≡ flat_pairs f
   pub run_words_are : run_words_fields r ≡ run_words_fields s
-  pub record_is : key_record a p ≡ key_record a q
+  pub record_is : key_record (g a) a p ≡ key_record (g a) a q
   pub outputs_are : p.outputs ≡ q.outputs
   pub hash_files_are : p.extra_hash_files ≡ q.extra_hash_files
-  pub shows_is : shows a p ≡ shows b q
+  pub shows_is : shows (g a) a p ≡ shows (g b) b q
   pub command_is : command_by a p ≡ command_by a (with_shown_of p q)
   pub what_runs_is : ran a r p ≡ ran a s (with_shown_of p q)
-  pub words_are_unless_shown : shows a p ≡ false → p.preprocessor_args ≡ q.preprocessor_args
+  pub words_are_unless_shown : shows (g a) a p ≡ false → p.preprocessor_args ≡ q.preprocessor_args
 
 -- Two command lines of which the same is stated are by one compiler, and have one record and command, except for words that
 -- runs show: for all eight compilers.
 abbrev pub KeysDecideCommands : Type 0
-KeysDecideCommands = (a b : Compiler) (e f : List (List ℕ × List ℕ)) (r s : RunWords) (p q : Parsed) → told a e r p ≡ told b f s q → AreOne a b e f r s p q
+KeysDecideCommands = (g : Compiler → Lexicon) (a b : Compiler) (e f : List (List ℕ × List ℕ)) (r s : RunWords) (p q : Parsed) → told (g a) a e r p ≡ told (g b) b f s q → AreOne g a b e f r s p q
 
 -- ---- hits are right
 
@@ -103,18 +106,19 @@ abbrev pub material : World → Compiler → List Part → List (List ℕ)
 material v c key = flat_map (λ part. row_text (hashed part) ∷ answered v c part) key
 
 -- two compilations by one compiler, each in its world, are alike as far as a key says
-pub record AreAlike (v w : World) (c : Compiler) (e f : List (List ℕ × List ℕ)) (r s : RunWords) (p q : Parsed) : Type 0 where
+pub record AreAlike (g : Compiler → Lexicon) (v w : World) (c : Compiler) (e f : List (List ℕ × List ℕ)) (r s : RunWords) (p q : Parsed) : Type 0 where
   pub environment_is : flat_pairs e ≡ flat_pairs f
   pub run_words_are : run_words_fields r ≡ run_words_fields s
-  pub record_is : key_record c p ≡ key_record c q
-  pub words_are_unless_shown : shows c p ≡ false → p.preprocessor_args ≡ q.preprocessor_args
-  pub answers_are : answers v c (key_of c e r p) ≡ answers w c (key_of c f s q)
+  pub record_is : key_record (g c) c p ≡ key_record (g c) c q
+  pub words_are_unless_shown : shows (g c) c p ≡ false → p.preprocessor_args ≡ q.preprocessor_args
+  pub answers_are : answers v c (key_of (g c) c e r p) ≡ answers w c (key_of (g c) c f s q)
 
--- Compilers are well-behaved in two worlds: of compilations that are alike they make the same files. This is what is assumed of them.
-abbrev pub AreWellBehaved : World → World → Type 0
-AreWellBehaved v w =
+-- Compilers are well-behaved in two worlds: of compilations that are alike they make the same files. This is what is assumed of them,
+-- and of the lexicons: what these say of a word is true.
+abbrev pub AreWellBehaved : (Compiler → Lexicon) → World → World → Type 0
+AreWellBehaved g v w =
     (c : Compiler) (e f : List (List ℕ × List ℕ)) (r s : RunWords) (p q : Parsed)
-    → AreAlike v w c e f r s p q
+    → AreAlike g v w c e f r s p q
     → v.outcome c (flat_pairs e) (ran c r p) ≡ w.outcome c (flat_pairs f) (ran c s q)
 
 -- each row of what is hashed of a key can be written
@@ -122,16 +126,16 @@ abbrev pub CanBeHashed : List Part → Type 0
 CanBeHashed key = Each (λ part. IsRow (hashed part)) key
 
 -- where what is hashed is one, so are the outcomes
-abbrev pub AHitIsRight : World → World → Type 0
-AHitIsRight v w =
+abbrev pub AHitIsRight : (Compiler → Lexicon) → World → World → Type 0
+AHitIsRight g v w =
     (a b : Compiler) (e f : List (List ℕ × List ℕ)) (r s : RunWords) (p q : Parsed)
-    → CanBeHashed (key_of a e r p) → CanBeHashed (key_of b f s q)
-    → material v a (key_of a e r p) ≡ material w b (key_of b f s q)
+    → CanBeHashed (key_of (g a) a e r p) → CanBeHashed (key_of (g b) b f s q)
+    → material v a (key_of (g a) a e r p) ≡ material w b (key_of (g b) b f s q)
     → v.outcome a (flat_pairs e) (ran a r p) ≡ w.outcome b (flat_pairs f) (ran b s q)
 
 -- A hit gives what a compilation would give: what was made in one world is what would be made in the other.
 abbrev pub HitsAreRight : Type 0
-HitsAreRight = (v w : World) → AreWellBehaved v w → AHitIsRight v w
+HitsAreRight = (g : Compiler → Lexicon) (v w : World) → AreWellBehaved g v w → AHitIsRight g v w
 
 -- ---- direct mode
 
@@ -180,35 +184,36 @@ Listing = Compiler → List Part → List Direct → List (List ℕ)
 
 -- Of two worlds and what their lists have: where direct mode may be used, the first key and the list decide all answers. This is
 -- what is assumed of compilers, and of how a cache makes lists.
-abbrev pub AreDecided : World → World → Listing → Listing → Type 0
-AreDecided v w l m =
+abbrev pub AreDecided : (Compiler → Lexicon) → World → World → Listing → Listing → Type 0
+AreDecided g v w l m =
     (c : Compiler) (e : List (List ℕ × List ℕ)) (r : RunWords) (p : Parsed)
-    → may_direct c p ≡ true
-    → early v c (key_of c e r p) ≡ early w c (key_of c e r p)
-    → valued_rows v c (directs c p) ≡ valued_rows w c (directs c p)
-    → l c (key_of c e r p) (directs c p) ≡ m c (key_of c e r p) (directs c p)
-    → answers v c (key_of c e r p) ≡ answers w c (key_of c e r p)
+    → may_direct (g c) c p ≡ true
+    → early v c (key_of (g c) c e r p) ≡ early w c (key_of (g c) c e r p)
+    → valued_rows v c (directs (g c) c p) ≡ valued_rows w c (directs (g c) c p)
+    → l c (key_of (g c) c e r p) (directs (g c) c p) ≡ m c (key_of (g c) c e r p) (directs (g c) c p)
+    → answers v c (key_of (g c) c e r p) ≡ answers w c (key_of (g c) c e r p)
 
 -- each row of a first key can be written
 abbrev pub CanBeFirst : List Part → List Direct → Type 0
 CanBeFirst key rows = Each (λ part. IsRow (fields part)) key × Each (λ row. IsRow (direct_fields row)) rows
 
 -- a key that was found by its first key and a list is that which runs would give, and what was kept under it is what would be made
-pub record IsRight (v w : World) (a b : Compiler) (e f : List (List ℕ × List ℕ)) (r s : RunWords) (p q : Parsed) : Type 0 where
-  pub key_is : material v a (key_of a e r p) ≡ material w b (key_of b f s q)
+pub record IsRight (g : Compiler → Lexicon) (v w : World) (a b : Compiler) (e f : List (List ℕ × List ℕ)) (r s : RunWords) (p q : Parsed) : Type 0 where
+  pub key_is : material v a (key_of (g a) a e r p) ≡ material w b (key_of (g b) b f s q)
   pub outcome_is : v.outcome a (flat_pairs e) (ran a r p) ≡ w.outcome b (flat_pairs f) (ran b s q)
 
-abbrev pub ADirectHitIsRight : World → World → Listing → Listing → Type 0
-ADirectHitIsRight v w l m =
+abbrev pub ADirectHitIsRight : (Compiler → Lexicon) → World → World → Listing → Listing → Type 0
+ADirectHitIsRight g v w l m =
     (a b : Compiler) (e f : List (List ℕ × List ℕ)) (r s : RunWords) (p q : Parsed)
-    → may_direct a p ≡ true
-    → CanBeHashed (key_of a e r p) → CanBeHashed (key_of b f s q)
-    → CanBeFirst (key_of a e r p) (directs a p) → CanBeFirst (key_of b f s q) (directs b q)
-    → early v a (key_of a e r p) ≡ early w b (key_of b f s q)
-    → valued_rows v a (directs a p) ≡ valued_rows w b (directs b q)
-    → l a (key_of a e r p) (directs a p) ≡ m b (key_of b f s q) (directs b q)
-    → IsRight v w a b e f r s p q
+    → may_direct (g a) a p ≡ true
+    → CanBeHashed (key_of (g a) a e r p) → CanBeHashed (key_of (g b) b f s q)
+    → CanBeFirst (key_of (g a) a e r p) (directs (g a) a p) → CanBeFirst (key_of (g b) b f s q) (directs (g b) b q)
+    → early v a (key_of (g a) a e r p) ≡ early w b (key_of (g b) b f s q)
+    → valued_rows v a (directs (g a) a p) ≡ valued_rows w b (directs (g b) b q)
+    → l a (key_of (g a) a e r p) (directs (g a) a p) ≡ m b (key_of (g b) b f s q) (directs (g b) b q)
+    → IsRight g v w a b e f r s p q
 
 -- Direct hits are right: where the first key is one, and a list is as it was, the key is that which runs would give.
 abbrev pub DirectHitsAreRight : Type 0
-DirectHitsAreRight = (v w : World) (l m : Listing) → AreWellBehaved v w → AreDecided v w l m → ADirectHitIsRight v w l m
+DirectHitsAreRight =
+    (g : Compiler → Lexicon) (v w : World) (l m : Listing) → AreWellBehaved g v w → AreDecided g v w l m → ADirectHitIsRight g v w l m

@@ -6,8 +6,9 @@ use Rattle.scl_files.specs.Paths.{with_extension}
 use Rattle.scl_text.specs.Commands.{object_of}
 use Rattle.scl_text.specs.Records.{Parsed}
 use Rattle.scl_reader.specs.declared.compiler.Compiler.{Compiler}
-use Rattle.scl_key.specs.declared.effect.Effect.{Effect}
-use Rattle.scl_key.specs.declared.effect.Effect.TheVariants as effects
+use Rattle.scl_catalogue.specs.Lookup.{Lexicon}
+use Rattle.scl_catalogue.specs.declared.entry.Doing.{Doing}
+use Rattle.scl_catalogue.specs.declared.entry.Doing.TheVariants as doings
 use Rattle.scl_key.specs.Effects.{Judged, is_comma, is_plain, judged_in, pieces, until}
 use Rattle.scl_key.specs.Families.{is_clang}
 use Rattle.scl_key.specs.Given.{headers, macro_files}
@@ -33,20 +34,20 @@ is_path (byte ∷ bytes) = not (nat_eq byte 45)
 
 -- the paths that a word may name: none of a word that is known to read nothing
 abbrev pub paths_by : Judged → List (List ℕ)
-paths_by j = if is_plain j.effect then [] else filter is_path (map without_at (values j.word))
+paths_by j = if is_plain j.doing then [] else filter is_path (map without_at (values j.word))
 
 -- the profile that a word makes the compiler read, if it has a name that the word does not say
-abbrev pub profile_by : Option (List ℕ) → Effect → List (List ℕ)
-profile_by object effects.Plain = []
-profile_by object effects.Exact = []
-profile_by object effects.Macros = []
-profile_by object effects.WritesUnnamed = []
-profile_by object effects.TextHides = []
-profile_by object effects.ReadsCounts = map (λ path. with_extension path (codes "gcda")) (option_to_list object)
-profile_by object effects.ReadsSamples = codes "fbdata.afdo" ∷ []
+abbrev pub profile_by : Option (List ℕ) → Doing → List (List ℕ)
+profile_by object doings.Plain = []
+profile_by object doings.Exact = []
+profile_by object doings.Macros = []
+profile_by object doings.WritesUnnamed = []
+profile_by object doings.TextHides = []
+profile_by object doings.ReadsCounts = map (λ path. with_extension path (codes "gcda")) (option_to_list object)
+profile_by object doings.ReadsSamples = codes "fbdata.afdo" ∷ []
 
-abbrev pub profiles : Parsed → List (List ℕ)
-profiles p = flat_map (λ j. profile_by (object_of p) j.effect) (judged_in p.common_args)
+abbrev pub profiles : Lexicon → Parsed → List (List ℕ)
+profiles l p = flat_map (λ j. profile_by (object_of p) j.doing) (judged_in l p.common_args)
 
 -- what clang may read in the place of a header that is included first
 abbrev pub precompiled : List ℕ → List (List ℕ)
@@ -56,6 +57,6 @@ abbrev pub precompiled_headers : Compiler → Parsed → List (List ℕ)
 precompiled_headers compiler p = if is_clang compiler then flat_map precompiled (headers p) else []
 
 -- all files that may be read, and need not be there
-abbrev pub files_perhaps : Compiler → Parsed → List (List ℕ)
-files_perhaps compiler p =
-    flat_map paths_by (judged_in p.common_args) ++ flat_map paths_by (judged_in p.unhashed_args) ++ macro_files p ++ profiles p ++ precompiled_headers compiler p
+abbrev pub files_perhaps : Lexicon → Compiler → Parsed → List (List ℕ)
+files_perhaps l compiler p =
+    flat_map paths_by (judged_in l p.common_args) ++ flat_map paths_by (judged_in l p.unhashed_args) ++ macro_files p ++ profiles l p ++ precompiled_headers compiler p

@@ -10,7 +10,6 @@ use Rattle.scl_text.specs.declared.language.Language.TheVariants as languages
 use Rattle.scl_reader.specs.declared.compiler.Compiler.{Compiler}
 use Rattle.scl_reader.specs.Answers.{command_by, runs_by}
 use Rattle.scl_key.specs.Families.{has_plan, is_gnu}
-use Rattle.scl_key.specs.Given.{has_macros}
 use Rattle.scl_key.specs.Made.{handed_file, joined_file}
 use Rattle.scl_key.specs.Parts.{Part, plan, run, run_else}
 
@@ -91,8 +90,9 @@ noted_common words = if list_any (λ word. is_some (joined_file word)) words the
 
 -- ---- the runs
 
-abbrev pub macro_words : Parsed → List (List ℕ)
-macro_words p = if is_header p.language || has_macros p then codes "-dD" ∷ [] else []
+-- the words by which they print macros, where these come into the outcome
+abbrev pub macro_words : (macros : Bool) → Parsed → List (List ℕ)
+macro_words macros p = if is_header p.language || macros then codes "-dD" ∷ [] else []
 
 -- the record of the runs of Gcc and Clang: they write no file but that of dependencies, and print macros where these count
 abbrev pub noting_record : (macros : List (List ℕ)) → Parsed → Parsed
@@ -118,13 +118,13 @@ silent_record p = record p { dependency_args = []; depfile = None }
 abbrev pub marked_runs : Compiler → Parsed → List (List (List ℕ))
 marked_runs compiler p = runs_by compiler true false true p
 
-abbrev pub key_runs : Compiler → Parsed → List (List (List ℕ))
-key_runs compiler p = if is_gnu compiler then marked_runs compiler (shown_record (noting_record (macro_words p) p)) else marked_runs compiler (silent_record p)
+abbrev pub key_runs : (macros : Bool) → Compiler → Parsed → List (List (List ℕ))
+key_runs macros compiler p = if is_gnu compiler then marked_runs compiler (shown_record (noting_record (macro_words macros p) p)) else marked_runs compiler (silent_record p)
 
 -- where a header of which no text is left is named in its place
 abbrev pub runs_else : Compiler → Parsed → List (List (List ℕ))
 runs_else compiler p =
     if is_gnu compiler then (if list_any (λ word. bytes_eq word hides_header) p.common_args then marked_runs compiler (noting_record [] p) else []) else []
 
-abbrev pub run_parts : Compiler → Parsed → List Part
-run_parts compiler p = map run (key_runs compiler p) ++ map run_else (runs_else compiler p)
+abbrev pub run_parts : (macros : Bool) → Compiler → Parsed → List Part
+run_parts macros compiler p = map run (key_runs macros compiler p) ++ map run_else (runs_else compiler p)

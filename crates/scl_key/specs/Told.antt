@@ -7,6 +7,7 @@ use Rattle.scl_description.specs.Rows.{Entry, entry_rows}
 use Rattle.scl_description.specs.Records.{first_field, record_entries}
 use Rattle.scl_reader.specs.declared.compiler.Compiler.{Compiler}
 use Rattle.scl_reader.specs.Compilers.{name_of}
+use Rattle.scl_catalogue.specs.Lookup.{Lexicon}
 use Rattle.scl_key.specs.Given.{shows}
 use Rattle.scl_key.specs.Parts.{Part, is}
 
@@ -20,9 +21,9 @@ pub data RunWords : Type 0 where
   hazardous : (hazard : List ℕ) → RunWords
 
 -- the record, less what runs show, and what no command takes
-abbrev pub key_record : Compiler → Parsed → Parsed
-key_record compiler p = record p {
-  preprocessor_args = if shows compiler p then [] else p.preprocessor_args;
+abbrev pub key_record : Lexicon → Compiler → Parsed → Parsed
+key_record l compiler p = record p {
+  preprocessor_args = if shows l compiler p then [] else p.preprocessor_args;
   extra_dist_files = [];
   too_hard_for_preprocessor_cache_mode = None;
 }
@@ -51,8 +52,8 @@ facts_shown compiler environment words is_shown =
     ∷ is (codes "environment" ∷ flat_pairs environment)
     ∷ []
 
-abbrev pub facts : Compiler → (environment : List (List ℕ × List ℕ)) → RunWords → Parsed → List Part
-facts compiler environment words p = facts_shown compiler environment words (shows compiler p)
+abbrev pub facts : Lexicon → Compiler → (environment : List (List ℕ × List ℕ)) → RunWords → Parsed → List Part
+facts l compiler environment words p = facts_shown compiler environment words (shows l compiler p)
 
 -- the names of rows that a key leaves out
 abbrev pub is_left_out : Bool → List ℕ → Bool
@@ -70,5 +71,5 @@ abbrev pub told_entries : List Entry → List Part
 told_entries entries = flat_map told_entry entries
 
 -- the parts that are facts
-abbrev pub told : Compiler → (environment : List (List ℕ × List ℕ)) → RunWords → Parsed → List Part
-told compiler environment words p = facts compiler environment words p ++ told_entries (record_entries (key_record compiler p))
+abbrev pub told : Lexicon → Compiler → (environment : List (List ℕ × List ℕ)) → RunWords → Parsed → List Part
+told l compiler environment words p = facts l compiler environment words p ++ told_entries (record_entries (key_record l compiler p))

@@ -7,17 +7,18 @@ ghost use Rattle.scl_text.specs.Runs.{runs_of};
 ghost use Rattle.scl_description.specs.Rows.{entry_rows};
 ghost use Rattle.scl_description.specs.Rows.{rows_of as rows_told};
 ghost use Rattle.scl_description.specs.Takers.{Adds};
-ghost use Rattle.scl_key.specs.Directs.{brought, direct_entries, direct_entry, direct_variables, directs, directs_if, first, implied, is_quiet, is_searched, is_value, may_direct, named, names_sources, naming, refuse_if_read, run_fronts, search, search_record, search_words, unseen};
+ghost use Rattle.scl_catalogue.specs.Views.{lexicon_of};
+ghost use Rattle.scl_key.specs.Directs.{brought, direct_entries, direct_entry, direct_variables, directs, directs_if, first, implied, is_quiet, is_searched, is_value, may_direct, named, names_sources, naming, refuse_if_read, search, search_record, search_words, unseen};
 ghost use Rattle.scl_key.specs.Directs.{env as env_asked};
-ghost use Rattle.scl_key.specs.Effects.{judged, judged_in, rows_of};
+ghost use Rattle.scl_key.specs.Effects.{judged_in};
 ghost use Rattle.scl_key.specs.Given.{given_in, values_among};
 ghost use Rattle.scl_key.specs.GivenViews.{all_given};
-ghost use Rattle.scl_key.specs.JudgedViews.{all_judged};
+ghost use Rattle.scl_key.specs.JudgedViews.{all_judged, judged_of};
 ghost use Rattle.scl_key.specs.Runs.{marked_runs};
 ghost use Rattle.scl_key.specs.Views.{direct_of, directs_of};
 ghost use Rattle.scl_key.specs.declared.given.Brings.TheVariants as Brings;
 
-use crate::effect::{Effect, Judged, front_effect};
+use crate::effect::{Judged, is_plain};
 use crate::family::is_gnu;
 use crate::given::{
     Brings, Given, Known, all_flags, all_known, awaited_by, awaited_next, given_by, is_text,
@@ -25,6 +26,8 @@ use crate::given::{
 };
 use crate::reads::is_path;
 use crate::runs::{HIDES_HEADER, is_among, is_assembler, marked_runs};
+use crate::told::Line;
+use scl_catalogue::Lexicon;
 use scl_description::{TakesRows, tell_row};
 use scl_gnu::gcc::without_output_files;
 use scl_reader::Compiler;
@@ -49,44 +52,6 @@ pub enum Direct {
     /// A pattern that no source may have: if one has it, no list is stored.
     RefuseIfRead(&'static str),
 }
-
-/// Beginnings of words that are not plain, and what they do in a run of the preprocessor: it reads nothing more because of them
-/// (`Plain`), or it may (`Exact`). The first with which a word begins says.
-static RUN_FRONTS: [(&'static str, Effect); 33] = [
-    ("-g", Effect::Plain),
-    ("-Wa,", Effect::Plain),
-    ("-Werror", Effect::Plain),
-    ("-Wp,-MD,", Effect::Plain),
-    ("-Wp,-MMD,", Effect::Plain),
-    ("-fmodul", Effect::Exact),
-    ("-fimplicit-modul", Effect::Exact),
-    ("-fprebuilt-modul", Effect::Exact),
-    ("-fbuiltin-modul", Effect::Exact),
-    ("-fsystem-modul", Effect::Exact),
-    ("-fplugin", Effect::Exact),
-    ("-fpass-plugin", Effect::Exact),
-    ("-fapinotes", Effect::Exact),
-    ("-fpch", Effect::Exact),
-    ("-fms-", Effect::Exact),
-    ("-fembed-", Effect::Exact),
-    ("-finclude", Effect::Exact),
-    ("-f", Effect::Plain),
-    ("-module", Effect::Exact),
-    ("-m", Effect::Plain),
-    ("--param", Effect::Plain),
-    ("--target=", Effect::Plain),
-    ("-target", Effect::Plain),
-    ("--sysroot", Effect::Plain),
-    ("-stdlib=", Effect::Plain),
-    ("--gcc-toolchain=", Effect::Plain),
-    ("-arch", Effect::Plain),
-    ("-Xclang", Effect::Plain),
-    ("-Xassembler", Effect::Plain),
-    ("-pedantic-errors", Effect::Plain),
-    ("-Qunused-arguments", Effect::Plain),
-    ("-trigraphs", Effect::Plain),
-    ("-undef", Effect::Plain),
-];
 
 /// Variables by which a run reads more, or another time.
 static VARIABLES: [&'static str; 6] = [
@@ -119,13 +84,6 @@ static UNSEEN: [&'static str; 10] = [
     "define[^!-~\n].*__has_include(_next)?[^!-~\n]*([!-')-~]|$)",
 ];
 
-#[tactic(auto, unfolding(crate::specs::Directs::run_fronts))]
-fn run_fronts() -> &'static [(&'static str, Effect)]
-    ensures { rows_of result.now ≡ run_fronts }
-{
-    &RUN_FRONTS
-}
-
 fn variables() -> &'static [&'static str]
     ensures { map (λ name. name.now) result.now ≡ direct_variables }
 {
@@ -153,22 +111,18 @@ fn is_value(word: &[u8]) -> bool
     is_path(word) && !word.starts_with(b"@")
 }
 
-/// Whether a run reads nothing more because of a word with this effect.
-fn is_quiet(effect: Effect, word: &[u8]) -> bool
-    ensures { result ≡ is_quiet (judged word.now effect) }
+/// Whether a run reads nothing more because of the word.
+fn is_quiet(lexicon: &Lexicon<'_>, one: &Judged<'_>) -> bool
+    ensures { result ≡ is_quiet (lexicon_of lexicon.now) (judged_of one.now) }
 {
-    effect.is_plain()
-        || is_value(word)
-        || front_effect(run_fronts(), word)
-            .unwrap_or(Effect::Exact)
-            .is_plain()
+    is_plain(one.doing) || is_value(one.word) || is_plain(lexicon.running_of(one.word))
 }
 
-fn are_quiet(words: &[Judged<'_>]) -> bool
-    ensures { result ≡ list_all is_quiet (all_judged words.now) }
+fn are_quiet(lexicon: &Lexicon<'_>, words: &[Judged<'_>]) -> bool
+    ensures { result ≡ list_all (is_quiet (lexicon_of lexicon.now)) (all_judged words.now) }
 {
     for one in words {
-        if !is_quiet(one.effect, one.word) {
+        if !is_quiet(lexicon, one) {
             return false;
         }
     }
@@ -183,16 +137,16 @@ fn names_sources(language: Language) -> bool
 }
 
 /// Whether the files that its markers name, and those that stand where it searches, are all that a run reads.
-fn may_direct(compiler: Compiler, known: &Known<'_>, parsed: &ParsedArguments) -> bool
-    requires common { all_judged known.now.common.items ≡ judged_in (parsed_of parsed.now).common_args }
-    requires given { all_given known.now.given.items ≡ given_in (parsed_of parsed.now).preprocessor_args }
-    ensures { result ≡ may_direct compiler (parsed_of parsed.now) }
+fn may_direct(line: &Line<'_, '_>, known: &Known<'_>) -> bool
+    requires common { all_judged known.now.common.items ≡ judged_in (lexicon_of line.now.lexicon) (parsed_of line.now.parsed.now).common_args }
+    requires given { all_given known.now.given.items ≡ given_in (parsed_of line.now.parsed.now).preprocessor_args }
+    ensures { result ≡ may_direct (lexicon_of line.now.lexicon) line.now.compiler (parsed_of line.now.parsed.now) }
 {
-    is_gnu(compiler)
-        && names_sources(parsed.language)
-        && !is_among(HIDES_HEADER, &parsed.common_args)
+    is_gnu(line.compiler)
+        && names_sources(line.parsed.language)
+        && !is_among(HIDES_HEADER, &line.parsed.common_args)
         && all_known(&known.given)
-        && are_quiet(&known.common)
+        && are_quiet(&line.lexicon, &known.common)
 }
 
 // ---- what is searched
@@ -351,18 +305,13 @@ fn all_directs(
 }
 
 /// What a cache needs in direct mode; nothing if the mode may not be used.
-pub(crate) fn directs(
-    alloc: Global,
-    compiler: Compiler,
-    known: &Known<'_>,
-    parsed: &ParsedArguments,
-) -> Mem<Vec<Direct>>
-    requires common { all_judged known.now.common.items ≡ judged_in (parsed_of parsed.now).common_args }
-    requires given { all_given known.now.given.items ≡ given_in (parsed_of parsed.now).preprocessor_args }
-    ensures { IfOk result (λ rows. directs_of rows.items ≡ directs compiler (parsed_of parsed.now)) }
+pub(crate) fn directs(alloc: Global, line: &Line<'_, '_>, known: &Known<'_>) -> Mem<Vec<Direct>>
+    requires common { all_judged known.now.common.items ≡ judged_in (lexicon_of line.now.lexicon) (parsed_of line.now.parsed.now).common_args }
+    requires given { all_given known.now.given.items ≡ given_in (parsed_of line.now.parsed.now).preprocessor_args }
+    ensures { IfOk result (λ rows. directs_of rows.items ≡ directs (lexicon_of line.now.lexicon) line.now.compiler (parsed_of line.now.parsed.now)) }
 {
-    if may_direct(compiler, known, parsed) {
-        all_directs(alloc, compiler, &known.given, parsed)
+    if may_direct(line, known) {
+        all_directs(alloc, line.compiler, &known.given, line.parsed)
     } else {
         Ok(Vec::new(alloc))
     }

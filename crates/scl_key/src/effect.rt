@@ -2,165 +2,13 @@
 ghost use Rattle.std.specs.Prelude.{◌≡◌, ◌++◌, map, IfOk, OnOk, false};
 ghost use Rattle.std.specs.List.{flat_map, list_any};
 ghost use Rattle.scl_values.specs.Words.{words_of};
-ghost use Rattle.scl_key.specs.Effects.{assembler_effect, assembler_words, behind, effect_of, front_effect, fronts, handed_words, is_comma, is_plain, judged_in, keeps_macros, known_effect, pieces, rows_of, until, whole_effect, whole_words, writes_unnamed};
+ghost use Rattle.scl_catalogue.specs.Views.{lexicon_of};
+ghost use Rattle.scl_key.specs.Effects.{assembler_words, behind, handed_words, is_comma, is_plain, judged_in, keeps_macros, pieces, until, writes_by_assembler};
 ghost use Rattle.scl_key.specs.JudgedViews.{all_judged};
 
+use scl_catalogue::{Doing, Lexicon};
 use scl_text::Mem;
 use std::alloc::Global;
-
-/// What a word does beside compiling (docs/RULES.md, Keys).
-#[derive(Debug, Clone, Copy, PartialEq, Eq)]
-pub enum Effect {
-    /// Nothing: it reads and writes no file, and the outcome has nothing of the sources that is missing from their preprocessed
-    /// text.
-    Plain,
-    /// The outcome may have what the text does not, as columns and comments; so of a word that no table has.
-    Exact,
-    /// The outcome has macros.
-    Macros,
-    /// A file is written that no row names.
-    WritesUnnamed,
-    /// The text is not that of what is compiled, or may not be: a precompiled header may be read in a place that no row names.
-    TextHides,
-    /// The counts of a profile are read that stand beside the object.
-    ReadsCounts,
-    /// The samples of a profile are read from a file of a fixed name.
-    ReadsSamples,
-}
-
-/// Words.
-static WHOLE_WORDS: [(&'static str, Effect); 56] = [
-    ("-ansi", Effect::Plain),
-    ("-c", Effect::Plain),
-    ("-pipe", Effect::Plain),
-    ("-pthread", Effect::Plain),
-    ("-pedantic", Effect::Plain),
-    ("-w", Effect::Plain),
-    ("-g0", Effect::Plain),
-    ("-m32", Effect::Plain),
-    ("-m64", Effect::Plain),
-    ("-fpic", Effect::Plain),
-    ("-fPIC", Effect::Plain),
-    ("-fpie", Effect::Plain),
-    ("-fPIE", Effect::Plain),
-    ("-fexceptions", Effect::Plain),
-    ("-frtti", Effect::Plain),
-    ("-fcommon", Effect::Plain),
-    ("-fomit-frame-pointer", Effect::Plain),
-    ("-fstrict-aliasing", Effect::Plain),
-    ("-ffunction-sections", Effect::Plain),
-    ("-fdata-sections", Effect::Plain),
-    ("-fsigned-char", Effect::Plain),
-    ("-funsigned-char", Effect::Plain),
-    ("-fwrapv", Effect::Plain),
-    ("-fshort-enums", Effect::Plain),
-    ("-fbuiltin", Effect::Plain),
-    ("-fpch-preprocess", Effect::Plain),
-    ("-funroll-loops", Effect::Plain),
-    ("-fasynchronous-unwind-tables", Effect::Plain),
-    ("-g3", Effect::Macros),
-    ("-ggdb3", Effect::Macros),
-    ("-gstabs3", Effect::Macros),
-    ("-gstabs+3", Effect::Macros),
-    ("-gxcoff3", Effect::Macros),
-    ("-gvms3", Effect::Macros),
-    ("-fdebug-macro", Effect::Macros),
-    ("-fbranch-probabilities", Effect::ReadsCounts),
-    ("-fvpt", Effect::ReadsCounts),
-    ("-fauto-profile", Effect::ReadsSamples),
-    ("-dM", Effect::TextHides),
-    ("-fpreprocessed-only", Effect::TextHides),
-    ("-M", Effect::TextHides),
-    ("-MM", Effect::TextHides),
-    ("-MG", Effect::TextHides),
-    ("-da", Effect::WritesUnnamed),
-    ("-dumpdir", Effect::WritesUnnamed),
-    ("-wrapper", Effect::WritesUnnamed),
-    ("-dependency-file", Effect::WritesUnnamed),
-    ("-dependency-dot", Effect::WritesUnnamed),
-    ("-header-include-file", Effect::WritesUnnamed),
-    ("-diagnostic-log-file", Effect::WritesUnnamed),
-    ("-serialize-diagnostic-file", Effect::WritesUnnamed),
-    ("-module-dependency-dir", Effect::WritesUnnamed),
-    ("-split-dwarf-output", Effect::WritesUnnamed),
-    ("-fstack-usage", Effect::WritesUnnamed),
-    ("-fdiagnostics-format=json-file", Effect::WritesUnnamed),
-    ("-fdiagnostics-format=sarif-file", Effect::WritesUnnamed),
-];
-
-/// Beginnings of words; the first that fits says.
-static FRONTS: [(&'static str, Effect); 39] = [
-    ("-D", Effect::Plain),
-    ("-U", Effect::Plain),
-    ("-O", Effect::Plain),
-    ("-std=", Effect::Plain),
-    ("-fvisibility", Effect::Plain),
-    ("-fdiagnostics-color", Effect::Plain),
-    ("-fstack-protector", Effect::Plain),
-    ("-fno-", Effect::Plain),
-    ("-march=", Effect::Plain),
-    ("-mtune=", Effect::Plain),
-    ("-mcpu=", Effect::Plain),
-    ("-msse", Effect::Plain),
-    ("-mavx", Effect::Plain),
-    ("--include", Effect::TextHides),
-    ("-iprefix", Effect::TextHides),
-    ("-iwithprefix", Effect::TextHides),
-    ("-Wp,-I", Effect::TextHides),
-    ("-Wp,-i", Effect::TextHides),
-    ("-Wa,", Effect::Exact),
-    ("-Wp,", Effect::Exact),
-    ("-Wl,", Effect::Exact),
-    ("-Werror", Effect::Exact),
-    ("-W", Effect::Plain),
-    ("-fcallgraph-info", Effect::WritesUnnamed),
-    ("-fprofile-update-dir", Effect::WritesUnnamed),
-    ("-gen-cdb-", Effect::WritesUnnamed),
-    ("-info-output-file=", Effect::WritesUnnamed),
-    ("-print-", Effect::WritesUnnamed),
-    ("-rewrite-map-file=", Effect::WritesUnnamed),
-    ("-save-stats", Effect::WritesUnnamed),
-    ("--save-stats", Effect::WritesUnnamed),
-    ("-save-temps", Effect::WritesUnnamed),
-    ("--save-temps", Effect::WritesUnnamed),
-    ("-MJ", Effect::WritesUnnamed),
-    ("-stats-file=", Effect::WritesUnnamed),
-    ("-clang:-M", Effect::WritesUnnamed),
-    ("/clang:-M", Effect::WritesUnnamed),
-    ("-clang:-save-temps", Effect::WritesUnnamed),
-    ("/clang:-save-temps", Effect::WritesUnnamed),
-];
-
-/// Beginnings of words for the assembler.
-static ASSEMBLER_FRONTS: [(&'static str, Effect); 3] = [
-    ("-o", Effect::WritesUnnamed),
-    ("-MD", Effect::WritesUnnamed),
-    ("--listing", Effect::WritesUnnamed),
-];
-
-/// What the first row says whose text is the word.
-fn whole_effect(rows: &[(&'static str, Effect)], word: &[u8]) -> Option<Effect>
-    ensures { result ≡ whole_effect (rows_of rows.now) word.now }
-{
-    for (text, effect) in rows {
-        if text.as_bytes() == word {
-            return Some(*effect);
-        }
-    }
-    None
-}
-
-/// What the first row says with whose text the word begins.
-pub(crate) fn front_effect(rows: &[(&'static str, Effect)], word: &[u8]) -> Option<Effect>
-    ensures { result ≡ front_effect (rows_of rows.now) word.now }
-{
-    for (text, effect) in rows {
-        if word.starts_with(text.as_bytes()) {
-            return Some(*effect);
-        }
-    }
-    None
-}
 
 /// Whether a text has a comma.
 pub(crate) fn has_comma(text: &[u8]) -> bool
@@ -174,94 +22,65 @@ pub(crate) fn has_comma(text: &[u8]) -> bool
     false
 }
 
-#[tactic(auto, unfolding(crate::specs::Effects::whole_words))]
-fn whole_words() -> &'static [(&'static str, Effect)]
-    ensures { rows_of result.now ≡ whole_words }
-{
-    &WHOLE_WORDS
-}
-
-#[tactic(auto, unfolding(crate::specs::Effects::fronts))]
-fn fronts() -> &'static [(&'static str, Effect)]
-    ensures { rows_of result.now ≡ fronts }
-{
-    &FRONTS
-}
-
-/// What a word does by the tables, if one of them has it.
-fn known_effect(word: &[u8]) -> Option<Effect>
-    ensures { result ≡ known_effect word.now }
-{
-    if let Some(effect) = whole_effect(whole_words(), word) {
-        return Some(effect);
-    }
-    front_effect(fronts(), word)
-}
-
-/// What a word does.
-pub(crate) fn effect_of(word: &[u8]) -> Effect
-    ensures { result ≡ effect_of word.now }
-{
-    known_effect(word).unwrap_or(Effect::Exact)
-}
-
 /// A word, and what it does.
 #[derive(Debug, Clone, Copy)]
 pub(crate) struct Judged<'a> {
     pub(crate) word: &'a [u8],
-    pub(crate) effect: Effect,
+    pub(crate) doing: Doing,
 }
 
-/// The words, each with what it does.
-pub(crate) fn judged_words<'a>(alloc: Global, words: &'a [Vec<u8>]) -> Mem<Vec<Judged<'a>>>
-    ensures { IfOk result (λ found. all_judged found.items ≡ judged_in (words_of words.now)) }
+/// The words, each with what a lexicon says that it does.
+pub(crate) fn judged_words<'a>(
+    alloc: Global,
+    lexicon: &Lexicon<'_>,
+    words: &'a [Vec<u8>],
+) -> Mem<Vec<Judged<'a>>>
+    ensures { IfOk result (λ found. all_judged found.items ≡ judged_in (lexicon_of lexicon.now) (words_of words.now)) }
 {
     let mut found = Vec::new(alloc);
     for word in words {
         found.push(Judged {
             word,
-            effect: effect_of(word),
+            doing: lexicon.doing_of(word),
         })?;
     }
     Ok(found)
 }
 
-/// What a word for the assembler does.
-pub(crate) fn assembler_effect(word: &[u8]) -> Effect
-    ensures { result ≡ assembler_effect word.now }
+/// Whether a word for the assembler makes it write a file that no row names.
+pub(crate) fn writes_by_assembler(word: &[u8]) -> bool
+    ensures { result ≡ writes_by_assembler word.now }
 {
-    front_effect(&ASSEMBLER_FRONTS, word).unwrap_or(Effect::Exact)
+    word.starts_with(b"-o") || word.starts_with(b"-MD") || word.starts_with(b"--listing")
 }
 
-impl Effect {
-    /// Whether it is none.
-    pub(crate) fn is_plain(self) -> bool
-        ensures { result ≡ is_plain self }
-    {
-        match self {
-            Effect::Plain => true,
-            Effect::Exact
-            | Effect::Macros
-            | Effect::WritesUnnamed
-            | Effect::TextHides
-            | Effect::ReadsCounts
-            | Effect::ReadsSamples => false,
-        }
+/// Whether nothing is done.
+pub(crate) fn is_plain(doing: Doing) -> bool
+    ensures { result ≡ is_plain doing }
+{
+    match doing {
+        Doing::Plain => true,
+        Doing::Exact
+        | Doing::Macros
+        | Doing::WritesUnnamed
+        | Doing::TextHides
+        | Doing::ReadsCounts
+        | Doing::ReadsSamples => false,
     }
+}
 
-    /// Whether macros come into the outcome.
-    pub(crate) fn keeps_macros(self) -> bool
-        ensures { result ≡ keeps_macros self }
-    {
-        match self {
-            Effect::Macros => true,
-            Effect::Plain
-            | Effect::Exact
-            | Effect::WritesUnnamed
-            | Effect::TextHides
-            | Effect::ReadsCounts
-            | Effect::ReadsSamples => false,
-        }
+/// Whether macros come into the outcome.
+pub(crate) fn keeps_macros(doing: Doing) -> bool
+    ensures { result ≡ keeps_macros doing }
+{
+    match doing {
+        Doing::Macros => true,
+        Doing::Plain
+        | Doing::Exact
+        | Doing::WritesUnnamed
+        | Doing::TextHides
+        | Doing::ReadsCounts
+        | Doing::ReadsSamples => false,
     }
 }
 

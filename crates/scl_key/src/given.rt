@@ -4,18 +4,19 @@ ghost use Rattle.std.specs.List.{list_all, list_any};
 ghost use Rattle.std.specs.Option.{option_map};
 ghost use Rattle.scl_values.specs.Words.{words_of};
 ghost use Rattle.scl_text.specs.Records.{parsed_of};
+ghost use Rattle.scl_catalogue.specs.Views.{lexicon_of};
 ghost use Rattle.scl_key.specs.Given.{awaited_by, awaited_next, flags, flags_of, given_by, given_else, given_in, given_last, given_now, given_unless, has_macros, is_known, is_lone_flag, is_text, joined_by, shows, shows_by, values_among};
 ghost use Rattle.scl_key.specs.GivenViews.{given_of, all_given};
 ghost use Rattle.scl_key.specs.Effects.{judged_in, keeps_macros};
 ghost use Rattle.scl_key.specs.JudgedViews.{all_judged};
 
-use crate::effect::{Judged, judged_words};
+use crate::effect::{Judged, judged_words, keeps_macros};
 use crate::family::is_gnu;
 use crate::made::handed_file;
+use crate::told::Line;
 use scl_reader::Compiler;
 use scl_text::Mem;
 use scl_text::language::Language;
-use scl_text::records::ParsedArguments;
 use std::alloc::Global;
 
 /// What a word of the preprocessor brings in.
@@ -261,10 +262,10 @@ pub(crate) fn is_text(language: Language) -> bool
 
 /// Whether one of these words brings macros into the outcome.
 fn has_macros(common: &[Judged<'_>]) -> bool
-    ensures { result ≡ list_any (λ j. keeps_macros j.effect) (all_judged common.now) }
+    ensures { result ≡ list_any (λ j. keeps_macros j.doing) (all_judged common.now) }
 {
     for one in common {
-        if one.effect.keeps_macros() {
+        if keeps_macros(one.doing) {
             return true;
         }
     }
@@ -303,21 +304,18 @@ pub(crate) struct Known<'a> {
     pub(crate) is_shown: bool,
 }
 
-/// What is known of a record. It is computed once for each key.
-pub(crate) fn known_of<'a>(
-    alloc: Global,
-    compiler: Compiler,
-    parsed: &'a ParsedArguments,
-) -> Mem<Known<'a>>
-    ensures common { IfOk result (λ known. all_judged known.common.items ≡ judged_in (parsed_of parsed.now).common_args) }
-    ensures given { IfOk result (λ known. all_given known.given.items ≡ given_in (parsed_of parsed.now).preprocessor_args) }
-    ensures macros { IfOk result (λ known. known.has_macros ≡ has_macros (parsed_of parsed.now)) }
-    ensures shown { IfOk result (λ known. known.is_shown ≡ shows compiler (parsed_of parsed.now)) }
+/// What is known of the record of a line. It is computed once for each key.
+pub(crate) fn known_of<'a>(alloc: Global, line: &Line<'a, '_>) -> Mem<Known<'a>>
+    ensures common { IfOk result (λ known. all_judged known.common.items ≡ judged_in (lexicon_of line.now.lexicon) (parsed_of line.now.parsed.now).common_args) }
+    ensures given { IfOk result (λ known. all_given known.given.items ≡ given_in (parsed_of line.now.parsed.now).preprocessor_args) }
+    ensures macros { IfOk result (λ known. known.has_macros ≡ has_macros (lexicon_of line.now.lexicon) (parsed_of line.now.parsed.now)) }
+    ensures shown { IfOk result (λ known. known.is_shown ≡ shows (lexicon_of line.now.lexicon) line.now.compiler (parsed_of line.now.parsed.now)) }
 {
-    let common = judged_words(alloc, &parsed.common_args)?;
+    let parsed = line.parsed;
+    let common = judged_words(alloc, &line.lexicon, &parsed.common_args)?;
     let given = given_in(alloc, &parsed.preprocessor_args)?;
     let macros = has_macros(&common);
-    let is_shown = shows(compiler, parsed.language, macros, &given);
+    let is_shown = shows(line.compiler, parsed.language, macros, &given);
     Ok(Known {
         common,
         given,

@@ -4,6 +4,7 @@ ghost use Rattle.std.specs.List.{list_all};
 ghost use Rattle.scl_values.specs.Words.{words_of};
 ghost use Rattle.scl_text.specs.Commands.{pairs_of};
 ghost use Rattle.scl_text.specs.Records.{parsed_of};
+ghost use Rattle.scl_catalogue.specs.Views.{lexicon_of};
 ghost use Rattle.scl_key.specs.Effects.{is_plain, judged_in};
 ghost use Rattle.scl_key.specs.Given.{given_in, has_macros, headers, shows};
 ghost use Rattle.scl_key.specs.GivenViews.{all_given};
@@ -17,7 +18,7 @@ ghost use Rattle.scl_key.specs.Views.{keeping_of as keeping_told};
 ghost use Rattle.scl_key.specs.declared.part.Ask.TheVariants as Ask;
 
 use crate::direct::{Direct, directs};
-use crate::effect::Judged;
+use crate::effect::{Judged, is_plain};
 use crate::family::{folder_variables, is_clang, is_gcc, unset_variables, variables};
 use crate::given::{Brings, Given, Known, known_of, values_among};
 use crate::made::made;
@@ -186,10 +187,10 @@ fn push_precompiled(
 }
 
 fn are_plain(words: &[Judged<'_>]) -> bool
-    ensures { result ≡ list_all (λ j. is_plain j.effect) (all_judged words.now) }
+    ensures { result ≡ list_all (λ j. is_plain j.doing) (all_judged words.now) }
 {
     for one in words {
-        if !one.effect.is_plain() {
+        if !is_plain(one.doing) {
             return false;
         }
     }
@@ -264,16 +265,21 @@ fn push_refusals(alloc: Global, parts: &mut Vec<Part>, parsed: &ParsedArguments)
 }
 
 /// Appends what is asked of variables and files.
-fn push_files(alloc: Global, parts: &mut Vec<Part>, line: &Line<'_>, known: &Known<'_>) -> Mem<()>
-    requires common { all_judged known.now.common.items ≡ judged_in (parsed_of line.now.parsed.now).common_args }
+fn push_files(
+    alloc: Global,
+    parts: &mut Vec<Part>,
+    line: &Line<'_, '_>,
+    known: &Known<'_>,
+) -> Mem<()>
+    requires common { all_judged known.now.common.items ≡ judged_in (lexicon_of line.now.lexicon) (parsed_of line.now.parsed.now).common_args }
     requires given { all_given known.now.given.items ≡ given_in (parsed_of line.now.parsed.now).preprocessor_args }
-    ensures { OnOk result (parts_of parts.new.items ≡ parts_of parts.old.items ++ file_parts line.now.compiler (run_words_of line.now.words) (parsed_of line.now.parsed.now)) }
+    ensures { OnOk result (parts_of parts.new.items ≡ parts_of parts.old.items ++ file_parts (lexicon_of line.now.lexicon) line.now.compiler (run_words_of line.now.words) (parsed_of line.now.parsed.now)) }
 {
     push_asked_variables(alloc, parts, Ask::Env, variables(line.compiler))?;
     push_asked_variables(alloc, parts, Ask::Unset, unset_variables(line.compiler))?;
     push_asked_each(alloc, parts, Ask::File, &line.parsed.extra_hash_files)?;
     push_asked_each(alloc, parts, Ask::File, response_files(line.words))?;
-    let paths = files_perhaps(alloc, line.compiler, known, line.parsed)?;
+    let paths = files_perhaps(alloc, line, known)?;
     push_asked_each(alloc, parts, Ask::Maybe, &paths)
 }
 
@@ -296,38 +302,42 @@ fn push_regular(
 fn push_texts(
     alloc: Global,
     parts: &mut Vec<Part>,
-    compiler: Compiler,
+    line: &Line<'_, '_>,
     known: &Known<'_>,
-    parsed: &ParsedArguments,
 ) -> Mem<()>
-    requires common { all_judged known.now.common.items ≡ judged_in (parsed_of parsed.now).common_args }
-    requires given { all_given known.now.given.items ≡ given_in (parsed_of parsed.now).preprocessor_args }
-    requires macros { known.now.has_macros ≡ has_macros (parsed_of parsed.now) }
-    requires shown { known.now.is_shown ≡ shows compiler (parsed_of parsed.now) }
-    ensures { OnOk result (parts_of parts.new.items ≡ parts_of parts.old.items ++ text_parts compiler (parsed_of parsed.now)) }
+    requires common { all_judged known.now.common.items ≡ judged_in (lexicon_of line.now.lexicon) (parsed_of line.now.parsed.now).common_args }
+    requires given { all_given known.now.given.items ≡ given_in (parsed_of line.now.parsed.now).preprocessor_args }
+    requires macros { known.now.has_macros ≡ has_macros (lexicon_of line.now.lexicon) (parsed_of line.now.parsed.now) }
+    requires shown { known.now.is_shown ≡ shows (lexicon_of line.now.lexicon) line.now.compiler (parsed_of line.now.parsed.now) }
+    ensures { OnOk result (parts_of parts.new.items ≡ parts_of parts.old.items ++ text_parts (lexicon_of line.now.lexicon) line.now.compiler (parsed_of line.now.parsed.now)) }
 {
-    push_runs(alloc, parts, compiler, known.has_macros, parsed)?;
-    push_precompiled(alloc, parts, compiler, &known.given, parsed)?;
+    push_runs(alloc, parts, line.compiler, known.has_macros, line.parsed)?;
+    push_precompiled(alloc, parts, line.compiler, &known.given, line.parsed)?;
     let text_is_enough = known.is_shown && are_plain(&known.common);
-    push_sources(alloc, parts, compiler, text_is_enough)?;
-    push_times(parts, compiler, parsed)?;
-    push_refusals(alloc, parts, parsed)
+    push_sources(alloc, parts, line.compiler, text_is_enough)?;
+    push_times(parts, line.compiler, line.parsed)?;
+    push_refusals(alloc, parts, line.parsed)
 }
 
 /// Appends the parts that ask.
-fn push_asking(alloc: Global, parts: &mut Vec<Part>, line: &Line<'_>, known: &Known<'_>) -> Mem<()>
-    requires common { all_judged known.now.common.items ≡ judged_in (parsed_of line.now.parsed.now).common_args }
+fn push_asking(
+    alloc: Global,
+    parts: &mut Vec<Part>,
+    line: &Line<'_, '_>,
+    known: &Known<'_>,
+) -> Mem<()>
+    requires common { all_judged known.now.common.items ≡ judged_in (lexicon_of line.now.lexicon) (parsed_of line.now.parsed.now).common_args }
     requires given { all_given known.now.given.items ≡ given_in (parsed_of line.now.parsed.now).preprocessor_args }
-    requires macros { known.now.has_macros ≡ has_macros (parsed_of line.now.parsed.now) }
-    requires shown { known.now.is_shown ≡ shows line.now.compiler (parsed_of line.now.parsed.now) }
-    ensures { OnOk result (parts_of parts.new.items ≡ parts_of parts.old.items ++ asked_parts line.now.compiler (run_words_of line.now.words) (parsed_of line.now.parsed.now)) }
+    requires macros { known.now.has_macros ≡ has_macros (lexicon_of line.now.lexicon) (parsed_of line.now.parsed.now) }
+    requires shown { known.now.is_shown ≡ shows (lexicon_of line.now.lexicon) line.now.compiler (parsed_of line.now.parsed.now) }
+    ensures { OnOk result (parts_of parts.new.items ≡ parts_of parts.old.items ++ asked_parts (lexicon_of line.now.lexicon) line.now.compiler (run_words_of line.now.words) (parsed_of line.now.parsed.now)) }
 {
     parts.push(Part::Directory)?;
     parts.push(Part::Compiler)?;
     push_plans(alloc, parts, line.compiler, line.parsed)?;
     push_files(alloc, parts, line, known)?;
     push_regular(alloc, parts, &known.given, line.parsed)?;
-    push_texts(alloc, parts, line.compiler, known, line.parsed)
+    push_texts(alloc, parts, line, known)
 }
 
 /// Appends the files that come out.
@@ -341,13 +351,18 @@ fn push_outputs(alloc: Global, parts: &mut Vec<Part>, outputs: &[Output]) -> Mem
 }
 
 /// The parts of a key, with these outputs.
-fn key_with(alloc: Global, line: &Line<'_>, known: &Known<'_>, outputs: &[Output]) -> Mem<Vec<Part>>
-    requires common { all_judged known.now.common.items ≡ judged_in (parsed_of line.now.parsed.now).common_args }
+fn key_with(
+    alloc: Global,
+    line: &Line<'_, '_>,
+    known: &Known<'_>,
+    outputs: &[Output],
+) -> Mem<Vec<Part>>
+    requires common { all_judged known.now.common.items ≡ judged_in (lexicon_of line.now.lexicon) (parsed_of line.now.parsed.now).common_args }
     requires given { all_given known.now.given.items ≡ given_in (parsed_of line.now.parsed.now).preprocessor_args }
-    requires macros { known.now.has_macros ≡ has_macros (parsed_of line.now.parsed.now) }
-    requires shown { known.now.is_shown ≡ shows line.now.compiler (parsed_of line.now.parsed.now) }
+    requires macros { known.now.has_macros ≡ has_macros (lexicon_of line.now.lexicon) (parsed_of line.now.parsed.now) }
+    requires shown { known.now.is_shown ≡ shows (lexicon_of line.now.lexicon) line.now.compiler (parsed_of line.now.parsed.now) }
     requires outputs { outputs_of outputs.now ≡ made (parsed_of line.now.parsed.now) }
-    ensures { IfOk result (λ key. parts_of key.items ≡ key_of line.now.compiler (pairs_of line.now.environment.now) (run_words_of line.now.words) (parsed_of line.now.parsed.now)) }
+    ensures { IfOk result (λ key. parts_of key.items ≡ key_of (lexicon_of line.now.lexicon) line.now.compiler (pairs_of line.now.environment.now) (run_words_of line.now.words) (parsed_of line.now.parsed.now)) }
 {
     let mut parts = told(alloc, line, known.is_shown)?;
     push_outputs(alloc, &mut parts, outputs)?;
@@ -356,16 +371,16 @@ fn key_with(alloc: Global, line: &Line<'_>, known: &Known<'_>, outputs: &[Output
 }
 
 /// The key, with these outputs, and what direct mode needs.
-fn kept(alloc: Global, line: &Line<'_>, known: &Known<'_>, outputs: &[Output]) -> Mem<Keeping>
-    requires common { all_judged known.now.common.items ≡ judged_in (parsed_of line.now.parsed.now).common_args }
+fn kept(alloc: Global, line: &Line<'_, '_>, known: &Known<'_>, outputs: &[Output]) -> Mem<Keeping>
+    requires common { all_judged known.now.common.items ≡ judged_in (lexicon_of line.now.lexicon) (parsed_of line.now.parsed.now).common_args }
     requires given { all_given known.now.given.items ≡ given_in (parsed_of line.now.parsed.now).preprocessor_args }
-    requires macros { known.now.has_macros ≡ has_macros (parsed_of line.now.parsed.now) }
-    requires shown { known.now.is_shown ≡ shows line.now.compiler (parsed_of line.now.parsed.now) }
+    requires macros { known.now.has_macros ≡ has_macros (lexicon_of line.now.lexicon) (parsed_of line.now.parsed.now) }
+    requires shown { known.now.is_shown ≡ shows (lexicon_of line.now.lexicon) line.now.compiler (parsed_of line.now.parsed.now) }
     requires outputs { outputs_of outputs.now ≡ made (parsed_of line.now.parsed.now) }
-    ensures { IfOk result (λ keeping. keeping_told keeping ≡ under (whole_key line.now.compiler (pairs_of line.now.environment.now) (run_words_of line.now.words) (parsed_of line.now.parsed.now))) }
+    ensures { IfOk result (λ keeping. keeping_told keeping ≡ under (whole_key (lexicon_of line.now.lexicon) line.now.compiler (pairs_of line.now.environment.now) (run_words_of line.now.words) (parsed_of line.now.parsed.now))) }
 {
     let parts = key_with(alloc, line, known, outputs)?;
-    let direct = directs(alloc, line.compiler, known, line.parsed)?;
+    let direct = directs(alloc, line, known)?;
     Ok(Keeping::Under(Key {
         is_shown: known.is_shown,
         parts,
@@ -376,16 +391,16 @@ fn kept(alloc: Global, line: &Line<'_>, known: &Known<'_>, outputs: &[Output]) -
 /// The key, with these outputs, or why there is none.
 fn kept_unless(
     alloc: Global,
-    line: &Line<'_>,
+    line: &Line<'_, '_>,
     known: &Known<'_>,
     outputs: &[Output],
 ) -> Mem<Keeping>
-    requires common { all_judged known.now.common.items ≡ judged_in (parsed_of line.now.parsed.now).common_args }
+    requires common { all_judged known.now.common.items ≡ judged_in (lexicon_of line.now.lexicon) (parsed_of line.now.parsed.now).common_args }
     requires given { all_given known.now.given.items ≡ given_in (parsed_of line.now.parsed.now).preprocessor_args }
-    requires macros { known.now.has_macros ≡ has_macros (parsed_of line.now.parsed.now) }
-    requires shown { known.now.is_shown ≡ shows line.now.compiler (parsed_of line.now.parsed.now) }
+    requires macros { known.now.has_macros ≡ has_macros (lexicon_of line.now.lexicon) (parsed_of line.now.parsed.now) }
+    requires shown { known.now.is_shown ≡ shows (lexicon_of line.now.lexicon) line.now.compiler (parsed_of line.now.parsed.now) }
     requires outputs { outputs_of outputs.now ≡ made (parsed_of line.now.parsed.now) }
-    ensures { IfOk result (λ keeping. keeping_told keeping ≡ keeping_of line.now.compiler (pairs_of line.now.environment.now) (run_words_of line.now.words) (parsed_of line.now.parsed.now)) }
+    ensures { IfOk result (λ keeping. keeping_told keeping ≡ keeping_of (lexicon_of line.now.lexicon) line.now.compiler (pairs_of line.now.environment.now) (run_words_of line.now.words) (parsed_of line.now.parsed.now)) }
 {
     let why = no_keys(alloc, line, &known.common, outputs)?;
     if !why.is_empty() {
@@ -395,25 +410,13 @@ fn kept_unless(
     Ok(keeping)
 }
 
-/// The key of a record that this compiler read, or why there is none: with the environment that its command gets, and the
-/// words that a cache runs at a miss (docs/RULES.md, Keys).
-pub fn key_of(
-    alloc: Global,
-    compiler: Compiler,
-    environment: &[(Vec<u8>, Vec<u8>)],
-    words: RunWords<'_>,
-    parsed: &ParsedArguments,
-) -> Mem<Keeping>
-    ensures { IfOk result (λ keeping. keeping_told keeping ≡ keeping_of compiler (pairs_of environment.now) (run_words_of words.entry) (parsed_of parsed.now)) }
+/// The key of a line's record, or why there is none: with the environment that its command gets, and the words that a cache runs
+/// at a miss (docs/RULES.md, Keys).
+pub fn key_of(alloc: Global, line: &Line<'_, '_>) -> Mem<Keeping>
+    ensures { IfOk result (λ keeping. keeping_told keeping ≡ keeping_of (lexicon_of line.now.lexicon) line.now.compiler (pairs_of line.now.environment.now) (run_words_of line.now.words) (parsed_of line.now.parsed.now)) }
 {
-    let known = known_of(alloc, compiler, parsed)?;
-    let outputs = made(alloc, parsed)?;
-    let line = Line {
-        compiler,
-        environment,
-        words,
-        parsed,
-    };
-    let keeping = kept_unless(alloc, &line, &known, &outputs)?;
+    let known = known_of(alloc, line)?;
+    let outputs = made(alloc, line.parsed)?;
+    let keeping = kept_unless(alloc, line, &known, &outputs)?;
     Ok(keeping)
 }

@@ -17,11 +17,10 @@ mod told;
 
 pub use direct::{Direct, tell_directs};
 pub use doings::with_effects;
-pub use effect::Effect;
 pub use family::{is_clang, is_gcc};
 pub use given::Brings;
 pub use key::{Keeping, Key, key_of};
 pub use made::made_beside;
 pub use no_key::{NoKey, Reason, tell_no_rows};
 pub use part::{Ask, Output, Part, tell_key};
-pub use told::RunWords;
+pub use told::{Line, RunWords};

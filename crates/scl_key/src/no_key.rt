@@ -5,19 +5,21 @@ ghost use Rattle.scl_values.specs.Words.{words_of};
 ghost use Rattle.scl_text.specs.Records.{parsed_of};
 ghost use Rattle.scl_description.specs.Rows.{entry_rows, row_entry, rows_of};
 ghost use Rattle.scl_description.specs.Takers.{Adds};
-ghost use Rattle.scl_key.specs.Effects.{assembler_effect, assembler_words, behind, judged, judged_in, suffixes, writes_unnamed};
-ghost use Rattle.scl_key.specs.JudgedViews.{all_judged};
+ghost use Rattle.scl_catalogue.specs.Views.{lexicon_of};
+ghost use Rattle.scl_key.specs.Effects.{assembler_words, behind, judged_in, suffixes, writes_by_assembler};
+ghost use Rattle.scl_key.specs.JudgedViews.{all_judged, judged_of};
 ghost use Rattle.scl_key.specs.Keys.{asks_for_rules, hazards, hides_file, is_no_file, lost_files, no_key, no_key_by, no_key_entry, no_keys, no_keys_by_words, reason_name, reason_of, repeated, unnamed, unnamed_by, view_of};
 ghost use Rattle.scl_key.specs.Made.{dependency_files, made};
 ghost use Rattle.scl_key.specs.Views.{no_key_of, no_keys_of, outputs_of, paths_of, run_words_of};
 ghost use Rattle.scl_key.specs.declared.no_key.Reason.TheVariants as Reason;
 
-use crate::effect::{Effect, Judged, assembler_effect, assembler_words, judged_words, push_behind};
+use crate::effect::{Judged, assembler_words, judged_words, push_behind, writes_by_assembler};
 use crate::family::notes_by_runs;
 use crate::made::{dependency_files, handed_file};
 use crate::part::Output;
 use crate::reads::push_values;
 use crate::told::{Line, RunWords};
+use scl_catalogue::{Doing, Lexicon};
 use scl_description::{TakesRows, tell_row};
 use scl_files::View;
 use scl_reader::Compiler;
@@ -71,35 +73,15 @@ impl Reason {
     }
 }
 
-impl Effect {
-    /// Whether a file is written that no row names.
-    fn writes_unnamed(self) -> bool
-        ensures { result ≡ writes_unnamed self }
-    {
-        match self {
-            Effect::WritesUnnamed => true,
-            Effect::Plain
-            | Effect::Exact
-            | Effect::Macros
-            | Effect::TextHides
-            | Effect::ReadsCounts
-            | Effect::ReadsSamples => false,
-        }
-    }
-
-    /// Why there is no key for a word that does this.
-    fn reason(self) -> Option<Reason>
-        ensures { result ≡ reason_of self }
-    {
-        match self {
-            Effect::WritesUnnamed => Some(Reason::WritesUnnamed),
-            Effect::TextHides => Some(Reason::TextHides),
-            Effect::Plain
-            | Effect::Exact
-            | Effect::Macros
-            | Effect::ReadsCounts
-            | Effect::ReadsSamples => None,
-        }
+/// Why there is no key for a word that does this.
+fn reason_of(doing: Doing) -> Option<Reason>
+    ensures { result ≡ reason_of doing }
+{
+    match doing {
+        Doing::WritesUnnamed => Some(Reason::WritesUnnamed),
+        Doing::TextHides => Some(Reason::TextHides),
+        Doing::Plain | Doing::Exact | Doing::Macros | Doing::ReadsCounts | Doing::ReadsSamples =>
+            None,
     }
 }
 
@@ -122,32 +104,37 @@ fn push_each(alloc: Global, why: &mut Vec<NoKey>, reason: Reason, words: &[Vec<u
     Ok(())
 }
 
-/// Appends why there is no key for what a word with this effect does.
-fn push_by_effect(alloc: Global, why: &mut Vec<NoKey>, effect: Effect, word: &[u8]) -> Mem<()>
-    ensures { OnOk result (no_keys_of why.new.items ≡ no_keys_of why.old.items ++ no_key_by (judged word.now effect)) }
+/// Appends why there is no key for what a word does.
+fn push_by_word(alloc: Global, why: &mut Vec<NoKey>, one: &Judged<'_>) -> Mem<()>
+    ensures { OnOk result (no_keys_of why.new.items ≡ no_keys_of why.old.items ++ no_key_by (judged_of one.now)) }
 {
-    match effect.reason() {
-        Some(reason) => push_no(alloc, why, reason, word),
+    match reason_of(one.doing) {
+        Some(reason) => push_no(alloc, why, reason, one.word),
         None => Ok(()),
     }
 }
 
 /// Appends why there is no key for what words do.
-fn push_by_effects(alloc: Global, why: &mut Vec<NoKey>, words: &[Judged<'_>]) -> Mem<()>
+fn push_by_words(alloc: Global, why: &mut Vec<NoKey>, words: &[Judged<'_>]) -> Mem<()>
     ensures { OnOk result (no_keys_of why.new.items ≡ no_keys_of why.old.items ++ flat_map no_key_by (all_judged words.now)) }
 {
     for one in words {
-        push_by_effect(alloc, why, one.effect, one.word)?;
+        push_by_word(alloc, why, one)?;
     }
     Ok(())
 }
 
-/// Appends why there is no key for words of which nothing is known.
-fn push_by_words(alloc: Global, why: &mut Vec<NoKey>, words: &[Vec<u8>]) -> Mem<()>
-    ensures { OnOk result (no_keys_of why.new.items ≡ no_keys_of why.old.items ++ flat_map no_key_by (judged_in (words_of words.now))) }
+/// Appends why there is no key for words of which it is not judged yet what they do.
+fn push_by_unjudged(
+    alloc: Global,
+    why: &mut Vec<NoKey>,
+    lexicon: &Lexicon<'_>,
+    words: &[Vec<u8>],
+) -> Mem<()>
+    ensures { OnOk result (no_keys_of why.new.items ≡ no_keys_of why.old.items ++ flat_map no_key_by (judged_in (lexicon_of lexicon.now) (words_of words.now))) }
 {
-    let words = judged_words(alloc, words)?;
-    push_by_effects(alloc, why, &words)
+    let words = judged_words(alloc, lexicon, words)?;
+    push_by_words(alloc, why, &words)
 }
 
 fn asks_for_rules(text: &[u8]) -> bool
@@ -177,10 +164,10 @@ fn hides_file(word: &[u8]) -> bool
 
 /// Appends those of words for the assembler that write a file.
 fn push_writing(alloc: Global, unnamed: &mut Vec<Vec<u8>>, words: &[&[u8]]) -> Mem<()>
-    ensures { OnOk result (words_of unnamed.new.items ≡ words_of unnamed.old.items ++ filter (λ word. writes_unnamed (assembler_effect word)) (map (λ word. word.now) words.now)) }
+    ensures { OnOk result (words_of unnamed.new.items ≡ words_of unnamed.old.items ++ filter writes_by_assembler (map (λ word. word.now) words.now)) }
 {
     for word in words {
-        if assembler_effect(word).writes_unnamed() {
+        if writes_by_assembler(word) {
             push_word(alloc, unnamed, word)?;
         }
     }
@@ -189,7 +176,7 @@ fn push_writing(alloc: Global, unnamed: &mut Vec<Vec<u8>>, words: &[&[u8]]) -> M
 
 /// Appends the words for the assembler that write a file.
 fn push_assembler(alloc: Global, unnamed: &mut Vec<Vec<u8>>, words: &[Vec<u8>]) -> Mem<()>
-    ensures { OnOk result (words_of unnamed.new.items ≡ words_of unnamed.old.items ++ filter (λ word. writes_unnamed (assembler_effect word)) (assembler_words (words_of words.now))) }
+    ensures { OnOk result (words_of unnamed.new.items ≡ words_of unnamed.old.items ++ filter writes_by_assembler (assembler_words (words_of words.now))) }
 {
     let handed = assembler_words(alloc, words)?;
     push_writing(alloc, unnamed, &handed)
@@ -366,32 +353,32 @@ fn push_hazard(alloc: Global, why: &mut Vec<NoKey>, words: RunWords<'_>) -> Mem<
 fn push_by_record(
     alloc: Global,
     why: &mut Vec<NoKey>,
+    line: &Line<'_, '_>,
     common: &[Judged<'_>],
-    parsed: &ParsedArguments,
 ) -> Mem<()>
-    requires common { all_judged common.now ≡ judged_in (parsed_of parsed.now).common_args }
-    ensures { OnOk result (no_keys_of why.new.items ≡ no_keys_of why.old.items ++ no_keys_by_words (parsed_of parsed.now)) }
+    requires common { all_judged common.now ≡ judged_in (lexicon_of line.now.lexicon) (parsed_of line.now.parsed.now).common_args }
+    ensures { OnOk result (no_keys_of why.new.items ≡ no_keys_of why.old.items ++ no_keys_by_words (lexicon_of line.now.lexicon) (parsed_of line.now.parsed.now)) }
 {
-    push_by_words(alloc, why, &parsed.preprocessor_args)?;
-    push_by_effects(alloc, why, common)?;
-    push_by_words(alloc, why, &parsed.unhashed_args)?;
-    push_by_words(alloc, why, &parsed.dependency_args)
+    push_by_unjudged(alloc, why, &line.lexicon, &line.parsed.preprocessor_args)?;
+    push_by_words(alloc, why, common)?;
+    push_by_unjudged(alloc, why, &line.lexicon, &line.parsed.unhashed_args)?;
+    push_by_unjudged(alloc, why, &line.lexicon, &line.parsed.dependency_args)
 }
 
 /// Why there is no key, with these outputs.
 pub(crate) fn no_keys(
     alloc: Global,
-    line: &Line<'_>,
+    line: &Line<'_, '_>,
     common: &[Judged<'_>],
     outputs: &[Output],
 ) -> Mem<Vec<NoKey>>
-    requires common { all_judged common.now ≡ judged_in (parsed_of line.now.parsed.now).common_args }
+    requires common { all_judged common.now ≡ judged_in (lexicon_of line.now.lexicon) (parsed_of line.now.parsed.now).common_args }
     requires outputs { outputs_of outputs.now ≡ made (parsed_of line.now.parsed.now) }
-    ensures { IfOk result (λ why. no_keys_of why.items ≡ no_keys line.now.compiler (run_words_of line.now.words) (parsed_of line.now.parsed.now)) }
+    ensures { IfOk result (λ why. no_keys_of why.items ≡ no_keys (lexicon_of line.now.lexicon) line.now.compiler (run_words_of line.now.words) (parsed_of line.now.parsed.now)) }
 {
     let mut why = Vec::new(alloc);
     push_hazard(alloc, &mut why, line.words)?;
-    push_by_record(alloc, &mut why, common, line.parsed)?;
+    push_by_record(alloc, &mut why, line, common)?;
     let unnamed = unnamed(alloc, line.compiler, line.parsed)?;
     push_each(alloc, &mut why, Reason::WritesUnnamed, &unnamed)?;
     push_no_files(alloc, &mut why, outputs)?;

@@ -5,6 +5,7 @@ ghost use Rattle.std.specs.Option.{option_copied};
 ghost use Rattle.scl_values.specs.Words.{words_of};
 ghost use Rattle.scl_text.specs.Commands.{object_of};
 ghost use Rattle.scl_text.specs.Records.{parsed_of};
+ghost use Rattle.scl_catalogue.specs.Views.{lexicon_of};
 ghost use Rattle.scl_key.specs.Effects.{judged, judged_in};
 ghost use Rattle.scl_key.specs.Families.{is_clang};
 ghost use Rattle.scl_key.specs.Given.{given_in, values_among};
@@ -13,9 +14,11 @@ ghost use Rattle.scl_key.specs.JudgedViews.{all_judged};
 ghost use Rattle.scl_key.specs.Reads.{comma_parts, files_perhaps, is_path, paths_by, precompiled, profile_by, values, with_values, without_at};
 ghost use Rattle.scl_key.specs.declared.given.Brings.TheVariants as Brings;
 
-use crate::effect::{Effect, Judged, has_comma, judged_words, push_pieces, until};
+use crate::effect::{Judged, has_comma, is_plain, judged_words, push_pieces, until};
 use crate::family::is_clang;
 use crate::given::{Brings, Given, Known, values_among};
+use crate::told::Line;
+use scl_catalogue::Doing;
 use scl_files::path::with_extension;
 use scl_reader::Compiler;
 use scl_text::Mem;
@@ -97,11 +100,11 @@ fn push_those_that_are(alloc: Global, paths: &mut Vec<Vec<u8>>, values: &[&[u8]]
     Ok(())
 }
 
-/// Appends the paths that a word with this effect may name.
-fn push_paths_by(alloc: Global, paths: &mut Vec<Vec<u8>>, effect: Effect, word: &[u8]) -> Mem<()>
-    ensures { OnOk result (words_of paths.new.items ≡ words_of paths.old.items ++ paths_by (judged word.now effect)) }
+/// Appends the paths that a word that does this may name.
+fn push_paths_by(alloc: Global, paths: &mut Vec<Vec<u8>>, doing: Doing, word: &[u8]) -> Mem<()>
+    ensures { OnOk result (words_of paths.new.items ≡ words_of paths.old.items ++ paths_by (judged word.now doing)) }
 {
-    if effect.is_plain() {
+    if is_plain(doing) {
         return Ok(());
     }
     let values = values(alloc, word)?;
@@ -113,7 +116,7 @@ fn push_paths(alloc: Global, paths: &mut Vec<Vec<u8>>, words: &[Judged<'_>]) -> 
     ensures { OnOk result (words_of paths.new.items ≡ words_of paths.old.items ++ flat_map paths_by (all_judged words.now)) }
 {
     for one in words {
-        push_paths_by(alloc, paths, one.effect, one.word)?;
+        push_paths_by(alloc, paths, one.doing, one.word)?;
     }
     Ok(())
 }
@@ -123,24 +126,22 @@ fn push_profile(
     alloc: Global,
     paths: &mut Vec<Vec<u8>>,
     object: Option<&[u8]>,
-    effect: Effect,
+    doing: Doing,
 ) -> Mem<()>
-    ensures { OnOk result (words_of paths.new.items ≡ words_of paths.old.items ++ profile_by (option_copied object.entry) effect) }
+    ensures { OnOk result (words_of paths.new.items ≡ words_of paths.old.items ++ profile_by (option_copied object.entry) doing) }
 {
-    match effect {
-        Effect::ReadsCounts => match object {
+    match doing {
+        Doing::ReadsCounts => match object {
             Some(object) => {
                 paths.push(with_extension(alloc, object, b"gcda")?)?;
                 Ok(())
             }
             None => Ok(()),
         },
-        Effect::ReadsSamples => push_word(alloc, paths, b"fbdata.afdo"),
-        Effect::Plain
-        | Effect::Exact
-        | Effect::Macros
-        | Effect::WritesUnnamed
-        | Effect::TextHides => Ok(()),
+        Doing::ReadsSamples => push_word(alloc, paths, b"fbdata.afdo"),
+        Doing::Plain | Doing::Exact | Doing::Macros | Doing::WritesUnnamed | Doing::TextHides => Ok(
+            (),
+        ),
     }
 }
 
@@ -151,10 +152,10 @@ fn push_profiles_of(
     object: Option<&[u8]>,
     words: &[Judged<'_>],
 ) -> Mem<()>
-    ensures { OnOk result (words_of paths.new.items ≡ words_of paths.old.items ++ flat_map (λ j. profile_by (option_copied object.entry) j.effect) (all_judged words.now)) }
+    ensures { OnOk result (words_of paths.new.items ≡ words_of paths.old.items ++ flat_map (λ j. profile_by (option_copied object.entry) j.doing) (all_judged words.now)) }
 {
     for one in words {
-        push_profile(alloc, paths, object, one.effect)?;
+        push_profile(alloc, paths, object, one.doing)?;
     }
     Ok(())
 }
@@ -166,7 +167,7 @@ fn push_profiles(
     common: &[Judged<'_>],
     parsed: &ParsedArguments,
 ) -> Mem<()>
-    ensures { OnOk result (words_of paths.new.items ≡ words_of paths.old.items ++ flat_map (λ j. profile_by (object_of (parsed_of parsed.now)) j.effect) (all_judged common.now)) }
+    ensures { OnOk result (words_of paths.new.items ≡ words_of paths.old.items ++ flat_map (λ j. profile_by (object_of (parsed_of parsed.now)) j.doing) (all_judged common.now)) }
 {
     let object = output_path(&parsed.outputs, "obj");
     push_profiles_of(alloc, paths, object, common)
@@ -237,20 +238,19 @@ fn push_macro_files(alloc: Global, paths: &mut Vec<Vec<u8>>, given: &[Given<'_>]
 /// All files that may be read, and need not be there.
 pub(crate) fn files_perhaps(
     alloc: Global,
-    compiler: Compiler,
+    line: &Line<'_, '_>,
     known: &Known<'_>,
-    parsed: &ParsedArguments,
 ) -> Mem<Vec<Vec<u8>>>
-    requires common { all_judged known.now.common.items ≡ judged_in (parsed_of parsed.now).common_args }
-    requires given { all_given known.now.given.items ≡ given_in (parsed_of parsed.now).preprocessor_args }
-    ensures { IfOk result (λ paths. words_of paths.items ≡ files_perhaps compiler (parsed_of parsed.now)) }
+    requires common { all_judged known.now.common.items ≡ judged_in (lexicon_of line.now.lexicon) (parsed_of line.now.parsed.now).common_args }
+    requires given { all_given known.now.given.items ≡ given_in (parsed_of line.now.parsed.now).preprocessor_args }
+    ensures { IfOk result (λ paths. words_of paths.items ≡ files_perhaps (lexicon_of line.now.lexicon) line.now.compiler (parsed_of line.now.parsed.now)) }
 {
     let mut paths = Vec::new(alloc);
     push_paths(alloc, &mut paths, &known.common)?;
-    let unhashed = judged_words(alloc, &parsed.unhashed_args)?;
+    let unhashed = judged_words(alloc, &line.lexicon, &line.parsed.unhashed_args)?;
     push_paths(alloc, &mut paths, &unhashed)?;
     push_macro_files(alloc, &mut paths, &known.given)?;
-    push_profiles(alloc, &mut paths, &known.common, parsed)?;
-    push_precompiled_headers(alloc, &mut paths, compiler, &known.given)?;
+    push_profiles(alloc, &mut paths, &known.common, line.parsed)?;
+    push_precompiled_headers(alloc, &mut paths, line.compiler, &known.given)?;
     Ok(paths)
 }

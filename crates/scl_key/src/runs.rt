@@ -7,7 +7,6 @@ ghost use Rattle.scl_values.specs.Words.{words_of};
 ghost use Rattle.scl_text.specs.Commands.{command_by as command_with};
 ghost use Rattle.scl_text.specs.Records.{parsed_of, without_word};
 ghost use Rattle.scl_text.specs.Runs.{runs_of};
-ghost use Rattle.scl_key.specs.Given.{has_macros};
 ghost use Rattle.scl_key.specs.Made.{joined_file};
 ghost use Rattle.scl_key.specs.Parts.{plan, run, run_else};
 ghost use Rattle.scl_key.specs.Runs.{is_assembler, is_header, key_runs, macro_words, marked_runs, noted, noted_common, noted_handed, noted_words, noting_record, plan_record, plans, run_parts, runs_else, shown_record, silent_record};
@@ -266,8 +265,7 @@ fn common_words(alloc: Global, parsed: &ParsedArguments) -> Mem<Vec<Vec<u8>>>
 
 /// The words by which runs print macros, if these count.
 fn macro_words(alloc: Global, macros: bool, parsed: &ParsedArguments) -> Mem<Vec<Vec<u8>>>
-    requires macros { macros ≡ has_macros (parsed_of parsed.now) }
-    ensures { IfOk result (λ words. words_of words.items ≡ macro_words (parsed_of parsed.now)) }
+    ensures { IfOk result (λ words. words_of words.items ≡ macro_words macros (parsed_of parsed.now)) }
 {
     let mut words = Vec::new(alloc);
     if is_header(parsed.language) || macros {
@@ -325,8 +323,7 @@ pub(crate) fn marked_runs(
 
 /// The record of the runs of Gcc and Clang that show the text of each header.
 fn shown_record(alloc: Global, macros: bool, parsed: &ParsedArguments) -> Mem<ParsedArguments>
-    requires macros { macros ≡ has_macros (parsed_of parsed.now) }
-    ensures { IfOk result (λ shown. parsed_of shown ≡ shown_record (noting_record (macro_words (parsed_of parsed.now)) (parsed_of parsed.now))) }
+    ensures { IfOk result (λ shown. parsed_of shown ≡ shown_record (noting_record (macro_words macros (parsed_of parsed.now)) (parsed_of parsed.now))) }
 {
     let words = macro_words(alloc, macros, parsed)?;
     let mut shown = noting_record(alloc, words, parsed)?;
@@ -350,8 +347,7 @@ fn key_runs(
     macros: bool,
     parsed: &ParsedArguments,
 ) -> Mem<Vec<Vec<Vec<u8>>>>
-    requires macros { macros ≡ has_macros (parsed_of parsed.now) }
-    ensures { IfOk result (λ runs. runs_of runs.items ≡ key_runs compiler (parsed_of parsed.now)) }
+    ensures { IfOk result (λ runs. runs_of runs.items ≡ key_runs macros compiler (parsed_of parsed.now)) }
 {
     let changed = if is_gnu(compiler) {
         shown_record(alloc, macros, parsed)?
@@ -412,8 +408,7 @@ pub(crate) fn push_runs(
     macros: bool,
     parsed: &ParsedArguments,
 ) -> Mem<()>
-    requires macros { macros ≡ has_macros (parsed_of parsed.now) }
-    ensures { OnOk result (parts_of parts.new.items ≡ parts_of parts.old.items ++ run_parts compiler (parsed_of parsed.now)) }
+    ensures { OnOk result (parts_of parts.new.items ≡ parts_of parts.old.items ++ run_parts macros compiler (parsed_of parsed.now)) }
 {
     let runs = key_runs(alloc, compiler, macros, parsed)?;
     push_each_run(alloc, parts, &runs)?;

@@ -3,12 +3,14 @@ ghost use Rattle.std.specs.Prelude.{◌≡◌, ◌++◌, ◌∷◌, map, codes, 
 ghost use Rattle.scl_values.specs.Words.{words_of};
 ghost use Rattle.scl_text.specs.Commands.{pairs_of};
 ghost use Rattle.scl_text.specs.Records.{parsed_of};
+ghost use Rattle.scl_catalogue.specs.Views.{lexicon_of};
 ghost use Rattle.scl_key.specs.Given.{shows};
 ghost use Rattle.scl_key.specs.Parts.{is};
 ghost use Rattle.scl_key.specs.Told.{facts_shown, flat_pairs, is_left_out, run_words_fields, told};
 ghost use Rattle.scl_key.specs.Views.{part_of, parts_of, run_words_of};
 
 use crate::part::Part;
+use scl_catalogue::Lexicon;
 use scl_description::{TakesRows, tell_record};
 use scl_reader::Compiler;
 use scl_text::Mem;
@@ -28,16 +30,18 @@ pub enum RunWords<'a> {
 }
 
 /// A command line as its key tells it.
-#[derive(Clone, Copy)]
-pub(crate) struct Line<'a> {
+#[derive(Debug, Clone, Copy)]
+pub struct Line<'a, 'c> {
     /// The compiler that read it.
-    pub(crate) compiler: Compiler,
+    pub compiler: Compiler,
+    /// What is known of the words of its command.
+    pub lexicon: Lexicon<'c>,
     /// The environment that its command gets.
-    pub(crate) environment: &'a [(Vec<u8>, Vec<u8>)],
+    pub environment: &'a [(Vec<u8>, Vec<u8>)],
     /// The words that a cache runs at a miss.
-    pub(crate) words: RunWords<'a>,
+    pub words: RunWords<'a>,
     /// The record.
-    pub(crate) parsed: &'a ParsedArguments,
+    pub parsed: &'a ParsedArguments,
 }
 
 /// The fact with this name, these fields and then these words.
@@ -111,7 +115,7 @@ fn environment_fact(alloc: Global, pairs: &[(Vec<u8>, Vec<u8>)]) -> Mem<Part>
 }
 
 /// The facts beside the record.
-fn facts_beside(alloc: Global, line: &Line<'_>, is_shown: bool) -> Mem<Vec<Part>>
+fn facts_beside(alloc: Global, line: &Line<'_, '_>, is_shown: bool) -> Mem<Vec<Part>>
     ensures { IfOk result (λ parts. parts_of parts.items ≡ facts_shown line.now.compiler (pairs_of line.now.environment.now) (run_words_of line.now.words) is_shown) }
 {
     let shown: &str = if is_shown { "yes" } else { "no" };
@@ -125,9 +129,9 @@ fn facts_beside(alloc: Global, line: &Line<'_>, is_shown: bool) -> Mem<Vec<Part>
 }
 
 /// What is hashed as it stands.
-pub(crate) fn told(alloc: Global, line: &Line<'_>, is_shown: bool) -> Mem<Vec<Part>>
-    requires shown { is_shown ≡ shows line.now.compiler (parsed_of line.now.parsed.now) }
-    ensures { IfOk result (λ parts. parts_of parts.items ≡ told line.now.compiler (pairs_of line.now.environment.now) (run_words_of line.now.words) (parsed_of line.now.parsed.now)) }
+pub(crate) fn told(alloc: Global, line: &Line<'_, '_>, is_shown: bool) -> Mem<Vec<Part>>
+    requires shown { is_shown ≡ shows (lexicon_of line.now.lexicon) line.now.compiler (parsed_of line.now.parsed.now) }
+    ensures { IfOk result (λ parts. parts_of parts.items ≡ told (lexicon_of line.now.lexicon) line.now.compiler (pairs_of line.now.environment.now) (run_words_of line.now.words) (parsed_of line.now.parsed.now)) }
 {
     let parts = facts_beside(alloc, line, is_shown)?;
     let mut facts = Facts {

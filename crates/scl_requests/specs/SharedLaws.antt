@@ -5,10 +5,11 @@ use Rattle.scl_values.specs.Each.{Each}
 use Rattle.scl_base_dirs.specs.declared.spelling.Spelling.TheVariants as spelled
 use Rattle.scl_base_dirs.specs.Bases.{Place, base_of, ends_component, fits, placed}
 use Rattle.scl_base_dirs.specs.Cuts.{has_none}
+use Rattle.scl_catalogue.specs.Lookup.{Lexicon, naming_of}
 use Rattle.scl_key.specs.Parts.{fields}
 use Rattle.scl_shared_key.specs.Fields.{told_rows, value_at}
+use Rattle.scl_shared_key.specs.Fronts.{NamesHaveNoSlash}
 use Rattle.scl_shared_key.specs.Maps.{debug_info_is_free, macros_are_free, maps_among}
-use Rattle.scl_shared_key.specs.Namings.{naming_of}
 use Rattle.scl_shared_key.specs.Objects.{Object}
 use Rattle.scl_shared_key.specs.Usuals.{are_usual}
 use Rattle.scl_shared_key.specs.Verdicts.{verdict}
@@ -99,11 +100,13 @@ abbrev pub OneBaseSuffices : Type 0
 OneBaseSuffices =
     (dir : List ℕ) (path : Path) → dir ≢ [] → IsPathOf dir path → base_of spelled.Word (dir ∷ []) (path_at (dir ∷ []) path) ≡ place_at (dir ∷ []) path
 
--- Where the value of a word begins, and what it makes the object name, what stands before its first `/` tells.
+-- Where the value of a word begins, what stands before its first `/` tells; and what it makes the object name, if no name in the
+-- entries that say so has a `/`.
 abbrev pub FrontsTell : Type 0
 FrontsTell =
     (front one other : List ℕ)
-    → (value_at (front ++ 0x2f ∷ one) ≡ value_at (front ++ 0x2f ∷ other)) × (naming_of (front ++ 0x2f ∷ one) ≡ naming_of (front ++ 0x2f ∷ other))
+    → (value_at (front ++ 0x2f ∷ one) ≡ value_at (front ++ 0x2f ∷ other))
+    × ((l : Lexicon) → NamesHaveNoSlash l.catalogue → naming_of l (front ++ 0x2f ∷ one) ≡ naming_of l (front ++ 0x2f ∷ other))
 
 -- what makes verdicts equal: how an object is made, what each word makes it name, and what the prefix maps leave
 pub record AreMadeAlike (dirs others : List (List ℕ)) (o o' : Object) : Type 0 where
@@ -112,9 +115,9 @@ pub record AreMadeAlike (dirs others : List (List ℕ)) (o o' : Object) : Type 0
   pub of_c : o.is_of_c ≡ o'.is_of_c
   pub of_shown_text : o.is_of_shown_text ≡ o'.is_of_shown_text
   pub alone : o.is_alone ≡ o'.is_alone
-  pub namings : map naming_of o.words ≡ map naming_of o'.words
-  pub debug_info : debug_info_is_free dirs (maps_among o.words) ≡ debug_info_is_free others (maps_among o'.words)
-  pub macros : macros_are_free dirs (maps_among o.words) ≡ macros_are_free others (maps_among o'.words)
+  pub namings : map (naming_of o.lexicon) o.words ≡ map (naming_of o'.lexicon) o'.words
+  pub debug_info : debug_info_is_free dirs (maps_among o.lexicon o.words) ≡ debug_info_is_free others (maps_among o'.lexicon o'.words)
+  pub macros : macros_are_free dirs (maps_among o.lexicon o.words) ≡ macros_are_free others (maps_among o'.lexicon o'.words)
 
 abbrev pub ObjectsMadeAlikeSayTheSame : Type 0
 ObjectsMadeAlikeSayTheSame =

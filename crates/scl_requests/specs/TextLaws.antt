@@ -1,5 +1,6 @@
 -- Descriptions of two checkouts whose keys differ in their base directories alone.
 use Rattle.std.specs.Prelude.{◌≡◌, ℕ, Bool, List, []}
+use Rattle.scl_catalogue.specs.Lookup.{Lexicon}
 use Rattle.scl_text.specs.Records.{Parsed}
 use Rattle.scl_reader.specs.declared.compiler.Compiler.{Compiler}
 use Rattle.scl_key.specs.Keys.{Key}
@@ -16,7 +17,8 @@ pub record EndAlike (d d' : Delivered) : Type 0 where
 -- descriptions whose keys, as they are without bases, differ in these alone end with one key
 abbrev pub TextsEndAlike : Type 0
 TextsEndAlike =
-    (dirs dirs' : List (List ℕ)) (rows : List (List Field)) (macros : List Field) (c c' : Compiler) (p p' : Parsed) (keeps keeps' : Bool) (key key' : Key)
-    → HasRowsAt dirs rows macros (delivered c p [] keeps key) → HasRowsAt dirs' rows macros (delivered c' p' [] keeps' key')
-    → SayTheSame dirs dirs' (object_by c p key) (object_by c' p' key')
-    → EndAlike (delivered c p dirs keeps key) (delivered c' p' dirs' keeps' key')
+    (dirs dirs' : List (List ℕ)) (rows : List (List Field)) (macros : List Field)
+    (lexicon lexicon' : Lexicon) (c c' : Compiler) (p p' : Parsed) (keeps keeps' : Bool) (key key' : Key)
+    → HasRowsAt dirs rows macros (delivered lexicon c p [] keeps key) → HasRowsAt dirs' rows macros (delivered lexicon' c' p' [] keeps' key')
+    → SayTheSame dirs dirs' (object_by lexicon c p key) (object_by lexicon' c' p' key')
+    → EndAlike (delivered lexicon c p dirs keeps key) (delivered lexicon' c' p' dirs' keeps' key')

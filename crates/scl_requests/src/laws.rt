@@ -15,7 +15,8 @@ pub fn of_checkouts()
 /// Laws of what two checkouts have in common:
 ///
 /// - `one_base_suffices`: of one base no more need be known than where a component ends;
-/// - `fronts_tell`: where the value of a word begins, and what it makes the object name, is told by what stands before its first `/`;
+/// - `fronts_tell`: where the value of a word begins, is told by what stands before its first `/`; and what it makes the object
+///   name, if no name in the entries that say so has a `/`;
 /// - `made_alike`: of objects that are made alike, with words that make them name the same, the same is said.
 #[tactic(auto, using(crate::proofs::VerdictLaws::verdict_laws))]
 pub fn of_what_is_said()

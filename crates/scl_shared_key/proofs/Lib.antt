@@ -1,1 +1,2 @@
 mod SharedLaws
+pub mod FrontLaws

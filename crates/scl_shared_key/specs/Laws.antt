@@ -1,10 +1,12 @@
--- What holds of rows that are told by base directories.
-use Rattle.std.specs.Prelude.{◌≡◌, ℕ, ◌^◌, ◌<◌, true, List, ◌++◌, length, map, None, Some}
+-- What holds of rows that are told by base directories, and of words that make an object name something.
+use Rattle.std.specs.Prelude.{◌≡◌, ℕ, ◌^◌, ◌<◌, true, List, ◌∷◌, ◌++◌, length, map, None, Some}
 use Rattle.scl_base_dirs.specs.declared.spelling.Spelling.TheVariants as spelled
 use Rattle.scl_base_dirs.specs.Bases.{base_of, placed}
 use Rattle.scl_base_dirs.specs.Cuts.{has_none}
 use Rattle.scl_base_dirs.specs.Unmapped.{unmapped}
+use Rattle.scl_catalogue.specs.Lookup.{Lexicon, naming_of}
 use Rattle.scl_shared_key.specs.Fields.{told_field, told_rows, value_at}
+use Rattle.scl_shared_key.specs.Fronts.{NamesHaveNoSlash}
 
 -- rows with the directories put back
 abbrev pub unmapped_rows : List (List ℕ) → List (List (List ℕ)) → List (List (List ℕ))
@@ -30,3 +32,8 @@ OnlyTheBaseDiffers =
     → IsPath (dir ++ rest) → IsPath (other ++ rest)
     → base_of spelled.Word dirs (dir ++ rest) ≡ Some (placed number dir) → base_of spelled.Word others (other ++ rest) ≡ Some (placed number other)
     → told_field dirs (dir ++ rest) ≡ told_field others (other ++ rest)
+
+-- What a word makes the object name, what stands before its first `/` tells.
+abbrev pub FrontsTellNamings : Type 0
+FrontsTellNamings =
+    (l : Lexicon) (front one other : List ℕ) → NamesHaveNoSlash l.catalogue → naming_of l (front ++ 0x2f ∷ one) ≡ naming_of l (front ++ 0x2f ∷ other)

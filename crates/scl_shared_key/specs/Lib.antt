@@ -1,4 +1,5 @@
 pub mod Fields
+pub mod Fronts
 pub mod Laws
 pub mod MapViews
 pub mod Maps

@@ -2,9 +2,9 @@
 use Rattle.std.specs.Prelude.{ℕ, Bool, true, false, nat_eq, ◌&&◌, ◌||◌, not, List, length, drop, Option, Some, None, codes}
 use Rattle.std.specs.List.{filter_map, list_all, list_any, starts_with}
 use Rattle.std.specs.Str.{bytes_eq}
-use Rattle.scl_shared_key.specs.declared.naming.Naming.{Naming}
-use Rattle.scl_shared_key.specs.declared.naming.Naming.TheVariants.{Nothing, DebugInfo, FileMap, DebugMap, MacroMap, Anything}
-use Rattle.scl_shared_key.specs.Namings.{naming_of}
+use Rattle.scl_catalogue.specs.Lookup.{Lexicon, naming_of}
+use Rattle.scl_catalogue.specs.declared.entry.Naming.{Naming}
+use Rattle.scl_catalogue.specs.declared.entry.Naming.TheVariants.{Nothing, DebugInfo, FileMap, DebugMap, MacroMap, Anything}
 use Rattle.scl_shared_key.specs.Usuals.{is_usual_byte}
 
 -- whether it counts in debug information, and in macros; and `OLD=NEW`
@@ -25,8 +25,8 @@ map_by MacroMap word = Some (prefix_map false true (drop (length (codes "-fmacro
 map_by Anything word = None
 
 -- the maps among words
-abbrev pub maps_among : List (List ℕ) → List PrefixMap
-maps_among words = filter_map (λ word. map_by (naming_of word) word) words
+abbrev pub maps_among : Lexicon → List (List ℕ) → List PrefixMap
+maps_among l words = filter_map (λ word. map_by (naming_of l word) word) words
 
 -- it maps this very directory
 abbrev pub maps_dir : List ℕ → PrefixMap → Bool

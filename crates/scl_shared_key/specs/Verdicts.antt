@@ -15,7 +15,7 @@ in_object_name Mapped = codes "mapped"
 
 -- what debug information leaves of the directories
 abbrev pub named_in_debug_info : List (List ℕ) → Object → InObject
-named_in_debug_info dirs o = if maps_reach o && debug_info_is_free dirs (maps_among o.words) then Mapped else Yes
+named_in_debug_info dirs o = if maps_reach o && debug_info_is_free dirs (maps_among o.lexicon o.words) then Mapped else Yes
 
 abbrev pub named_if_known : List (List ℕ) → Object → InObject
 named_if_known dirs o = if has_debug_info o then named_in_debug_info dirs o else No
@@ -59,6 +59,6 @@ pub record Verdict : Type 0 where
 abbrev pub verdict : List (List ℕ) → Object → Verdict
 verdict dirs o = record {
   in_object = named_in dirs o;
-  shown = names_shown o.is_by_gcc (macros_are_free dirs (maps_among o.words));
+  shown = names_shown o.is_by_gcc (macros_are_free dirs (maps_among o.lexicon o.words));
   planned = names_planned (named_in dirs o);
 }

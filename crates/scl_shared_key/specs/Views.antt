@@ -1,6 +1,7 @@
 -- What the code's objects and verdicts stand for.
 use Rattle.std.specs.Prelude.{◌++◌}
 use Rattle.scl_values.specs.Words.{words_of}
+use Rattle.scl_catalogue.specs.Views.{lexicon_of}
 use Rattle.scl_shared_key.specs.declared.object.Object as declared_object
 use Rattle.scl_shared_key.specs.declared.said.Verdict as declared_verdict
 use Rattle.scl_shared_key.specs.Objects.{Object}
@@ -12,6 +13,7 @@ object_of o = record {
   is_of_c = o.is_of_c;
   is_of_shown_text = o.is_of_shown_text;
   is_alone = o.is_alone;
+  lexicon = lexicon_of o.lexicon;
   words = words_of o.common.now ++ words_of o.arch.now ++ words_of o.unhashed.now;
 }
 

@@ -1,5 +1,5 @@
 //! What follows from the definitions. Each law is a clause of a function with an empty body.
-ghost use Rattle.scl_shared_key.specs.Laws.{OnlyTheBaseDiffers, PathsWithoutBaseStand, RowsAreReadBack};
+ghost use Rattle.scl_shared_key.specs.Laws.{FrontsTellNamings, OnlyTheBaseDiffers, PathsWithoutBaseStand, RowsAreReadBack};
 
 /// Laws of rows that are told by base directories:
 ///
@@ -11,4 +11,11 @@ pub fn of_shared_keys()
     ensures rows_are_read_back { RowsAreReadBack }
     ensures others_stand { PathsWithoutBaseStand }
     ensures only_the_base_differs { OnlyTheBaseDiffers }
+{}
+
+/// The law of words that make an object name something: what stands before the first `/` of a word tells what, if the names in
+/// the entries that say so are beginnings or whole texts without a `/`.
+#[tactic(auto, using(crate::proofs::FrontLaws::fronts_tell_namings))]
+pub fn of_namings()
+    ensures { FrontsTellNamings }
 {}

@@ -12,6 +12,5 @@ mod usual;
 
 pub use field::told_field;
 pub use judge::verdict;
-pub use naming::Naming;
 pub use object::{Object, is_macro};
 pub use said::{InObject, Verdict};

@@ -3,11 +3,12 @@ ghost use Rattle.std.specs.Prelude.{◌≡◌, ◌++◌, ◌∷◌, [], drop, On
 ghost use Rattle.std.specs.List.{list_all, list_any};
 ghost use Rattle.std.specs.Option.{option_map};
 ghost use Rattle.scl_values.specs.Words.{words_of};
+ghost use Rattle.scl_catalogue.specs.Views.{lexicon_of};
 ghost use Rattle.scl_shared_key.specs.MapViews.{map_of, maps_of};
 ghost use Rattle.scl_shared_key.specs.Maps.{all_free, are_apart, begin_alike, begins_with_other, debug_info_is_free, frees_dir, is_free, macros_are_free, map_by, maps_among, maps_dir, maps_hold, maps_in_debug_info, maps_in_macros};
 
-use crate::naming::{Naming, naming_of};
 use crate::usual::has_usual_bytes;
+use scl_catalogue::{Lexicon, Naming};
 use scl_values::Mem;
 
 /// A map.
@@ -53,21 +54,25 @@ fn map_by(naming: Naming, word: &[u8]) -> Option<PrefixMap<'_>>
 }
 
 /// Appends the map that a word is, if it is one.
-fn push_map<'a>(maps: &mut Vec<PrefixMap<'a>>, word: &'a [u8]) -> Mem<()>
-    ensures { OnOk result (maps_of maps.new.items ≡ maps_of maps.old.items ++ maps_among (word.now ∷ [])) }
+fn push_map<'a>(maps: &mut Vec<PrefixMap<'a>>, lexicon: &Lexicon<'_>, word: &'a [u8]) -> Mem<()>
+    ensures { OnOk result (maps_of maps.new.items ≡ maps_of maps.old.items ++ maps_among (lexicon_of lexicon.now) (word.now ∷ [])) }
 {
-    if let Some(one) = map_by(naming_of(word), word) {
+    if let Some(one) = map_by(lexicon.naming_of(word), word) {
         maps.push(one)?;
     }
     Ok(())
 }
 
 /// Appends the maps among words.
-pub(crate) fn push_maps<'a>(maps: &mut Vec<PrefixMap<'a>>, words: &'a [Vec<u8>]) -> Mem<()>
-    ensures { OnOk result (maps_of maps.new.items ≡ maps_of maps.old.items ++ maps_among (words_of words.now)) }
+pub(crate) fn push_maps<'a>(
+    maps: &mut Vec<PrefixMap<'a>>,
+    lexicon: &Lexicon<'_>,
+    words: &'a [Vec<u8>],
+) -> Mem<()>
+    ensures { OnOk result (maps_of maps.new.items ≡ maps_of maps.old.items ++ maps_among (lexicon_of lexicon.now) (words_of words.now)) }
 {
     for word in words {
-        push_map(maps, word)?;
+        push_map(maps, lexicon, word)?;
     }
     Ok(())
 }

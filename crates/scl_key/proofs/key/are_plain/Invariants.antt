@@ -5,4 +5,4 @@ use Rattle.scl_key.specs.JudgedViews.{all_judged}
 use Rattle.scl_key.proofs.key.are_plain.Given as goal
 
 abbrev pub invariant-loop-one : goal.invariant-loop-one
-invariant-loop-one l = list_all (λ j. is_plain j.effect) (all_judged (drop l.one-index l.words)) ≡ list_all (λ j. is_plain j.effect) (all_judged l.words)
+invariant-loop-one l = list_all (λ j. is_plain j.doing) (all_judged (drop l.one-index l.words)) ≡ list_all (λ j. is_plain j.doing) (all_judged l.words)

@@ -1,4 +1,5 @@
 use Rattle.std.proofs.Common.{rules, ◌≡◌, ◌++◌, List, map, filter, ap, ◌∙◌}
+use Rattle.scl_catalogue.specs.Views.{lexicon_of}
 use Rattle.scl_values.specs.Words.{words_of}
 use Rattle.scl_text.specs.Records.{Artifact, Parsed, parsed_of}
 use Rattle.scl_key.specs.declared.no_key.Reason.TheVariants as Reason
@@ -14,7 +15,7 @@ returns c =
     let words : words_of c.deref.result.now ≡ unnamed c.args.line.now.compiler p = search (rules, c.deref.ensures.value, c.in_ok-unnamed.ensures) in
     let x1 : List NoKey = hazards (run_words_of c.args.line.now.words) in
     let e1 : no_keys_of c.push_hazard.new.why.items ≡ x1 = search (rules, c.in_ok-push_hazard.ensures, c.new-why.ensures.items) in
-    let x2 : List NoKey = no_keys_by_words p in
+    let x2 : List NoKey = no_keys_by_words (lexicon_of c.args.line.now.lexicon) p in
     let e2 : no_keys_of c.push_by_record.new.why.items ≡ x1 ++ x2 = c.in_ok-push_by_record.ensures ∙ ap (λ t. t ++ x2) e1 in
     let x3 : List NoKey = map (no_key Reason.WritesUnnamed) (unnamed c.args.line.now.compiler p) in
     let e3 : no_keys_of c.push_each.new.why.items ≡ x1 ++ x2 ++ x3 =

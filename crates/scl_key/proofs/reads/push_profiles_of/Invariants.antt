@@ -7,4 +7,4 @@ use Rattle.scl_key.specs.Reads.{profile_by}
 use Rattle.scl_key.proofs.reads.push_profiles_of.Given as goal
 
 abbrev pub invariant-loop-one : goal.invariant-loop-one
-invariant-loop-one l = words_of l.paths.items ≡ words_of l.initial.paths.items ++ flat_map (λ j. profile_by (option_copied l.object) j.effect) (all_judged (take l.one-index l.words))
+invariant-loop-one l = words_of l.paths.items ≡ words_of l.initial.paths.items ++ flat_map (λ j. profile_by (option_copied l.object) j.doing) (all_judged (take l.one-index l.words))

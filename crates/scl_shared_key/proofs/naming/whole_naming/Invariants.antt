@@ -1,6 +1,0 @@
-use Rattle.std.proofs.Common.{◌≡◌, drop}
-use Rattle.scl_shared_key.specs.Namings.{rows_of, whole_naming}
-use Rattle.scl_shared_key.proofs.naming.whole_naming.Given as goal
-
-abbrev pub invariant-loop-text : goal.invariant-loop-text
-invariant-loop-text l = whole_naming (rows_of (drop l.text-index l.rows)) l.word ≡ whole_naming (rows_of l.rows) l.word
