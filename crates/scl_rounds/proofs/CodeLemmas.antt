@@ -1,5 +1,5 @@
 -- Lists of questions and of rows, one by one.
-use Rattle.std.proofs.Common.{◌≡◌, ◌≤◌, ℕ, zero, suc, drop, Bool, true, false, cond, List, [], ◌∷◌, ◌++◌, length, map, filter, Option, None, Some, Vec, refl, sym, ap, append_assoc, ◌∙◌, arith}
+use Rattle.std.proofs.Common.{◌≡◌, ◌≤◌, ℕ, zero, suc, drop, Bool, true, false, cond, List, [], ◌∷◌, ◌++◌, length, map, Option, None, Some, Vec, refl, sym, ap, append_assoc, ◌∙◌, arith}
 use Rattle.std.specs.declared.alloc.Global.{Global}
 use Rattle.std.specs.Option.{option_map, option_zip}
 use Rattle.std.proofs.lemmas.List.{append-nil}
@@ -13,7 +13,7 @@ use Rattle.scl_questions.specs.Views.{question_of, questions_of, row_of, rows_of
 use Rattle.scl_questions.specs.declared.question.Question as declared_question
 use Rattle.scl_questions.specs.declared.row.Field as declared_field
 use Rattle.scl_rounds.specs.Answers.{row_on}
-use Rattle.scl_rounds.specs.Keys.{Key, is_answered}
+use Rattle.scl_rounds.specs.Keys.{Key}
 
 -- ---- questions
 
@@ -65,14 +65,12 @@ rows_behind : (rows : List (Vec declared_field.Field Global)) (row : Vec declare
 rows_behind rows row None = refl
 rows_behind rows row (Some rest) = ap Some (row_behind rows row rest)
 
--- the row of a part that is answered is there
-pub row_there : (key : Key) (m : Machine) (rows : List (Vec declared_field.Field Global)) (row : Vec declared_field.Field Global) (part : Part) (parts : List Part) → is_answered part ≡ true → Some (row_of row.items) ≡ row_on key m part
-    → option_map (λ rest. rows_of (rows ++ row ∷ []) ++ rest) (all_there (map (row_on key m) (filter is_answered parts)))
-    ≡ option_map (λ rest. rows_of rows ++ rest) (all_there (map (row_on key m) (filter is_answered (part ∷ parts))))
-row_there key m rows row part parts answered there =
-    rows_behind rows row (all_there (map (row_on key m) (filter is_answered parts)))
-    ∙ ap (λ it. option_map (λ rest. rows_of rows ++ rest) (option_map (λ values. values.0 ∷ values.1) (option_zip it (all_there (map (row_on key m) (filter is_answered parts)))))) there
-    ∙ ap (λ b. option_map (λ rest. rows_of rows ++ rest) (all_there (map (row_on key m) (cond b (part ∷ filter is_answered parts) (filter is_answered parts))))) (sym answered)
+-- the row of a part is there
+pub row_there : (key : Key) (m : Machine) (rows : List (Vec declared_field.Field Global)) (row : Vec declared_field.Field Global) (part : Part) (parts : List Part) → Some (row_of row.items) ≡ row_on key m part
+    → option_map (λ rest. rows_of (rows ++ row ∷ []) ++ rest) (all_there (map (row_on key m) parts)) ≡ option_map (λ rest. rows_of rows ++ rest) (all_there (map (row_on key m) (part ∷ parts)))
+row_there key m rows row part parts there =
+    rows_behind rows row (all_there (map (row_on key m) parts))
+    ∙ ap (λ it. option_map (λ rest. rows_of rows ++ rest) (option_map (λ values. values.0 ∷ values.1) (option_zip it (all_there (map (row_on key m) parts))))) there
 
 -- ---- words
 

@@ -1,32 +1,36 @@
 -- Each round, and the rows, depend on nothing but what was asked.
-use Rattle.std.proofs.Common.{◌≡◌, ◌==◌, length, if◌then◌else◌, ◌&&◌, ◌||◌, is_none, Bool, true, false, cond, ℕ, List, [], ◌∷◌, ◌++◌, map, filter, Option, None, Some, refl, sym, ap, subst, ◌∙◌}
+use Rattle.std.proofs.Common.{◌≡◌, ◌==◌, length, if◌then◌else◌, ◌&&◌, ◌||◌, is_none, not, Bool, true, false, cond, ℕ, List, [], ◌∷◌, ◌++◌, map, codes, Option, None, Some, refl, sym, ap, subst, ◌∙◌}
 use Rattle.std.proofs.lemmas.Bool.{and_parts}
 use Rattle.std.specs.List.{cons_option, filter_map, flat_map, list_any}
 use Rattle.std.specs.Option.{option_and_then, option_map, option_zip, unwrap_or}
 use Rattle.std.specs.Str.{bytes_eq}
-use Rattle.scl_files.specs.Paths.{begins_with_slash}
+use Rattle.scl_files.specs.Paths.{begins_with_slash, join}
 use Rattle.scl_key.specs.declared.part.Ask.{Ask}
 use Rattle.scl_key.specs.declared.part.Ask.TheVariants as asks
 use Rattle.scl_key.specs.Parts.{Part, is, output, directory, compiler, plan, asked, run, run_else, pch, sources, times}
 use Rattle.scl_lookup.specs.Keys.{Row, said, all_there, ran_on, unfailed}
 use Rattle.scl_lookup.specs.Lists.{Agree}
-use Rattle.scl_lookup.specs.Questions.{Question, program, file, bytes, real, times as stamp_of, run as run_asked, Standing, regular, folder, special, missing, Written, Machine}
+use Rattle.scl_lookup.specs.Questions.{Question, env, program, file, bytes, names as names_in, real, times as stamp_of, run as run_asked, Standing, regular, folder, special, missing, Written, Machine}
 use Rattle.scl_questions.specs.Rounds.{joined, was_asked, with_one}
 use Rattle.scl_questions.specs.Same.{same}
-use Rattle.scl_questions.specs.Talks.{AreDecided, ends}
+use Rattle.scl_questions.specs.Talks.{AreDecided, ends, value_on}
 use Rattle.scl_questions.specs.Told.{value_told, unset_told, file_told, maybe_told, regular_told, program_told}
 use Rattle.scl_questions.proofs.SameLaws.{same_one}
 use Rattle.scl_questions.proofs.TalkLaws.{talks_end}
 use Rattle.scl_rounds.specs.Answers.{answer_asked, answer_on, directory_by, directory_on, row_by, refused_told, row_on, rows_on, said_directory, told_if}
+use Rattle.scl_rounds.specs.declared.question.Detail.{Detail}
+use Rattle.scl_rounds.specs.declared.question.Detail.TheVariants as details
 use Rattle.scl_rounds.specs.declared.question.Phase.TheVariants as phases
 use Rattle.scl_rounds.specs.Files.{file_row, files_told, in_one, is_regular, times_by, times_row, times_told}
-use Rattle.scl_rounds.specs.Keys.{Key, asks_early, is_answered, is_early, is_made}
+use Rattle.scl_rounds.specs.Headers.{all_inside, any_there, folder_of, folders_by, folders_in, headers_told, included_as, inside, is_folder, is_there, leading_in, named, places, places_by}
+use Rattle.scl_rounds.specs.Keys.{Key, asks_early, is_early, is_made}
 use Rattle.scl_patterns.specs.Patterns.{is_shown}
 use Rattle.scl_rounds.specs.Plans.{asked_plan, called_in, cleaned, files_in_plan, plan_told, planned_on, program_row, programs_told, there_by, there_row, there_told}
 use Rattle.scl_patterns.specs.Refusals.{is_refused}
-use Rattle.scl_rounds.specs.Rounds.{asked_run, behind_said, called, called_by_plan, content_asked, fifth, fifth_asked, first, first_asked, forbids, fourth, is_forbidden, loaded_by, needed, needed_asked, needed_by, needed_if, rounds, second, stage, third, timed, RoundsGiveRows}
+use Rattle.scl_rounds.specs.Rounds.{asked_run, behind_said, called, called_by_plan, detail_asked, detail_by, details_asked, fifth, fifth_asked, first, first_asked, fourth, loaded_by, needed, needed_asked, needed_by, needed_if, rounds, second, sixth, stage, third, RoundsGiveRows}
 use Rattle.scl_rounds.specs.Runs.{fails, has_failed, loaded_in, may_fail, names_sources, no_text, outputs_told, run_told}
 use Rattle.scl_rounds.specs.Shown.{all_sources, content_at, each_once, input_of, marked, marked_in, searched, shown, shown_by, text_on, unmarked}
+use Rattle.scl_rounds.specs.Vain.{forbids, hides, hides_by, hides_else, is_forbidden, is_hidden, is_hidden_else}
 
 -- ---- what both answer alike
 
@@ -80,6 +84,16 @@ all_one w m asks one other [] each h = refl
 all_one w m asks one other (first ∷ list) each h =
     let it = agree_both w m (asks first) (flat_map asks list) h in
     ap (λ qs. qs ++ flat_map one list) (each first it.0) ∙ ap (λ qs. other first ++ qs) (all_one w m asks one other list each it.1)
+
+all_by_three : (w m : Machine) (asks others more : Part → List Question) (one other : Part → List Question) (parts : List Part)
+    → ((part : Part) → Agree w m (asks part) → Agree w m (others part) → Agree w m (more part) → one part ≡ other part)
+    → Agree w m (flat_map asks parts) → Agree w m (flat_map others parts) → Agree w m (flat_map more parts) → flat_map one parts ≡ flat_map other parts
+all_by_three w m asks others more one other [] each h k l = refl
+all_by_three w m asks others more one other (part ∷ parts) each h k l =
+    let a = agree_both w m (asks part) (flat_map asks parts) h in
+    let b = agree_both w m (others part) (flat_map others parts) k in
+    let c = agree_both w m (more part) (flat_map more parts) l in
+    ap (λ qs. qs ++ flat_map one parts) (each part a.0 b.0 c.0) ∙ ap (λ qs. other part ++ qs) (all_by_three w m asks others more one other parts each a.1 b.1 c.1)
 
 each_one : (one other : Part → List Question) (parts : List Part) → ((part : Part) → one part ≡ other part) → flat_map one parts ≡ flat_map other parts
 each_one one other [] each = refl
@@ -155,6 +169,38 @@ third_one key w m e (pch searched) = refl
 third_one key w m e sources = refl
 third_one key w m e times = refl
 
+-- ---- where a run hides something
+
+hides_by_one : (key : Key) (w m : Machine) (part : Part) → Agree w m (second key m part) → hides_by key w part ≡ hides_by key m part
+hides_by_one key w m (is row) h = refl
+hides_by_one key w m (output made) h = refl
+hides_by_one key w m directory h = refl
+hides_by_one key w m compiler h = refl
+hides_by_one key w m (plan words) h = ap (λ it. is_none (unfailed it)) h.0
+hides_by_one key w m (asked ask name) h = refl
+hides_by_one key w m (run words) h = ap (λ it. hides (may_fail key) (unfailed it)) h.0
+hides_by_one key w m (run_else words) h = refl
+hides_by_one key w m (pch searched) h = refl
+hides_by_one key w m sources h = refl
+hides_by_one key w m times h = refl
+
+else_hides : (w m : Machine) (words : List (List ℕ)) (b : Bool) → Agree w m (cond b (asked_run words) []) → (b && hides false (ran_on w words)) ≡ (b && hides false (ran_on m words))
+else_hides w m words true h = ap (λ it. hides false (unfailed it)) h.0
+else_hides w m words false h = refl
+
+hides_else_one : (key : Key) (w m : Machine) → has_failed key w ≡ has_failed key m → (part : Part) → Agree w m (third key m part) → hides_else key w part ≡ hides_else key m part
+hides_else_one key w m e (is row) h = refl
+hides_else_one key w m e (output made) h = refl
+hides_else_one key w m e directory h = refl
+hides_else_one key w m e compiler h = refl
+hides_else_one key w m e (plan words) h = refl
+hides_else_one key w m e (asked ask name) h = refl
+hides_else_one key w m e (run words) h = refl
+hides_else_one key w m e (run_else words) h = ap (λ b. b && hides false (ran_on w words)) e ∙ else_hides w m words (has_failed key m) h
+hides_else_one key w m e (pch searched) h = refl
+hides_else_one key w m e sources h = refl
+hides_else_one key w m e times h = refl
+
 -- ---- what the runs show
 
 else_shown : (w m : Machine) (words : List (List ℕ)) (b : Bool) → Agree w m (cond b (asked_run words) []) → cond b (text_on w words) None ≡ cond b (text_on m words) None
@@ -184,6 +230,26 @@ shown_one key w m (part ∷ parts) e k l =
     ap (λ it. cons_option it (filter_map (shown_by key w) parts)) (shown_by_one key w m e part two.0 three.0)
     ∙ ap (cons_option (shown_by key m part)) (shown_one key w m parts e two.1 three.1)
 
+-- ---- where precompiled headers may stand
+
+folders_by_one : (w m : Machine) (variables : List (List ℕ)) → Agree w m (map env variables) → folders_by w variables ≡ folders_by m variables
+folders_by_one w m [] h = refl
+folders_by_one w m (name ∷ variables) h =
+    ap (λ value. folders_in value ++ folders_by w variables) h.0 ∙ ap (λ folders. folders_in (m (env name)) ++ folders) (folders_by_one w m variables h.1)
+
+-- the places, by the texts of the runs and by the folders that variables name
+abbrev places_from : Key → (texts folders searched : List (List ℕ)) → List (List ℕ)
+places_from key texts folders searched =
+    let them = flat_map leading_in texts ++ named (codes "header") searched in
+    places_by key
+    (each_once (named (codes "folder") searched ++ map folder_of them ++ map folder_of (named (codes "beside") searched) ++ folders))
+    (each_once (flat_map included_as them)) (them ++ each_once (flat_map marked_in texts))
+
+places_one : (key : Key) (w m : Machine) (searched : List (List ℕ)) → shown key w ≡ shown key m → Agree w m (map env (named (codes "variable") searched)) → places key w searched ≡ places key m searched
+places_one key w m searched e h =
+    ap (λ texts. places_from key texts (folders_by w (named (codes "variable") searched)) searched) e
+    ∙ ap (λ folders. places_from key (shown key m) folders searched) (folders_by_one w m (named (codes "variable") searched) h)
+
 -- ---- what the runs name
 
 needed_asked_one : (key : Key) (w m : Machine) → shown key w ≡ shown key m → (ask : Ask) (name : List ℕ) → needed_asked key w ask name ≡ needed_asked key m ask name
@@ -195,18 +261,18 @@ needed_asked_one key w m e asks.Regular name = refl
 needed_asked_one key w m e asks.SourcesIfShown name = ap (λ texts. needed_if (is_shown name texts) (each_once (flat_map marked_in texts ++ filter_map input_of key.parts))) e
 needed_asked_one key w m e asks.RefuseIfShown name = ap (λ texts. if length (each_once (flat_map marked_in texts)) == 0 then filter_map input_of key.parts else []) e
 
-needed_one : (key : Key) (w m : Machine) → shown key w ≡ shown key m → (part : Part) → shown_by key w part ≡ shown_by key m part → Agree w m (second key m part) → needed key w part ≡ needed key m part
-needed_one key w m e (is row) own k = refl
-needed_one key w m e (output made) own k = refl
-needed_one key w m e directory own k = refl
-needed_one key w m e compiler own k = refl
-needed_one key w m e (plan words) own k = ap (λ it. needed_by key (unfailed it)) k.0
-needed_one key w m e (asked ask name) own k = needed_asked_one key w m e ask name
-needed_one key w m e (run words) own k = ap loaded_by own
-needed_one key w m e (run_else words) own k = ap loaded_by own
-needed_one key w m e (pch searched) own k = refl
-needed_one key w m e sources own k = ap (λ texts. each_once (flat_map marked_in texts ++ filter_map input_of key.parts)) e
-needed_one key w m e times own k = ap (λ texts. each_once (flat_map marked_in texts)) e
+needed_one : (key : Key) (w m : Machine) → shown key w ≡ shown key m → (part : Part) → shown_by key w part ≡ shown_by key m part → Agree w m (first key part) → Agree w m (second key m part) → needed key w part ≡ needed key m part
+needed_one key w m e (is row) own h k = refl
+needed_one key w m e (output made) own h k = refl
+needed_one key w m e directory own h k = refl
+needed_one key w m e compiler own h k = refl
+needed_one key w m e (plan words) own h k = ap (λ it. needed_by key (unfailed it)) k.0
+needed_one key w m e (asked ask name) own h k = needed_asked_one key w m e ask name
+needed_one key w m e (run words) own h k = ap loaded_by own
+needed_one key w m e (run_else words) own h k = ap loaded_by own
+needed_one key w m e (pch searched) own h k = places_one key w m searched e h
+needed_one key w m e sources own h k = ap (λ texts. each_once (flat_map marked_in texts ++ filter_map input_of key.parts)) e
+needed_one key w m e times own h k = ap (λ texts. each_once (flat_map marked_in texts)) e
 
 called_one : (key : Key) (w m : Machine) (part : Part) → Agree w m (second key m part) → called w part ≡ called m part
 called_one key w m (is row) k = refl
@@ -221,27 +287,18 @@ called_one key w m (pch searched) k = refl
 called_one key w m sources k = refl
 called_one key w m times k = refl
 
-fourth_one : (key : Key) (w m : Machine) (parts : List Part) → has_failed key w ≡ has_failed key m → shown key w ≡ shown key m
-    → Agree w m (flat_map (second key m) parts) → Agree w m (flat_map (third key m) parts) → flat_map (fourth key w) parts ≡ flat_map (fourth key m) parts
-fourth_one key w m [] e texts k l = refl
-fourth_one key w m (part ∷ parts) e texts k l =
-    let two = agree_both w m (second key m part) (flat_map (second key m) parts) k in
-    let three = agree_both w m (third key m part) (flat_map (third key m) parts) l in
-    ap (λ names. (map program names ++ map file (needed key w part)) ++ flat_map (fourth key w) parts) (called_one key w m part two.0)
-    ∙ ap (λ names. (map program (called m part) ++ map file names) ++ flat_map (fourth key w) parts) (needed_one key w m texts part (shown_by_one key w m e part two.0 three.0) two.0)
-    ∙ ap (λ qs. fourth key m part ++ qs) (fourth_one key w m parts e texts two.1 three.1)
+fourth_one : (key : Key) (w m : Machine) (part : Part) → has_failed key w ≡ has_failed key m → shown key w ≡ shown key m → Agree w m (first key part)
+    → Agree w m (second key m part) → Agree w m (third key m part) → fourth key w part ≡ fourth key m part
+fourth_one key w m part e texts h k l =
+    ap (λ names. map program names ++ map file (needed key w part)) (called_one key w m part k)
+    ∙ ap (λ names. map program (called m part) ++ map file names) (needed_one key w m texts part (shown_by_one key w m e part k l) h k)
 
 -- ---- what is asked of files that are there
 
-timed_one : (w m : Machine) (names : List (List ℕ)) → Agree w m (map file names) → flat_map (timed w) names ≡ flat_map (timed m) names
-timed_one w m [] h = refl
-timed_one w m (name ∷ names) h =
-    ap (λ it. cond (is_regular it) (stamp_of name ∷ []) [] ++ flat_map (timed w) names) h.0 ∙ ap (λ qs. timed m name ++ qs) (timed_one w m names h.1)
-
-contents_asked_one : (w m : Machine) (names : List (List ℕ)) → Agree w m (map file names) → flat_map (content_asked w) names ≡ flat_map (content_asked m) names
-contents_asked_one w m [] h = refl
-contents_asked_one w m (name ∷ names) h =
-    ap (λ it. cond (is_regular it) (bytes name ∷ []) [] ++ flat_map (content_asked w) names) h.0 ∙ ap (λ qs. content_asked m name ++ qs) (contents_asked_one w m names h.1)
+details_one : (detail : Detail) (w m : Machine) (paths : List (List ℕ)) → Agree w m (map file paths) → details_asked detail w paths ≡ details_asked detail m paths
+details_one detail w m [] h = refl
+details_one detail w m (path ∷ paths) h =
+    ap (λ it. detail_by detail path it ++ details_asked detail w paths) h.0 ∙ ap (λ qs. detail_asked detail m path ++ qs) (details_one detail w m paths h.1)
 
 fifth_asked_one : (key : Key) (w m : Machine) → shown key w ≡ shown key m → (ask : Ask) (name : List ℕ) → Agree w m (map file (needed_asked key m ask name)) → fifth_asked key w ask ≡ fifth_asked key m ask
 fifth_asked_one key w m e asks.Env name h = refl
@@ -251,21 +308,52 @@ fifth_asked_one key w m e asks.Maybe name h = refl
 fifth_asked_one key w m e asks.Regular name h = refl
 fifth_asked_one key w m e asks.SourcesIfShown name h = refl
 fifth_asked_one key w m e asks.RefuseIfShown name h =
-    ap (λ texts. flat_map (content_asked w) (if length (each_once (flat_map marked_in texts)) == 0 then filter_map input_of key.parts else [])) e
-    ∙ contents_asked_one w m (unmarked key m) h
+    ap (λ texts. details_asked details.Content w (if length (each_once (flat_map marked_in texts)) == 0 then filter_map input_of key.parts else [])) e
+    ∙ details_one details.Content w m (unmarked key m) h
 
-fifth_one : (key : Key) (w m : Machine) → shown key w ≡ shown key m → (part : Part) → Agree w m (fourth key m part) → fifth key w part ≡ fifth key m part
-fifth_one key w m e (is row) h = refl
-fifth_one key w m e (output made) h = refl
-fifth_one key w m e directory h = refl
-fifth_one key w m e compiler h = refl
-fifth_one key w m e (plan words) h = refl
-fifth_one key w m e (asked ask name) h = fifth_asked_one key w m e ask name h
-fifth_one key w m e (run words) h = refl
-fifth_one key w m e (run_else words) h = refl
-fifth_one key w m e (pch searched) h = refl
-fifth_one key w m e sources h = refl
-fifth_one key w m e times h = ap (λ texts. flat_map (timed w) (each_once (flat_map marked_in texts))) e ∙ timed_one w m (marked key m) h
+fifth_one : (key : Key) (w m : Machine) → shown key w ≡ shown key m → (part : Part) → Agree w m (first key part) → Agree w m (fourth key m part) → fifth key w part ≡ fifth key m part
+fifth_one key w m e (is row) h n = refl
+fifth_one key w m e (output made) h n = refl
+fifth_one key w m e directory h n = refl
+fifth_one key w m e compiler h n = refl
+fifth_one key w m e (plan words) h n = refl
+fifth_one key w m e (asked ask name) h n = fifth_asked_one key w m e ask name n
+fifth_one key w m e (run words) h n = refl
+fifth_one key w m e (run_else words) h n = refl
+fifth_one key w m e (pch searched) h n = ap (details_asked details.Names w) (places_one key w m searched e h) ∙ details_one details.Names w m (places key m searched) n
+fifth_one key w m e sources h n = refl
+fifth_one key w m e times h n = ap (λ texts. details_asked details.Times w (each_once (flat_map marked_in texts))) e ∙ details_one details.Times w m (marked key m) n
+
+-- ---- what is asked of what is in folders
+
+inside_by_one : (w m : Machine) (path : List ℕ) (it : Standing) → Agree w m (detail_by details.Names path it)
+    → cond (is_folder it) (map (join path) (w (names_in path))) [] ≡ cond (is_folder it) (map (join path) (m (names_in path))) []
+inside_by_one w m path (regular sum) h = refl
+inside_by_one w m path folder h = ap (map (join path)) h.0
+inside_by_one w m path special h = refl
+inside_by_one w m path missing h = refl
+
+insides_one : (w m : Machine) (paths : List (List ℕ)) → Agree w m (map file paths) → Agree w m (details_asked details.Names m paths) → all_inside w paths ≡ all_inside m paths
+insides_one w m [] n o = refl
+insides_one w m (path ∷ paths) n o =
+    let it = agree_both w m (detail_asked details.Names m path) (details_asked details.Names m paths) o in
+    ap (λ them. them ++ all_inside w paths) (ap (λ it. cond (is_folder it) (map (join path) (w (names_in path))) []) n.0 ∙ inside_by_one w m path (m (file path)) it.0)
+    ∙ ap (λ them. inside m path ++ them) (insides_one w m paths n.1 it.1)
+
+sixth_one : (key : Key) (w m : Machine) → shown key w ≡ shown key m → (part : Part) → Agree w m (first key part) → Agree w m (fourth key m part) → Agree w m (fifth key m part)
+    → sixth key w part ≡ sixth key m part
+sixth_one key w m e (is row) h n o = refl
+sixth_one key w m e (output made) h n o = refl
+sixth_one key w m e directory h n o = refl
+sixth_one key w m e compiler h n o = refl
+sixth_one key w m e (plan words) h n o = refl
+sixth_one key w m e (asked ask name) h n o = refl
+sixth_one key w m e (run words) h n o = refl
+sixth_one key w m e (run_else words) h n o = refl
+sixth_one key w m e (pch searched) h n o =
+    ap (λ paths. map file (all_inside w paths)) (places_one key w m searched e h) ∙ ap (map file) (insides_one w m (places key m searched) n o)
+sixth_one key w m e sources h n o = refl
+sixth_one key w m e times h n o = refl
 
 -- ---- answers
 
@@ -275,16 +363,16 @@ files_one w m (name ∷ names) h =
     ap (λ it. option_map (λ values. values.0 ∷ values.1) (option_zip (option_map (λ answer. said name ∷ answer) (maybe_told it)) (all_there (map (file_row w) names)))) h.0
     ∙ ap (λ rows. option_map (λ values. values.0 ∷ values.1) (option_zip (file_row m name) rows)) (files_one w m names h.1)
 
-times_by_one : (w m : Machine) (name : List ℕ) (it : Standing) → Agree w m (cond (is_regular it) (stamp_of name ∷ []) []) → times_by w name it ≡ times_by m name it
+times_by_one : (w m : Machine) (name : List ℕ) (it : Standing) → Agree w m (detail_by details.Times name it) → times_by w name it ≡ times_by m name it
 times_by_one w m name (regular sum) h = ap (λ stamp. Some (said name ∷ said stamp ∷ [])) h.0
 times_by_one w m name folder h = refl
 times_by_one w m name special h = refl
 times_by_one w m name missing h = refl
 
-times_one : (w m : Machine) (names : List (List ℕ)) → Agree w m (map file names) → Agree w m (flat_map (timed m) names) → all_there (map (times_row w) names) ≡ all_there (map (times_row m) names)
+times_one : (w m : Machine) (names : List (List ℕ)) → Agree w m (map file names) → Agree w m (details_asked details.Times m names) → all_there (map (times_row w) names) ≡ all_there (map (times_row m) names)
 times_one w m [] h k = refl
 times_one w m (name ∷ names) h k =
-    let it = agree_both w m (timed m name) (flat_map (timed m) names) k in
+    let it = agree_both w m (detail_asked details.Times m name) (details_asked details.Times m names) k in
     ap (λ row. option_map (λ values. values.0 ∷ values.1) (option_zip row (all_there (map (times_row w) names)))) (ap (times_by w name) h.0 ∙ times_by_one w m name (m (file name)) it.0)
     ∙ ap (λ rows. option_map (λ values. values.0 ∷ values.1) (option_zip (times_row m name) rows)) (times_one w m names h.1 it.1)
 
@@ -328,20 +416,20 @@ told_if_one w m names None h = refl
 told_if_one w m names (Some true) h = ap (option_map in_one) (files_one w m names h)
 told_if_one w m names (Some false) h = refl
 
-content_by_one : (w m : Machine) (name : List ℕ) (it : Standing) → Agree w m (cond (is_regular it) (bytes name ∷ []) []) → cond (is_regular it) (w (bytes name)) None ≡ cond (is_regular it) (m (bytes name)) None
+content_by_one : (w m : Machine) (name : List ℕ) (it : Standing) → Agree w m (detail_by details.Content name it) → cond (is_regular it) (w (bytes name)) None ≡ cond (is_regular it) (m (bytes name)) None
 content_by_one w m name (regular sum) h = h.0
 content_by_one w m name folder h = refl
 content_by_one w m name special h = refl
 content_by_one w m name missing h = refl
 
-contents_one : (w m : Machine) (names : List (List ℕ)) → Agree w m (map file names) → Agree w m (flat_map (content_asked m) names) → filter_map (content_at w) names ≡ filter_map (content_at m) names
+contents_one : (w m : Machine) (names : List (List ℕ)) → Agree w m (map file names) → Agree w m (details_asked details.Content m names) → filter_map (content_at w) names ≡ filter_map (content_at m) names
 contents_one w m [] h k = refl
 contents_one w m (name ∷ names) h k =
-    let it = agree_both w m (content_asked m name) (flat_map (content_asked m) names) k in
+    let it = agree_both w m (detail_asked details.Content m name) (details_asked details.Content m names) k in
     ap (λ text. cons_option text (filter_map (content_at w) names)) (ap (λ it. cond (is_regular it) (w (bytes name)) None) h.0 ∙ content_by_one w m name (m (file name)) it.0)
     ∙ ap (cons_option (content_at m name)) (contents_one w m names h.1 it.1)
 
-searched_one : (key : Key) (w m : Machine) → shown key w ≡ shown key m → Agree w m (map file (unmarked key m)) → Agree w m (flat_map (content_asked m) (unmarked key m)) → searched key w ≡ searched key m
+searched_one : (key : Key) (w m : Machine) → shown key w ≡ shown key m → Agree w m (map file (unmarked key m)) → Agree w m (details_asked details.Content m (unmarked key m)) → searched key w ≡ searched key m
 searched_one key w m t n o =
     ap (λ texts. texts ++ filter_map (content_at w) (if length (each_once (flat_map marked_in texts)) == 0 then filter_map input_of key.parts else [])) t
     ∙ ap (λ more. shown key m ++ more) (contents_one w m (unmarked key m) n o)
@@ -358,6 +446,25 @@ asked_one key w m t asks.SourcesIfShown name h n o =
     ∙ told_if_one w m (all_sources key m) (is_shown name (shown key m)) n
 asked_one key w m t asks.RefuseIfShown name h n o = ap (λ texts. refused_told (is_refused name texts)) (searched_one key w m t n o)
 
+-- ---- precompiled headers
+
+any_there_one : (w m : Machine) (paths : List (List ℕ)) → Agree w m (map file paths) → any_there w paths ≡ any_there m paths
+any_there_one w m [] h = refl
+any_there_one w m (path ∷ paths) h = ap (λ it. is_there it || any_there w paths) h.0 ∙ ap (λ b. is_there (m (file path)) || b) (any_there_one w m paths h.1)
+
+agree_more : (w m : Machine) (paths more : List (List ℕ)) → Agree w m (map file paths) → Agree w m (map file more) → Agree w m (map file (paths ++ more))
+agree_more w m [] more h k = k
+agree_more w m (path ∷ paths) more h k = (h.0, agree_more w m paths more h.1 k)
+
+headers_one : (w m : Machine) (paths : List (List ℕ)) → Agree w m (map file paths) → Agree w m (details_asked details.Names m paths) → Agree w m (map file (all_inside m paths))
+    → headers_told w paths ≡ headers_told m paths
+headers_one w m paths n o p =
+    ap (λ b. cond b (files_told w (paths ++ all_inside w paths)) (Some [])) (any_there_one w m paths n)
+    ∙ ap (λ more. cond (any_there m paths) (files_told w (paths ++ more)) (Some [])) (insides_one w m paths n o)
+    ∙ ap (λ rows. cond (any_there m paths) (option_map in_one rows) (Some [])) (files_one w m (paths ++ all_inside m paths) (agree_more w m paths (all_inside m paths) n p))
+
+-- ---- all answers
+
 -- both answer alike what each round asks for these parts
 record AreAlike (key : Key) (w m : Machine) (parts : List Part) : Type 0 where
   one : Agree w m (flat_map (first key) parts)
@@ -365,35 +472,29 @@ record AreAlike (key : Key) (w m : Machine) (parts : List Part) : Type 0 where
   three : Agree w m (flat_map (third key m) parts)
   four : Agree w m (flat_map (fourth key m) parts)
   five : Agree w m (flat_map (fifth key m) parts)
+  six : Agree w m (flat_map (sixth key m) parts)
 
 answer_one : (key : Key) (w m : Machine) → has_failed key w ≡ has_failed key m → shown key w ≡ shown key m → (part : Part) → Agree w m (first key part) → Agree w m (second key m part)
-    → Agree w m (third key m part) → Agree w m (fourth key m part) → Agree w m (fifth key m part) → answer_on key w part ≡ answer_on key m part
-answer_one key w m e t (is row) h k l n o = refl
-answer_one key w m e t (output made) h k l n o = refl
-answer_one key w m e t directory h k l n o = ap (λ it. Some (said it ∷ [])) (directory_one w m key.place h.0 k)
-answer_one key w m e t compiler h k l n o = ap program_told h.0
-answer_one key w m e t (plan words) h k l n o = plan_one key w m words k.0 n
-answer_one key w m e t (asked ask name) h k l n o = asked_one key w m t ask name h n o
-answer_one key w m e t (run words) h k l n o = run_one w m words (may_fail key) k.0 n
-answer_one key w m e t (run_else words) h k l n o =
+    → Agree w m (third key m part) → Agree w m (fourth key m part) → Agree w m (fifth key m part) → Agree w m (sixth key m part) → answer_on key w part ≡ answer_on key m part
+answer_one key w m e t (is row) h k l n o p = refl
+answer_one key w m e t (output made) h k l n o p = refl
+answer_one key w m e t directory h k l n o p = ap (λ it. Some (said it ∷ [])) (directory_one w m key.place h.0 k)
+answer_one key w m e t compiler h k l n o p = ap program_told h.0
+answer_one key w m e t (plan words) h k l n o p = plan_one key w m words k.0 n
+answer_one key w m e t (asked ask name) h k l n o p = asked_one key w m t ask name h n o
+answer_one key w m e t (run words) h k l n o p = run_one w m words (may_fail key) k.0 n
+answer_one key w m e t (run_else words) h k l n o p =
     ap (λ b. cond b (run_told w false (ran_on w words)) (Some no_text)) e ∙ else_one w m words (has_failed key m) l n
-answer_one key w m e t (pch searched) h k l n o = refl
-answer_one key w m e t sources h k l n o =
+answer_one key w m e t (pch searched) h k l n o p = ap (headers_told w) (places_one key w m searched t h) ∙ headers_one w m (places key m searched) n o p
+answer_one key w m e t sources h k l n o p =
     ap (λ texts. files_told w (each_once (flat_map marked_in texts ++ filter_map input_of key.parts))) t ∙ ap (option_map in_one) (files_one w m (all_sources key m) n)
-answer_one key w m e t times h k l n o =
+answer_one key w m e t times h k l n o p =
     ap (λ texts. times_told w (each_once (flat_map marked_in texts))) t ∙ ap (option_map in_one) (times_one w m (marked key m) n o)
 
 -- ---- rows
 
-rows_by : (key : Key) (w m : Machine) (part : Part) (parts : List Part) (b : Bool) → row_on key w part ≡ row_on key m part → all_there (map (row_on key w) parts) ≡ all_there (map (row_on key m) parts)
-    → all_there (map (row_on key w) (cond b (part ∷ parts) parts)) ≡ all_there (map (row_on key m) (cond b (part ∷ parts) parts))
-rows_by key w m part parts true e rest =
-    ap (λ row. option_map (λ values. values.0 ∷ values.1) (option_zip row (all_there (map (row_on key w) parts)))) e
-    ∙ ap (λ rows. option_map (λ values. values.0 ∷ values.1) (option_zip (row_on key m part) rows)) rest
-rows_by key w m part parts false e rest = rest
-
 rows_one : (key : Key) (w m : Machine) (parts : List Part) → has_failed key w ≡ has_failed key m → shown key w ≡ shown key m → AreAlike key w m parts
-    → all_there (map (row_on key w) (filter is_answered parts)) ≡ all_there (map (row_on key m) (filter is_answered parts))
+    → all_there (map (row_on key w) parts) ≡ all_there (map (row_on key m) parts)
 rows_one key w m [] e t alike = refl
 rows_one key w m (part ∷ parts) e t alike =
     let one = agree_both w m (first key part) (flat_map (first key) parts) alike.one in
@@ -401,8 +502,11 @@ rows_one key w m (part ∷ parts) e t alike =
     let three = agree_both w m (third key m part) (flat_map (third key m) parts) alike.three in
     let four = agree_both w m (fourth key m part) (flat_map (fourth key m) parts) alike.four in
     let five = agree_both w m (fifth key m part) (flat_map (fifth key m) parts) alike.five in
-    let rest : AreAlike key w m parts = record { one = one.1; two = two.1; three = three.1; four = four.1; five = five.1 } in
-    rows_by key w m part (filter is_answered parts) (is_answered part) (ap (option_map (row_by part)) (answer_one key w m e t part one.0 two.0 three.0 four.0 five.0)) (rows_one key w m parts e t rest)
+    let six = agree_both w m (sixth key m part) (flat_map (sixth key m) parts) alike.six in
+    let rest : AreAlike key w m parts = record { one = one.1; two = two.1; three = three.1; four = four.1; five = five.1; six = six.1 } in
+    ap (λ row. option_map (λ values. values.0 ∷ values.1) (option_zip row (all_there (map (row_on key w) parts))))
+    (ap (option_map (row_by part)) (answer_one key w m e t part one.0 two.0 three.0 four.0 five.0 six.0))
+    ∙ ap (λ rows. option_map (λ values. values.0 ∷ values.1) (option_zip (row_on key m part) rows)) (rows_one key w m parts e t rest)
 
 -- ---- keys
 
@@ -427,29 +531,82 @@ has_failed_one key w m h = any_one w m (second key m) (fails w) (fails m) key.pa
 has_shown_one : (key : Key) (w m : Machine) → Agree w m (flat_map (second key m) key.parts) → Agree w m (flat_map (third key m) key.parts) → shown key w ≡ shown key m
 has_shown_one key w m k l = shown_one key w m key.parts (has_failed_one key w m k) k l
 
--- the rounds of files, and the rows
+is_hidden_one : (key : Key) (w m : Machine) → Agree w m (flat_map (second key m) key.parts) → is_hidden key w ≡ is_hidden key m
+is_hidden_one key w m k = any_one w m (second key m) (hides_by key w) (hides_by key m) key.parts (hides_by_one key w m) k
+
+is_hidden_else_one : (key : Key) (w m : Machine) → Agree w m (flat_map (second key m) key.parts) → Agree w m (flat_map (third key m) key.parts) → is_hidden_else key w ≡ is_hidden_else key m
+is_hidden_else_one key w m k l = any_one w m (third key m) (hides_else key w) (hides_else key m) key.parts (hides_else_one key w m (has_failed_one key w m k)) l
+
+-- ---- what was asked before a round, and is answered alike
+
+-- in three rounds
+record AfterThree (key : Key) (w m : Machine) : Type 0 where
+  ones : Agree w m (flat_map (first key) key.parts)
+  twos : Agree w m (flat_map (second key m) key.parts)
+  threes : Agree w m (flat_map (third key m) key.parts)
+
+after_three : (key : Key) (w m : Machine) (ones twos threes : List Question) → flat_map (first key) key.parts ≡ ones → flat_map (second key m) key.parts ≡ twos → flat_map (third key m) key.parts ≡ threes
+    → Agree w m (joined (joined (joined [] ones) twos) threes) → AfterThree key w m
+after_three key w m ones twos threes one two three agree =
+    let l = agree_round w m (joined (joined [] ones) twos) (flat_map (third key m) key.parts) threes three agree in
+    let k = agree_round w m (joined [] ones) (flat_map (second key m) key.parts) twos two l.0 in
+    let h = agree_round w m [] (flat_map (first key) key.parts) ones one k.0 in
+    record { ones = h.1; twos = k.1; threes = l.1 }
+
+-- what each round of files asks
+
+fourths_one : (key : Key) (w m : Machine) → AfterThree key w m → flat_map (fourth key w) key.parts ≡ flat_map (fourth key m) key.parts
+fourths_one key w m it =
+    all_by_three w m (first key) (second key m) (third key m) (fourth key w) (fourth key m) key.parts
+    (λ part h k l. fourth_one key w m part (has_failed_one key w m it.twos) (has_shown_one key w m it.twos it.threes) h k l)
+    it.ones it.twos it.threes
+
+fifths_one : (key : Key) (w m : Machine) → AfterThree key w m → Agree w m (flat_map (fourth key m) key.parts) → flat_map (fifth key w) key.parts ≡ flat_map (fifth key m) key.parts
+fifths_one key w m it n =
+    all_by_three w m (first key) (fourth key m) (fourth key m) (fifth key w) (fifth key m) key.parts
+    (λ part h n again. fifth_one key w m (has_shown_one key w m it.twos it.threes) part h n)
+    it.ones n n
+
+sixths_one : (key : Key) (w m : Machine) → AfterThree key w m → Agree w m (flat_map (fourth key m) key.parts) → Agree w m (flat_map (fifth key m) key.parts)
+    → flat_map (sixth key w) key.parts ≡ flat_map (sixth key m) key.parts
+sixths_one key w m it n o =
+    all_by_three w m (first key) (fourth key m) (fifth key m) (sixth key w) (sixth key m) key.parts
+    (λ part h n o. sixth_one key w m (has_shown_one key w m it.twos it.threes) part h n o)
+    it.ones n o
+
+all_rows_one : (key : Key) (w m : Machine) → AfterThree key w m → Agree w m (flat_map (fourth key m) key.parts) → Agree w m (flat_map (fifth key m) key.parts)
+    → Agree w m (flat_map (sixth key m) key.parts) → rows_on key w ≡ rows_on key m
+all_rows_one key w m it n o p =
+    rows_one key w m key.parts (has_failed_one key w m it.twos) (has_shown_one key w m it.twos it.threes)
+    (record { one = it.ones; two = it.twos; three = it.threes; four = n; five = o; six = p })
+
+-- ---- the rounds of files, and the rows
+
 decided_behind : (key : Key) (m : Machine) (ones twos threes : List Question) → flat_map (first key) key.parts ≡ ones → flat_map (second key m) key.parts ≡ twos → flat_map (third key m) key.parts ≡ threes
-    → AreDecided m (rows_on key) (stage key phases.Files ∷ stage key phases.Details ∷ []) (joined (joined (joined [] ones) twos) threes)
+    → AreDecided m (rows_on key) (stage key phases.Files ∷ stage key phases.Details ∷ stage key phases.Inside ∷ []) (joined (joined (joined [] ones) twos) threes)
 decided_behind key m ones twos threes one two three = (
   λ w agree.
-      let l = agree_round w m (joined (joined [] ones) twos) (flat_map (third key m) key.parts) threes three agree in
-      let k = agree_round w m (joined [] ones) (flat_map (second key m) key.parts) twos two l.0 in
-      ap Some (fourth_one key w m key.parts (has_failed_one key w m k.1) (has_shown_one key w m k.1 l.1) k.1 l.1),
+      let it = after_three key w m ones twos threes one two three agree in
+      ap (λ b. cond b None (Some (flat_map (fourth key w) key.parts))) (is_hidden_else_one key w m it.twos it.threes)
+      ∙ ap (λ qs. cond (is_hidden_else key m) None (Some qs)) (fourths_one key w m it),
   λ fours is_fourth.
-      let four : flat_map (fourth key m) key.parts ≡ fours = same_some (flat_map (fourth key m) key.parts) fours is_fourth in (
+      let four : flat_map (fourth key m) key.parts ≡ fours = some_by (is_hidden_else key m) (flat_map (fourth key m) key.parts) fours is_fourth in (
         λ w agree.
             let n = agree_round w m (joined (joined (joined [] ones) twos) threes) (flat_map (fourth key m) key.parts) fours four agree in
-            let l = agree_round w m (joined (joined [] ones) twos) (flat_map (third key m) key.parts) threes three n.0 in
-            let k = agree_round w m (joined [] ones) (flat_map (second key m) key.parts) twos two l.0 in
-            ap Some (all_one w m (fourth key m) (fifth key w) (fifth key m) key.parts (fifth_one key w m (has_shown_one key w m k.1 l.1)) n.1),
-        λ fives is_fifth w agree.
-            let five : flat_map (fifth key m) key.parts ≡ fives = same_some (flat_map (fifth key m) key.parts) fives is_fifth in
-            let o = agree_round w m (joined (joined (joined (joined [] ones) twos) threes) fours) (flat_map (fifth key m) key.parts) fives five agree in
-            let n = agree_round w m (joined (joined (joined [] ones) twos) threes) (flat_map (fourth key m) key.parts) fours four o.0 in
-            let l = agree_round w m (joined (joined [] ones) twos) (flat_map (third key m) key.parts) threes three n.0 in
-            let k = agree_round w m (joined [] ones) (flat_map (second key m) key.parts) twos two l.0 in
-            let h = agree_round w m [] (flat_map (first key) key.parts) ones one k.0 in
-            rows_one key w m key.parts (has_failed_one key w m k.1) (has_shown_one key w m k.1 l.1) (record { one = h.1; two = k.1; three = l.1; four = n.1; five = o.1 }),
+            ap Some (fifths_one key w m (after_three key w m ones twos threes one two three n.0) n.1),
+        λ fives is_fifth.
+            let five : flat_map (fifth key m) key.parts ≡ fives = same_some (flat_map (fifth key m) key.parts) fives is_fifth in (
+              λ w agree.
+                  let o = agree_round w m (joined (joined (joined (joined [] ones) twos) threes) fours) (flat_map (fifth key m) key.parts) fives five agree in
+                  let n = agree_round w m (joined (joined (joined [] ones) twos) threes) (flat_map (fourth key m) key.parts) fours four o.0 in
+                  ap Some (sixths_one key w m (after_three key w m ones twos threes one two three n.0) n.1 o.1),
+              λ sixes is_sixth w agree.
+                  let six : flat_map (sixth key m) key.parts ≡ sixes = same_some (flat_map (sixth key m) key.parts) sixes is_sixth in
+                  let p = agree_round w m (joined (joined (joined (joined (joined [] ones) twos) threes) fours) fives) (flat_map (sixth key m) key.parts) sixes six agree in
+                  let o = agree_round w m (joined (joined (joined (joined [] ones) twos) threes) fours) (flat_map (fifth key m) key.parts) fives five p.0 in
+                  let n = agree_round w m (joined (joined (joined [] ones) twos) threes) (flat_map (fourth key m) key.parts) fours four o.0 in
+                  all_rows_one key w m (after_three key w m ones twos threes one two three n.0) n.1 o.1 p.1,
+            ),
       ),
 )
 
@@ -466,58 +623,99 @@ decided key m = (
             let two : flat_map (second key m) key.parts ≡ twos = some_by (is_forbidden key m) (flat_map (second key m) key.parts) twos is_second in (
               λ w agree.
                   let k = agree_round w m (joined [] ones) (flat_map (second key m) key.parts) twos two agree in
-                  ap Some (each_one (third key w) (third key m) key.parts (third_one key w m (has_failed_one key w m k.1))),
-              λ threes is_third. decided_behind key m ones twos threes one two (same_some (flat_map (third key m) key.parts) threes is_third),
+                  ap (λ b. cond b None (Some (flat_map (third key w) key.parts))) (is_hidden_one key w m k.1)
+                  ∙ ap (λ qs. cond (is_hidden key m) None (Some qs)) (each_one (third key w) (third key m) key.parts (third_one key w m (has_failed_one key w m k.1))),
+              λ threes is_third. decided_behind key m ones twos threes one two (some_by (is_hidden key m) (flat_map (third key m) key.parts) threes is_third),
             ),
       ),
 )
 
--- ---- where the first round forbids to keep, there are no rows
-
-is_early_answered : (part : Part) → is_early part ≡ true → is_answered part ≡ true
-is_early_answered (is row) e = refl
-is_early_answered (output made) e = refl
-is_early_answered directory e = refl
-is_early_answered compiler e = refl
-is_early_answered (plan words) e = refl
-is_early_answered (asked ask name) e = refl
-is_early_answered (run words) e = refl
-is_early_answered (run_else words) e = refl
-is_early_answered (pch searched) e = e
-is_early_answered sources e = refl
-is_early_answered times e = refl
+-- ---- where a round is in vain, there are no rows
 
 no_row : {A B : Type 0} (f : A → B) (o : Option A) → is_none o ≡ true → option_map f o ≡ None
 no_row f None e = refl
 no_row f (Some it) e = absurd (cc)
 
-none_first : (row : Option Row) (rows : Option (List Row)) → row ≡ None → option_map (λ values. values.0 ∷ values.1) (option_zip row rows) ≡ None
-none_first row rows e = ap (λ it. option_map (λ values. values.0 ∷ values.1) (option_zip it rows)) e
-
 none_zipped : (row : Option Row) → option_map (λ values. values.0 ∷ values.1) (option_zip row None) ≡ None
 none_zipped None = refl
 none_zipped (Some row) = refl
 
-none_behind : (key : Key) (m : Machine) (part : Part) (parts : List Part) (b : Bool) → all_there (map (row_on key m) parts) ≡ None → all_there (map (row_on key m) (cond b (part ∷ parts) parts)) ≡ None
-none_behind key m part parts true e = ap (λ rows. option_map (λ values. values.0 ∷ values.1) (option_zip (row_on key m part) rows)) e ∙ none_zipped (row_on key m part)
-none_behind key m part parts false e = e
+-- a judge finds nothing but parts without an answer
+abbrev Judges : Key → Machine → (Part → Bool) → Type 0
+Judges key m judge = (part : Part) → judge part ≡ true → is_none (answer_on key m part) ≡ true
 
-no_rows_by : (key : Key) (m : Machine) (part : Part) (parts : List Part) (b : Bool) → forbids key m part ≡ b → (b || list_any (forbids key m) parts) ≡ true
-    → (list_any (forbids key m) parts ≡ true → all_there (map (row_on key m) (filter is_answered parts)) ≡ None)
-    → all_there (map (row_on key m) (filter is_answered (part ∷ parts))) ≡ None
-no_rows_by key m part parts true judged any rest =
-    let both = and_parts (is_early part) (is_none (answer_on key m part)) judged in
-    ap (λ b. all_there (map (row_on key m) (cond b (part ∷ filter is_answered parts) (filter is_answered parts)))) (is_early_answered part both.0)
-    ∙ none_first (row_on key m part) (all_there (map (row_on key m) (filter is_answered parts))) (no_row (row_by part) (answer_on key m part) both.1)
-no_rows_by key m part parts false judged any rest = none_behind key m part (filter is_answered parts) (is_answered part) (rest any)
+no_rows_by : (key : Key) (m : Machine) (judge : Part → Bool) → Judges key m judge → (part : Part) (parts : List Part) (b : Bool) → judge part ≡ b → (b || list_any judge parts) ≡ true
+    → (list_any judge parts ≡ true → all_there (map (row_on key m) parts) ≡ None)
+    → all_there (map (row_on key m) (part ∷ parts)) ≡ None
+no_rows_by key m judge judges part parts true judged any rest =
+    ap (λ row. option_map (λ values. values.0 ∷ values.1) (option_zip row (all_there (map (row_on key m) parts)))) (no_row (row_by part) (answer_on key m part) (judges part judged))
+no_rows_by key m judge judges part parts false judged any rest =
+    ap (λ rows. option_map (λ values. values.0 ∷ values.1) (option_zip (row_on key m part) rows)) (rest any) ∙ none_zipped (row_on key m part)
 
-no_rows : (key : Key) (m : Machine) (parts : List Part) → list_any (forbids key m) parts ≡ true → all_there (map (row_on key m) (filter is_answered parts)) ≡ None
-no_rows key m [] e = absurd (let no : false ≡ true = e in cc)
-no_rows key m (part ∷ parts) e = no_rows_by key m part parts (forbids key m part) refl e (no_rows key m parts)
+no_rows : (key : Key) (m : Machine) (judge : Part → Bool) → Judges key m judge → (parts : List Part) → list_any judge parts ≡ true → all_there (map (row_on key m) parts) ≡ None
+no_rows key m judge judges [] e = absurd (let no : false ≡ true = e in cc)
+no_rows key m judge judges (part ∷ parts) e = no_rows_by key m judge judges part parts (judge part) refl e (no_rows key m judge judges parts)
 
-rows_if : (key : Key) (m : Machine) (b : Bool) → is_forbidden key m ≡ b → option_and_then (λ questions. rows_on key m) (cond b None (Some (flat_map (second key m) key.parts))) ≡ rows_on key m
-rows_if key m true e = sym (no_rows key m key.parts e)
-rows_if key m false e = refl
+forbids_judges : (key : Key) (m : Machine) → Judges key m (forbids key m)
+forbids_judges key m part judged = (and_parts (is_early part) (is_none (answer_on key m part)) judged).1
+
+-- what hides something has no answer
+
+hidden_text : (m : Machine) (it : Written) (b : Bool) → not b ≡ true → is_none (cond b (option_map (λ headers. outputs_told it ++ headers) (files_told m (loaded_in it.output))) None) ≡ true
+hidden_text m it true e = absurd (let no : false ≡ true = e in cc)
+hidden_text m it false e = refl
+
+no_plan : (key : Key) (m : Machine) (it : Option Written) → is_none it ≡ true → is_none (option_and_then (λ it. plan_told key m it.messages) it) ≡ true
+no_plan key m None e = refl
+no_plan key m (Some it) e = absurd (let no : false ≡ true = e in cc)
+
+hides_judges : (m : Machine) (may : Bool) (ran : Option Written) → hides may ran ≡ true → is_none (run_told m may ran) ≡ true
+hides_judges m true None e = absurd (let no : false ≡ true = e in cc)
+hides_judges m false None e = refl
+hides_judges m may (Some it) e = hidden_text m it (names_sources it.output) e
+
+hides_by_judges : (key : Key) (m : Machine) → Judges key m (hides_by key m)
+hides_by_judges key m (is row) e = absurd (let no : false ≡ true = e in cc)
+hides_by_judges key m (output made) e = absurd (let no : false ≡ true = e in cc)
+hides_by_judges key m directory e = absurd (let no : false ≡ true = e in cc)
+hides_by_judges key m compiler e = absurd (let no : false ≡ true = e in cc)
+hides_by_judges key m (plan words) e = no_plan key m (planned_on m words) e
+hides_by_judges key m (asked ask name) e = absurd (let no : false ≡ true = e in cc)
+hides_by_judges key m (run words) e = hides_judges m (may_fail key) (ran_on m words) e
+hides_by_judges key m (run_else words) e = absurd (let no : false ≡ true = e in cc)
+hides_by_judges key m (pch searched) e = absurd (let no : false ≡ true = e in cc)
+hides_by_judges key m sources e = absurd (let no : false ≡ true = e in cc)
+hides_by_judges key m times e = absurd (let no : false ≡ true = e in cc)
+
+else_hidden : (m : Machine) (words : List (List ℕ)) (b : Bool) → (b && hides false (ran_on m words)) ≡ true → is_none (cond b (run_told m false (ran_on m words)) (Some no_text)) ≡ true
+else_hidden m words true e = hides_judges m false (ran_on m words) e
+else_hidden m words false e = absurd (let no : false ≡ true = e in cc)
+
+hides_else_judges : (key : Key) (m : Machine) → Judges key m (hides_else key m)
+hides_else_judges key m (is row) e = absurd (let no : false ≡ true = e in cc)
+hides_else_judges key m (output made) e = absurd (let no : false ≡ true = e in cc)
+hides_else_judges key m directory e = absurd (let no : false ≡ true = e in cc)
+hides_else_judges key m compiler e = absurd (let no : false ≡ true = e in cc)
+hides_else_judges key m (plan words) e = absurd (let no : false ≡ true = e in cc)
+hides_else_judges key m (asked ask name) e = absurd (let no : false ≡ true = e in cc)
+hides_else_judges key m (run words) e = absurd (let no : false ≡ true = e in cc)
+hides_else_judges key m (run_else words) e = else_hidden m words (has_failed key m) e
+hides_else_judges key m (pch searched) e = absurd (let no : false ≡ true = e in cc)
+hides_else_judges key m sources e = absurd (let no : false ≡ true = e in cc)
+hides_else_judges key m times e = absurd (let no : false ≡ true = e in cc)
+
+ends_in : {A : Type 0} (rest rows : Option A) (questions : List Question) (b : Bool) → (b ≡ true → rows ≡ None) → rest ≡ rows → option_and_then (λ questions. rest) (cond b None (Some questions)) ≡ rows
+ends_in rest rows questions true none e = sym (none refl)
+ends_in rest rows questions false none e = e
+
+rows_in : (key : Key) (m : Machine) → value_on m (rows_on key) (rounds key) ≡ rows_on key m
+rows_in key m =
+    let rows = rows_on key m in
+    let files : Option (List Row) = value_on m (rows_on key) (stage key phases.Files ∷ stage key phases.Details ∷ stage key phases.Inside ∷ []) in
+    let others : Option (List Row) = value_on m (rows_on key) (stage key phases.RunsElse ∷ stage key phases.Files ∷ stage key phases.Details ∷ stage key phases.Inside ∷ []) in
+    ends_in others rows (flat_map (second key m) key.parts) (is_forbidden key m) (no_rows key m (forbids key m) (forbids_judges key m) key.parts)
+    (ends_in files rows (flat_map (third key m) key.parts) (is_hidden key m) (no_rows key m (hides_by key m) (hides_by_judges key m) key.parts)
+    (ends_in rows rows (flat_map (fourth key m) key.parts) (is_hidden_else key m) (no_rows key m (hides_else key m) (hides_else_judges key m) key.parts) refl))
 
 pub rounds_give_rows : RoundsGiveRows
-rounds_give_rows key m = talks_end m (rows_on key) (rounds key) (decided key m) ∙ ap ends (rows_if key m (is_forbidden key m) refl)
+rounds_give_rows key m = talks_end m (rows_on key) (rounds key) (decided key m) ∙ ap ends (rows_in key m)

@@ -1,16 +1,17 @@
 -- What the parts of a key say on a machine.
-use Rattle.std.specs.Prelude.{ℕ, ◌&&◌, Bool, false, cond, List, [], ◌∷◌, ◌++◌, map, filter, codes, Option, None, Some}
+use Rattle.std.specs.Prelude.{ℕ, ◌&&◌, Bool, false, cond, List, [], ◌∷◌, ◌++◌, map, codes, Option, None, Some}
 use Rattle.std.specs.Option.{option_and_then, option_map}
 use Rattle.std.specs.Str.{bytes_eq}
 use Rattle.scl_files.specs.Paths.{begins_with_slash}
 use Rattle.scl_key.specs.declared.part.Ask.{Ask}
 use Rattle.scl_key.specs.declared.part.Ask.TheVariants as asks
-use Rattle.scl_key.specs.Parts.{Part, is, output, directory, compiler, plan, asked, run, run_else, sources, times, hashed}
+use Rattle.scl_key.specs.Parts.{Part, is, output, directory, compiler, plan, asked, run, run_else, pch, sources, times, hashed}
 use Rattle.scl_lookup.specs.Keys.{Field, said, Row, all_there, ran_on}
 use Rattle.scl_lookup.specs.Questions.{Question, env, program, file, real, Machine}
 use Rattle.scl_questions.specs.Told.{value_told, unset_told, file_told, maybe_told, regular_told, program_told}
 use Rattle.scl_rounds.specs.Files.{files_told, times_told}
-use Rattle.scl_rounds.specs.Keys.{Key, is_answered, is_made}
+use Rattle.scl_rounds.specs.Headers.{headers_told, places}
+use Rattle.scl_rounds.specs.Keys.{Key, is_made}
 use Rattle.scl_patterns.specs.Patterns.{is_shown}
 use Rattle.scl_rounds.specs.Plans.{plan_told, planned_on}
 use Rattle.scl_patterns.specs.Refusals.{is_refused}
@@ -51,7 +52,7 @@ answer_asked key m asks.Regular path = regular_told (m (file path))
 answer_asked key m asks.SourcesIfShown pattern = told_if m (is_shown pattern (shown key m)) (all_sources key m)
 answer_asked key m asks.RefuseIfShown pattern = refused_told (is_refused pattern (searched key m))
 
--- what a machine answers to a part; none: nothing may be kept, or no round answers it
+-- what a machine answers to a part; none: nothing may be kept
 abbrev pub answer_on : Key → Machine → Part → Option (List Field)
 answer_on key m (is row) = Some []
 answer_on key m (output made) = Some []
@@ -61,9 +62,9 @@ answer_on key m (plan words) = option_and_then (λ it. plan_told key m it.messag
 answer_on key m (asked ask name) = answer_asked key m ask name
 answer_on key m (run words) = run_told m (may_fail key) (ran_on m words)
 answer_on key m (run_else words) = cond (has_failed key m) (run_told m false (ran_on m words)) (Some no_text)
+answer_on key m (pch searched) = headers_told m (places key m searched)
 answer_on key m sources = files_told m (all_sources key m)
 answer_on key m times = times_told m (marked key m)
-answer_on key m other = None
 
 -- ---- rows
 
@@ -74,6 +75,6 @@ row_by part answer = map said (hashed part) ++ answer
 abbrev pub row_on : Key → Machine → Part → Option Row
 row_on key m part = option_map (row_by part) (answer_on key m part)
 
--- the rows of the parts that are answered, if each has one
+-- the rows of the parts, if each has one
 abbrev pub rows_on : Key → Machine → Option (List Row)
-rows_on key m = all_there (map (row_on key m) (filter is_answered key.parts))
+rows_on key m = all_there (map (row_on key m) key.parts)

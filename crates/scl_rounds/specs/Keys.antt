@@ -1,10 +1,10 @@
--- A key, and which of its parts are answered.
+-- A key, and which of its parts the first round answers.
 use Rattle.std.specs.Prelude.{ℕ, Bool, true, false, List}
 use Rattle.std.specs.List.{list_any}
 use Rattle.scl_files.specs.Paths.{join, same_path}
 use Rattle.scl_key.specs.declared.part.Ask.{Ask}
 use Rattle.scl_key.specs.declared.part.Ask.TheVariants as asks
-use Rattle.scl_key.specs.Parts.{Part, is, output, directory, compiler, plan, asked, run, run_else, sources, times}
+use Rattle.scl_key.specs.Parts.{Part, is, output, compiler, asked}
 
 -- the parts of a key, and the directory of the compiler
 pub record Key : Type 0 where
@@ -23,20 +23,6 @@ is_early (output made) = true
 is_early compiler = true
 is_early (asked ask name) = asks_early ask
 is_early other = false
-
--- a round answers it
-abbrev pub is_answered : Part → Bool
-is_answered (is row) = true
-is_answered (output made) = true
-is_answered directory = true
-is_answered compiler = true
-is_answered (plan words) = true
-is_answered (asked ask name) = true
-is_answered (run words) = true
-is_answered (run_else words) = true
-is_answered sources = true
-is_answered times = true
-is_answered other = false
 
 -- ---- outputs
 

@@ -1,8 +1,10 @@
 pub mod Answers
 pub mod Files
+pub mod Headers
 pub mod Keys
 pub mod Plans
 pub mod Rounds
 pub mod Runs
 pub mod Shown
+pub mod Vain
 pub mod Views

@@ -1,21 +1,24 @@
 -- What a key asks of a machine, round by round.
-use Rattle.std.specs.Prelude.{◌≡◌, ◌&&◌, ℕ, is_none, Bool, false, cond, List, [], ◌∷◌, ◌++◌, length, map, Option, None, Some}
-use Rattle.std.specs.List.{flat_map, list_any}
+use Rattle.std.specs.Prelude.{◌≡◌, ℕ, Bool, cond, List, [], ◌∷◌, ◌++◌, length, map, codes, Option, None, Some}
+use Rattle.std.specs.List.{flat_map}
 use Rattle.scl_files.specs.Paths.{begins_with_slash}
 use Rattle.scl_key.specs.declared.part.Ask.{Ask}
 use Rattle.scl_key.specs.declared.part.Ask.TheVariants as asks
-use Rattle.scl_key.specs.Parts.{Part, directory, compiler, plan, asked, run as run_part, run_else, sources, times as times_part}
-use Rattle.scl_lookup.specs.Questions.{Question, env, program, file, bytes, real, times, run, Written, Machine}
+use Rattle.scl_key.specs.Parts.{Part, directory, compiler, plan, asked, run as run_part, run_else, pch, sources, times as times_part}
+use Rattle.scl_lookup.specs.Questions.{Question, env, program, file, bytes, names as names_in, real, times, run, Standing, regular, folder, Written, Machine}
 use Rattle.scl_questions.specs.Talks.{Stage, ends, talk}
+use Rattle.scl_rounds.specs.declared.question.Detail.{Detail}
+use Rattle.scl_rounds.specs.declared.question.Detail.TheVariants as details
 use Rattle.scl_rounds.specs.declared.question.Phase.{Phase}
 use Rattle.scl_rounds.specs.declared.question.Phase.TheVariants as phases
-use Rattle.scl_rounds.specs.Answers.{answer_on, rows_on, said_directory}
-use Rattle.scl_rounds.specs.Files.{is_regular}
-use Rattle.scl_rounds.specs.Keys.{Key, is_early, is_made}
+use Rattle.scl_rounds.specs.Answers.{rows_on, said_directory}
+use Rattle.scl_rounds.specs.Headers.{all_inside, named, places}
+use Rattle.scl_rounds.specs.Keys.{Key, is_made}
 use Rattle.scl_patterns.specs.Patterns.{is_shown}
 use Rattle.scl_rounds.specs.Plans.{asked_plan, called_in, files_in_plan, planned_on}
 use Rattle.scl_rounds.specs.Runs.{has_failed, loaded_in}
 use Rattle.scl_rounds.specs.Shown.{all_sources, marked, shown, shown_by, unmarked}
+use Rattle.scl_rounds.specs.Vain.{is_vain}
 
 -- ---- what each round asks for a part
 
@@ -31,6 +34,7 @@ abbrev pub first : Key → Part → List Question
 first key directory = said_directory ∷ []
 first key compiler = program [] ∷ []
 first key (asked ask name) = first_asked key ask name
+first key (pch searched) = map env (named (codes "variable") searched)
 first key other = []
 
 -- whether `PWD` names the directory: its path without links is that of the place
@@ -87,6 +91,7 @@ needed key m (run_part words) = loaded_by (shown_by key m (run_part words))
 needed key m (run_else words) = loaded_by (shown_by key m (run_else words))
 needed key m (plan words) = needed_by key (planned_on m words)
 needed key m (asked ask name) = needed_asked key m ask name
+needed key m (pch searched) = places key m searched
 needed key m sources = all_sources key m
 needed key m times_part = marked key m
 needed key m other = []
@@ -94,22 +99,33 @@ needed key m other = []
 abbrev pub fourth : Key → Machine → Part → List Question
 fourth key m part = map program (called m part) ++ map file (needed key m part)
 
--- size and time, if there is a file
-abbrev pub timed : Machine → List ℕ → List Question
-timed m name = cond (is_regular (m (file name))) (times name ∷ []) []
+-- size and time, or the bytes, if there is a file; the names, if there is a folder
+abbrev pub detail_by : Detail → List ℕ → Standing → List Question
+detail_by details.Times path (regular sum) = times path ∷ []
+detail_by details.Content path (regular sum) = bytes path ∷ []
+detail_by details.Names path folder = names_in path ∷ []
+detail_by detail path other = []
 
--- its bytes, if there is a file
-abbrev pub content_asked : Machine → List ℕ → List Question
-content_asked m name = cond (is_regular (m (file name))) (bytes name ∷ []) []
+abbrev pub detail_asked : Detail → Machine → List ℕ → List Question
+detail_asked detail m path = detail_by detail path (m (file path))
+
+abbrev pub details_asked : Detail → Machine → List (List ℕ) → List Question
+details_asked detail m paths = flat_map (detail_asked detail m) paths
 
 abbrev pub fifth_asked : Key → Machine → Ask → List Question
-fifth_asked key m asks.RefuseIfShown = flat_map (content_asked m) (unmarked key m)
+fifth_asked key m asks.RefuseIfShown = details_asked details.Content m (unmarked key m)
 fifth_asked key m other = []
 
 abbrev pub fifth : Key → Machine → Part → List Question
 fifth key m (asked ask name) = fifth_asked key m ask
-fifth key m times_part = flat_map (timed m) (marked key m)
+fifth key m (pch searched) = details_asked details.Names m (places key m searched)
+fifth key m times_part = details_asked details.Times m (marked key m)
 fifth key m other = []
+
+-- what is in folders of precompiled headers
+abbrev pub sixth : Key → Machine → Part → List Question
+sixth key m (pch searched) = map file (all_inside m (places key m searched))
+sixth key m other = []
 
 -- ---- rounds
 
@@ -119,27 +135,14 @@ asked_in key phases.Runs m part = second key m part
 asked_in key phases.RunsElse m part = third key m part
 asked_in key phases.Files m part = fourth key m part
 asked_in key phases.Details m part = fifth key m part
+asked_in key phases.Inside m part = sixth key m part
 
--- nothing may be kept, by what the first round answers
-abbrev pub forbids : Key → Machine → Part → Bool
-forbids key m part = is_early part && is_none (answer_on key m part)
-
-abbrev pub is_forbidden : Key → Machine → Bool
-is_forbidden key m = list_any (forbids key m) key.parts
-
--- nothing is run for a key under which nothing may be kept
-abbrev pub is_vain : Key → Phase → Machine → Bool
-is_vain key phases.First m = false
-is_vain key phases.Runs m = is_forbidden key m
-is_vain key phases.RunsElse m = false
-is_vain key phases.Files m = false
-is_vain key phases.Details m = false
-
+-- what a round asks, if it is not in vain
 abbrev pub stage : Key → Phase → Stage
 stage key phase m = cond (is_vain key phase m) None (Some (flat_map (asked_in key phase m) key.parts))
 
 abbrev pub all_phases : List Phase
-all_phases = phases.First ∷ phases.Runs ∷ phases.RunsElse ∷ phases.Files ∷ phases.Details ∷ []
+all_phases = phases.First ∷ phases.Runs ∷ phases.RunsElse ∷ phases.Files ∷ phases.Details ∷ phases.Inside ∷ []
 
 abbrev pub rounds : Key → List Stage
 rounds key = map (stage key) all_phases

@@ -10,11 +10,13 @@ ghost use Rattle.scl_lookup.specs.Questions.{env, file, program, real};
 ghost use Rattle.scl_questions.specs.Told.{file_told, maybe_told, program_told, regular_told, unset_told, value_told};
 ghost use Rattle.scl_questions.specs.Views.{row_of};
 ghost use Rattle.scl_rounds.specs.Answers.{answer_asked, answer_on, directory_on, said_directory};
+ghost use Rattle.scl_rounds.specs.Headers.{headers_told, places};
 ghost use Rattle.scl_rounds.specs.Plans.{plan_told, planned_on};
 ghost use Rattle.scl_rounds.specs.Runs.{has_failed, may_fail, no_text, run_told};
 ghost use Rattle.scl_rounds.specs.Views.{key_of, machine_of};
 
 use crate::file::{files_told, times_told};
+use crate::header::{headers_told, places};
 use crate::key::{Key, is_made};
 use crate::plan::{plan_told, planned};
 use crate::run::{has_failed, may_fail, no_text, ran, run_told};
@@ -205,7 +207,18 @@ fn run_else_answer(
     }
 }
 
-/// What a machine answers to a part; none: nothing may be kept, or no round answers it.
+fn pch_answer(
+    alloc: Global,
+    told: &Told<'_>,
+    key: &Key<'_>,
+    searched: &[Vec<u8>],
+) -> Mem<Option<Vec<Field>>>
+    ensures { IfOk result (λ answer. option_map (λ answer. row_of answer.items) answer ≡ headers_told (machine_of told.now) (places (key_of key.now) (machine_of told.now) (words_of searched.now))) }
+{
+    headers_told(alloc, told, &places(alloc, told, key, searched)?)
+}
+
+/// What a machine answers to a part; none: nothing may be kept.
 pub(crate) fn answer(
     alloc: Global,
     told: &Told<'_>,
@@ -224,6 +237,6 @@ pub(crate) fn answer(
         Part::Sources => files_told(alloc, told, &all_sources(alloc, told, key)?),
         Part::Times => times_told(alloc, told, &marked(alloc, told, key)?),
         Part::Plan(words) => plan_answer(alloc, told, key, words),
-        Part::Pch(_) => Ok(None),
+        Part::Pch(searched) => pch_answer(alloc, told, key, searched),
     }
 }

@@ -1,7 +1,7 @@
-//! A key, and which of its parts are answered.
+//! A key, and which of its parts the first round answers.
 ghost use Rattle.std.specs.Prelude.{◌≡◌, IfOk};
 ghost use Rattle.scl_key.specs.Views.{part_of};
-ghost use Rattle.scl_rounds.specs.Keys.{asks_early, is_answered, is_early, is_made, is_output_at};
+ghost use Rattle.scl_rounds.specs.Keys.{asks_early, is_early, is_made, is_output_at};
 ghost use Rattle.scl_rounds.specs.Views.{key_of};
 
 use scl_files::path::{join, same_path};
@@ -41,25 +41,6 @@ pub(crate) fn is_early(part: &Part) -> bool
         | Part::Pch(_)
         | Part::Sources
         | Part::Times => false,
-    }
-}
-
-/// Whether a round answers a part.
-pub(crate) fn is_answered(part: &Part) -> bool
-    ensures { result ≡ is_answered (part_of part.now) }
-{
-    match part {
-        Part::Is(_)
-        | Part::Output(_)
-        | Part::Directory
-        | Part::Compiler
-        | Part::Plan(_)
-        | Part::Asked(_, _)
-        | Part::Run(_)
-        | Part::RunElse(_)
-        | Part::Sources
-        | Part::Times => true,
-        Part::Pch(_) => false,
     }
 }
 

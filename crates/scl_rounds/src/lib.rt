@@ -3,6 +3,7 @@
 
 mod answer;
 mod file;
+mod header;
 mod key;
 pub mod laws;
 mod next;
@@ -11,6 +12,7 @@ mod question;
 mod row;
 mod run;
 mod shown;
+mod vain;
 
 pub use key::Key;
 pub use next::{Next, look_up};

@@ -79,8 +79,7 @@ fn end(alloc: Global, told: &Told<'_>, key: &Key<'_>) -> Mem<Next>
     }
 }
 
-/// What is said to a caller after these answers, the first of all questions first: what to look up, or the end. Of a key with
-/// parts that no round answers it has the rows of the others.
+/// What is said to a caller after these answers, the first of all questions first: what to look up, or the end.
 pub fn look_up(alloc: Global, key: &Key<'_>, answers: &[Answer]) -> Mem<Next>
     ensures { IfOk result (λ next. next_of next ≡ said (rows_on (key_of key.now)) (rounds (key_of key.now)) [] (replies_of answers.now)) }
 {
@@ -91,6 +90,7 @@ pub fn look_up(alloc: Global, key: &Key<'_>, answers: &[Answer]) -> Mem<Next>
         Phase::RunsElse,
         Phase::Files,
         Phase::Details,
+        Phase::Inside,
     ] {
         if let Some(next) = ask_round(alloc, key, phase, &mut asked, answers)? {
             return Ok(next);

@@ -1,25 +1,26 @@
 //! What a key asks of a machine, round by round.
-ghost use Rattle.std.specs.Prelude.{◌≡◌, ◌++◌, ◌∷◌, [], map, IfOk, OnOk};
-ghost use Rattle.std.specs.List.{flat_map};
-ghost use Rattle.std.specs.Option.{option_copied, option_map};
+ghost use Rattle.std.specs.Prelude.{◌≡◌, ◌++◌, ◌∷◌, [], map, codes, IfOk, OnOk};
+ghost use Rattle.std.specs.Option.{option_copied, option_map, option_to_list};
 ghost use Rattle.scl_values.specs.Words.{words_of};
 ghost use Rattle.scl_key.specs.declared.part.Ask.TheVariants as asks;
 ghost use Rattle.scl_key.specs.Views.{part_of};
 ghost use Rattle.scl_lookup.specs.Questions.{env, file, program};
-ghost use Rattle.scl_questions.specs.Views.{questions_of};
+ghost use Rattle.scl_questions.specs.Views.{question_of, questions_of};
+ghost use Rattle.scl_rounds.specs.Headers.{all_inside, named, places};
 ghost use Rattle.scl_rounds.specs.Plans.{asked_plan, planned_on};
-ghost use Rattle.scl_rounds.specs.Rounds.{asked_in, asked_run, behind_said, called, called_by_plan, content_asked, fifth, fifth_asked, first, first_asked, forbids, fourth, is_forbidden, is_vain, loaded_by, needed, needed_asked, needed_by, second, stage, third, timed};
+ghost use Rattle.scl_rounds.specs.Rounds.{asked_in, asked_run, behind_said, called, called_by_plan, detail_asked, detail_by, details_asked, fifth, fifth_asked, first, first_asked, fourth, loaded_by, needed, needed_asked, needed_by, second, sixth, stage, third};
 ghost use Rattle.scl_rounds.specs.Views.{key_of, machine_of};
 
-use crate::answer::{Told, answer, said_directory};
-use crate::file::is_regular;
-use crate::key::{Key, is_early, is_made};
+use crate::answer::{Told, said_directory};
+use crate::header::{all_inside, places, push_named};
+use crate::key::{Key, is_made};
 use crate::plan::{called_in, files_in_plan, plan_question, planned};
 use crate::run::{has_failed, loaded_in};
 use crate::shown::{all_sources, marked, shown, shown_by, unmarked};
+use crate::vain::is_vain;
 use scl_key::{Ask, Part};
 use scl_patterns::is_shown;
-use scl_questions::{Language, Question};
+use scl_questions::{Language, Question, Standing, standing};
 use scl_text::command::copy_words;
 use scl_values::Mem;
 use std::alloc::Global;
@@ -37,6 +38,19 @@ pub(crate) enum Phase {
     Files,
     /// What is asked of those that are there.
     Details,
+    /// What is in folders of precompiled headers.
+    Inside,
+}
+
+/// What is asked of what stands at a path.
+#[derive(Debug, Clone, Copy, PartialEq, Eq)]
+pub(crate) enum Detail {
+    /// Size and time of a file.
+    Times,
+    /// The bytes of a file.
+    Content,
+    /// The names in a folder.
+    Names,
 }
 
 fn push_env(alloc: Global, questions: &mut Vec<Question>, name: &[u8]) -> Mem<()>
@@ -103,6 +117,25 @@ fn push_asked(
     }
 }
 
+/// Appends variables.
+fn push_envs(alloc: Global, questions: &mut Vec<Question>, names: &[Vec<u8>]) -> Mem<()>
+    ensures { OnOk result (questions_of questions.new.items ≡ questions_of questions.old.items ++ map env (words_of names.now)) }
+{
+    for name in names {
+        push_env(alloc, questions, name)?;
+    }
+    Ok(())
+}
+
+/// Appends the variables that name folders of headers.
+fn push_variables(alloc: Global, questions: &mut Vec<Question>, searched: &[Vec<u8>]) -> Mem<()>
+    ensures { OnOk result (questions_of questions.new.items ≡ questions_of questions.old.items ++ map env (named (codes "variable") (words_of searched.now))) }
+{
+    let mut names = Vec::new(alloc);
+    push_named(alloc, &mut names, b"variable", searched)?;
+    push_envs(alloc, questions, &names)
+}
+
 /// Appends what the first round asks for a part.
 fn push_first(alloc: Global, questions: &mut Vec<Question>, key: &Key<'_>, part: &Part) -> Mem<()>
     ensures { OnOk result (questions_of questions.new.items ≡ questions_of questions.old.items ++ first (key_of key.now) (part_of part.now)) }
@@ -111,12 +144,12 @@ fn push_first(alloc: Global, questions: &mut Vec<Question>, key: &Key<'_>, part:
         Part::Directory => push_env(alloc, questions, b"PWD"),
         Part::Compiler => push_compiler(alloc, questions),
         Part::Asked(ask, name) => push_asked(alloc, questions, key, *ask, name),
+        Part::Pch(searched) => push_variables(alloc, questions, searched),
         Part::Is(_)
         | Part::Output(_)
         | Part::Plan(_)
         | Part::Run(_)
         | Part::RunElse(_)
-        | Part::Pch(_)
         | Part::Sources
         | Part::Times => Ok(()),
     }
@@ -290,9 +323,8 @@ fn needed(alloc: Global, told: &Told<'_>, key: &Key<'_>, part: &Part) -> Mem<Vec
         Part::Asked(ask, name) => needed_asked(alloc, told, key, *ask, name),
         Part::Sources => all_sources(alloc, told, key),
         Part::Times => marked(alloc, told, key),
-        Part::Is(_) | Part::Output(_) | Part::Directory | Part::Compiler | Part::Pch(_) => Ok(
-            Vec::new(alloc),
-        ),
+        Part::Pch(searched) => places(alloc, told, key, searched),
+        Part::Is(_) | Part::Output(_) | Part::Directory | Part::Compiler => Ok(Vec::new(alloc)),
     }
 }
 
@@ -330,57 +362,38 @@ fn push_fourth(
     push_files(alloc, questions, &needed(alloc, told, key, part)?)
 }
 
-/// Appends size and time, if there is a file.
-fn push_timed(alloc: Global, questions: &mut Vec<Question>, told: &Told<'_>, name: &[u8]) -> Mem<()>
-    ensures { OnOk result (questions_of questions.new.items ≡ questions_of questions.old.items ++ timed (machine_of told.now) name.now) }
+/// What is asked of what stands at a path, if there is a file, or a folder.
+fn detail_of(alloc: Global, told: &Told<'_>, detail: Detail, path: &[u8]) -> Mem<Option<Question>>
+    ensures { IfOk result (λ question. option_to_list (option_map question_of question) ≡ detail_asked detail (machine_of told.now) path.now) }
 {
-    if is_regular(alloc, told, name)? {
-        questions.push(Question::Times(Vec::from_slice(alloc, name)?))?;
+    match (detail, standing(alloc, path, told.asked, told.answers)?) {
+        (Detail::Times, Some(Standing::Regular(_))) => {
+            Ok(Some(Question::Times(Vec::from_slice(alloc, path)?)))
+        }
+        (Detail::Content, Some(Standing::Regular(_))) => {
+            Ok(Some(Question::Bytes(Vec::from_slice(alloc, path)?)))
+        }
+        (Detail::Names, Some(Standing::Folder)) => {
+            Ok(Some(Question::Names(Vec::from_slice(alloc, path)?)))
+        }
+        (Detail::Times | Detail::Content | Detail::Names, _) => Ok(None),
     }
-    Ok(())
 }
 
-/// Appends the sizes and times of those of these that are files.
-fn push_all_timed(
+/// Appends what is asked of those of these that are files, or folders.
+fn push_details(
     alloc: Global,
     questions: &mut Vec<Question>,
     told: &Told<'_>,
-    names: &[Vec<u8>],
+    detail: Detail,
+    paths: &[Vec<u8>],
 ) -> Mem<()>
-    ensures { OnOk result (questions_of questions.new.items ≡ questions_of questions.old.items ++ flat_map (timed (machine_of told.now)) (words_of names.now)) }
+    ensures { OnOk result (questions_of questions.new.items ≡ questions_of questions.old.items ++ details_asked detail (machine_of told.now) (words_of paths.now)) }
 {
-    for name in names {
-        push_timed(alloc, questions, told, name)?;
-    }
-    Ok(())
-}
-
-/// Appends the bytes, if there is a file.
-fn push_content(
-    alloc: Global,
-    questions: &mut Vec<Question>,
-    told: &Told<'_>,
-    name: &[u8],
-) -> Mem<()>
-    ensures { OnOk result (questions_of questions.new.items ≡ questions_of questions.old.items ++ content_asked (machine_of told.now) name.now) }
-{
-    if is_regular(alloc, told, name)? {
-        questions.push(Question::Bytes(Vec::from_slice(alloc, name)?))?;
-    }
-    Ok(())
-}
-
-/// Appends the bytes of those of these that are files.
-fn push_contents(
-    alloc: Global,
-    questions: &mut Vec<Question>,
-    told: &Told<'_>,
-    names: &[Vec<u8>],
-) -> Mem<()>
-    ensures { OnOk result (questions_of questions.new.items ≡ questions_of questions.old.items ++ flat_map (content_asked (machine_of told.now)) (words_of names.now)) }
-{
-    for name in names {
-        push_content(alloc, questions, told, name)?;
+    for path in paths {
+        if let Some(question) = detail_of(alloc, told, detail, path)? {
+            questions.push(question)?;
+        }
     }
     Ok(())
 }
@@ -396,7 +409,10 @@ fn push_fifth_asked(
     ensures { OnOk result (questions_of questions.new.items ≡ questions_of questions.old.items ++ fifth_asked (key_of key.now) (machine_of told.now) ask) }
 {
     match ask {
-        Ask::RefuseIfShown => push_contents(alloc, questions, told, &unmarked(alloc, told, key)?),
+        Ask::RefuseIfShown => {
+            let inputs = unmarked(alloc, told, key)?;
+            push_details(alloc, questions, told, Detail::Content, &inputs)
+        }
         Ask::Env | Ask::Unset | Ask::File | Ask::Maybe | Ask::Regular | Ask::SourcesIfShown => Ok(
             (),
         ),
@@ -415,7 +431,14 @@ fn push_fifth(
 {
     match part {
         Part::Asked(ask, _) => push_fifth_asked(alloc, questions, told, key, *ask),
-        Part::Times => push_all_timed(alloc, questions, told, &marked(alloc, told, key)?),
+        Part::Pch(searched) => {
+            let paths = places(alloc, told, key, searched)?;
+            push_details(alloc, questions, told, Detail::Names, &paths)
+        }
+        Part::Times => {
+            let files = marked(alloc, told, key)?;
+            push_details(alloc, questions, told, Detail::Times, &files)
+        }
         Part::Is(_)
         | Part::Output(_)
         | Part::Directory
@@ -423,38 +446,25 @@ fn push_fifth(
         | Part::Plan(_)
         | Part::Run(_)
         | Part::RunElse(_)
-        | Part::Pch(_)
         | Part::Sources => Ok(()),
     }
 }
 
-/// Whether nothing may be kept, by what the first round answers to a part.
-fn forbids(alloc: Global, told: &Told<'_>, key: &Key<'_>, part: &Part) -> Mem<bool>
-    ensures { IfOk result (λ it. it ≡ forbids (key_of key.now) (machine_of told.now) (part_of part.now)) }
+/// Appends what the sixth round asks for a part.
+fn push_sixth(
+    alloc: Global,
+    questions: &mut Vec<Question>,
+    told: &Told<'_>,
+    key: &Key<'_>,
+    part: &Part,
+) -> Mem<()>
+    ensures { OnOk result (questions_of questions.new.items ≡ questions_of questions.old.items ++ sixth (key_of key.now) (machine_of told.now) (part_of part.now)) }
 {
-    Ok(is_early(part) && answer(alloc, told, key, part)?.is_none())
-}
-
-/// Whether nothing may be kept, by what the first round answers.
-fn is_forbidden(alloc: Global, told: &Told<'_>, key: &Key<'_>) -> Mem<bool>
-    ensures { IfOk result (λ it. it ≡ is_forbidden (key_of key.now) (machine_of told.now)) }
-{
-    for part in key.parts {
-        if forbids(alloc, told, key, part)? {
-            return Ok(true);
-        }
+    if let Part::Pch(searched) = part {
+        let paths = places(alloc, told, key, searched)?;
+        push_files(alloc, questions, &all_inside(alloc, told, &paths)?)?;
     }
-    Ok(false)
-}
-
-/// Whether a round would run something for a key under which nothing may be kept.
-fn is_vain(alloc: Global, told: &Told<'_>, key: &Key<'_>, phase: Phase) -> Mem<bool>
-    ensures { IfOk result (λ it. it ≡ is_vain (key_of key.now) phase (machine_of told.now)) }
-{
-    match phase {
-        Phase::First | Phase::RunsElse | Phase::Files | Phase::Details => Ok(false),
-        Phase::Runs => is_forbidden(alloc, told, key),
-    }
+    Ok(())
 }
 
 /// What a round asks, by the answers of those before it; none: nothing may be kept.
@@ -477,6 +487,7 @@ pub(crate) fn questions(
             Phase::RunsElse => push_third(alloc, &mut questions, told, key, part)?,
             Phase::Files => push_fourth(alloc, &mut questions, told, key, part)?,
             Phase::Details => push_fifth(alloc, &mut questions, told, key, part)?,
+            Phase::Inside => push_sixth(alloc, &mut questions, told, key, part)?,
         }
     }
     Ok(Some(questions))

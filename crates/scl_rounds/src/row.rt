@@ -10,7 +10,7 @@ ghost use Rattle.scl_rounds.specs.Answers.{row_on, rows_on};
 ghost use Rattle.scl_rounds.specs.Views.{key_of, machine_of};
 
 use crate::answer::{Told, answer};
-use crate::key::{Key, is_answered};
+use crate::key::Key;
 use scl_key::{Ask, Output, Part};
 use scl_questions::Field;
 use scl_values::Mem;
@@ -95,18 +95,16 @@ fn row(alloc: Global, told: &Told<'_>, key: &Key<'_>, part: &Part) -> Mem<Option
     Ok(Some(row))
 }
 
-/// The rows of the parts that are answered, if each has one.
+/// The rows of the parts, if each has one.
 #[tactic(auto, using(crate::proofs::CodeLemmas::row_there))]
 pub(crate) fn rows(alloc: Global, told: &Told<'_>, key: &Key<'_>) -> Mem<Option<Vec<Vec<Field>>>>
     ensures { IfOk result (λ rows. option_map (λ rows. rows_of rows.items) rows ≡ rows_on (key_of key.now) (machine_of told.now)) }
 {
     let mut rows = Vec::new(alloc);
     for part in key.parts {
-        if is_answered(part) {
-            match row(alloc, told, key, part)? {
-                Some(row) => rows.push(row)?,
-                None => return Ok(None),
-            }
+        match row(alloc, told, key, part)? {
+            Some(row) => rows.push(row)?,
+            None => return Ok(None),
         }
     }
     Ok(Some(rows))

@@ -86,7 +86,7 @@ fn has_marker(alloc: Global, text: &[u8]) -> Mem<bool>
 }
 
 /// Whether a text names its sources: it is empty, or has a line marker.
-fn names_sources(alloc: Global, text: &[u8]) -> Mem<bool>
+pub(crate) fn names_sources(alloc: Global, text: &[u8]) -> Mem<bool>
     ensures { IfOk result (λ it. it ≡ names_sources text.now) }
 {
     Ok(text.is_empty() || has_marker(alloc, text)?)

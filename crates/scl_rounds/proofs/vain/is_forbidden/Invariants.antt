@@ -1,9 +1,9 @@
 use Rattle.std.proofs.Common.{◌≡◌, drop}
 use Rattle.std.specs.List.{list_any}
 use Rattle.scl_key.specs.Views.{parts_of}
-use Rattle.scl_rounds.specs.Rounds.{forbids, is_forbidden}
+use Rattle.scl_rounds.specs.Vain.{forbids, is_forbidden}
 use Rattle.scl_rounds.specs.Views.{key_of, machine_of}
-use Rattle.scl_rounds.proofs.question.is_forbidden.Given as goal
+use Rattle.scl_rounds.proofs.vain.is_forbidden.Given as goal
 
 abbrev pub invariant-loop-part : goal.invariant-loop-part
 invariant-loop-part l =

@@ -1,0 +1,8 @@
+use Rattle.std.proofs.Common.{◌≡◌, ◌++◌, take, map}
+use Rattle.std.specs.List.{flat_map}
+use Rattle.scl_values.specs.Words.{words_of}
+use Rattle.scl_rounds.specs.Headers.{leading_in}
+use Rattle.scl_rounds.proofs.header.push_all_leading.Given as goal
+
+abbrev pub invariant-loop-text : goal.invariant-loop-text
+invariant-loop-text l = words_of l.names.items ≡ words_of l.initial.names.items ++ flat_map leading_in (map (λ text. text.now) (take l.text-index l.texts))
