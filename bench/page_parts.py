@@ -7,7 +7,7 @@ import schema
 
 HELP, DESCRIBE, HEADER = "crates/scl_help/src/parts.rt", "crates/describe/src/main.rt", "capi/scl.h"
 MEMBERS = "crates/scl_json/src/members.rt"
-CASES, COMMANDS, FIRST = "trials/campaign.txt", "tests/rows/pages.txt", "bindings/expected/first.txt"
+COMMANDS, FIRST = "tests/rows/pages.txt", "bindings/expected/first.txt"
 REQUESTS = "tests/rows/requests.txt"
 SHOWN = re.compile(r"    \$ (scl .*?)(?:  +#.*)?$")
 SENT = re.compile(r"    \$ printf '(.*)' \| (describe|ccline)$")
@@ -45,9 +45,9 @@ def statuses():
     return [[str(it), scl.get(it, ""), describe.get(it, ""), calls.get(it, "")] for it in numbers]
 
 
-def reasons_of_rows():
-    """Which rows of a key the cases need that say so, and why, in their order."""
-    return [line[3:].split(" | ") for line in read(CASES).splitlines() if line.startswith("#: ")]
+def noted(path):
+    """The rows of a table that a file of trials has as lines `#: CELL | CELL`; the last cell may be empty."""
+    return [re.split(r" \| ?", line[3:]) for line in read(path).splitlines() if line.startswith("#: ")]
 
 
 def members(page):

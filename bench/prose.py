@@ -8,6 +8,7 @@ MOST = 30
 ITEM = re.compile(r"\s*(?:[-*]|\d+\.) ")
 END = re.compile(r"(?<=[.!?])[)*\"]*\s+")
 CITED = re.compile(r"\b([A-Z]{4,})(?:\.md)?(?:\]\([^)]*\))?(?:, | \()([A-Z][\w -]*(?:(?:, and|,| and) [A-Z][\w -]*)*)")
+LINK = re.compile(r"\]\(([^)#\s]+)(?:#[^)]*)?\)")
 NAME = re.compile(r"`([\w/.-]+)`")
 
 
@@ -42,6 +43,13 @@ def long_sentences(path, text):
             count = sum(1 for word in sentence.split() if re.search(r"\w", word))
             if count > MOST:
                 yield f"{path} has a sentence of {count} words: {sentence[:80]} .."
+
+
+def broken_links(path, text):
+    """The links of a page to files of the repository that are not there."""
+    for target in LINK.findall(text):
+        if "://" not in target and not os.path.exists(os.path.join(os.path.dirname(path), target)):
+            yield f"{path} has a link to {target}, and there is no such file"
 
 
 def headings(path):

@@ -29,18 +29,45 @@ OUTCOMES = (
     ("ERROR", [], []),
 )
 SIDE = {"$ref": "#/$defs/side"}
-PAIR = {"equal": YES, "first": SIDE, "second": SIDE}
+
+
+def said(text, schema):
+    """The schema with what its member is, in words."""
+    return {"description": text, **schema}
+
+
+FIRST = said("how the first line is answered, and of `options`, `key`, `asked` and `keep` what the second has not. `asked` has those rows `key` with which the keys can be equal", SIDE)
+SECOND = said("the same of the second line", SIDE)
+PAIR = {"equal": said("whether the keys can be equal: both lines have one, and what is hashed of its rows is the same", YES), "first": FIRST, "second": SECOND}
 # The documents of a whole call: the subcommand, and its members beside the version.
 DOCUMENTS = (
-    ("scl why", {"entries": {"type": "array", "items": {"$ref": "#/$defs/answer"}}}),
+    ("scl why", {"entries": said("objects as `scl database --json` writes them", {"type": "array", "items": {"$ref": "#/$defs/answer"}})}),
     ("scl diff of two lines or entries", PAIR),
     ("scl diff of two databases", {
-        "equal": YES, "pairs": NUMBER, "equal_pairs": NUMBER, "first_only": NUMBER, "second_only": NUMBER,
-        "unequal": {"type": "array", "items": {"$ref": "#/$defs/pair"}},
+        "equal": said("whether each entry has a partner with which it can have one key", YES),
+        "pairs": said("how many entries are in both", NUMBER),
+        "equal_pairs": said("how many of these can have equal keys", NUMBER),
+        "first_only": said("how many entries are only in the first", NUMBER),
+        "second_only": said("how many are only in the second", NUMBER),
+        "unequal": said("for each pair that differs an object with `equal`, `first` and `second`, which have the `file` too", {"type": "array", "items": {"$ref": "#/$defs/pair"}}),
     }),
-    ("scl flags", {"flags": ROWS, "words": ROWS}),
-    ("scl reasons", {"reasons": ROWS, "keep": ROWS, "hazards": {"$ref": "#/$defs/hazards"}}),
+    ("scl flags", {
+        "flags": said("arrays: the compiler, the flag, how its value stands, its kind, and TO", ROWS),
+        "words": said("an array for each given word: the compiler, the word, its flag or an empty text, and TO", ROWS),
+    }),
+    ("scl reasons", {
+        "reasons": said("arrays: the reason, and its sentence", ROWS),
+        "keep": said("the same of reasons why there is no key", ROWS),
+        "hazards": said("as in an answer; `words` are the compilers of which the hazard is known", {"$ref": "#/$defs/hazards"}),
+    }),
 )
+
+
+def document_rows():
+    """The members of each document, with what they are."""
+    return [[f"`{title}`".replace(" of ", "` of ").rstrip("`") if " of " in title else f"`{title}`", f"`{name}`", it["description"]] for title, members in DOCUMENTS for name, it in members.items()]
+
+
 KINDS = {"object": dict, "array": list, "string": str, "integer": int, "boolean": bool, "null": type(None)}
 
 
