@@ -59,9 +59,13 @@ def unescaped(field): return re.sub(rb"\\x(..)", lambda it: bytes([int(it[1], 16
 # ---- 2. Hash each row and its answer. Of some rows only the name: their fields say what to start, and where to look
 def key_of(told_rows, rows):
     named = b"plan", b"run", b"run-else", b"pch"
-    heads = [row[0] if row[0] in named else b" ".join(map(escaped, row)) for row in told_rows]
+    whole = [b" ".join(map(escaped, row)) for row in told_rows]
+    heads = [row[0] if row[0] in named else it for row, it in zip(told_rows, whole)]
     hashed = ((head, row) for head, row in zip(heads, rows) if counts(row, rows))
-    return digest_all(it for head, row in hashed for it in (head, answer(row, rows) or b"")).hex().encode()
+    parts = [it for head, row in hashed for it in (head, answer(row, rows) or b"")]
+    if any(row[0] == b"pch" and has_header(row) for row in rows):  # (folders are searched in their order)
+        parts += [it for row, it in zip(rows, whole) if row[0] in (b"run", b"run-else")]
+    return digest_all(parts).hex().encode()
 def digest(data): return hashlib.sha256(data).digest()
 def digest_all(parts): return digest(b"".join(map(digest, parts)))
 

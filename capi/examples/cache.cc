@@ -604,7 +604,10 @@ struct Key {
         case SCL_KEY_REGULAR: return note(it), "";
         case SCL_KEY_RUN: return preprocessed(fields);
         case SCL_KEY_RUN_ELSE: return has_failed ? preprocessed(fields) : "-";
-        case SCL_KEY_PCH: return read_all(precompiled(fields));
+        case SCL_KEY_PCH: {  // (which one is taken, the order of folders says)
+            const Words found = precompiled(fields);
+            return found.empty() ? "" : read_all(found) + words_of_runs();
+        }
         case SCL_KEY_SOURCES: return read_all(all_sources());
         case SCL_KEY_SOURCES_IF_SHOWN: return is_in(texts, it) ? read_all(all_sources()) : "-";
         case SCL_KEY_TIMES: return stamps_of_sources();
@@ -616,6 +619,12 @@ struct Key {
         }
     }
 
+    Bytes words_of_runs() const {
+        Bytes all;
+        for (const Row &row : rows)
+            if (row.is.kind == SCL_KEY_RUN || row.is.kind == SCL_KEY_RUN_ELSE) all += packed(row.told);
+        return all;
+    }
     static Bytes read(const Bytes &path) {
         ask('=', path);
         return is_file(path) ? "=" + content(path) : is_folder(path) ? "/" : "-";
